@@ -1,0 +1,2 @@
+pub mod BlockOrder
+pub mod StepLoops

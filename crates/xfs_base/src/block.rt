@@ -1,0 +1,63 @@
+//! Names of files and of their blocks.
+ghost use Rattle.std.specs.Prelude.{◌≡◌, ◌↔◌, IsTrue};
+ghost use Rattle.xfs_base.specs.Blocks.{block_cmp, same_block, slot_of, creator_of, IsRaw};
+
+use std::cmp::Ordering;
+
+/// The index number of a file (section 3.1 of the 1996 paper). Its low 3 bits name the slot of the
+/// manager map, the next 4 bits the client that created the file, 0 for none, and the upper 25 bits are
+/// a counter. The root directory is 0.
+#[derive(Clone, Copy, Debug, PartialEq, Eq, PartialOrd, Ord, Hash)]
+pub struct Ino(pub u32);
+
+impl Ino {
+    /// The slot of the manager map, 0 to 7: some bits of a file's index number select its manager
+    /// (section 3.2.1 of the 1996 paper).
+    pub fn slot(self) -> u8
+        ensures { result ≡ slot_of self.0 }
+    {
+        (self.0 % 8) as u8
+    }
+
+    /// The client that created the file, or 0 where no client did.
+    pub fn creator(self) -> u8
+        ensures { result ≡ creator_of self.0 }
+    {
+        (self.0 / 8 % 16) as u8
+    }
+
+    /// Whether this is a raw number: not the root, and created by no client. Blocks are written by
+    /// number in raw files alone.
+    pub fn is_raw(self) -> bool
+        ensures { IsTrue result ↔ IsRaw self.0 }
+    {
+        self.0 != 0 && self.creator() == 0
+    }
+}
+
+/// A block of a file: the unit of caching and of ownership (section 3.3 of the 1996 paper). Blocks of a
+/// file count from 0. The order is by index number, then by block number.
+#[derive(Clone, Copy, Debug, PartialEq, Eq, PartialOrd, Ord, Hash)]
+pub struct BlockId {
+    /// The file.
+    pub ino: Ino,
+    /// The number of the block in the file.
+    pub blk: u32,
+}
+
+impl BlockId {
+    /// Where this block stands to another in the order of blocks.
+    pub fn order(self, other: BlockId) -> Ordering
+        ensures { result ≡ block_cmp self other }
+    {
+        self.cmp(&other)
+    }
+
+    /// Whether both name one block.
+    pub fn is(self, other: BlockId) -> bool
+        ensures exact { IsTrue result ↔ (self ≡ other) }
+        ensures test { result ≡ same_block self other }
+    {
+        self == other
+    }
+}

@@ -1,0 +1,47 @@
+//! What a storage server keeps of a segment.
+ghost use Rattle.std.specs.Prelude.{◌≡◌, IfOk};
+
+use crate::{Copied, List, Mem, Prior, SegName};
+use std::alloc::Global;
+
+/// What is said of a fragment: of which segment, over which group, and which part.
+#[derive(Clone, Copy, Debug, PartialEq, Eq)]
+pub struct FragMeta {
+    /// The segment.
+    pub name: SegName,
+    /// The id of its stripe group.
+    pub group: u32,
+    /// The segment before it in its log.
+    pub prior: Prior,
+    /// The number of the fragment in the stripe, from 0; the last is the parity.
+    pub index: u8,
+    /// The length of the whole segment, in bytes.
+    pub len: u32,
+}
+
+/// One part of a segment's stripe (section 2.1 of the 1996 paper).
+#[derive(Drop)]
+pub struct Fragment {
+    /// What it is a part of.
+    pub meta: FragMeta,
+    /// Its bytes.
+    pub bytes: List<u8>,
+}
+
+impl Fragment {
+    /// A fragment equal to this one.
+    pub fn copy(&self, alloc: Global) -> Mem<Fragment>
+        ensures { IfOk result (λ copied. copied ≡ self.now) }
+    {
+        Ok(Fragment {
+            meta: self.meta,
+            bytes: self.bytes.copy(alloc)?,
+        })
+    }
+}
+
+impl Copied for Fragment {
+    fn copied(&self, alloc: Global) -> Mem<Fragment> {
+        self.copy(alloc)
+    }
+}

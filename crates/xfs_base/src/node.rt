@@ -1,0 +1,38 @@
+//! Names of nodes.
+ghost use Rattle.std.specs.Prelude.{◌≡◌, ◌↔◌, IsTrue};
+ghost use Rattle.xfs_base.specs.Nodes.{node_cmp};
+
+use std::cmp::Ordering;
+
+/// A node of the cluster. Nodes of one kind count from 1: at most 8 clients, 4 managers and 12 storage
+/// servers; there is one cleaner and one registry. The order is clients, managers, servers, cleaner,
+/// registry, each by number.
+#[derive(Clone, Copy, Debug, PartialEq, Eq, PartialOrd, Ord)]
+pub enum NodeId {
+    /// Caches blocks and appends to a log of its own.
+    Client(u8),
+    /// Keeps the index of its slots and decides who may write.
+    Manager(u8),
+    /// Keeps fragments of stripes.
+    Server(u8),
+    /// Empties old segments.
+    Cleaner,
+    /// Gives out the maps.
+    Registry,
+}
+
+impl NodeId {
+    /// Where this node stands to another in the order of nodes.
+    pub fn order(self, other: NodeId) -> Ordering
+        ensures { result ≡ node_cmp self other }
+    {
+        self.cmp(&other)
+    }
+
+    /// Whether both name one node.
+    pub fn is(self, other: NodeId) -> bool
+        ensures { IsTrue result ↔ (self ≡ other) }
+    {
+        self == other
+    }
+}
