@@ -7,12 +7,12 @@ use crate::{
 #[test]
 fn values_have_1_to_4096_bytes(rt: HostRuntime) -> Mem<()> {
     let alloc = rt.alloc();
-    let bytes = vec![in alloc; 97u8; 4097]?;
     for (length, fits) in [(0usize, false), (1, true), (4096, true), (4097, false)] {
-        match Value::of(alloc, &bytes[..length]) {
+        let bytes = vec![in alloc; 97u8; length]?;
+        match Value::of(alloc, &bytes) {
             Ok(value) => {
                 assert!(rt; fits, "{length} bytes were taken");
-                assert!(rt; value.bytes() == Some(&bytes[..length]));
+                assert!(rt; value.bytes() == Some(bytes.as_slice()));
                 assert!(rt; value.copy(alloc)?.equals(&value));
                 assert!(rt; !value.equals(&Value::absent()));
             }
