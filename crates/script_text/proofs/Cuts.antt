@@ -1,5 +1,5 @@
 -- A list is cut in one way at the first of a byte.
-use Rattle.std.proofs.Common.{◌≡◌, ◌≢◌, ℕ, ◌<◌, ◌^◌, List, [], ◌∷◌, ◌++◌, refl, sym, ◌∙◌, ap, arith, Option, Some, None, MatchOption, Bor}
+use Rattle.std.proofs.Common.{◌≡◌, ◌≢◌, ℕ, ◌<◌, ◌^◌, List, [], ◌∷◌, ◌++◌, refl, sym, ◌∙◌, arith, Option, Some, None, MatchOption, Bor}
 use Rattle.std.specs.Fmt.{decimal}
 use Rattle.std.specs.Str.Parse.{AllDigits}
 use Rattle.std.proofs.lemmas.Fmt.{digits_decimal, decimal_injective}

@@ -1,14 +1,10 @@
 -- No line is both good and bad.
-use Rattle.std.proofs.Common.{◌≡◌, ℕ, ◌+◌, ◌<◌, ◌≤◌, ◌⊎◌, List, [], ◌∷◌, ◌++◌, length, codes, refl, sym, ◌∙◌, ap, arith, get_or, inl, inr, Option, Some, None}
+use Rattle.std.proofs.Common.{◌≡◌, ℕ, ◌<◌, ◌≤◌, List, [], ◌∷◌, ◌++◌, length, codes, refl, sym, ◌∙◌, ap, arith, get_or, inl, inr}
 use Rattle.std.specs.Fmt.{decimal}
 use Rattle.xfs_base.specs.declared.block.BlockId.{BlockId}
 use Rattle.version_model.specs.declared.work.Work.{Work}
 use Rattle.version_model.specs.declared.work.Work.TheVariants as works
-use Rattle.script_text.specs.declared.script.Line.{Line}
 use Rattle.script_text.specs.declared.refusal.Kind.{Kind}
-use Rattle.script_text.specs.declared.script.Script.{Script}
-use Rattle.script_text.specs.declared.refusal.ScriptError.{ScriptError}
-use Rattle.script_text.specs.declared.refusal.ScriptError.TheVariants.{Bad, Memory}
 use Rattle.script_text.specs.Spelling.{IsSetupLine, IsBput, IsLong, Spells}
 use Rattle.script_text.specs.Script.{IsBadLine}
 use Rattle.script_text.proofs.LineLemmas.{same_text}

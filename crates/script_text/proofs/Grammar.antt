@@ -1,10 +1,10 @@
 -- From the reading, line by line, to the grammar: what is read is a script, and where reading stops is the first bad line.
-use Rattle.std.proofs.Common.{◌≡◌, ℕ, zero, suc, ◌+◌, ◌<◌, ◌≤◌, ◌⊎◌, List, [], ◌∷◌, ◌++◌, length, drop, refl, sym, ◌∙◌, ap, subst, arith, inl, inr}
+use Rattle.std.proofs.Common.{◌≡◌, ℕ, zero, suc, ◌+◌, ◌<◌, List, [], ◌∷◌, ◌++◌, length, drop, refl, sym, ap, subst, arith, inl, inr}
 use Rattle.script_text.specs.declared.script.Line.{Line}
 use Rattle.script_text.specs.declared.script.Script.{Script}
 use Rattle.script_text.specs.declared.refusal.Kind.{Kind}
 use Rattle.script_text.specs.Lines.{lines}
-use Rattle.script_text.specs.Spelling.{Spells, first_setup}
+use Rattle.script_text.specs.Spelling.{first_setup}
 use Rattle.script_text.specs.Script.{IsScriptOf, IsFirstBad, IsBadAt, AreGood, AreItemsOf, extent}
 use Rattle.script_text.specs.Reading.{Accepted, Refused}
 

@@ -1,6 +1,5 @@
 -- Bytes spell at most one script, and have no bad line where they spell one.
-use Rattle.std.proofs.Common.{◌≡◌, ℕ, ◌+◌, ◌<◌, ◌≤◌, ◌⊎◌, ◌^◌, List, [], ◌∷◌, ◌++◌, length, drop, codes, refl, sym, ◌∙◌, ap, subst, arith, inl, inr, Option, Some, None}
-use Rattle.std.specs.Fmt.{decimal}
+use Rattle.std.proofs.Common.{◌≡◌, ℕ, ◌+◌, ◌<◌, List, [], ◌∷◌, ◌++◌, length, drop, codes, refl, sym, ◌∙◌, ap, subst, arith, inl, inr, Option, Some, None}
 use Rattle.std.proofs.lemmas.Fmt.{decimal_injective}
 use Rattle.std.proofs.lemmas.List.{append_cancel_left, length-append}
 use Rattle.xfs_base.specs.declared.block.BlockId.{BlockId}
@@ -12,11 +11,10 @@ use Rattle.script_text.specs.declared.refusal.Kind.{Kind}
 use Rattle.script_text.specs.declared.refusal.ScriptError.{ScriptError}
 use Rattle.script_text.specs.declared.refusal.ScriptError.TheVariants.{Bad, Memory}
 use Rattle.script_text.specs.Lines.{lines}
-use Rattle.script_text.specs.Spelling.{IsBput, IsBget, HasBytes, Spells, IsSetupLine}
+use Rattle.script_text.specs.Spelling.{IsBput, IsBget, HasBytes, Spells}
 use Rattle.script_text.specs.Script.{IsScriptOf, IsFirstBad, IsBadAt, IsBadLine, IsGoodLine, AreGood, AreItemsOf, HasCause, extent}
 use Rattle.script_text.proofs.WordLemmas.{wide}
 use Rattle.script_text.proofs.Cuts.{same_number}
-use Rattle.script_text.proofs.LineLemmas.{same_ino, same_blk}
 use Rattle.script_text.proofs.Exclusive.{one_text, not_both, good_not_bad, setup_not_bad}
 
 -- blocks of one file and one number are one

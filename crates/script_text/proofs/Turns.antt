@@ -1,6 +1,5 @@
 -- One turn of the loop over the lines.
-use Rattle.std.proofs.Common.{◌≡◌, ℕ, ◌+◌, ◌<◌, ◌≤◌, List, [], ◌∷◌, ◌++◌, length, refl, sym, ◌∙◌, ap, subst, arith, inl, inr, append_assoc, append-nil, ◌⊎◌, Option, Some, None}
-use Rattle.version_model.specs.declared.work.Work.{Work}
+use Rattle.std.proofs.Common.{◌≡◌, ℕ, ◌+◌, ◌<◌, ◌≤◌, List, [], ◌∷◌, ◌++◌, length, refl, arith, inl, inr, append_assoc, append-nil, ◌⊎◌, None}
 use Rattle.script_text.specs.declared.script.Line.{Line}
 use Rattle.script_text.specs.declared.refusal.Kind.{Kind}
 use Rattle.script_text.specs.Lines.{lines}

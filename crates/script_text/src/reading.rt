@@ -13,9 +13,6 @@ use std::alloc::Global;
 use version_model::Work;
 use xfs_base::List;
 
-/// The lines of the setup.
-const SETUP_LINES: u32 = 5;
-
 /// The most lines that a script may have.
 const MAX_LINES: u32 = 20_000;
 
@@ -46,6 +43,13 @@ fn is_past(total: usize, number: u32, end: usize) -> bool
     total > MAX_BYTES && end > MAX_BYTES
 }
 
+/// Whether the line of this number is one of the setup.
+fn is_in_setup(number: u32) -> bool
+    ensures { IsTrue result ↔ (number ≤ 5) }
+{
+    number <= 5
+}
+
 /// What the line of this number adds: nothing in the setup, and then a work.
 fn work_at(
     alloc: Global,
@@ -60,7 +64,7 @@ fn work_at(
     if is_past(total, number, end) {
         return Err(ScriptError::Bad(number, Kind::TooLong));
     }
-    if number <= SETUP_LINES {
+    if is_in_setup(number) {
         return if is_setup_line(number, line) {
             Ok(None)
         } else {
@@ -121,7 +125,7 @@ fn items_of(alloc: Global, bytes: &[u8]) -> Result<List<Line>, ScriptError>
         number += 1;
         rest = after;
     }
-    if number <= SETUP_LINES {
+    if number <= 5 {
         return Err(ScriptError::Bad(number, Kind::BadSetup));
     }
     Ok(items)

@@ -1,4 +1,4 @@
-use Rattle.std.proofs.Common.{◌≡◌, ◌≤◌, ◌+◌, arith, rules, refl, length, sym}
+use Rattle.std.proofs.Common.{arith, length}
 use Rattle.std.proofs.lemmas.Bool.Decides.{nat_tests}
 use Rattle.script_text.specs.Lines.{lines}
 use Rattle.script_text.specs.Script.{IsFirstBad}

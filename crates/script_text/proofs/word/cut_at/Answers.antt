@@ -1,4 +1,4 @@
-use Rattle.std.proofs.Common.{sym, ◌∙◌}
+use Rattle.std.proofs.Common.{sym}
 use Rattle.script_text.proofs.WordLemmas.{lacking, front_lacks, parted}
 use Rattle.script_text.proofs.word.cut_at.Goals as goal
 

@@ -1,4 +1,4 @@
-use Rattle.std.proofs.Common.{◌<◌, length, arith, rules}
+use Rattle.std.proofs.Common.{◌<◌, length, arith}
 use Rattle.std.proofs.lemmas.Bool.Decides.{nat_tests}
 use Rattle.script_text.proofs.WordLemmas.{not_empty, not_plus, only_zero, zero_word, number_found, number_missed, number_is_utf8}
 use Rattle.script_text.proofs.word.number_of.Goals as goal
