@@ -1,5 +1,6 @@
 -- From the reading, line by line, to the grammar: what is read is a script, and where reading stops is the first bad line.
-use Rattle.std.proofs.Common.{◌≡◌, ℕ, zero, suc, ◌+◌, ◌<◌, List, [], ◌∷◌, ◌++◌, length, drop, refl, sym, ap, subst, arith, inl, inr}
+use Rattle.std.proofs.Common.{◌≡◌, ◌≤◌, ◌⊎◌, ℕ, zero, suc, ◌+◌, ◌<◌, List, [], ◌∷◌, ◌++◌, length, drop, refl, sym, ap, subst, arith, inl, inr}
+use Rattle.std.proofs.lemmas.List.{length-drop}
 use Rattle.script_text.specs.declared.script.Line.{Line}
 use Rattle.script_text.specs.declared.script.Script.{Script}
 use Rattle.script_text.specs.declared.refusal.Kind.{Kind}
@@ -48,6 +49,33 @@ script_of bytes s e a = record {
   setup = e;
   items = accepted_items 5 (length bytes) 1 0 (lines bytes) s.lines (omega arith) a;
 }
+
+within : (n : ℕ) (Q : Type 0) → ((20000 < n) ⊎ Q → ⊥) → n ≤ 20000
+within n Q h = not_above n (λ l. h (inl l))
+  where
+    not_above : (m : ℕ) → (20000 < m → ⊥) → m ≤ 20000
+    not_above m k = omega (arith, k)
+
+-- good lines are at most 20,000
+good_few : (total n start : ℕ) (ls : List (List ℕ)) → n ≤ 20001 → AreGood total n start ls → n + length ls ≤ 20001
+good_few total n start [] h g = omega (arith, h)
+good_few total n start (l ∷ ls) h g =
+    let m : n ≤ 20000 = within n _ g.0 in
+    let r = good_few total (n + 1) (start + (length l + 1)) ls (omega (arith, m)) g.2 in
+    omega (arith, r)
+
+-- and are as many as their items
+items_count : (n : ℕ) (ls : List (List ℕ)) (items : List Line) → AreItemsOf n ls items → length items ≡ length ls
+items_count n [] items p = ap length p
+items_count n (l ∷ ls) [] p = absurd p
+items_count n (l ∷ ls) (i ∷ items) p = ap suc (items_count (n + 1) ls items p.1)
+
+-- a script has at most 20,000 items
+pub few_items : (bytes : List ℕ) (s : Script) → IsScriptOf bytes s → length s.lines ≤ 20000
+few_items bytes s p =
+    let few = good_few (length bytes) 1 0 (lines bytes) (omega arith) p.good in
+    let same = items_count 6 (drop 5 (lines bytes)) s.lines p.items in
+    omega (arith, few, same, length-drop 5 (lines bytes))
 
 -- the first bad line among those from a number and a place on
 record FirstFrom (total n start : ℕ) (ls : List (List ℕ)) (m : ℕ) (k : Kind) : Type 0 where

@@ -135,6 +135,7 @@ fn items_of(alloc: Global, bytes: &[u8]) -> Result<List<Line>, ScriptError>
 /// spell no script. Runs with threads, `live`, have no further refusal yet.
 pub fn parse(alloc: Global, bytes: &[u8], _live: bool) -> Result<Script, ScriptError>
     ensures found { IfOk result (λ script. IsScriptOf bytes.now script) }
+    ensures few { IfOk result (λ script. length script.lines ≤ 20000) }
     ensures bad { IfErr result (λ error. HasCause bytes.now error) }
     ensures found_if_any { (script : _) → IsScriptOf bytes.now script → IfErr result (λ error. error ≡ ScriptError.Memory) }
     ensures refused_if_bad { (number : _) (kind : _) → IsFirstBad bytes.now number kind → IfOk result (λ script. ⊥) }

@@ -1,10 +1,15 @@
-use Rattle.script_text.proofs.Grammar.{script_of}
+use Rattle.script_text.proofs.Grammar.{script_of, few_items}
 use Rattle.script_text.proofs.OneScript.{only_memory, not_refused}
 use Rattle.script_text.proofs.reading.parse.Goals as goal
 
 pub returns-in-Ok-first_setup-clause-found : goal.returns-in-Ok-first_setup-clause-found
 returns-in-Ok-first_setup-clause-found c =
     script_of c.args.bytes.now (record { setup = c.in-Ok-first_setup.setup; lines = c.in-Ok.lines }) c.in-Ok-first_setup.ensures c.in-Ok.ensures
+
+pub returns-in-Ok-first_setup-clause-few : goal.returns-in-Ok-first_setup-clause-few
+returns-in-Ok-first_setup-clause-few c =
+    let script = script_of c.args.bytes.now (record { setup = c.in-Ok-first_setup.setup; lines = c.in-Ok.lines }) c.in-Ok-first_setup.ensures c.in-Ok.ensures in
+    few_items c.args.bytes.now (record { setup = c.in-Ok-first_setup.setup; lines = c.in-Ok.lines }) script
 
 pub returns-in-Ok-first_setup-clause-refused_if_bad : goal.returns-in-Ok-first_setup-clause-refused_if_bad
 returns-in-Ok-first_setup-clause-refused_if_bad c number kind bad =
