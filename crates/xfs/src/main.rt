@@ -1,0 +1,28 @@
+//! Runs scripts over a simulated serverless file system: `xfs run` reads a script from standard input and
+//! writes one answer line a call. `README.md` has an example.
+#![tactic(auto)]
+
+use std::env;
+use std::process::ExitCode;
+use xfs_top::{xfs, OpenGate, StdSink, StdSource};
+
+/// Makes the real source and sink, calls `xfs` with the words after the program's name, and ends with its
+/// status. Words that are not UTF-8 are handed in as no words, which are no form.
+fn main(rt: HostRuntime) -> ExitCode {
+    let alloc = rt.alloc();
+    let mut words = Vec::new(alloc);
+    match env::args(&rt) {
+        Ok(args) => {
+            for word in args.skip(1) {
+                if words.push(word).is_err() {
+                    return ExitCode::from(7);
+                }
+            }
+        }
+        Err(_) => {}
+    }
+    let mut source = StdSource::new(rt.stdin());
+    let mut sink = StdSink::new(rt.stdout());
+    let outcome = xfs(&rt, alloc, &words, &mut source, &mut sink, &OpenGate);
+    ExitCode::from(outcome.status)
+}

@@ -1,0 +1,5 @@
+pub mod Contents
+pub mod Legal
+pub mod Loops
+pub mod Told
+pub mod Words
