@@ -1,0 +1,78 @@
+-- A run, as a term: the owner of an empty log falls, finds nothing listed, writes its opening segment and serves.
+-- One server. Name 1 is the opening segment of the second boot.
+use Rattle.std.proofs.Common.{◌≡◌, ℕ, zero, suc, ◌+◌, ◌-◌, ◌<◌, ◌≤◌, ◌==◌, if◌then◌else◌, ◌⊎◌, inl, inr, refl, sym, ap, ◌∙◌, subst, arith}
+use Rattle.std.specs.Prelude.{nat_lt}
+use Rattle.std.proofs.lemmas.Bool.Decides.{nat_tests}
+use Rattle.log_protocol.specs.Tables.{In}
+use Rattle.log_protocol.specs.Packets.{StorePacket, StoredPacket, FencedPacket}
+use Rattle.log_protocol.specs.State.{State, Names, new_log}
+use Rattle.log_protocol.specs.ServerSteps.{CanSend, sends, CanAccept, accepts, CanFence, fences}
+use Rattle.log_protocol.specs.OwnerSteps.{Group, CanSeal, seals, CanNote, notes, CanSettle, settles, crashes, CanRestart, restarts}
+use Rattle.log_protocol.specs.OpeningSteps.{CanBegin, begins, Gathered, Picked, CanPickNone, picks_none, CanPickPrior, picks_prior, CanOpen, opens, ReadBack, CanServe, serves}
+use Rattle.log_protocol.specs.Step.{Step, Steps}
+use Rattle.log_protocol.specs.Step.Step.{Sends, Accepts, Fences, Seals, Notes, Settles, Crashes, Restarts, Begins, Picks_none, Picks_prior, Opens, Serves}
+use Rattle.log_protocol.specs.Step.Steps.{Done, More}
+use Rattle.log_protocol.specs.LogLaws.{Reached}
+use Rattle.log_protocol.proofs.RunParts.{first_server, one_server, some1, some2, some3, at_zero, store_to_first, stored_by_first}
+use Rattle.log_protocol.specs.LogRuns.{EmptyOpened}
+
+names : Names (λ x. x) (λ x. 2) (λ x. 1)
+names = record { apart = λ x y s c a. s; none = refl }
+
+abbrev w0 : State
+w0 = new_log 1 (λ x. x) (λ x. 2) (λ x. 1)
+
+abbrev w1 : State
+w1 = crashes w0
+
+abbrev w2 : State
+w2 = begins w1
+
+abbrev w3 : State
+w3 = fences w2 0 2
+
+abbrev list_of : ℕ → FencedPacket
+list_of v = record { from = 0; incarnation = 2; generation = 1; low = 1; listed = w2.holds 0 }
+
+abbrev w4 : State
+w4 = picks_none w3 1
+
+abbrev w5 : State
+w5 = opens w4 1 7 1 first_server
+
+abbrev w6 : State
+w6 = sends w5 1 0
+
+abbrev w7 : State
+w7 = accepts w6 (store_to_first 1 7)
+
+abbrev w8 : State
+w8 = notes w7 (stored_by_first 1)
+
+abbrev w9 : State
+w9 = serves w8 (λ q. 0) 1
+
+s4 : Steps w0 w4
+s4 = More (More (More (More Done Crashes) (Begins (record { down = refl }))) (Fences 0 2 (record { begun = le2 }))) (Picks_none list_of 1 (record { gathering = refl; gathered = gathered; nothing = λ v y k e. absurd (omega arith) }))
+  where
+    le2 : 2 ≤ 2
+    le2 = omega arith
+
+    le1 : 1 ≤ 1
+    le1 = omega arith
+
+    gathered : Gathered w3 list_of 1
+    gathered = record { sent = λ v k. inl refl; from = λ v k. at_zero (λ z. 0 ≡ z) v k refl; boot = λ v k. refl; after = λ v k. le1; begun = le1; known = le1 }
+
+s9 : Steps w0 w9
+s9 = More (More (More (More (More s4 (Opens 1 7 1 first_server (record { reading = refl; named = some1; next = refl; own = refl; group = one_server w4 refl }))) (Sends 1 0 (record { booked = refl; member = some1 }))) (Accepts (store_to_first 1 7) (record { sent = inl refl; present = refl; unmarked = refl; absent = refl }))) (Notes (stored_by_first 1) (record { sent = inl refl; flying = some1; named = refl })))
+    (Serves (λ q. 0) 1 (record { writing = refl; settled = λ j k. inl (at_zero (λ z. w8.noted z ≡ 1) j k refl); undoubted = λ e a b. absurd (nothing a); read = record { last = λ q a e. refl; back = λ q a less. absurd (below q a less) } }))
+  where
+    nothing : 0 < 0 → ⊥
+    nothing a = omega arith
+
+    below : (q : ℕ) → 1 ≤ q → suc q < 1 → ⊥
+    below q a less = omega arith
+
+pub empty_opened : EmptyOpened
+empty_opened = record { state = w9; reached = record { names = names; run = s9 }; clean = refl; serving = refl; boot = refl; head = refl }

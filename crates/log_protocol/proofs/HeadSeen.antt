@@ -1,0 +1,75 @@
+-- The newest filed segment in the lists of an opening: where it isn't below the horizon that was taken, some list names it, and it is never the one that is discarded.
+use Rattle.std.proofs.Common.{◌≡◌, ℕ, zero, suc, ◌+◌, ◌-◌, ◌<◌, ◌≤◌, ◌⊎◌, inl, inr, refl, sym, ap, ◌==◌, if◌then◌else◌, ◌∙◌, subst, ⊎_elim, arith}
+use Rattle.std.proofs.lemmas.Bool.Decides.{nat_tests}
+use Rattle.log_protocol.specs.Tables.{In}
+use Rattle.log_protocol.specs.Packets.{StorePacket, StoredPacket, FragmentPacket, FencedPacket}
+use Rattle.log_protocol.specs.State.{State, Names}
+use Rattle.log_protocol.specs.ServerSteps.{fences}
+use Rattle.log_protocol.specs.OpeningSteps.{Gathered, Picked, Undoubted, CanPickNone, CanPickPrior}
+use Rattle.log_protocol.proofs.ShelfInvariant.{ShelfInvariant}
+use Rattle.log_protocol.proofs.PickedWhole.{picked_booked}
+use Rattle.log_protocol.proofs.Line.{Line}
+use Rattle.log_protocol.proofs.Spans.{Spans}
+
+-- a horizon that was gathered is no older than the span, and at least 1
+pub record Late (w : State) (low : ℕ) : Type 0 where
+  pub some : 0 < low
+  pub span : w.span_low ≤ low
+
+pub late : (w : State) (list_of : ℕ → FencedPacket) (low : ℕ) → Gathered w list_of low → ShelfInvariant w → Late w low
+late w list_of low gathered shelf =
+    let a = gathered.begun in
+    record { some = let b = shelf.horizons.begin_some in omega arith; span = let b = shelf.horizons.span_before in omega arith }
+
+-- of an undoubted head that isn't below the horizon, some member's list names it
+pub head_seen : (w : State) (list_of : ℕ → FencedPacket) (low : ℕ) → w.phase ≡ 1 → Gathered w list_of low → ShelfInvariant w → Line w → Spans w → Undoubted w → low ≤ w.head → (j : ℕ) × (w.member_server (w.line w.head) j < w.servers) × ((list_of (w.member_server (w.line w.head) j)).listed (w.line w.head) ≡ 1)
+head_seen w list_of low gathering gathered shelf line spans sure above =
+    let t = late w list_of low gathered shelf in
+    let pos : 0 < w.head = (let a = t.some in omega arith) in
+    let witness = sure pos (let a = t.span in omega arith) in
+    let x = w.line w.head in
+    let v = w.member_server x witness.0 in
+    let known : v < w.servers = shelf.texts.server_known x witness.0 (shelf.filed.filed_booked x (line.line_filed w.head pos (omega arith))) witness.1 in
+    (witness.0, known, (let z = witness.2 in let y = witness.1 in grind (arith, spans.unlisted_hurt (list_of v) witness.0 (gathered.sent v known) (gathered.boot v known) (shelf.boots.not_yet_served (omega arith) (omega arith)) pos (let a = gathered.after v known in omega arith) witness.1 (sym (gathered.from v known)), shelf.lists.list_flag (list_of v) x (gathered.sent v known))))
+
+-- so lists that name nothing at or above the horizon leave no head there
+pub no_head : (w : State) (list_of : ℕ → FencedPacket) (low : ℕ) → CanPickNone w list_of low → ShelfInvariant w → Line w → Spans w → Undoubted w → low ≤ w.head → ⊥
+no_head w list_of low can shelf line spans sure above =
+    let s = head_seen w list_of low can.gathering can.gathered shelf line spans sure above in
+    let a = can.nothing (w.member_server (w.line w.head) s.0) (w.line w.head) s.1 s.2 in
+    let e = line.head_seq in
+    omega arith
+
+-- the picked segment against the head
+pub record NotBefore (w : State) (low x : ℕ) : Type 0 where
+  pub boot : low ≤ w.head → w.served ≤ w.incarnation_of x
+  pub seq : low ≤ w.head → w.incarnation_of x ≡ w.served → w.head ≤ w.seq_of x
+  pub same : low ≤ w.head → w.incarnation_of x ≡ w.served → w.seq_of x ≡ w.head → x ≡ w.line w.head
+
+pub picked_not_before : (w : State) (list_of : ℕ → FencedPacket) (low x : ℕ) → w.phase ≡ 1 → Gathered w list_of low → Picked w list_of low x → ShelfInvariant w → Line w → Spans w → Undoubted w → NotBefore w low x
+picked_not_before w list_of low x gathering gathered picked shelf line spans sure = record {
+  boot = λ above. let s = head_seen w list_of low gathering gathered shelf line spans sure above in let v = w.member_server (w.line w.head) s.0 in let e = line.head_seq in
+      let pos : 0 < w.head = (let a = (late w list_of low gathered shelf).some in omega arith) in
+      let a = picked.newest_boot v (w.line w.head) s.1 s.2 (omega arith) in let b = line.head_boot pos in omega arith;
+  seq = λ above k. let s = head_seen w list_of low gathering gathered shelf line spans sure above in let v = w.member_server (w.line w.head) s.0 in let e = line.head_seq in
+      let pos : 0 < w.head = (let a = (late w list_of low gathered shelf).some in omega arith) in
+      let b = line.head_boot pos in let a = picked.longest v (w.line w.head) s.1 s.2 (omega arith) (omega arith) in omega arith;
+  same = λ above k k1. let s = head_seen w list_of low gathering gathered shelf line spans sure above in let v = w.member_server (w.line w.head) s.0 in let e = line.head_seq in
+      let pos : 0 < w.head = (let a = (late w list_of low gathered shelf).some in omega arith) in
+      let b = line.head_boot pos in let a = picked.last_attempt v (w.line w.head) s.1 s.2 (omega arith) (omega arith) (omega arith) in
+      let d = line.head_attempt x (picked_booked w list_of low x gathered picked shelf.lists) k k1 in
+      shelf.names.apart x (w.line w.head) (omega arith) (omega arith) (omega arith);
+}
+
+-- a member of the head whose list lacks it is of a later generation
+pub head_kept : (w : State) (list_of : ℕ → FencedPacket) (low j : ℕ) → w.phase ≡ 1 → Gathered w list_of low → ShelfInvariant w → Line w → Spans w → low ≤ w.head → j < w.member_count (w.line w.head) → (list_of (w.member_server (w.line w.head) j)).listed (w.line w.head) ≡ 0 → w.member_generation (w.line w.head) j < (list_of (w.member_server (w.line w.head) j)).generation
+head_kept w list_of low j gathering gathered shelf line spans above member lacks =
+    let x = w.line w.head in
+    let v = w.member_server x j in
+    let pos : 0 < w.head = (let a = (late w list_of low gathered shelf).some in omega arith) in
+    let known : v < w.servers = shelf.texts.server_known x j (shelf.filed.filed_booked x (line.line_filed w.head pos (omega arith))) member in
+    spans.unlisted_later (list_of v) j (gathered.sent v known) (gathered.boot v known) (shelf.boots.not_yet_served (omega arith) (omega arith)) pos (let a = gathered.after v known in omega arith) member (sym (gathered.from v known)) lacks
+
+-- so what is discarded isn't the head
+pub not_head : (w : State) (list_of : ℕ → FencedPacket) (low x j : ℕ) → CanPickPrior w list_of low x j → ShelfInvariant w → Line w → Spans w → low ≤ w.head → x ≡ w.line w.head → ⊥
+not_head w list_of low x j can shelf line spans above e = subst (λ y. j < w.member_count y → (list_of (w.member_server y j)).listed y ≡ 0 → (list_of (w.member_server y j)).generation ≡ w.member_generation y j → ⊥) (sym e) (λ a b d. let k = head_kept w list_of low j can.gathering can.gathered shelf line spans above a b in omega arith) can.member can.lacks can.original

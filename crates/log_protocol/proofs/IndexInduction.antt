@@ -1,0 +1,48 @@
+-- The invariant of the index of one block, and that it holds at every state of every run.
+-- Its groups, in the order in which they are proved: Rows (on nothing), Bounds (on nothing), Joins (on Rows, Bounds), Beaten (on the three).
+use Rattle.std.proofs.Common.{◌≡◌, ℕ, zero, suc, ◌<◌, ◌≤◌, refl, sym, ap, ◌∙◌, subst, arith}
+use Rattle.log_protocol.specs.IndexState.{Entry, IndexState, new_block, Joins}
+use Rattle.log_protocol.specs.IndexSteps.{IndexStep, IndexSteps}
+use Rattle.log_protocol.specs.IndexSteps.IndexSteps.{Done, More}
+use Rattle.log_protocol.specs.IndexLaws.{IndexReached, IndexIsJoin, CleaningLosesNothing}
+use Rattle.log_protocol.proofs.IndexRows.{IndexRows, step_keeps_index_rows, new_block_index_rows}
+use Rattle.log_protocol.proofs.IndexBounds.{IndexBounds, step_keeps_index_bounds, new_block_index_bounds}
+use Rattle.log_protocol.proofs.IndexJoins.{IndexJoins, step_keeps_index_joins, new_block_index_joins}
+use Rattle.log_protocol.proofs.IndexBeaten.{IndexBeaten, step_keeps_index_beaten, new_block_index_beaten}
+
+pub record IndexInvariant (w : IndexState) : Type 0 where
+  pub rows : IndexRows w
+  pub bounds : IndexBounds w
+  pub joins : IndexJoins w
+  pub beaten : IndexBeaten w
+
+pub index_step_keeps : (w u : IndexState) → IndexStep w u → IndexInvariant w → IndexInvariant u
+index_step_keeps w u step i = record {
+  rows = step_keeps_index_rows w u step i.rows;
+  bounds = step_keeps_index_bounds w u step i.bounds;
+  joins = step_keeps_index_joins w u step i.rows i.bounds i.joins;
+  beaten = step_keeps_index_beaten w u step i.rows i.bounds i.joins i.beaten;
+}
+
+index_run_keeps : (w u : IndexState) → IndexSteps w u → IndexInvariant w → IndexInvariant u
+index_run_keeps w u Done i = i
+index_run_keeps w u (More {v = v} run step) i = index_step_keeps v u step (index_run_keeps w v run i)
+
+pub index_always : (w : IndexState) → IndexReached w → IndexInvariant w
+index_always w run = index_run_keeps (new_block w.cleaner) w run (record { rows = new_block_index_rows w.cleaner; bounds = new_block_index_bounds w.cleaner; joins = new_block_index_joins w.cleaner; beaten = new_block_index_beaten w.cleaner })
+
+pub index_is_join_always : (w : IndexState) → IndexReached w → IndexIsJoin w
+index_is_join_always w run = let i = index_always w run in record { all = i.rows.top; each = i.joins.each; begun = i.bounds.active_begun }
+
+pub cleaning_loses_nothing_always : (w : IndexState) → IndexReached w → CleaningLosesNothing w
+cleaning_loses_nothing_always w run l q dropped some same_log same_seq =
+    let i = index_always w run in
+    let top = i.rows.top in
+    let dead = i.beaten.dropped_beaten l q dropped in
+    let a = i.beaten.below_version l q dead in
+    let r = top.its_version (omega arith) in
+    let s = top.its_hop (omega arith) in
+    let f : w.version w.top.log w.top.seq ≡ w.version l q = ap (λ z. w.version z w.top.seq) same_log ∙ ap (w.version l) same_seq in
+    let g : w.hop w.top.log w.top.seq ≡ w.hop l q = ap (λ z. w.hop z w.top.seq) same_log ∙ ap (w.hop l) same_seq in
+    let z = i.beaten.below_seq l q dead some (omega arith) (omega arith) in
+    omega arith

@@ -1,0 +1,36 @@
+-- Small parts of runs with one server: the group of server 0 alone, a Store to it and its Stored.
+use Rattle.std.proofs.Common.{◌≡◌, ℕ, zero, suc, ◌<◌, ◌≤◌, refl, sym, subst, arith}
+use Rattle.log_protocol.specs.Packets.{StorePacket, StoredPacket}
+use Rattle.log_protocol.specs.State.{State}
+use Rattle.log_protocol.specs.OwnerSteps.{Group}
+
+abbrev pub first_server : ℕ → ℕ
+first_server j = 0
+
+pub one_server : (w : State) → w.servers ≡ 1 → Group w 1 first_server
+one_server w e = record { some = omega arith; known = λ j k. omega arith; distinct = λ i j a b c. omega arith }
+
+abbrev pub store_to_first : ℕ → ℕ → StorePacket
+store_to_first name text = record { to = 0; name = name; index = 0; generation = 1; text = text }
+
+abbrev pub stored_by_first : ℕ → StoredPacket
+stored_by_first name = record { name = name; index = 0; generation = 1 }
+
+pub some1 : 0 < 1
+some1 = omega arith
+
+pub some2 : 0 < 2
+some2 = omega arith
+
+pub some3 : 0 < 3
+some3 = omega arith
+
+pub some4 : 0 < 4
+some4 = omega arith
+
+-- what holds of member 0 holds of each member of a group of one
+pub at_zero : (P : ℕ → Type 0) (j : ℕ) → j < 1 → P 0 → P j
+at_zero P j k p = subst P (sym (zero_of j k)) p
+  where
+    zero_of : (j : ℕ) → j < 1 → j ≡ 0
+    zero_of j k = omega arith

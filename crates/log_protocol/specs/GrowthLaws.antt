@@ -1,0 +1,17 @@
+-- What is proved of two moments of one run.
+use Rattle.std.specs.Prelude.{◌≡◌, ℕ, ◌≤◌}
+use Rattle.log_protocol.specs.State.{State}
+use Rattle.log_protocol.specs.Step.{Steps}
+
+-- The past stays: from w to a later u the book keeps each name with its text and prior, what is filed stays filed, and the line is only added to.
+pub record PastStays (w u : State) : Type 0 where
+  pub text : (x : ℕ) → w.booked x ≡ 1 → (u.booked x ≡ 1) × (u.text_of x ≡ w.text_of x)
+  pub prior : (x : ℕ) → w.booked x ≡ 1 → u.prior_of x ≡ w.prior_of x
+  pub filed : (x : ℕ) → w.filed x ≡ 1 → u.filed x ≡ 1
+  pub dropped : (x : ℕ) → w.dropped x ≡ 1 → u.dropped x ≡ 1
+  pub low : w.low ≤ u.low
+  pub line : (q : ℕ) → u.clean ≡ 1 → q ≤ w.head → u.line q ≡ w.line q
+
+-- The interval: a server that lacks a fragment at the end of an interval and isn't marked for it there, with one generation at both ends, has that generation and lacks the fragment at every moment between.
+abbrev pub LacksBetween : State → State → State → Type 0
+LacksBetween w m u = (v x : ℕ) → u.generation v ≡ w.generation v → u.holds v x ≡ 0 → (u.marked v x ≡ 1 → ⊥) → (m.generation v ≡ w.generation v) × (m.holds v x ≡ 1 → ⊥)

@@ -1,0 +1,18 @@
+-- What is proved of the index of one block at every moment of every run.
+use Rattle.std.specs.Prelude.{◌≡◌, ℕ, ◌<◌, ◌≤◌}
+use Rattle.log_protocol.specs.IndexState.{Entry, IndexState, Joins, new_block}
+use Rattle.log_protocol.specs.IndexSteps.{IndexSteps}
+
+-- a state that some run from a new block reaches
+abbrev pub IndexReached : IndexState → Type 0
+IndexReached w = IndexSteps (new_block w.cleaner) w
+
+-- The index is the join: `top` is the join of all that is filed, and each active manager's index the join of what it applied; whose epoch has begun.
+pub record IndexIsJoin (w : IndexState) : Type 0 where
+  pub all : Joins w.version w.hop w.head w.top
+  pub each : (e : ℕ) → w.active e ≡ 1 → Joins w.version w.hop (w.applied e) (w.index e)
+  pub begun : (e : ℕ) → w.active e ≡ 1 → e ≤ w.epoch
+
+-- Cleaning loses nothing: the join of all that is filed never names a row of the block that was dropped.
+abbrev pub CleaningLosesNothing : IndexState → Type 0
+CleaningLosesNothing w = (l q : ℕ) → w.dropped l q ≡ 1 → 0 < w.version l q → w.top.log ≡ l → w.top.seq ≡ q → ⊥

@@ -1,0 +1,117 @@
+//! The abstract log protocol: that logs stay whole, for every schedule.
+//!
+//! No code of the product is here. `specs/` has the state of one log with its servers and its owner, the steps
+//! that it takes, and the laws; `proofs/Invariant.antt` lists the groups of the invariant and is read first.
+//! Each function below is one law: it does nothing, and its contract holds of every run, that is, of every list of
+//! steps from a new log, whatever is lost, late, repeated or never delivered. A second, smaller machine is the
+//! index of one block. `docs/PROTOCOL.md` says which transition of which node is which step.
+#![tactic(auto)]
+
+ghost use Rattle.std.specs.Prelude.{◌≡◌, ℕ, ◌<◌, ◌≤◌, suc, List, [], ◌∷◌};
+ghost use Rattle.log_protocol.specs.Tables.{put};
+ghost use Rattle.log_protocol.specs.Packets.{FencedPacket};
+ghost use Rattle.log_protocol.specs.State.{State, Names};
+ghost use Rattle.log_protocol.specs.OpeningSteps.{Picked, Undoubted};
+ghost use Rattle.log_protocol.specs.Step.{Steps};
+ghost use Rattle.log_protocol.specs.LogLaws.{Reached, LogsWhole, OneText, OneLine, AdoptsOne, FeedWhole};
+ghost use Rattle.log_protocol.specs.GrowthLaws.{PastStays, LacksBetween};
+ghost use Rattle.log_protocol.specs.LogRuns.{TailAdopted, TailDiscarded, EmptyOpened};
+ghost use Rattle.log_protocol.specs.PickRule.{gather, best, SameLists};
+ghost use Rattle.log_protocol.specs.NamesAsNumbers.{code_seq, code_incarnation, code_attempt, Decodes};
+ghost use Rattle.log_protocol.specs.Counting.{FewHurt};
+ghost use Rattle.log_protocol.specs.IndexState.{Entry, IndexState, Joins};
+ghost use Rattle.log_protocol.specs.IndexLaws.{IndexReached, IndexIsJoin, CleaningLosesNothing};
+ghost use Rattle.log_protocol.specs.IndexMerge.{FirstGreatest, merged};
+ghost use Rattle.log_protocol.specs.IndexRuns.{IndexMoved};
+
+/// Logs stay whole: in every run each member of a filed segment that isn't dropped holds its fragment, at its index,
+/// or its server is of a later generation than the segment's group names. So nothing but losses takes a fragment
+/// away. (Section 3.1 of the 1996 paper: log-based striping, and its parity.)
+pub fn logs_whole()
+    ensures whole { (w : State) → Reached w → LogsWhole w }
+{}
+
+/// One name, one text: in every run whatever a server holds of a name, and whatever a Store or a Fragment brings of
+/// it, is of the one text that was written under that name.
+pub fn one_text()
+    ensures text { (w : State) → Reached w → OneText w }
+{}
+
+/// One line of segments: while no doubtful opening has served, no two filed segments have one seq, each seq up to the
+/// head has a filed segment, and each filed one above the least horizon has the one before it as its prior.
+pub fn one_line()
+    ensures line { (w : State) → Reached w → w.clean ≡ 1 → OneLine w }
+{}
+
+/// What a reopening adopts: while no doubtful opening has served, of what an opening reads back beyond the head only
+/// the segment at head + 1 tells anything, and it tells what the last boot that served had in flight there. (Section
+/// 3.2.1 of the 1996 paper: roll forward after a crash.)
+pub fn what_reopening_adopts()
+    ensures adopted { (w : State) → Reached w → w.clean ≡ 1 → AdoptsOne w }
+{}
+
+/// What a feed has: while no doubtful opening has served, the feed of a serving owner begins no later than the least
+/// horizon, and has from there to the head the filed segment of each seq.
+pub fn feed_is_whole()
+    ensures whole { (w : State) → Reached w → w.clean ≡ 1 → w.phase ≡ 4 → FeedWhole w }
+{}
+
+/// Few losses keep an opening undoubted: where fewer members of the newest filed segment were hurt since the span
+/// began than it has, the premise on losses is met.
+pub fn few_losses_are_undoubted()
+    ensures undoubted { (w : State) → FewHurt w → Undoubted w }
+{}
+
+/// What only grows: between two moments of a run, a booked name keeps its text and prior, what is filed or dropped
+/// stays so, the least horizon never falls, and the line is only added to.
+pub fn past_stays()
+    ensures stays { (w u : State) → Reached w → Steps w u → PastStays w u }
+{}
+
+/// The interval: a server of one generation at both ends of an interval, that lacks a fragment at its end and isn't
+/// marked for it there, is of that generation and lacks it at every moment between.
+pub fn lacks_between()
+    ensures lacks { (w m u : State) → Reached w → Steps w m → Steps m u → LacksBetween w m u }
+{}
+
+/// The pick is a fold over the lists that an owner kept: the best of the names that aren't below the horizon is the
+/// picked one, and where there is none no list names anything at or above the horizon.
+pub fn pick_is_a_fold()
+    ensures picked { (w : State) (list_of : ℕ → FencedPacket) (names : ℕ → List ℕ) (low x : ℕ) (xs : List ℕ) → SameLists w list_of names → gather w.seq_of low names w.servers ≡ x ∷ xs → Picked w list_of low (best w.seq_of w.incarnation_of w.attempt_of x xs) }
+    ensures nothing { (w : State) (list_of : ℕ → FencedPacket) (names : ℕ → List ℕ) (low : ℕ) → SameLists w list_of names → gather w.seq_of low names w.servers ≡ [] → (v y : ℕ) → v < w.servers → (list_of v).listed y ≡ 1 → w.seq_of y < low }
+{}
+
+/// Names as numbers: with incarnation and attempt below a base, no two names have one number, and a number tells what
+/// was coded in it.
+pub fn numbers_name()
+    ensures apart { (base : ℕ) → 0 < base → Names (code_seq base) (code_incarnation base) (code_attempt base) }
+    ensures decode { (base seq incarnation attempt : ℕ) → incarnation < base → attempt < base → Decodes base seq incarnation attempt }
+{}
+
+/// The index is the join: in every run each active manager's index names the greatest of the rows that it applied,
+/// whatever moved, was lost or came twice. (Section 3.2.2 of the 1996 paper: the imap.)
+pub fn index_is_the_join()
+    ensures join { (w : IndexState) → IndexReached w → IndexIsJoin w }
+{}
+
+/// Cleaning loses nothing: in every run the join of all that is filed never names a row that the cleaner dropped.
+/// (Section 3.3 of the 1996 paper: cleaning.)
+pub fn cleaning_loses_nothing()
+    ensures nothing_lost { (w : IndexState) → IndexReached w → CleaningLosesNothing w }
+{}
+
+/// Merging gives the join: an entry that is the join of what was applied, merged with the first greatest row of the
+/// segments that follow in one log, is the join of both; of equals the older stays.
+pub fn merging_gives_the_join()
+    ensures join { (w : IndexState) (applied : ℕ → ℕ) (l first upto : ℕ) (old new : Entry) → IndexReached w → Joins w.version w.hop applied old → FirstGreatest w l first upto new → first ≤ suc (applied l) → applied l ≤ upto → Joins w.version w.hop (put applied l upto) (merged old new) }
+{}
+
+/// The laws speak of something: runs exist in which each kind of step is taken. In one a tail is restriped and
+/// adopted, a segment is dropped, and a server is lost and fills its shelf again; in one a tail is discarded; in one an
+/// empty log is opened; in one managers are activated, a horizon is kept, and a row is dropped and another copied.
+pub fn runs_exist()
+    ensures adopted { TailAdopted }
+    ensures discarded { TailDiscarded }
+    ensures empty { EmptyOpened }
+    ensures index { IndexMoved }
+{}
