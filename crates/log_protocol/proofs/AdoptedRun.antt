@@ -14,7 +14,7 @@ use Rattle.log_protocol.specs.Step.Step.{Loses, Hears, Learns, Sends, Accepts, A
 use Rattle.log_protocol.specs.Step.Steps.{Done, More}
 use Rattle.log_protocol.specs.LogLaws.{Reached}
 use Rattle.log_protocol.specs.LogRuns.{TailAdopted}
-use Rattle.log_protocol.proofs.RunParts.{first_server, one_server, some1, some2, some3, some4, at_zero, store_to_first, stored_by_first}
+use Rattle.log_protocol.proofs.RunParts.{first_server, one_server, some1, some2, some3, some4, at_zero, store_to_first, stored_by_first, settled_alone, second_attempt, first_dropped}
 
 abbrev seqs : ℕ → ℕ
 seqs x = if nat_lt x 3 then x else x - 1
@@ -131,13 +131,10 @@ abbrev w28 : State
 w28 = fills w27 0 0 told
 
 s5 : Steps w0 w5
-s5 = More (More (More (More (More Done (Seals 1 7 1 first_server 5 (record { serving = refl; no_flight = refl; named = some1; next = refl; own = refl; group = one_server w0 refl }))) (Sends 1 0 (record { booked = refl; member = some1 }))) (Accepts (store_to_first 1 7) (record { sent = inl refl; present = refl; unmarked = refl; absent = refl }))) (Notes (stored_by_first 1) (record { sent = inl refl; flying = some1; named = refl }))) (Settles (record { serving = refl; flying = some1; settled = λ j k. inl (at_zero (λ z. w4.noted z ≡ 1) j k refl) }))
-
-later_attempt : 1 < 2
-later_attempt = omega arith
+s5 = More (More (More (More (More Done (Seals 1 7 1 first_server 5 (record { serving = refl; no_flight = refl; named = some1; next = refl; own = refl; group = one_server w0 refl }))) (Sends 1 0 (record { booked = refl; member = some1 }))) (Accepts (store_to_first 1 7) (record { sent = inl refl; present = refl; unmarked = refl; absent = refl }))) (Notes (stored_by_first 1) (record { sent = inl refl; flying = some1; named = refl }))) (Settles (record { serving = refl; flying = some1; settled = settled_alone w4 refl refl }))
 
 s11 : Steps w0 w11
-s11 = More (More (More (More (More (More s5 (Seals 2 8 1 first_server 6 (record { serving = refl; no_flight = refl; named = some2; next = refl; own = refl; group = one_server w5 refl }))) (Restripes 3 9 1 first_server (record { flying = some2; named = some3; same_seq = refl; own = refl; later = later_attempt; group = one_server w6 refl }))) (Sends 3 0 (record { booked = refl; member = some1 }))) (Accepts (store_to_first 3 9) (record { sent = inl refl; present = refl; unmarked = refl; absent = refl }))) (Accepts_again (store_to_first 3 9) (record { sent = inl refl; held = refl }))) Crashes
+s11 = More (More (More (More (More (More s5 (Seals 2 8 1 first_server 6 (record { serving = refl; no_flight = refl; named = some2; next = refl; own = refl; group = one_server w5 refl }))) (Restripes 3 9 1 first_server (second_attempt w6 3 refl some2 some3 refl refl refl refl))) (Sends 3 0 (record { booked = refl; member = some1 }))) (Accepts (store_to_first 3 9) (record { sent = inl refl; present = refl; unmarked = refl; absent = refl }))) (Accepts_again (store_to_first 3 9) (record { sent = inl refl; held = refl }))) Crashes
 
 -- what the server held then
 listed_names : (y : ℕ) → w12.holds 0 y ≡ 1 → (y ≡ 1) ⊎ (y ≡ 3)
@@ -193,20 +190,16 @@ read = record { last = λ q a e. last q e; back = λ q a less. back q a less }
     back q a less = subst (λ z. path z ≡ w19.prior_of (path (suc z))) (sym (one q a less)) refl
 
 s20 : Steps w0 w20
-s20 = More (More (More (More (More s15 (Opens 4 10 1 first_server (record { reading = refl; named = some4; next = refl; own = refl; group = one_server w15 refl }))) (Sends 4 0 (record { booked = refl; member = some1 }))) (Accepts (store_to_first 4 10) (record { sent = inl refl; present = refl; unmarked = refl; absent = refl }))) (Notes (stored_by_first 4) (record { sent = inl refl; flying = some4; named = refl }))) (Serves path 1 (record { writing = refl; settled = λ j k. inl (at_zero (λ z. w19.noted z ≡ 1) j k refl); undoubted = λ e a b. (0, some1, refl); read = read }))
+s20 = More (More (More (More (More s15 (Opens 4 10 1 first_server (record { reading = refl; named = some4; next = refl; own = refl; group = one_server w15 refl }))) (Sends 4 0 (record { booked = refl; member = some1 }))) (Accepts (store_to_first 4 10) (record { sent = inl refl; present = refl; unmarked = refl; absent = refl }))) (Notes (stored_by_first 4) (record { sent = inl refl; flying = some4; named = refl }))) (Serves path 1 (record { writing = refl; settled = settled_alone w19 refl refl; undoubted = λ e a b. (0, some1, refl); read = read }))
 
 s23 : Steps w0 w23
-s23 = More (More (More s20 (Raises 2 (record { rises = le12; filed = λ e. le24 }))) (Drops 1 (record { booked = refl; below = lt12 }))) (Deletes 0 1 (record { dropped = refl }))
+s23 = More (More (More s20 (Raises 2 (record { rises = le12; filed = λ e. le24 }))) (Drops 1 (first_dropped w21 1 refl refl refl))) (Deletes 0 1 (record { dropped = refl }))
   where
     le12 : 1 ≤ 2
     le12 = omega arith
 
     le24 : 2 ≤ 4
     le24 = omega arith
-
-    lt12 : 1 < 2
-    lt12 = omega arith
-
 s28 : Steps w0 w28
 s28 = More (More (More (More (More s23 (Tells 0 3 (record { held = refl }))) (Loses 0)) (Hears 0 2 (record { rises = le12; reached = le2 }))) (Learns w26.registry_generation (record { rises = up; known = λ v. same v }))) (Fills 0 0 told (record { sent = inl refl; member = some1; own = refl; unmarked = refl; absent = refl }))
   where

@@ -13,7 +13,7 @@ use Rattle.log_protocol.specs.Step.{Step, Steps}
 use Rattle.log_protocol.specs.Step.Step.{Sends, Accepts, Fences, Seals, Notes, Settles, Crashes, Restarts, Begins, Picks_none, Picks_prior, Opens, Serves}
 use Rattle.log_protocol.specs.Step.Steps.{Done, More}
 use Rattle.log_protocol.specs.LogLaws.{Reached}
-use Rattle.log_protocol.proofs.RunParts.{first_server, one_server, some1, some2, some3, at_zero, store_to_first, stored_by_first}
+use Rattle.log_protocol.proofs.RunParts.{first_server, one_server, some1, some2, some3, at_zero, store_to_first, stored_by_first, settled_alone, second_attempt, first_dropped}
 use Rattle.log_protocol.specs.LogRuns.{TailDiscarded}
 
 abbrev seqs : ℕ → ℕ
@@ -104,7 +104,7 @@ both : Group w5 2 (λ j. j)
 both = record { some = some2; known = λ j k. k; distinct = λ i j a b c. c }
 
 s5 : Steps w0 w5
-s5 = More (More (More (More (More Done (Seals 1 7 1 first_server 5 (record { serving = refl; no_flight = refl; named = some1; next = refl; own = refl; group = record { some = some1; known = first_of_two.known; distinct = first_of_two.distinct } }))) (Sends 1 0 (record { booked = refl; member = some1 }))) (Accepts (store_to_first 1 7) (record { sent = inl refl; present = refl; unmarked = refl; absent = refl }))) (Notes (stored_by_first 1) (record { sent = inl refl; flying = some1; named = refl }))) (Settles (record { serving = refl; flying = some1; settled = λ j k. inl (at_zero (λ z. w4.noted z ≡ 1) j k refl) }))
+s5 = More (More (More (More (More Done (Seals 1 7 1 first_server 5 (record { serving = refl; no_flight = refl; named = some1; next = refl; own = refl; group = record { some = some1; known = first_of_two.known; distinct = first_of_two.distinct } }))) (Sends 1 0 (record { booked = refl; member = some1 }))) (Accepts (store_to_first 1 7) (record { sent = inl refl; present = refl; unmarked = refl; absent = refl }))) (Notes (stored_by_first 1) (record { sent = inl refl; flying = some1; named = refl }))) (Settles (record { serving = refl; flying = some1; settled = settled_alone w4 refl refl }))
 
 s12 : Steps w0 w12
 s12 = More (More (More (More (More (More (More s5 (Seals 2 8 2 (λ j. j) 6 (record { serving = refl; no_flight = refl; named = some2; next = refl; own = refl; group = both }))) (Sends 2 0 (record { booked = refl; member = some2 }))) (Accepts (store_to_first 2 8) (record { sent = inl refl; present = refl; unmarked = refl; absent = refl }))) Crashes) (Begins (record { down = refl }))) (Fences 0 2 (record { begun = le2 }))) (Fences 1 2 (record { begun = le2 }))
@@ -159,7 +159,7 @@ s13 = More s12 (Picks_prior list_of 1 2 1 (record { gathering = refl; gathered =
 
 s18 : Steps w0 w18
 s18 = More (More (More (More (More s13 (Opens 3 9 1 first_server (record { reading = refl; named = some3; next = refl; own = refl; group = record { some = some1; known = first_of_two.known; distinct = first_of_two.distinct } }))) (Sends 3 0 (record { booked = refl; member = some1 }))) (Accepts (store_to_first 3 9) (record { sent = inl refl; present = refl; unmarked = refl; absent = refl }))) (Notes (stored_by_first 3) (record { sent = inl refl; flying = some3; named = refl })))
-    (Serves (λ q. 1) 1 (record { writing = refl; settled = λ j k. inl (at_zero (λ z. w17.noted z ≡ 1) j k refl); undoubted = λ e a b. (0, some1, refl); read = read }))
+    (Serves (λ q. 1) 1 (record { writing = refl; settled = settled_alone w17 refl refl; undoubted = λ e a b. (0, some1, refl); read = read }))
 
 s20 : Steps w0 w20
 s20 = More (More s18 Crashes) (Restarts (record { down = refl }))

@@ -13,7 +13,7 @@ use Rattle.log_protocol.specs.Step.{Step, Steps}
 use Rattle.log_protocol.specs.Step.Step.{Sends, Accepts, Fences, Seals, Notes, Settles, Crashes, Restarts, Begins, Picks_none, Picks_prior, Opens, Serves}
 use Rattle.log_protocol.specs.Step.Steps.{Done, More}
 use Rattle.log_protocol.specs.LogLaws.{Reached}
-use Rattle.log_protocol.proofs.RunParts.{first_server, one_server, some1, some2, some3, at_zero, store_to_first, stored_by_first}
+use Rattle.log_protocol.proofs.RunParts.{first_server, one_server, some1, some2, some3, at_zero, store_to_first, stored_by_first, settled_alone, second_attempt, first_dropped}
 use Rattle.log_protocol.specs.LogRuns.{EmptyOpened}
 
 names : Names (λ x. x) (λ x. 2) (λ x. 1)
@@ -66,7 +66,7 @@ s4 = More (More (More (More Done Crashes) (Begins (record { down = refl }))) (Fe
 
 s9 : Steps w0 w9
 s9 = More (More (More (More (More s4 (Opens 1 7 1 first_server (record { reading = refl; named = some1; next = refl; own = refl; group = one_server w4 refl }))) (Sends 1 0 (record { booked = refl; member = some1 }))) (Accepts (store_to_first 1 7) (record { sent = inl refl; present = refl; unmarked = refl; absent = refl }))) (Notes (stored_by_first 1) (record { sent = inl refl; flying = some1; named = refl })))
-    (Serves (λ q. 0) 1 (record { writing = refl; settled = λ j k. inl (at_zero (λ z. w8.noted z ≡ 1) j k refl); undoubted = λ e a b. absurd (nothing a); read = record { last = λ q a e. refl; back = λ q a less. absurd (below q a less) } }))
+    (Serves (λ q. 0) 1 (record { writing = refl; settled = settled_alone w8 refl refl; undoubted = λ e a b. absurd (nothing a); read = record { last = λ q a e. refl; back = λ q a less. absurd (below q a less) } }))
   where
     nothing : 0 < 0 → ⊥
     nothing a = omega arith

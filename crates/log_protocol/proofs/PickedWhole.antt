@@ -29,7 +29,7 @@ picked_whole w list_of low x can generations boots texts lists j member kept lac
     let group = lists.older_known (list_of v) x j sent booked (omega arith) member (sym from) in
     let reached : (list_of v).generation ≤ w.generation v = subst (λ z. (list_of v).generation ≤ w.generation z) from (generations.fenced_known (list_of v) sent) in
     let held = subst (λ z. (list_of v).listed x ≡ 1 → w.dropped x ≡ 0 → w.holds z x ≡ 0 → (list_of v).generation < w.generation z) from (lists.listed_held (list_of v) x sent) in
-    later (can.whole j member) held group reached
+    later (can.whole j (omega arith)) held group reached
   where
     later : ((list_of (w.member_server x j)).listed x ≡ 1) ⊎ ((list_of (w.member_server x j)).generation ≡ w.member_generation x j → ⊥) → ((list_of (w.member_server x j)).listed x ≡ 1 → w.dropped x ≡ 0 → w.holds (w.member_server x j) x ≡ 0 → (list_of (w.member_server x j)).generation < w.generation (w.member_server x j)) → w.member_generation x j ≤ (list_of (w.member_server x j)).generation → (list_of (w.member_server x j)).generation ≤ w.generation (w.member_server x j) → w.member_generation x j < w.generation (w.member_server x j)
     later (inl listed) held group reached = let a = held listed kept lacks in omega arith

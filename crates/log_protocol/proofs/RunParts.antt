@@ -1,8 +1,9 @@
 -- Small parts of runs with one server: the group of server 0 alone, a Store to it and its Stored.
-use Rattle.std.proofs.Common.{◌≡◌, ℕ, zero, suc, ◌<◌, ◌≤◌, refl, sym, subst, arith}
+use Rattle.std.proofs.Common.{◌≡◌, ℕ, zero, suc, ◌<◌, ◌≤◌, inl, refl, sym, subst, arith}
 use Rattle.log_protocol.specs.Packets.{StorePacket, StoredPacket}
 use Rattle.log_protocol.specs.State.{State}
-use Rattle.log_protocol.specs.OwnerSteps.{Group}
+use Rattle.log_protocol.specs.ServerSteps.{CanDrop}
+use Rattle.log_protocol.specs.OwnerSteps.{Group, CanRestripe, Settled}
 
 abbrev pub first_server : ℕ → ℕ
 first_server j = 0
@@ -34,3 +35,18 @@ at_zero P j k p = subst P (sym (zero_of j k)) p
   where
     zero_of : (j : ℕ) → j < 1 → j ≡ 0
     zero_of j k = omega arith
+
+-- a flight of one member that is noted has settled
+pub settled_alone : (w : State) → w.member_count w.flight ≡ 1 → w.noted 0 ≡ 1 → Settled w
+settled_alone w one noted j member = inl (subst (λ k. w.noted k ≡ 1) (sym (zero_of j member)) noted)
+  where
+    zero_of : (k : ℕ) → k < w.member_count w.flight → k ≡ 0
+    zero_of k less = omega arith
+
+-- the second attempt of a flight, on server 0
+pub second_attempt : (w : State) (x : ℕ) → w.servers ≡ 1 → 0 < w.flight → 0 < x → w.seq_of x ≡ w.seq_of w.flight → w.incarnation_of x ≡ w.incarnation → w.attempt_of w.flight ≡ 1 → w.attempt_of x ≡ 2 → CanRestripe w x 1 first_server
+second_attempt w x alone flying named same_seq own was is = record { flying = flying; named = named; same_seq = same_seq; own = own; later = omega arith; group = one_server w alone }
+
+-- the first segment, below a horizon of 2
+pub first_dropped : (w : State) (x : ℕ) → w.booked x ≡ 1 → w.seq_of x ≡ 1 → w.low ≡ 2 → CanDrop w x
+first_dropped w x booked seq low = record { booked = booked; below = omega arith }

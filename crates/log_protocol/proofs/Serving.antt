@@ -45,7 +45,7 @@ chain_on_line w path writing shelf line rising read q a b = (up_at w path writin
 pub served_clean : (w : State) (path : ℕ → ℕ) (sure : ℕ) → CanServe w path sure → (serves w path sure).clean ≡ 1 → (w.clean ≡ 1) × Undoubted w
 served_clean w path sure can clean = go sure can.undoubted clean
   where
-    go : (s : ℕ) → (s ≡ 1 → Undoubted w) → (if s == 1 then w.clean else 0) ≡ 1 → (w.clean ≡ 1) × Undoubted w
+    go : (s : ℕ) → (s ≡ 1 → Undoubted w) → (serves w path s).clean ≡ 1 → (w.clean ≡ 1) × Undoubted w
     go zero f z = absurd (omega arith)
     go (suc s) f z = (grind (arith, nat_tests), f (grind (arith, nat_tests)))
 
