@@ -38,3 +38,4 @@ pub mod AdoptedRun
 pub mod EmptyRun
 pub mod DiscardedRun
 pub mod IndexRun
+pub mod UndoubtedRuns

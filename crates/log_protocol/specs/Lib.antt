@@ -16,3 +16,4 @@ pub mod IndexMerge
 pub mod NamesAsNumbers
 pub mod LogRuns
 pub mod IndexRuns
+pub mod UndoubtedRuns

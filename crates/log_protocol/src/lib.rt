@@ -14,6 +14,7 @@ ghost use Rattle.log_protocol.specs.State.{State, Names};
 ghost use Rattle.log_protocol.specs.OpeningSteps.{Picked, Undoubted};
 ghost use Rattle.log_protocol.specs.Step.{Steps};
 ghost use Rattle.log_protocol.specs.LogLaws.{Reached, LogsWhole, OneText, OneLine, AdoptsOne, FeedWhole};
+ghost use Rattle.log_protocol.specs.UndoubtedRuns.{SureRun};
 ghost use Rattle.log_protocol.specs.GrowthLaws.{PastStays, LacksBetween};
 ghost use Rattle.log_protocol.specs.LogRuns.{TailAdopted, TailDiscarded, EmptyOpened};
 ghost use Rattle.log_protocol.specs.PickRule.{gather, best, SameLists};
@@ -54,6 +55,13 @@ pub fn what_reopening_adopts()
 /// horizon, and has from there to the head the filed segment of each seq.
 pub fn feed_is_whole()
     ensures whole { (w : State) → Reached w → w.clean ≡ 1 → w.phase ≡ 4 → FeedWhole w }
+{}
+
+/// Undoubted runs are clean: where each opening that served met the premise on losses, of the newest filed segment some
+/// member never lacked its fragment since the span began, the log is clean, and the laws of the line hold. A manager's
+/// log, which goes on with a chain of its own after each restart, isn't among these.
+pub fn undoubted_runs_are_clean()
+    ensures clean { (w : State) (reached : Reached w) → SureRun reached.run → w.clean ≡ 1 }
 {}
 
 /// Few losses keep an opening undoubted: where fewer members of the newest filed segment were hurt since the span
