@@ -1,18 +1,16 @@
 -- A run, as a term: a tail is restriped, the owner falls, a reopening adopts the tail and serves; then a segment is dropped, and a server is lost and fills its shelf again.
 -- One server. Names 1 and 2 are the segments of seq 1 and 2, name 3 is the second attempt of seq 2, name 4 the opening segment of the second boot.
-use Rattle.std.proofs.Common.{◌≡◌, ℕ, zero, suc, ◌+◌, ◌-◌, ◌<◌, ◌≤◌, ◌==◌, if◌then◌else◌, ◌⊎◌, inl, inr, refl, sym, ap, ◌∙◌, subst, arith}
+use Rattle.std.proofs.Common.{◌≡◌, ℕ, suc, ◌-◌, ◌<◌, ◌≤◌, ◌==◌, if◌then◌else◌, ◌⊎◌, inl, inr, refl, sym, subst, arith}
 use Rattle.std.specs.Prelude.{nat_lt}
 use Rattle.std.proofs.lemmas.Bool.Decides.{nat_tests}
-use Rattle.log_protocol.specs.Tables.{In}
-use Rattle.log_protocol.specs.Packets.{StorePacket, StoredPacket, FragmentPacket, FencedPacket}
+use Rattle.log_protocol.specs.Packets.{FragmentPacket, FencedPacket}
 use Rattle.log_protocol.specs.State.{State, Names, new_log}
-use Rattle.log_protocol.specs.ServerSteps.{loses, CanHear, hears, CanLearn, learns, CanSend, sends, CanAccept, accepts, CanAcceptAgain, accepts_again, CanTell, tells, CanFill, fills, CanDrop, drops, CanDelete, deletes, CanRaise, raises, CanFence, fences}
-use Rattle.log_protocol.specs.OwnerSteps.{Group, CanSeal, seals, CanRestripe, restripes, CanNote, notes, CanSettle, settles, crashes}
-use Rattle.log_protocol.specs.OpeningSteps.{CanBegin, begins, Gathered, Picked, CanPickKept, picks_kept, CanCut, cuts, CanOpen, opens, ReadBack, CanServe, serves}
-use Rattle.log_protocol.specs.Step.{Step, Steps}
+use Rattle.log_protocol.specs.ServerSteps.{loses, hears, learns, sends, accepts, accepts_again, tells, fills, drops, deletes, raises, fences}
+use Rattle.log_protocol.specs.OwnerSteps.{seals, restripes, notes, settles, crashes}
+use Rattle.log_protocol.specs.OpeningSteps.{begins, Gathered, Picked, picks_kept, cuts, opens, ReadBack, serves}
+use Rattle.log_protocol.specs.Step.{Steps}
 use Rattle.log_protocol.specs.Step.Step.{Loses, Hears, Learns, Sends, Accepts, Accepts_again, Tells, Fills, Drops, Deletes, Raises, Fences, Seals, Restripes, Notes, Settles, Crashes, Begins, Picks_kept, Cuts, Opens, Serves}
 use Rattle.log_protocol.specs.Step.Steps.{Done, More}
-use Rattle.log_protocol.specs.LogLaws.{Reached}
 use Rattle.log_protocol.specs.LogRuns.{TailAdopted}
 use Rattle.log_protocol.proofs.RunParts.{first_server, one_server, some1, some2, some3, some4, at_zero, store_to_first, stored_by_first, settled_alone, second_attempt, first_dropped}
 
@@ -200,6 +198,7 @@ s23 = More (More (More s20 (Raises 2 (record { rises = le12; filed = λ e. le24 
 
     le24 : 2 ≤ 4
     le24 = omega arith
+
 s28 : Steps w0 w28
 s28 = More (More (More (More (More s23 (Tells 0 3 (record { held = refl }))) (Loses 0)) (Hears 0 2 (record { rises = le12; reached = le2 }))) (Learns w26.registry_generation (record { rises = up; known = λ v. same v }))) (Fills 0 0 told (record { sent = inl refl; member = some1; own = refl; unmarked = refl; absent = refl }))
   where

@@ -1,19 +1,18 @@
 -- A run, as a term: a tail reaches one of its two members, the owner falls, and its reopening discards the tail and writes in its place; then a manager's restart.
 -- Two servers. Names 1 and 2 are the segments of seq 1 (on server 0) and 2 (on both), name 3 the opening segment of the second boot, of seq 2 too.
-use Rattle.std.proofs.Common.{◌≡◌, ℕ, zero, suc, ◌+◌, ◌-◌, ◌<◌, ◌≤◌, ◌==◌, if◌then◌else◌, ◌⊎◌, inl, inr, refl, sym, ap, ◌∙◌, subst, arith}
+use Rattle.std.proofs.Common.{◌≡◌, ℕ, zero, suc, ◌-◌, ◌<◌, ◌≤◌, ◌==◌, if◌then◌else◌, inl, inr, refl, arith}
 use Rattle.std.specs.Prelude.{nat_lt}
 use Rattle.std.proofs.lemmas.Bool.Decides.{nat_tests}
 use Rattle.log_protocol.specs.Tables.{In}
-use Rattle.log_protocol.specs.Packets.{StorePacket, StoredPacket, FencedPacket}
+use Rattle.log_protocol.specs.Packets.{FencedPacket}
 use Rattle.log_protocol.specs.State.{State, Names, new_log}
-use Rattle.log_protocol.specs.ServerSteps.{CanSend, sends, CanAccept, accepts, CanFence, fences}
-use Rattle.log_protocol.specs.OwnerSteps.{Group, CanSeal, seals, CanNote, notes, CanSettle, settles, crashes, CanRestart, restarts}
-use Rattle.log_protocol.specs.OpeningSteps.{CanBegin, begins, Gathered, Picked, CanPickNone, picks_none, CanPickPrior, picks_prior, CanOpen, opens, ReadBack, CanServe, serves}
-use Rattle.log_protocol.specs.Step.{Step, Steps}
-use Rattle.log_protocol.specs.Step.Step.{Sends, Accepts, Fences, Seals, Notes, Settles, Crashes, Restarts, Begins, Picks_none, Picks_prior, Opens, Serves}
+use Rattle.log_protocol.specs.ServerSteps.{sends, accepts, fences}
+use Rattle.log_protocol.specs.OwnerSteps.{Group, seals, notes, settles, crashes, restarts}
+use Rattle.log_protocol.specs.OpeningSteps.{begins, Gathered, Picked, picks_prior, opens, ReadBack, serves}
+use Rattle.log_protocol.specs.Step.{Steps}
+use Rattle.log_protocol.specs.Step.Step.{Sends, Accepts, Fences, Seals, Notes, Settles, Crashes, Restarts, Begins, Picks_prior, Opens, Serves}
 use Rattle.log_protocol.specs.Step.Steps.{Done, More}
-use Rattle.log_protocol.specs.LogLaws.{Reached}
-use Rattle.log_protocol.proofs.RunParts.{first_server, one_server, some1, some2, some3, at_zero, store_to_first, stored_by_first, settled_alone, second_attempt, first_dropped}
+use Rattle.log_protocol.proofs.RunParts.{first_server, some1, some2, some3, store_to_first, stored_by_first, settled_alone}
 use Rattle.log_protocol.specs.LogRuns.{TailDiscarded}
 
 abbrev seqs : ℕ → ℕ

@@ -1,19 +1,15 @@
 -- A run, as a term: the owner of an empty log falls, finds nothing listed, writes its opening segment and serves.
 -- One server. Name 1 is the opening segment of the second boot.
-use Rattle.std.proofs.Common.{◌≡◌, ℕ, zero, suc, ◌+◌, ◌-◌, ◌<◌, ◌≤◌, ◌==◌, if◌then◌else◌, ◌⊎◌, inl, inr, refl, sym, ap, ◌∙◌, subst, arith}
-use Rattle.std.specs.Prelude.{nat_lt}
-use Rattle.std.proofs.lemmas.Bool.Decides.{nat_tests}
-use Rattle.log_protocol.specs.Tables.{In}
-use Rattle.log_protocol.specs.Packets.{StorePacket, StoredPacket, FencedPacket}
+use Rattle.std.proofs.Common.{◌≡◌, ℕ, suc, ◌<◌, ◌≤◌, inl, refl, arith}
+use Rattle.log_protocol.specs.Packets.{FencedPacket}
 use Rattle.log_protocol.specs.State.{State, Names, new_log}
-use Rattle.log_protocol.specs.ServerSteps.{CanSend, sends, CanAccept, accepts, CanFence, fences}
-use Rattle.log_protocol.specs.OwnerSteps.{Group, CanSeal, seals, CanNote, notes, CanSettle, settles, crashes, CanRestart, restarts}
-use Rattle.log_protocol.specs.OpeningSteps.{CanBegin, begins, Gathered, Picked, CanPickNone, picks_none, CanPickPrior, picks_prior, CanOpen, opens, ReadBack, CanServe, serves}
-use Rattle.log_protocol.specs.Step.{Step, Steps}
-use Rattle.log_protocol.specs.Step.Step.{Sends, Accepts, Fences, Seals, Notes, Settles, Crashes, Restarts, Begins, Picks_none, Picks_prior, Opens, Serves}
+use Rattle.log_protocol.specs.ServerSteps.{sends, accepts, fences}
+use Rattle.log_protocol.specs.OwnerSteps.{notes, crashes}
+use Rattle.log_protocol.specs.OpeningSteps.{begins, Gathered, picks_none, opens, serves}
+use Rattle.log_protocol.specs.Step.{Steps}
+use Rattle.log_protocol.specs.Step.Step.{Sends, Accepts, Fences, Notes, Crashes, Begins, Picks_none, Opens, Serves}
 use Rattle.log_protocol.specs.Step.Steps.{Done, More}
-use Rattle.log_protocol.specs.LogLaws.{Reached}
-use Rattle.log_protocol.proofs.RunParts.{first_server, one_server, some1, some2, some3, at_zero, store_to_first, stored_by_first, settled_alone, second_attempt, first_dropped}
+use Rattle.log_protocol.proofs.RunParts.{first_server, one_server, some1, at_zero, store_to_first, stored_by_first, settled_alone}
 use Rattle.log_protocol.specs.LogRuns.{EmptyOpened}
 
 names : Names (λ x. x) (λ x. 2) (λ x. 1)

@@ -1,9 +1,8 @@
 -- What a list that was just sent lacks of the head: its sender is hurt there, and of a later generation.
-use Rattle.std.proofs.Common.{◌≡◌, ℕ, zero, suc, ◌+◌, ◌-◌, ◌<◌, ◌≤◌, ◌⊎◌, inl, inr, refl, sym, ap, ◌==◌, if◌then◌else◌, ◌∙◌, subst, ⊎_elim, arith}
-use Rattle.std.proofs.lemmas.Bool.Decides.{nat_tests}
+use Rattle.std.proofs.Common.{◌≡◌, ℕ, ◌<◌, ◌≤◌, inl, inr, sym, ap, ◌∙◌, arith}
 use Rattle.log_protocol.specs.Tables.{In}
-use Rattle.log_protocol.specs.Packets.{StorePacket, StoredPacket, FragmentPacket, FencedPacket}
-use Rattle.log_protocol.specs.State.{State, Names}
+use Rattle.log_protocol.specs.Packets.{FencedPacket}
+use Rattle.log_protocol.specs.State.{State}
 use Rattle.log_protocol.specs.ServerSteps.{fences}
 use Rattle.log_protocol.proofs.ShelfInvariant.{ShelfInvariant}
 use Rattle.log_protocol.proofs.Line.{Line}

@@ -1,10 +1,7 @@
 -- The newest filed segment in the lists of an opening: where it isn't below the horizon that was taken, some list names it, and it is never the one that is discarded.
-use Rattle.std.proofs.Common.{◌≡◌, ℕ, zero, suc, ◌+◌, ◌-◌, ◌<◌, ◌≤◌, ◌⊎◌, inl, inr, refl, sym, ap, ◌==◌, if◌then◌else◌, ◌∙◌, subst, ⊎_elim, arith}
-use Rattle.std.proofs.lemmas.Bool.Decides.{nat_tests}
-use Rattle.log_protocol.specs.Tables.{In}
-use Rattle.log_protocol.specs.Packets.{StorePacket, StoredPacket, FragmentPacket, FencedPacket}
-use Rattle.log_protocol.specs.State.{State, Names}
-use Rattle.log_protocol.specs.ServerSteps.{fences}
+use Rattle.std.proofs.Common.{◌≡◌, ℕ, ◌<◌, ◌≤◌, sym, subst, arith}
+use Rattle.log_protocol.specs.Packets.{FencedPacket}
+use Rattle.log_protocol.specs.State.{State}
 use Rattle.log_protocol.specs.OpeningSteps.{Gathered, Picked, Undoubted, CanPickNone, CanPickPrior}
 use Rattle.log_protocol.proofs.ShelfInvariant.{ShelfInvariant}
 use Rattle.log_protocol.proofs.PickedWhole.{picked_booked}

@@ -1,8 +1,8 @@
 -- Beaten: a row that was answered Dead is strictly below the join of all that is filed, now and always.
 -- Stands on Rows, Bounds and Joins.
-use Rattle.std.proofs.Common.{◌≡◌, ℕ, zero, suc, ◌+◌, ◌<◌, ◌≤◌, ◌⊎◌, inl, inr, refl, sym, ap, ◌==◌, if◌then◌else◌, ◌∙◌, subst, arith}
+use Rattle.std.proofs.Common.{◌≡◌, ℕ, ◌<◌, ◌≤◌, arith}
 use Rattle.std.proofs.lemmas.Bool.Decides.{nat_tests}
-use Rattle.log_protocol.specs.IndexState.{Entry, IndexState, new_block, Joins}
+use Rattle.log_protocol.specs.IndexState.{Entry, IndexState, new_block}
 use Rattle.log_protocol.specs.IndexSteps.{CanFile, files, files_none, CanCopy, copies, indexes, CanMerge, CanActivate, CanKeep, keeps_horizon, moves, CanBeat, beats, CanDropRow, drops_row, IndexStep}
 use Rattle.log_protocol.specs.IndexSteps.IndexStep.{Files, Files_none, Copies, Merges, Activates, Keeps, Moves, Beats, Drops_row}
 use Rattle.log_protocol.proofs.IndexRows.{IndexRows}

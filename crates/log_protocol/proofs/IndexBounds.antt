@@ -1,8 +1,8 @@
 -- Bounds: how far managers have applied, against heads, epochs and horizons.
 -- Stands on nothing.
-use Rattle.std.proofs.Common.{◌≡◌, ℕ, zero, suc, ◌+◌, ◌<◌, ◌≤◌, ◌⊎◌, inl, inr, refl, sym, ap, ◌==◌, if◌then◌else◌, ◌∙◌, subst, arith}
+use Rattle.std.proofs.Common.{◌≡◌, ℕ, suc, ◌≤◌, arith}
 use Rattle.std.proofs.lemmas.Bool.Decides.{nat_tests}
-use Rattle.log_protocol.specs.IndexState.{Entry, IndexState, new_block, Joins}
+use Rattle.log_protocol.specs.IndexState.{Entry, IndexState, new_block}
 use Rattle.log_protocol.specs.IndexSteps.{CanFile, files, files_none, CanCopy, copies, indexes, CanMerge, CanActivate, CanKeep, keeps_horizon, moves, CanBeat, beats, CanDropRow, drops_row, IndexStep}
 use Rattle.log_protocol.specs.IndexSteps.IndexStep.{Files, Files_none, Copies, Merges, Activates, Keeps, Moves, Beats, Drops_row}
 

@@ -1,7 +1,7 @@
 -- The invariant of the index of one block, and that it holds at every state of every run.
 -- Its groups, in the order in which they are proved: Rows (on nothing), Bounds (on nothing), Joins (on Rows, Bounds), Beaten (on the three).
-use Rattle.std.proofs.Common.{◌≡◌, ℕ, zero, suc, ◌<◌, ◌≤◌, refl, sym, ap, ◌∙◌, subst, arith}
-use Rattle.log_protocol.specs.IndexState.{Entry, IndexState, new_block, Joins}
+use Rattle.std.proofs.Common.{◌≡◌, ap, ◌∙◌, arith}
+use Rattle.log_protocol.specs.IndexState.{IndexState, new_block}
 use Rattle.log_protocol.specs.IndexSteps.{IndexStep, IndexSteps}
 use Rattle.log_protocol.specs.IndexSteps.IndexSteps.{Done, More}
 use Rattle.log_protocol.specs.IndexLaws.{IndexReached, IndexIsJoin, CleaningLosesNothing}

@@ -1,6 +1,6 @@
 -- Joins: each active manager's index is the join of what it applied.
 -- Stands on Rows and Bounds.
-use Rattle.std.proofs.Common.{◌≡◌, ℕ, zero, suc, ◌+◌, ◌<◌, ◌≤◌, ◌⊎◌, inl, inr, refl, sym, ap, ◌==◌, if◌then◌else◌, ◌∙◌, subst, arith}
+use Rattle.std.proofs.Common.{◌≡◌, ℕ, arith}
 use Rattle.std.proofs.lemmas.Bool.Decides.{nat_tests}
 use Rattle.log_protocol.specs.IndexState.{Entry, IndexState, new_block, Joins}
 use Rattle.log_protocol.specs.IndexSteps.{CanFile, files, files_none, CanCopy, copies, indexes, CanMerge, CanActivate, CanKeep, keeps_horizon, moves, CanBeat, beats, CanDropRow, drops_row, IndexStep}

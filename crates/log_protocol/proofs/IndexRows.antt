@@ -1,6 +1,6 @@
 -- Rows: where rows may stand, and that `top` is the join of all that is filed.
 -- Stands on nothing. The two are one group: a new version is above all because `top` is the join, and `top` stays the join because versions are filed once.
-use Rattle.std.proofs.Common.{◌≡◌, ℕ, zero, suc, ◌+◌, ◌<◌, ◌≤◌, ◌⊎◌, inl, inr, refl, sym, ap, ◌==◌, if◌then◌else◌, ◌∙◌, subst, arith}
+use Rattle.std.proofs.Common.{◌≡◌, ℕ, ◌<◌, arith}
 use Rattle.std.proofs.lemmas.Bool.Decides.{nat_tests}
 use Rattle.log_protocol.specs.IndexState.{Entry, IndexState, new_block, Joins}
 use Rattle.log_protocol.specs.IndexSteps.{CanFile, files, files_none, CanCopy, copies, indexes, CanMerge, CanActivate, CanKeep, keeps_horizon, moves, CanBeat, beats, CanDropRow, drops_row, IndexStep}

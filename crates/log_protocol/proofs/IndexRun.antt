@@ -1,9 +1,9 @@
 -- A run of the index of a block, as a term: two versions, an activation, a merge, a horizon, a Dead, a drop, a move, a second activation, a copy.
 -- Log 0 is a client's, log 1 the cleaner's; the manager of epoch 1 is followed by that of epoch 2.
-use Rattle.std.proofs.Common.{◌≡◌, ℕ, zero, suc, ◌+◌, ◌<◌, ◌≤◌, ◌==◌, if◌then◌else◌, ◌⊎◌, inl, inr, refl, sym, arith}
+use Rattle.std.proofs.Common.{◌≡◌, ℕ, suc, ◌<◌, ◌≤◌, refl, arith}
 use Rattle.std.proofs.lemmas.Bool.Decides.{nat_tests}
 use Rattle.log_protocol.specs.IndexState.{Entry, IndexState, new_block, Joins}
-use Rattle.log_protocol.specs.IndexSteps.{CanFile, files, files_none, CanCopy, copies, indexes, CanMerge, CanActivate, CanKeep, keeps_horizon, moves, CanBeat, beats, CanDropRow, drops_row, IndexStep, IndexSteps}
+use Rattle.log_protocol.specs.IndexSteps.{files, files_none, copies, indexes, keeps_horizon, moves, beats, drops_row, IndexSteps}
 use Rattle.log_protocol.specs.IndexSteps.IndexStep.{Files, Files_none, Copies, Merges, Activates, Keeps, Moves, Beats, Drops_row}
 use Rattle.log_protocol.specs.IndexSteps.IndexSteps.{Done, More}
 use Rattle.log_protocol.specs.IndexRuns.{IndexMoved}

@@ -1,12 +1,12 @@
 -- Who lacks a fragment at the end of an interval in one generation, unmarked, lacked it all along.
-use Rattle.std.proofs.Common.{◌≡◌, ℕ, suc, ◌≤◌, arith}
+use Rattle.std.proofs.Common.{◌≡◌, arith}
 use Rattle.log_protocol.specs.State.{State}
 use Rattle.log_protocol.specs.Step.{Steps}
 use Rattle.log_protocol.specs.LogLaws.{Reached}
 use Rattle.log_protocol.specs.GrowthLaws.{PastStays, LacksBetween}
 use Rattle.log_protocol.proofs.Invariant.{Invariant}
 use Rattle.log_protocol.proofs.Induction.{always}
-use Rattle.log_protocol.proofs.Growth.{Grows, run_grows}
+use Rattle.log_protocol.proofs.Growth.{run_grows}
 
 interval : (w m u : State) → Steps w m → Steps m u → Invariant w → LacksBetween w m u
 interval w m u first second i v x same lacks unmarked =

@@ -19,7 +19,7 @@
 -- A group's file has its facts, each with its plain meaning, and below them one lemma for each kind of step, STEP_keeps_GROUP.
 -- A lemma takes the guard of its step, the groups that it stands on and its own, nothing else: so each layer is inductive with those below it.
 -- Induction.antt puts them together over runs, and LogTheorems.antt draws the laws.
-use Rattle.std.proofs.Common.{◌≡◌, ℕ}
+use Rattle.std.proofs.Common.{◌≡◌}
 use Rattle.log_protocol.specs.State.{State}
 use Rattle.log_protocol.specs.OpeningSteps.{Undoubted}
 use Rattle.log_protocol.proofs.ShelfInvariant.{ShelfInvariant}

@@ -1,8 +1,6 @@
 -- The laws of one log, drawn from the invariant.
-use Rattle.std.proofs.Common.{◌≡◌, ℕ, zero, suc, ◌+◌, ◌-◌, ◌<◌, ◌≤◌, ◌⊎◌, inl, inr, refl, sym, ap, ◌∙◌, subst, arith}
-use Rattle.std.proofs.lemmas.Bool.Decides.{nat_tests}
+use Rattle.std.proofs.Common.{◌≡◌, ℕ, zero, suc, ◌<◌, ◌≤◌, ◌⊎◌, inl, inr, refl, sym, ap, ◌∙◌, subst, arith}
 use Rattle.log_protocol.specs.State.{State}
-use Rattle.log_protocol.specs.OpeningSteps.{ReadBack, Undoubted}
 use Rattle.log_protocol.specs.LogLaws.{Reached, LogsWhole, OneText, OneLine, AdoptsOne, FeedWhole}
 use Rattle.log_protocol.proofs.Invariant.{Invariant}
 use Rattle.log_protocol.proofs.Induction.{always}

@@ -1,7 +1,7 @@
 -- Names as numbers: with incarnation and attempt below a base, the code of a name tells it.
-use Rattle.std.proofs.Common.{◌≡◌, ℕ, zero, suc, ◌+◌, ◌-◌, ◌*◌, ◌/◌, ◌%◌, ◌<◌, ◌≤◌, refl, sym, ap, ◌∙◌, subst, arith}
+use Rattle.std.proofs.Common.{◌≡◌, ℕ, ◌+◌, ◌*◌, ◌/◌, ◌%◌, ◌<◌, sym, ap, ◌∙◌, arith}
 use Rattle.log_protocol.specs.State.{Names}
-use Rattle.log_protocol.specs.NamesAsNumbers.{code, code_seq, code_incarnation, code_attempt, Decodes}
+use Rattle.log_protocol.specs.NamesAsNumbers.{code_seq, code_incarnation, code_attempt, Decodes}
 use Rattle.std.proofs.lemmas.Nat.{div-mul-add, mod-mul-add}
 
 quotient_and_rest : (base x y : ℕ) → 0 < base → x / base ≡ y / base → x % base ≡ y % base → x ≡ y

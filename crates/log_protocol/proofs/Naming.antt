@@ -1,5 +1,4 @@
 -- What a name says never changes.
-use Rattle.std.proofs.Common.{ℕ}
 use Rattle.log_protocol.specs.State.{State, Names}
 use Rattle.log_protocol.specs.Step.{Step}
 use Rattle.log_protocol.specs.Step.Step.{Loses, Hears, Learns, Sends, Accepts, Accepts_again, Tells, Fills, Drops, Deletes, Raises, Fences, Seals, Restripes, Notes, Settles, Crashes, Restarts, Begins, Picks_none, Picks_kept, Picks_prior, Cuts, Opens, Serves}

@@ -1,9 +1,6 @@
 -- A name that is booked is new: the guards of a seal, a restripe and an opening segment, against what the present boot has named.
-use Rattle.std.proofs.Common.{◌≡◌, ℕ, zero, suc, ◌+◌, ◌-◌, ◌<◌, ◌≤◌, ◌⊎◌, inl, inr, refl, sym, ap, ◌==◌, if◌then◌else◌, ◌∙◌, subst, ⊎_elim, arith}
-use Rattle.std.proofs.lemmas.Bool.Decides.{nat_tests}
-use Rattle.log_protocol.specs.Tables.{In}
-use Rattle.log_protocol.specs.Packets.{StorePacket, StoredPacket, FragmentPacket, FencedPacket}
-use Rattle.log_protocol.specs.State.{State, Names}
+use Rattle.std.proofs.Common.{◌≡◌, ℕ, arith}
+use Rattle.log_protocol.specs.State.{State}
 use Rattle.log_protocol.specs.OwnerSteps.{CanSeal, CanRestripe}
 use Rattle.log_protocol.specs.OpeningSteps.{CanOpen}
 use Rattle.log_protocol.proofs.Boots.{Boots}

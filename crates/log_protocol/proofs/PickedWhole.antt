@@ -1,9 +1,7 @@
 -- What the kept lists say of the picked segment: it was booked by an earlier boot, and where no original member lacks it, it is whole.
-use Rattle.std.proofs.Common.{◌≡◌, ℕ, zero, suc, ◌+◌, ◌-◌, ◌<◌, ◌≤◌, ◌⊎◌, inl, inr, refl, sym, ap, ◌==◌, if◌then◌else◌, ◌∙◌, subst, ⊎_elim, arith}
-use Rattle.std.proofs.lemmas.Bool.Decides.{nat_tests}
-use Rattle.log_protocol.specs.Tables.{In}
-use Rattle.log_protocol.specs.Packets.{StorePacket, StoredPacket, FragmentPacket, FencedPacket}
-use Rattle.log_protocol.specs.State.{State, Names}
+use Rattle.std.proofs.Common.{◌≡◌, ℕ, ◌<◌, ◌≤◌, ◌⊎◌, inl, inr, sym, subst, arith}
+use Rattle.log_protocol.specs.Packets.{FencedPacket}
+use Rattle.log_protocol.specs.State.{State}
 use Rattle.log_protocol.specs.OpeningSteps.{Gathered, Picked, CanPickKept}
 use Rattle.log_protocol.proofs.Generations.{Generations}
 use Rattle.log_protocol.proofs.Boots.{Boots}

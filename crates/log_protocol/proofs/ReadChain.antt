@@ -1,9 +1,6 @@
 -- What an opening reads back: by seq one booked and secured segment of an earlier boot, each the prior of the next.
-use Rattle.std.proofs.Common.{◌≡◌, ℕ, zero, suc, ◌+◌, ◌-◌, ◌<◌, ◌≤◌, ◌⊎◌, inl, inr, refl, sym, ap, ◌==◌, if◌then◌else◌, ◌∙◌, subst, ⊎_elim, arith}
-use Rattle.std.proofs.lemmas.Bool.Decides.{nat_tests}
-use Rattle.log_protocol.specs.Tables.{In}
-use Rattle.log_protocol.specs.Packets.{StorePacket, StoredPacket, FragmentPacket, FencedPacket}
-use Rattle.log_protocol.specs.State.{State, Names}
+use Rattle.std.proofs.Common.{◌≡◌, ℕ, zero, suc, ◌+◌, ◌-◌, ◌<◌, ◌≤◌, sym, subst, arith}
+use Rattle.log_protocol.specs.State.{State}
 use Rattle.log_protocol.specs.OpeningSteps.{ReadBack}
 use Rattle.log_protocol.proofs.Horizons.{Horizons}
 use Rattle.log_protocol.proofs.Priors.{Priors}

@@ -1,19 +1,16 @@
 -- Rising: opening segments that have not served come after the head, and below each of them the priors lead to the head.
 -- Stands on the shelves, Line and Spans. Holds while no doubtful opening has served, and under the premise on losses.
-use Rattle.std.proofs.Common.{◌≡◌, ℕ, zero, suc, ◌+◌, ◌-◌, ◌<◌, ◌≤◌, ◌⊎◌, inl, inr, refl, sym, ap, ◌==◌, if◌then◌else◌, ◌∙◌, subst, ⊎_elim, arith}
+use Rattle.std.proofs.Common.{◌≡◌, ℕ, suc, ◌<◌, ◌≤◌, arith}
 use Rattle.std.proofs.lemmas.Bool.Decides.{nat_tests}
-use Rattle.log_protocol.specs.Tables.{In}
 use Rattle.log_protocol.specs.Packets.{StorePacket, StoredPacket, FragmentPacket, FencedPacket}
-use Rattle.log_protocol.specs.State.{State, Names, new_log}
+use Rattle.log_protocol.specs.State.{State, new_log}
 use Rattle.log_protocol.specs.ServerSteps.{loses, CanHear, hears, CanLearn, learns, CanSend, sends, CanAccept, accepts, CanAcceptAgain, accepts_again, CanTell, tells, CanFill, fills, CanDrop, drops, CanDelete, deletes, CanRaise, raises, CanFence, fences}
-use Rattle.log_protocol.specs.OwnerSteps.{Group, books, CanSeal, seals, CanRestripe, restripes, CanNote, notes, CanSettle, settles, crashes, CanRestart, restarts}
-use Rattle.log_protocol.specs.OpeningSteps.{CanBegin, begins, CanPickNone, picks_none, CanPickKept, picks_kept, CanPickPrior, picks_prior, CanCut, cuts, CanOpen, opens, Undoubted, CanServe, serves}
-use Rattle.log_protocol.specs.Step.{Step}
-use Rattle.log_protocol.specs.Step.Step.{Loses, Hears, Learns, Sends, Accepts, Accepts_again, Tells, Fills, Drops, Deletes, Raises, Fences, Seals, Restripes, Notes, Settles, Crashes, Restarts, Begins, Picks_none, Picks_kept, Picks_prior, Cuts, Opens, Serves}
+use Rattle.log_protocol.specs.OwnerSteps.{books, CanSeal, seals, CanRestripe, restripes, CanNote, notes, CanSettle, settles, crashes}
+use Rattle.log_protocol.specs.OpeningSteps.{CanBegin, begins, CanPickNone, picks_none, CanPickKept, picks_kept, CanPickPrior, picks_prior, CanCut, cuts, CanOpen, opens, Undoubted}
 use Rattle.log_protocol.proofs.ShelfInvariant.{ShelfInvariant}
 use Rattle.log_protocol.proofs.Line.{Line}
 use Rattle.log_protocol.proofs.Spans.{Spans}
-use Rattle.log_protocol.proofs.HeadSeen.{NotBefore, no_head, picked_not_before, not_head}
+use Rattle.log_protocol.proofs.HeadSeen.{no_head, picked_not_before, not_head}
 use Rattle.log_protocol.proofs.PickedWhole.{picked_booked}
 use Rattle.log_protocol.proofs.NewNames.{new_seal, new_restripe, new_opening}
 

@@ -1,5 +1,5 @@
 -- Small parts of runs with one server: the group of server 0 alone, a Store to it and its Stored.
-use Rattle.std.proofs.Common.{◌≡◌, ℕ, zero, suc, ◌<◌, ◌≤◌, inl, refl, sym, subst, arith}
+use Rattle.std.proofs.Common.{◌≡◌, ℕ, ◌<◌, inl, sym, subst, arith}
 use Rattle.log_protocol.specs.Packets.{StorePacket, StoredPacket}
 use Rattle.log_protocol.specs.State.{State}
 use Rattle.log_protocol.specs.ServerSteps.{CanDrop}

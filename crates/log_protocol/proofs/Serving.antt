@@ -1,9 +1,7 @@
 -- The step that serves, at which the three groups of the line meet: where the premise on losses holds, what was read back is the line as far as the head, and beyond it the new line.
-use Rattle.std.proofs.Common.{◌≡◌, ℕ, zero, suc, ◌+◌, ◌-◌, ◌<◌, ◌≤◌, ◌⊎◌, inl, inr, refl, sym, ap, ◌==◌, if◌then◌else◌, ◌∙◌, subst, ⊎_elim, arith}
+use Rattle.std.proofs.Common.{◌≡◌, ℕ, zero, suc, ◌+◌, ◌-◌, ◌<◌, ◌≤◌, sym, ap, ◌∙◌, subst, arith}
 use Rattle.std.proofs.lemmas.Bool.Decides.{nat_tests}
-use Rattle.log_protocol.specs.Tables.{In}
-use Rattle.log_protocol.specs.Packets.{FencedPacket}
-use Rattle.log_protocol.specs.State.{State, Names}
+use Rattle.log_protocol.specs.State.{State}
 use Rattle.log_protocol.specs.OpeningSteps.{ReadBack, Undoubted, CanServe, serves}
 use Rattle.log_protocol.proofs.ShelfInvariant.{ShelfInvariant}
 use Rattle.log_protocol.proofs.ReadChain.{Chain, Link, chain_read, has_prior, link_at}
@@ -90,4 +88,3 @@ serves_keeps_rising w path sure can shelf line rising = let chain : Chain w path
   base_root = λ k0 k1 k2 k3. grind (arith, nat_tests);
   base_up = λ k0 k1 k2 k3. grind (arith, nat_tests);
 }
-

@@ -1,19 +1,17 @@
 -- Spans: between two boots that served, who lacks the head is remembered as hurt, and lists say so.
 -- Stands on the shelves and Line, and at the step that serves on Rising. Holds while no doubtful opening has served.
-use Rattle.std.proofs.Common.{◌≡◌, ℕ, zero, suc, ◌+◌, ◌-◌, ◌<◌, ◌≤◌, ◌⊎◌, inl, inr, refl, sym, ap, ◌==◌, if◌then◌else◌, ◌∙◌, subst, ⊎_elim, arith}
+use Rattle.std.proofs.Common.{◌≡◌, ℕ, suc, ◌<◌, ◌≤◌, arith}
 use Rattle.std.proofs.lemmas.Bool.Decides.{nat_tests}
 use Rattle.log_protocol.specs.Tables.{In}
 use Rattle.log_protocol.specs.Packets.{StorePacket, StoredPacket, FragmentPacket, FencedPacket}
-use Rattle.log_protocol.specs.State.{State, Names, new_log}
+use Rattle.log_protocol.specs.State.{State, new_log}
 use Rattle.log_protocol.specs.ServerSteps.{loses, CanHear, hears, CanLearn, learns, CanSend, sends, CanAccept, accepts, CanAcceptAgain, accepts_again, CanTell, tells, CanFill, fills, CanDrop, drops, CanDelete, deletes, CanRaise, raises, CanFence, fences}
-use Rattle.log_protocol.specs.OwnerSteps.{Group, books, CanSeal, seals, CanRestripe, restripes, CanNote, notes, CanSettle, settles, crashes, CanRestart, restarts}
-use Rattle.log_protocol.specs.OpeningSteps.{CanBegin, begins, CanPickNone, picks_none, CanPickKept, picks_kept, CanPickPrior, picks_prior, CanCut, cuts, CanOpen, opens, Undoubted, CanServe, serves}
-use Rattle.log_protocol.specs.Step.{Step}
-use Rattle.log_protocol.specs.Step.Step.{Loses, Hears, Learns, Sends, Accepts, Accepts_again, Tells, Fills, Drops, Deletes, Raises, Fences, Seals, Restripes, Notes, Settles, Crashes, Restarts, Begins, Picks_none, Picks_kept, Picks_prior, Cuts, Opens, Serves}
+use Rattle.log_protocol.specs.OwnerSteps.{CanSeal, seals, CanRestripe, restripes, CanNote, notes, CanSettle, settles, crashes}
+use Rattle.log_protocol.specs.OpeningSteps.{CanBegin, begins, CanPickNone, picks_none, CanPickKept, picks_kept, CanPickPrior, picks_prior, CanCut, cuts, CanOpen, opens}
 use Rattle.log_protocol.proofs.ShelfInvariant.{ShelfInvariant}
 use Rattle.log_protocol.proofs.Line.{Line}
 use Rattle.log_protocol.proofs.FreshList.{fresh_list}
-use Rattle.log_protocol.proofs.NewNames.{new_seal, new_restripe, new_opening}
+use Rattle.log_protocol.proofs.NewNames.{new_seal, new_restripe}
 
 pub record Spans (w : State) : Type 0 where
   -- a member that lacks the head is hurt, unless the head is dropped

@@ -1,5 +1,5 @@
 -- A run in which each opening that serves is undoubted leaves the log clean.
-use Rattle.std.proofs.Common.{◌≡◌, ℕ, ◌==◌, if◌then◌else◌, refl, sym, ap, ◌∙◌, subst, arith}
+use Rattle.std.proofs.Common.{◌≡◌, ℕ, refl, arith}
 use Rattle.std.proofs.lemmas.Bool.Decides.{nat_tests}
 use Rattle.log_protocol.specs.State.{State}
 use Rattle.log_protocol.specs.OpeningSteps.{serves}

@@ -1,5 +1,5 @@
 -- Counting by a flag, for the premise on losses: it is met where not all members of the head were hurt.
-use Rattle.std.specs.Prelude.{◌≡◌, ℕ, zero, suc, ◌+◌, ◌<◌, ◌≤◌, min}
+use Rattle.std.specs.Prelude.{ℕ, zero, suc, ◌+◌, ◌<◌, ◌≤◌, min}
 use Rattle.log_protocol.specs.State.{State}
 
 -- how many of the first n have the flag

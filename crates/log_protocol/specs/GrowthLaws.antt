@@ -1,7 +1,6 @@
 -- What is proved of two moments of one run.
 use Rattle.std.specs.Prelude.{◌≡◌, ℕ, ◌≤◌}
 use Rattle.log_protocol.specs.State.{State}
-use Rattle.log_protocol.specs.Step.{Steps}
 
 -- The past stays: from w to a later u the book keeps each name with its text and prior, what is filed stays filed, and the line is only added to.
 pub record PastStays (w u : State) : Type 0 where

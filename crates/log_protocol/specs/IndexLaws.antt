@@ -1,6 +1,6 @@
 -- What is proved of the index of one block at every moment of every run.
 use Rattle.std.specs.Prelude.{◌≡◌, ℕ, ◌<◌, ◌≤◌}
-use Rattle.log_protocol.specs.IndexState.{Entry, IndexState, Joins, new_block}
+use Rattle.log_protocol.specs.IndexState.{IndexState, Joins, new_block}
 use Rattle.log_protocol.specs.IndexSteps.{IndexSteps}
 
 -- a state that some run from a new block reaches

@@ -1,5 +1,5 @@
 -- A run of the index machine that exists: that its laws speak of something.
-use Rattle.std.specs.Prelude.{◌≡◌, ℕ}
+use Rattle.std.specs.Prelude.{◌≡◌}
 use Rattle.log_protocol.specs.IndexState.{IndexState}
 use Rattle.log_protocol.specs.IndexLaws.{IndexReached}
 

@@ -3,7 +3,7 @@ use Rattle.std.specs.Prelude.{◌≡◌, ℕ, suc, ◌<◌, ◌≤◌, ◌⊎◌
 use Rattle.log_protocol.specs.Tables.{In}
 use Rattle.log_protocol.specs.Packets.{StorePacket, FragmentPacket}
 use Rattle.log_protocol.specs.State.{State, Names, new_log}
-use Rattle.log_protocol.specs.OpeningSteps.{ReadBack, Undoubted}
+use Rattle.log_protocol.specs.OpeningSteps.{ReadBack}
 use Rattle.log_protocol.specs.Step.{Steps}
 
 -- a state that some run from a new log reaches, for some number of servers and some way of naming

@@ -1,6 +1,6 @@
 -- What the owner of a log does while it serves, and its falls and restarts: for each step its guard and, below it, its effect.
 -- A guard's lines name the transition that makes them true.
-use Rattle.std.specs.Prelude.{◌≡◌, ℕ, suc, ◌-◌, ◌<◌, ◌≤◌, ◌==◌, nat_lt, if◌then◌else◌, ◌⊎◌}
+use Rattle.std.specs.Prelude.{◌≡◌, ℕ, suc, ◌-◌, ◌<◌, ◌==◌, nat_lt, if◌then◌else◌, ◌⊎◌}
 use Rattle.log_protocol.specs.Tables.{In, put}
 use Rattle.log_protocol.specs.Packets.{StoredPacket}
 use Rattle.log_protocol.specs.State.{State}
@@ -28,7 +28,7 @@ books w x text count server prior content =
       noted = λ i. 0;
     }
 
--- Seal: a serving owner with nothing in flight writes the segment after its end. (Section 3.2.1 of the 1996 paper: writes are batched into a segment.)
+-- Seal: a serving owner with nothing in flight writes the segment after its end. (Section 2.2 of the 1996 paper: writes are batched into segments of a log.)
 pub record CanSeal (w : State) (x count : ℕ) (server : ℕ → ℕ) : Type 0 where
   -- the seal's own tests
   pub serving : w.phase ≡ 4

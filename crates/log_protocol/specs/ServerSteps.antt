@@ -2,7 +2,7 @@
 -- A guard's lines name the transition that makes them true.
 use Rattle.std.specs.Prelude.{◌≡◌, ℕ, suc, ◌<◌, ◌≤◌, ◌==◌, if◌then◌else◌, ◌∷◌}
 use Rattle.log_protocol.specs.Tables.{In, put, put_at}
-use Rattle.log_protocol.specs.Packets.{StorePacket, StoredPacket, FragmentPacket, FencedPacket}
+use Rattle.log_protocol.specs.Packets.{StorePacket, FragmentPacket}
 use Rattle.log_protocol.specs.State.{State}
 
 -- Lose: a server's disk is gone with fragments and marks, and it goes on in its next generation.

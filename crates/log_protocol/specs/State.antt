@@ -1,6 +1,6 @@
 -- The abstract state of one log: the names of its segments, the shelves of the servers, and its owner.
 -- A name is a number above 0, the code of a segment's seq, its writer's incarnation and the attempt; 0 is no name. Flags are 0 or 1.
--- A ghost is kept for the proof alone: no guard of a server or an owner but the premise on losses looks at it.
+-- A ghost is kept for the proof alone: no transition looks at it, and a guard that names one states a fact from elsewhere.
 use Rattle.std.specs.Prelude.{◌≡◌, ℕ, List, []}
 use Rattle.log_protocol.specs.Packets.{StorePacket, StoredPacket, FragmentPacket, FencedPacket}
 

@@ -1,5 +1,5 @@
 -- The runs for which the line is claimed: no manager's restart, and no opening serves without the premise on losses.
-use Rattle.std.specs.Prelude.{◌≡◌, ℕ, ⊤}
+use Rattle.std.specs.Prelude.{◌≡◌, ⊤}
 use Rattle.log_protocol.specs.State.{State}
 use Rattle.log_protocol.specs.Step.{Step, Steps}
 use Rattle.log_protocol.specs.Step.Step.{Restarts, Serves}

@@ -27,7 +27,7 @@ ghost use Rattle.log_protocol.specs.IndexRuns.{IndexMoved};
 
 /// Logs stay whole: in every run each member of a filed segment that isn't dropped holds its fragment, at its index,
 /// or its server is of a later generation than the segment's group names. So nothing but losses takes a fragment
-/// away. (Section 3.1 of the 1996 paper: log-based striping, and its parity.)
+/// away. (Section 2.1 of the 1996 paper: a segment is striped over a group, one fragment a server.)
 pub fn logs_whole()
     ensures whole { (w : State) → Reached w → LogsWhole w }
 {}
@@ -46,7 +46,7 @@ pub fn one_line()
 
 /// What a reopening adopts: while no doubtful opening has served, of what an opening reads back beyond the head only
 /// the segment at head + 1 tells anything, and it tells what the last boot that served had in flight there. (Section
-/// 3.2.1 of the 1996 paper: roll forward after a crash.)
+/// 2.2 of the 1996 paper: a log is rolled forward after a crash.)
 pub fn what_reopening_adopts()
     ensures adopted { (w : State) → Reached w → w.clean ≡ 1 → AdoptsOne w }
 {}
@@ -97,13 +97,13 @@ pub fn numbers_name()
 {}
 
 /// The index is the join: in every run each active manager's index names the greatest of the rows that it applied,
-/// whatever moved, was lost or came twice. (Section 3.2.2 of the 1996 paper: the imap.)
+/// whichever manager has the slot, and whatever was lost or came twice. (Section 3.1 of the 1996 paper: the imap.)
 pub fn index_is_the_join()
     ensures join { (w : IndexState) → IndexReached w → IndexIsJoin w }
 {}
 
 /// Cleaning loses nothing: in every run the join of all that is filed never names a row that the cleaner dropped.
-/// (Section 3.3 of the 1996 paper: cleaning.)
+/// (Section 2.2 of the 1996 paper: the cleaner copies what is live, and frees the rest.)
 pub fn cleaning_loses_nothing()
     ensures nothing_lost { (w : IndexState) → IndexReached w → CleaningLosesNothing w }
 {}
@@ -114,9 +114,9 @@ pub fn merging_gives_the_join()
     ensures join { (w : IndexState) (applied : ℕ → ℕ) (l first upto : ℕ) (old new : Entry) → IndexReached w → Joins w.version w.hop applied old → FirstGreatest w l first upto new → first ≤ suc (applied l) → applied l ≤ upto → Joins w.version w.hop (put applied l upto) (merged old new) }
 {}
 
-/// The laws speak of something: runs exist in which each kind of step is taken. In one a tail is restriped and
-/// adopted, a segment is dropped, and a server is lost and fills its shelf again; in one a tail is discarded; in one an
-/// empty log is opened; in one managers are activated, a horizon is kept, and a row is dropped and another copied.
+/// The laws speak of something: runs reach a state in which a restriped tail was adopted, a segment dropped, and a
+/// server lost and filled again; one in which a tail was discarded; one in which an empty log was opened; and one in
+/// which managers were activated, a horizon kept, a row dropped and another copied.
 pub fn runs_exist()
     ensures adopted { TailAdopted }
     ensures discarded { TailDiscarded }
