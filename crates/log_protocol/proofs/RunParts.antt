@@ -1,5 +1,5 @@
 -- Small parts of runs with one server: the group of server 0 alone, a Store to it and its Stored.
-use Rattle.std.proofs.Common.{◌≡◌, ℕ, ◌<◌, inl, sym, subst, arith}
+use Rattle.std.proofs.Common.{◌≡◌, ℕ, ◌<◌, ◌≤◌, inl, sym, subst, arith}
 use Rattle.log_protocol.specs.Packets.{StorePacket, StoredPacket}
 use Rattle.log_protocol.specs.State.{State}
 use Rattle.log_protocol.specs.ServerSteps.{CanDrop}
@@ -17,17 +17,45 @@ store_to_first name text = record { to = 0; name = name; index = 0; generation =
 abbrev pub stored_by_first : ℕ → StoredPacket
 stored_by_first name = record { name = name; index = 0; generation = 1 }
 
-pub some1 : 0 < 1
-some1 = omega arith
+-- small numbers, apart from the states so that they are proved at once
+pub le11 : 1 ≤ 1
+le11 = omega arith
 
-pub some2 : 0 < 2
-some2 = omega arith
+pub le12 : 1 ≤ 2
+le12 = omega arith
 
-pub some3 : 0 < 3
-some3 = omega arith
+pub le22 : 2 ≤ 2
+le22 = omega arith
 
-pub some4 : 0 < 4
-some4 = omega arith
+pub le24 : 2 ≤ 4
+le24 = omega arith
+
+pub lt01 : 0 < 1
+lt01 = omega arith
+
+pub lt02 : 0 < 2
+lt02 = omega arith
+
+pub lt03 : 0 < 3
+lt03 = omega arith
+
+pub lt04 : 0 < 4
+lt04 = omega arith
+
+pub lt05 : 0 < 5
+lt05 = omega arith
+
+pub lt06 : 0 < 6
+lt06 = omega arith
+
+pub lt12 : 1 < 2
+lt12 = omega arith
+
+pub lt13 : 1 < 3
+lt13 = omega arith
+
+pub lt56 : 5 < 6
+lt56 = omega arith
 
 -- what holds of member 0 holds of each member of a group of one
 pub at_zero : (P : ℕ → Type 0) (j : ℕ) → j < 1 → P 0 → P j
