@@ -55,10 +55,14 @@ fences_keeps_contents : (w : State) (v c : ℕ) → CanFence w c → Boots w →
 fences_keeps_contents w v c can boots contents = grind (arith, nat_tests)
 
 seals_keeps_contents : (w : State) (x text count : ℕ) (server : ℕ → ℕ) (content : ℕ) → CanSeal w x count server → Boots w → Contents w → Contents (seals w x text count server content)
-seals_keeps_contents w x text count server content can boots contents = let new : w.booked x ≡ 1 → ⊥ = new_seal w x count server can boots in grind (arith, nat_tests)
+seals_keeps_contents w x text count server content can boots contents =
+    let new : w.booked x ≡ 1 → ⊥ = new_seal w x count server can boots in
+    grind (arith, nat_tests)
 
 restripes_keeps_contents : (w : State) (x text count : ℕ) (server : ℕ → ℕ) → CanRestripe w x count server → Boots w → Contents w → Contents (restripes w x text count server)
-restripes_keeps_contents w x text count server can boots contents = let new : w.booked x ≡ 1 → ⊥ = new_restripe w x count server can boots in grind (arith, nat_tests)
+restripes_keeps_contents w x text count server can boots contents =
+    let new : w.booked x ≡ 1 → ⊥ = new_restripe w x count server can boots in
+    grind (arith, nat_tests)
 
 notes_keeps_contents : (w : State) (p : StoredPacket) → CanNote w p → Boots w → Contents w → Contents (notes w p)
 notes_keeps_contents w p can boots contents = grind (arith, nat_tests)
@@ -88,7 +92,9 @@ cuts_keeps_contents : (w : State) (low : ℕ) → CanCut w low → Boots w → C
 cuts_keeps_contents w low can boots contents = grind (arith, nat_tests)
 
 opens_keeps_contents : (w : State) (x text count : ℕ) (server : ℕ → ℕ) → CanOpen w x count server → Boots w → Contents w → Contents (opens w x text count server)
-opens_keeps_contents w x text count server can boots contents = let new : w.booked x ≡ 1 → ⊥ = new_opening w x count server can boots in grind (arith, nat_tests)
+opens_keeps_contents w x text count server can boots contents =
+    let new : w.booked x ≡ 1 → ⊥ = new_opening w x count server can boots in
+    grind (arith, nat_tests)
 
 serves_keeps_contents : (w : State) (path : ℕ → ℕ) (sure : ℕ) → CanServe w path sure → Boots w → Contents w → Contents (serves w path sure)
 serves_keeps_contents w path sure can boots contents = grind (arith, nat_tests)

@@ -94,10 +94,12 @@ opens_keeps_filed : (w : State) (x text count : ℕ) (server : ℕ → ℕ) → 
 opens_keeps_filed w x text count server can boots horizons secured priors filed = grind (arith, nat_tests)
 
 serves_keeps_filed : (w : State) (path : ℕ → ℕ) (sure : ℕ) → CanServe w path sure → Boots w → Horizons w → Secured w → Priors w → Filed w → Filed (serves w path sure)
-serves_keeps_filed w path sure can boots horizons secured priors filed = let chain : Chain w path = chain_read w path can.writing horizons priors can.read in record {
-  filed_booked = λ x k0. grind (arith, nat_tests, filed.filed_booked x, chain.booked (w.seq_of x), boots.flight_booked);
-  filed_secured = λ x j k0. grind (arith, nat_tests, filed.filed_secured x j);
-}
+serves_keeps_filed w path sure can boots horizons secured priors filed =
+    let chain : Chain w path = chain_read w path can.writing horizons priors can.read in
+    record {
+      filed_booked = λ x k0. grind (arith, nat_tests, filed.filed_booked x, chain.booked (w.seq_of x), boots.flight_booked);
+      filed_secured = λ x j k0. grind (arith, nat_tests, filed.filed_secured x j);
+    }
 
 pub step_keeps_filed : (w u : State) → Step w u → Boots w → Horizons w → Secured w → Priors w → Filed w → Filed u
 step_keeps_filed w u (Loses v) boots horizons secured priors filed = loses_keeps_filed w v boots horizons secured priors filed

@@ -86,10 +86,14 @@ fences_grows : (w : State) (v c : ℕ) → CanFence w c → Invariant w → Grow
 fences_grows w v c can i = grind (arith, nat_tests)
 
 seals_grows : (w : State) (x text count : ℕ) (server : ℕ → ℕ) (content : ℕ) → CanSeal w x count server → Invariant w → Grows w (seals w x text count server content)
-seals_grows w x text count server content can i = let new : w.booked x ≡ 1 → ⊥ = new_seal w x count server can i.shelf.boots in grind (arith, nat_tests)
+seals_grows w x text count server content can i =
+    let new : w.booked x ≡ 1 → ⊥ = new_seal w x count server can i.shelf.boots in
+    grind (arith, nat_tests)
 
 restripes_grows : (w : State) (x text count : ℕ) (server : ℕ → ℕ) → CanRestripe w x count server → Invariant w → Grows w (restripes w x text count server)
-restripes_grows w x text count server can i = let new : w.booked x ≡ 1 → ⊥ = new_restripe w x count server can i.shelf.boots in grind (arith, nat_tests)
+restripes_grows w x text count server can i =
+    let new : w.booked x ≡ 1 → ⊥ = new_restripe w x count server can i.shelf.boots in
+    grind (arith, nat_tests)
 
 notes_grows : (w : State) (p : StoredPacket) → CanNote w p → Invariant w → Grows w (notes w p)
 notes_grows w p can i = grind (arith, nat_tests)

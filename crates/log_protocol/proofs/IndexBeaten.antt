@@ -43,7 +43,11 @@ moves_keeps_index_beaten : (w : IndexState) → IndexRows w → IndexBounds w �
 moves_keeps_index_beaten w rows bounds joins beaten = grind (arith, nat_tests)
 
 beats_keeps_index_beaten : (w : IndexState) (d e l q : ℕ) → CanBeat w d e l q → IndexRows w → IndexBounds w → IndexJoins w → IndexBeaten w → IndexBeaten (beats w l q)
-beats_keeps_index_beaten w d e l q can rows bounds joins beaten = let j = joins.each e can.on in let a = bounds.floor_rises d e l (let p = can.promised in omega arith) in let f = bounds.active_covered e l can.on in grind (arith, nat_tests)
+beats_keeps_index_beaten w d e l q can rows bounds joins beaten =
+    let j = joins.each e can.on in
+    let a = bounds.floor_rises d e l (let p = can.promised in omega arith) in
+    let f = bounds.active_covered e l can.on in
+    grind (arith, nat_tests)
 
 drops_row_keeps_index_beaten : (w : IndexState) (l q : ℕ) → CanDropRow w l q → IndexRows w → IndexBounds w → IndexJoins w → IndexBeaten w → IndexBeaten (drops_row w l q)
 drops_row_keeps_index_beaten w l q can rows bounds joins beaten = grind (arith, nat_tests)

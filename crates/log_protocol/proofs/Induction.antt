@@ -38,7 +38,9 @@ step_keeps_line w u (Picks_kept list_of low x can) past clean = picks_kept_keeps
 step_keeps_line w u (Picks_prior list_of low x i can) past clean = picks_prior_keeps_line w list_of low x i can past.shelf (past.line clean)
 step_keeps_line w u (Cuts low can) past clean = cuts_keeps_line w low can past.shelf (past.line clean)
 step_keeps_line w u (Opens x text count server can) past clean = opens_keeps_line w x text count server can past.shelf (past.line clean)
-step_keeps_line w u (Serves path sure can) past clean = let was = served_clean w path sure can clean in serves_keeps_line w path sure can past.shelf (past.line was.0) (past.rising was.0 was.1)
+step_keeps_line w u (Serves path sure can) past clean =
+    let was = served_clean w path sure can clean in
+    serves_keeps_line w path sure can past.shelf (past.line was.0) (past.rising was.0 was.1)
 
 step_keeps_spans : (w u : State) → Step w u → Invariant w → u.clean ≡ 1 → Spans u
 step_keeps_spans w u (Loses v) past clean = loses_keeps_spans w v past.shelf (past.line clean) (past.spans clean)
@@ -65,7 +67,9 @@ step_keeps_spans w u (Picks_kept list_of low x can) past clean = picks_kept_keep
 step_keeps_spans w u (Picks_prior list_of low x i can) past clean = picks_prior_keeps_spans w list_of low x i can past.shelf (past.line clean) (past.spans clean)
 step_keeps_spans w u (Cuts low can) past clean = cuts_keeps_spans w low can past.shelf (past.line clean) (past.spans clean)
 step_keeps_spans w u (Opens x text count server can) past clean = opens_keeps_spans w x text count server can past.shelf (past.line clean) (past.spans clean)
-step_keeps_spans w u (Serves path sure can) past clean = let was = served_clean w path sure can clean in serves_keeps_spans w path sure can past.shelf (past.line was.0) (past.spans was.0) (past.rising was.0 was.1)
+step_keeps_spans w u (Serves path sure can) past clean =
+    let was = served_clean w path sure can clean in
+    serves_keeps_spans w path sure can past.shelf (past.line was.0) (past.spans was.0) (past.rising was.0 was.1)
 
 step_keeps_rising : (w u : State) → Step w u → Invariant w → u.clean ≡ 1 → Undoubted u → Rising u
 step_keeps_rising w u (Loses v) past clean holds = loses_keeps_rising w v past.shelf (past.line clean) (past.spans clean) (past.rising clean) holds
@@ -92,7 +96,9 @@ step_keeps_rising w u (Picks_kept list_of low x can) past clean holds = picks_ke
 step_keeps_rising w u (Picks_prior list_of low x i can) past clean holds = picks_prior_keeps_rising w list_of low x i can past.shelf (past.line clean) (past.spans clean) (past.rising clean) holds
 step_keeps_rising w u (Cuts low can) past clean holds = cuts_keeps_rising w low can past.shelf (past.line clean) (past.spans clean) (past.rising clean) holds
 step_keeps_rising w u (Opens x text count server can) past clean holds = opens_keeps_rising w x text count server can past.shelf (past.line clean) (past.spans clean) (past.rising clean) holds
-step_keeps_rising w u (Serves path sure can) past clean holds = let was = served_clean w path sure can clean in serves_keeps_rising w path sure can past.shelf (past.line was.0) (past.rising was.0 was.1)
+step_keeps_rising w u (Serves path sure can) past clean holds =
+    let was = served_clean w path sure can clean in
+    serves_keeps_rising w path sure can past.shelf (past.line was.0) (past.rising was.0 was.1)
 
 pub step_keeps : (w u : State) → Step w u → Invariant w → Invariant u
 step_keeps w u step i = record {

@@ -13,7 +13,6 @@ pub mod Filed
 pub mod Naming
 pub mod ShelfInvariant
 pub mod Line
-pub mod FreshList
 pub mod Spans
 pub mod HeadSeen
 pub mod Rising

@@ -79,10 +79,14 @@ pub fences_keeps_line : (w : State) (v c : ℕ) → CanFence w c → ShelfInvari
 fences_keeps_line w v c can shelf line = grind (arith, nat_tests)
 
 pub seals_keeps_line : (w : State) (x text count : ℕ) (server : ℕ → ℕ) (content : ℕ) → CanSeal w x count server → ShelfInvariant w → Line w → Line (seals w x text count server content)
-seals_keeps_line w x text count server content can shelf line = let new : w.booked x ≡ 1 → ⊥ = new_seal w x count server can shelf.boots in grind (arith, nat_tests)
+seals_keeps_line w x text count server content can shelf line =
+    let new : w.booked x ≡ 1 → ⊥ = new_seal w x count server can shelf.boots in
+    grind (arith, nat_tests)
 
 pub restripes_keeps_line : (w : State) (x text count : ℕ) (server : ℕ → ℕ) → CanRestripe w x count server → ShelfInvariant w → Line w → Line (restripes w x text count server)
-restripes_keeps_line w x text count server can shelf line = let new : w.booked x ≡ 1 → ⊥ = new_restripe w x count server can shelf.boots in grind (arith, nat_tests)
+restripes_keeps_line w x text count server can shelf line =
+    let new : w.booked x ≡ 1 → ⊥ = new_restripe w x count server can shelf.boots in
+    grind (arith, nat_tests)
 
 pub notes_keeps_line : (w : State) (p : StoredPacket) → CanNote w p → ShelfInvariant w → Line w → Line (notes w p)
 notes_keeps_line w p can shelf line = grind (arith, nat_tests)

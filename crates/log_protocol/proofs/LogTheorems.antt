@@ -7,7 +7,9 @@ use Rattle.log_protocol.proofs.Induction.{always}
 use Rattle.log_protocol.proofs.ReadChain.{Chain, chain_read}
 
 pub logs_whole_always : (w : State) → Reached w → LogsWhole w
-logs_whole_always w reached x j filed kept member = let i = always w reached in held_or (w.holds (w.member_server x j) x) refl (i.shelf.texts.held_flag (w.member_server x j) x) i
+logs_whole_always w reached x j filed kept member =
+    let i = always w reached in
+    held_or (w.holds (w.member_server x j) x) refl (i.shelf.texts.held_flag (w.member_server x j) x) i
   where
     held_or : (h : ℕ) → w.holds (w.member_server x j) x ≡ h → w.holds (w.member_server x j) x ≤ 1 → Invariant w → ((w.holds (w.member_server x j) x ≡ 1) × (w.kept_index (w.member_server x j) x ≡ j)) ⊎ (w.member_generation x j < w.generation (w.member_server x j))
     held_or zero e flag i = inr (i.shelf.secured.secured_held x j (i.shelf.filed.filed_secured x j filed) kept member e)

@@ -12,4 +12,8 @@ pub new_restripe : (w : State) (x count : ℕ) (server : ℕ → ℕ) → CanRes
 new_restripe w x count server can boots b = grind (arith, can.same_seq, can.own, can.later, boots.written_attempt x, boots.opening_attempt x, boots.flight_phase can.flying, boots.flight_seq can.flying, boots.phase_rank)
 
 pub new_opening : (w : State) (x count : ℕ) (server : ℕ → ℕ) → CanOpen w x count server → Boots w → w.booked x ≡ 1 → ⊥
-new_opening w x count server can boots b = let h = can.reading in let e = can.own in let a = boots.no_name_yet x (omega arith) (omega arith) b in omega arith
+new_opening w x count server can boots b =
+    let h = can.reading in
+    let e = can.own in
+    let a = boots.no_name_yet x (omega arith) (omega arith) b in
+    omega arith

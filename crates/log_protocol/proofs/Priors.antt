@@ -110,44 +110,52 @@ picks_none_keeps_priors : (w : State) (list_of : ℕ → FencedPacket) (low : �
 picks_none_keeps_priors w list_of low can names boots lists horizons secured priors = grind (arith, nat_tests)
 
 picks_kept_keeps_priors : (w : State) (list_of : ℕ → FencedPacket) (low x : ℕ) → CanPickKept w list_of low x → Names w.seq_of w.incarnation_of w.attempt_of → Boots w → Lists w → Horizons w → Secured w → Priors w → Priors (picks_kept w low x)
-picks_kept_keeps_priors w list_of low x can names boots lists horizons secured priors = let booked : w.booked x ≡ 1 = picked_booked w list_of low x can.gathered can.picked lists in let old = boots.no_name_yet x (let h = can.gathering in omega arith) (let h = can.gathering in omega arith) booked in let begun = can.gathered.begun in record {
-  seq_some = λ y k0. grind (arith, nat_tests, priors.seq_some y);
-  prior_booked = λ y k0 k1. grind (arith, nat_tests, priors.prior_booked y);
-  prior_seq = λ y k0 k1. grind (arith, nat_tests, priors.prior_seq y);
-  prior_boot = λ y k0 k1. grind (arith, nat_tests, priors.prior_boot y);
-  prior_secured = λ y j k0 k1. grind (arith, nat_tests, priors.prior_secured y j);
-  no_prior = λ y k0 k1. grind (arith, nat_tests, priors.no_prior y);
-  end_booked = λ k0 k1. grind (arith, nat_tests, priors.end_booked);
-  end_secured = λ j k0 k1. grind (arith, nat_tests, priors.end_secured j);
-  flight_end = λ k0 k1. grind (arith, nat_tests, priors.flight_end);
-  flight_base = λ k0. grind (arith, nat_tests, priors.flight_base);
-  opening_some = λ k0 k1. grind (arith, nat_tests, priors.opening_some);
-  base_booked = λ k0 k1 k2. grind (arith, nat_tests, priors.base_booked);
-  base_seq = λ k0 k1 k2. grind (arith, nat_tests, priors.base_seq);
-  base_boot = λ k0 k1 k2. grind (arith, nat_tests, priors.base_boot);
-  base_secured = λ j k0 k1 k2. grind (arith, nat_tests, priors.base_secured j);
-  no_base = λ k0 k1 k2. grind (arith, nat_tests, priors.no_base);
-}
+picks_kept_keeps_priors w list_of low x can names boots lists horizons secured priors =
+    let booked : w.booked x ≡ 1 = picked_booked w list_of low x can.gathered can.picked lists in
+    let old = boots.no_name_yet x (let h = can.gathering in omega arith) (let h = can.gathering in omega arith) booked in
+    let begun = can.gathered.begun in
+    record {
+      seq_some = λ y k0. grind (arith, nat_tests, priors.seq_some y);
+      prior_booked = λ y k0 k1. grind (arith, nat_tests, priors.prior_booked y);
+      prior_seq = λ y k0 k1. grind (arith, nat_tests, priors.prior_seq y);
+      prior_boot = λ y k0 k1. grind (arith, nat_tests, priors.prior_boot y);
+      prior_secured = λ y j k0 k1. grind (arith, nat_tests, priors.prior_secured y j);
+      no_prior = λ y k0 k1. grind (arith, nat_tests, priors.no_prior y);
+      end_booked = λ k0 k1. grind (arith, nat_tests, priors.end_booked);
+      end_secured = λ j k0 k1. grind (arith, nat_tests, priors.end_secured j);
+      flight_end = λ k0 k1. grind (arith, nat_tests, priors.flight_end);
+      flight_base = λ k0. grind (arith, nat_tests, priors.flight_base);
+      opening_some = λ k0 k1. grind (arith, nat_tests, priors.opening_some);
+      base_booked = λ k0 k1 k2. grind (arith, nat_tests, priors.base_booked);
+      base_seq = λ k0 k1 k2. grind (arith, nat_tests, priors.base_seq);
+      base_boot = λ k0 k1 k2. grind (arith, nat_tests, priors.base_boot);
+      base_secured = λ j k0 k1 k2. grind (arith, nat_tests, priors.base_secured j);
+      no_base = λ k0 k1 k2. grind (arith, nat_tests, priors.no_base);
+    }
 
 picks_prior_keeps_priors : (w : State) (list_of : ℕ → FencedPacket) (low x i : ℕ) → CanPickPrior w list_of low x i → Names w.seq_of w.incarnation_of w.attempt_of → Boots w → Lists w → Horizons w → Secured w → Priors w → Priors (picks_prior w low x)
-picks_prior_keeps_priors w list_of low x i can names boots lists horizons secured priors = let booked : w.booked x ≡ 1 = picked_booked w list_of low x can.gathered can.picked lists in let old = boots.no_name_yet x (let h = can.gathering in omega arith) (let h = can.gathering in omega arith) booked in let begun = can.gathered.begun in record {
-  seq_some = λ y k0. grind (arith, nat_tests, priors.seq_some y);
-  prior_booked = λ y k0 k1. grind (arith, nat_tests, priors.prior_booked y);
-  prior_seq = λ y k0 k1. grind (arith, nat_tests, priors.prior_seq y);
-  prior_boot = λ y k0 k1. grind (arith, nat_tests, priors.prior_boot y);
-  prior_secured = λ y j k0 k1. grind (arith, nat_tests, priors.prior_secured y j);
-  no_prior = λ y k0 k1. grind (arith, nat_tests, priors.no_prior y);
-  end_booked = λ k0 k1. grind (arith, nat_tests, priors.end_booked);
-  end_secured = λ j k0 k1. grind (arith, nat_tests, priors.end_secured j);
-  flight_end = λ k0 k1. grind (arith, nat_tests, priors.flight_end);
-  flight_base = λ k0. grind (arith, nat_tests, priors.flight_base);
-  opening_some = λ k0 k1. grind (arith, nat_tests, priors.opening_some);
-  base_booked = λ k0 k1 k2. grind (arith, nat_tests, priors.base_booked);
-  base_seq = λ k0 k1 k2. grind (arith, nat_tests, priors.base_seq);
-  base_boot = λ k0 k1 k2. grind (arith, nat_tests, priors.base_boot);
-  base_secured = λ j k0 k1 k2. grind (arith, nat_tests, priors.base_secured j);
-  no_base = λ k0 k1 k2. grind (arith, nat_tests, priors.no_base);
-}
+picks_prior_keeps_priors w list_of low x i can names boots lists horizons secured priors =
+    let booked : w.booked x ≡ 1 = picked_booked w list_of low x can.gathered can.picked lists in
+    let old = boots.no_name_yet x (let h = can.gathering in omega arith) (let h = can.gathering in omega arith) booked in
+    let begun = can.gathered.begun in
+    record {
+      seq_some = λ y k0. grind (arith, nat_tests, priors.seq_some y);
+      prior_booked = λ y k0 k1. grind (arith, nat_tests, priors.prior_booked y);
+      prior_seq = λ y k0 k1. grind (arith, nat_tests, priors.prior_seq y);
+      prior_boot = λ y k0 k1. grind (arith, nat_tests, priors.prior_boot y);
+      prior_secured = λ y j k0 k1. grind (arith, nat_tests, priors.prior_secured y j);
+      no_prior = λ y k0 k1. grind (arith, nat_tests, priors.no_prior y);
+      end_booked = λ k0 k1. grind (arith, nat_tests, priors.end_booked);
+      end_secured = λ j k0 k1. grind (arith, nat_tests, priors.end_secured j);
+      flight_end = λ k0 k1. grind (arith, nat_tests, priors.flight_end);
+      flight_base = λ k0. grind (arith, nat_tests, priors.flight_base);
+      opening_some = λ k0 k1. grind (arith, nat_tests, priors.opening_some);
+      base_booked = λ k0 k1 k2. grind (arith, nat_tests, priors.base_booked);
+      base_seq = λ k0 k1 k2. grind (arith, nat_tests, priors.base_seq);
+      base_boot = λ k0 k1 k2. grind (arith, nat_tests, priors.base_boot);
+      base_secured = λ j k0 k1 k2. grind (arith, nat_tests, priors.base_secured j);
+      no_base = λ k0 k1 k2. grind (arith, nat_tests, priors.no_base);
+    }
 
 cuts_keeps_priors : (w : State) (low : ℕ) → CanCut w low → Names w.seq_of w.incarnation_of w.attempt_of → Boots w → Lists w → Horizons w → Secured w → Priors w → Priors (cuts w low)
 cuts_keeps_priors w low can names boots lists horizons secured priors = grind (arith, nat_tests)

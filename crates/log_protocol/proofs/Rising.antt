@@ -82,24 +82,30 @@ pub fences_keeps_rising : (w : State) (v c : ℕ) → CanFence w c → ShelfInva
 fences_keeps_rising w v c can shelf line spans rising sure = let now = rising sure in grind (arith, nat_tests)
 
 pub seals_keeps_rising : (w : State) (x text count : ℕ) (server : ℕ → ℕ) (content : ℕ) → CanSeal w x count server → ShelfInvariant w → Line w → Spans w → (Undoubted w → Rising w) → Undoubted (seals w x text count server content) → Rising (seals w x text count server content)
-seals_keeps_rising w x text count server content can shelf line spans rising sure = let new : w.booked x ≡ 1 → ⊥ = new_seal w x count server can shelf.boots in let now = rising (booked_sure w x text count server w.end content new shelf line sure) in record {
-  above = λ y k0 k1. grind (arith, nat_tests, now.above y);
-  root = λ y k0 k1 k2 k3. grind (arith, nat_tests, now.root y);
-  root_up = λ y k0 k1 k2 k3. grind (arith, nat_tests, now.root_up y);
-  opening_above = λ k0 k1. grind (arith, nat_tests, now.opening_above);
-  base_root = λ k0 k1 k2 k3. grind (arith, nat_tests, now.base_root);
-  base_up = λ k0 k1 k2 k3. grind (arith, nat_tests, now.base_up);
-}
+seals_keeps_rising w x text count server content can shelf line spans rising sure =
+    let new : w.booked x ≡ 1 → ⊥ = new_seal w x count server can shelf.boots in
+    let now = rising (booked_sure w x text count server w.end content new shelf line sure) in
+    record {
+      above = λ y k0 k1. grind (arith, nat_tests, now.above y);
+      root = λ y k0 k1 k2 k3. grind (arith, nat_tests, now.root y);
+      root_up = λ y k0 k1 k2 k3. grind (arith, nat_tests, now.root_up y);
+      opening_above = λ k0 k1. grind (arith, nat_tests, now.opening_above);
+      base_root = λ k0 k1 k2 k3. grind (arith, nat_tests, now.base_root);
+      base_up = λ k0 k1 k2 k3. grind (arith, nat_tests, now.base_up);
+    }
 
 pub restripes_keeps_rising : (w : State) (x text count : ℕ) (server : ℕ → ℕ) → CanRestripe w x count server → ShelfInvariant w → Line w → Spans w → (Undoubted w → Rising w) → Undoubted (restripes w x text count server) → Rising (restripes w x text count server)
-restripes_keeps_rising w x text count server can shelf line spans rising sure = let new : w.booked x ≡ 1 → ⊥ = new_restripe w x count server can shelf.boots in let now = rising (booked_sure w x text count server (w.prior_of w.flight) (w.content_of w.flight) new shelf line sure) in record {
-  above = λ y k0 k1. grind (arith, nat_tests, now.above y);
-  root = λ y k0 k1 k2 k3. grind (arith, nat_tests, now.root y);
-  root_up = λ y k0 k1 k2 k3. grind (arith, nat_tests, now.root_up y);
-  opening_above = λ k0 k1. grind (arith, nat_tests, now.opening_above);
-  base_root = λ k0 k1 k2 k3. grind (arith, nat_tests, now.base_root);
-  base_up = λ k0 k1 k2 k3. grind (arith, nat_tests, now.base_up);
-}
+restripes_keeps_rising w x text count server can shelf line spans rising sure =
+    let new : w.booked x ≡ 1 → ⊥ = new_restripe w x count server can shelf.boots in
+    let now = rising (booked_sure w x text count server (w.prior_of w.flight) (w.content_of w.flight) new shelf line sure) in
+    record {
+      above = λ y k0 k1. grind (arith, nat_tests, now.above y);
+      root = λ y k0 k1 k2 k3. grind (arith, nat_tests, now.root y);
+      root_up = λ y k0 k1 k2 k3. grind (arith, nat_tests, now.root_up y);
+      opening_above = λ k0 k1. grind (arith, nat_tests, now.opening_above);
+      base_root = λ k0 k1 k2 k3. grind (arith, nat_tests, now.base_root);
+      base_up = λ k0 k1 k2 k3. grind (arith, nat_tests, now.base_up);
+    }
 
 pub notes_keeps_rising : (w : State) (p : StoredPacket) → CanNote w p → ShelfInvariant w → Line w → Spans w → (Undoubted w → Rising w) → Undoubted (notes w p) → Rising (notes w p)
 notes_keeps_rising w p can shelf line spans rising sure = let now = rising sure in grind (arith, nat_tests)
@@ -121,47 +127,66 @@ begins_keeps_rising w can shelf line spans rising sure = record {
 }
 
 pub picks_none_keeps_rising : (w : State) (list_of : ℕ → FencedPacket) (low : ℕ) → CanPickNone w list_of low → ShelfInvariant w → Line w → Spans w → (Undoubted w → Rising w) → Undoubted (picks_none w low) → Rising (picks_none w low)
-picks_none_keeps_rising w list_of low can shelf line spans rising sure = let now = rising sure in let none = no_head w list_of low can shelf line spans sure in record {
-  above = λ y k0 k1. grind (arith, nat_tests, now.above y);
-  root = λ y k0 k1 k2 k3. grind (arith, nat_tests, now.root y);
-  root_up = λ y k0 k1 k2 k3. grind (arith, nat_tests, now.root_up y);
-  opening_above = λ k0 k1. grind (arith, nat_tests, now.opening_above);
-  base_root = λ k0 k1 k2 k3. grind (arith, nat_tests, now.base_root);
-  base_up = λ k0 k1 k2 k3. grind (arith, nat_tests, now.base_up);
-}
+picks_none_keeps_rising w list_of low can shelf line spans rising sure =
+    let now = rising sure in
+    let none = no_head w list_of low can shelf line spans sure in
+    record {
+      above = λ y k0 k1. grind (arith, nat_tests, now.above y);
+      root = λ y k0 k1 k2 k3. grind (arith, nat_tests, now.root y);
+      root_up = λ y k0 k1 k2 k3. grind (arith, nat_tests, now.root_up y);
+      opening_above = λ k0 k1. grind (arith, nat_tests, now.opening_above);
+      base_root = λ k0 k1 k2 k3. grind (arith, nat_tests, now.base_root);
+      base_up = λ k0 k1 k2 k3. grind (arith, nat_tests, now.base_up);
+    }
 
 pub picks_kept_keeps_rising : (w : State) (list_of : ℕ → FencedPacket) (low x : ℕ) → CanPickKept w list_of low x → ShelfInvariant w → Line w → Spans w → (Undoubted w → Rising w) → Undoubted (picks_kept w low x) → Rising (picks_kept w low x)
-picks_kept_keeps_rising w list_of low x can shelf line spans rising sure = let booked : w.booked x ≡ 1 = picked_booked w list_of low x can.gathered can.picked shelf.lists in let now = rising sure in let after = picked_not_before w list_of low x can.gathering can.gathered can.picked shelf line spans sure in let up = can.picked.above in record {
-  above = λ y k0 k1. grind (arith, nat_tests, now.above y);
-  root = λ y k0 k1 k2 k3. grind (arith, nat_tests, now.root y);
-  root_up = λ y k0 k1 k2 k3. grind (arith, nat_tests, now.root_up y);
-  opening_above = λ k0 k1. grind (arith, nat_tests, now.opening_above, now.above x booked);
-  base_root = λ k0 k1 k2 k3. grind (arith, nat_tests, now.base_root, now.above x booked);
-  base_up = λ k0 k1 k2 k3. grind (arith, nat_tests, now.base_up, now.above x booked);
-}
+picks_kept_keeps_rising w list_of low x can shelf line spans rising sure =
+    let booked : w.booked x ≡ 1 = picked_booked w list_of low x can.gathered can.picked shelf.lists in
+    let now = rising sure in
+    let after = picked_not_before w list_of low x can.gathering can.gathered can.picked shelf line spans sure in
+    let up = can.picked.above in
+    record {
+      above = λ y k0 k1. grind (arith, nat_tests, now.above y);
+      root = λ y k0 k1 k2 k3. grind (arith, nat_tests, now.root y);
+      root_up = λ y k0 k1 k2 k3. grind (arith, nat_tests, now.root_up y);
+      opening_above = λ k0 k1. grind (arith, nat_tests, now.opening_above, now.above x booked);
+      base_root = λ k0 k1 k2 k3. grind (arith, nat_tests, now.base_root, now.above x booked);
+      base_up = λ k0 k1 k2 k3. grind (arith, nat_tests, now.base_up, now.above x booked);
+    }
 
 pub picks_prior_keeps_rising : (w : State) (list_of : ℕ → FencedPacket) (low x i : ℕ) → CanPickPrior w list_of low x i → ShelfInvariant w → Line w → Spans w → (Undoubted w → Rising w) → Undoubted (picks_prior w low x) → Rising (picks_prior w low x)
-picks_prior_keeps_rising w list_of low x i can shelf line spans rising sure = let booked : w.booked x ≡ 1 = picked_booked w list_of low x can.gathered can.picked shelf.lists in let now = rising sure in let after = picked_not_before w list_of low x can.gathering can.gathered can.picked shelf line spans sure in let up = can.picked.above in let old = shelf.boots.no_name_yet x (let h = can.gathering in omega arith) (let h = can.gathering in omega arith) booked in let begun = can.gathered.begun in let other = not_head w list_of low x i can shelf line spans in record {
-  above = λ y k0 k1. grind (arith, nat_tests, now.above y);
-  root = λ y k0 k1 k2 k3. grind (arith, nat_tests, now.root y);
-  root_up = λ y k0 k1 k2 k3. grind (arith, nat_tests, now.root_up y);
-  opening_above = λ k0 k1. grind (arith, nat_tests, now.opening_above, now.above x booked, λ (le : low ≤ w.head). other le);
-  base_root = λ k0 k1 k2 k3. grind (arith, nat_tests, now.base_root);
-  base_up = λ k0 k1 k2 k3. grind (arith, nat_tests, now.base_up);
-}
+picks_prior_keeps_rising w list_of low x i can shelf line spans rising sure =
+    let booked : w.booked x ≡ 1 = picked_booked w list_of low x can.gathered can.picked shelf.lists in
+    let now = rising sure in
+    let after = picked_not_before w list_of low x can.gathering can.gathered can.picked shelf line spans sure in
+    let up = can.picked.above in
+    let old = shelf.boots.no_name_yet x (let h = can.gathering in omega arith) (let h = can.gathering in omega arith) booked in
+    let begun = can.gathered.begun in
+    let other = not_head w list_of low x i can shelf line spans in
+    record {
+      above = λ y k0 k1. grind (arith, nat_tests, now.above y);
+      root = λ y k0 k1 k2 k3. grind (arith, nat_tests, now.root y);
+      root_up = λ y k0 k1 k2 k3. grind (arith, nat_tests, now.root_up y);
+      opening_above = λ k0 k1. grind (arith, nat_tests, now.opening_above, now.above x booked, λ (le : low ≤ w.head). other le);
+      base_root = λ k0 k1 k2 k3. grind (arith, nat_tests, now.base_root);
+      base_up = λ k0 k1 k2 k3. grind (arith, nat_tests, now.base_up);
+    }
 
 pub cuts_keeps_rising : (w : State) (low : ℕ) → CanCut w low → ShelfInvariant w → Line w → Spans w → (Undoubted w → Rising w) → Undoubted (cuts w low) → Rising (cuts w low)
 cuts_keeps_rising w low can shelf line spans rising sure = let now = rising sure in grind (arith, nat_tests)
 
 pub opens_keeps_rising : (w : State) (x text count : ℕ) (server : ℕ → ℕ) → CanOpen w x count server → ShelfInvariant w → Line w → Spans w → (Undoubted w → Rising w) → Undoubted (opens w x text count server) → Rising (opens w x text count server)
-opens_keeps_rising w x text count server can shelf line spans rising sure = let new : w.booked x ≡ 1 → ⊥ = new_opening w x count server can shelf.boots in let now = rising (booked_sure w x text count server w.base 0 new shelf line sure) in record {
-  above = λ y k0 k1. grind (arith, nat_tests, now.above y);
-  root = λ y k0 k1 k2 k3. grind (arith, nat_tests, now.root y);
-  root_up = λ y k0 k1 k2 k3. grind (arith, nat_tests, now.root_up y);
-  opening_above = λ k0 k1. grind (arith, nat_tests, now.opening_above);
-  base_root = λ k0 k1 k2 k3. grind (arith, nat_tests, now.base_root);
-  base_up = λ k0 k1 k2 k3. grind (arith, nat_tests, now.base_up);
-}
+opens_keeps_rising w x text count server can shelf line spans rising sure =
+    let new : w.booked x ≡ 1 → ⊥ = new_opening w x count server can shelf.boots in
+    let now = rising (booked_sure w x text count server w.base 0 new shelf line sure) in
+    record {
+      above = λ y k0 k1. grind (arith, nat_tests, now.above y);
+      root = λ y k0 k1 k2 k3. grind (arith, nat_tests, now.root y);
+      root_up = λ y k0 k1 k2 k3. grind (arith, nat_tests, now.root_up y);
+      opening_above = λ k0 k1. grind (arith, nat_tests, now.opening_above);
+      base_root = λ k0 k1 k2 k3. grind (arith, nat_tests, now.base_root);
+      base_up = λ k0 k1 k2 k3. grind (arith, nat_tests, now.base_up);
+    }
 
 pub new_log_rising : (servers : ℕ) (seq_of incarnation_of attempt_of : ℕ → ℕ) → Rising (new_log servers seq_of incarnation_of attempt_of)
 new_log_rising servers seq_of incarnation_of attempt_of = grind (arith, nat_tests)

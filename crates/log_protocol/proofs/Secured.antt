@@ -89,13 +89,15 @@ picks_none_keeps_secured : (w : State) (list_of : ℕ → FencedPacket) (low : �
 picks_none_keeps_secured w list_of low can generations boots texts lists secured = grind (arith, nat_tests)
 
 picks_kept_keeps_secured : (w : State) (list_of : ℕ → FencedPacket) (low x : ℕ) → CanPickKept w list_of low x → Generations w → Boots w → Texts w → Lists w → Secured w → Secured (picks_kept w low x)
-picks_kept_keeps_secured w list_of low x can generations boots texts lists secured = let booked : w.booked x ≡ 1 = picked_booked w list_of low x can.gathered can.picked lists in record {
-  marked_dropped = λ v y k0. grind (arith, nat_tests, secured.marked_dropped v y);
-  secured_booked = λ y j k0. grind (arith, nat_tests, secured.secured_booked y j);
-  secured_held = λ y j k0 k1 k2 k3. grind (arith, nat_tests, secured.secured_held y j, picked_whole w list_of low x can generations boots texts lists j);
-  stored_secured = λ p k0. grind (arith, nat_tests, secured.stored_secured p);
-  noted_secured = λ j k0 k1. grind (arith, nat_tests, secured.noted_secured j);
-}
+picks_kept_keeps_secured w list_of low x can generations boots texts lists secured =
+    let booked : w.booked x ≡ 1 = picked_booked w list_of low x can.gathered can.picked lists in
+    record {
+      marked_dropped = λ v y k0. grind (arith, nat_tests, secured.marked_dropped v y);
+      secured_booked = λ y j k0. grind (arith, nat_tests, secured.secured_booked y j);
+      secured_held = λ y j k0 k1 k2 k3. grind (arith, nat_tests, secured.secured_held y j, picked_whole w list_of low x can generations boots texts lists j);
+      stored_secured = λ p k0. grind (arith, nat_tests, secured.stored_secured p);
+      noted_secured = λ j k0 k1. grind (arith, nat_tests, secured.noted_secured j);
+    }
 
 picks_prior_keeps_secured : (w : State) (list_of : ℕ → FencedPacket) (low x i : ℕ) → CanPickPrior w list_of low x i → Generations w → Boots w → Texts w → Lists w → Secured w → Secured (picks_prior w low x)
 picks_prior_keeps_secured w list_of low x i can generations boots texts lists secured = grind (arith, nat_tests)

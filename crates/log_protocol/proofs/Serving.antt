@@ -52,39 +52,51 @@ filed_on_line : (w : State) (path : ℕ → ℕ) (sure x : ℕ) → w.seq_of w.f
 filed_on_line w path sure x seq above old_line old_head same filed = grind (arith, nat_tests)
 
 pub serves_keeps_line : (w : State) (path : ℕ → ℕ) (sure : ℕ) → CanServe w path sure → ShelfInvariant w → Line w → Rising w → Line (serves w path sure)
-serves_keeps_line w path sure can shelf line rising = let chain : Chain w path = chain_read w path can.writing shelf.horizons shelf.priors can.read in let lined = chain_on_line w path can.writing shelf line rising can.read in let writing = can.writing in record {
-  serving_end = λ k0. grind (arith, nat_tests, line.serving_end);
-  line_none = grind (arith, nat_tests, line.line_none);
-  filed_line = λ x k0. filed_on_line w path sure x (let f = shelf.boots.opening_flight writing in shelf.boots.opening_seq_alone w.flight writing (shelf.boots.flight_booked f) (shelf.boots.flight_boot f)) (rising.opening_above (omega arith) (omega arith)) (line.filed_line x) (line.filed_head x) (lined (w.seq_of x)) k0;
-  filed_head = λ x k0. grind (arith, nat_tests, line.filed_head x);
-  line_filed = λ q k0 k1. grind (arith, nat_tests, line.line_filed q);
-  line_seq = λ q k0 k1. grind (arith, nat_tests, line.line_seq q);
-  head_seq = grind (arith, nat_tests, line.head_seq);
-  line_prior = λ q k0 k1. grind (arith, nat_tests, line.line_prior q);
-  line_boot = λ x k0. grind (arith, nat_tests, line.line_boot x);
-  head_boot = λ k0. grind (arith, nat_tests, line.head_boot);
-  head_attempt = λ x k0 k1 k2. grind (arith, nat_tests, line.head_attempt x);
-  low_head = grind (arith, nat_tests, line.low_head);
-  served_next = λ x k0 k1. grind (arith, nat_tests, line.served_next x);
-  next_prior = λ x k0 k1 k2. grind (arith, nat_tests, line.next_prior x);
-  feed_line = λ q k0 k1 k2. grind (arith, nat_tests, line.feed_line q);
-}
+serves_keeps_line w path sure can shelf line rising =
+    let chain : Chain w path = chain_read w path can.writing shelf.horizons shelf.priors can.read in
+    let lined = chain_on_line w path can.writing shelf line rising can.read in
+    let writing = can.writing in
+    record {
+      serving_end = λ k0. grind (arith, nat_tests, line.serving_end);
+      line_none = grind (arith, nat_tests, line.line_none);
+      filed_line = λ x k0. filed_on_line w path sure x (let f = shelf.boots.opening_flight writing in shelf.boots.opening_seq_alone w.flight writing (shelf.boots.flight_booked f) (shelf.boots.flight_boot f)) (rising.opening_above (omega arith) (omega arith)) (line.filed_line x) (line.filed_head x) (lined (w.seq_of x)) k0;
+      filed_head = λ x k0. grind (arith, nat_tests, line.filed_head x);
+      line_filed = λ q k0 k1. grind (arith, nat_tests, line.line_filed q);
+      line_seq = λ q k0 k1. grind (arith, nat_tests, line.line_seq q);
+      head_seq = grind (arith, nat_tests, line.head_seq);
+      line_prior = λ q k0 k1. grind (arith, nat_tests, line.line_prior q);
+      line_boot = λ x k0. grind (arith, nat_tests, line.line_boot x);
+      head_boot = λ k0. grind (arith, nat_tests, line.head_boot);
+      head_attempt = λ x k0 k1 k2. grind (arith, nat_tests, line.head_attempt x);
+      low_head = grind (arith, nat_tests, line.low_head);
+      served_next = λ x k0 k1. grind (arith, nat_tests, line.served_next x);
+      next_prior = λ x k0 k1 k2. grind (arith, nat_tests, line.next_prior x);
+      feed_line = λ q k0 k1 k2. grind (arith, nat_tests, line.feed_line q);
+    }
 
 pub serves_keeps_spans : (w : State) (path : ℕ → ℕ) (sure : ℕ) → CanServe w path sure → ShelfInvariant w → Line w → Spans w → Rising w → Spans (serves w path sure)
-serves_keeps_spans w path sure can shelf line spans rising = let chain : Chain w path = chain_read w path can.writing shelf.horizons shelf.priors can.read in let lined = chain_on_line w path can.writing shelf line rising can.read in let writing = can.writing in record {
-  hurt_head = λ j k0 k1 k2 k3. grind (arith, nat_tests, spans.hurt_head j);
-  unlisted_hurt = λ p j k0 k1 k2 k3 k4 k5 k6 k7. grind (arith, nat_tests, spans.unlisted_hurt p j);
-  unlisted_later = λ p j k0 k1 k2 k3 k4 k5 k6 k7. grind (arith, nat_tests, spans.unlisted_later p j);
-  no_span = λ x k0 k1. grind (arith, nat_tests, spans.no_span x);
-  content_head = λ x k0 k1 k2. grind (arith, nat_tests, spans.content_head x);
-}
+serves_keeps_spans w path sure can shelf line spans rising =
+    let chain : Chain w path = chain_read w path can.writing shelf.horizons shelf.priors can.read in
+    let lined = chain_on_line w path can.writing shelf line rising can.read in
+    let writing = can.writing in
+    record {
+      hurt_head = λ j k0 k1 k2 k3. grind (arith, nat_tests, spans.hurt_head j);
+      unlisted_hurt = λ p j k0 k1 k2 k3 k4 k5 k6 k7. grind (arith, nat_tests, spans.unlisted_hurt p j);
+      unlisted_later = λ p j k0 k1 k2 k3 k4 k5 k6 k7. grind (arith, nat_tests, spans.unlisted_later p j);
+      no_span = λ x k0 k1. grind (arith, nat_tests, spans.no_span x);
+      content_head = λ x k0 k1 k2. grind (arith, nat_tests, spans.content_head x);
+    }
 
 pub serves_keeps_rising : (w : State) (path : ℕ → ℕ) (sure : ℕ) → CanServe w path sure → ShelfInvariant w → Line w → Rising w → Rising (serves w path sure)
-serves_keeps_rising w path sure can shelf line rising = let chain : Chain w path = chain_read w path can.writing shelf.horizons shelf.priors can.read in let lined = chain_on_line w path can.writing shelf line rising can.read in let writing = can.writing in record {
-  above = λ x k0 k1. grind (arith, nat_tests);
-  root = λ x k0 k1 k2 k3. grind (arith, nat_tests);
-  root_up = λ x k0 k1 k2 k3. grind (arith, nat_tests);
-  opening_above = λ k0 k1. grind (arith, nat_tests);
-  base_root = λ k0 k1 k2 k3. grind (arith, nat_tests);
-  base_up = λ k0 k1 k2 k3. grind (arith, nat_tests);
-}
+serves_keeps_rising w path sure can shelf line rising =
+    let chain : Chain w path = chain_read w path can.writing shelf.horizons shelf.priors can.read in
+    let lined = chain_on_line w path can.writing shelf line rising can.read in
+    let writing = can.writing in
+    record {
+      above = λ x k0 k1. grind (arith, nat_tests);
+      root = λ x k0 k1 k2 k3. grind (arith, nat_tests);
+      root_up = λ x k0 k1 k2 k3. grind (arith, nat_tests);
+      opening_above = λ k0 k1. grind (arith, nat_tests);
+      base_root = λ k0 k1 k2 k3. grind (arith, nat_tests);
+      base_up = λ k0 k1 k2 k3. grind (arith, nat_tests);
+    }

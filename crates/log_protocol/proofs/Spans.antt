@@ -1,6 +1,6 @@
 -- Spans: between two boots that served, who lacks the head is remembered as hurt, and lists say so.
 -- Stands on the shelves and Line, and at the step that serves on Rising. Holds while no doubtful opening has served.
-use Rattle.std.proofs.Common.{◌≡◌, ℕ, suc, ◌<◌, ◌≤◌, arith}
+use Rattle.std.proofs.Common.{◌≡◌, ℕ, suc, ◌<◌, ◌≤◌, inl, inr, sym, ap, ◌∙◌, arith}
 use Rattle.std.proofs.lemmas.Bool.Decides.{nat_tests}
 use Rattle.log_protocol.specs.Tables.{In}
 use Rattle.log_protocol.specs.Packets.{StorePacket, StoredPacket, FragmentPacket, FencedPacket}
@@ -10,7 +10,6 @@ use Rattle.log_protocol.specs.OwnerSteps.{CanSeal, seals, CanRestripe, restripes
 use Rattle.log_protocol.specs.OpeningSteps.{CanBegin, begins, CanPickNone, picks_none, CanPickKept, picks_kept, CanPickPrior, picks_prior, CanCut, cuts, CanOpen, opens}
 use Rattle.log_protocol.proofs.ShelfInvariant.{ShelfInvariant}
 use Rattle.log_protocol.proofs.Line.{Line}
-use Rattle.log_protocol.proofs.FreshList.{fresh_list}
 use Rattle.log_protocol.proofs.NewNames.{new_seal, new_restripe}
 
 pub record Spans (w : State) : Type 0 where
@@ -24,6 +23,28 @@ pub record Spans (w : State) : Type 0 where
   pub no_span : (x : ℕ) → w.spanning ≡ 0 → w.booked x ≡ 1 → w.incarnation_of x ≤ w.served
   -- what tells something beyond the head is of the last boot that served
   pub content_head : (x : ℕ) → w.booked x ≡ 1 → suc w.head ≤ w.seq_of x → 0 < w.content_of x → w.incarnation_of x ≡ w.served
+
+-- what is claimed of one member of the head whose list lacks it
+record Lacking (w : State) (p : FencedPacket) (j : ℕ) : Type 0 where
+  hurt : w.hurt j ≡ 1
+  later : w.member_generation (w.line w.head) j < p.generation
+
+-- it holds of a list that was just sent: its sender lacks the head now
+fresh_list : (w : State) (v c : ℕ) (p : FencedPacket) (j : ℕ) → ShelfInvariant w → Line w → Spans w → In p (fences w v c).fenceds → p.incarnation ≡ w.incarnation → w.served < w.incarnation → 0 < w.head → p.low ≤ w.head → j < w.member_count (w.line w.head) → w.member_server (w.line w.head) j ≡ p.from → p.listed (w.line w.head) ≡ 0 → Lacking w p j
+fresh_list w v c p j shelf line spans (inr before) boot opening pos low member from lacks = record { hurt = spans.unlisted_hurt p j before boot opening pos low member from lacks; later = spans.unlisted_later p j before boot opening pos low member from lacks }
+fresh_list w v c p j shelf line spans (inl e) boot opening pos low member from lacks =
+    let x = w.line w.head in
+    let e1 : p.from ≡ v = ap (λ (z : FencedPacket). z.from) e in
+    let e2 : p.generation ≡ w.generation v = ap (λ (z : FencedPacket). z.generation) e in
+    let e3 : p.low ≡ w.low = ap (λ (z : FencedPacket). z.low) e in
+    let e4 : p.listed x ≡ w.holds v x = ap (λ (z : FencedPacket). z.listed x) e in
+    let none : w.holds (w.member_server x j) x ≡ 0 = ap (λ z. w.holds z x) (from ∙ e1) ∙ (sym e4 ∙ lacks) in
+    let seq = line.head_seq in
+    let kept : w.dropped x ≡ 0 = grind (arith, shelf.horizons.dropped_below x) in
+    record {
+      hurt = spans.hurt_head j pos kept member none;
+      later = let g = shelf.secured.secured_held x j (shelf.filed.filed_secured x j (line.line_filed w.head pos (omega arith))) kept member none in let f = ap w.generation (from ∙ e1) in omega arith;
+    }
 
 pub loses_keeps_spans : (w : State) (v : ℕ) → ShelfInvariant w → Line w → Spans w → Spans (loses w v)
 loses_keeps_spans w v shelf line spans = grind (arith, nat_tests)
@@ -79,23 +100,27 @@ raises_keeps_spans w low can shelf line spans = grind (arith, nat_tests)
 pub fences_keeps_spans : (w : State) (v c : ℕ) → CanFence w c → ShelfInvariant w → Line w → Spans w → Spans (fences w v c)
 fences_keeps_spans w v c can shelf line spans = record {
   hurt_head = λ j k0 k1 k2 k3. grind (arith, nat_tests, spans.hurt_head j);
-  unlisted_hurt = λ p j k0 k1 k2 k3 k4 k5 k6 k7. (fresh_list w v c p j shelf line spans.hurt_head (λ b. record { hurt = spans.unlisted_hurt p j b k1 k2 k3 k4 k5 k6 k7; later = spans.unlisted_later p j b k1 k2 k3 k4 k5 k6 k7 }) k0 k3 k4 k5 k6 k7).hurt;
-  unlisted_later = λ p j k0 k1 k2 k3 k4 k5 k6 k7. (fresh_list w v c p j shelf line spans.hurt_head (λ b. record { hurt = spans.unlisted_hurt p j b k1 k2 k3 k4 k5 k6 k7; later = spans.unlisted_later p j b k1 k2 k3 k4 k5 k6 k7 }) k0 k3 k4 k5 k6 k7).later;
+  unlisted_hurt = λ p j k0 k1 k2 k3 k4 k5 k6 k7. (fresh_list w v c p j shelf line spans k0 k1 k2 k3 k4 k5 k6 k7).hurt;
+  unlisted_later = λ p j k0 k1 k2 k3 k4 k5 k6 k7. (fresh_list w v c p j shelf line spans k0 k1 k2 k3 k4 k5 k6 k7).later;
   no_span = λ x k0 k1. grind (arith, nat_tests, spans.no_span x);
   content_head = λ x k0 k1 k2. grind (arith, nat_tests, spans.content_head x);
 }
 
 pub seals_keeps_spans : (w : State) (x text count : ℕ) (server : ℕ → ℕ) (content : ℕ) → CanSeal w x count server → ShelfInvariant w → Line w → Spans w → Spans (seals w x text count server content)
-seals_keeps_spans w x text count server content can shelf line spans = let new : w.booked x ≡ 1 → ⊥ = new_seal w x count server can shelf.boots in grind (arith, nat_tests)
+seals_keeps_spans w x text count server content can shelf line spans =
+    let new : w.booked x ≡ 1 → ⊥ = new_seal w x count server can shelf.boots in
+    grind (arith, nat_tests)
 
 pub restripes_keeps_spans : (w : State) (x text count : ℕ) (server : ℕ → ℕ) → CanRestripe w x count server → ShelfInvariant w → Line w → Spans w → Spans (restripes w x text count server)
-restripes_keeps_spans w x text count server can shelf line spans = let new : w.booked x ≡ 1 → ⊥ = new_restripe w x count server can shelf.boots in record {
-  hurt_head = λ j k0 k1 k2 k3. grind (arith, nat_tests, spans.hurt_head j);
-  unlisted_hurt = λ p j k0 k1 k2 k3 k4 k5 k6 k7. grind (arith, nat_tests, spans.unlisted_hurt p j);
-  unlisted_later = λ p j k0 k1 k2 k3 k4 k5 k6 k7. grind (arith, nat_tests, spans.unlisted_later p j);
-  no_span = λ y k0 k1. grind (arith, nat_tests, spans.no_span y, spans.no_span w.flight, shelf.boots.flight_boot can.flying, shelf.boots.flight_booked can.flying);
-  content_head = λ y k0 k1 k2. grind (arith, nat_tests, spans.content_head y);
-}
+restripes_keeps_spans w x text count server can shelf line spans =
+    let new : w.booked x ≡ 1 → ⊥ = new_restripe w x count server can shelf.boots in
+    record {
+      hurt_head = λ j k0 k1 k2 k3. grind (arith, nat_tests, spans.hurt_head j);
+      unlisted_hurt = λ p j k0 k1 k2 k3 k4 k5 k6 k7. grind (arith, nat_tests, spans.unlisted_hurt p j);
+      unlisted_later = λ p j k0 k1 k2 k3 k4 k5 k6 k7. grind (arith, nat_tests, spans.unlisted_later p j);
+      no_span = λ y k0 k1. grind (arith, nat_tests, spans.no_span y, spans.no_span w.flight, shelf.boots.flight_boot can.flying, shelf.boots.flight_booked can.flying);
+      content_head = λ y k0 k1 k2. grind (arith, nat_tests, spans.content_head y);
+    }
 
 pub notes_keeps_spans : (w : State) (p : StoredPacket) → CanNote w p → ShelfInvariant w → Line w → Spans w → Spans (notes w p)
 notes_keeps_spans w p can shelf line spans = grind (arith, nat_tests)

@@ -84,10 +84,14 @@ fences_keeps_texts : (w : State) (v c : ℕ) → CanFence w c → Boots w → Te
 fences_keeps_texts w v c can boots texts = grind (arith, nat_tests)
 
 seals_keeps_texts : (w : State) (x text count : ℕ) (server : ℕ → ℕ) (content : ℕ) → CanSeal w x count server → Boots w → Texts w → Texts (seals w x text count server content)
-seals_keeps_texts w x text count server content can boots texts = let new : w.booked x ≡ 1 → ⊥ = new_seal w x count server can boots in grind (arith, nat_tests)
+seals_keeps_texts w x text count server content can boots texts =
+    let new : w.booked x ≡ 1 → ⊥ = new_seal w x count server can boots in
+    grind (arith, nat_tests)
 
 restripes_keeps_texts : (w : State) (x text count : ℕ) (server : ℕ → ℕ) → CanRestripe w x count server → Boots w → Texts w → Texts (restripes w x text count server)
-restripes_keeps_texts w x text count server can boots texts = let new : w.booked x ≡ 1 → ⊥ = new_restripe w x count server can boots in grind (arith, nat_tests)
+restripes_keeps_texts w x text count server can boots texts =
+    let new : w.booked x ≡ 1 → ⊥ = new_restripe w x count server can boots in
+    grind (arith, nat_tests)
 
 notes_keeps_texts : (w : State) (p : StoredPacket) → CanNote w p → Boots w → Texts w → Texts (notes w p)
 notes_keeps_texts w p can boots texts = grind (arith, nat_tests)
@@ -117,7 +121,9 @@ cuts_keeps_texts : (w : State) (low : ℕ) → CanCut w low → Boots w → Text
 cuts_keeps_texts w low can boots texts = grind (arith, nat_tests)
 
 opens_keeps_texts : (w : State) (x text count : ℕ) (server : ℕ → ℕ) → CanOpen w x count server → Boots w → Texts w → Texts (opens w x text count server)
-opens_keeps_texts w x text count server can boots texts = let new : w.booked x ≡ 1 → ⊥ = new_opening w x count server can boots in grind (arith, nat_tests)
+opens_keeps_texts w x text count server can boots texts =
+    let new : w.booked x ≡ 1 → ⊥ = new_opening w x count server can boots in
+    grind (arith, nat_tests)
 
 serves_keeps_texts : (w : State) (path : ℕ → ℕ) (sure : ℕ) → CanServe w path sure → Boots w → Texts w → Texts (serves w path sure)
 serves_keeps_texts w path sure can boots texts = grind (arith, nat_tests)
