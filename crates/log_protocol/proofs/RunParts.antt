@@ -66,7 +66,7 @@ at_zero P j k p = subst P (sym (zero_of j k)) p
 
 -- a flight of one member that is noted has settled
 pub settled_alone : (w : State) → w.member_count w.flight ≡ 1 → w.noted 0 ≡ 1 → Settled w
-settled_alone w one noted j member = inl (subst (λ k. w.noted k ≡ 1) (sym (zero_of j member)) noted)
+settled_alone w one noted j member = inl (subst (λ k. w.noted k ≡ 1) (sym (zero_of j (let m = member in omega arith))) noted)
   where
     zero_of : (k : ℕ) → k < w.member_count w.flight → k ≡ 0
     zero_of k less = omega arith
