@@ -18,22 +18,35 @@ late w list_of low gathered shelf =
     let a = gathered.begun in
     record { some = let b = shelf.horizons.begin_some in omega arith; span = let b = shelf.horizons.span_before in omega arith }
 
+-- the head in a list
+pub record HeadListed (w : State) (list_of : ℕ → FencedPacket) : Type 0 where
+  pub server : ℕ
+  pub known : server < w.servers
+  pub listed : (list_of server).listed (w.line w.head) ≡ 1
+
 -- of an undoubted head that isn't below the horizon, some member's list names it
-pub head_seen : (w : State) (list_of : ℕ → FencedPacket) (low : ℕ) → w.phase ≡ 1 → Gathered w list_of low → ShelfInvariant w → Line w → Spans w → Undoubted w → low ≤ w.head → (j : ℕ) × (w.member_server (w.line w.head) j < w.servers) × ((list_of (w.member_server (w.line w.head) j)).listed (w.line w.head) ≡ 1)
+pub head_seen : (w : State) (list_of : ℕ → FencedPacket) (low : ℕ) → w.phase ≡ 1 → Gathered w list_of low → ShelfInvariant w → Line w → Spans w → Undoubted w → low ≤ w.head → HeadListed w list_of
 head_seen w list_of low gathering gathered shelf line spans sure above =
     let t = late w list_of low gathered shelf in
     let pos : 0 < w.head = (let a = t.some in omega arith) in
     let witness = sure pos (let a = t.span in omega arith) in
+    let j = witness.0 in
+    let member = witness.1 in
+    let unhurt = witness.2 in
     let x = w.line w.head in
-    let v = w.member_server x witness.0 in
-    let known : v < w.servers = shelf.texts.server_known x witness.0 (shelf.filed.filed_booked x (line.line_filed w.head pos (omega arith))) witness.1 in
-    (witness.0, known, (let z = witness.2 in let y = witness.1 in grind (arith, spans.unlisted_hurt (list_of v) witness.0 (gathered.sent v known) (gathered.boot v known) (shelf.boots.not_yet_served (omega arith) (omega arith)) pos (let a = gathered.after v known in omega arith) witness.1 (sym (gathered.from v known)), shelf.lists.list_flag (list_of v) x (gathered.sent v known))))
+    let v = w.member_server x j in
+    let known : v < w.servers = shelf.texts.server_known x j (shelf.filed.filed_booked x (line.line_filed w.head pos (omega arith))) member in
+    let sent = gathered.sent v known in
+    let opening = shelf.boots.not_yet_served (omega arith) (omega arith) in
+    let lists_low = gathered.after v known in
+    let lacks = spans.unlisted_hurt (list_of v) j sent (gathered.boot v known) opening pos (omega arith) member (sym (gathered.from v known)) in
+    record { server = v; known = known; listed = grind (arith, lacks, unhurt, shelf.lists.list_flag (list_of v) x sent) }
 
 -- so lists that name nothing at or above the horizon leave no head there
 pub no_head : (w : State) (list_of : ℕ → FencedPacket) (low : ℕ) → CanPickNone w list_of low → ShelfInvariant w → Line w → Spans w → Undoubted w → low ≤ w.head → ⊥
 no_head w list_of low can shelf line spans sure above =
-    let s = head_seen w list_of low can.gathering can.gathered shelf line spans sure above in
-    let a = can.nothing (w.member_server (w.line w.head) s.0) (w.line w.head) s.1 s.2 in
+    let seen = head_seen w list_of low can.gathering can.gathered shelf line spans sure above in
+    let a = can.nothing seen.server (w.line w.head) seen.known seen.listed in
     let e = line.head_seq in
     omega arith
 
@@ -45,18 +58,32 @@ pub record NotBefore (w : State) (low x : ℕ) : Type 0 where
 
 pub picked_not_before : (w : State) (list_of : ℕ → FencedPacket) (low x : ℕ) → w.phase ≡ 1 → Gathered w list_of low → Picked w list_of low x → ShelfInvariant w → Line w → Spans w → Undoubted w → NotBefore w low x
 picked_not_before w list_of low x gathering gathered picked shelf line spans sure = record {
-  boot = λ above. let s = head_seen w list_of low gathering gathered shelf line spans sure above in let v = w.member_server (w.line w.head) s.0 in let e = line.head_seq in
-      let pos : 0 < w.head = (let a = (late w list_of low gathered shelf).some in omega arith) in
-      let a = picked.newest_boot v (w.line w.head) s.1 s.2 (omega arith) in let b = line.head_boot pos in omega arith;
-  seq = λ above k. let s = head_seen w list_of low gathering gathered shelf line spans sure above in let v = w.member_server (w.line w.head) s.0 in let e = line.head_seq in
-      let pos : 0 < w.head = (let a = (late w list_of low gathered shelf).some in omega arith) in
-      let b = line.head_boot pos in let a = picked.longest v (w.line w.head) s.1 s.2 (omega arith) (omega arith) in omega arith;
-  same = λ above k k1. let s = head_seen w list_of low gathering gathered shelf line spans sure above in let v = w.member_server (w.line w.head) s.0 in let e = line.head_seq in
-      let pos : 0 < w.head = (let a = (late w list_of low gathered shelf).some in omega arith) in
-      let b = line.head_boot pos in let a = picked.last_attempt v (w.line w.head) s.1 s.2 (omega arith) (omega arith) (omega arith) in
-      let d = line.head_attempt x (picked_booked w list_of low x gathered picked shelf.lists) k k1 in
+  boot = λ above.
+      let s = seen above in
+      let e = line.head_seq in
+      let b = line.head_boot (some above) in
+      let a = picked.newest_boot s.server (w.line w.head) s.known s.listed (omega arith) in
+      omega arith;
+  seq = λ above of_served.
+      let s = seen above in
+      let e = line.head_seq in
+      let b = line.head_boot (some above) in
+      let a = picked.longest s.server (w.line w.head) s.known s.listed (omega arith) (omega arith) in
+      omega arith;
+  same = λ above of_served at_head.
+      let s = seen above in
+      let e = line.head_seq in
+      let b = line.head_boot (some above) in
+      let a = picked.last_attempt s.server (w.line w.head) s.known s.listed (omega arith) (omega arith) (omega arith) in
+      let d = line.head_attempt x (picked_booked w list_of low x gathered picked shelf.lists) of_served at_head in
       shelf.names.apart x (w.line w.head) (omega arith) (omega arith) (omega arith);
 }
+  where
+    seen : low ≤ w.head → HeadListed w list_of
+    seen above = head_seen w list_of low gathering gathered shelf line spans sure above
+
+    some : low ≤ w.head → 0 < w.head
+    some above = let a = (late w list_of low gathered shelf).some in omega arith
 
 -- a member of the head whose list lacks it is of a later generation
 pub head_kept : (w : State) (list_of : ℕ → FencedPacket) (low j : ℕ) → w.phase ≡ 1 → Gathered w list_of low → ShelfInvariant w → Line w → Spans w → low ≤ w.head → j < w.member_count (w.line w.head) → (list_of (w.member_server (w.line w.head) j)).listed (w.line w.head) ≡ 0 → w.member_generation (w.line w.head) j < (list_of (w.member_server (w.line w.head) j)).generation

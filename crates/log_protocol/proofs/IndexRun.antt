@@ -1,6 +1,6 @@
 -- A run of the index of a block, as a term: two versions, an activation, a merge, a horizon, a Dead, a drop, a move, a second activation, a copy.
 -- Log 0 is a client's, log 1 the cleaner's; the manager of epoch 1 is followed by that of epoch 2.
-use Rattle.std.proofs.Common.{◌≡◌, ℕ, suc, ◌<◌, ◌≤◌, refl, arith}
+use Rattle.std.proofs.Common.{◌≡◌, ℕ, suc, ◌≤◌, refl, arith}
 use Rattle.std.proofs.lemmas.Bool.Decides.{nat_tests}
 use Rattle.log_protocol.specs.IndexState.{Entry, IndexState, new_block, Joins}
 use Rattle.log_protocol.specs.IndexSteps.{files, files_none, copies, indexes, keeps_horizon, moves, beats, drops_row, IndexSteps}

@@ -40,7 +40,11 @@ adopts_one_always w reached clean path q writing read beyond below some =
     let boot = (i.spans clean).content_head (path q) booked (omega arith) some in
     let f = (i.line clean).served_next (path q) booked boot in
     let one : q ≡ suc w.head = omega arith in
-    (one, i.shelf.contents.one_content (path q) booked ∙ (ap (λ z. w.content_at z (w.incarnation_of (path q))) (e ∙ one) ∙ ap (w.content_at (suc w.head)) boot))
+    record {
+      next = one;
+      boot = boot;
+      content = i.shelf.contents.one_content (path q) booked ∙ (ap (λ z. w.content_at z (w.incarnation_of (path q))) (e ∙ one) ∙ ap (w.content_at (suc w.head)) boot);
+    }
 
 pub feed_whole_always : (w : State) → Reached w → w.clean ≡ 1 → w.phase ≡ 4 → FeedWhole w
 feed_whole_always w reached clean serving = let i = always w reached in let l = i.line clean in record {

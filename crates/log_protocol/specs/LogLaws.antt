@@ -27,9 +27,15 @@ pub record OneLine (w : State) : Type 0 where
   pub no_gap : (q : ℕ) → 0 < q → q ≤ w.head → (x : ℕ) × (w.filed x ≡ 1) × (w.seq_of x ≡ q)
   pub linked : (x y : ℕ) → w.filed x ≡ 1 → w.filed y ≡ 1 → suc (w.seq_of y) ≡ w.seq_of x → w.low < w.seq_of x → w.prior_of x ≡ y
 
--- What a reopening adopts: beyond the head only the segment at head + 1 tells anything, and that is what the last boot that served had in flight there.
+-- a segment x of seq q is what was in flight: it is the one after the head, a name of the last boot that served, and tells what that boot's attempts there told
+pub record InFlightThen (w : State) (x q : ℕ) : Type 0 where
+  pub next : q ≡ suc w.head
+  pub boot : w.incarnation_of x ≡ w.served
+  pub content : w.content_of x ≡ w.content_at (suc w.head) w.served
+
+-- What a reopening adopts: of what it reads back beyond the head, only what the last boot that served had in flight tells anything.
 abbrev pub AdoptsOne : State → Type 0
-AdoptsOne w = (path : ℕ → ℕ) (q : ℕ) → w.phase ≡ 3 → ReadBack w path → w.head < q → q < w.opening_seq → 0 < w.content_of (path q) → (q ≡ suc w.head) × (w.content_of (path q) ≡ w.content_at (suc w.head) w.served)
+AdoptsOne w = (path : ℕ → ℕ) (q : ℕ) → w.phase ≡ 3 → ReadBack w path → w.head < q → q < w.opening_seq → 0 < w.content_of (path q) → InFlightThen w (path q) q
 
 -- What the feed tells: a serving owner's feed begins no later than the least horizon, and from there to the head it has the filed segments.
 pub record FeedWhole (w : State) : Type 0 where
