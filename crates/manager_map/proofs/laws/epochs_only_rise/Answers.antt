@@ -1,0 +1,16 @@
+use Rattle.std.proofs.Common.{arith}
+use Rattle.manager_map.specs.Slots.{start_entries}
+use Rattle.manager_map.proofs.Epochs.{moves_follow, moves_epoch, start_epoch}
+use Rattle.manager_map.proofs.laws.epochs_only_rise.Goals as goal
+
+pub returns-clause-never_fall : goal.returns-clause-never_fall
+returns-clause-never_fall c = λ slots moves slot. (moves_follow slots moves slot).never_below
+
+pub returns-clause-one_manager : goal.returns-clause-one_manager
+returns-clause-one_manager c = λ slots moves slot. (moves_follow slots moves slot).same_manager
+
+pub returns-clause-counted : goal.returns-clause-counted
+returns-clause-counted c = λ managers moves slot within.
+    let first = start_epoch managers slot within in
+    let all = moves_epoch (start_entries managers) moves slot within (omega arith) in
+    omega arith
