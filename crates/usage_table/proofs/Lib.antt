@@ -1,0 +1,4 @@
+pub mod Scratch
+pub mod SegOrder
+pub mod Sorted
+pub mod Table

@@ -1,0 +1,5 @@
+use Rattle.usage_table.proofs.Scratch.{counted_from_nothing}
+use Rattle.usage_table.proofs.laws.counts_from_scratch.Goals as goal
+
+pub returns : goal.returns
+returns c = counted_from_nothing

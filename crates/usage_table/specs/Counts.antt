@@ -1,0 +1,45 @@
+-- How many live blocks each segment has: the counts above 0, by segment.
+use Rattle.std.specs.Prelude.{ℕ, ◌+◌, ◌-◌, ◌<◌, Bool, false, if◌then◌else◌, nat_lt, List, Option, Some, None, All, unwrap_or}
+use Rattle.std.specs.Ordering.{is_eq}
+use Rattle.std.specs.Map.{lookup, keys_of, values_of, remove_entry, set_value}
+use Rattle.std.specs.BTreeMap.{is_at, insert_entry}
+use Rattle.std.specs.List.Sorted.{IsStrictlySortedBy}
+use Rattle.xfs_base.specs.declared.segment.SegName.{SegName}
+use Rattle.xfs_base.specs.Segments.{seg_cmp}
+
+-- the segments stand in order, each once, and none of them with 0
+pub record IsTable (counts : List (SegName × ℕ)) : Type 0 where
+  pub sorted : IsStrictlySortedBy seg_cmp (keys_of counts)
+  pub above_0 : All (λ count. 0 < count) (values_of counts)
+
+-- the live blocks of a segment: 0 where it isn't listed
+abbrev pub count_of : List (SegName × ℕ) → SegName → ℕ
+count_of counts seg = unwrap_or (lookup (is_at (seg_cmp seg)) counts) 0
+
+-- whether both ends of a shift are one segment
+abbrev pub is_same : Option SegName → Option SegName → Bool
+is_same None to = false
+is_same (Some from) None = false
+is_same (Some from) (Some to) = is_eq (seg_cmp from to)
+
+-- how many blocks a shift moves at this segment by this end: 1 where the end is the segment, else 0
+abbrev pub blocks_at : Option SegName → SegName → ℕ
+blocks_at None seg = 0
+blocks_at (Some end) seg = if is_eq (seg_cmp seg end) then 1 else 0
+
+-- the counts with one live block more for this segment, if it is one
+abbrev pub with_one_more : List (SegName × ℕ) → Option SegName → List (SegName × ℕ)
+with_one_more counts None = counts
+with_one_more counts (Some seg) = insert_entry seg_cmp counts seg (count_of counts seg + 1)
+
+-- the counts with one live block less for this segment; one that has none left isn't listed
+abbrev pub with_one_less : List (SegName × ℕ) → Option SegName → List (SegName × ℕ)
+with_one_less counts None = counts
+with_one_less counts (Some seg) =
+    if nat_lt 1 (count_of counts seg)
+    then set_value (is_at (seg_cmp seg)) counts (count_of counts seg - 1)
+    else remove_entry (is_at (seg_cmp seg)) counts
+
+-- the counts once one live block has left one segment and come to the other
+unfoldable pub after_shift : List (SegName × ℕ) → Option SegName → Option SegName → List (SegName × ℕ)
+after_shift counts from to = if is_same from to then counts else with_one_less (with_one_more counts to) from
