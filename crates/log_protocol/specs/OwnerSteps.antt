@@ -28,7 +28,7 @@ books w x text count server prior content =
       noted = λ i. 0;
     }
 
--- Seal: a serving owner with nothing in flight writes the segment after its end. (Section 2.2 of the 1996 paper: writes are batched into segments of a log.)
+-- Seal: a serving owner with nothing in flight writes the segment after its end. (The 1996 paper, "LFS": writes are batched into segments of a log.)
 pub record CanSeal (w : State) (x count : ℕ) (server : ℕ → ℕ) : Type 0 where
   -- the seal's own tests
   pub serving : w.phase ≡ 4

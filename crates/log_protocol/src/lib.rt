@@ -27,7 +27,7 @@ ghost use Rattle.log_protocol.specs.IndexRuns.{IndexMoved};
 
 /// Logs stay whole: in every run each member of a filed segment that isn't dropped holds its fragment, at its index,
 /// or its server is of a later generation than the segment's group names. So nothing but losses takes a fragment
-/// away. (Section 2.1 of the 1996 paper: a segment is striped over a group, one fragment a server.)
+/// away. (The 1996 paper, "Zebra": a segment is striped over a group, one fragment a server.)
 pub fn logs_whole()
     ensures whole { (w : State) → Reached w → LogsWhole w }
 {}
@@ -45,8 +45,8 @@ pub fn one_line()
 {}
 
 /// What a reopening adopts: while no doubtful opening has served, of what an opening reads back beyond the head only
-/// the segment at head + 1 tells anything, and it tells what the last boot that served had in flight there. (Section
-/// 2.2 of the 1996 paper: a log is rolled forward after a crash.)
+/// the segment at head + 1 tells anything, and it tells what the last boot that served had in flight there. (The
+/// 1996 paper, "LFS": a log is rolled forward after a crash.)
 pub fn what_reopening_adopts()
     ensures adopted { (w : State) → Reached w → w.clean ≡ 1 → AdoptsOne w }
 {}
@@ -97,13 +97,13 @@ pub fn numbers_name()
 {}
 
 /// The index is the join: in every run each active manager's index names the greatest of the rows that it applied,
-/// whichever manager has the slot, and whatever was lost or came twice. (Section 3.1 of the 1996 paper: the imap.)
+/// whichever manager has the slot, and whatever was lost or came twice. (The 1996 paper, "The Imap".)
 pub fn index_is_the_join()
     ensures join { (w : IndexState) → IndexReached w → IndexIsJoin w }
 {}
 
 /// Cleaning loses nothing: in every run the join of all that is filed never names a row that the cleaner dropped.
-/// (Section 2.2 of the 1996 paper: the cleaner copies what is live, and frees the rest.)
+/// (The 1996 paper, "LFS": the cleaner copies what is live, and frees the rest.)
 pub fn cleaning_loses_nothing()
     ensures nothing_lost { (w : IndexState) → IndexReached w → CleaningLosesNothing w }
 {}

@@ -14,8 +14,8 @@ const SLOTS: usize = 8;
 #[derive(Clone, Copy, Debug, PartialEq, Eq)]
 pub struct BadSlot;
 
-/// Which manager each slot has (section 3.2.1 of the 1996 paper: the manager map turns some bits of a
-/// file's index number into its manager). Contracts see it as the entries of slots 0 to 7.
+/// Which manager each slot has (the 1996 paper, "The Manager Map": it turns some bits of a file's
+/// index number into its manager). Contracts see it as the entries of slots 0 to 7.
 #[derive(Clone, Copy, Debug, PartialEq, Eq)]
 pub struct ManagerMap {
     slots: [SlotEntry; SLOTS],

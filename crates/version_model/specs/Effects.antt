@@ -41,7 +41,7 @@ settle chain [] h = h
 settle chain (t ∷ ts) h = settle chain ts (settle_falls (holds_flight chain t.flight) t.falls h)
 
 -- a write adds a version; a read of another's version and a sync pin; a fall waits until its client is back; no other act
--- changes a history (section 3.3 of the 1996 paper: consistency is per block, and a revoked owner flushes its changes)
+-- changes a history (the 1996 paper, "Cache Consistency": consistency is per block, and a revoked owner flushes its changes)
 abbrev pub after : Act → History → History
 after (Wrote client block value) h = change block (append (record { content = value; writer = client })) h
 after (Read client block ver value) h =

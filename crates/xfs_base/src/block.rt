@@ -4,15 +4,15 @@ ghost use Rattle.xfs_base.specs.Blocks.{block_cmp, same_block, slot_of, creator_
 
 use std::cmp::Ordering;
 
-/// The index number of a file (section 3.1 of the 1996 paper). Its low 3 bits name the slot of the
-/// manager map, the next 4 bits the client that created the file, 0 for none, and the upper 25 bits are
-/// a counter. The root directory is 0.
+/// The index number of a file (the 1996 paper, "File Directories and Index Numbers"). Its low 3 bits name
+/// the slot of the manager map, the next 4 bits the client that created the file, 0 for none, and the
+/// upper 25 bits are a counter. The root directory is 0.
 #[derive(Clone, Copy, Debug, PartialEq, Eq, PartialOrd, Ord, Hash)]
 pub struct Ino(pub u32);
 
 impl Ino {
     /// The slot of the manager map, 0 to 7: some bits of a file's index number select its manager
-    /// (section 3.2.1 of the 1996 paper).
+    /// (the 1996 paper, "The Manager Map").
     pub fn slot(self) -> u8
         ensures { result ≡ slot_of self.0 }
     {
@@ -35,8 +35,8 @@ impl Ino {
     }
 }
 
-/// A block of a file: the unit of caching and of ownership (section 3.3 of the 1996 paper). Blocks of a
-/// file count from 0. The order is by index number, then by block number.
+/// A block of a file: the unit of caching and of ownership (the 1996 paper, "Cache Consistency").
+/// Blocks of a file count from 0. The order is by index number, then by block number.
 #[derive(Clone, Copy, Debug, PartialEq, Eq, PartialOrd, Ord, Hash)]
 pub struct BlockId {
     /// The file.

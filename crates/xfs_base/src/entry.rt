@@ -10,7 +10,7 @@ pub struct Place {
     pub item: u16,
 }
 
-/// What an index holds of a block (section 3.1 of the 1996 paper: the imap and the index nodes give a
+/// What an index holds of a block (the 1996 paper, "The Imap": the imap and the index nodes give a
 /// block's place). Version 0 is Absent, and an entry without a place is of an absent version.
 #[derive(Clone, Copy, Debug, PartialEq, Eq)]
 pub struct Entry {

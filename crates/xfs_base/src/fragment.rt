@@ -19,7 +19,7 @@ pub struct FragMeta {
     pub len: u32,
 }
 
-/// One part of a segment's stripe (section 2.1 of the 1996 paper).
+/// One part of a segment's stripe (the 1996 paper, "RAID").
 #[derive(Drop)]
 pub struct Fragment {
     /// What it is a part of.

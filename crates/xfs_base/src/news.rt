@@ -4,7 +4,7 @@ ghost use Rattle.std.specs.Prelude.{◌≡◌, IfOk};
 use crate::{Copied, List, Mem, SegRef};
 use std::alloc::Global;
 
-/// One slot of the manager map (section 3.2.1 of the 1996 paper), with its newest checkpoint.
+/// One slot of the manager map (the 1996 paper, "The Manager Map"), with its newest checkpoint.
 #[derive(Drop)]
 pub struct SlotNews {
     /// The slot, 0 to 7.

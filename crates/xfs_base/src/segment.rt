@@ -55,7 +55,7 @@ impl SegName {
     }
 }
 
-/// A segment and the stripe group over which it lies (section 3.4 of the 1996 paper: a log address holds
+/// A segment and the stripe group over which it lies (the 1996 paper, "The Stripe Group Map": a log address holds
 /// the group).
 #[derive(Clone, Copy, Debug, PartialEq, Eq, PartialOrd, Ord)]
 pub struct SegRef {

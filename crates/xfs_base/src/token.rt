@@ -30,7 +30,7 @@ impl Stamp {
     }
 }
 
-/// What a client may do with a block that it caches (section 3.3 of the 1996 paper).
+/// What a client may do with a block that it caches (the 1996 paper, "Cache Consistency").
 #[derive(Clone, Copy, Debug, PartialEq, Eq, PartialOrd, Ord)]
 pub enum Mode {
     /// It holds nothing.
