@@ -1,0 +1,7 @@
+pub mod AlwaysCurrent
+pub mod FallingGenerations
+pub mod KeptGroups
+pub mod Numbers
+pub mod Stripes
+pub mod TestGroups
+pub mod WellFormedMaps

@@ -1,0 +1,5 @@
+pub mod GroupMapState
+pub mod Groups
+pub mod Losses
+pub mod Sizes
+pub mod WellFormed

@@ -1,0 +1,31 @@
+-- What is true of every stripe group map.
+use Rattle.std.specs.Prelude.{◌≡◌, ℕ, ◌+◌, ◌≤◌, ⊤, IsTrue, List, [], ◌∷◌, All, length, map, nat_eq}
+use Rattle.std.specs.List.{list_any, IsDistinct}
+use Rattle.group_map.specs.declared.group.Group.{Group}
+use Rattle.group_map.specs.declared.group.Member.{Member}
+use Rattle.group_map.specs.GroupMapState.{GroupMapState}
+use Rattle.group_map.specs.Sizes.{is_group_size}
+
+-- a server of this many, which are numbered from 1
+abbrev pub IsServer : ℕ → ℕ → Type 0
+IsServer servers s = (1 ≤ s) × (s ≤ servers)
+
+-- the members of a group: as many as a group may have, servers that exist and that differ
+pub record IsStripe (servers : ℕ) (members : List Member) : Type 0 where
+  pub size : IsTrue (is_group_size (length members))
+  pub exist : All (λ m. IsServer servers m.server) members
+  pub differ : IsDistinct nat_eq (map (λ m. m.server) members)
+
+-- the ids count up from this one
+abbrev pub IsNumbered : ℕ → List Group → Type 0
+IsNumbered id [] = ⊤
+IsNumbered id (g ∷ gs) = (g.id ≡ id) × IsNumbered (id + 1) gs
+
+-- there is a generation for each server, ids count from 1, each group is one of 3 to 8 servers that
+-- exist and differ, and one group at least is current
+pub record IsGroupMap (state : GroupMapState) : Type 0 where
+  pub each_server : length state.generations ≡ state.servers
+  pub by_id : IsNumbered 1 state.groups
+  pub few : length state.groups ≤ 4294967295
+  pub stripes : All (λ g. IsStripe state.servers g.members) state.groups
+  pub current : IsTrue (list_any (λ g. g.current) state.groups)

@@ -1,0 +1,22 @@
+//! Why there is no map, or no group.
+use thiserror::Error;
+use xfs_base::Crosses;
+
+/// Why groups of servers make no map.
+#[derive(Debug, Drop, Error)]
+pub enum GroupError {
+    /// The first size of a group that has fewer than 3 or more than 8 servers.
+    #[error("a stripe group has 3 to 8 servers, and not {0}")]
+    BadSize(usize),
+    /// Want of memory.
+    #[error("out of memory")]
+    Memory,
+}
+
+/// No group has this id.
+#[derive(Clone, Copy, Debug, PartialEq, Eq)]
+pub struct NoGroup(pub u32);
+
+impl Crosses for GroupError {}
+
+impl Crosses for NoGroup {}

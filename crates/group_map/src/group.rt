@@ -1,0 +1,76 @@
+//! One stripe group.
+ghost use Rattle.std.specs.Prelude.{◌≡◌, IfOk};
+ghost use Rattle.group_map.specs.Groups.{has_server, is_hit};
+ghost use Rattle.group_map.specs.Sizes.{is_group_size};
+
+use std::alloc::Global;
+use xfs_base::{Copied, Crosses, List, Mem};
+
+/// A server as a member of a group.
+#[derive(Clone, Copy, Debug, PartialEq, Eq)]
+pub struct Member {
+    /// The number of the storage server, from 1.
+    pub server: u8,
+    /// Its generation when the group was made. A server with a greater one has lost its part of what was
+    /// striped over the group.
+    pub generation: u32,
+}
+
+/// A stripe group: the servers over which segments are striped (section 3.4 of the 1996 paper). New
+/// segments go to current groups alone; an obsolete one stays, so that old segments can be read.
+#[derive(Drop)]
+pub struct Group {
+    /// The id, from 1.
+    pub id: u32,
+    /// The servers, 3 to 8 that differ. Fragment i of a segment lies at the member at place i.
+    pub members: List<Member>,
+    /// Whether new segments go to it.
+    pub current: bool,
+}
+
+impl Group {
+    /// A group equal to this one.
+    pub fn copy(&self, alloc: Global) -> Mem<Group>
+        ensures { IfOk result (λ copied. copied ≡ self.now) }
+    {
+        Ok(Group {
+            id: self.id,
+            members: self.members.copy(alloc)?,
+            current: self.current,
+        })
+    }
+
+    /// Whether the server is a member.
+    pub fn has(&self, server: u8) -> bool
+        ensures { result ≡ has_server server self.now }
+    {
+        self.members
+            .as_slice()
+            .iter()
+            .any(|member| member.server == server)
+    }
+
+    /// Whether a loss of the server ends the group.
+    pub(crate) fn is_hit(&self, server: u8) -> bool
+        ensures { result ≡ is_hit server self.now }
+    {
+        self.current && self.has(server)
+    }
+}
+
+impl Copied for Group {
+    fn copied(&self, alloc: Global) -> Mem<Group> {
+        self.copy(alloc)
+    }
+}
+
+impl Crosses for Member {}
+
+impl Crosses for Group {}
+
+/// Whether a group may have this many servers.
+pub(crate) fn is_group_size(size: usize) -> bool
+    ensures { result ≡ is_group_size size }
+{
+    3 <= size && size <= 8
+}

@@ -1,0 +1,53 @@
+//! The parts of a map at its start.
+ghost use Rattle.std.specs.Prelude.{◌≡◌, ◌≤◌, IfOk, length, map};
+ghost use Rattle.group_map.specs.Groups.{first_members, numbered};
+ghost use Rattle.group_map.specs.Sizes.{bad_size};
+
+use crate::group::is_group_size;
+use crate::{Group, Member};
+use std::alloc::Global;
+use xfs_base::{List, Mem};
+
+/// The first size of these groups that no group may have.
+pub(crate) fn first_bad_size(groups: &[List<u8>]) -> Option<usize>
+    ensures { result ≡ bad_size groups.now }
+{
+    for servers in groups {
+        if !is_group_size(servers.len()) {
+            return Some(servers.len());
+        }
+    }
+    None
+}
+
+/// These servers at generation 1.
+fn members_of(alloc: Global, servers: &[u8]) -> Mem<List<Member>>
+    ensures { IfOk result (λ members. members ≡ first_members servers.now) }
+{
+    let mut members = List::new(alloc);
+    for server in servers {
+        members.push(Member {
+            server: *server,
+            generation: 1,
+        })?;
+    }
+    Ok(members)
+}
+
+/// Current groups of these servers, with ids from 1.
+pub(crate) fn first_groups(alloc: Global, groups: &[List<u8>]) -> Mem<List<Group>>
+    requires { length groups.now ≤ 4294967295 }
+    ensures { IfOk result (λ made. made ≡ numbered 1 (map first_members groups.now)) }
+{
+    let mut made = List::new(alloc);
+    for servers in groups {
+        let id = made.len() as u32 + 1;
+        let members = members_of(alloc, servers.as_slice())?;
+        made.push(Group {
+            id,
+            members,
+            current: true,
+        })?;
+    }
+    Ok(made)
+}
