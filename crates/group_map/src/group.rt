@@ -16,7 +16,7 @@ pub struct Member {
     pub generation: u32,
 }
 
-/// A stripe group: the servers over which segments are striped (section 3.4 of the 1996 paper). New
+/// A stripe group: the servers over which segments are striped (the 1996 paper, "The Stripe Group Map"). New
 /// segments go to current groups alone; an obsolete one stays, so that old segments can be read.
 #[derive(Drop)]
 pub struct Group {

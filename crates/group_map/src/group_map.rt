@@ -12,7 +12,7 @@ use std::alloc::Global;
 use std::marker::Model;
 use xfs_base::{Copied, Crosses, List, LogId, Mem, copy_each};
 
-/// The stripe group map (section 3.4 of the 1996 paper): all groups that were ever made, by id, and the
+/// The stripe group map (the 1996 paper, "The Stripe Group Map"): all groups that were ever made, by id, and the
 /// generation of each storage server, which rises with each loss of what the server kept. One group at
 /// least is current.
 #[derive(Drop)]
