@@ -1,0 +1,78 @@
+-- The awaited Recall of a client was sent, and is the newest that it was sent. Depends on: stamps.
+use Rattle.std.proofs.Common.{◌<◌, ◌≤◌, ℕ, Bool, arith}
+use Rattle.std.proofs.lemmas.Bool.Decides.{nat_tests}
+use Rattle.token_protocol.specs.Basics.{In}
+use Rattle.token_protocol.specs.Packets.{Offer, Recall}
+use Rattle.token_protocol.specs.World.{World, start}
+use Rattle.token_protocol.specs.Managing.{MayRecall, recalls}
+use Rattle.token_protocol.specs.Step.{Step}
+use Rattle.token_protocol.specs.Step.Step.{Asks, AsksAgain, DropsWant, DropsFetch, Offers, Recalls, WritesFirst, Declines, TakesAbsent, TakesSupply, TakesPlace, Fetches, Writes, Reads, Syncs, Evicts, Gives, GivesAgain, Notes, Applies, Turns, SealsWith, Seals, Settles, CrashesDirty, CrashesClean, RestartsAdopting, RestartsDiscarding, Promises, Reports, Activates, SealsCopy, SealsOther, SettlesCopy, DiscardsCopy, Loses}
+use Rattle.token_protocol.proofs.layers.bookkeeping.Stamps.{Stamps}
+
+pub record Awaiting (w : World) : Type 0 where
+  -- The awaited Recall was sent, with what it lets keep.
+  pub awaited_sent : (c : ℕ) → 0 < w.awaited c → In (record { client = c; stamp = w.awaited c; keep = w.keep c }) w.recalls
+  -- No Recall to a client is newer than the awaited one.
+  pub recall_awaited : (r : Recall) → In r w.recalls → 0 < w.awaited r.client → r.stamp ≤ w.awaited r.client
+  -- A client has acted on nothing newer than the Recall that is awaited of it.
+  pub stamp_awaited : (c : ℕ) → 0 < w.awaited c → (w.client c).stamp ≤ w.awaited c
+  -- Nothing is offered to a client of which a Recall is awaited: every offer to it is older.
+  pub offer_awaited : (g : Offer) → In g w.offers → 0 < w.awaited g.client → g.stamp < w.awaited g.client
+  -- An awaited Recall lets keep at most a copy.
+  pub keep_small : (c : ℕ) → 0 < w.awaited c → w.keep c ≤ 1
+
+recall_keeps_awaiting : (w : World) (who keep : ℕ) → MayRecall keep → Stamps w → Awaiting w → Awaiting (recalls w who keep)
+recall_keeps_awaiting w who keep h stamps awaiting = record {
+  awaited_sent = λ c k0. grind (arith, nat_tests, awaiting.awaited_sent c);
+  recall_awaited = λ r k0 k1. grind (arith, nat_tests, awaiting.recall_awaited r, stamps.recall_turn r);
+  stamp_awaited = λ c k0. grind (arith, nat_tests, awaiting.stamp_awaited c, stamps.stamp_turn c);
+  offer_awaited = λ g k0 k1. grind (arith, nat_tests, awaiting.offer_awaited g, stamps.offer_turn g k0);
+  keep_small = λ c k0. grind (arith, nat_tests, awaiting.keep_small c);
+}
+
+pub keeps : (logs : Bool) (w v : World) → Step logs w v → Stamps w → Awaiting w → Awaiting v
+keeps logs w v (Asks who mode request end h k) stamps awaiting = grind (arith, nat_tests)
+keeps logs w v (AsksAgain who end h k) stamps awaiting = grind (arith, nat_tests)
+keeps logs w v (DropsWant who) stamps awaiting = grind (arith, nat_tests)
+keeps logs w v (DropsFetch who) stamps awaiting = grind (arith, nat_tests)
+keeps logs w v (Offers asked h k) stamps awaiting = grind (arith, nat_tests)
+keeps logs w v (Recalls who keep h) stamps awaiting = recall_keeps_awaiting w who keep h stamps awaiting
+keeps logs w v (WritesFirst taken value h) stamps awaiting = grind (arith, nat_tests)
+keeps logs w v (Declines taken h) stamps awaiting = grind (arith, nat_tests)
+keeps logs w v (TakesAbsent taken h t) stamps awaiting = grind (arith, nat_tests)
+keeps logs w v (TakesSupply taken value h t) stamps awaiting = grind (arith, nat_tests)
+keeps logs w v (TakesPlace taken h t) stamps awaiting = grind (arith, nat_tests)
+keeps logs w v (Fetches who value h k) stamps awaiting = grind (arith, nat_tests)
+keeps logs w v (Writes who value h) stamps awaiting = grind (arith, nat_tests)
+keeps logs w v (Reads who h) stamps awaiting = grind (arith, nat_tests)
+keeps logs w v (Syncs who version h) stamps awaiting = grind (arith, nat_tests)
+keeps logs w v (Evicts who h) stamps awaiting = grind (arith, nat_tests)
+keeps logs w v (Gives answered end h k) stamps awaiting = grind (arith, nat_tests)
+keeps logs w v (GivesAgain answered end h k) stamps awaiting = grind (arith, nat_tests)
+keeps logs w v (Notes noted h) stamps awaiting = grind (arith, nat_tests)
+keeps logs w v (Applies who upto e h k) stamps awaiting = grind (arith, nat_tests)
+keeps logs w v Turns stamps awaiting = grind (arith, nat_tests)
+keeps logs w v (SealsWith who h) stamps awaiting = grind (arith, nat_tests)
+keeps logs w v (Seals who h) stamps awaiting = grind (arith, nat_tests)
+keeps logs w v (Settles who h) stamps awaiting = grind (arith, nat_tests)
+keeps logs w v (CrashesDirty who h) stamps awaiting = grind (arith, nat_tests)
+keeps logs w v (CrashesClean who h) stamps awaiting = grind (arith, nat_tests)
+keeps logs w v (RestartsAdopting who incarnation promised h k) stamps awaiting = grind (arith, nat_tests)
+keeps logs w v (RestartsDiscarding who incarnation promised h) stamps awaiting = grind (arith, nat_tests)
+keeps logs w v (Promises who epoch h) stamps awaiting = grind (arith, nat_tests)
+keeps logs w v (Reports who end h k) stamps awaiting = grind (arith, nat_tests)
+keeps logs w v (Activates epoch report applied e h k) stamps awaiting = grind (arith, nat_tests)
+keeps logs w v (SealsCopy who log segment h k) stamps awaiting = grind (arith, nat_tests)
+keeps logs w v (SealsOther who h) stamps awaiting = grind (arith, nat_tests)
+keeps logs w v (SettlesCopy who h) stamps awaiting = grind (arith, nat_tests)
+keeps logs w v (DiscardsCopy who h) stamps awaiting = grind (arith, nat_tests)
+keeps logs w v (Loses x h) stamps awaiting = grind (arith, nat_tests)
+
+pub begins : (n : ℕ) → Awaiting (start n)
+begins n = record {
+  awaited_sent = λ c k0. grind (arith, nat_tests);
+  recall_awaited = λ r k0 k1. absurd k0;
+  stamp_awaited = λ c k0. grind (arith, nat_tests);
+  offer_awaited = λ g k0 k1. absurd k0;
+  keep_small = λ c k0. grind (arith, nat_tests);
+}

@@ -1,0 +1,21 @@
+-- Layer 3, client crashes: a client that fell with the block dirty is still believed to own it. It stands on bookkeeping and tokens.
+pub mod Fallen
+use Rattle.std.proofs.Common.{ℕ, true}
+use Rattle.token_protocol.specs.World.{World, start}
+use Rattle.token_protocol.specs.Step.{Step}
+use Rattle.token_protocol.proofs.layers.bookkeeping.{Bookkeeping}
+use Rattle.token_protocol.proofs.layers.tokens.{Tokens}
+
+pub record Crash (w : World) : Type 0 where
+  pub fallen : Fallen.Fallen w
+
+-- Each group is kept by each step, given the groups and layers before it alone.
+pub keeps : (w v : World) → Step true w v → Bookkeeping w → Tokens w → Crash w → Crash v
+keeps w v step book tokens crash = record {
+  fallen = Fallen.keeps w v step book tokens crash.fallen;
+}
+
+pub begins : (n : ℕ) → Crash (start n)
+begins n = record {
+  fallen = Fallen.begins n;
+}

@@ -1,0 +1,101 @@
+-- A report to a manager above the reigning one stays true until that manager reigns. Depends on: bookkeeping, giving.
+use Rattle.std.proofs.Common.{◌≡◌, ◌<◌, ◌≤◌, ℕ, Bool, arith}
+use Rattle.std.proofs.lemmas.Bool.Decides.{nat_tests}
+use Rattle.token_protocol.specs.Basics.{In}
+use Rattle.token_protocol.specs.Entry.{Entry}
+use Rattle.token_protocol.specs.Packets.{Recall, Gave, Report}
+use Rattle.token_protocol.specs.World.{World, start}
+use Rattle.token_protocol.specs.Managing.{MayRecall, MayNote, recalls, notes}
+use Rattle.token_protocol.specs.Takeover.{MayPromise, MayReport, MayActivate, promises, reports, activates}
+use Rattle.token_protocol.specs.Step.{Step}
+use Rattle.token_protocol.specs.Step.Step.{Asks, AsksAgain, DropsWant, DropsFetch, Offers, Recalls, WritesFirst, Declines, TakesAbsent, TakesSupply, TakesPlace, Fetches, Writes, Reads, Syncs, Evicts, Gives, GivesAgain, Notes, Applies, Turns, SealsWith, Seals, Settles, CrashesDirty, CrashesClean, RestartsAdopting, RestartsDiscarding, Promises, Reports, Activates, SealsCopy, SealsOther, SettlesCopy, DiscardsCopy, Loses}
+use Rattle.token_protocol.proofs.layers.bookkeeping.{Bookkeeping}
+use Rattle.token_protocol.proofs.layers.tokens.Giving.{Giving}
+
+pub record Reporting (w : World) : Type 0 where
+  -- Who has reported for a later epoch holds no more than it reported.
+  pub report_mode : (y : Report) → In y w.reports → w.epoch < y.epoch → (w.client y.client).mode ≤ y.mode
+  -- Of two reports of one client, the one for the later epoch tells of no more: two managers may be asking at once.
+  pub report_order : (y : Report) (z : Report) → In y w.reports → In z w.reports → y.client ≡ z.client → w.epoch < z.epoch → z.epoch < y.epoch → y.mode ≤ z.mode
+  -- Who gave for the awaited Recall has reported no more than it let keep.
+  pub report_given : (y : Report) (x : Gave) → In y w.reports → w.epoch < y.epoch → In x w.gaves → x.client ≡ y.client → w.awaited y.client ≡ x.stamp → y.mode ≤ w.keep y.client
+
+recall_keeps_reporting : (w : World) (who keep : ℕ) → MayRecall keep → Bookkeeping w → Giving w → Reporting w → Reporting (recalls w who keep)
+recall_keeps_reporting w who keep h book giving reporting = record {
+  report_mode = reporting.report_mode;
+  report_order = reporting.report_order;
+  report_given = λ y x k0 k1 k2 k3 k4. grind (arith, nat_tests, reporting.report_given y x, book.stamps.gave_turn x k2);
+}
+
+note_keeps_reporting : (w : World) (noted : Gave) → MayNote w noted → Bookkeeping w → Giving w → Reporting w → Reporting (notes w noted)
+note_keeps_reporting w noted h book giving reporting = record {
+  report_mode = reporting.report_mode;
+  report_order = reporting.report_order;
+  report_given = λ y x k0 k1 k2 k3 k4. grind (arith, nat_tests, reporting.report_given y x);
+}
+
+promise_keeps_reporting : (w : World) (who epoch : ℕ) → MayPromise w who epoch → Bookkeeping w → Giving w → Reporting w → Reporting (promises w who epoch)
+promise_keeps_reporting w who epoch h book giving reporting = record {
+  report_mode = λ y k0 k1. grind (arith, nat_tests, reporting.report_mode y);
+  report_order = λ y z k0 k1 k2 k3 k4. grind (arith, nat_tests, reporting.report_order y z);
+  report_given = λ y x k0 k1 k2 k3 k4. grind (arith, nat_tests, reporting.report_given y x);
+}
+
+report_keeps_reporting : (w : World) (who end : ℕ) → MayReport w who → Bookkeeping w → Giving w → Reporting w → Reporting (reports w who end)
+report_keeps_reporting w who end h book giving reporting = record {
+  report_mode = λ y k0 k1. grind (arith, nat_tests, reporting.report_mode y);
+  report_order = λ y z k0 k1 k2 k3 k4. grind (arith, nat_tests, reporting.report_order y z);
+  report_given = λ y x k0 k1 k2 k3 k4. grind (arith, nat_tests, reporting.report_given y x);
+}
+
+activate_keeps_reporting : (w : World) (epoch : ℕ) (report : ℕ → Report) (applied : ℕ → ℕ) (e : Entry) → MayActivate w epoch report → Bookkeeping w → Giving w → Reporting w → Reporting (activates w epoch report applied e)
+activate_keeps_reporting w epoch report applied e h book giving reporting = record {
+  report_mode = λ y k0 k1. grind (arith, nat_tests, reporting.report_mode y);
+  report_order = λ y z k0 k1 k2 k3 k4. grind (arith, nat_tests, reporting.report_order y z);
+  report_given = λ y x k0 k1 k2 k3 k4. grind (arith, nat_tests, reporting.report_given y x);
+}
+
+pub keeps : (logs : Bool) (w v : World) → Step logs w v → Bookkeeping w → Giving w → Reporting w → Reporting v
+keeps logs w v (Asks who mode request end h k) book giving reporting = grind (arith, nat_tests)
+keeps logs w v (AsksAgain who end h k) book giving reporting = grind (arith, nat_tests)
+keeps logs w v (DropsWant who) book giving reporting = grind (arith, nat_tests)
+keeps logs w v (DropsFetch who) book giving reporting = grind (arith, nat_tests)
+keeps logs w v (Offers asked h k) book giving reporting = grind (arith, nat_tests)
+keeps logs w v (Recalls who keep h) book giving reporting = recall_keeps_reporting w who keep h book giving reporting
+keeps logs w v (WritesFirst taken value h) book giving reporting = grind (arith, nat_tests)
+keeps logs w v (Declines taken h) book giving reporting = grind (arith, nat_tests)
+keeps logs w v (TakesAbsent taken h t) book giving reporting = grind (arith, nat_tests)
+keeps logs w v (TakesSupply taken value h t) book giving reporting = grind (arith, nat_tests)
+keeps logs w v (TakesPlace taken h t) book giving reporting = grind (arith, nat_tests)
+keeps logs w v (Fetches who value h k) book giving reporting = grind (arith, nat_tests)
+keeps logs w v (Writes who value h) book giving reporting = grind (arith, nat_tests)
+keeps logs w v (Reads who h) book giving reporting = grind (arith, nat_tests)
+keeps logs w v (Syncs who version h) book giving reporting = grind (arith, nat_tests)
+keeps logs w v (Evicts who h) book giving reporting = grind (arith, nat_tests)
+keeps logs w v (Gives answered end h k) book giving reporting = grind (arith, nat_tests)
+keeps logs w v (GivesAgain answered end h k) book giving reporting = grind (arith, nat_tests)
+keeps logs w v (Notes noted h) book giving reporting = note_keeps_reporting w noted h book giving reporting
+keeps logs w v (Applies who upto e h k) book giving reporting = grind (arith, nat_tests)
+keeps logs w v Turns book giving reporting = grind (arith, nat_tests)
+keeps logs w v (SealsWith who h) book giving reporting = grind (arith, nat_tests)
+keeps logs w v (Seals who h) book giving reporting = grind (arith, nat_tests)
+keeps logs w v (Settles who h) book giving reporting = grind (arith, nat_tests)
+keeps logs w v (CrashesDirty who h) book giving reporting = grind (arith, nat_tests)
+keeps logs w v (CrashesClean who h) book giving reporting = grind (arith, nat_tests)
+keeps logs w v (RestartsAdopting who incarnation promised h k) book giving reporting = grind (arith, nat_tests)
+keeps logs w v (RestartsDiscarding who incarnation promised h) book giving reporting = grind (arith, nat_tests)
+keeps logs w v (Promises who epoch h) book giving reporting = promise_keeps_reporting w who epoch h book giving reporting
+keeps logs w v (Reports who end h k) book giving reporting = report_keeps_reporting w who end h book giving reporting
+keeps logs w v (Activates epoch report applied e h k) book giving reporting = activate_keeps_reporting w epoch report applied e h book giving reporting
+keeps logs w v (SealsCopy who log segment h k) book giving reporting = grind (arith, nat_tests)
+keeps logs w v (SealsOther who h) book giving reporting = grind (arith, nat_tests)
+keeps logs w v (SettlesCopy who h) book giving reporting = grind (arith, nat_tests)
+keeps logs w v (DiscardsCopy who h) book giving reporting = grind (arith, nat_tests)
+keeps logs w v (Loses x h) book giving reporting = grind (arith, nat_tests)
+
+pub begins : (n : ℕ) → Reporting (start n)
+begins n = record {
+  report_mode = λ y k0 k1. absurd k0;
+  report_order = λ y z k0 k1 k2 k3 k4. absurd k0;
+  report_given = λ y x k0 k1 k2 k3 k4. absurd k0;
+}

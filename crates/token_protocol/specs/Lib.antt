@@ -1,0 +1,16 @@
+pub mod Basics
+pub mod Entry
+pub mod Client
+pub mod Packets
+pub mod World
+pub mod Premises
+pub mod Asking
+pub mod Managing
+pub mod Taking
+pub mod Using
+pub mod Giving
+pub mod Logging
+pub mod Crashing
+pub mod Takeover
+pub mod Cleaning
+pub mod Step
