@@ -1,1 +1,3 @@
 pub mod layers
+pub mod Invariant
+pub mod Laws

@@ -42,7 +42,7 @@ pub record MayRestart (w : World) (c : ℕ) (incarnation : ℕ) (promised : ℕ)
 abbrev pub back : Client → ℕ → ℕ → Client
 back x incarnation promised = record x { serving = 1; incarnation = incarnation; promised = promised; request = 0 }
 
--- The tail is adopted: the segment in flight is filed, and the history is cut to what it says.
+-- The tail is adopted: the segment in flight is filed, the history is cut to what it says, and pinned there.
 abbrev pub restarts_adopting : World → ℕ → ℕ → ℕ → World
 restarts_adopting w c incarnation promised =
     let row = flying_row w c in
@@ -52,13 +52,14 @@ restarts_adopting w c incarnation promised =
       flight = put w.flight c 0;
       end = put w.end c (suc (w.end c));
       newest = if w.fallen c == 1 then w.cut_high c else w.newest;
+      pinned = if w.fallen c == 1 then w.cut_high c else w.pinned;
       fallen = put w.fallen c 0;
       join_version = if above then row.version else w.join_version;
       join_log = if above then c else w.join_log;
       join_segment = if above then suc (w.end c) else w.join_segment;
     }
 
--- The tail is discarded, or there is none: the history is cut to what was settled.
+-- The tail is discarded, or there is none: the history is cut to what was settled, and pinned there.
 abbrev pub restarts_discarding : World → ℕ → ℕ → ℕ → World
 restarts_discarding w c incarnation promised =
     record w {
@@ -66,6 +67,7 @@ restarts_discarding w c incarnation promised =
       flight = put w.flight c 0;
       rows = put w.rows c (put (w.rows c) (suc (w.end c)) no_row);
       newest = if w.fallen c == 1 then w.cut_low c else w.newest;
+      pinned = if w.fallen c == 1 then w.cut_low c else w.pinned;
       fallen = put w.fallen c 0;
     }
 

@@ -14,3 +14,5 @@ pub mod Crashing
 pub mod Takeover
 pub mod Cleaning
 pub mod Step
+pub mod Laws
+pub mod Growth

@@ -90,20 +90,26 @@ Clean w c = (w.client c).version ≤ (w.client c).settled
 abbrev pub flying_row : World → ℕ → Row
 flying_row w c = w.rows c (suc (w.end c))
 
--- The client may still take this offer: it listens to the reigning manager, has acted on nothing as new, and this want of this incarnation is open.
-pub record Live (w : World) (g : Offer) : Type 0 where
-  pub heard : (w.client g.client).promised ≡ w.epoch
-  pub newer : (w.client g.client).stamp < g.stamp
-  pub wanted : (w.client g.client).want ≡ g.mode
-  pub incarnation : (w.client g.client).incarnation ≡ g.incarnation
-  pub request : (w.client g.client).request ≡ g.request
+-- A client may still take an offer: it listens to the reigning manager, has acted on nothing as new, and this want of this incarnation is open.
+pub record Acceptable (x : Client) (epoch : ℕ) (g : Offer) : Type 0 where
+  pub heard : x.promised ≡ epoch
+  pub newer : x.stamp < g.stamp
+  pub wanted : x.want ≡ g.mode
+  pub incarnation : x.incarnation ≡ g.incarnation
+  pub request : x.request ≡ g.request
   pub some : 0 < g.mode
 
--- The entry's place is a row of a filed segment, with the entry's version.
-pub record Placed (w : World) (e : Entry) : Type 0 where
-  pub row : (w.rows e.log e.segment).version ≡ e.version
-  pub filed : e.segment ≤ w.end e.log
+abbrev pub Live : World → Offer → Type 0
+Live w g = Acceptable (w.client g.client) w.epoch g
+
+-- An entry's place is a row of a filed segment, with the entry's version.
+pub record FiledPlace (rows : ℕ → ℕ → Row) (end : ℕ → ℕ) (e : Entry) : Type 0 where
+  pub row : (rows e.log e.segment).version ≡ e.version
+  pub filed : e.segment ≤ end e.log
   pub some : 0 < e.version
+
+abbrev pub Placed : World → Entry → Type 0
+Placed w e = FiledPlace w.rows w.end e
 
 -- The row that an index entry was made of.
 pub record FiledAt (w : World) (e : Entry) (log : ℕ) (segment : ℕ) : Type 0 where

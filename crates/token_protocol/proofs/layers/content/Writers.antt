@@ -2,7 +2,10 @@
 use Rattle.std.proofs.Common.{◌≡◌, ◌<◌, ◌≤◌, ℕ, true, arith}
 use Rattle.std.proofs.lemmas.Bool.Decides.{nat_tests}
 use Rattle.std.proofs.lemmas.Bool.{true≢false}
+use Rattle.token_protocol.specs.Packets.{Recall}
 use Rattle.token_protocol.specs.World.{World, start}
+use Rattle.token_protocol.specs.Premises.{SettledEnd}
+use Rattle.token_protocol.specs.Giving.{MayGive, gives}
 use Rattle.token_protocol.specs.Step.{Step}
 use Rattle.token_protocol.specs.Step.Step.{Asks, AsksAgain, DropsWant, DropsFetch, Offers, Recalls, WritesFirst, Declines, TakesAbsent, TakesSupply, TakesPlace, Fetches, Writes, Reads, Syncs, Evicts, Gives, GivesAgain, Notes, Applies, Turns, SealsWith, Seals, Settles, CrashesDirty, CrashesClean, RestartsAdopting, RestartsDiscarding, Promises, Reports, Activates, SealsCopy, SealsOther, SettlesCopy, DiscardsCopy, Loses}
 use Rattle.token_protocol.proofs.layers.bookkeeping.{Bookkeeping}
@@ -17,6 +20,9 @@ pub record Writers (w : World) : Type 0 where
   pub above_writer : (v : ℕ) → w.join_version < v → v ≤ w.newest → w.writer v ≡ w.last_writer
   -- What someone else read, or what was synced, is filed.
   pub pinned_join : w.pinned ≤ w.join_version
+
+give_keeps_writers : (w : World) (answered : Recall) (end : ℕ) → MayGive w answered → SettledEnd w answered.client end → Bookkeeping w → Tokens w → Crash w → Versions w → Writers w → Writers (gives w answered end)
+give_keeps_writers w answered end h k book tokens crash versions writers = grind (arith, nat_tests)
 
 pub keeps : (w v : World) → Step true w v → Bookkeeping w → Tokens w → Crash w → Versions w → Writers w → Writers v
 keeps w v (Asks who mode request end h k) book tokens crash versions writers = grind (arith, nat_tests)
@@ -35,7 +41,7 @@ keeps w v (Writes who value h) book tokens crash versions writers = grind (arith
 keeps w v (Reads who h) book tokens crash versions writers = grind (arith, nat_tests)
 keeps w v (Syncs who version h) book tokens crash versions writers = grind (arith, nat_tests)
 keeps w v (Evicts who h) book tokens crash versions writers = grind (arith, nat_tests)
-keeps w v (Gives answered end h k) book tokens crash versions writers = grind (arith, nat_tests)
+keeps w v (Gives answered end h k) book tokens crash versions writers = give_keeps_writers w answered end h k book tokens crash versions writers
 keeps w v (GivesAgain answered end h k) book tokens crash versions writers = grind (arith, nat_tests)
 keeps w v (Notes noted h) book tokens crash versions writers = grind (arith, nat_tests)
 keeps w v (Applies who upto e h k) book tokens crash versions writers = grind (arith, nat_tests)

@@ -1,12 +1,10 @@
 -- Who fell with the block dirty is down, is believed to own it, and has said nothing to the contrary. Depends on: bookkeeping, tokens.
-use Rattle.std.proofs.Common.{◌≡◌, ◌<◌, ◌≤◌, ℕ, suc, true, arith}
+use Rattle.std.proofs.Common.{◌≡◌, ◌<◌, ◌≤◌, ℕ, suc, Bool, arith}
 use Rattle.std.proofs.lemmas.Bool.Decides.{nat_tests}
-use Rattle.std.proofs.lemmas.Bool.{true≢false}
 use Rattle.token_protocol.specs.Basics.{In}
 use Rattle.token_protocol.specs.Entry.{Entry}
 use Rattle.token_protocol.specs.Packets.{Want, Recall, Gave, Report}
 use Rattle.token_protocol.specs.World.{World, start}
-use Rattle.token_protocol.specs.Premises.{SettledEnd, TailAdopted, EndsApplied, IndexGathered}
 use Rattle.token_protocol.specs.Managing.{MayOffer, MayRecall, MayNote, offers, recalls, notes}
 use Rattle.token_protocol.specs.Giving.{MayGive, MayGiveAgain, gives, gives_again}
 use Rattle.token_protocol.specs.Crashing.{MayCrashDirty, MayRestart, crashes_dirty, restarts_adopting, restarts_discarding}
@@ -30,8 +28,8 @@ pub record Fallen (w : World) : Type 0 where
   -- Who fell with the block dirty has reported for later epochs that it owns it.
   pub report_fallen : (y : Report) → In y w.reports → w.epoch < y.epoch → w.fallen y.client ≡ 1 → y.mode ≡ 2
 
-offer_keeps_fallen : (w : World) (asked : Want) → MayOffer w asked → EndsApplied w asked → Bookkeeping w → Tokens w → Fallen w → Fallen (offers w asked)
-offer_keeps_fallen w asked h k book tokens fallen = record {
+offer_keeps_fallen : (w : World) (asked : Want) → MayOffer w asked → Bookkeeping w → Tokens w → Fallen w → Fallen (offers w asked)
+offer_keeps_fallen w asked h book tokens fallen = record {
   fallen_one = fallen.fallen_one;
   outsider_fallen = fallen.outsider_fallen;
   fallen_down = fallen.fallen_down;
@@ -50,8 +48,8 @@ recall_keeps_fallen w who keep h book tokens fallen = record {
   report_fallen = fallen.report_fallen;
 }
 
-give_keeps_fallen : (w : World) (answered : Recall) (end : ℕ) → MayGive w answered → SettledEnd w answered.client end → Bookkeeping w → Tokens w → Fallen w → Fallen (gives w answered end)
-give_keeps_fallen w answered end h k book tokens fallen = record {
+give_keeps_fallen : (w : World) (answered : Recall) (end : ℕ) → MayGive w answered → Bookkeeping w → Tokens w → Fallen w → Fallen (gives w answered end)
+give_keeps_fallen w answered end h book tokens fallen = record {
   fallen_one = fallen.fallen_one;
   outsider_fallen = fallen.outsider_fallen;
   fallen_down = λ c k0. grind (arith, nat_tests, fallen.fallen_down c);
@@ -60,8 +58,8 @@ give_keeps_fallen w answered end h k book tokens fallen = record {
   report_fallen = fallen.report_fallen;
 }
 
-give_again_keeps_fallen : (w : World) (answered : Recall) (end : ℕ) → MayGiveAgain w answered → SettledEnd w answered.client end → Bookkeeping w → Tokens w → Fallen w → Fallen (gives_again w answered end)
-give_again_keeps_fallen w answered end h k book tokens fallen = record {
+give_again_keeps_fallen : (w : World) (answered : Recall) (end : ℕ) → MayGiveAgain w answered → Bookkeeping w → Tokens w → Fallen w → Fallen (gives_again w answered end)
+give_again_keeps_fallen w answered end h book tokens fallen = record {
   fallen_one = fallen.fallen_one;
   outsider_fallen = fallen.outsider_fallen;
   fallen_down = fallen.fallen_down;
@@ -90,8 +88,8 @@ crash_dirty_keeps_fallen w who h book tokens fallen = record {
   report_fallen = λ y k0 k1 k2. grind (arith, nat_tests, fallen.report_fallen y, tokens.reporting.report_mode y k0 k1, book.asking.dirty_owned who, tokens.believing.report_belief y k0 k1, tokens.believing.single y.client (suc y.client));
 }
 
-restart_adopting_keeps_fallen : (w : World) (who incarnation promised : ℕ) → MayRestart w who incarnation promised → TailAdopted w who → Bookkeeping w → Tokens w → Fallen w → Fallen (restarts_adopting w who incarnation promised)
-restart_adopting_keeps_fallen w who incarnation promised h k book tokens fallen = record {
+restart_adopting_keeps_fallen : (w : World) (who incarnation promised : ℕ) → MayRestart w who incarnation promised → Bookkeeping w → Tokens w → Fallen w → Fallen (restarts_adopting w who incarnation promised)
+restart_adopting_keeps_fallen w who incarnation promised h book tokens fallen = record {
   fallen_one = λ c. grind (arith, nat_tests, fallen.fallen_one c);
   outsider_fallen = λ c k0. grind (arith, nat_tests, fallen.outsider_fallen c);
   fallen_down = λ c k0. grind (arith, nat_tests, fallen.fallen_down c);
@@ -110,8 +108,8 @@ restart_discarding_keeps_fallen w who incarnation promised h book tokens fallen 
   report_fallen = λ y k0 k1 k2. grind (arith, nat_tests, fallen.report_fallen y);
 }
 
-report_keeps_fallen : (w : World) (who end : ℕ) → MayReport w who → SettledEnd w who end → Bookkeeping w → Tokens w → Fallen w → Fallen (reports w who end)
-report_keeps_fallen w who end h k book tokens fallen = record {
+report_keeps_fallen : (w : World) (who end : ℕ) → MayReport w who → Bookkeeping w → Tokens w → Fallen w → Fallen (reports w who end)
+report_keeps_fallen w who end h book tokens fallen = record {
   fallen_one = fallen.fallen_one;
   outsider_fallen = fallen.outsider_fallen;
   fallen_down = fallen.fallen_down;
@@ -120,8 +118,8 @@ report_keeps_fallen w who end h k book tokens fallen = record {
   report_fallen = λ y k0 k1 k2. grind (arith, nat_tests, fallen.report_fallen y);
 }
 
-activate_keeps_fallen : (w : World) (epoch : ℕ) (report : ℕ → Report) (applied : ℕ → ℕ) (e : Entry) → MayActivate w epoch report → IndexGathered w report applied e → Bookkeeping w → Tokens w → Fallen w → Fallen (activates w epoch report applied e)
-activate_keeps_fallen w epoch report applied e h k book tokens fallen = record {
+activate_keeps_fallen : (w : World) (epoch : ℕ) (report : ℕ → Report) (applied : ℕ → ℕ) (e : Entry) → MayActivate w epoch report → Bookkeeping w → Tokens w → Fallen w → Fallen (activates w epoch report applied e)
+activate_keeps_fallen w epoch report applied e h book tokens fallen = record {
   fallen_one = λ c. grind (arith, nat_tests, fallen.fallen_one c);
   outsider_fallen = λ c k0. grind (arith, nat_tests, fallen.outsider_fallen c);
   fallen_down = λ c k0. grind (arith, nat_tests, fallen.fallen_down c);
@@ -130,43 +128,43 @@ activate_keeps_fallen w epoch report applied e h k book tokens fallen = record {
   report_fallen = λ y k0 k1 k2. grind (arith, nat_tests, fallen.report_fallen y);
 }
 
-pub keeps : (w v : World) → Step true w v → Bookkeeping w → Tokens w → Fallen w → Fallen v
-keeps w v (Asks who mode request end h k) book tokens fallen = grind (arith, nat_tests)
-keeps w v (AsksAgain who end h k) book tokens fallen = grind (arith, nat_tests)
-keeps w v (DropsWant who) book tokens fallen = grind (arith, nat_tests)
-keeps w v (DropsFetch who) book tokens fallen = grind (arith, nat_tests)
-keeps w v (Offers asked h k) book tokens fallen = offer_keeps_fallen w asked h k book tokens fallen
-keeps w v (Recalls who keep h) book tokens fallen = recall_keeps_fallen w who keep h book tokens fallen
-keeps w v (WritesFirst taken value h) book tokens fallen = grind (arith, nat_tests)
-keeps w v (Declines taken h) book tokens fallen = grind (arith, nat_tests)
-keeps w v (TakesAbsent taken h t) book tokens fallen = grind (arith, nat_tests)
-keeps w v (TakesSupply taken value h t) book tokens fallen = grind (arith, nat_tests)
-keeps w v (TakesPlace taken h t) book tokens fallen = grind (arith, nat_tests)
-keeps w v (Fetches who value h k) book tokens fallen = grind (arith, nat_tests)
-keeps w v (Writes who value h) book tokens fallen = grind (arith, nat_tests)
-keeps w v (Reads who h) book tokens fallen = grind (arith, nat_tests)
-keeps w v (Syncs who version h) book tokens fallen = grind (arith, nat_tests)
-keeps w v (Evicts who h) book tokens fallen = grind (arith, nat_tests)
-keeps w v (Gives answered end h k) book tokens fallen = give_keeps_fallen w answered end h k book tokens fallen
-keeps w v (GivesAgain answered end h k) book tokens fallen = give_again_keeps_fallen w answered end h k book tokens fallen
-keeps w v (Notes noted h) book tokens fallen = note_keeps_fallen w noted h book tokens fallen
-keeps w v (Applies who upto e h k) book tokens fallen = grind (arith, nat_tests)
-keeps w v Turns book tokens fallen = grind (arith, nat_tests)
-keeps w v (SealsWith who h) book tokens fallen = grind (arith, nat_tests)
-keeps w v (Seals who h) book tokens fallen = grind (arith, nat_tests)
-keeps w v (Settles who h) book tokens fallen = grind (arith, nat_tests)
-keeps w v (CrashesDirty who h) book tokens fallen = crash_dirty_keeps_fallen w who h book tokens fallen
-keeps w v (CrashesClean who h) book tokens fallen = grind (arith, nat_tests)
-keeps w v (RestartsAdopting who incarnation promised h k) book tokens fallen = restart_adopting_keeps_fallen w who incarnation promised h k book tokens fallen
-keeps w v (RestartsDiscarding who incarnation promised h) book tokens fallen = restart_discarding_keeps_fallen w who incarnation promised h book tokens fallen
-keeps w v (Promises who epoch h) book tokens fallen = grind (arith, nat_tests)
-keeps w v (Reports who end h k) book tokens fallen = report_keeps_fallen w who end h k book tokens fallen
-keeps w v (Activates epoch report applied e h k) book tokens fallen = activate_keeps_fallen w epoch report applied e h k book tokens fallen
-keeps w v (SealsCopy who log segment h k) book tokens fallen = grind (arith, nat_tests)
-keeps w v (SealsOther who h) book tokens fallen = grind (arith, nat_tests)
-keeps w v (SettlesCopy who h) book tokens fallen = grind (arith, nat_tests)
-keeps w v (DiscardsCopy who h) book tokens fallen = grind (arith, nat_tests)
-keeps w v (Loses x h) book tokens fallen = absurd (true≢false h)
+pub keeps : (logs : Bool) (w v : World) → Step logs w v → Bookkeeping w → Tokens w → Fallen w → Fallen v
+keeps logs w v (Asks who mode request end h k) book tokens fallen = grind (arith, nat_tests)
+keeps logs w v (AsksAgain who end h k) book tokens fallen = grind (arith, nat_tests)
+keeps logs w v (DropsWant who) book tokens fallen = grind (arith, nat_tests)
+keeps logs w v (DropsFetch who) book tokens fallen = grind (arith, nat_tests)
+keeps logs w v (Offers asked h k) book tokens fallen = offer_keeps_fallen w asked h book tokens fallen
+keeps logs w v (Recalls who keep h) book tokens fallen = recall_keeps_fallen w who keep h book tokens fallen
+keeps logs w v (WritesFirst taken value h) book tokens fallen = grind (arith, nat_tests)
+keeps logs w v (Declines taken h) book tokens fallen = grind (arith, nat_tests)
+keeps logs w v (TakesAbsent taken h t) book tokens fallen = grind (arith, nat_tests)
+keeps logs w v (TakesSupply taken value h t) book tokens fallen = grind (arith, nat_tests)
+keeps logs w v (TakesPlace taken h t) book tokens fallen = grind (arith, nat_tests)
+keeps logs w v (Fetches who value h k) book tokens fallen = grind (arith, nat_tests)
+keeps logs w v (Writes who value h) book tokens fallen = grind (arith, nat_tests)
+keeps logs w v (Reads who h) book tokens fallen = grind (arith, nat_tests)
+keeps logs w v (Syncs who version h) book tokens fallen = grind (arith, nat_tests)
+keeps logs w v (Evicts who h) book tokens fallen = grind (arith, nat_tests)
+keeps logs w v (Gives answered end h k) book tokens fallen = give_keeps_fallen w answered end h book tokens fallen
+keeps logs w v (GivesAgain answered end h k) book tokens fallen = give_again_keeps_fallen w answered end h book tokens fallen
+keeps logs w v (Notes noted h) book tokens fallen = note_keeps_fallen w noted h book tokens fallen
+keeps logs w v (Applies who upto e h k) book tokens fallen = grind (arith, nat_tests)
+keeps logs w v Turns book tokens fallen = grind (arith, nat_tests)
+keeps logs w v (SealsWith who h) book tokens fallen = grind (arith, nat_tests)
+keeps logs w v (Seals who h) book tokens fallen = grind (arith, nat_tests)
+keeps logs w v (Settles who h) book tokens fallen = grind (arith, nat_tests)
+keeps logs w v (CrashesDirty who h) book tokens fallen = crash_dirty_keeps_fallen w who h book tokens fallen
+keeps logs w v (CrashesClean who h) book tokens fallen = grind (arith, nat_tests)
+keeps logs w v (RestartsAdopting who incarnation promised h k) book tokens fallen = restart_adopting_keeps_fallen w who incarnation promised h book tokens fallen
+keeps logs w v (RestartsDiscarding who incarnation promised h) book tokens fallen = restart_discarding_keeps_fallen w who incarnation promised h book tokens fallen
+keeps logs w v (Promises who epoch h) book tokens fallen = grind (arith, nat_tests)
+keeps logs w v (Reports who end h k) book tokens fallen = report_keeps_fallen w who end h book tokens fallen
+keeps logs w v (Activates epoch report applied e h k) book tokens fallen = activate_keeps_fallen w epoch report applied e h book tokens fallen
+keeps logs w v (SealsCopy who log segment h k) book tokens fallen = grind (arith, nat_tests)
+keeps logs w v (SealsOther who h) book tokens fallen = grind (arith, nat_tests)
+keeps logs w v (SettlesCopy who h) book tokens fallen = grind (arith, nat_tests)
+keeps logs w v (DiscardsCopy who h) book tokens fallen = grind (arith, nat_tests)
+keeps logs w v (Loses x h) book tokens fallen = grind (arith, nat_tests)
 
 pub begins : (n : ℕ) → Fallen (start n)
 begins n = record {

@@ -8,11 +8,11 @@ use Rattle.token_protocol.specs.Packets.{Want, Offer, Report}
 use Rattle.token_protocol.specs.World.{World, start, Placed, Filed}
 use Rattle.token_protocol.specs.Premises.{TailAdopted, EndsApplied, IndexCovers, IndexGathered, OriginalFiled}
 use Rattle.token_protocol.specs.Managing.{MayOffer, MayApply, offers, applies}
-use Rattle.token_protocol.specs.Taking.{MayTake, IsAbsent, IsSupplied, IsPlaced, writes_first, declines, takes_value, takes_place}
+use Rattle.token_protocol.specs.Taking.{MayTake, IsPlaced, takes_place}
 use Rattle.token_protocol.specs.Logging.{MaySealWith, MaySettle, seals_with, settles}
 use Rattle.token_protocol.specs.Crashing.{MayRestart, restarts_adopting, restarts_discarding}
 use Rattle.token_protocol.specs.Takeover.{MayActivate, activates}
-use Rattle.token_protocol.specs.Cleaning.{MaySealCopy, MayDiscardCopy, seals_copy, discards_copy}
+use Rattle.token_protocol.specs.Cleaning.{MaySealCopy, MaySettleCopy, MayDiscardCopy, seals_copy, settles_copy, discards_copy}
 use Rattle.token_protocol.specs.Step.{Step}
 use Rattle.token_protocol.specs.Step.Step.{Asks, AsksAgain, DropsWant, DropsFetch, Offers, Recalls, WritesFirst, Declines, TakesAbsent, TakesSupply, TakesPlace, Fetches, Writes, Reads, Syncs, Evicts, Gives, GivesAgain, Notes, Applies, Turns, SealsWith, Seals, Settles, CrashesDirty, CrashesClean, RestartsAdopting, RestartsDiscarding, Promises, Reports, Activates, SealsCopy, SealsOther, SettlesCopy, DiscardsCopy, Loses}
 use Rattle.token_protocol.proofs.layers.bookkeeping.{Bookkeeping}
@@ -60,72 +60,32 @@ merged_row w e (inr filed) index = filed_row w e filed
 
 offer_keeps_index : (w : World) (asked : Want) → MayOffer w asked → EndsApplied w asked → Bookkeeping w → Logs w → Joined w → Index w → Index (offers w asked)
 offer_keeps_index w asked h k book logs joined index = record {
-  index_rows = λ c q k0. grind (arith, nat_tests, index.index_rows c q);
-  index_join = grind (arith, nat_tests, index.index_join);
-  index_row = λ k0. grind (arith, nat_tests, index.index_row);
+  index_rows = index.index_rows;
+  index_join = index.index_join;
+  index_row = index.index_row;
   offer_join = λ g k0. grind (arith, nat_tests, index.offer_join g);
   offer_row = λ g k0 k1. grind (arith, nat_tests, index.offer_row g);
-  fetch_row = λ c k0. grind (arith, nat_tests, index.fetch_row c);
-}
-
-write_first_keeps_index : (w : World) (taken : Offer) (value : ℕ) → MayTake w taken 2 → Bookkeeping w → Logs w → Joined w → Index w → Index (writes_first w taken value)
-write_first_keeps_index w taken value h book logs joined index = record {
-  index_rows = λ c q k0. grind (arith, nat_tests, index.index_rows c q);
-  index_join = grind (arith, nat_tests, index.index_join);
-  index_row = λ k0. grind (arith, nat_tests, index.index_row);
-  offer_join = λ g k0. grind (arith, nat_tests, index.offer_join g);
-  offer_row = λ g k0 k1. grind (arith, nat_tests, index.offer_row g);
-  fetch_row = λ c k0. grind (arith, nat_tests, index.fetch_row c);
-}
-
-decline_keeps_index : (w : World) (taken : Offer) → MayTake w taken 2 → Bookkeeping w → Logs w → Joined w → Index w → Index (declines w taken)
-decline_keeps_index w taken h book logs joined index = record {
-  index_rows = λ c q k0. grind (arith, nat_tests, index.index_rows c q);
-  index_join = grind (arith, nat_tests, index.index_join);
-  index_row = λ k0. grind (arith, nat_tests, index.index_row);
-  offer_join = λ g k0. grind (arith, nat_tests, index.offer_join g);
-  offer_row = λ g k0 k1. grind (arith, nat_tests, index.offer_row g);
-  fetch_row = λ c k0. grind (arith, nat_tests, index.fetch_row c);
-}
-
-take_absent_keeps_index : (w : World) (taken : Offer) → MayTake w taken 1 → IsAbsent taken → Bookkeeping w → Logs w → Joined w → Index w → Index (takes_value w taken 0)
-take_absent_keeps_index w taken h t book logs joined index = record {
-  index_rows = λ c q k0. grind (arith, nat_tests, index.index_rows c q);
-  index_join = grind (arith, nat_tests, index.index_join);
-  index_row = λ k0. grind (arith, nat_tests, index.index_row);
-  offer_join = λ g k0. grind (arith, nat_tests, index.offer_join g);
-  offer_row = λ g k0 k1. grind (arith, nat_tests, index.offer_row g);
-  fetch_row = λ c k0. grind (arith, nat_tests, index.fetch_row c);
-}
-
-take_supply_keeps_index : (w : World) (taken : Offer) (value : ℕ) → MayTake w taken 1 → IsSupplied w taken value → Bookkeeping w → Logs w → Joined w → Index w → Index (takes_value w taken value)
-take_supply_keeps_index w taken value h t book logs joined index = record {
-  index_rows = λ c q k0. grind (arith, nat_tests, index.index_rows c q);
-  index_join = grind (arith, nat_tests, index.index_join);
-  index_row = λ k0. grind (arith, nat_tests, index.index_row);
-  offer_join = λ g k0. grind (arith, nat_tests, index.offer_join g);
-  offer_row = λ g k0 k1. grind (arith, nat_tests, index.offer_row g);
-  fetch_row = λ c k0. grind (arith, nat_tests, index.fetch_row c);
+  fetch_row = index.fetch_row;
 }
 
 take_place_keeps_index : (w : World) (taken : Offer) → MayTake w taken 1 → IsPlaced taken → Bookkeeping w → Logs w → Joined w → Index w → Index (takes_place w taken)
 take_place_keeps_index w taken h t book logs joined index = record {
-  index_rows = λ c q k0. grind (arith, nat_tests, index.index_rows c q);
-  index_join = grind (arith, nat_tests, index.index_join);
-  index_row = λ k0. grind (arith, nat_tests, index.index_row);
-  offer_join = λ g k0. grind (arith, nat_tests, index.offer_join g);
-  offer_row = λ g k0 k1. grind (arith, nat_tests, index.offer_row g);
+  index_rows = index.index_rows;
+  index_join = index.index_join;
+  index_row = index.index_row;
+  offer_join = index.offer_join;
+  offer_row = index.offer_row;
   fetch_row = λ c k0. grind (arith, nat_tests, index.fetch_row c, index.offer_row taken h.sent);
 }
 
 apply_keeps_index : (w : World) (who upto : ℕ) (e : Entry) → MayApply w who upto → IndexCovers w who upto e → Bookkeeping w → Logs w → Joined w → Index w → Index (applies w who upto e)
 apply_keeps_index w who upto e h k book logs joined index = record {
   index_rows = λ c q k0. grind (arith, nat_tests, index.index_rows c q);
-  index_join = merged_version w e k.source joined index;
-  index_row = λ k0. grind (arith, nat_tests, merged_row w e k.source index k0);
-  offer_join = λ g k0. grind (arith, nat_tests, index.offer_join g);
-  offer_row = λ g k0 k1. grind (arith, nat_tests, index.offer_row g);
-  fetch_row = λ c k0. grind (arith, nat_tests, index.fetch_row c);
+  index_join =  merged_version w e k.source joined index;
+  index_row = λ k0. grind (arith, nat_tests,  merged_row w e k.source index k0);
+  offer_join = index.offer_join;
+  offer_row = index.offer_row;
+  fetch_row = index.fetch_row;
 }
 
 seal_with_keeps_index : (w : World) (who : ℕ) → MaySealWith w who → Bookkeeping w → Logs w → Joined w → Index w → Index (seals_with w who)
@@ -171,11 +131,11 @@ restart_discarding_keeps_index w who incarnation promised h book logs joined ind
 activate_keeps_index : (w : World) (epoch : ℕ) (report : ℕ → Report) (applied : ℕ → ℕ) (e : Entry) → MayActivate w epoch report → IndexGathered w report applied e → Bookkeeping w → Logs w → Joined w → Index w → Index (activates w epoch report applied e)
 activate_keeps_index w epoch report applied e h k book logs joined index = record {
   index_rows = λ c q k0. grind (arith, nat_tests, index.index_rows c q);
-  index_join = filed_version w e k.source joined;
-  index_row = λ k0. grind (arith, nat_tests, filed_row w e k.source k0);
+  index_join =  filed_version w e k.source joined;
+  index_row = λ k0. grind (arith, nat_tests,  filed_row w e k.source k0);
   offer_join = λ g k0. grind (arith, nat_tests, index.offer_join g);
   offer_row = λ g k0 k1. grind (arith, nat_tests, index.offer_row g);
-  fetch_row = λ c k0. grind (arith, nat_tests, index.fetch_row c);
+  fetch_row = index.fetch_row;
 }
 
 seal_copy_keeps_index : (w : World) (who log segment : ℕ) → MaySealCopy w who → OriginalFiled w log segment → Bookkeeping w → Logs w → Joined w → Index w → Index (seals_copy w who log segment)
@@ -187,6 +147,9 @@ seal_copy_keeps_index w who log segment h k book logs joined index = record {
   offer_row = λ g k0 k1. grind (arith, nat_tests, index.offer_row g);
   fetch_row = λ c k0. grind (arith, nat_tests, index.fetch_row c);
 }
+
+settle_copy_keeps_index : (w : World) (who : ℕ) → MaySettleCopy w who → Bookkeeping w → Logs w → Joined w → Index w → Index (settles_copy w who)
+settle_copy_keeps_index w who h book logs joined index = grind (arith, nat_tests)
 
 discard_copy_keeps_index : (w : World) (who : ℕ) → MayDiscardCopy w who → Bookkeeping w → Logs w → Joined w → Index w → Index (discards_copy w who)
 discard_copy_keeps_index w who h book logs joined index = record {
@@ -205,10 +168,10 @@ keeps w v (DropsWant who) book logs joined index = grind (arith, nat_tests)
 keeps w v (DropsFetch who) book logs joined index = grind (arith, nat_tests)
 keeps w v (Offers asked h k) book logs joined index = offer_keeps_index w asked h k book logs joined index
 keeps w v (Recalls who keep h) book logs joined index = grind (arith, nat_tests)
-keeps w v (WritesFirst taken value h) book logs joined index = write_first_keeps_index w taken value h book logs joined index
-keeps w v (Declines taken h) book logs joined index = decline_keeps_index w taken h book logs joined index
-keeps w v (TakesAbsent taken h t) book logs joined index = take_absent_keeps_index w taken h t book logs joined index
-keeps w v (TakesSupply taken value h t) book logs joined index = take_supply_keeps_index w taken value h t book logs joined index
+keeps w v (WritesFirst taken value h) book logs joined index = grind (arith, nat_tests)
+keeps w v (Declines taken h) book logs joined index = grind (arith, nat_tests)
+keeps w v (TakesAbsent taken h t) book logs joined index = grind (arith, nat_tests)
+keeps w v (TakesSupply taken value h t) book logs joined index = grind (arith, nat_tests)
 keeps w v (TakesPlace taken h t) book logs joined index = take_place_keeps_index w taken h t book logs joined index
 keeps w v (Fetches who value h k) book logs joined index = grind (arith, nat_tests)
 keeps w v (Writes who value h) book logs joined index = grind (arith, nat_tests)
@@ -232,7 +195,7 @@ keeps w v (Reports who end h k) book logs joined index = grind (arith, nat_tests
 keeps w v (Activates epoch report applied e h k) book logs joined index = activate_keeps_index w epoch report applied e h k book logs joined index
 keeps w v (SealsCopy who log segment h k) book logs joined index = seal_copy_keeps_index w who log segment h k book logs joined index
 keeps w v (SealsOther who h) book logs joined index = grind (arith, nat_tests)
-keeps w v (SettlesCopy who h) book logs joined index = grind (arith, nat_tests)
+keeps w v (SettlesCopy who h) book logs joined index = settle_copy_keeps_index w who h book logs joined index
 keeps w v (DiscardsCopy who h) book logs joined index = discard_copy_keeps_index w who h book logs joined index
 keeps w v (Loses x h) book logs joined index = absurd (true≢false h)
 

@@ -6,6 +6,7 @@ use Rattle.token_protocol.specs.Entry.{Entry}
 use Rattle.token_protocol.specs.Packets.{Recall, Gave, Report}
 use Rattle.token_protocol.specs.World.{World, start}
 use Rattle.token_protocol.specs.Managing.{MayRecall, MayNote, recalls, notes}
+use Rattle.token_protocol.specs.Giving.{MayGive, MayGiveAgain, gives, gives_again}
 use Rattle.token_protocol.specs.Takeover.{MayPromise, MayReport, MayActivate, promises, reports, activates}
 use Rattle.token_protocol.specs.Step.{Step}
 use Rattle.token_protocol.specs.Step.Step.{Asks, AsksAgain, DropsWant, DropsFetch, Offers, Recalls, WritesFirst, Declines, TakesAbsent, TakesSupply, TakesPlace, Fetches, Writes, Reads, Syncs, Evicts, Gives, GivesAgain, Notes, Applies, Turns, SealsWith, Seals, Settles, CrashesDirty, CrashesClean, RestartsAdopting, RestartsDiscarding, Promises, Reports, Activates, SealsCopy, SealsOther, SettlesCopy, DiscardsCopy, Loses}
@@ -26,6 +27,12 @@ recall_keeps_reporting w who keep h book giving reporting = record {
   report_order = reporting.report_order;
   report_given = λ y x k0 k1 k2 k3 k4. grind (arith, nat_tests, reporting.report_given y x, book.stamps.gave_turn x k2);
 }
+
+give_keeps_reporting : (w : World) (answered : Recall) (end : ℕ) → MayGive w answered → Bookkeeping w → Giving w → Reporting w → Reporting (gives w answered end)
+give_keeps_reporting w answered end h book giving reporting = grind (arith, nat_tests)
+
+give_again_keeps_reporting : (w : World) (answered : Recall) (end : ℕ) → MayGiveAgain w answered → Bookkeeping w → Giving w → Reporting w → Reporting (gives_again w answered end)
+give_again_keeps_reporting w answered end h book giving reporting = grind (arith, nat_tests)
 
 note_keeps_reporting : (w : World) (noted : Gave) → MayNote w noted → Bookkeeping w → Giving w → Reporting w → Reporting (notes w noted)
 note_keeps_reporting w noted h book giving reporting = record {
@@ -72,8 +79,8 @@ keeps logs w v (Writes who value h) book giving reporting = grind (arith, nat_te
 keeps logs w v (Reads who h) book giving reporting = grind (arith, nat_tests)
 keeps logs w v (Syncs who version h) book giving reporting = grind (arith, nat_tests)
 keeps logs w v (Evicts who h) book giving reporting = grind (arith, nat_tests)
-keeps logs w v (Gives answered end h k) book giving reporting = grind (arith, nat_tests)
-keeps logs w v (GivesAgain answered end h k) book giving reporting = grind (arith, nat_tests)
+keeps logs w v (Gives answered end h k) book giving reporting = give_keeps_reporting w answered end h book giving reporting
+keeps logs w v (GivesAgain answered end h k) book giving reporting = give_again_keeps_reporting w answered end h book giving reporting
 keeps logs w v (Notes noted h) book giving reporting = note_keeps_reporting w noted h book giving reporting
 keeps logs w v (Applies who upto e h k) book giving reporting = grind (arith, nat_tests)
 keeps logs w v Turns book giving reporting = grind (arith, nat_tests)
