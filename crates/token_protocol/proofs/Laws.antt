@@ -1,8 +1,7 @@
 -- Each law is read off the invariant.
-use Rattle.std.proofs.Common.{◌≡◌, ℕ, ◌+◌, ◌<◌, ◌≤◌, Bool, true, ap, ◌∙◌, arith}
-use Rattle.token_protocol.specs.World.{World, start}
-use Rattle.token_protocol.specs.Step.{Steps}
-use Rattle.token_protocol.specs.Laws.{SingleOwner, EpochPromised, BeliefsCover, AcceptableBelieved, HasNewest, HoldersNewest, ReadsLegal, JoinIsJoin, JoinNewest, DirtyLeads, NoHolderAfterFall, FallsLegal, ReturnsLegal}
+use Rattle.std.proofs.Common.{◌≡◌, ap, ◌∙◌, arith}
+use Rattle.token_protocol.specs.World.{World}
+use Rattle.token_protocol.specs.Laws.{SingleOwner, EpochPromised, BeliefsCover, AcceptableBelieved, HoldersNewest, ReadsLegal, JoinIsJoin, JoinNewest, DirtyLeads, NoHolderAfterFall, FallsLegal, ReturnsLegal}
 use Rattle.token_protocol.proofs.Invariant.{Owned, Invariant}
 
 -- Of tokens alone.
@@ -43,8 +42,8 @@ join_newest w i clean none =
     record {
       version = same;
       value = λ some.
-        let row = i.filing.joined.join_row (omega arith) in
-        i.content.values.rows_value w.join_log w.join_segment (let r = row.0 in omega arith) ∙ ap w.value_at (row.0 ∙ same);
+          let row = i.filing.joined.join_row (omega arith) in
+          i.content.values.rows_value w.join_log w.join_segment (let r = row.0 in omega arith) ∙ ap w.value_at (row.0 ∙ same);
     }
 
 -- Who is dirty or fell wrote all versions above the join: it is the last writer.

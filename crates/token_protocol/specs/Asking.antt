@@ -1,7 +1,6 @@
 -- Asking for a mode, and giving up asking.
 use Rattle.std.specs.Prelude.{◌≡◌, ℕ, ◌<◌, ◌≤◌, ◌∷◌}
 use Rattle.token_protocol.specs.Basics.{put}
-use Rattle.token_protocol.specs.Packets.{Want}
 use Rattle.token_protocol.specs.World.{World}
 
 -- A serving client that holds less than it needs, with no want open, asks under a request number that it has never used in this incarnation.

@@ -1,7 +1,7 @@
 -- Answering a Recall.
 use Rattle.std.specs.Prelude.{◌≡◌, ℕ, ◌<◌, ◌∷◌, min}
 use Rattle.token_protocol.specs.Basics.{put, In}
-use Rattle.token_protocol.specs.Packets.{Recall, Gave}
+use Rattle.token_protocol.specs.Packets.{Recall}
 use Rattle.token_protocol.specs.World.{World, Clean}
 
 -- A serving client gives a clean block up to a sent Recall of the manager that it listens to, if that is newer than what it has acted on.

@@ -16,3 +16,7 @@ pub mod Cleaning
 pub mod Step
 pub mod Laws
 pub mod Growth
+pub mod Stamps
+pub mod Example
+pub mod Acts
+pub mod Told

@@ -1,8 +1,8 @@
 -- What the reigning manager does: offers, recalls, noted answers, applied logs.
-use Rattle.std.specs.Prelude.{◌≡◌, ℕ, suc, ◌+◌, ◌<◌, ◌≤◌, ◌∷◌, min, max}
+use Rattle.std.specs.Prelude.{◌≡◌, ℕ, suc, ◌+◌, ◌≤◌, ◌∷◌, min, max}
 use Rattle.token_protocol.specs.Basics.{put, In}
 use Rattle.token_protocol.specs.Entry.{Entry}
-use Rattle.token_protocol.specs.Packets.{Want, Offer, Recall, Gave}
+use Rattle.token_protocol.specs.Packets.{Want, Gave}
 use Rattle.token_protocol.specs.World.{World}
 
 -- The manager offers a sent want's mode once nobody else is believed to hold what excludes it and nothing is awaited of the asker.

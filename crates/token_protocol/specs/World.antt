@@ -1,6 +1,5 @@
 -- All that there is about one block: its clients, logs, history, reigning manager and packets.
 use Rattle.std.specs.Prelude.{◌≡◌, ℕ, suc, ◌<◌, ◌≤◌, nat_lt, if◌then◌else◌, List, [], ◌⊎◌}
-use Rattle.token_protocol.specs.Basics.{In}
 use Rattle.token_protocol.specs.Entry.{Row, Entry, no_row, no_entry}
 use Rattle.token_protocol.specs.Client.{Client, fresh}
 use Rattle.token_protocol.specs.Packets.{Want, Offer, Recall, Gave, Report}

@@ -3,10 +3,14 @@
 //! below has an empty body, and its contract is a law. `docs/PROTOCOL.md` says which file answers which question.
 #![tactic(auto)]
 
-ghost use Rattle.std.specs.Prelude.{ℕ, Bool, true};
+ghost use Rattle.std.specs.Prelude.{◌≡◌, ℕ, Bool, true};
+ghost use Rattle.token_protocol.specs.Acts.{LegalActs};
+ghost use Rattle.token_protocol.specs.Example.{w35, example_acts};
 ghost use Rattle.token_protocol.specs.Growth.{Grows};
 ghost use Rattle.token_protocol.specs.Laws.{SingleOwner, EpochPromised, BeliefsCover, AcceptableBelieved, NoHolderAfterFall, HoldersNewest, ReadsLegal, JoinIsJoin, JoinNewest, DirtyLeads, FallsLegal, ReturnsLegal};
+ghost use Rattle.token_protocol.specs.Stamps.{TakenSeen, EqualSeen, StampedSeen, ActivationSeen, PromiseSeen, Unheard};
 ghost use Rattle.token_protocol.specs.Step.{Steps};
+ghost use Rattle.token_protocol.specs.Told.{told};
 ghost use Rattle.token_protocol.specs.World.{World, start};
 
 /// The law of tokens, for every list of steps and any number of clients, whether or not the logs keep their word (section 3.2.2 of the 1996
@@ -34,6 +38,7 @@ pub fn tokens()
 /// - `dirty_leads`: a dirty block is owned, its settled version is the join, and all versions above the join are its owner's.
 /// - `falls_legal`: each fall falls to versions at or above what was read elsewhere or synced, and loses only what the client wrote itself.
 /// - `returns_legal`: that stays so until the return, which cuts the history to one of these two versions.
+/// - `acts_legal`: the acts that a run tells, each judged by the history that the acts before it made and by nothing of this machine, are legal.
 pub fn block()
     ensures holders_newest { (n : ℕ) (w : World) → Steps true (start n) w → HoldersNewest w }
     ensures reads_legal { (n : ℕ) (w : World) → Steps true (start n) w → ReadsLegal w }
@@ -42,4 +47,32 @@ pub fn block()
     ensures dirty_leads { (n : ℕ) (w : World) → Steps true (start n) w → DirtyLeads w }
     ensures falls_legal { (n : ℕ) (w : World) → Steps true (start n) w → FallsLegal w }
     ensures returns_legal { (n : ℕ) (w : World) → Steps true (start n) w → ReturnsLegal w }
+    ensures acts_legal { (n : ℕ) (w : World) (steps : Steps true (start n) w) → LegalActs (told (start n) w steps) }
+{}
+
+/// What only grows over any list of steps from any moment of a run whose logs keep their word: epochs, promises, incarnations, what is filed and its
+/// values, what is pinned, the packets sent and, under one manager, turns and what is applied.
+pub fn growth()
+    ensures grows { (n : ℕ) (w v : World) → Steps true (start n) w → Steps true w v → Grows w v }
+{}
+
+/// How stamps of several epochs, as nodes keep them, are seen here, where a client's stamp is a turn of the reigning epoch.
+///
+/// - `taken`, `equal`, `stamped`: the tests of a client on a packet of the epoch that it promised, and what it keeps after.
+/// - `activated`, `promised`: a later epoch begins to reign, or is promised.
+/// - `unheard`: a manager that completes its reports below the reigning epoch is heard by nobody.
+pub fn stamps()
+    ensures taken { TakenSeen }
+    ensures equal { EqualSeen }
+    ensures stamped { StampedSeen }
+    ensures activated { ActivationSeen }
+    ensures promised { PromiseSeen }
+    ensures unheard { (logs : Bool) (n : ℕ) (w : World) → Steps logs (start n) w → Unheard w }
+{}
+
+/// The premises can be met: there is a run of two clients and a cleaner, with logs that keep their word, that tells these acts. In it a client writes, is recalled
+/// and gives, another reads a place, the first falls with its tail in flight and returns with it adopted, a later manager takes over, the cleaner
+/// copies, and the first falls again and returns with nothing adopted.
+pub fn example()
+    ensures runs { (steps : Steps true (start 2) w35) × (told (start 2) w35 steps ≡ example_acts) }
 {}

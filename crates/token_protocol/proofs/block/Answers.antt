@@ -1,5 +1,6 @@
 use Rattle.token_protocol.proofs.Invariant.{always}
 use Rattle.token_protocol.proofs.Laws.{holders_newest, reads_legal, join_is_join, join_newest, dirty_leads, falls_legal, returns_legal}
+use Rattle.token_protocol.proofs.Told.{acts_legal}
 use Rattle.token_protocol.proofs.block.Goals as goal
 
 pub returns : goal.returns
@@ -11,4 +12,5 @@ returns c = record {
   dirty_leads = λ n w steps. dirty_leads w (always n w steps);
   falls_legal = λ n w steps. falls_legal w (always n w steps);
   returns_legal = λ n w steps. returns_legal w (always n w steps);
+  acts_legal = acts_legal;
 }

@@ -5,7 +5,6 @@ pub mod Offering
 pub mod Stamps
 pub mod Awaiting
 pub mod Promising
-
 use Rattle.std.proofs.Common.{ℕ, Bool}
 use Rattle.token_protocol.specs.World.{World, start}
 use Rattle.token_protocol.specs.Step.{Step}

@@ -2,7 +2,6 @@
 pub mod Versions
 pub mod Writers
 pub mod Values
-
 use Rattle.std.proofs.Common.{ℕ, true}
 use Rattle.token_protocol.specs.World.{World, start}
 use Rattle.token_protocol.specs.Step.{Step}

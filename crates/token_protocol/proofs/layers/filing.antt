@@ -1,7 +1,6 @@
 -- Layer 5, what is filed, the cleaner's copies too: the join, the index, and the places that entries name. It stands on logs.
 pub mod Joined
 pub mod Index
-
 use Rattle.std.proofs.Common.{ℕ, true}
 use Rattle.token_protocol.specs.World.{World, start}
 use Rattle.token_protocol.specs.Step.{Step}

@@ -2,7 +2,6 @@
 pub mod Rows
 pub mod Flight
 pub mod Behind
-
 use Rattle.std.proofs.Common.{ℕ, true}
 use Rattle.token_protocol.specs.World.{World, start}
 use Rattle.token_protocol.specs.Step.{Step}

@@ -2,7 +2,6 @@
 pub mod Giving
 pub mod Reporting
 pub mod Believing
-
 use Rattle.std.proofs.Common.{ℕ, Bool}
 use Rattle.token_protocol.specs.World.{World, start}
 use Rattle.token_protocol.specs.Step.{Step}

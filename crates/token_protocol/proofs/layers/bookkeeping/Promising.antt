@@ -5,8 +5,7 @@ use Rattle.token_protocol.specs.Basics.{In}
 use Rattle.token_protocol.specs.Entry.{Entry}
 use Rattle.token_protocol.specs.Packets.{Report}
 use Rattle.token_protocol.specs.World.{World, start}
-use Rattle.token_protocol.specs.Taking.{fetches}
-use Rattle.token_protocol.specs.Takeover.{MayReport, MayActivate, promises, reports, activates}
+use Rattle.token_protocol.specs.Takeover.{MayReport, MayActivate, reports, activates}
 use Rattle.token_protocol.specs.Step.{Step}
 use Rattle.token_protocol.specs.Step.Step.{Asks, AsksAgain, DropsWant, DropsFetch, Offers, Recalls, WritesFirst, Declines, TakesAbsent, TakesSupply, TakesPlace, Fetches, Writes, Reads, Syncs, Evicts, Gives, GivesAgain, Notes, Applies, Turns, SealsWith, Seals, Settles, CrashesDirty, CrashesClean, RestartsAdopting, RestartsDiscarding, Promises, Reports, Activates, SealsCopy, SealsOther, SettlesCopy, DiscardsCopy, Loses}
 use Rattle.token_protocol.proofs.layers.bookkeeping.Serving.{Serving}

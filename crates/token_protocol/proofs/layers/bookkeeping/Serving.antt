@@ -2,7 +2,6 @@
 use Rattle.std.proofs.Common.{◌≡◌, ◌≤◌, ℕ, Bool, arith}
 use Rattle.std.proofs.lemmas.Bool.Decides.{nat_tests}
 use Rattle.token_protocol.specs.World.{World, start}
-use Rattle.token_protocol.specs.Taking.{fetches}
 use Rattle.token_protocol.specs.Step.{Step}
 use Rattle.token_protocol.specs.Step.Step.{Asks, AsksAgain, DropsWant, DropsFetch, Offers, Recalls, WritesFirst, Declines, TakesAbsent, TakesSupply, TakesPlace, Fetches, Writes, Reads, Syncs, Evicts, Gives, GivesAgain, Notes, Applies, Turns, SealsWith, Seals, Settles, CrashesDirty, CrashesClean, RestartsAdopting, RestartsDiscarding, Promises, Reports, Activates, SealsCopy, SealsOther, SettlesCopy, DiscardsCopy, Loses}
 

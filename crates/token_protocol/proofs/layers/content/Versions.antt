@@ -6,7 +6,6 @@ use Rattle.token_protocol.specs.Basics.{In}
 use Rattle.token_protocol.specs.Packets.{Offer}
 use Rattle.token_protocol.specs.World.{World, start, Dirty, Live, flying_row}
 use Rattle.token_protocol.specs.Premises.{OriginalFiled}
-use Rattle.token_protocol.specs.Taking.{fetches}
 use Rattle.token_protocol.specs.Logging.{MaySealWith, MaySettle, seals_with, settles}
 use Rattle.token_protocol.specs.Crashing.{MayCrashDirty, MayRestart, crashes_dirty, restarts_discarding}
 use Rattle.token_protocol.specs.Cleaning.{MaySealCopy, MayDiscardCopy, seals_copy, discards_copy}

@@ -81,8 +81,8 @@ take_place_keeps_index w taken h t book logs joined index = record {
 apply_keeps_index : (w : World) (who upto : ℕ) (e : Entry) → MayApply w who upto → IndexCovers w who upto e → Bookkeeping w → Logs w → Joined w → Index w → Index (applies w who upto e)
 apply_keeps_index w who upto e h k book logs joined index = record {
   index_rows = λ c q k0. grind (arith, nat_tests, index.index_rows c q);
-  index_join =  merged_version w e k.source joined index;
-  index_row = λ k0. grind (arith, nat_tests,  merged_row w e k.source index k0);
+  index_join = merged_version w e k.source joined index;
+  index_row = λ k0. grind (arith, nat_tests, merged_row w e k.source index k0);
   offer_join = index.offer_join;
   offer_row = index.offer_row;
   fetch_row = index.fetch_row;
@@ -131,8 +131,8 @@ restart_discarding_keeps_index w who incarnation promised h book logs joined ind
 activate_keeps_index : (w : World) (epoch : ℕ) (report : ℕ → Report) (applied : ℕ → ℕ) (e : Entry) → MayActivate w epoch report → IndexGathered w report applied e → Bookkeeping w → Logs w → Joined w → Index w → Index (activates w epoch report applied e)
 activate_keeps_index w epoch report applied e h k book logs joined index = record {
   index_rows = λ c q k0. grind (arith, nat_tests, index.index_rows c q);
-  index_join =  filed_version w e k.source joined;
-  index_row = λ k0. grind (arith, nat_tests,  filed_row w e k.source k0);
+  index_join = filed_version w e k.source joined;
+  index_row = λ k0. grind (arith, nat_tests, filed_row w e k.source k0);
   offer_join = λ g k0. grind (arith, nat_tests, index.offer_join g);
   offer_row = λ g k0 k1. grind (arith, nat_tests, index.offer_row g);
   fetch_row = index.fetch_row;

@@ -11,7 +11,7 @@ use Rattle.token_protocol.specs.Managing.{MayRecall, MayNote, recalls, notes}
 use Rattle.token_protocol.specs.Giving.{MayGiveAgain, gives_again}
 use Rattle.token_protocol.specs.Logging.{MaySealWith, seals_with}
 use Rattle.token_protocol.specs.Crashing.{MayRestart, restarts_discarding}
-use Rattle.token_protocol.specs.Takeover.{MayActivate, reports, activates}
+use Rattle.token_protocol.specs.Takeover.{MayActivate, activates}
 use Rattle.token_protocol.specs.Cleaning.{MaySealCopy, MayDiscardCopy, seals_copy, discards_copy}
 use Rattle.token_protocol.specs.Step.{Step}
 use Rattle.token_protocol.specs.Step.Step.{Asks, AsksAgain, DropsWant, DropsFetch, Offers, Recalls, WritesFirst, Declines, TakesAbsent, TakesSupply, TakesPlace, Fetches, Writes, Reads, Syncs, Evicts, Gives, GivesAgain, Notes, Applies, Turns, SealsWith, Seals, Settles, CrashesDirty, CrashesClean, RestartsAdopting, RestartsDiscarding, Promises, Reports, Activates, SealsCopy, SealsOther, SettlesCopy, DiscardsCopy, Loses}

@@ -5,7 +5,7 @@ use Rattle.token_protocol.specs.Basics.{In}
 use Rattle.token_protocol.specs.Packets.{Want, Offer, Recall, Gave}
 use Rattle.token_protocol.specs.World.{World, start, Live}
 use Rattle.token_protocol.specs.Managing.{MayOffer, MayRecall, offers, recalls}
-use Rattle.token_protocol.specs.Taking.{MayTake, IsAbsent, IsSupplied, IsPlaced, writes_first, declines, takes_value, takes_place, fetches}
+use Rattle.token_protocol.specs.Taking.{MayTake, IsAbsent, IsSupplied, IsPlaced, writes_first, declines, takes_value, takes_place}
 use Rattle.token_protocol.specs.Giving.{MayGive, MayGiveAgain, gives, gives_again}
 use Rattle.token_protocol.specs.Step.{Step}
 use Rattle.token_protocol.specs.Step.Step.{Asks, AsksAgain, DropsWant, DropsFetch, Offers, Recalls, WritesFirst, Declines, TakesAbsent, TakesSupply, TakesPlace, Fetches, Writes, Reads, Syncs, Evicts, Gives, GivesAgain, Notes, Applies, Turns, SealsWith, Seals, Settles, CrashesDirty, CrashesClean, RestartsAdopting, RestartsDiscarding, Promises, Reports, Activates, SealsCopy, SealsOther, SettlesCopy, DiscardsCopy, Loses}
