@@ -6,3 +6,4 @@ pub mod Growing
 pub mod StampsSeen
 pub mod Refining
 pub mod ExampleRun
+pub mod OtherExampleRun

@@ -20,3 +20,4 @@ pub mod Stamps
 pub mod Example
 pub mod Acts
 pub mod Told
+pub mod OtherExample

@@ -38,7 +38,7 @@ syncs w version = record w { pinned = max w.pinned version }
 
 -- The cache evicts a clean block. Shown by the client's choice of a victim: only clean blocks are in the order of use.
 pub record MayEvict (w : World) (c : ℕ) : Type 0 where
-  pub clean : Clean w c
+  pub victim : Clean w c
 
 abbrev pub evicts : World → ℕ → World
 evicts w c = let x = w.client c in record w { client = put w.client c (record x { mode = 0 }) }

@@ -9,6 +9,7 @@ ghost use Rattle.token_protocol.specs.Example.{w35, example_acts};
 ghost use Rattle.token_protocol.specs.Growth.{Grows};
 ghost use Rattle.token_protocol.specs.Laws.{SingleOwner, EpochPromised, BeliefsCover, AcceptableBelieved, NoHolderAfterFall, HoldersNewest, ReadsLegal, JoinIsJoin, JoinNewest, DirtyLeads, FallsLegal, ReturnsLegal};
 ghost use Rattle.token_protocol.specs.Stamps.{TakenSeen, EqualSeen, StampedSeen, ActivationSeen, PromiseSeen, Unheard};
+ghost use Rattle.token_protocol.specs.OtherExample.{u36, other_acts};
 ghost use Rattle.token_protocol.specs.Step.{Steps};
 ghost use Rattle.token_protocol.specs.Told.{told};
 ghost use Rattle.token_protocol.specs.World.{World, start};
@@ -70,9 +71,13 @@ pub fn stamps()
     ensures unheard { (logs : Bool) (n : ℕ) (w : World) → Steps logs (start n) w → Unheard w }
 {}
 
-/// The premises can be met: there is a run of two clients and a cleaner, with logs that keep their word, that tells these acts. In it a client writes, is recalled
-/// and gives, another reads a place, the first falls with its tail in flight and returns with it adopted, a later manager takes over, the cleaner
-/// copies, and the first falls again and returns with nothing adopted.
+/// Every guard and premise can be met: two runs of two clients and a cleaner, with logs that keep their word, take each kind of step at least once, and
+/// tell these acts.
+///
+/// - `fault_run`: a client writes, is recalled and gives, another reads a place, the first falls with its tail in flight and returns with it adopted,
+///   a later manager takes over, the cleaner copies, and the first falls again and returns with nothing adopted.
+/// - `calm_run`: what the first leaves out, as repetitions, an absent block, a refused write, a Supply, a sync, an eviction, a clean fall.
 pub fn example()
-    ensures runs { (steps : Steps true (start 2) w35) × (told (start 2) w35 steps ≡ example_acts) }
+    ensures fault_run { (steps : Steps true (start 2) w35) × (told (start 2) w35 steps ≡ example_acts) }
+    ensures calm_run { (steps : Steps true (start 2) u36) × (told (start 2) u36 steps ≡ other_acts) }
 {}
