@@ -1,5 +1,5 @@
 -- The second example run, step by step.
-use Rattle.std.proofs.Common.{◌≡◌, ℕ, ◌<◌, ◌≤◌, ◌⊎◌, inl, inr, refl, true, arith}
+use Rattle.std.proofs.Common.{◌≡◌, inl, inr, refl, true, arith}
 use Rattle.std.proofs.lemmas.Bool.Decides.{nat_tests}
 use Rattle.token_protocol.specs.World.{start}
 use Rattle.token_protocol.specs.Told.{told}

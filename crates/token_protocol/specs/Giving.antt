@@ -1,4 +1,4 @@
--- Answering a Recall.
+-- Answering a Recall. As in the 1996 paper (on cache consistency) an owner flushes its changes to its log before it lets go.
 use Rattle.std.specs.Prelude.{◌≡◌, ℕ, ◌<◌, ◌∷◌, min}
 use Rattle.token_protocol.specs.Basics.{put, In}
 use Rattle.token_protocol.specs.Packets.{Recall}

@@ -1,4 +1,5 @@
--- What the reigning manager does: offers, recalls, noted answers, applied logs.
+-- What the reigning manager does: offers, recalls, noted answers, applied logs. As in the 1996 paper (on cache consistency) it takes the block from
+-- all whom a new owner excludes before it offers it.
 use Rattle.std.specs.Prelude.{◌≡◌, ℕ, suc, ◌+◌, ◌≤◌, ◌∷◌, min, max}
 use Rattle.token_protocol.specs.Basics.{put, In}
 use Rattle.token_protocol.specs.Entry.{Entry}

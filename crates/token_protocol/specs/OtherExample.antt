@@ -1,6 +1,6 @@
 -- A second run of two clients (0 and 1) and a cleaner (2), which takes the steps that the first does not: repetitions, an absent block, a refused write,
 -- a Supply, a sync, an eviction, what is let go, a clean fall, segments without the block.
-use Rattle.std.specs.Prelude.{ℕ, List, [], ◌∷◌}
+use Rattle.std.specs.Prelude.{List, [], ◌∷◌}
 use Rattle.token_protocol.specs.Entry.{Entry, no_entry}
 use Rattle.token_protocol.specs.Packets.{Want, Offer, Recall, Gave}
 use Rattle.token_protocol.specs.World.{World, start}

@@ -1,4 +1,5 @@
--- A later manager: promises, reports, activation.
+-- A later manager: promises, reports, activation. As in the 1996 paper (on recovery) it learns what clients hold from the clients, and what is
+-- filed from checkpoints and logs.
 use Rattle.std.specs.Prelude.{◌≡◌, ℕ, ◌<◌, ◌≤◌, ◌∷◌, [], nat_lt, if◌then◌else◌}
 use Rattle.token_protocol.specs.Basics.{put, In}
 use Rattle.token_protocol.specs.Entry.{Entry}

@@ -14,8 +14,8 @@ ghost use Rattle.token_protocol.specs.Step.{Steps};
 ghost use Rattle.token_protocol.specs.Told.{told};
 ghost use Rattle.token_protocol.specs.World.{World, start};
 
-/// The law of tokens, for every list of steps and any number of clients, whether or not the logs keep their word (section 3.2.2 of the 1996
-/// paper: ownership is given by the manager alone, and only after the last holder has let go).
+/// The law of tokens, for every list of steps and any number of clients, whether or not the logs keep their word (the 1996 paper,
+/// on cache consistency: ownership of a block is given by its manager alone, after it has taken the block from every other holder).
 ///
 /// - `single_owner`: where a client owns the block, no other holds it.
 /// - `epoch_promised`: every client has promised at least the epoch of the reigning manager.

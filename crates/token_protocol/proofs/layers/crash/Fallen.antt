@@ -15,8 +15,6 @@ use Rattle.token_protocol.proofs.layers.bookkeeping.{Bookkeeping}
 use Rattle.token_protocol.proofs.layers.tokens.{Tokens}
 
 pub record Fallen (w : World) : Type 0 where
-  -- A client has fallen with the block dirty or not.
-  pub fallen_one : (c : ℕ) → w.fallen c ≤ 1
   -- A number that names no client never fell.
   pub outsider_fallen : (c : ℕ) → w.members ≤ c → w.fallen c ≡ 0
   -- Who fell and has not returned is down.
@@ -30,7 +28,6 @@ pub record Fallen (w : World) : Type 0 where
 
 offer_keeps_fallen : (w : World) (asked : Want) → MayOffer w asked → Bookkeeping w → Tokens w → Fallen w → Fallen (offers w asked)
 offer_keeps_fallen w asked h book tokens fallen = record {
-  fallen_one = fallen.fallen_one;
   outsider_fallen = fallen.outsider_fallen;
   fallen_down = fallen.fallen_down;
   fallen_believed = λ c k0. grind (arith, nat_tests, fallen.fallen_believed c, book.asking.want_mode asked h.sent);
@@ -40,7 +37,6 @@ offer_keeps_fallen w asked h book tokens fallen = record {
 
 recall_keeps_fallen : (w : World) (who keep : ℕ) → MayRecall keep → Bookkeeping w → Tokens w → Fallen w → Fallen (recalls w who keep)
 recall_keeps_fallen w who keep h book tokens fallen = record {
-  fallen_one = fallen.fallen_one;
   outsider_fallen = fallen.outsider_fallen;
   fallen_down = fallen.fallen_down;
   fallen_believed = fallen.fallen_believed;
@@ -50,7 +46,6 @@ recall_keeps_fallen w who keep h book tokens fallen = record {
 
 give_keeps_fallen : (w : World) (answered : Recall) (end : ℕ) → MayGive w answered → Bookkeeping w → Tokens w → Fallen w → Fallen (gives w answered end)
 give_keeps_fallen w answered end h book tokens fallen = record {
-  fallen_one = fallen.fallen_one;
   outsider_fallen = fallen.outsider_fallen;
   fallen_down = λ c k0. grind (arith, nat_tests, fallen.fallen_down c);
   fallen_believed = fallen.fallen_believed;
@@ -60,7 +55,6 @@ give_keeps_fallen w answered end h book tokens fallen = record {
 
 give_again_keeps_fallen : (w : World) (answered : Recall) (end : ℕ) → MayGiveAgain w answered → Bookkeeping w → Tokens w → Fallen w → Fallen (gives_again w answered end)
 give_again_keeps_fallen w answered end h book tokens fallen = record {
-  fallen_one = fallen.fallen_one;
   outsider_fallen = fallen.outsider_fallen;
   fallen_down = fallen.fallen_down;
   fallen_believed = fallen.fallen_believed;
@@ -70,7 +64,6 @@ give_again_keeps_fallen w answered end h book tokens fallen = record {
 
 note_keeps_fallen : (w : World) (noted : Gave) → MayNote w noted → Bookkeeping w → Tokens w → Fallen w → Fallen (notes w noted)
 note_keeps_fallen w noted h book tokens fallen = record {
-  fallen_one = fallen.fallen_one;
   outsider_fallen = fallen.outsider_fallen;
   fallen_down = fallen.fallen_down;
   fallen_believed = λ c k0. grind (arith, nat_tests, fallen.fallen_believed c, fallen.fallen_given c noted k0 h.sent);
@@ -80,7 +73,6 @@ note_keeps_fallen w noted h book tokens fallen = record {
 
 crash_dirty_keeps_fallen : (w : World) (who : ℕ) → MayCrashDirty w who → Bookkeeping w → Tokens w → Fallen w → Fallen (crashes_dirty w who)
 crash_dirty_keeps_fallen w who h book tokens fallen = record {
-  fallen_one = λ c. grind (arith, nat_tests, fallen.fallen_one c);
   outsider_fallen = λ c k0. grind (arith, nat_tests, fallen.outsider_fallen c);
   fallen_down = λ c k0. grind (arith, nat_tests, fallen.fallen_down c);
   fallen_believed = λ c k0. grind (arith, nat_tests, fallen.fallen_believed c, tokens.believing.covers c, book.asking.dirty_owned c, tokens.believing.single c (suc c));
@@ -90,7 +82,6 @@ crash_dirty_keeps_fallen w who h book tokens fallen = record {
 
 restart_adopting_keeps_fallen : (w : World) (who incarnation promised : ℕ) → MayRestart w who incarnation promised → Bookkeeping w → Tokens w → Fallen w → Fallen (restarts_adopting w who incarnation promised)
 restart_adopting_keeps_fallen w who incarnation promised h book tokens fallen = record {
-  fallen_one = λ c. grind (arith, nat_tests, fallen.fallen_one c);
   outsider_fallen = λ c k0. grind (arith, nat_tests, fallen.outsider_fallen c);
   fallen_down = λ c k0. grind (arith, nat_tests, fallen.fallen_down c);
   fallen_believed = λ c k0. grind (arith, nat_tests, fallen.fallen_believed c);
@@ -100,7 +91,6 @@ restart_adopting_keeps_fallen w who incarnation promised h book tokens fallen = 
 
 restart_discarding_keeps_fallen : (w : World) (who incarnation promised : ℕ) → MayRestart w who incarnation promised → Bookkeeping w → Tokens w → Fallen w → Fallen (restarts_discarding w who incarnation promised)
 restart_discarding_keeps_fallen w who incarnation promised h book tokens fallen = record {
-  fallen_one = λ c. grind (arith, nat_tests, fallen.fallen_one c);
   outsider_fallen = λ c k0. grind (arith, nat_tests, fallen.outsider_fallen c);
   fallen_down = λ c k0. grind (arith, nat_tests, fallen.fallen_down c);
   fallen_believed = λ c k0. grind (arith, nat_tests, fallen.fallen_believed c);
@@ -110,7 +100,6 @@ restart_discarding_keeps_fallen w who incarnation promised h book tokens fallen 
 
 report_keeps_fallen : (w : World) (who end : ℕ) → MayReport w who → Bookkeeping w → Tokens w → Fallen w → Fallen (reports w who end)
 report_keeps_fallen w who end h book tokens fallen = record {
-  fallen_one = fallen.fallen_one;
   outsider_fallen = fallen.outsider_fallen;
   fallen_down = fallen.fallen_down;
   fallen_believed = fallen.fallen_believed;
@@ -120,7 +109,6 @@ report_keeps_fallen w who end h book tokens fallen = record {
 
 activate_keeps_fallen : (w : World) (epoch : ℕ) (report : ℕ → Report) (applied : ℕ → ℕ) (e : Entry) → MayActivate w epoch report → Bookkeeping w → Tokens w → Fallen w → Fallen (activates w epoch report applied e)
 activate_keeps_fallen w epoch report applied e h book tokens fallen = record {
-  fallen_one = λ c. grind (arith, nat_tests, fallen.fallen_one c);
   outsider_fallen = λ c k0. grind (arith, nat_tests, fallen.outsider_fallen c);
   fallen_down = λ c k0. grind (arith, nat_tests, fallen.fallen_down c);
   fallen_believed = λ c k0. grind (arith, nat_tests, fallen.fallen_believed c, h.sent c, h.sender c, h.asked c, fallen.report_fallen (report c), fallen.outsider_fallen c);
@@ -168,7 +156,6 @@ keeps logs w v (Loses x h) book tokens fallen = grind (arith, nat_tests)
 
 pub begins : (n : ℕ) → Fallen (start n)
 begins n = record {
-  fallen_one = λ c. grind (arith, nat_tests);
   outsider_fallen = λ c k0. grind (arith, nat_tests);
   fallen_down = λ c k0. grind (arith, nat_tests);
   fallen_believed = λ c k0. grind (arith, nat_tests);

@@ -1,9 +1,7 @@
--- Where rows stand in logs, and which ends packets name. Depends on: itself.
+-- Where rows stand in logs. Depends on: itself.
 use Rattle.std.proofs.Common.{◌≡◌, ◌+◌, ◌<◌, ◌≤◌, ℕ, true, arith}
 use Rattle.std.proofs.lemmas.Bool.Decides.{nat_tests}
 use Rattle.std.proofs.lemmas.Bool.{true≢false}
-use Rattle.token_protocol.specs.Basics.{In}
-use Rattle.token_protocol.specs.Packets.{Gave, Report}
 use Rattle.token_protocol.specs.World.{World, start}
 use Rattle.token_protocol.specs.Premises.{OriginalFiled}
 use Rattle.token_protocol.specs.Logging.{MaySealWith, seals_with}
@@ -19,18 +17,12 @@ pub record Rows (w : World) : Type 0 where
   pub rows_end : (c : ℕ) (q : ℕ) → w.end c + w.flight c < q → (w.rows c q).version ≡ 0
   -- Only filed segments are applied.
   pub applied_end : (c : ℕ) → w.applied c ≤ w.end c
-  -- A Gave names an end that its log has reached.
-  pub gave_end : (x : Gave) → In x w.gaves → x.end ≤ w.end x.client
-  -- A report names an end that its log has reached.
-  pub report_end : (y : Report) → In y w.reports → y.end ≤ w.end y.client
 
 seal_with_keeps_rows : (w : World) (who : ℕ) → MaySealWith w who → Rows w → Rows (seals_with w who)
 seal_with_keeps_rows w who h rows = record {
   flight_one = λ c. grind (arith, nat_tests, rows.flight_one c);
   rows_end = λ c q k0. grind (arith, nat_tests, rows.rows_end c q);
   applied_end = rows.applied_end;
-  gave_end = rows.gave_end;
-  report_end = rows.report_end;
 }
 
 restart_discarding_keeps_rows : (w : World) (who incarnation promised : ℕ) → MayRestart w who incarnation promised → Rows w → Rows (restarts_discarding w who incarnation promised)
@@ -38,8 +30,6 @@ restart_discarding_keeps_rows w who incarnation promised h rows = record {
   flight_one = λ c. grind (arith, nat_tests, rows.flight_one c);
   rows_end = λ c q k0. grind (arith, nat_tests, rows.rows_end c q);
   applied_end = rows.applied_end;
-  gave_end = rows.gave_end;
-  report_end = rows.report_end;
 }
 
 seal_copy_keeps_rows : (w : World) (who log segment : ℕ) → MaySealCopy w who → OriginalFiled w log segment → Rows w → Rows (seals_copy w who log segment)
@@ -47,8 +37,6 @@ seal_copy_keeps_rows w who log segment h k rows = record {
   flight_one = λ c. grind (arith, nat_tests, rows.flight_one c);
   rows_end = λ c q k0. grind (arith, nat_tests, rows.rows_end c q);
   applied_end = rows.applied_end;
-  gave_end = rows.gave_end;
-  report_end = rows.report_end;
 }
 
 discard_copy_keeps_rows : (w : World) (who : ℕ) → MayDiscardCopy w who → Rows w → Rows (discards_copy w who)
@@ -56,8 +44,6 @@ discard_copy_keeps_rows w who h rows = record {
   flight_one = λ c. grind (arith, nat_tests, rows.flight_one c);
   rows_end = λ c q k0. grind (arith, nat_tests, rows.rows_end c q);
   applied_end = rows.applied_end;
-  gave_end = rows.gave_end;
-  report_end = rows.report_end;
 }
 
 pub keeps : (w v : World) → Step true w v → Rows w → Rows v
@@ -103,6 +89,4 @@ begins n = record {
   flight_one = λ c. grind (arith, nat_tests);
   rows_end = λ c q k0. grind (arith, nat_tests);
   applied_end = λ c. grind (arith, nat_tests);
-  gave_end = λ x k0. absurd k0;
-  report_end = λ y k0. absurd k0;
 }
