@@ -37,8 +37,20 @@ grows_step w v (Seals who h) i = grind (arith, nat_tests)
 grows_step w v (Settles who h) i = grind (arith, nat_tests)
 grows_step w v (CrashesDirty who h) i = grind (arith, nat_tests)
 grows_step w v (CrashesClean who h) i = grind (arith, nat_tests)
-grows_step w v (RestartsAdopting who incarnation promised h k) i = grind (arith, nat_tests, i.content.writers.pinned_join, i.content.versions.fallen_low who, i.content.versions.fallen_high who)
-grows_step w v (RestartsDiscarding who incarnation promised h) i = grind (arith, nat_tests, i.content.writers.pinned_join, i.content.versions.fallen_low who, i.content.versions.fallen_high who)
+grows_step w v (RestartsAdopting who incarnation promised h k) i = grind (
+  arith,
+  nat_tests,
+  i.content.writers.pinned_join,
+  i.content.versions.fallen_low who,
+  i.content.versions.fallen_high who,
+)
+grows_step w v (RestartsDiscarding who incarnation promised h) i = grind (
+  arith,
+  nat_tests,
+  i.content.writers.pinned_join,
+  i.content.versions.fallen_low who,
+  i.content.versions.fallen_high who,
+)
 grows_step w v (Promises who epoch h) i = grind (arith, nat_tests)
 grows_step w v (Reports who end h k) i = grind (arith, nat_tests)
 grows_step w v (Activates epoch report applied e h k) i = grind (arith, nat_tests)

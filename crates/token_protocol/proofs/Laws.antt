@@ -23,7 +23,14 @@ pub acceptable_believed : (w : World) → Owned w → AcceptableBelieved w
 acceptable_believed w i = i.tokens.believing.pending
 
 pub no_holder_after_fall : (w : World) → Owned w → NoHolderAfterFall w
-no_holder_after_fall w i c d fell = grind (arith, i.crash.fallen.fallen_believed c fell, i.crash.fallen.fallen_down c fell, i.book.serving.down_mode c, i.tokens.believing.single c d, i.tokens.believing.covers d)
+no_holder_after_fall w i c d fell = grind (
+  arith,
+  i.crash.fallen.fallen_believed c fell,
+  i.crash.fallen.fallen_down c fell,
+  i.book.serving.down_mode c,
+  i.tokens.believing.single c d,
+  i.tokens.believing.covers d,
+)
 
 -- Of the whole.
 
@@ -81,5 +88,13 @@ returns_legal w i c fell =
       pinned = grind (arith, i.content.writers.pinned_join);
       ordered = grind arith;
       known = high.1;
-      mine = λ v above below. i.content.writers.above_writer v (omega arith) below ∙ grind (arith, i.content.versions.last_dirty, i.book.asking.dirty_owned w.last_writer, i.tokens.believing.covers w.last_writer, i.tokens.believing.single c w.last_writer, i.crash.fallen.fallen_believed c fell, i.crash.fallen.fallen_believed w.last_writer);
+      mine = λ v above below. i.content.writers.above_writer v (omega arith) below ∙ grind (
+        arith,
+        i.content.versions.last_dirty,
+        i.book.asking.dirty_owned w.last_writer,
+        i.tokens.believing.covers w.last_writer,
+        i.tokens.believing.single c w.last_writer,
+        i.crash.fallen.fallen_believed c fell,
+        i.crash.fallen.fallen_believed w.last_writer,
+      );
     }

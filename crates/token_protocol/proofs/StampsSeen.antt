@@ -7,8 +7,11 @@ use Rattle.token_protocol.specs.Stamps.{Stamp, TakenSeen, EqualSeen, StampedSeen
 pub taken : TakenSeen
 taken n x e s seen low high some same above =
     let promised = seen.promised in
-    let reigning : s.epoch ≡ e = omega arith in
-    (omega arith, reigning, ⊎_elim (λ (z : n.stamp.epoch < s.epoch). let o = seen.old (omega arith) in omega arith) (λ (z : (n.stamp.epoch ≡ s.epoch) × (n.stamp.turn < s.turn)). let o = seen.now (omega arith) in omega arith) above)
+    let reigning : s.epoch ≡ e = omega arith in (
+      omega arith,
+      reigning,
+      ⊎_elim (λ (z : n.stamp.epoch < s.epoch). let o = seen.old (omega arith) in omega arith) (λ (z : (n.stamp.epoch ≡ s.epoch) × (n.stamp.turn < s.turn)). let o = seen.now (omega arith) in omega arith) above,
+    )
 
 pub equal : EqualSeen
 equal n x e s seen low high same is =
@@ -20,7 +23,12 @@ pub stamped : StampedSeen
 stamped n x e s seen is = record { promised = seen.promised; past = omega arith; now = λ h. refl; old = λ h. absurd (omega arith) }
 
 pub activated : ActivationSeen
-activated n x e f seen later = record { promised = seen.promised; past = let p = seen.past in omega arith; now = λ h. absurd (let p = seen.past in omega arith); old = λ h. refl }
+activated n x e f seen later = record {
+  promised = seen.promised;
+  past = let p = seen.past in omega arith;
+  now = λ h. absurd (let p = seen.past in omega arith);
+  old = λ h. refl;
+}
 
 pub promised : PromiseSeen
 promised n x e f seen = record { promised = refl; past = seen.past; now = seen.now; old = seen.old }

@@ -30,7 +30,8 @@ record Legal (acts : List Act) (w : World) : Type 0 where
   legal : LegalActs acts
 
 -- A fall is legal in the history that the acts made, since it is in the world's.
-fall : (w : World) (who : ℕ) (acts : List Act) → Invariant w → Legal acts w → MayCrashDirty w who → LegalFell (history acts) who (w.client who).settled (max (w.client who).settled (flying_row w who).version)
+fall : (w : World) (who : ℕ) (acts : List Act) → Invariant w → Legal acts w → MayCrashDirty w who
+    → LegalFell (history acts) who (w.client who).settled (max (w.client who).settled (flying_row w who).version)
 fall w who acts i l may =
     let law = falls_legal w i who may in
     record {
@@ -54,7 +55,25 @@ legal_step w v (TakesSupply taken value h t) acts i l = record { matches = l.mat
 legal_step w v (TakesPlace taken h t) acts i l = record { matches = l.matches; legal = l.legal }
 legal_step w v (Fetches who value h k) acts i l = record { matches = l.matches; legal = l.legal }
 legal_step w v (Writes who value h) acts i l = record { matches = grind (arith, nat_tests); legal = (l.legal, tt) }
-legal_step w v (Reads who h) acts i l = record { matches = grind (arith, nat_tests); legal = (l.legal, record { newest = grind (arith, i.content.versions.held_version who h.holds, l.matches.length); text = grind (arith, i.content.values.held_value who h.holds, l.matches.length, l.matches.values w.newest) }) }
+legal_step w v (Reads who h) acts i l = record {
+  matches = grind (arith, nat_tests);
+  legal = (
+    l.legal,
+    record {
+      newest = grind (
+        arith,
+        i.content.versions.held_version who h.holds,
+        l.matches.length,
+      );
+      text = grind (
+        arith,
+        i.content.values.held_value who h.holds,
+        l.matches.length,
+        l.matches.values w.newest,
+      );
+    },
+  );
+}
 legal_step w v (Syncs who version h) acts i l = record { matches = grind (arith, nat_tests); legal = (l.legal, tt) }
 legal_step w v (Evicts who h) acts i l = record { matches = l.matches; legal = l.legal }
 legal_step w v (Gives answered end h k) acts i l = record { matches = l.matches; legal = l.legal }
@@ -85,7 +104,10 @@ legal_steps w v (More {v = x} steps step) i l =
     (legal_step x v step (told w x steps) before.1 before.0, keeps x v step before.1)
 
 opening : (n : ℕ) → Legal [] (start n)
-opening n = record { matches = record { length = refl; values = λ v. refl; writers = λ v. refl; pin = refl; falls = λ c. refl; lows = λ c. refl; highs = λ c. refl }; legal = tt }
+opening n = record {
+  matches = record { length = refl; values = λ v. refl; writers = λ v. refl; pin = refl; falls = λ c. refl; lows = λ c. refl; highs = λ c. refl };
+  legal = tt;
+}
 
 pub acts_legal : (n : ℕ) (w : World) (steps : Steps true (start n) w) → LegalActs (told (start n) w steps)
 acts_legal n w steps = (legal_steps (start n) w steps (begins n) (opening n)).0.legal

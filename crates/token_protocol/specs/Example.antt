@@ -23,14 +23,14 @@ first_want = record { client = 0; incarnation = 1; request = 1; mode = 2; end = 
 abbrev pub first_offer : Offer
 first_offer = record { client = 0; stamp = 1; incarnation = 1; request = 1; mode = 2; entry = no_entry }
 
-abbrev pub w1 : World
-w1 = asks (start 2) 0 2 1 0
+abbrev pub moment1 : World
+moment1 = asks (start 2) 0 2 1 0
 
-abbrev pub w2 : World
-w2 = offers w1 first_want
+abbrev pub moment2 : World
+moment2 = offers moment1 first_want
 
-abbrev pub w3 : World
-w3 = writes_first w2 first_offer 7
+abbrev pub moment3 : World
+moment3 = writes_first moment2 first_offer 7
 
 -- Client 1 asks for a copy: the manager recalls, client 0 seals, settles and gives, and its log is applied.
 abbrev pub copy_want : Want
@@ -45,42 +45,42 @@ first_gave = record { client = 0; stamp = 2; end = 1 }
 abbrev pub first_entry : Entry
 first_entry = record { version = 1; hop = 0; placed = 1; log = 0; segment = 1 }
 
-abbrev pub w4 : World
-w4 = asks w3 1 1 1 0
+abbrev pub moment4 : World
+moment4 = asks moment3 1 1 1 0
 
-abbrev pub w5 : World
-w5 = recalls w4 0 1
+abbrev pub moment5 : World
+moment5 = recalls moment4 0 1
 
-abbrev pub w6 : World
-w6 = seals_with w5 0
+abbrev pub moment6 : World
+moment6 = seals_with moment5 0
 
-abbrev pub w7 : World
-w7 = settles w6 0
+abbrev pub moment7 : World
+moment7 = settles moment6 0
 
-abbrev pub w8 : World
-w8 = gives w7 first_recall 1
+abbrev pub moment8 : World
+moment8 = gives moment7 first_recall 1
 
-abbrev pub w9 : World
-w9 = notes w8 first_gave
+abbrev pub moment9 : World
+moment9 = notes moment8 first_gave
 
-abbrev pub w10 : World
-w10 = applies w9 0 1 first_entry
+abbrev pub moment10 : World
+moment10 = applies moment9 0 1 first_entry
 
 -- Client 1 is offered the place, reads it, and reads 7.
 abbrev pub copy_offer : Offer
 copy_offer = record { client = 1; stamp = 3; incarnation = 1; request = 1; mode = 1; entry = first_entry }
 
-abbrev pub w11 : World
-w11 = offers w10 copy_want
+abbrev pub moment11 : World
+moment11 = offers moment10 copy_want
 
-abbrev pub w12 : World
-w12 = takes_place w11 copy_offer
+abbrev pub moment12 : World
+moment12 = takes_place moment11 copy_offer
 
-abbrev pub w13 : World
-w13 = fetches w12 1 7
+abbrev pub moment13 : World
+moment13 = fetches moment12 1 7
 
-abbrev pub w14 : World
-w14 = reads w13 1
+abbrev pub moment14 : World
+moment14 = reads moment13 1
 
 -- Client 0 asks to own again: client 1 gives its copy up, and client 0 writes 8.
 abbrev pub second_want : Want
@@ -95,46 +95,46 @@ second_gave = record { client = 1; stamp = 4; end = 0 }
 abbrev pub second_offer : Offer
 second_offer = record { client = 0; stamp = 5; incarnation = 1; request = 2; mode = 2; entry = first_entry }
 
-abbrev pub w15 : World
-w15 = asks w14 0 2 2 1
+abbrev pub moment15 : World
+moment15 = asks moment14 0 2 2 1
 
-abbrev pub w16 : World
-w16 = recalls w15 1 0
+abbrev pub moment16 : World
+moment16 = recalls moment15 1 0
 
-abbrev pub w17 : World
-w17 = gives w16 second_recall 0
+abbrev pub moment17 : World
+moment17 = gives moment16 second_recall 0
 
-abbrev pub w18 : World
-w18 = notes w17 second_gave
+abbrev pub moment18 : World
+moment18 = notes moment17 second_gave
 
-abbrev pub w19 : World
-w19 = offers w18 second_want
+abbrev pub moment19 : World
+moment19 = offers moment18 second_want
 
-abbrev pub w20 : World
-w20 = writes_first w19 second_offer 8
+abbrev pub moment20 : World
+moment20 = writes_first moment19 second_offer 8
 
 -- Client 0 falls with 8 in flight, and returns with its tail adopted.
-abbrev pub w21 : World
-w21 = seals_with w20 0
+abbrev pub moment21 : World
+moment21 = seals_with moment20 0
 
-abbrev pub w22 : World
-w22 = crashes_dirty w21 0
+abbrev pub moment22 : World
+moment22 = crashes_dirty moment21 0
 
-abbrev pub w23 : World
-w23 = restarts_adopting w22 0 2 1
+abbrev pub moment23 : World
+moment23 = restarts_adopting moment22 0 2 1
 
 -- Both clients promise epoch 2 and report, and a manager becomes active at it.
-abbrev pub w24 : World
-w24 = promises w23 0 2
+abbrev pub moment24 : World
+moment24 = promises moment23 0 2
 
-abbrev pub w25 : World
-w25 = reports w24 0 2
+abbrev pub moment25 : World
+moment25 = reports moment24 0 2
 
-abbrev pub w26 : World
-w26 = promises w25 1 2
+abbrev pub moment26 : World
+moment26 = promises moment25 1 2
 
-abbrev pub w27 : World
-w27 = reports w26 1 0
+abbrev pub moment27 : World
+moment27 = reports moment26 1 0
 
 abbrev pub second_entry : Entry
 second_entry = record { version = 2; hop = 0; placed = 1; log = 0; segment = 2 }
@@ -145,15 +145,15 @@ report_of c = record { client = c; epoch = 2; mode = 0; end = if c == 0 then 2 e
 abbrev pub applied_to : ℕ → ℕ
 applied_to c = if c == 0 then 2 else 0
 
-abbrev pub w28 : World
-w28 = activates w27 2 report_of applied_to second_entry
+abbrev pub moment28 : World
+moment28 = activates moment27 2 report_of applied_to second_entry
 
 -- The cleaner copies the row of 8 into its own log.
-abbrev pub w29 : World
-w29 = seals_copy w28 2 0 2
+abbrev pub moment29 : World
+moment29 = seals_copy moment28 2 0 2
 
-abbrev pub w30 : World
-w30 = settles_copy w29 2
+abbrev pub moment30 : World
+moment30 = settles_copy moment29 2
 
 -- Client 0 owns again, writes 9, falls with nothing in flight, and returns: its 9 is lost, and 8 is the newest version.
 abbrev pub third_want : Want
@@ -162,20 +162,20 @@ third_want = record { client = 0; incarnation = 2; request = 1; mode = 2; end = 
 abbrev pub third_offer : Offer
 third_offer = record { client = 0; stamp = 1; incarnation = 2; request = 1; mode = 2; entry = second_entry }
 
-abbrev pub w31 : World
-w31 = asks w30 0 2 1 2
+abbrev pub moment31 : World
+moment31 = asks moment30 0 2 1 2
 
-abbrev pub w32 : World
-w32 = offers w31 third_want
+abbrev pub moment32 : World
+moment32 = offers moment31 third_want
 
-abbrev pub w33 : World
-w33 = writes_first w32 third_offer 9
+abbrev pub moment33 : World
+moment33 = writes_first moment32 third_offer 9
 
-abbrev pub w34 : World
-w34 = crashes_dirty w33 0
+abbrev pub moment34 : World
+moment34 = crashes_dirty moment33 0
 
-abbrev pub w35 : World
-w35 = restarts_discarding w34 0 3 2
+abbrev pub moment35 : World
+moment35 = restarts_discarding moment34 0 3 2
 
 -- What the run tells, newest act first.
 abbrev pub example_acts : List Act

@@ -22,23 +22,23 @@ absent_want = record { client = 1; incarnation = 1; request = 1; mode = 1; end =
 abbrev pub absent_offer : Offer
 absent_offer = record { client = 1; stamp = 1; incarnation = 1; request = 1; mode = 1; entry = no_entry }
 
-abbrev pub u1 : World
-u1 = asks (start 2) 1 1 1 0
+abbrev pub other_moment1 : World
+other_moment1 = asks (start 2) 1 1 1 0
 
-abbrev pub u2 : World
-u2 = asks_again u1 1 0
+abbrev pub other_moment2 : World
+other_moment2 = asks_again other_moment1 1 0
 
-abbrev pub u3 : World
-u3 = offers u2 absent_want
+abbrev pub other_moment3 : World
+other_moment3 = offers other_moment2 absent_want
 
-abbrev pub u4 : World
-u4 = takes_value u3 absent_offer 0
+abbrev pub other_moment4 : World
+other_moment4 = takes_value other_moment3 absent_offer 0
 
-abbrev pub u5 : World
-u5 = reads u4 1
+abbrev pub other_moment5 : World
+other_moment5 = reads other_moment4 1
 
-abbrev pub u6 : World
-u6 = evicts u5 1
+abbrev pub other_moment6 : World
+other_moment6 = evicts other_moment5 1
 
 -- Client 0 asks to own: client 1 gives what it has evicted, and says so again; client 0 declines what it is offered.
 abbrev pub early_recall : Recall
@@ -53,29 +53,29 @@ declined_want = record { client = 0; incarnation = 1; request = 1; mode = 2; end
 abbrev pub declined_offer : Offer
 declined_offer = record { client = 0; stamp = 4; incarnation = 1; request = 1; mode = 2; entry = no_entry }
 
-abbrev pub u7 : World
-u7 = asks u6 0 2 1 0
+abbrev pub other_moment7 : World
+other_moment7 = asks other_moment6 0 2 1 0
 
-abbrev pub u8 : World
-u8 = recalls u7 1 0
+abbrev pub other_moment8 : World
+other_moment8 = recalls other_moment7 1 0
 
-abbrev pub u9 : World
-u9 = gives u8 early_recall 0
+abbrev pub other_moment9 : World
+other_moment9 = gives other_moment8 early_recall 0
 
-abbrev pub u10 : World
-u10 = gives_again u9 early_recall 0
+abbrev pub other_moment10 : World
+other_moment10 = gives_again other_moment9 early_recall 0
 
-abbrev pub u11 : World
-u11 = notes u10 early_gave
+abbrev pub other_moment11 : World
+other_moment11 = notes other_moment10 early_gave
 
-abbrev pub u12 : World
-u12 = turns u11
+abbrev pub other_moment12 : World
+other_moment12 = turns other_moment11
 
-abbrev pub u13 : World
-u13 = offers u12 declined_want
+abbrev pub other_moment13 : World
+other_moment13 = offers other_moment12 declined_want
 
-abbrev pub u14 : World
-u14 = declines u13 declined_offer
+abbrev pub other_moment14 : World
+other_moment14 = declines other_moment13 declined_offer
 
 -- It asks again, writes 5 and 6, seals, settles and syncs.
 abbrev pub later_want : Want
@@ -84,26 +84,26 @@ later_want = record { client = 0; incarnation = 1; request = 2; mode = 2; end = 
 abbrev pub later_offer : Offer
 later_offer = record { client = 0; stamp = 5; incarnation = 1; request = 2; mode = 2; entry = no_entry }
 
-abbrev pub u15 : World
-u15 = asks u14 0 2 2 0
+abbrev pub other_moment15 : World
+other_moment15 = asks other_moment14 0 2 2 0
 
-abbrev pub u16 : World
-u16 = offers u15 later_want
+abbrev pub other_moment16 : World
+other_moment16 = offers other_moment15 later_want
 
-abbrev pub u17 : World
-u17 = writes_first u16 later_offer 5
+abbrev pub other_moment17 : World
+other_moment17 = writes_first other_moment16 later_offer 5
 
-abbrev pub u18 : World
-u18 = writes u17 0 6
+abbrev pub other_moment18 : World
+other_moment18 = writes other_moment17 0 6
 
-abbrev pub u19 : World
-u19 = seals_with u18 0
+abbrev pub other_moment19 : World
+other_moment19 = seals_with other_moment18 0
 
-abbrev pub u20 : World
-u20 = settles u19 0
+abbrev pub other_moment20 : World
+other_moment20 = settles other_moment19 0
 
-abbrev pub u21 : World
-u21 = syncs u20 2
+abbrev pub other_moment21 : World
+other_moment21 = syncs other_moment20 2
 
 -- Client 1 asks for a copy and is supplied with 6.
 abbrev pub later_recall : Recall
@@ -121,51 +121,51 @@ supplied_want = record { client = 1; incarnation = 1; request = 2; mode = 1; end
 abbrev pub supplied_offer : Offer
 supplied_offer = record { client = 1; stamp = 7; incarnation = 1; request = 2; mode = 1; entry = later_entry }
 
-abbrev pub u22 : World
-u22 = asks u21 1 1 2 0
+abbrev pub other_moment22 : World
+other_moment22 = asks other_moment21 1 1 2 0
 
-abbrev pub u23 : World
-u23 = recalls u22 0 1
+abbrev pub other_moment23 : World
+other_moment23 = recalls other_moment22 0 1
 
-abbrev pub u24 : World
-u24 = gives u23 later_recall 1
+abbrev pub other_moment24 : World
+other_moment24 = gives other_moment23 later_recall 1
 
-abbrev pub u25 : World
-u25 = notes u24 later_gave
+abbrev pub other_moment25 : World
+other_moment25 = notes other_moment24 later_gave
 
-abbrev pub u26 : World
-u26 = applies u25 0 1 later_entry
+abbrev pub other_moment26 : World
+other_moment26 = applies other_moment25 0 1 later_entry
 
-abbrev pub u27 : World
-u27 = offers u26 supplied_want
+abbrev pub other_moment27 : World
+other_moment27 = offers other_moment26 supplied_want
 
-abbrev pub u28 : World
-u28 = takes_value u27 supplied_offer 6
+abbrev pub other_moment28 : World
+other_moment28 = takes_value other_moment27 supplied_offer 6
 
 -- It asks to own and lets that go, and falls with the block clean. Client 0 and the cleaner seal segments without the block; the cleaner reopens.
-abbrev pub u29 : World
-u29 = asks u28 1 2 3 0
+abbrev pub other_moment29 : World
+other_moment29 = asks other_moment28 1 2 3 0
 
-abbrev pub u30 : World
-u30 = drops_want u29 1
+abbrev pub other_moment30 : World
+other_moment30 = drops_want other_moment29 1
 
-abbrev pub u31 : World
-u31 = drops_fetch u30 1
+abbrev pub other_moment31 : World
+other_moment31 = drops_fetch other_moment30 1
 
-abbrev pub u32 : World
-u32 = crashes_clean u31 1
+abbrev pub other_moment32 : World
+other_moment32 = crashes_clean other_moment31 1
 
-abbrev pub u33 : World
-u33 = seals u32 0
+abbrev pub other_moment33 : World
+other_moment33 = seals other_moment32 0
 
-abbrev pub u34 : World
-u34 = seals_other u33 2
+abbrev pub other_moment34 : World
+other_moment34 = seals_other other_moment33 2
 
-abbrev pub u35 : World
-u35 = settles_copy u34 2
+abbrev pub other_moment35 : World
+other_moment35 = settles_copy other_moment34 2
 
-abbrev pub u36 : World
-u36 = discards_copy u35 2
+abbrev pub other_moment36 : World
+other_moment36 = discards_copy other_moment35 2
 
 -- What the run tells, newest act first.
 abbrev pub other_acts : List Act

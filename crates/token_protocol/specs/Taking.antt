@@ -15,7 +15,15 @@ abbrev pub writes_first : World → Offer → ℕ → World
 writes_first w g value =
     let x = w.client g.client in
     record w {
-      client = put w.client g.client (record x { mode = 2; stamp = g.stamp; want = 0; version = suc g.entry.version; value = value; settled = g.entry.version; fetching = 0 });
+      client = put w.client g.client (record x {
+        mode = 2;
+        stamp = g.stamp;
+        want = 0;
+        version = suc g.entry.version;
+        value = value;
+        settled = g.entry.version;
+        fetching = 0;
+      });
       newest = suc w.newest;
       value_at = put w.value_at (suc w.newest) value;
       writer = put w.writer (suc w.newest) g.client;
@@ -32,7 +40,17 @@ declines w g =
 abbrev pub takes_value : World → Offer → ℕ → World
 takes_value w g value =
     let x = w.client g.client in
-    record w { client = put w.client g.client (record x { mode = 1; stamp = g.stamp; want = 0; version = g.entry.version; value = value; settled = g.entry.version; fetching = 0 }) }
+    record w {
+      client = put w.client g.client (record x {
+        mode = 1;
+        stamp = g.stamp;
+        want = 0;
+        version = g.entry.version;
+        value = value;
+        settled = g.entry.version;
+        fetching = 0;
+      });
+    }
 
 -- The entry has no place: that version is absent. Shown by the client's transition for a Grant without a place.
 pub record IsAbsent (g : Offer) : Type 0 where

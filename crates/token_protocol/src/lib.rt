@@ -5,11 +5,11 @@
 
 ghost use Rattle.std.specs.Prelude.{◌≡◌, ℕ, Bool, true};
 ghost use Rattle.token_protocol.specs.Acts.{LegalActs};
-ghost use Rattle.token_protocol.specs.Example.{w35, example_acts};
+ghost use Rattle.token_protocol.specs.Example.{moment35, example_acts};
 ghost use Rattle.token_protocol.specs.Growth.{Grows};
 ghost use Rattle.token_protocol.specs.Laws.{SingleOwner, EpochPromised, BeliefsCover, AcceptableBelieved, NoHolderAfterFall, HoldersNewest, ReadsLegal, JoinIsJoin, JoinNewest, DirtyLeads, FallsLegal, ReturnsLegal};
 ghost use Rattle.token_protocol.specs.Stamps.{TakenSeen, EqualSeen, StampedSeen, ActivationSeen, PromiseSeen, Unheard};
-ghost use Rattle.token_protocol.specs.OtherExample.{u36, other_acts};
+ghost use Rattle.token_protocol.specs.OtherExample.{other_moment36, other_acts};
 ghost use Rattle.token_protocol.specs.Step.{Steps};
 ghost use Rattle.token_protocol.specs.Told.{told};
 ghost use Rattle.token_protocol.specs.World.{World, start};
@@ -78,6 +78,6 @@ pub fn stamps()
 ///   a later manager takes over, the cleaner copies, and the first falls again and returns with nothing adopted.
 /// - `calm_run`: what the first leaves out, as repetitions, an absent block, a refused write, a Supply, a sync, an eviction, a clean fall.
 pub fn example()
-    ensures fault_run { (steps : Steps true (start 2) w35) × (told (start 2) w35 steps ≡ example_acts) }
-    ensures calm_run { (steps : Steps true (start 2) u36) × (told (start 2) u36 steps ≡ other_acts) }
+    ensures fault_run { (steps : Steps true (start 2) moment35) × (told (start 2) moment35 steps ≡ example_acts) }
+    ensures calm_run { (steps : Steps true (start 2) other_moment36) × (told (start 2) other_moment36 steps ≡ other_acts) }
 {}

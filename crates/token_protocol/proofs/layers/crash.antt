@@ -1,4 +1,5 @@
--- Layer 3, client crashes: a client that fell with the block dirty is still believed to own it. It stands on bookkeeping and tokens, and holds with them in runs whose logs lose what they held.
+-- Layer 3, client crashes: a client that fell with the block dirty is still believed to own it. It stands on bookkeeping and tokens, and holds with
+-- them in runs whose logs lose what they held.
 pub mod Fallen
 use Rattle.std.proofs.Common.{ℕ, Bool}
 use Rattle.token_protocol.specs.World.{World, start}

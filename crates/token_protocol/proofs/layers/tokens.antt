@@ -1,4 +1,5 @@
--- Layer 2, tokens: what is held, given, reported and believed. It stands on bookkeeping alone: no fact here speaks of versions or logs, and it holds in runs whose logs lose what they held.
+-- Layer 2, tokens: what is held, given, reported and believed. It stands on bookkeeping alone: no fact here speaks of versions or logs, and it holds
+-- in runs whose logs lose what they held.
 pub mod Giving
 pub mod Reporting
 pub mod Believing

@@ -28,7 +28,8 @@ report_keeps_promising w who end h serving promising = record {
   deaf_fetch = promising.deaf_fetch;
 }
 
-activate_keeps_promising : (w : World) (epoch : ℕ) (report : ℕ → Report) (applied : ℕ → ℕ) (e : Entry) → MayActivate w epoch report → Serving w → Promising w → Promising (activates w epoch report applied e)
+activate_keeps_promising : (w : World) (epoch : ℕ) (report : ℕ → Report) (applied : ℕ → ℕ) (e : Entry) → MayActivate w epoch report → Serving w → Promising w
+    → Promising (activates w epoch report applied e)
 activate_keeps_promising w epoch report applied e h serving promising = record {
   report_promised = λ y k0. grind (arith, nat_tests, promising.report_promised y);
   report_member = promising.report_member;

@@ -110,7 +110,8 @@ take_absent_keeps_stamps w taken h t serving stamps = record {
   awaited_turn = stamps.awaited_turn;
 }
 
-take_supply_keeps_stamps : (w : World) (taken : Offer) (value : ℕ) → MayTake w taken 1 → IsSupplied w taken value → Serving w → Stamps w → Stamps (takes_value w taken value)
+take_supply_keeps_stamps : (w : World) (taken : Offer) (value : ℕ) → MayTake w taken 1 → IsSupplied w taken value → Serving w → Stamps w
+    → Stamps (takes_value w taken value)
 take_supply_keeps_stamps w taken value h t serving stamps = record {
   offer_turn = stamps.offer_turn;
   recall_turn = stamps.recall_turn;

@@ -32,7 +32,8 @@ pub record Values (w : World) : Type 0 where
   -- Where an offer has no place its version is absent.
   pub offer_absent : (g : Offer) → In g w.offers → g.entry.placed ≡ 0 → w.value_at g.entry.version ≡ 0
 
-write_first_keeps_values : (w : World) (taken : Offer) (value : ℕ) → MayTake w taken 2 → Bookkeeping w → Tokens w → Crash w → Logs w → Filing w → Versions w → Values w → Values (writes_first w taken value)
+write_first_keeps_values : (w : World) (taken : Offer) (value : ℕ) → MayTake w taken 2 → Bookkeeping w → Tokens w → Crash w → Logs w → Filing w → Versions w → Values w
+    → Values (writes_first w taken value)
 write_first_keeps_values w taken value h book tokens crash logs filing versions values = record {
   absent_value = grind (arith, nat_tests, values.absent_value);
   rows_value = λ c q k0. grind (arith, nat_tests, values.rows_value c q);
@@ -41,7 +42,8 @@ write_first_keeps_values w taken value h book tokens crash logs filing versions 
   offer_absent = λ g k0 k1. grind (arith, nat_tests, values.offer_absent g, filing.index.offer_join g k0, versions.join_newest);
 }
 
-write_keeps_values : (w : World) (who value : ℕ) → MayWrite w who → Bookkeeping w → Tokens w → Crash w → Logs w → Filing w → Versions w → Values w → Values (writes w who value)
+write_keeps_values : (w : World) (who value : ℕ) → MayWrite w who → Bookkeeping w → Tokens w → Crash w → Logs w → Filing w → Versions w → Values w
+    → Values (writes w who value)
 write_keeps_values w who value h book tokens crash logs filing versions values = record {
   absent_value = grind (arith, nat_tests, values.absent_value);
   rows_value = λ c q k0. grind (arith, nat_tests, values.rows_value c q);
@@ -50,7 +52,8 @@ write_keeps_values w who value h book tokens crash logs filing versions values =
   offer_absent = λ g k0 k1. grind (arith, nat_tests, values.offer_absent g, filing.index.offer_join g k0, versions.join_newest);
 }
 
-seal_with_keeps_values : (w : World) (who : ℕ) → MaySealWith w who → Bookkeeping w → Tokens w → Crash w → Logs w → Filing w → Versions w → Values w → Values (seals_with w who)
+seal_with_keeps_values : (w : World) (who : ℕ) → MaySealWith w who → Bookkeeping w → Tokens w → Crash w → Logs w → Filing w → Versions w → Values w
+    → Values (seals_with w who)
 seal_with_keeps_values w who h book tokens crash logs filing versions values = record {
   absent_value = grind (arith, nat_tests, values.absent_value);
   rows_value = λ c q k0. grind (arith, nat_tests, values.rows_value c q);
@@ -59,7 +62,8 @@ seal_with_keeps_values w who h book tokens crash logs filing versions values = r
   offer_absent = λ g k0 k1. grind (arith, nat_tests, values.offer_absent g);
 }
 
-restart_discarding_keeps_values : (w : World) (who incarnation promised : ℕ) → MayRestart w who incarnation promised → Bookkeeping w → Tokens w → Crash w → Logs w → Filing w → Versions w → Values w → Values (restarts_discarding w who incarnation promised)
+restart_discarding_keeps_values : (w : World) (who incarnation promised : ℕ) → MayRestart w who incarnation promised → Bookkeeping w → Tokens w → Crash w → Logs w
+    → Filing w → Versions w → Values w → Values (restarts_discarding w who incarnation promised)
 restart_discarding_keeps_values w who incarnation promised h book tokens crash logs filing versions values = record {
   absent_value = grind (arith, nat_tests, values.absent_value);
   rows_value = λ c q k0. grind (arith, nat_tests, values.rows_value c q);
@@ -68,7 +72,8 @@ restart_discarding_keeps_values w who incarnation promised h book tokens crash l
   offer_absent = λ g k0 k1. grind (arith, nat_tests, values.offer_absent g);
 }
 
-seal_copy_keeps_values : (w : World) (who log segment : ℕ) → MaySealCopy w who → OriginalFiled w log segment → Bookkeeping w → Tokens w → Crash w → Logs w → Filing w → Versions w → Values w → Values (seals_copy w who log segment)
+seal_copy_keeps_values : (w : World) (who log segment : ℕ) → MaySealCopy w who → OriginalFiled w log segment → Bookkeeping w → Tokens w → Crash w → Logs w → Filing w
+    → Versions w → Values w → Values (seals_copy w who log segment)
 seal_copy_keeps_values w who log segment h k book tokens crash logs filing versions values = record {
   absent_value = grind (arith, nat_tests, values.absent_value);
   rows_value = λ c q k0. grind (arith, nat_tests, values.rows_value c q);
@@ -77,7 +82,8 @@ seal_copy_keeps_values w who log segment h k book tokens crash logs filing versi
   offer_absent = λ g k0 k1. grind (arith, nat_tests, values.offer_absent g);
 }
 
-discard_copy_keeps_values : (w : World) (who : ℕ) → MayDiscardCopy w who → Bookkeeping w → Tokens w → Crash w → Logs w → Filing w → Versions w → Values w → Values (discards_copy w who)
+discard_copy_keeps_values : (w : World) (who : ℕ) → MayDiscardCopy w who → Bookkeeping w → Tokens w → Crash w → Logs w → Filing w → Versions w → Values w
+    → Values (discards_copy w who)
 discard_copy_keeps_values w who h book tokens crash logs filing versions values = record {
   absent_value = grind (arith, nat_tests, values.absent_value);
   rows_value = λ c q k0. grind (arith, nat_tests, values.rows_value c q);

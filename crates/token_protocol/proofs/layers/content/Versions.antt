@@ -63,7 +63,8 @@ settle_keeps_versions w who h book tokens crash logs filing versions = record {
   fallen_high = λ c k0. grind (arith, nat_tests, versions.fallen_high c);
 }
 
-crash_dirty_keeps_versions : (w : World) (who : ℕ) → MayCrashDirty w who → Bookkeeping w → Tokens w → Crash w → Logs w → Filing w → Versions w → Versions (crashes_dirty w who)
+crash_dirty_keeps_versions : (w : World) (who : ℕ) → MayCrashDirty w who → Bookkeeping w → Tokens w → Crash w → Logs w → Filing w → Versions w
+    → Versions (crashes_dirty w who)
 crash_dirty_keeps_versions w who h book tokens crash logs filing versions = record {
   rows_newest = λ c q. grind (arith, nat_tests, versions.rows_newest c q);
   join_newest = grind (arith, nat_tests, versions.join_newest);
@@ -76,7 +77,8 @@ crash_dirty_keeps_versions w who h book tokens crash logs filing versions = reco
   fallen_high = λ c k0. grind (arith, nat_tests, versions.fallen_high c);
 }
 
-restart_discarding_keeps_versions : (w : World) (who incarnation promised : ℕ) → MayRestart w who incarnation promised → Bookkeeping w → Tokens w → Crash w → Logs w → Filing w → Versions w → Versions (restarts_discarding w who incarnation promised)
+restart_discarding_keeps_versions : (w : World) (who incarnation promised : ℕ) → MayRestart w who incarnation promised
+    → Bookkeeping w → Tokens w → Crash w → Logs w → Filing w → Versions w → Versions (restarts_discarding w who incarnation promised)
 restart_discarding_keeps_versions w who incarnation promised h book tokens crash logs filing versions = record {
   rows_newest = λ c q. grind (arith, nat_tests, versions.rows_newest c q);
   join_newest = grind (arith, nat_tests, versions.join_newest);
@@ -89,7 +91,8 @@ restart_discarding_keeps_versions w who incarnation promised h book tokens crash
   fallen_high = λ c k0. grind (arith, nat_tests, versions.fallen_high c);
 }
 
-seal_copy_keeps_versions : (w : World) (who log segment : ℕ) → MaySealCopy w who → OriginalFiled w log segment → Bookkeeping w → Tokens w → Crash w → Logs w → Filing w → Versions w → Versions (seals_copy w who log segment)
+seal_copy_keeps_versions : (w : World) (who log segment : ℕ) → MaySealCopy w who → OriginalFiled w log segment → Bookkeeping w → Tokens w → Crash w → Logs w → Filing w
+    → Versions w → Versions (seals_copy w who log segment)
 seal_copy_keeps_versions w who log segment h k book tokens crash logs filing versions = record {
   rows_newest = λ c q. grind (arith, nat_tests, versions.rows_newest c q);
   join_newest = grind (arith, nat_tests, versions.join_newest);
@@ -102,7 +105,8 @@ seal_copy_keeps_versions w who log segment h k book tokens crash logs filing ver
   fallen_high = λ c k0. grind (arith, nat_tests, versions.fallen_high c);
 }
 
-discard_copy_keeps_versions : (w : World) (who : ℕ) → MayDiscardCopy w who → Bookkeeping w → Tokens w → Crash w → Logs w → Filing w → Versions w → Versions (discards_copy w who)
+discard_copy_keeps_versions : (w : World) (who : ℕ) → MayDiscardCopy w who → Bookkeeping w → Tokens w → Crash w → Logs w → Filing w → Versions w
+    → Versions (discards_copy w who)
 discard_copy_keeps_versions w who h book tokens crash logs filing versions = record {
   rows_newest = λ c q. grind (arith, nat_tests, versions.rows_newest c q);
   join_newest = grind (arith, nat_tests, versions.join_newest);

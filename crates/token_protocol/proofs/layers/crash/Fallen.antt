@@ -76,11 +76,28 @@ crash_dirty_keeps_fallen w who h book tokens fallen = record {
   outsider_fallen = λ c k0. grind (arith, nat_tests, fallen.outsider_fallen c);
   fallen_down = λ c k0. grind (arith, nat_tests, fallen.fallen_down c);
   fallen_believed = λ c k0. grind (arith, nat_tests, fallen.fallen_believed c, tokens.believing.covers c, book.asking.dirty_owned c, tokens.believing.single c (suc c));
-  fallen_given = λ c x k0 k1 k2 k3. grind (arith, nat_tests, fallen.fallen_given c x, tokens.giving.given_mode x k1, book.asking.dirty_owned who, book.awaiting.keep_small who, book.stamps.gave_positive x k1);
-  report_fallen = λ y k0 k1 k2. grind (arith, nat_tests, fallen.report_fallen y, tokens.reporting.report_mode y k0 k1, book.asking.dirty_owned who, tokens.believing.report_belief y k0 k1, tokens.believing.single y.client (suc y.client));
+  fallen_given = λ c x k0 k1 k2 k3. grind (
+    arith,
+    nat_tests,
+    fallen.fallen_given c x,
+    tokens.giving.given_mode x k1,
+    book.asking.dirty_owned who,
+    book.awaiting.keep_small who,
+    book.stamps.gave_positive x k1,
+  );
+  report_fallen = λ y k0 k1 k2. grind (
+    arith,
+    nat_tests,
+    fallen.report_fallen y,
+    tokens.reporting.report_mode y k0 k1,
+    book.asking.dirty_owned who,
+    tokens.believing.report_belief y k0 k1,
+    tokens.believing.single y.client (suc y.client),
+  );
 }
 
-restart_adopting_keeps_fallen : (w : World) (who incarnation promised : ℕ) → MayRestart w who incarnation promised → Bookkeeping w → Tokens w → Fallen w → Fallen (restarts_adopting w who incarnation promised)
+restart_adopting_keeps_fallen : (w : World) (who incarnation promised : ℕ) → MayRestart w who incarnation promised → Bookkeeping w → Tokens w → Fallen w
+    → Fallen (restarts_adopting w who incarnation promised)
 restart_adopting_keeps_fallen w who incarnation promised h book tokens fallen = record {
   outsider_fallen = λ c k0. grind (arith, nat_tests, fallen.outsider_fallen c);
   fallen_down = λ c k0. grind (arith, nat_tests, fallen.fallen_down c);
@@ -89,7 +106,8 @@ restart_adopting_keeps_fallen w who incarnation promised h book tokens fallen = 
   report_fallen = λ y k0 k1 k2. grind (arith, nat_tests, fallen.report_fallen y);
 }
 
-restart_discarding_keeps_fallen : (w : World) (who incarnation promised : ℕ) → MayRestart w who incarnation promised → Bookkeeping w → Tokens w → Fallen w → Fallen (restarts_discarding w who incarnation promised)
+restart_discarding_keeps_fallen : (w : World) (who incarnation promised : ℕ) → MayRestart w who incarnation promised → Bookkeeping w → Tokens w → Fallen w
+    → Fallen (restarts_discarding w who incarnation promised)
 restart_discarding_keeps_fallen w who incarnation promised h book tokens fallen = record {
   outsider_fallen = λ c k0. grind (arith, nat_tests, fallen.outsider_fallen c);
   fallen_down = λ c k0. grind (arith, nat_tests, fallen.fallen_down c);
@@ -107,11 +125,21 @@ report_keeps_fallen w who end h book tokens fallen = record {
   report_fallen = λ y k0 k1 k2. grind (arith, nat_tests, fallen.report_fallen y);
 }
 
-activate_keeps_fallen : (w : World) (epoch : ℕ) (report : ℕ → Report) (applied : ℕ → ℕ) (e : Entry) → MayActivate w epoch report → Bookkeeping w → Tokens w → Fallen w → Fallen (activates w epoch report applied e)
+activate_keeps_fallen : (w : World) (epoch : ℕ) (report : ℕ → Report) (applied : ℕ → ℕ) (e : Entry) → MayActivate w epoch report → Bookkeeping w → Tokens w → Fallen w
+    → Fallen (activates w epoch report applied e)
 activate_keeps_fallen w epoch report applied e h book tokens fallen = record {
   outsider_fallen = λ c k0. grind (arith, nat_tests, fallen.outsider_fallen c);
   fallen_down = λ c k0. grind (arith, nat_tests, fallen.fallen_down c);
-  fallen_believed = λ c k0. grind (arith, nat_tests, fallen.fallen_believed c, h.sent c, h.sender c, h.asked c, fallen.report_fallen (report c), fallen.outsider_fallen c);
+  fallen_believed = λ c k0. grind (
+    arith,
+    nat_tests,
+    fallen.fallen_believed c,
+    h.sent c,
+    h.sender c,
+    h.asked c,
+    fallen.report_fallen (report c),
+    fallen.outsider_fallen c,
+  );
   fallen_given = λ c x k0 k1 k2 k3. grind (arith, nat_tests, fallen.fallen_given c x);
   report_fallen = λ y k0 k1 k2. grind (arith, nat_tests, fallen.report_fallen y);
 }

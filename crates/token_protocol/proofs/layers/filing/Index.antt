@@ -78,7 +78,8 @@ take_place_keeps_index w taken h t book logs joined index = record {
   fetch_row = λ c k0. grind (arith, nat_tests, index.fetch_row c, index.offer_row taken h.sent);
 }
 
-apply_keeps_index : (w : World) (who upto : ℕ) (e : Entry) → MayApply w who upto → IndexCovers w who upto e → Bookkeeping w → Logs w → Joined w → Index w → Index (applies w who upto e)
+apply_keeps_index : (w : World) (who upto : ℕ) (e : Entry) → MayApply w who upto → IndexCovers w who upto e → Bookkeeping w → Logs w → Joined w → Index w
+    → Index (applies w who upto e)
 apply_keeps_index w who upto e h k book logs joined index = record {
   index_rows = λ c q k0. grind (arith, nat_tests, index.index_rows c q);
   index_join = merged_version w e k.source joined index;
@@ -108,7 +109,8 @@ settle_keeps_index w who h book logs joined index = record {
   fetch_row = λ c k0. grind (arith, nat_tests, index.fetch_row c);
 }
 
-restart_adopting_keeps_index : (w : World) (who incarnation promised : ℕ) → MayRestart w who incarnation promised → TailAdopted w who → Bookkeeping w → Logs w → Joined w → Index w → Index (restarts_adopting w who incarnation promised)
+restart_adopting_keeps_index : (w : World) (who incarnation promised : ℕ) → MayRestart w who incarnation promised → TailAdopted w who → Bookkeeping w → Logs w → Joined w
+    → Index w → Index (restarts_adopting w who incarnation promised)
 restart_adopting_keeps_index w who incarnation promised h k book logs joined index = record {
   index_rows = λ c q k0. grind (arith, nat_tests, index.index_rows c q);
   index_join = grind (arith, nat_tests, index.index_join);
@@ -118,7 +120,8 @@ restart_adopting_keeps_index w who incarnation promised h k book logs joined ind
   fetch_row = λ c k0. grind (arith, nat_tests, index.fetch_row c);
 }
 
-restart_discarding_keeps_index : (w : World) (who incarnation promised : ℕ) → MayRestart w who incarnation promised → Bookkeeping w → Logs w → Joined w → Index w → Index (restarts_discarding w who incarnation promised)
+restart_discarding_keeps_index : (w : World) (who incarnation promised : ℕ) → MayRestart w who incarnation promised → Bookkeeping w → Logs w → Joined w → Index w
+    → Index (restarts_discarding w who incarnation promised)
 restart_discarding_keeps_index w who incarnation promised h book logs joined index = record {
   index_rows = λ c q k0. grind (arith, nat_tests, index.index_rows c q);
   index_join = grind (arith, nat_tests, index.index_join);
@@ -128,7 +131,8 @@ restart_discarding_keeps_index w who incarnation promised h book logs joined ind
   fetch_row = λ c k0. grind (arith, nat_tests, index.fetch_row c);
 }
 
-activate_keeps_index : (w : World) (epoch : ℕ) (report : ℕ → Report) (applied : ℕ → ℕ) (e : Entry) → MayActivate w epoch report → IndexGathered w report applied e → Bookkeeping w → Logs w → Joined w → Index w → Index (activates w epoch report applied e)
+activate_keeps_index : (w : World) (epoch : ℕ) (report : ℕ → Report) (applied : ℕ → ℕ) (e : Entry) → MayActivate w epoch report → IndexGathered w report applied e
+    → Bookkeeping w → Logs w → Joined w → Index w → Index (activates w epoch report applied e)
 activate_keeps_index w epoch report applied e h k book logs joined index = record {
   index_rows = λ c q k0. grind (arith, nat_tests, index.index_rows c q);
   index_join = filed_version w e k.source joined;
@@ -138,7 +142,8 @@ activate_keeps_index w epoch report applied e h k book logs joined index = recor
   fetch_row = index.fetch_row;
 }
 
-seal_copy_keeps_index : (w : World) (who log segment : ℕ) → MaySealCopy w who → OriginalFiled w log segment → Bookkeeping w → Logs w → Joined w → Index w → Index (seals_copy w who log segment)
+seal_copy_keeps_index : (w : World) (who log segment : ℕ) → MaySealCopy w who → OriginalFiled w log segment → Bookkeeping w → Logs w → Joined w → Index w
+    → Index (seals_copy w who log segment)
 seal_copy_keeps_index w who log segment h k book logs joined index = record {
   index_rows = λ c q k0. grind (arith, nat_tests, index.index_rows c q);
   index_join = grind (arith, nat_tests, index.index_join);

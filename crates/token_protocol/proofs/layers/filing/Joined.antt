@@ -27,14 +27,16 @@ seal_with_keeps_joined w who h book logs joined = record {
   join_row = λ k0. grind (arith, nat_tests, joined.join_row);
 }
 
-restart_discarding_keeps_joined : (w : World) (who incarnation promised : ℕ) → MayRestart w who incarnation promised → Bookkeeping w → Logs w → Joined w → Joined (restarts_discarding w who incarnation promised)
+restart_discarding_keeps_joined : (w : World) (who incarnation promised : ℕ) → MayRestart w who incarnation promised → Bookkeeping w → Logs w → Joined w
+    → Joined (restarts_discarding w who incarnation promised)
 restart_discarding_keeps_joined w who incarnation promised h book logs joined = record {
   rows_join = λ c q k0. grind (arith, nat_tests, joined.rows_join c q);
   copy_join = λ c k0. grind (arith, nat_tests, joined.copy_join c);
   join_row = λ k0. grind (arith, nat_tests, joined.join_row);
 }
 
-seal_copy_keeps_joined : (w : World) (who log segment : ℕ) → MaySealCopy w who → OriginalFiled w log segment → Bookkeeping w → Logs w → Joined w → Joined (seals_copy w who log segment)
+seal_copy_keeps_joined : (w : World) (who log segment : ℕ) → MaySealCopy w who → OriginalFiled w log segment → Bookkeeping w → Logs w → Joined w
+    → Joined (seals_copy w who log segment)
 seal_copy_keeps_joined w who log segment h k book logs joined = record {
   rows_join = λ c q k0. grind (arith, nat_tests, joined.rows_join c q);
   copy_join = λ c k0. grind (arith, nat_tests, joined.copy_join c, joined.rows_join log segment);

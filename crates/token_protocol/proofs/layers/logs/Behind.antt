@@ -27,7 +27,8 @@ pub record Behind (w : World) : Type 0 where
   -- Every row of who gave for the awaited Recall is at or below the end that it named.
   pub unapplied_gave : (x : Gave) (q : ℕ) → In x w.gaves → w.awaited x.client ≡ x.stamp → 0 < (w.rows x.client q).version → q ≤ x.end
   -- Every row of who has a want open is at or below the end that it named.
-  pub unapplied_want : (p : Want) (q : ℕ) → In p w.wants → 0 < (w.client p.client).want → (w.client p.client).incarnation ≡ p.incarnation → (w.client p.client).request ≡ p.request → 0 < (w.rows p.client q).version → q ≤ p.end
+  pub unapplied_want : (p : Want) (q : ℕ) → In p w.wants → 0 < (w.client p.client).want → (w.client p.client).incarnation ≡ p.incarnation
+      → (w.client p.client).request ≡ p.request → 0 < (w.rows p.client q).version → q ≤ p.end
   -- Every row of who reports for a later epoch that it does not own is at or below the end that it named.
   pub unapplied_report : (y : Report) (q : ℕ) → In y w.reports → w.epoch < y.epoch → y.mode ≤ 1 → 0 < (w.rows y.client q).version → q ≤ y.end
 
@@ -39,10 +40,17 @@ recall_keeps_behind w who keep h book tokens crash rows flight behind = record {
   unapplied_report = behind.unapplied_report;
 }
 
-give_again_keeps_behind : (w : World) (answered : Recall) (end : ℕ) → MayGiveAgain w answered → SettledEnd w answered.client end → Bookkeeping w → Tokens w → Crash w → Rows w → Flight w → Behind w → Behind (gives_again w answered end)
+give_again_keeps_behind : (w : World) (answered : Recall) (end : ℕ) → MayGiveAgain w answered → SettledEnd w answered.client end → Bookkeeping w → Tokens w → Crash w
+    → Rows w → Flight w → Behind w → Behind (gives_again w answered end)
 give_again_keeps_behind w answered end h k book tokens crash rows flight behind = record {
   unapplied = behind.unapplied;
-  unapplied_gave = λ x q k0 k1 k2. grind (arith, nat_tests, behind.unapplied_gave x q, tokens.giving.recalled answered h.sent h.equal, book.stamps.recall_small answered h.sent);
+  unapplied_gave = λ x q k0 k1 k2. grind (
+    arith,
+    nat_tests,
+    behind.unapplied_gave x q,
+    tokens.giving.recalled answered h.sent h.equal,
+    book.stamps.recall_small answered h.sent,
+  );
   unapplied_want = behind.unapplied_want;
   unapplied_report = behind.unapplied_report;
 }
@@ -58,12 +66,20 @@ note_keeps_behind w noted h book tokens crash rows flight behind = record {
 seal_with_keeps_behind : (w : World) (who : ℕ) → MaySealWith w who → Bookkeeping w → Tokens w → Crash w → Rows w → Flight w → Behind w → Behind (seals_with w who)
 seal_with_keeps_behind w who h book tokens crash rows flight behind = record {
   unapplied = λ c q k0 k1 k2 k3. grind (arith, nat_tests, behind.unapplied c q);
-  unapplied_gave = λ x q k0 k1 k2. grind (arith, nat_tests, behind.unapplied_gave x q, tokens.giving.given_mode x k0 k1, book.awaiting.keep_small x.client, book.stamps.gave_positive x k0);
+  unapplied_gave = λ x q k0 k1 k2. grind (
+    arith,
+    nat_tests,
+    behind.unapplied_gave x q,
+    tokens.giving.given_mode x k0 k1,
+    book.awaiting.keep_small x.client,
+    book.stamps.gave_positive x k0,
+  );
   unapplied_want = λ p q k0 k1 k2 k3 k4. grind (arith, nat_tests, behind.unapplied_want p q);
   unapplied_report = λ y q k0 k1 k2 k3. grind (arith, nat_tests, behind.unapplied_report y q);
 }
 
-restart_discarding_keeps_behind : (w : World) (who incarnation promised : ℕ) → MayRestart w who incarnation promised → Bookkeeping w → Tokens w → Crash w → Rows w → Flight w → Behind w → Behind (restarts_discarding w who incarnation promised)
+restart_discarding_keeps_behind : (w : World) (who incarnation promised : ℕ) → MayRestart w who incarnation promised → Bookkeeping w → Tokens w → Crash w → Rows w
+    → Flight w → Behind w → Behind (restarts_discarding w who incarnation promised)
 restart_discarding_keeps_behind w who incarnation promised h book tokens crash rows flight behind = record {
   unapplied = λ c q k0 k1 k2 k3. grind (arith, nat_tests, behind.unapplied c q);
   unapplied_gave = λ x q k0 k1 k2. grind (arith, nat_tests, behind.unapplied_gave x q);
@@ -71,7 +87,8 @@ restart_discarding_keeps_behind w who incarnation promised h book tokens crash r
   unapplied_report = λ y q k0 k1 k2 k3. grind (arith, nat_tests, behind.unapplied_report y q);
 }
 
-activate_keeps_behind : (w : World) (epoch : ℕ) (report : ℕ → Report) (applied : ℕ → ℕ) (e : Entry) → MayActivate w epoch report → IndexGathered w report applied e → Bookkeeping w → Tokens w → Crash w → Rows w → Flight w → Behind w → Behind (activates w epoch report applied e)
+activate_keeps_behind : (w : World) (epoch : ℕ) (report : ℕ → Report) (applied : ℕ → ℕ) (e : Entry) → MayActivate w epoch report → IndexGathered w report applied e
+    → Bookkeeping w → Tokens w → Crash w → Rows w → Flight w → Behind w → Behind (activates w epoch report applied e)
 activate_keeps_behind w epoch report applied e h k book tokens crash rows flight behind = record {
   unapplied = λ c q k0 k1 k2 k3. grind (arith, nat_tests, behind.unapplied c q, h.sent c, h.sender c, h.asked c, behind.unapplied_report (report c) q, k.reported c);
   unapplied_gave = λ x q k0 k1 k2. grind (arith, nat_tests, behind.unapplied_gave x q);
@@ -79,7 +96,8 @@ activate_keeps_behind w epoch report applied e h k book tokens crash rows flight
   unapplied_report = λ y q k0 k1 k2 k3. grind (arith, nat_tests, behind.unapplied_report y q);
 }
 
-seal_copy_keeps_behind : (w : World) (who log segment : ℕ) → MaySealCopy w who → OriginalFiled w log segment → Bookkeeping w → Tokens w → Crash w → Rows w → Flight w → Behind w → Behind (seals_copy w who log segment)
+seal_copy_keeps_behind : (w : World) (who log segment : ℕ) → MaySealCopy w who → OriginalFiled w log segment → Bookkeeping w → Tokens w → Crash w → Rows w → Flight w
+    → Behind w → Behind (seals_copy w who log segment)
 seal_copy_keeps_behind w who log segment h k book tokens crash rows flight behind = record {
   unapplied = λ c q k0 k1 k2 k3. grind (arith, nat_tests, behind.unapplied c q);
   unapplied_gave = λ x q k0 k1 k2. grind (arith, nat_tests, behind.unapplied_gave x q, book.stamps.gave_member x k0);
@@ -87,7 +105,8 @@ seal_copy_keeps_behind w who log segment h k book tokens crash rows flight behin
   unapplied_report = λ y q k0 k1 k2 k3. grind (arith, nat_tests, behind.unapplied_report y q, book.promising.report_member y k0);
 }
 
-discard_copy_keeps_behind : (w : World) (who : ℕ) → MayDiscardCopy w who → Bookkeeping w → Tokens w → Crash w → Rows w → Flight w → Behind w → Behind (discards_copy w who)
+discard_copy_keeps_behind : (w : World) (who : ℕ) → MayDiscardCopy w who → Bookkeeping w → Tokens w → Crash w → Rows w → Flight w → Behind w
+    → Behind (discards_copy w who)
 discard_copy_keeps_behind w who h book tokens crash rows flight behind = record {
   unapplied = λ c q k0 k1 k2 k3. grind (arith, nat_tests, behind.unapplied c q);
   unapplied_gave = λ x q k0 k1 k2. grind (arith, nat_tests, behind.unapplied_gave x q);

@@ -25,7 +25,8 @@ seal_with_keeps_rows w who h rows = record {
   applied_end = rows.applied_end;
 }
 
-restart_discarding_keeps_rows : (w : World) (who incarnation promised : ℕ) → MayRestart w who incarnation promised → Rows w → Rows (restarts_discarding w who incarnation promised)
+restart_discarding_keeps_rows : (w : World) (who incarnation promised : ℕ) → MayRestart w who incarnation promised → Rows w
+    → Rows (restarts_discarding w who incarnation promised)
 restart_discarding_keeps_rows w who incarnation promised h rows = record {
   flight_one = λ c. grind (arith, nat_tests, rows.flight_one c);
   rows_end = λ c q k0. grind (arith, nat_tests, rows.rows_end c q);

@@ -34,13 +34,46 @@ note_keeps_believing w noted h book giving reporting believing = record {
   report_belief = λ y k0 k1. grind (arith, nat_tests, believing.report_belief y);
 }
 
-activate_keeps_believing : (w : World) (epoch : ℕ) (report : ℕ → Report) (applied : ℕ → ℕ) (e : Entry) → MayActivate w epoch report → Bookkeeping w → Giving w → Reporting w → Believing w → Believing (activates w epoch report applied e)
+activate_keeps_believing : (w : World) (epoch : ℕ) (report : ℕ → Report) (applied : ℕ → ℕ) (e : Entry) → MayActivate w epoch report → Bookkeeping w → Giving w
+    → Reporting w → Believing w → Believing (activates w epoch report applied e)
 activate_keeps_believing w epoch report applied e h book giving reporting believing = record {
   covers = λ c. grind (arith, nat_tests, believing.covers c, h.sent c, h.sender c, h.asked c, reporting.report_mode (report c));
-  covers_fetch = λ c k0. grind (arith, nat_tests, believing.covers_fetch c, h.sent c, h.sender c, h.asked c, book.promising.report_promised (report c), book.promising.deaf_fetch c, book.serving.outsider_down c, book.serving.down_fetch c);
-  single = λ c d k0. grind (arith, nat_tests, believing.single c d, h.sent c, h.sender c, h.asked c, h.sent d, h.sender d, h.asked d, believing.report_belief (report c), believing.report_belief (report d));
+  covers_fetch = λ c k0. grind (
+    arith,
+    nat_tests,
+    believing.covers_fetch c,
+    h.sent c,
+    h.sender c,
+    h.asked c,
+    book.promising.report_promised (report c),
+    book.promising.deaf_fetch c,
+    book.serving.outsider_down c,
+    book.serving.down_fetch c,
+  );
+  single = λ c d k0. grind (
+    arith,
+    nat_tests,
+    believing.single c d,
+    h.sent c,
+    h.sender c,
+    h.asked c,
+    h.sent d,
+    h.sender d,
+    h.asked d,
+    believing.report_belief (report c),
+    believing.report_belief (report d),
+  );
   pending = λ g k0 k1. grind (arith, nat_tests, believing.pending g);
-  report_belief = λ y k0 k1. grind (arith, nat_tests, believing.report_belief y, reporting.report_order y (report y.client) k0, book.promising.report_member y k0, h.sent y.client, h.sender y.client, h.asked y.client);
+  report_belief = λ y k0 k1. grind (
+    arith,
+    nat_tests,
+    believing.report_belief y,
+    reporting.report_order y (report y.client) k0,
+    book.promising.report_member y k0,
+    h.sent y.client,
+    h.sender y.client,
+    h.asked y.client,
+  );
 }
 
 pub keeps : (logs : Bool) (w v : World) → Step logs w v → Bookkeeping w → Giving w → Reporting w → Believing w → Believing v

@@ -27,7 +27,11 @@ pub record Giving (w : World) : Type 0 where
 kept : (w : World) (r : Recall) → In r w.recalls → w.awaited r.client ≡ r.stamp → Bookkeeping w → r.keep ≡ w.keep r.client
 kept w r sent is book =
     let pos = book.stamps.recall_positive r sent in
-    book.stamps.recall_one r (record { client = r.client; stamp = w.awaited r.client; keep = w.keep r.client }) sent (book.awaiting.awaited_sent r.client (omega arith)) refl (sym is)
+    book.stamps.recall_one r (record {
+      client = r.client;
+      stamp = w.awaited r.client;
+      keep = w.keep r.client;
+    }) sent (book.awaiting.awaited_sent r.client (omega arith)) refl (sym is)
 
 offer_keeps_giving : (w : World) (asked : Want) → MayOffer w asked → Bookkeeping w → Giving w → Giving (offers w asked)
 offer_keeps_giving w asked h book giving = record {
@@ -74,7 +78,8 @@ take_absent_keeps_giving w taken h t book giving = record {
   given_offer = λ x g k0 k1 k2 k3 k4. grind (arith, nat_tests, giving.given_offer x g);
 }
 
-take_supply_keeps_giving : (w : World) (taken : Offer) (value : ℕ) → MayTake w taken 1 → IsSupplied w taken value → Bookkeeping w → Giving w → Giving (takes_value w taken value)
+take_supply_keeps_giving : (w : World) (taken : Offer) (value : ℕ) → MayTake w taken 1 → IsSupplied w taken value → Bookkeeping w → Giving w
+    → Giving (takes_value w taken value)
 take_supply_keeps_giving w taken value h t book giving = record {
   recalled = λ r k0 k1. grind (arith, nat_tests, giving.recalled r, book.stamps.apart taken r h.sent k0);
   recalled_fetch = λ r k0 k1. grind (arith, nat_tests, giving.recalled_fetch r, book.stamps.apart taken r h.sent k0);

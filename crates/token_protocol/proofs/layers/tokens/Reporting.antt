@@ -19,7 +19,8 @@ pub record Reporting (w : World) : Type 0 where
   -- Of two reports of one client, the one for the later epoch tells of no more: two managers may be asking at once.
   pub report_order : (y : Report) (z : Report) → In y w.reports → In z w.reports → y.client ≡ z.client → w.epoch < z.epoch → z.epoch < y.epoch → y.mode ≤ z.mode
   -- Who gave for the awaited Recall has reported no more than it let keep.
-  pub report_given : (y : Report) (x : Gave) → In y w.reports → w.epoch < y.epoch → In x w.gaves → x.client ≡ y.client → w.awaited y.client ≡ x.stamp → y.mode ≤ w.keep y.client
+  pub report_given : (y : Report) (x : Gave) → In y w.reports → w.epoch < y.epoch → In x w.gaves → x.client ≡ y.client → w.awaited y.client ≡ x.stamp
+      → y.mode ≤ w.keep y.client
 
 recall_keeps_reporting : (w : World) (who keep : ℕ) → MayRecall keep → Bookkeeping w → Giving w → Reporting w → Reporting (recalls w who keep)
 recall_keeps_reporting w who keep h book giving reporting = record {
@@ -31,7 +32,8 @@ recall_keeps_reporting w who keep h book giving reporting = record {
 give_keeps_reporting : (w : World) (answered : Recall) (end : ℕ) → MayGive w answered → Bookkeeping w → Giving w → Reporting w → Reporting (gives w answered end)
 give_keeps_reporting w answered end h book giving reporting = grind (arith, nat_tests)
 
-give_again_keeps_reporting : (w : World) (answered : Recall) (end : ℕ) → MayGiveAgain w answered → Bookkeeping w → Giving w → Reporting w → Reporting (gives_again w answered end)
+give_again_keeps_reporting : (w : World) (answered : Recall) (end : ℕ) → MayGiveAgain w answered → Bookkeeping w → Giving w → Reporting w
+    → Reporting (gives_again w answered end)
 give_again_keeps_reporting w answered end h book giving reporting = grind (arith, nat_tests)
 
 note_keeps_reporting : (w : World) (noted : Gave) → MayNote w noted → Bookkeeping w → Giving w → Reporting w → Reporting (notes w noted)
@@ -55,7 +57,8 @@ report_keeps_reporting w who end h book giving reporting = record {
   report_given = λ y x k0 k1 k2 k3 k4. grind (arith, nat_tests, reporting.report_given y x);
 }
 
-activate_keeps_reporting : (w : World) (epoch : ℕ) (report : ℕ → Report) (applied : ℕ → ℕ) (e : Entry) → MayActivate w epoch report → Bookkeeping w → Giving w → Reporting w → Reporting (activates w epoch report applied e)
+activate_keeps_reporting : (w : World) (epoch : ℕ) (report : ℕ → Report) (applied : ℕ → ℕ) (e : Entry) → MayActivate w epoch report → Bookkeeping w → Giving w
+    → Reporting w → Reporting (activates w epoch report applied e)
 activate_keeps_reporting w epoch report applied e h book giving reporting = record {
   report_mode = λ y k0 k1. grind (arith, nat_tests, reporting.report_mode y);
   report_order = λ y z k0 k1 k2 k3 k4. grind (arith, nat_tests, reporting.report_order y z);
