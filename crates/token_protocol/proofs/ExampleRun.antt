@@ -155,7 +155,7 @@ step27 = Reports 1 0 (record { serving = refl }) (record { last_filed = refl })
 abbrev pub step28 : Step true moment27 moment28
 step28 = Activates 2 report_of applied_to second_entry (record {
   later = grind arith;
-  sent = λ c k. reported c (grind arith);
+  sent = λ c k. grind (arith, reported c);
   sender = λ c k. refl;
   asked = λ c k. refl;
 }) (record {
