@@ -1,35 +1,22 @@
 -- What an index holds of each block determines its rows.
 use Rattle.std.proofs.Common.{◌≡◌, T, true, false, cond, List, [], ◌∷◌, Option, None, Some, refl, sym, ap, ◌∙◌, subst, unwrap_or}
 use Rattle.std.specs.Prelude.{IsTrue, IfSome}
-use Rattle.std.specs.declared.cmp.Ordering.{Ordering}
-use Rattle.std.specs.declared.cmp.Ordering.TheVariants.{Less, Equal, Greater}
-use Rattle.std.specs.Ordering.{match_ordering}
 use Rattle.std.specs.Map.{lookup}
 use Rattle.std.specs.BTreeMap.{is_at, insert_entry}
-use Rattle.std.specs.FinMap.Entries.{put, by_order, is_sorted, is_sorted-put, same_entries}
+use Rattle.std.specs.FinMap.Entries.{is_sorted, is_sorted-put, same_entries}
 use Rattle.std.proofs.lemmas.Bool.{false≢true}
 use Rattle.std.proofs.lemmas.List.Elements.{All-nil}
 use Rattle.std.proofs.lemmas.Map.Views.{IfSome-lookup_from_All}
 use Rattle.xfs_base.specs.declared.block.BlockId.{BlockId}
 use Rattle.xfs_base.specs.declared.entry.Entry.{Entry}
 use Rattle.xfs_base.specs.Blocks.{block_cmp}
-use Rattle.xfs_base.proofs.BlockOrder.{block_cmp_total, block_cmp_exact, lookup-find}
+use Rattle.xfs_base.proofs.BlockOrder.{block_cmp_total, block_cmp_exact, lookup-find, insert_entry-put}
 use Rattle.delta_index.specs.Entries.{no_entry, is_newer}
 use Rattle.delta_index.specs.Index.{entry_of, merged, merged_all, AllHeld}
 use Rattle.delta_index.specs.Join.{join}
 use Rattle.delta_index.proofs.EntryAlgebra.{none_newer}
 use Rattle.delta_index.proofs.HeldRows.{AllHeld-insert}
 use Rattle.delta_index.proofs.IndexJoin.{index_join}
-
--- std's two words for an insertion agree
-insert_entry-put : {K X : Type 0} (R : K → K → Ordering) (k : K) (v : X) (es : List (K × X)) → insert_entry R es k v ≡ put R k v es
-insert_entry-put R k v [] = refl
-insert_entry-put R k v (e ∷ es) =
-    elim (R k e.0) as (λ o. match_ordering o ((k, v) ∷ e ∷ es) ((e.0, v) ∷ es) (e ∷ insert_entry R es k v) ≡ by_order o ((k, v) ∷ e ∷ es) ((e.0, v) ∷ es) (e ∷ put R k v es)) [
-      | Less ↦ refl
-      | Equal ↦ refl
-      | Greater ↦ ap (λ r. e ∷ r) (insert_entry-put R k v es)
-    ]
 
 -- what is true of the rows of every index
 record IsIndex (rows : List (BlockId × Entry)) : Type 0 where

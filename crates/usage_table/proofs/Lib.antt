@@ -1,4 +1,4 @@
-pub mod Scratch
+pub mod FromScratch
 pub mod SegOrder
 pub mod Sorted
 pub mod Table

@@ -4,7 +4,7 @@
 
 use std::env;
 use std::process::ExitCode;
-use xfs_top::{xfs, OpenGate, StdSink, StdSource};
+use xfs_top::{OpenGate, StdSink, StdSource, xfs};
 
 /// Makes the real source and sink, calls `xfs` with the words after the program's name, and ends with its
 /// status. Words that are not UTF-8 are handed in as no words, which are no form.

@@ -25,7 +25,7 @@ lookup-find R q [] = refl
 lookup-find R q (e ∷ es) = ap (cond (eq_by_cmp R q e.0) (Some e.1)) (lookup-find R q es)
 
 -- and its two words for an insertion
-insert_entry-put : {K X : Type 0} (R : K → K → Ordering) (k : K) (v : X) (es : List (K × X)) → insert_entry R es k v ≡ put R k v es
+pub insert_entry-put : {K X : Type 0} (R : K → K → Ordering) (k : K) (v : X) (es : List (K × X)) → insert_entry R es k v ≡ put R k v es
 insert_entry-put R k v [] = refl
 insert_entry-put R k v (e ∷ es) =
     elim (R k e.0) as (λ o. match_ordering o ((k, v) ∷ e ∷ es) ((e.0, v) ∷ es) (e ∷ insert_entry R es k v) ≡ by_order o ((k, v) ∷ e ∷ es) ((e.0, v) ∷ es) (e ∷ put R k v es)) [
