@@ -1,0 +1,6 @@
+pub mod Loops
+pub mod Writes
+pub mod Readers
+pub mod FieldLaws
+pub mod ItemLaws
+pub mod SegmentLaws

@@ -1,0 +1,233 @@
+-- A whole segment is read as it is spelled: what is read is the text of the segment, and the text of a segment is read as it.
+use Rattle.std.proofs.Common.{◌≡◌, ℕ, zero, suc, ◌+◌, ◌^◌, ◌<◌, ◌≤◌, Bool, true, false, cond, eqb, List, [], ◌∷◌, ◌++◌, length, Option, Some, None, Result, Ok, Err, refl, sym, ap, subst, ◌∙◌, append_assoc, arith}
+use Rattle.std.specs.Prelude.{is_none, ◌&&◌}
+use Rattle.std.specs.List.{flat_map, AllByRecursion}
+use Rattle.std.proofs.lemmas.List.{append-nil, nil_from_length}
+use Rattle.std.proofs.lemmas.Bool.{eqb-true}
+use Rattle.xfs_base.specs.declared.block.BlockId.{BlockId}
+use Rattle.xfs_base.specs.Blocks.{same_block}
+use Rattle.xfs_base.specs.Fields.{Fields}
+use Rattle.xfs_base.proofs.BlockOrder.{same_block_exact, same_block_itself}
+use Rattle.segment_format.specs.declared.head.Head.{Head}
+use Rattle.segment_format.specs.declared.segment.Item.{Item}
+use Rattle.segment_format.specs.declared.segment.Item.TheVariants.{Block, Delta, Part}
+use Rattle.segment_format.specs.declared.segment.Segment.{Segment}
+use Rattle.segment_format.specs.declared.seen.Awaited.{Awaited}
+use Rattle.segment_format.specs.declared.seen.Seen.{Seen}
+use Rattle.segment_format.specs.declared.seg_error.SegError.{SegError}
+use Rattle.segment_format.specs.declared.seg_error.SegError.TheVariants.{BadRef, Trailing}
+use Rattle.segment_format.specs.Format.{most}
+use Rattle.segment_format.specs.Ranges.{FitsItem, Fits}
+use Rattle.segment_format.specs.Reading.{number, gives, checked, ◌>>=◌}
+use Rattle.segment_format.specs.ReadingItems.{items_at, segment_at, ended, answer_of}
+use Rattle.segment_format.specs.Rule.{KeepsRule, deltas_in, others_in, nothing_seen, after, no_item, answers}
+use Rattle.segment_format.specs.Text.{item_text, head_text, head_of, text_of, IsItem, KeepsLimits, IsText}
+use Rattle.segment_format.proofs.Loops.{after_counts}
+use Rattle.segment_format.proofs.Writes.{kinds_count}
+use Rattle.segment_format.proofs.Readers.{IsBytes, IsReader, then-reader, gives-reader, checked-reader, as-reader, cons-reader, OfCons}
+use Rattle.segment_format.proofs.FieldLaws.{eq_true, true_eq, head-reader, OfHead}
+use Rattle.segment_format.proofs.ItemLaws.{FullItem, Joins, item-reader, none_true, true_none}
+
+-- ---- the rule on Deltas, an item at a time
+
+and_true : (a b : Bool) → a && b ≡ true → (a ≡ true) × (b ≡ true)
+and_true true b h = (refl, h)
+and_true false b h = absurd cc
+
+true_and : (a b : Bool) → a ≡ true → b ≡ true → a && b ≡ true
+true_and true b p q = q
+true_and false b p q = absurd cc
+
+abbrev MayCome : Option Awaited → Item → Type 0
+MayCome o (Block block value) = o ≡ None
+MayCome o (Delta block ver hop item) = answers o block item ≡ true
+MayCome o (Part slot rows) = o ≡ None
+
+abbrev awaited_after : ℕ → Item → Option Awaited
+awaited_after n (Block block value) = Some (record { block = block; item = n })
+awaited_after n (Delta block ver hop item) = None
+awaited_after n (Part slot rows) = None
+
+rule_cons : (o : Option Awaited) (n m : ℕ) (x : Item) (xs : List Item) → MayCome o x → m ≡ n + 1 → KeepsRule (awaited_after n x) m xs → KeepsRule o n (x ∷ xs)
+rule_cons None n m (Block block value) xs j e r = subst (λ (k : ℕ). KeepsRule (Some (record { block = block; item = n })) k xs) e r
+rule_cons None n m (Delta block ver hop item) xs j e r = (eq_true item no_item j, subst (λ (k : ℕ). KeepsRule None k xs) e r)
+rule_cons None n m (Part slot rows) xs j e r = subst (λ (k : ℕ). KeepsRule None k xs) e r
+rule_cons (Some a) n m (Block block value) xs j e r = absurd cc
+rule_cons (Some a) n m (Delta block ver hop item) xs j e r =
+    let t = and_true (same_block block a.block) (eqb item a.item) j in
+    (sym (same_block_exact block a.block t.0), eq_true item a.item t.1, subst (λ (k : ℕ). KeepsRule None k xs) e r)
+rule_cons (Some a) n m (Part slot rows) xs j e r = absurd cc
+
+rule_uncons : (o : Option Awaited) (n m : ℕ) (x : Item) (xs : List Item) → m ≡ n + 1 → KeepsRule o n (x ∷ xs) → MayCome o x × KeepsRule (awaited_after n x) m xs
+rule_uncons None n m (Block block value) xs e r = (refl, subst (λ (k : ℕ). KeepsRule (Some (record { block = block; item = n })) k xs) (sym e) r)
+rule_uncons None n m (Delta block ver hop item) xs e r = (true_eq item no_item r.0, subst (λ (k : ℕ). KeepsRule None k xs) (sym e) r.1)
+rule_uncons None n m (Part slot rows) xs e r = (refl, subst (λ (k : ℕ). KeepsRule None k xs) (sym e) r)
+rule_uncons (Some a) n m (Block block value) xs e r = absurd r
+rule_uncons (Some a) n m (Delta block ver hop item) xs e r =
+    let same : same_block block a.block ≡ true = subst (λ (b : BlockId). same_block block b ≡ true) r.0 (same_block_itself block) in
+    (true_and (same_block block a.block) (eqb item a.item) same (true_eq item a.item r.1), subst (λ (k : ℕ). KeepsRule None k xs) (sym e) r.2)
+rule_uncons (Some a) n m (Part slot rows) xs e r = absurd r
+
+rule_end : (o : Option Awaited) (n : ℕ) → is_none o ≡ true → KeepsRule o n []
+rule_end None n h = tt
+rule_end (Some a) n h = absurd cc
+
+end_rule : (o : Option Awaited) (n : ℕ) → KeepsRule o n [] → is_none o ≡ true
+end_rule None n r = refl
+end_rule (Some a) n r = absurd r
+
+-- ---- items
+
+abbrev OfItems : ℕ → Seen → List Item → Type 0
+OfItems n seen items = (length items ≡ n) × AllByRecursion FullItem items × KeepsRule seen.awaited (seen.others + seen.deltas) items × (seen.others + others_in items ≤ most) × (seen.deltas + deltas_in items ≤ most)
+
+none_to : (seen : Seen) (items : List Item) → seen.others ≤ most → seen.deltas ≤ most → items ≡ [] → is_none seen.awaited ≡ true → OfItems 0 seen items
+none_to seen [] o d e h = (refl, tt, rule_end seen.awaited (seen.others + seen.deltas) h, omega arith, omega arith)
+none_to seen (x ∷ xs) o d e h = absurd cc
+
+none_from : (seen : Seen) (items : List Item) → OfItems 0 seen items → (items ≡ []) × (is_none seen.awaited ≡ true)
+none_from seen [] h = (refl, end_rule seen.awaited (seen.others + seen.deltas) h.2)
+none_from seen (x ∷ xs) h = absurd (omega (arith, h.0))
+
+abbrev Next : Seen → Item → Type 0
+Next seen x = FullItem x × Joins seen x
+
+next_bounds : (seen : Seen) (x : Item) → Next seen x → seen.others ≤ most → seen.deltas ≤ most → ((after x seen).others ≤ most) × ((after x seen).deltas ≤ most)
+next_bounds seen (Block block value) v o d = let lt : seen.others < most = v.1.0 in (omega arith, d)
+next_bounds seen (Delta block ver hop item) v o d = let lt : seen.deltas < most = v.1.0 in (o, omega arith)
+next_bounds seen (Part slot rows) v o d = let lt : seen.others < most = v.1.0 in (omega arith, d)
+
+cons_to : (n : ℕ) (seen : Seen) (x : Item) (xs : List Item) → Next seen x → OfItems n (after x seen) xs → OfItems (suc n) seen (x ∷ xs)
+cons_to n seen (Block block value) xs v h =
+    (ap suc h.0, (v.0, h.1), rule_cons seen.awaited (seen.others + seen.deltas) (seen.others + 1 + seen.deltas) (Block block value) xs v.1.1 (omega arith) h.2, omega (arith, h.3), omega (arith, h.4))
+cons_to n seen (Delta block ver hop item) xs v h =
+    (ap suc h.0, (v.0, h.1), rule_cons seen.awaited (seen.others + seen.deltas) (seen.others + (seen.deltas + 1)) (Delta block ver hop item) xs v.1.1 (omega arith) h.2, omega (arith, h.3), omega (arith, h.4))
+cons_to n seen (Part slot rows) xs v h =
+    (ap suc h.0, (v.0, h.1), rule_cons seen.awaited (seen.others + seen.deltas) (seen.others + 1 + seen.deltas) (Part slot rows) xs v.1.1 (omega arith) h.2, omega (arith, h.3), omega (arith, h.4))
+
+cons_from : (n : ℕ) (seen : Seen) (x : Item) (xs : List Item) → OfItems (suc n) seen (x ∷ xs) → Next seen x × OfItems n (after x seen) xs
+cons_from n seen (Block block value) xs h =
+    let r = rule_uncons seen.awaited (seen.others + seen.deltas) (seen.others + 1 + seen.deltas) (Block block value) xs (omega arith) h.2 in
+    let len : length xs ≡ n = omega (arith, h.0) in
+    ((h.1.0, (omega (arith, h.3), r.0)), (len, h.1.1, r.1, omega (arith, h.3), omega (arith, h.4)))
+cons_from n seen (Delta block ver hop item) xs h =
+    let r = rule_uncons seen.awaited (seen.others + seen.deltas) (seen.others + (seen.deltas + 1)) (Delta block ver hop item) xs (omega arith) h.2 in
+    let len : length xs ≡ n = omega (arith, h.0) in
+    ((h.1.0, (omega (arith, h.4), r.0)), (len, h.1.1, r.1, omega (arith, h.3), omega (arith, h.4)))
+cons_from n seen (Part slot rows) xs h =
+    let r = rule_uncons seen.awaited (seen.others + seen.deltas) (seen.others + 1 + seen.deltas) (Part slot rows) xs (omega arith) h.2 in
+    let len : length xs ≡ n = omega (arith, h.0) in
+    ((h.1.0, (omega (arith, h.3), r.0)), (len, h.1.1, r.1, omega (arith, h.3), omega (arith, h.4)))
+
+of_cons_to : (n : ℕ) (seen : Seen) (items : List Item) → OfCons (Next seen) (λ x xs. OfItems n (after x seen) xs) items → OfItems (suc n) seen items
+of_cons_to n seen [] h = absurd h
+of_cons_to n seen (x ∷ xs) h = cons_to n seen x xs h.0 h.1
+
+of_cons_from : (n : ℕ) (seen : Seen) (items : List Item) → OfItems (suc n) seen items → OfCons (Next seen) (λ x xs. OfItems n (after x seen) xs) items
+of_cons_from n seen [] h = absurd (omega (arith, h.0))
+of_cons_from n seen (x ∷ xs) h = cons_from n seen x xs h
+
+items-reader : (n : ℕ) (seen : Seen) → seen.others ≤ most → seen.deltas ≤ most → IsReader (items_at seen n) (flat_map item_text) (OfItems n seen)
+unfolding items_at
+items-reader zero seen o d =
+    as-reader (checked-reader (λ none. is_none seen.awaited) BadRef (gives-reader []))
+    (λ items v. ap (λ (l : List Item). flat_map item_text l) (sym v.0))
+    (λ items v. none_to seen items o d v.0 v.1)
+    (none_from seen)
+items-reader (suc n) seen o d =
+    as-reader (cons-reader (item-reader seen) (λ x v. let b = next_bounds seen x v o d in items-reader n (after x seen) b.0 b.1))
+    (λ items v. refl)
+    (of_cons_to n seen)
+    (of_cons_from n seen)
+
+-- ---- a segment
+
+all_fit : (items : List Item) → AllByRecursion FullItem items → AllByRecursion FitsItem items × AllByRecursion IsItem items
+all_fit [] h = (tt, tt)
+all_fit (x ∷ xs) h = let r = all_fit xs h.1 in ((h.0.0, r.0), (h.0.1, r.1))
+
+fit_all : (items : List Item) → AllByRecursion FitsItem items → AllByRecursion IsItem items → AllByRecursion FullItem items
+fit_all [] f h = tt
+fit_all (x ∷ xs) f h = ((f.0, h.0), fit_all xs f.1 h.1)
+
+abbrev OfSegment : Segment → Type 0
+OfSegment s = Fits s × KeepsLimits s
+
+segment_to : (s : Segment) → OfHead (head_of s) → OfItems (length s.items) nothing_seen s.items → OfSegment s
+segment_to s h v =
+    let a = all_fit s.items v.1 in
+    (record { name = h.0.0; prior = h.1; group = h.2; items = a.0 }, record { log = h.0.1; items = a.1; others = omega (arith, v.3); deltas = omega (arith, v.4); rule = v.2 })
+
+head_from : (s : Segment) → OfSegment s → OfHead (head_of s)
+head_from s v = ((v.0.name, v.1.log), v.0.prior, v.0.group, omega (arith, kinds_count s.items, v.1.others, v.1.deltas))
+
+items_from : (s : Segment) → OfSegment s → OfItems (length s.items) nothing_seen s.items
+items_from s v = (refl, fit_all s.items v.0.items v.1.items, v.1.rule, omega (arith, v.1.others), omega (arith, v.1.deltas))
+
+head_is : (head : Head) (s : Segment) → length s.items ≡ head.count → s ≡ record { name = head.name; prior = head.prior; group = head.group; items = s.items } → head_of s ≡ head
+head_is head s c e =
+    let n : s.name ≡ head.name = ap (λ (x : Segment). x.name) e in
+    let p : s.prior ≡ head.prior = ap (λ (x : Segment). x.prior) e in
+    let g : s.group ≡ head.group = ap (λ (x : Segment). x.group) e in
+    λ i. record { name = n i; prior = p i; group = g i; count = c i }
+
+pub segment-reader : IsReader segment_at text_of OfSegment
+unfolding segment_at
+segment-reader =
+    as-reader
+    (then-reader (λ (s : Segment). head_of s) head-reader
+    (λ head _. then-reader (λ (s : Segment). s.items) (items-reader head.count nothing_seen (omega arith) (omega arith))
+    (λ items _. gives-reader (record { name = head.name; prior = head.prior; group = head.group; items = items }))
+    (λ items s _ h. ap (λ (x : Segment). x.items) h))
+    (λ head s _ h. head_is head s h.0.0 h.1))
+    (λ s v. ap (λ (l : List ℕ). head_text (head_of s) ++ l) (append-nil (flat_map item_text s.items)))
+    (λ s v. segment_to s v.0 v.1.0)
+    (λ s v. (head_from s v, (items_from s v, refl)))
+
+-- ---- all of the bytes
+
+cond_ok : (b : Bool) (d : SegError) (x y : Segment) → cond b (Ok x) (Err d) ≡ Ok y → (b ≡ true) × (x ≡ y)
+cond_ok true d x y e = (refl, cc)
+cond_ok false d x y e = absurd cc
+
+ended_ok : (r : Result (Segment × Fields) SegError) (s : Segment) → ended r ≡ Ok s → (x : Segment × Fields) × (r ≡ Ok x) × (x.0 ≡ s) × (x.1.left ≡ [])
+ended_ok (Ok x) s e =
+    let g = cond_ok (eqb (length x.1.left) 0) (Trailing x.1.at) x.0 s e in
+    (x, refl, g.1, nil_from_length x.1.left (eqb-true _ _ g.0))
+ended_ok (Err d) s e = absurd cc
+
+abbrev whole : List ℕ → Fields
+whole bytes = record { left = bytes; at = 0 }
+
+-- what is read is the text of the segment
+pub answer_takes : (bytes : List ℕ) (s : Segment) → IsBytes bytes → answer_of bytes ≡ Ok s → IsText bytes s × Fits s
+unfolding answer_of
+answer_takes bytes s fits e =
+    let a = ended_ok (segment_at (whole bytes)) s e in
+    let t = segment-reader.takes (whole bytes) a.0.0 a.0.1 fits a.1 in
+    let spelled : bytes ≡ text_of a.0.0 = t.0.parts ∙ ap (λ (l : List ℕ). text_of a.0.0 ++ l) a.3 ∙ append-nil (text_of a.0.0) in
+    subst (λ (x : Segment). IsText bytes x × Fits x) a.2 (record { limits = t.1.1; spelled = spelled }, t.1.0)
+
+-- the text of a segment is read as it, whatever follows
+text_again : (s : Segment) (more : List ℕ) → Fits s → KeepsLimits s → segment_at (whole (text_of s ++ more)) ≡ Ok (s, record { left = more; at = length (text_of s) })
+text_again s more fits limits =
+    let n : 0 + length (text_of s) ≡ length (text_of s) = omega arith in
+    let r : Fields → Result (Segment × Fields) SegError = λ f. Ok (s, f) in
+    segment-reader.again s more 0 (fits, limits) ∙ ap (λ (k : ℕ). r (record { left = more; at = k })) n
+
+pub answer_again : (bytes : List ℕ) (s : Segment) → Fits s → IsText bytes s → answer_of bytes ≡ Ok s
+unfolding answer_of
+answer_again bytes s fits text =
+    let parts : bytes ≡ text_of s ++ [] = text.spelled ∙ sym (append-nil (text_of s)) in
+    ap (λ (l : List ℕ). ended (segment_at (whole l))) parts ∙ ap (λ (r : Result (Segment × Fields) SegError). ended r) (text_again s [] fits text.limits)
+
+-- no text begins another, and one text is of one segment
+pub texts_apart : (a b more : List ℕ) (s t : Segment) → Fits s → Fits t → IsText a s → IsText b t → b ≡ a ++ more → (more ≡ []) × (s ≡ t)
+texts_apart a b more s t fs ft p q e =
+    let longer : text_of t ++ [] ≡ text_of s ++ more = append-nil (text_of t) ∙ sym q.spelled ∙ e ∙ ap (λ (l : List ℕ). l ++ more) p.spelled in
+    let r : Segment × Fields → Result (Segment × Fields) SegError = λ x. Ok x in
+    let one : Segment × Fields = (s, record { left = more; at = length (text_of s) }) in
+    let two : Segment × Fields = (t, record { left = []; at = length (text_of t) }) in
+    let same : r one ≡ r two = sym (text_again s more fs p.limits) ∙ ap (λ (l : List ℕ). segment_at (whole l)) (sym longer) ∙ text_again t [] ft q.limits in
+    let x : one ≡ two = cc in
+    (ap (λ (y : Segment × Fields). y.1.left) x, ap (λ (y : Segment × Fields). y.0) x)

@@ -1,0 +1,21 @@
+use Rattle.std.proofs.Common.{◌≡◌, ℕ, List, Result, Ok, Err, subst, arith}
+use Rattle.std.specs.Prelude.{IfOk}
+use Rattle.segment_format.specs.declared.segment.Segment.{Segment}
+use Rattle.segment_format.specs.declared.seg_error.SegError.{SegError}
+use Rattle.segment_format.specs.Ranges.{Fits}
+use Rattle.segment_format.specs.Reading.{Gives}
+use Rattle.segment_format.specs.ReadingItems.{answer_of}
+use Rattle.segment_format.specs.Text.{IsText}
+use Rattle.segment_format.proofs.Readers.{IsBytes}
+use Rattle.segment_format.proofs.SegmentLaws.{answer_takes, answer_again}
+use Rattle.segment_format.proofs.decoding.decode.Goals as goal
+
+is_found : (bytes : List ℕ) (r : Result Segment SegError) → IsBytes bytes → Gives (λ s. s) r (answer_of bytes) → IfOk r (λ s. IsText bytes s × Fits s)
+is_found bytes (Ok s) fits given = answer_takes bytes s fits given
+is_found bytes (Err e) fits given = tt
+
+pub returns-clause-found : goal.returns-clause-found
+returns-clause-found c = is_found c.args.bytes.now c.answer.result (λ i. omega (arith, c.type_inv.bytes i)) c.answer.ensures
+
+pub returns-clause-only : goal.returns-clause-only
+returns-clause-only c = λ s fits text. subst (λ (a : Result Segment SegError). Gives (λ x. x) c.answer.result a) (answer_again c.args.bytes.now s fits text) c.answer.ensures

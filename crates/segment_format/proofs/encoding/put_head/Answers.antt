@@ -1,0 +1,14 @@
+use Rattle.std.proofs.Common.{[], ◌∷◌, ◌++◌, length, ap, ◌∙◌, sym}
+use Rattle.std.specs.Int.{w16, w32, w64, to_be_bytes}
+use Rattle.segment_format.specs.Format.{mark, version}
+use Rattle.segment_format.specs.Text.{block_text, pass_text, name_text, prior_text, place_text, head_text, item_text}
+use Rattle.segment_format.proofs.Writes.{wrote_2, wrote_3, wrote_4, wrote_5}
+use Rattle.segment_format.proofs.encoding.put_head.Goals as goal
+
+pub returns : goal.returns
+returns c =
+    let s = c.args.segment.now in
+    let count = rw c.len.ensures at c.in_ok-put_u16.ensures.ok in
+    wrote_2 c.args.out.now (mark ++ version ∷ name_text s.name ++ prior_text s.prior ++ to_be_bytes w32 s.group) (to_be_bytes w16 (length s.items))
+    (wrote_5 c.args.out.now mark (version ∷ []) (name_text s.name) (prior_text s.prior) (to_be_bytes w32 s.group) c.in_ok-put_bytes.ensures.ok c.in_ok-put_u8.ensures.ok c.in_ok-put_name.ensures c.in_ok-put_prior.ensures c.in_ok-put_u32.ensures.ok)
+    count

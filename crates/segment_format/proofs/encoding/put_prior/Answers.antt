@@ -1,0 +1,9 @@
+use Rattle.std.proofs.Common.{[], ◌∷◌, ◌++◌, length, ap, ◌∙◌, sym}
+use Rattle.std.specs.Int.{w16, w32, w64, to_be_bytes}
+use Rattle.segment_format.specs.Format.{mark, version}
+use Rattle.segment_format.specs.Text.{block_text, pass_text, name_text, prior_text, place_text, head_text, item_text}
+use Rattle.segment_format.proofs.Writes.{wrote_2, wrote_3, wrote_4, wrote_5}
+use Rattle.segment_format.proofs.encoding.put_prior.Goals as goal
+
+pub returns : goal.returns
+returns c = let p = c.args.prior in wrote_2 c.args.out.now (pass_text p.pass) (to_be_bytes w32 p.group) c.in_ok-put_pass.ensures c.in_ok-put_u32.ensures.ok

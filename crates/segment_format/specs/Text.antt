@@ -1,0 +1,85 @@
+-- Segment format 1: the text of a segment, field by field. All numbers are big-endian.
+use Rattle.std.specs.Prelude.{◌≡◌, ℕ, ◌+◌, ◌<◌, ◌≤◌, List, [], ◌∷◌, ◌++◌, length, Option, Some, None, IfSome}
+use Rattle.std.specs.Int.{w16, w32, w64, to_be_bytes}
+use Rattle.std.specs.List.{flat_map, AllByRecursion}
+use Rattle.xfs_base.specs.declared.block.BlockId.{BlockId}
+use Rattle.xfs_base.specs.declared.entry.Entry.{Entry}
+use Rattle.xfs_base.specs.declared.entry.Place.{Place}
+use Rattle.xfs_base.specs.declared.segment.Pass.{Pass}
+use Rattle.xfs_base.specs.declared.segment.Prior.{Prior}
+use Rattle.xfs_base.specs.declared.segment.SegName.{SegName}
+use Rattle.segment_format.specs.declared.head.Head.{Head}
+use Rattle.segment_format.specs.declared.segment.Item.{Item}
+use Rattle.segment_format.specs.declared.segment.Item.TheVariants.{Block, Delta, Part}
+use Rattle.segment_format.specs.declared.segment.Segment.{Segment}
+use Rattle.segment_format.specs.Format.{version, most, mark, IsLog, IsLength, IsRowCount}
+use Rattle.segment_format.specs.Rule.{KeepsRule, deltas_in, others_in}
+
+abbrev pub block_text : BlockId → List ℕ
+block_text b = to_be_bytes w32 b.ino.0 ++ to_be_bytes w32 b.blk
+
+abbrev pub pass_text : Pass → List ℕ
+pass_text p = to_be_bytes w32 p.inc ++ to_be_bytes w32 p.att
+
+abbrev pub name_text : SegName → List ℕ
+name_text n = n.log.0 ∷ to_be_bytes w32 n.seq ++ pass_text n.pass
+
+abbrev pub prior_text : Prior → List ℕ
+prior_text p = pass_text p.pass ++ to_be_bytes w32 p.group
+
+-- a value that is present: its length, then its bytes
+abbrev pub value_text : Option (List ℕ) → List ℕ
+value_text None = []
+value_text (Some bytes) = to_be_bytes w16 (length bytes) ++ bytes
+
+-- 0 for no place, or 1 and the place
+abbrev pub place_text : Option Place → List ℕ
+place_text None = 0 ∷ []
+place_text (Some p) = 1 ∷ name_text p.seg.name ++ to_be_bytes w32 p.seg.group ++ to_be_bytes w16 p.item
+
+abbrev pub row_text : BlockId × Entry → List ℕ
+row_text r = block_text r.0 ++ to_be_bytes w64 r.1.ver ++ to_be_bytes w32 r.1.hop ++ place_text r.1.place
+
+abbrev pub item_text : Item → List ℕ
+item_text (Block block value) = 1 ∷ block_text block ++ value_text value
+item_text (Delta block ver hop item) = 2 ∷ block_text block ++ to_be_bytes w64 ver ++ to_be_bytes w32 hop ++ to_be_bytes w16 item
+item_text (Part slot rows) = 3 ∷ slot ∷ to_be_bytes w16 (length rows) ++ flat_map row_text rows
+
+-- the header's 35 bytes
+abbrev pub head_text : Head → List ℕ
+head_text h = mark ++ version ∷ name_text h.name ++ prior_text h.prior ++ to_be_bytes w32 h.group ++ to_be_bytes w16 h.count
+
+abbrev pub head_of : Segment → Head
+head_of s = record { name = s.name; prior = s.prior; group = s.group; count = length s.items }
+
+abbrev pub text_of : Segment → List ℕ
+text_of s = head_text (head_of s) ++ flat_map item_text s.items
+
+-- ---- which segments have a text
+
+abbrev pub IsPlace : Place → Type 0
+IsPlace p = IsLog p.seg.name.log.0
+
+abbrev pub IsRow : BlockId × Entry → Type 0
+IsRow r = IfSome r.1.place IsPlace
+
+abbrev pub IsItem : Item → Type 0
+IsItem (Block block None) = ⊥
+IsItem (Block block (Some bytes)) = IsLength (length bytes)
+IsItem (Delta block ver hop item) = Unit {0}
+IsItem (Part slot rows) = (slot < 8) × IsRowCount (length rows) × AllByRecursion IsRow rows
+
+-- the limits and the rule on Deltas
+pub record KeepsLimits (s : Segment) : Type 0 where
+  pub log : IsLog s.name.log.0
+  pub items : AllByRecursion IsItem s.items
+  pub others : others_in s.items ≤ most
+  pub deltas : deltas_in s.items ≤ most
+  pub rule : KeepsRule None 0 s.items
+
+-- ---- the relation
+
+-- these bytes are the text of this segment
+pub record IsText (bytes : List ℕ) (s : Segment) : Type 0 where
+  pub limits : KeepsLimits s
+  pub spelled : bytes ≡ text_of s

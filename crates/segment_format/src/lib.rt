@@ -1,0 +1,22 @@
+//! Segments as bytes, format 1, in both directions. `docs/FORMATS.md` has the format in words.
+#![tactic(auto)]
+
+mod decode_fields;
+mod decoding;
+mod encoding;
+pub mod format;
+mod head;
+pub mod laws;
+mod seen;
+pub mod seg_error;
+pub mod segment;
+mod threads;
+
+pub use decoding::decode;
+pub use encoding::encode;
+pub use laws::texts_are_apart;
+pub use seg_error::SegError;
+pub use segment::{Item, Segment};
+
+#[cfg(test)]
+mod tests;

@@ -1,0 +1,105 @@
+//! A segment and its items.
+ghost use Rattle.std.specs.Prelude.{◌≡◌, IfOk};
+
+use std::alloc::Global;
+use xfs_base::{BlockId, Copied, Entry, List, Mem, Prior, SegName, Value, copy_each};
+
+/// One item of a segment.
+#[derive(Drop)]
+pub enum Item {
+    /// The bytes of a block. Its Delta is the next item.
+    Block {
+        /// The block.
+        block: BlockId,
+        /// Its value, which is not Absent.
+        value: Value,
+    },
+    /// What changed of a block (section 3.1 of the 1996 paper: the index nodes that a log carries).
+    Delta {
+        /// The block.
+        block: BlockId,
+        /// The version.
+        ver: u64,
+        /// How often the cleaner moved it.
+        hop: u32,
+        /// The number in this segment of the Block before it, from 0; 65,535 where the version is
+        /// Absent.
+        item: u16,
+    },
+    /// A part of a checkpoint of a slot's index (section 3.1 of the 1996 paper: the checkpoint of the
+    /// imap).
+    Part {
+        /// The slot, 0 to 7.
+        slot: u8,
+        /// What the index holds, 1 to 128 rows.
+        rows: List<(BlockId, Entry)>,
+    },
+}
+
+impl Item {
+    /// An item equal to this one.
+    pub fn copy(&self, alloc: Global) -> Mem<Item>
+        ensures { IfOk result (λ copied. copied ≡ self.now) }
+    {
+        match self {
+            Item::Block { block, value } => Ok(Item::Block {
+                block: *block,
+                value: value.copy(alloc)?,
+            }),
+            Item::Delta {
+                block,
+                ver,
+                hop,
+                item,
+            } => Ok(Item::Delta {
+                block: *block,
+                ver: *ver,
+                hop: *hop,
+                item: *item,
+            }),
+            Item::Part { slot, rows } => Ok(Item::Part {
+                slot: *slot,
+                rows: rows.copy(alloc)?,
+            }),
+        }
+    }
+}
+
+impl Copied for Item {
+    fn copied(&self, alloc: Global) -> Mem<Item> {
+        self.copy(alloc)
+    }
+}
+
+/// A segment of a log (section 2.3 of the 1996 paper): what is written to a stripe at once.
+#[derive(Drop)]
+pub struct Segment {
+    /// Its name.
+    pub name: SegName,
+    /// The segment before it in its log.
+    pub prior: Prior,
+    /// The id of its stripe group.
+    pub group: u32,
+    /// Its items; at most 24 are Block or Part, and at most 24 are Delta.
+    pub items: List<Item>,
+}
+
+impl Segment {
+    /// A segment equal to this one.
+    pub fn copy(&self, alloc: Global) -> Mem<Segment>
+        ensures { IfOk result (λ copied. copied ≡ self.now) }
+    {
+        Ok(Segment {
+            name: self.name,
+            prior: self.prior,
+            group: self.group,
+            items: copy_each(alloc, &self.items)?,
+        })
+    }
+}
+
+impl Copied for Segment {
+    fn copied(&self, alloc: Global) -> Mem<Segment> {
+        self.copy(alloc)
+    }
+}
