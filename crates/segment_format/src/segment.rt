@@ -14,7 +14,7 @@ pub enum Item {
         /// Its value, which is not Absent.
         value: Value,
     },
-    /// What changed of a block (section 3.1 of the 1996 paper: the index nodes that a log carries).
+    /// What changed of a block (the 1996 paper, "Writes").
     Delta {
         /// The block.
         block: BlockId,
@@ -26,8 +26,8 @@ pub enum Item {
         /// Absent.
         item: u16,
     },
-    /// A part of a checkpoint of a slot's index (section 3.1 of the 1996 paper: the checkpoint of the
-    /// imap).
+    /// A part of a checkpoint of a slot's index (the 1996 paper, "Recovery and Reconfiguration": the
+    /// checkpoint of the imap).
     Part {
         /// The slot, 0 to 7.
         slot: u8,
@@ -71,7 +71,7 @@ impl Copied for Item {
     }
 }
 
-/// A segment of a log (section 2.3 of the 1996 paper): what is written to a stripe at once.
+/// A segment of a log (the 1996 paper, "Zebra"): what is written to a stripe at once.
 #[derive(Drop)]
 pub struct Segment {
     /// Its name.
