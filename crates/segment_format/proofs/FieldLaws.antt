@@ -1,5 +1,5 @@
 -- Each field, and each group of fields, is read as it is spelled.
-use Rattle.std.proofs.Common.{◌≡◌, ℕ, zero, suc, ◌+◌, ◌^◌, ◌<◌, ◌≤◌, Bool, true, false, cond, ltb, leb, eqb, List, [], ◌∷◌, ◌++◌, length, Option, Some, None, refl, sym, ap, subst, ◌∙◌, append_assoc, arith}
+use Rattle.std.proofs.Common.{◌≡◌, ℕ, zero, suc, ◌+◌, ◌^◌, ◌<◌, ◌≤◌, true, ltb, leb, eqb, List, [], ◌∷◌, ◌++◌, length, Option, Some, None, refl, sym, ap, ◌∙◌, arith}
 use Rattle.std.specs.Prelude.{IfSome}
 use Rattle.std.specs.Int.{w8, w16, w32, w64, to_be_bytes}
 use Rattle.std.specs.List.{flat_map, AllByRecursion}
@@ -16,7 +16,7 @@ use Rattle.segment_format.specs.declared.head.Head.{Head}
 use Rattle.segment_format.specs.declared.seg_error.SegError.TheVariants.{BadMark, BadVersion, BadLength}
 use Rattle.segment_format.specs.Format.{version, most, longest, mark, is_mark, is_within, IsWithin, is_log, IsLog, is_length, IsLength}
 use Rattle.segment_format.specs.Ranges.{FitsBlock, FitsPass, FitsName, FitsPrior, FitsPlace, FitsRow}
-use Rattle.segment_format.specs.Reading.{number, raw, gives, checked, ◌>>=◌}
+use Rattle.segment_format.specs.Reading.{number, raw, checked}
 use Rattle.segment_format.specs.ReadingFields.{block_at, log_at, pass_at, name_at, prior_at, head_at, value_at, place_at, flagged_at, row_at, rows_at}
 use Rattle.segment_format.specs.Text.{block_text, pass_text, name_text, prior_text, value_text, place_text, row_text, head_text, IsPlace, IsRow}
 use Rattle.segment_format.proofs.Readers.{IsReader, then-reader, gives-reader, checked-reader, as-reader, cons-reader, OfCons, number16, number32, number64, byte-reader, raw-reader}

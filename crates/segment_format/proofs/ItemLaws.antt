@@ -1,6 +1,6 @@
 -- Each item is read as it is spelled.
-use Rattle.std.proofs.Common.{◌≡◌, ℕ, zero, suc, ◌+◌, ◌^◌, ◌<◌, ◌≤◌, Bool, true, false, cond, ltb, leb, eqb, List, [], ◌∷◌, ◌++◌, length, Option, Some, None, refl, sym, ap, subst, ◌∙◌, append_assoc, arith}
-use Rattle.std.specs.Prelude.{is_none, ◌&&◌}
+use Rattle.std.proofs.Common.{◌≡◌, ℕ, ◌^◌, ◌<◌, ◌≤◌, Bool, true, false, cond, ltb, eqb, List, [], ◌∷◌, ◌++◌, length, Option, Some, None, refl, sym, ap, subst, ◌∙◌, arith}
+use Rattle.std.specs.Prelude.{is_none}
 use Rattle.std.specs.Int.{w8, w16, w32, w64, to_be_bytes}
 use Rattle.std.specs.List.{flat_map, AllByRecursion}
 use Rattle.std.proofs.lemmas.Bool.Decides.{nat_tests}
@@ -13,7 +13,7 @@ use Rattle.segment_format.specs.declared.seen.Seen.{Seen}
 use Rattle.segment_format.specs.declared.seg_error.SegError.TheVariants.{BadKind, BadLength, BadRef}
 use Rattle.segment_format.specs.Format.{most, IsWithin, is_row_count, IsRowCount}
 use Rattle.segment_format.specs.Ranges.{FitsBlock, FitsRow, FitsItem}
-use Rattle.segment_format.specs.Reading.{number, gives, checked, ◌>>=◌}
+use Rattle.segment_format.specs.Reading.{number, checked}
 use Rattle.segment_format.specs.ReadingItems.{kind_at, block_item_at, delta_item_at, part_item_at, body_at, item_at}
 use Rattle.segment_format.specs.Rule.{is_kind, has_room, may_come, answers, follows}
 use Rattle.segment_format.specs.Text.{block_text, value_text, row_text, item_text, IsRow, IsItem}

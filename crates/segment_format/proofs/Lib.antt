@@ -4,3 +4,5 @@ pub mod Readers
 pub mod FieldLaws
 pub mod ItemLaws
 pub mod SegmentLaws
+pub mod Steady
+pub mod FirstPlace

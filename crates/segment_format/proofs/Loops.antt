@@ -1,7 +1,7 @@
 -- Reading rows or items one after the other, as a loop does.
 use Rattle.std.proofs.Common.{◌≡◌, ℕ, suc, ◌-◌, ◌+◌, ◌≤◌, ◌<◌, Bool, true, false, List, [], ◌∷◌, ◌++◌, Result, Ok, Err, Option, Some, None, refl, sym, ap, ◌∙◌, append_assoc, arith, inl, inr}
 use Rattle.std.proofs.lemmas.List.{append-nil}
-use Rattle.std.specs.Prelude.{is_none, is_some, not, ◌⊎◌}
+use Rattle.std.specs.Prelude.{is_none, is_some, not}
 use Rattle.xfs_base.specs.declared.block.BlockId.{BlockId}
 use Rattle.xfs_base.specs.declared.entry.Entry.{Entry}
 use Rattle.xfs_base.specs.Fields.{Fields}
@@ -9,7 +9,7 @@ use Rattle.segment_format.specs.declared.segment.Item.{Item}
 use Rattle.segment_format.specs.declared.segment.Item.TheVariants.{Block, Delta, Part}
 use Rattle.segment_format.specs.declared.seen.Seen.{Seen}
 use Rattle.segment_format.specs.declared.seg_error.SegError.{SegError}
-use Rattle.segment_format.specs.declared.seg_error.SegError.TheVariants.{BadRef, Memory}
+use Rattle.segment_format.specs.declared.seg_error.SegError.TheVariants.{BadRef}
 use Rattle.segment_format.specs.Reading.{Reader, next, ◌>>=◌, gives, Fails}
 use Rattle.segment_format.specs.ReadingFields.{row_at, rows_at}
 use Rattle.segment_format.specs.ReadingItems.{item_at, items_at}

@@ -1,5 +1,5 @@
 -- A whole segment is read as it is spelled: what is read is the text of the segment, and the text of a segment is read as it.
-use Rattle.std.proofs.Common.{◌≡◌, ℕ, zero, suc, ◌+◌, ◌^◌, ◌<◌, ◌≤◌, Bool, true, false, cond, eqb, List, [], ◌∷◌, ◌++◌, length, Option, Some, None, Result, Ok, Err, refl, sym, ap, subst, ◌∙◌, append_assoc, arith}
+use Rattle.std.proofs.Common.{◌≡◌, ℕ, zero, suc, ◌+◌, ◌<◌, ◌≤◌, Bool, true, false, cond, eqb, List, [], ◌∷◌, ◌++◌, length, Option, Some, None, Result, Ok, Err, refl, sym, ap, subst, ◌∙◌, arith}
 use Rattle.std.specs.Prelude.{is_none, ◌&&◌}
 use Rattle.std.specs.List.{flat_map, AllByRecursion}
 use Rattle.std.proofs.lemmas.List.{append-nil, nil_from_length}
@@ -18,15 +18,13 @@ use Rattle.segment_format.specs.declared.seg_error.SegError.{SegError}
 use Rattle.segment_format.specs.declared.seg_error.SegError.TheVariants.{BadRef, Trailing}
 use Rattle.segment_format.specs.Format.{most}
 use Rattle.segment_format.specs.Ranges.{FitsItem, Fits}
-use Rattle.segment_format.specs.Reading.{number, gives, checked, ◌>>=◌}
 use Rattle.segment_format.specs.ReadingItems.{items_at, segment_at, ended, answer_of}
 use Rattle.segment_format.specs.Rule.{KeepsRule, deltas_in, others_in, nothing_seen, after, no_item, answers}
 use Rattle.segment_format.specs.Text.{item_text, head_text, head_of, text_of, IsItem, KeepsLimits, IsText}
-use Rattle.segment_format.proofs.Loops.{after_counts}
 use Rattle.segment_format.proofs.Writes.{kinds_count}
 use Rattle.segment_format.proofs.Readers.{IsBytes, IsReader, then-reader, gives-reader, checked-reader, as-reader, cons-reader, OfCons}
 use Rattle.segment_format.proofs.FieldLaws.{eq_true, true_eq, head-reader, OfHead}
-use Rattle.segment_format.proofs.ItemLaws.{FullItem, Joins, item-reader, none_true, true_none}
+use Rattle.segment_format.proofs.ItemLaws.{FullItem, Joins, item-reader}
 
 -- ---- the rule on Deltas, an item at a time
 

@@ -1,5 +1,5 @@
 -- The numbers of a segment are in the ranges of their types, as those of each segment that a program holds.
-use Rattle.std.specs.Prelude.{ℕ, ◌<◌, ◌^◌, IfSome}
+use Rattle.std.specs.Prelude.{◌<◌, ◌^◌, IfSome}
 use Rattle.std.specs.List.{AllByRecursion}
 use Rattle.xfs_base.specs.declared.block.BlockId.{BlockId}
 use Rattle.xfs_base.specs.declared.entry.Entry.{Entry}

@@ -1,5 +1,5 @@
 -- The header's fields, and those within an item, from the left.
-use Rattle.std.specs.Prelude.{ℕ, zero, suc, ◌+◌, List, [], ◌∷◌, Option, Some, None, nat_lt, nat_le, ◌==◌, if◌then◌else◌}
+use Rattle.std.specs.Prelude.{ℕ, zero, suc, ◌+◌, List, [], ◌∷◌, Option, Some, None, nat_lt, nat_le, ◌==◌}
 use Rattle.std.specs.Int.{w8, w16, w32, w64}
 use Rattle.xfs_base.specs.declared.block.BlockId.{BlockId}
 use Rattle.xfs_base.specs.declared.entry.Entry.{Entry}
@@ -8,10 +8,9 @@ use Rattle.xfs_base.specs.declared.segment.LogId.{LogId}
 use Rattle.xfs_base.specs.declared.segment.Pass.{Pass}
 use Rattle.xfs_base.specs.declared.segment.Prior.{Prior}
 use Rattle.xfs_base.specs.declared.segment.SegName.{SegName}
-use Rattle.xfs_base.specs.declared.segment.SegRef.{SegRef}
 use Rattle.segment_format.specs.declared.head.Head.{Head}
 use Rattle.segment_format.specs.declared.seg_error.SegError.TheVariants.{BadMark, BadVersion, BadLength}
-use Rattle.segment_format.specs.Format.{version, most, is_mark, is_log, is_length, is_row_count}
+use Rattle.segment_format.specs.Format.{version, most, is_mark, is_log, is_length}
 use Rattle.segment_format.specs.Reading.{Reader, ◌>>=◌, gives, raw, number, checked}
 
 unfoldable pub block_at : Reader BlockId

@@ -1,6 +1,7 @@
 //! Reading items, and a whole segment.
-ghost use Rattle.std.specs.Prelude.{◌≡◌, IfOk};
-ghost use Rattle.segment_format.specs.Answers.{ReadsEachText};
+ghost use Rattle.std.specs.Prelude.{◌≡◌, ◌⊎◌, IfErr, IfOk};
+ghost use Rattle.segment_format.specs.Answers.{IsFirst, ReadsEachText};
+ghost use Rattle.segment_format.specs.declared.seg_error.SegError.TheVariants.{Memory};
 ghost use Rattle.segment_format.specs.Ranges.{Fits};
 ghost use Rattle.segment_format.specs.Text.{IsText};
 ghost use Rattle.segment_format.specs.Reading.{Gives};
@@ -153,6 +154,8 @@ pub fn decode(alloc: Global, bytes: &[u8]) -> Result<Segment, SegError>
     ensures only { ReadsEachText bytes.now result }
     // Which refusal it is.
     ensures refused { Gives (λ s. s) result (answer_of bytes.now) }
+    // It stands at the first place, from the left, at which no text can go on.
+    ensures first { IfErr result (λ e. (e ≡ Memory) ⊎ IsFirst bytes.now e) }
 {
     answer(alloc, bytes)
 }

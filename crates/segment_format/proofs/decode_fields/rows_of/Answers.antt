@@ -1,4 +1,3 @@
-use Rattle.std.proofs.Common.{◌∙◌}
 use Rattle.std.proofs.lemmas.Result.{err_from_is_err_and}
 use Rattle.segment_format.specs.ReadingFields.{rows_at}
 use Rattle.segment_format.proofs.Loops.{rows_fail, rows_go_on, rows_end}

@@ -1,7 +1,6 @@
-use Rattle.std.proofs.Common.{◌≡◌, ◌+◌, ap, inr, sym, false, true, ◌∙◌, arith}
+use Rattle.std.proofs.Common.{◌≡◌, ◌+◌, ap, inr, sym, false, true, ◌∙◌}
 use Rattle.std.proofs.lemmas.Result.{err_from_is_err_and}
 use Rattle.std.specs.Prelude.{is_none}
-use Rattle.segment_format.specs.declared.seg_error.SegError.TheVariants.{BadRef}
 use Rattle.segment_format.specs.ReadingItems.{items_at}
 use Rattle.segment_format.specs.Rule.{nothing_seen}
 use Rattle.segment_format.proofs.Loops.{items_fail, items_go_on, items_end, items_miss, after_counts, is_none_from_some}

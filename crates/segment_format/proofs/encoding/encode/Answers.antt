@@ -1,5 +1,4 @@
 use Rattle.std.proofs.Common.{arith}
-use Rattle.segment_format.specs.Format.{most}
 use Rattle.segment_format.proofs.Writes.{kinds_count}
 use Rattle.segment_format.proofs.encoding.encode.Goals as goal
 

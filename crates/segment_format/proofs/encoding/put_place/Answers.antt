@@ -1,8 +1,7 @@
-use Rattle.std.proofs.Common.{[], ◌∷◌, ◌++◌, length, ap, ◌∙◌, sym}
-use Rattle.std.specs.Int.{w16, w32, w64, to_be_bytes}
-use Rattle.segment_format.specs.Format.{mark, version}
-use Rattle.segment_format.specs.Text.{block_text, pass_text, name_text, prior_text, place_text, head_text, item_text}
-use Rattle.segment_format.proofs.Writes.{wrote_2, wrote_3, wrote_4, wrote_5}
+use Rattle.std.proofs.Common.{[], ◌∷◌}
+use Rattle.std.specs.Int.{w16, w32, to_be_bytes}
+use Rattle.segment_format.specs.Text.{name_text}
+use Rattle.segment_format.proofs.Writes.{wrote_4}
 use Rattle.segment_format.proofs.encoding.put_place.Goals as goal
 
 pub returns-in_ok-put_u16-in-Some : goal.returns-in_ok-put_u16-in-Some
