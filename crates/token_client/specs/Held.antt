@@ -1,0 +1,155 @@
+-- What a client knows of one block, and how each event changes it.
+use Rattle.std.specs.Prelude.{ℕ, ◌+◌, ◌-◌, ◌^◌, Bool, true, false, ◌&&◌, ◌||◌, ◌==◌, nat_lt, nat_le, not, List, Option, Some, None, is_some, is_none, if◌then◌else◌}
+use Rattle.xfs_base.specs.declared.entry.Entry.{Entry}
+use Rattle.xfs_base.specs.declared.entry.Place.{Place}
+use Rattle.xfs_base.specs.declared.token.Mode.{Mode}
+use Rattle.xfs_base.specs.declared.token.Mode.TheVariants.{Nothing, Copy, Own}
+use Rattle.xfs_base.specs.declared.token.Stamp.{Stamp}
+use Rattle.xfs_base.specs.Stamps.{stamp_cmp, is_greater}
+use Rattle.token_client.specs.declared.held.Fetch.{Fetch}
+use Rattle.token_client.specs.declared.held.Giving.{Giving}
+use Rattle.token_client.specs.declared.held.Held.{Held}
+use Rattle.token_client.specs.declared.held.Wanted.{Wanted}
+
+-- nothing is known of a block that no event spoke of
+abbrev pub unknown : Held
+unknown = record { mode = Nothing; ver = 0; safe = 0; value = None; at = record { epoch = 0; turn = 0 }; want = None; fetch = None; giving = None }
+
+-- whether one stamp is later than another
+abbrev pub is_later : Stamp → Stamp → Bool
+is_later a b = is_greater (stamp_cmp a b)
+
+-- whether two modes are one
+abbrev pub same_mode : Mode → Mode → Bool
+same_mode Nothing Nothing = true
+same_mode Nothing Copy = false
+same_mode Nothing Own = false
+same_mode Copy Nothing = false
+same_mode Copy Copy = true
+same_mode Copy Own = false
+same_mode Own Nothing = false
+same_mode Own Copy = false
+same_mode Own Own = true
+
+-- whether a mode is Copy or Own
+abbrev pub is_held : Mode → Bool
+is_held Nothing = false
+is_held Copy = true
+is_held Own = true
+
+-- whether a mode lets a call do what needs another: Own lets it read and write, Copy read
+abbrev pub allows : Mode → Mode → Bool
+allows mode Nothing = true
+allows mode Copy = is_held mode
+allows mode Own = same_mode mode Own
+
+-- whether the newest version isn't settled
+abbrev pub is_dirty : Held → Bool
+is_dirty h = nat_lt h.safe h.ver
+
+-- whether a want or a fetch is open
+abbrev pub is_asking : Held → Bool
+is_asking h = is_some h.want || is_some h.fetch
+
+-- whether a call that needs this mode has to ask for it
+abbrev pub must_ask : Held → Mode → Bool
+must_ask h mode = (not (is_asking h) && is_none h.giving) && not (allows h.mode mode)
+
+-- whether the open want has this number and mode
+abbrev pub is_wanted : Option Wanted → ℕ → Mode → Bool
+is_wanted None req mode = false
+is_wanted (Some w) req mode = (w.req == req) && same_mode w.mode mode
+
+-- whether what came with this stamp answers the open want
+abbrev pub is_answer : Held → Stamp → ℕ → Mode → Bool
+is_answer h stamp req mode = is_wanted h.want req mode && is_later stamp h.at
+
+-- whether the block may be written: it is owned and nobody waits to be given it
+abbrev pub may_write : Held → Bool
+may_write h = (same_mode h.mode Own && is_none h.giving) && nat_lt h.ver (2 ^ 64 - 1)
+
+-- whether a version that is settled is news
+abbrev pub is_settled_by : Held → ℕ → Bool
+is_settled_by h ver = nat_lt h.safe ver && nat_le ver h.ver
+
+-- whether what was read ends the fetch: a fetch goes on only while there is no want
+abbrev pub may_end_fetch : Held → Bool
+may_end_fetch h = is_some h.fetch && is_none h.want
+
+-- whether the block may leave the cache: it is held and clean
+abbrev pub may_evict : Held → Bool
+may_evict h = is_held h.mode && not (is_dirty h)
+
+-- a new want
+abbrev pub asked : Held → ℕ → Mode → Held
+asked h req mode = record h { want = Some (record { req = req; again = 0; mode = mode }) }
+
+-- the want was sent once more
+abbrev pub asked_again : Held → Wanted → Held
+asked_again h w = record h { want = Some (record w { again = w.again + 1 }) }
+
+-- owned at the granted version, with no value until the call writes
+abbrev pub owned : Held → Stamp → ℕ → Held
+owned h stamp ver = record h { mode = Own; ver = ver; safe = ver; value = None; at = stamp; want = None; fetch = None }
+
+-- a copy of a settled version
+abbrev pub copied : Held → Stamp → ℕ → Option (List ℕ) → Held
+copied h stamp ver value = record h { mode = Copy; ver = ver; safe = ver; value = Some value; at = stamp; want = None; fetch = None }
+
+-- a copy that has to be read first
+abbrev pub fetched_from : Held → Stamp → ℕ → Place → Held
+fetched_from h stamp ver place = record h { mode = Nothing; value = None; at = stamp; want = None; fetch = Some (record { ver = ver; place = place }) }
+
+-- a granted copy: of no place, it is of an absent version
+abbrev pub copy_granted : Held → Stamp → ℕ → Option Place → Held
+copy_granted h stamp ver None = copied h stamp ver None
+copy_granted h stamp ver (Some place) = fetched_from h stamp ver place
+
+-- what a grant makes of the block
+abbrev pub grant_taken : Held → Stamp → Mode → Entry → Held
+grant_taken h stamp mode entry = if same_mode mode Own then owned h stamp entry.ver else copy_granted h stamp entry.ver entry.place
+
+-- the fetch ends with the value that was read
+abbrev pub fetch_ended : Held → Option Fetch → Option (List ℕ) → Held
+fetch_ended h None value = h
+fetch_ended h (Some fetch) value = record h { mode = Copy; ver = fetch.ver; safe = fetch.ver; value = Some value; fetch = None }
+
+-- a new version
+abbrev pub written : Held → Option (List ℕ) → Held
+written h value = record h { ver = h.ver + 1; value = Some value }
+
+-- a version is known to be settled
+abbrev pub settled : Held → ℕ → Held
+settled h ver = record h { safe = ver }
+
+-- nothing is held any more
+abbrev pub let_go : Held → Held
+let_go h = record h { mode = Nothing; value = None }
+
+-- want and fetch are over
+abbrev pub quitted : Held → Held
+quitted h = record h { want = None; fetch = None }
+
+-- the fetch is dropped
+abbrev pub unfetched : Held → Held
+unfetched h = record h { fetch = None }
+
+-- the fetch and the giving are dropped
+abbrev pub promise_dropped : Held → Held
+promise_dropped h = record h { fetch = None; giving = None }
+
+-- whether a later recall stands there already
+abbrev pub gives_after : Option Giving → Stamp → Bool
+gives_after None stamp = false
+gives_after (Some giving) stamp = is_later giving.stamp stamp
+
+-- the recall is put off; of two the later stands
+abbrev pub put_off : Held → Stamp → Bool → Held
+put_off h stamp keep = if gives_after h.giving stamp then h else record h { giving = Some (record { stamp = stamp; keep = keep }) }
+
+-- what is held is given up, but for a copy where that may stay; the stamp rises to the recall's
+abbrev pub given_up : Held → Stamp → Bool → Held
+given_up h stamp keep =
+    if keep && is_held h.mode
+    then record h { mode = Copy; at = stamp; giving = None }
+    else record h { mode = Nothing; value = None; at = stamp; giving = None }

@@ -1,0 +1,315 @@
+//! What a client knows of one block.
+ghost use Rattle.std.specs.Prelude.{◌≡◌, ◌<◌, ◌^◌, ◌-◌};
+ghost use Rattle.token_client.specs.Held.{same_mode, is_held, allows, gives_after};
+
+use xfs_base::{Entry, Mode, Place, Stamp, Value};
+
+/// A want that no answer has ended.
+#[derive(Clone, Copy, Debug, PartialEq, Eq)]
+pub struct Wanted {
+    /// Its number. The client counts its wants from 1.
+    pub req: u32,
+    /// How often it was sent again.
+    pub again: u32,
+    /// The mode that it asks for.
+    pub mode: Mode,
+}
+
+/// A granted copy that has to be read from a log.
+#[derive(Clone, Copy, Debug, PartialEq, Eq)]
+pub struct Fetch {
+    /// The version that was granted.
+    pub ver: u64,
+    /// Where it lies.
+    pub place: Place,
+}
+
+/// A recall that is put off until the block is clean.
+#[derive(Clone, Copy, Debug, PartialEq, Eq)]
+pub struct Giving {
+    /// The stamp of the recall.
+    pub stamp: Stamp,
+    /// Whether a copy may stay.
+    pub keep: bool,
+}
+
+/// What a client knows of one block (section 3.3.3 of the 1996 paper: clients cache blocks under the
+/// tokens that managers hand out).
+#[derive(Drop)]
+pub struct Held {
+    /// What the client may do with it.
+    pub mode: Mode,
+    /// The version of its value.
+    pub ver: u64,
+    /// The greatest version that is known to be settled.
+    pub safe: u64,
+    /// Its value, where one is kept.
+    pub value: Option<Value>,
+    /// The stamp of the last word of a manager that was followed. It never falls, and stays when the
+    /// block is held no more: an older word is known by it.
+    pub at: Stamp,
+    /// The open want.
+    pub want: Option<Wanted>,
+    /// The fetch that runs.
+    pub fetch: Option<Fetch>,
+    /// The recall that is put off.
+    pub giving: Option<Giving>,
+}
+
+/// Whether two modes are one.
+pub(crate) fn is_same(one: Mode, other: Mode) -> bool
+    ensures { result ≡ same_mode one other }
+{
+    matches!(
+        (one, other),
+        (Mode::Nothing, Mode::Nothing) | (Mode::Copy, Mode::Copy) | (Mode::Own, Mode::Own)
+    )
+}
+
+/// Whether a mode is Copy or Own.
+pub(crate) fn is_some_mode(mode: Mode) -> bool
+    ensures { result ≡ is_held mode }
+{
+    match mode {
+        Mode::Nothing => false,
+        Mode::Copy | Mode::Own => true,
+    }
+}
+
+/// Whether a mode lets a call do what needs another.
+fn is_enough(mode: Mode, needed: Mode) -> bool
+    ensures { result ≡ allows mode needed }
+{
+    match needed {
+        Mode::Nothing => true,
+        Mode::Copy => is_some_mode(mode),
+        Mode::Own => is_same(mode, Mode::Own),
+    }
+}
+
+/// Whether a later recall stands there already.
+fn gives_after(giving: Option<Giving>, stamp: Stamp) -> bool
+    ensures { result ≡ gives_after giving stamp }
+{
+    match giving {
+        Some(giving) => giving.stamp.is_after(stamp),
+        None => false,
+    }
+}
+
+impl Held {
+    ghost use Rattle.token_client.specs.Held.{unknown, is_dirty, is_asking, must_ask, is_wanted, is_answer, may_write, is_settled_by, may_end_fetch, may_evict, asked, asked_again, owned, copied, fetched_from, copy_granted, grant_taken, fetch_ended, written, settled, let_go, quitted, unfetched, promise_dropped, put_off, given_up};
+
+    /// Nothing is known.
+    pub fn new() -> Held
+        ensures { result ≡ unknown }
+    {
+        Held {
+            mode: Mode::Nothing,
+            ver: 0,
+            safe: 0,
+            value: None,
+            at: Stamp { epoch: 0, turn: 0 },
+            want: None,
+            fetch: None,
+            giving: None,
+        }
+    }
+
+    /// Whether its newest version isn't settled.
+    pub fn is_dirty(&self) -> bool
+        ensures { result ≡ is_dirty self.now }
+    {
+        self.safe < self.ver
+    }
+
+    /// Whether a want or a fetch is open.
+    pub fn is_asking(&self) -> bool
+        ensures { result ≡ is_asking self.now }
+    {
+        self.want.is_some() || self.fetch.is_some()
+    }
+
+    /// Whether a call that needs this mode has to ask for it.
+    pub fn must_ask(&self, mode: Mode) -> bool
+        ensures { result ≡ must_ask self.now mode }
+    {
+        !self.is_asking() && self.giving.is_none() && !is_enough(self.mode, mode)
+    }
+
+    /// Whether what came with this stamp answers the open want.
+    pub fn is_answer(&self, stamp: Stamp, req: u32, mode: Mode) -> bool
+        ensures { result ≡ is_answer self.now stamp req mode }
+    {
+        match self.want {
+            Some(want) => want.req == req && is_same(want.mode, mode) && stamp.is_after(self.at),
+            None => false,
+        }
+    }
+
+    /// Whether it may be written.
+    pub fn may_write(&self) -> bool
+        ensures { result ≡ may_write self.now }
+    {
+        is_same(self.mode, Mode::Own) && self.giving.is_none() && self.ver < u64::MAX
+    }
+
+    /// Whether it is news that a version is settled.
+    pub fn is_settled_by(&self, ver: u64) -> bool
+        ensures { result ≡ is_settled_by self.now ver }
+    {
+        self.safe < ver && ver <= self.ver
+    }
+
+    /// Whether what was read ends the fetch.
+    pub fn may_end_fetch(&self) -> bool
+        ensures { result ≡ may_end_fetch self.now }
+    {
+        self.fetch.is_some() && self.want.is_none()
+    }
+
+    /// Whether it may leave the cache.
+    pub fn may_evict(&self) -> bool
+        ensures { result ≡ may_evict self.now }
+    {
+        is_some_mode(self.mode) && !self.is_dirty()
+    }
+
+    /// Opens a want.
+    pub fn ask(&mut self, req: u32, mode: Mode)
+        ensures { self.new ≡ asked self.old req mode }
+    {
+        self.want = Some(Wanted {
+            req,
+            again: 0,
+            mode,
+        });
+    }
+
+    /// It is owned at this version, with no value yet.
+    fn own(&mut self, stamp: Stamp, ver: u64)
+        ensures { self.new ≡ owned self.old stamp ver }
+    {
+        self.mode = Mode::Own;
+        self.ver = ver;
+        self.safe = ver;
+        self.value = None;
+        self.at = stamp;
+        self.want = None;
+        self.fetch = None;
+    }
+
+    /// It is a copy of this settled version.
+    pub fn copy_of(&mut self, stamp: Stamp, ver: u64, value: Value)
+        ensures { self.new ≡ copied self.old stamp ver value }
+    {
+        self.mode = Mode::Copy;
+        self.ver = ver;
+        self.safe = ver;
+        self.value = Some(value);
+        self.at = stamp;
+        self.want = None;
+        self.fetch = None;
+    }
+
+    /// It is to be read at a place.
+    fn fetch_from(&mut self, stamp: Stamp, ver: u64, place: Place)
+        ensures { self.new ≡ fetched_from self.old stamp ver place }
+    {
+        self.mode = Mode::Nothing;
+        self.value = None;
+        self.at = stamp;
+        self.want = None;
+        self.fetch = Some(Fetch { ver, place });
+    }
+
+    /// Takes a granted copy.
+    fn take_copy(&mut self, stamp: Stamp, ver: u64, place: Option<Place>)
+        ensures { self.new ≡ copy_granted self.old stamp ver place }
+    {
+        match place {
+            None => self.copy_of(stamp, ver, Value::absent()),
+            Some(place) => self.fetch_from(stamp, ver, place),
+        }
+    }
+
+    /// Takes a grant.
+    pub fn take_grant(&mut self, stamp: Stamp, mode: Mode, entry: Entry)
+        ensures { self.new ≡ grant_taken self.old stamp mode entry }
+    {
+        if is_same(mode, Mode::Own) {
+            self.own(stamp, entry.ver);
+        } else {
+            self.take_copy(stamp, entry.ver, entry.place);
+        }
+    }
+
+    /// Ends the fetch with what was read.
+    pub fn end_fetch(&mut self, value: Value)
+        ensures { self.new ≡ fetch_ended self.old self.old.fetch value }
+    {
+        if let Some(fetch) = self.fetch {
+            self.mode = Mode::Copy;
+            self.ver = fetch.ver;
+            self.safe = fetch.ver;
+            self.value = Some(value);
+            self.fetch = None;
+        }
+    }
+
+    /// Takes a new version.
+    pub fn write(&mut self, value: Value)
+        requires { self.old.ver < 2 ^ 64 - 1 }
+        ensures { self.new ≡ written self.old value }
+    {
+        self.ver += 1;
+        self.value = Some(value);
+    }
+
+    /// Lets go of what is held.
+    pub fn let_go(&mut self)
+        ensures { self.new ≡ let_go self.old }
+    {
+        self.mode = Mode::Nothing;
+        self.value = None;
+    }
+
+    /// Ends the want and the fetch.
+    pub fn quit(&mut self)
+        ensures { self.new ≡ quitted self.old }
+    {
+        self.want = None;
+        self.fetch = None;
+    }
+
+    /// Puts a recall off; of two the later stands.
+    pub fn put_off(&mut self, stamp: Stamp, keep: bool)
+        ensures { self.new ≡ put_off self.old stamp keep }
+    {
+        if !gives_after(self.giving, stamp) {
+            self.giving = Some(Giving { stamp, keep });
+        }
+    }
+
+    /// Gives up what is held, but for a copy where that may stay.
+    pub fn give_up(&mut self, stamp: Stamp, keep: bool)
+        ensures { self.new ≡ given_up self.old stamp keep }
+    {
+        if keep && is_some_mode(self.mode) {
+            self.mode = Mode::Copy;
+        } else {
+            self.mode = Mode::Nothing;
+            self.value = None;
+        }
+        self.at = stamp;
+        self.giving = None;
+    }
+
+    /// Drops what a promise ends: the fetch and the recall that is put off.
+    pub fn drop_promised(&mut self)
+        ensures { self.new ≡ promise_dropped self.old }
+    {
+        self.fetch = None;
+        self.giving = None;
+    }
+}
