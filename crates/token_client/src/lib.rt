@@ -6,6 +6,7 @@
 
 pub mod held;
 pub mod input;
+pub mod laws;
 pub mod output;
 pub mod tokens;
 

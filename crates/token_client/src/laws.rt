@@ -1,0 +1,29 @@
+//! Laws of what the tokens of a client do, over every list of inputs. Each function's contract is a law;
+//! `specs/Laws.antt` says it in full.
+ghost use Rattle.token_client.specs.Laws.{StaysSound, StampsNeverFall, NumbersRise, OpensByNeed};
+
+/// Whatever is taken from the start: a block with a want or a fetch isn't owned, is clean, and isn't being
+/// given up; the settled version is at most the block's, and a dirty block is owned; a recall that is put
+/// off is of the promised epoch, with a stamp above the block's; and the blocks stand in their order.
+pub fn stays_sound()
+    ensures { StaysSound }
+{
+}
+
+/// The stamp of a block never falls.
+pub fn stamps_never_fall()
+    ensures { StampsNeverFall }
+{
+}
+
+/// The number of the last want never falls.
+pub fn numbers_rise()
+    ensures { NumbersRise }
+{
+}
+
+/// A want or a fetch is open only where one was open before, or a call needed that block since.
+pub fn opens_by_need()
+    ensures { OpensByNeed }
+{
+}
