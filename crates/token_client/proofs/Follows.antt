@@ -47,10 +47,6 @@ module _ (opens : BlockId → Type 0) where
   pub follows_with : (s : TokensState) (block : BlockId) (g : Held) → IsSound s → IsNext (opens block) (epoch_of s.epochs (slot_of block.ino.0)) (held_of s.blocks block) g → Follows opens s (with_held s block g)
   follows_with s block g p next = follows_put s block g s.req p (omega arith) next
 
-
-
-
-
   -- what follows what follows, follows
   pub follows_through : (s t u : TokensState) → Follows opens s t → Follows opens t u → Follows opens s u
   follows_through s t u p q = record {

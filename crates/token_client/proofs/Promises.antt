@@ -41,9 +41,9 @@ unfolding ask
 ask-same s block mode =
     let h : Held = held_of s.blocks block in
     by_test (λ (d : Done). (d.state.epochs ≡ s.epochs) × ((held_of d.state.blocks block).at ≡ h.at)) (nat_lt s.req (2 ^ 32 - 1))
-      (record { state = record (with_held s block (asked h (s.req + 1) mode)) { req = s.req + 1 }; outs = Want block (s.req + 1) 0 mode ∷ [] }) (still s)
-      (λ t. (refl, ap (λ (g : Held). g.at) (held_of-put_itself block (asked h (s.req + 1) mode) s.blocks)))
-      (λ t. (refl, refl))
+    (record { state = record (with_held s block (asked h (s.req + 1) mode)) { req = s.req + 1 }; outs = Want block (s.req + 1) 0 mode ∷ [] }) (still s)
+    (λ t. (refl, ap (λ (g : Held). g.at) (held_of-put_itself block (asked h (s.req + 1) mode) s.blocks)))
+    (λ t. (refl, refl))
 
 refetch-same : (s : TokensState) (block : BlockId) → ((refetch s block).state.epochs ≡ s.epochs) × ((held_of (refetch s block).state.blocks block).at ≡ (held_of s.blocks block).at)
 unfolding refetch
@@ -51,8 +51,8 @@ refetch-same s block =
     let h : Held = held_of s.blocks block in
     let dropped : TokensState = with_held s block (unfetched h) in
     by_test (λ (d : Done). (d.state.epochs ≡ s.epochs) × ((held_of d.state.blocks block).at ≡ h.at)) (is_some h.fetch) (ask dropped block Copy) (still s)
-      (λ t. ((ask-same dropped block Copy).0, (ask-same dropped block Copy).1 ∙ ap (λ (g : Held). g.at) (held_of-put_itself block (unfetched h) s.blocks)))
-      (λ t. (refl, refl))
+    (λ t. ((ask-same dropped block Copy).0, (ask-same dropped block Copy).1 ∙ ap (λ (g : Held). g.at) (held_of-put_itself block (unfetched h) s.blocks)))
+    (λ t. (refl, refl))
 
 -- what asked in a state
 abbrev Asked : TokensState → BlockId → Type 0
@@ -66,14 +66,14 @@ refetch-follows opens s p block =
     let sound : IsSoundBlock (epoch_at s block) h = p.each block in
     let now : held_of dropped.blocks block ≡ unfetched h = held_of-put_itself block (unfetched h) s.blocks in
     by_test (λ (d : Done). Follows opens s d.state) (is_some h.fetch) (ask dropped block Copy) (still s)
-      (λ t.
-        let asks : is_asking h ≡ true = asks_by_fetch h t in
-        let one : Follows (Asked s) s dropped = same-follows (Asked s) s p block (unfetched h) refl (asks_less h) (unfetched-sound (epoch_at s block) h sound) in
-        let two : Follows (Asked s) dropped (ask dropped block Copy).state = ask-follows (Asked s) dropped one.sound block Copy
-          (ap (λ (g : Held). same_mode g.mode Own) now ∙ unheld_is_unowned h.mode (sound.fetch_unheld t))
-          (ap (λ (g : Held). is_none g.giving) now ∙ sound.asks_ungiven asks) (inr asks) in
-        follows_less opens s (ask dropped block Copy).state (follows_through (Asked s) s dropped (ask dropped block Copy).state one two))
-      (λ t. follows_still opens s p)
+    (λ t.
+    let asks : is_asking h ≡ true = asks_by_fetch h t in
+    let one : Follows (Asked s) s dropped = same-follows (Asked s) s p block (unfetched h) refl (asks_less h) (unfetched-sound (epoch_at s block) h sound) in
+    let two : Follows (Asked s) dropped (ask dropped block Copy).state = ask-follows (Asked s) dropped one.sound block Copy
+    (ap (λ (g : Held). same_mode g.mode Own) now ∙ unheld_is_unowned h.mode (sound.fetch_unheld t))
+    (ap (λ (g : Held). is_none g.giving) now ∙ sound.asks_ungiven asks) (inr asks) in
+    follows_less opens s (ask dropped block Copy).state (follows_through (Asked s) s dropped (ask dropped block Copy).state one two))
+    (λ t. follows_still opens s p)
 
 module _ (opens : BlockId → Type 0) (s : TokensState) (p : IsSound s) where
   recalled_above-follows : (block : BlockId) (stamp : Stamp) (keep : Bool) → stamp.epoch ≡ epoch_at s block → is_later stamp (held_of s.blocks block).at ≡ true → Follows opens s (recalled_above s block stamp keep).state
@@ -84,17 +84,17 @@ module _ (opens : BlockId → Type 0) (s : TokensState) (p : IsSound s) where
       let one : Follows opens s asked_for.state = refetch-follows opens s p block in
       let same : (asked_for.state.epochs ≡ s.epochs) × ((held_of asked_for.state.blocks block).at ≡ (held_of s.blocks block).at) = refetch-same s block in
       let two : Follows opens asked_for.state given.state = give-follows opens asked_for.state one.sound block stamp keep
-        (promised ∙ sym (ap (λ es. epoch_of es (slot_of block.ino.0)) same.0)) (ap (is_later stamp) same.1 ∙ above) in
+      (promised ∙ sym (ap (λ es. epoch_of es (slot_of block.ino.0)) same.0)) (ap (is_later stamp) same.1 ∙ above) in
       by_test (λ (d : Done). Follows opens s d.state) (can_refetch s block) (after asked_for.outs given) (still s)
-        (λ t. follows_through opens s asked_for.state given.state one two)
-        (λ t. follows_still opens s p)
+      (λ t. follows_through opens s asked_for.state given.state one two)
+      (λ t. follows_still opens s p)
 
   recalled-follows : (block : BlockId) (stamp : Stamp) (keep : Bool) → stamp.epoch ≡ epoch_at s block → Follows opens s (recalled s block stamp keep).state
   unfolding recalled
   recalled-follows block stamp keep promised =
       by_test (λ (d : Done). Follows opens s d.state) (is_later stamp (held_of s.blocks block).at) (recalled_above s block stamp keep) (recalled_again s block stamp)
-        (λ t. recalled_above-follows block stamp keep promised t)
-        (λ t. recalled_again-follows opens s p block stamp)
+      (λ t. recalled_above-follows block stamp keep promised t)
+      (λ t. recalled_again-follows opens s p block stamp)
 
   epoch_from_test : (n m : ℕ) → (n == m) ≡ true → m ≡ n
   epoch_from_test n m h = grind (arith, nat_tests)
@@ -103,15 +103,15 @@ module _ (opens : BlockId → Type 0) (s : TokensState) (p : IsSound s) where
   unfolding on_recalled
   on_recalled-follows stamp block keep =
       by_test (λ (d : Done). Follows opens s d.state) (is_promised s block stamp) (recalled s block stamp keep) (still s)
-        (λ t. recalled-follows block stamp keep (epoch_from_test (epoch_at s block) stamp.epoch t))
-        (λ t. follows_still opens s p)
+      (λ t. recalled-follows block stamp keep (epoch_from_test (epoch_at s block) stamp.epoch t))
+      (λ t. follows_still opens s p)
 
   pub on_tick-follows : Follows opens s (on_tick s).state
   unfolding on_tick
   on_tick-follows =
       by_test (λ (d : Done). Follows opens s d.state) (list_any (λ h. is_spent h.want) (values_of s.blocks)) (still s) (steps ask_again s (wanted_in s.blocks))
-        (λ t. follows_still opens s p)
-        (λ t. follows_steps opens ask_again (λ u block q. ask_again-follows opens u q block) s (wanted_in s.blocks) p)
+      (λ t. follows_still opens s p)
+      (λ t. follows_steps opens ask_again (λ u block q. ask_again-follows opens u q block) s (wanted_in s.blocks) p)
 
   -- a promise drops what it ends
   dropped-sound : (slot epoch : ℕ) (b : BlockId) → IsSoundBlock (epoch_of (slice_set s.epochs slot epoch) (slot_of b.ino.0)) (dropped_in slot b (held_of s.blocks b))
@@ -119,8 +119,8 @@ module _ (opens : BlockId → Type 0) (s : TokensState) (p : IsSound s) where
       let h : Held = held_of s.blocks b in
       let other : is_in_slot slot b ≡ false → slot_of b.ino.0 ≢ slot = λ f. apart (slot_of b.ino.0) slot f in
       by_test (IsSoundBlock (epoch_of (slice_set s.epochs slot epoch) (slot_of b.ino.0))) (is_in_slot slot b) (promise_dropped h) h
-        (λ t. promise_dropped-sound (epoch_at s b) h (p.each b) (epoch_of (slice_set s.epochs slot epoch) (slot_of b.ino.0)))
-        (λ t. subst (λ n. IsSoundBlock n h) (sym (get_or-set_other s.epochs slot (slot_of b.ino.0) epoch 0 (other t))) (p.each b))
+      (λ t. promise_dropped-sound (epoch_at s b) h (p.each b) (epoch_of (slice_set s.epochs slot epoch) (slot_of b.ino.0)))
+      (λ t. subst (λ n. IsSoundBlock n h) (sym (get_or-set_other s.epochs slot (slot_of b.ino.0) epoch 0 (other t))) (p.each b))
     where
       apart : (n m : ℕ) → (n == m) ≡ false → n ≢ m
       apart n m f = grind (arith, nat_tests)
@@ -173,9 +173,10 @@ agrees-more d table (e ∷ es) below h =
 -- a table in order answers with its own entries
 agrees-itself : (es : List (BlockId × Held)) → T (is_sorted block_cmp es) → Agrees es es
 agrees-itself [] s = tt
-agrees-itself (e ∷ es) s =
-    (ap (λ o. unwrap_or (cond (is_eq o) (Some e.1) (lookup (is_at (block_cmp e.0)) es)) unknown) (tied_itself block_cmp_total e.0),
-      agrees-more e es es (first (below_all block_cmp e.0 es) (is_sorted block_cmp es) s) (agrees-itself es (second (below_all block_cmp e.0 es) (is_sorted block_cmp es) s)))
+agrees-itself (e ∷ es) s = (
+  ap (λ o. unwrap_or (cond (is_eq o) (Some e.1) (lookup (is_at (block_cmp e.0)) es)) unknown) (tied_itself block_cmp_total e.0),
+  agrees-more e es es (first (below_all block_cmp e.0 es) (is_sorted block_cmp es) s) (agrees-itself es (second (below_all block_cmp e.0 es) (is_sorted block_cmp es) s)),
+)
 
 -- what is found to be fetched is being fetched
 abbrev IsFetched : List (BlockId × Held) → ℕ → BlockId → Type 0
@@ -185,8 +186,8 @@ fetched-facts : (table : List (BlockId × Held)) (slot : ℕ) (es : List (BlockI
 fetched-facts table slot [] h = tt
 fetched-facts table slot (e ∷ es) h =
     by_test (λ (rows : List (BlockId × Held)). Each (IsFetched table slot) (keys_of rows)) (is_in_slot slot e.0 && is_some e.1.fetch) (e ∷ filter (λ e. is_in_slot slot e.0 && is_some e.1.fetch) es) (filter (λ e. is_in_slot slot e.0 && is_some e.1.fetch) es)
-      (λ t. ((and_first (is_in_slot slot e.0) (is_some e.1.fetch) t, ap (λ (g : Held). is_some g.fetch) h.0 ∙ and_second (is_in_slot slot e.0) (is_some e.1.fetch) t), fetched-facts table slot es h.1))
-      (λ t. fetched-facts table slot es h.1)
+    (λ t. ((and_first (is_in_slot slot e.0) (is_some e.1.fetch) t, ap (λ (g : Held). is_some g.fetch) h.0 ∙ and_second (is_in_slot slot e.0) (is_some e.1.fetch) t), fetched-facts table slot es h.1))
+    (λ t. fetched-facts table slot es h.1)
 
 -- a copy of the block may be asked for
 abbrev IsFree : TokensState → BlockId → Type 0
@@ -198,9 +199,9 @@ unfolding ask
 ask-free s block mode b free =
     let g : Held = asked (held_of s.blocks block) (s.req + 1) mode in
     by_test (λ (d : Done). IsFree d.state b) (nat_lt s.req (2 ^ 32 - 1))
-      (record { state = record (with_held s block g) { req = s.req + 1 }; outs = Want block (s.req + 1) 0 mode ∷ [] }) (still s)
-      (λ t. (put_same (λ (h : Held). same_mode h.mode Own) b block g s.blocks refl ∙ free.0, put_same (λ (h : Held). is_none h.giving) b block g s.blocks refl ∙ free.1))
-      (λ t. free)
+    (record { state = record (with_held s block g) { req = s.req + 1 }; outs = Want block (s.req + 1) 0 mode ∷ [] }) (still s)
+    (λ t. (put_same (λ (h : Held). same_mode h.mode Own) b block g s.blocks refl ∙ free.0, put_same (λ (h : Held). is_none h.giving) b block g s.blocks refl ∙ free.1))
+    (λ t. free)
 
 asks-follow : (opens : BlockId → Type 0) (s : TokensState) → IsSound s → (blocks : List BlockId) → Each (IsFree s) blocks → Each opens blocks → Follows opens s (steps ask_copy s blocks).state
 asks-follow opens s p [] free why = follows_still opens s p
@@ -208,7 +209,7 @@ asks-follow opens s p (b ∷ bs) free why =
     let t : TokensState = (ask s b Copy).state in
     let one : Follows opens s t = ask-follows opens s p b Copy free.0.0 free.0.1 (inr why.0) in
     follows_through opens s t (steps ask_copy t bs).state one
-      (asks-follow opens t one.sound bs (Each-weaker (IsFree s) (IsFree t) (λ c. ask-free s b Copy c) bs free.1) why.1)
+    (asks-follow opens t one.sound bs (Each-weaker (IsFree s) (IsFree t) (λ c. ask-free s b Copy c) bs free.1) why.1)
 
 pub on_promise-follows : (opens : BlockId → Type 0) (s : TokensState) → IsSound s → (slot epoch : ℕ) → Follows opens s (on_promise s slot epoch).state
 unfolding on_promise
@@ -221,8 +222,8 @@ on_promise-follows opens s p slot epoch =
     let why : Each (Asked s) blocks = Each-weaker (IsFetched s.blocks slot) (Asked s) (λ b f. asks_by_fetch (held_of s.blocks b) f.1) blocks facts in
     let two : Follows (Asked s) risen (steps ask_copy risen blocks).state = asks-follow (Asked s) risen one.sound blocks free why in
     by_test (λ (d : Done). Follows opens s d.state) (may_promise s slot epoch) (steps ask_copy risen blocks) (still s)
-      (λ t. follows_less opens s (steps ask_copy risen blocks).state (follows_through (Asked s) s risen (steps ask_copy risen blocks).state one two))
-      (λ t. follows_still opens s p)
+    (λ t. follows_less opens s (steps ask_copy risen blocks).state (follows_through (Asked s) s risen (steps ask_copy risen blocks).state one two))
+    (λ t. follows_still opens s p)
   where
     freed : (b : BlockId) → IsFetched s.blocks slot b → IsFree (raised s slot epoch) b
     freed b f =

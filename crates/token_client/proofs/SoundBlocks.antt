@@ -147,12 +147,12 @@ module _ (epoch : ℕ) (h : Held) (p : IsSoundBlock epoch h) where
   put_off-sound stamp keep dirty promised above =
       let given : Held = record h { giving = Some (record { stamp = stamp; keep = keep }) } in
       by_test (IsSoundBlock epoch) (gives_after h.giving stamp) h given (λ t. p)
-        (λ t. sound epoch given p.asks_unowned (λ a. contrary (sym (p.asks_clean a) ∙ dirty)) p.fetch_unheld p.safe_below p.dirty_owned (promised, above) p.unheld_valueless)
+      (λ t. sound epoch given p.asks_unowned (λ a. contrary (sym (p.asks_clean a) ∙ dirty)) p.fetch_unheld p.safe_below p.dirty_owned (promised, above) p.unheld_valueless)
 
   pub given_up-sound : (stamp : Stamp) (keep : Bool) → is_dirty h ≡ false → IsSoundBlock epoch (given_up h stamp keep)
   given_up-sound stamp keep clean =
       let kept : Held = record h { mode = Copy; at = stamp; giving = None } in
       let gone : Held = record h { mode = Nothing; value = None; at = stamp; giving = None } in
       by_test (IsSoundBlock epoch) (keep && is_held h.mode) kept gone
-        (λ t. sound epoch kept (λ a. refl) (λ a. refl) (λ f. contrary (sym (p.fetch_unheld f) ∙ and_second keep (is_held h.mode) t)) p.safe_below (λ d. contrary (sym clean ∙ d)) tt (λ v. contrary (sym v)))
-        (λ t. sound epoch gone (λ a. refl) (λ a. refl) (λ f. refl) p.safe_below (λ d. contrary (sym clean ∙ d)) tt (λ v. refl))
+      (λ t. sound epoch kept (λ a. refl) (λ a. refl) (λ f. contrary (sym (p.fetch_unheld f) ∙ and_second keep (is_held h.mode) t)) p.safe_below (λ d. contrary (sym clean ∙ d)) tt (λ v. contrary (sym v)))
+      (λ t. sound epoch gone (λ a. refl) (λ a. refl) (λ f. refl) p.safe_below (λ d. contrary (sym clean ∙ d)) tt (λ v. refl))

@@ -101,7 +101,7 @@ insert_entry-put k h (e ∷ es) =
 pub sorted_put : (k : BlockId) (h : Held) (es : List (BlockId × Held)) → T (is_sorted block_cmp es) → T (is_sorted block_cmp (put_held es k h))
 sorted_put k h es s =
     subst (λ rows. T (is_sorted block_cmp rows)) (sym (insert_entry-put k h (remove_entry (is_at (block_cmp k)) es)))
-      (is_sorted-put block_cmp block_cmp_total k h (remove_entry (is_at (block_cmp k)) es) (sorted_removed k es s))
+    (is_sorted-put block_cmp block_cmp_total k h (remove_entry (is_at (block_cmp k)) es) (sorted_removed k es s))
 
 module _ (g : BlockId → Held → Held) where
   abbrev changed : List (BlockId × Held) → List (BlockId × Held)

@@ -77,10 +77,10 @@ module _ (opens : BlockId → Type 0) (s : TokensState) (p : IsSound s) where
   ask-follows block mode unowned ungiven why =
       let h : Held = held_of s.blocks block in
       by_test At (nat_lt s.req (2 ^ 32 - 1))
-        (record { state = record (with_held s block (asked h (s.req + 1) mode)) { req = s.req + 1 }; outs = Want block (s.req + 1) 0 mode ∷ [] }) (still s)
-        (λ t. follows_put opens s block (asked h (s.req + 1) mode) (s.req + 1) p (omega arith)
-          (record { sound = asked-sound (epoch_at s block) h (p.each block) (s.req + 1) mode unowned ungiven; stamp = not_later_itself h.at; opened = λ a. why }))
-        (λ t. stays)
+      (record { state = record (with_held s block (asked h (s.req + 1) mode)) { req = s.req + 1 }; outs = Want block (s.req + 1) 0 mode ∷ [] }) (still s)
+      (λ t. follows_put opens s block (asked h (s.req + 1) mode) (s.req + 1) p (omega arith)
+      (record { sound = asked-sound (epoch_at s block) h (p.each block) (s.req + 1) mode unowned ungiven; stamp = not_later_itself h.at; opened = λ a. why }))
+      (λ t. stays)
 
   pub on_need-follows : (block : BlockId) (mode : Mode) → opens block → At (on_need s block mode)
   unfolding on_need
@@ -88,9 +88,9 @@ module _ (opens : BlockId → Type 0) (s : TokensState) (p : IsSound s) where
       let h : Held = held_of s.blocks block in
       let free : Bool = not (is_asking h) && is_none h.giving in
       by_test At (must_ask h mode) (ask s block mode) (still s)
-        (λ t. ask-follows block mode (unowned_where_needed h.mode mode (not_true (allows h.mode mode) (and_second free (not (allows h.mode mode)) t)))
-          (and_second (not (is_asking h)) (is_none h.giving) (and_first free (not (allows h.mode mode)) t)) (inr why))
-        (λ t. stays)
+      (λ t. ask-follows block mode (unowned_where_needed h.mode mode (not_true (allows h.mode mode) (and_second free (not (allows h.mode mode)) t)))
+      (and_second (not (is_asking h)) (is_none h.giving) (and_first free (not (allows h.mode mode)) t)) (inr why))
+      (λ t. stays)
 
   -- what is put for an answer to the open want follows, where no want and no fetch is opened by it
   pub answer-follows : (stamp : Stamp) (inc req : ℕ) (block : BlockId) (mode : Mode) (g : Held) (outs : List Out) → accepts s stamp inc req block mode ≡ true → g.at ≡ stamp
@@ -108,17 +108,17 @@ module _ (opens : BlockId → Type 0) (s : TokensState) (p : IsSound s) where
       let h : Held = held_of s.blocks block in
       let outs : List Out = grant_next block mode entry.place ∷ [] in
       by_test At (accepts s stamp inc req block mode) (record { state = with_held s block (grant_taken h stamp mode entry); outs = outs }) (still s)
-        (λ t. answer-follows stamp inc req block mode (grant_taken h stamp mode entry) outs t (granted_at h stamp mode entry) (grant_taken-sound (epoch_at s block) h (p.each block) stamp mode entry))
-        (λ t. stays)
+      (λ t. answer-follows stamp inc req block mode (grant_taken h stamp mode entry) outs t (granted_at h stamp mode entry) (grant_taken-sound (epoch_at s block) h (p.each block) stamp mode entry))
+      (λ t. stays)
 
   pub on_supplied-follows : (stamp : Stamp) (inc req : ℕ) (block : BlockId) (ver : ℕ) (value : Option (List ℕ)) → At (on_supplied s stamp inc req block ver value)
   unfolding on_supplied
   on_supplied-follows stamp inc req block ver value =
       let h : Held = held_of s.blocks block in
       by_test At (accepts s stamp inc req block Copy) (record { state = with_held s block (copied h stamp ver value); outs = Ready block ∷ [] }) (still s)
-        (λ t. answer-follows stamp inc req block Copy (copied h stamp ver value) (Ready block ∷ []) t refl
-          (λ a. copied-sound (epoch_at s block) h (p.each block) stamp ver value ((p.each block).asks_ungiven a)))
-        (λ t. stays)
+      (λ t. answer-follows stamp inc req block Copy (copied h stamp ver value) (Ready block ∷ []) t refl
+      (λ a. copied-sound (epoch_at s block) h (p.each block) stamp ver value ((p.each block).asks_ungiven a)))
+      (λ t. stays)
 
   pub on_forwarded-follows : (stamp : Stamp) (block : BlockId) (ver : ℕ) → At (on_forwarded s stamp block ver)
   unfolding on_forwarded
@@ -136,9 +136,9 @@ module _ (opens : BlockId → Type 0) (s : TokensState) (p : IsSound s) where
   give-follows block stamp keep promised above =
       let h : Held = held_of s.blocks block in
       by_test At (is_dirty h) (record { state = with_held s block (put_off h stamp keep); outs = Flush block ∷ [] }) (record { state = with_held s block (given_up h stamp keep); outs = Gave block stamp ∷ [] })
-        (λ t. same-follows block (put_off h stamp keep) (put_off-at h stamp keep) (put_off-asks h stamp keep) (put_off-sound (epoch_at s block) h (p.each block) stamp keep t promised above))
-        (λ t. follows_with opens s block (given_up h stamp keep) p
-          (record { sound = given_up-sound (epoch_at s block) h (p.each block) stamp keep t; stamp = ap (is_later h.at) (given_up-at h stamp keep) ∙ not_later_back h.at stamp above; opened = λ a. inl (given_up-asks h stamp keep a) }))
+      (λ t. same-follows block (put_off h stamp keep) (put_off-at h stamp keep) (put_off-asks h stamp keep) (put_off-sound (epoch_at s block) h (p.each block) stamp keep t promised above))
+      (λ t. follows_with opens s block (given_up h stamp keep) p
+      (record { sound = given_up-sound (epoch_at s block) h (p.each block) stamp keep t; stamp = ap (is_later h.at) (given_up-at h stamp keep) ∙ not_later_back h.at stamp above; opened = λ a. inl (given_up-asks h stamp keep a) }))
 
   pub recalled_again-follows : (block : BlockId) (stamp : Stamp) → At (recalled_again s block stamp)
   unfolding recalled_again
@@ -150,36 +150,36 @@ module _ (opens : BlockId → Type 0) (s : TokensState) (p : IsSound s) where
       let h : Held = held_of s.blocks block in
       let free : Bool = same_mode h.mode Own && is_none h.giving in
       by_test At (may_write h) (still (with_held s block (written h value))) (still s)
-        (λ t. same-follows block (written h value) refl (λ a. a)
-          (written-sound (epoch_at s block) h (p.each block) value (and_first (same_mode h.mode Own) (is_none h.giving) (and_first free (nat_lt h.ver (2 ^ 64 - 1)) t))))
-        (λ t. stays)
+      (λ t. same-follows block (written h value) refl (λ a. a)
+      (written-sound (epoch_at s block) h (p.each block) value (and_first (same_mode h.mode Own) (is_none h.giving) (and_first free (nat_lt h.ver (2 ^ 64 - 1)) t))))
+      (λ t. stays)
 
   pub on_safe-follows : (block : BlockId) (ver : ℕ) → At (on_safe s block ver)
   unfolding on_safe
   on_safe-follows block ver =
       let h : Held = held_of s.blocks block in
       by_test At (is_settled_by h ver) (still (with_held s block (settled h ver))) (still s)
-        (λ t. same-follows block (settled h ver) refl (λ a. a)
-          (settled-sound (epoch_at s block) h (p.each block) ver (and_first (nat_lt h.safe ver) (nat_le ver h.ver) t) (and_second (nat_lt h.safe ver) (nat_le ver h.ver) t)))
-        (λ t. stays)
+      (λ t. same-follows block (settled h ver) refl (λ a. a)
+      (settled-sound (epoch_at s block) h (p.each block) ver (and_first (nat_lt h.safe ver) (nat_le ver h.ver) t) (and_second (nat_lt h.safe ver) (nat_le ver h.ver) t)))
+      (λ t. stays)
 
   pub on_fetched-follows : (block : BlockId) (value : Option (List ℕ)) → At (on_fetched s block value)
   unfolding on_fetched
   on_fetched-follows block value =
       let h : Held = held_of s.blocks block in
       by_test At (may_end_fetch h) (record { state = with_held s block (fetch_ended h h.fetch value); outs = Ready block ∷ [] }) (still s)
-        (λ t. let asks : is_asking h ≡ true = asks_by_fetch h (and_first (is_some h.fetch) (is_none h.want) t) in
-          same-follows block (fetch_ended h h.fetch value) (fetch_ended-at h h.fetch value) (λ a. asks)
-            (fetch_ended-sound (epoch_at s block) h (p.each block) h.fetch value ((p.each block).asks_ungiven asks)))
-        (λ t. stays)
+      (λ t. let asks : is_asking h ≡ true = asks_by_fetch h (and_first (is_some h.fetch) (is_none h.want) t) in
+      same-follows block (fetch_ended h h.fetch value) (fetch_ended-at h h.fetch value) (λ a. asks)
+      (fetch_ended-sound (epoch_at s block) h (p.each block) h.fetch value ((p.each block).asks_ungiven asks)))
+      (λ t. stays)
 
   pub on_evict-follows : (block : BlockId) → At (on_evict s block)
   unfolding on_evict
   on_evict-follows block =
       let h : Held = held_of s.blocks block in
       by_test At (may_evict h) (still (with_held s block (let_go h))) (still s)
-        (λ t. same-follows block (let_go h) refl (λ a. a) (let_go-sound (epoch_at s block) h (p.each block) (not_true (is_dirty h) (and_second (is_held h.mode) (not (is_dirty h)) t))))
-        (λ t. stays)
+      (λ t. same-follows block (let_go h) refl (λ a. a) (let_go-sound (epoch_at s block) h (p.each block) (not_true (is_dirty h) (and_second (is_held h.mode) (not (is_dirty h)) t))))
+      (λ t. stays)
 
   -- a copy may be asked for of a block that has a fetch
   pub ask_fetched-follows : (block : BlockId) → is_some (held_of s.blocks block).fetch ≡ true → At (ask s block Copy)

@@ -101,7 +101,7 @@ impl Held {
     ghost use Rattle.token_client.specs.Held.{unknown, is_dirty, is_asking, must_ask, is_wanted, is_answer, may_write, is_settled_by, may_end_fetch, may_evict, asked, asked_again, owned, copied, fetched_from, copy_granted, grant_taken, fetch_ended, written, settled, let_go, quitted, unfetched, promise_dropped, put_off, given_up};
 
     /// Nothing is known.
-    pub fn new() -> Held
+    pub(crate) fn new() -> Held
         ensures { result ≡ unknown }
     {
         Held {
@@ -117,28 +117,28 @@ impl Held {
     }
 
     /// Whether its newest version isn't settled.
-    pub fn is_dirty(&self) -> bool
+    pub(crate) fn is_dirty(&self) -> bool
         ensures { result ≡ is_dirty self.now }
     {
         self.safe < self.ver
     }
 
     /// Whether a want or a fetch is open.
-    pub fn is_asking(&self) -> bool
+    pub(crate) fn is_asking(&self) -> bool
         ensures { result ≡ is_asking self.now }
     {
         self.want.is_some() || self.fetch.is_some()
     }
 
     /// Whether a call that needs this mode has to ask for it.
-    pub fn must_ask(&self, mode: Mode) -> bool
+    pub(crate) fn must_ask(&self, mode: Mode) -> bool
         ensures { result ≡ must_ask self.now mode }
     {
         !self.is_asking() && self.giving.is_none() && !is_enough(self.mode, mode)
     }
 
     /// Whether what came with this stamp answers the open want.
-    pub fn is_answer(&self, stamp: Stamp, req: u32, mode: Mode) -> bool
+    pub(crate) fn is_answer(&self, stamp: Stamp, req: u32, mode: Mode) -> bool
         ensures { result ≡ is_answer self.now stamp req mode }
     {
         match self.want {
@@ -148,35 +148,35 @@ impl Held {
     }
 
     /// Whether it may be written.
-    pub fn may_write(&self) -> bool
+    pub(crate) fn may_write(&self) -> bool
         ensures { result ≡ may_write self.now }
     {
         is_same(self.mode, Mode::Own) && self.giving.is_none() && self.ver < u64::MAX
     }
 
     /// Whether it is news that a version is settled.
-    pub fn is_settled_by(&self, ver: u64) -> bool
+    pub(crate) fn is_settled_by(&self, ver: u64) -> bool
         ensures { result ≡ is_settled_by self.now ver }
     {
         self.safe < ver && ver <= self.ver
     }
 
     /// Whether what was read ends the fetch.
-    pub fn may_end_fetch(&self) -> bool
+    pub(crate) fn may_end_fetch(&self) -> bool
         ensures { result ≡ may_end_fetch self.now }
     {
         self.fetch.is_some() && self.want.is_none()
     }
 
     /// Whether it may leave the cache.
-    pub fn may_evict(&self) -> bool
+    pub(crate) fn may_evict(&self) -> bool
         ensures { result ≡ may_evict self.now }
     {
         is_some_mode(self.mode) && !self.is_dirty()
     }
 
     /// Opens a want.
-    pub fn ask(&mut self, req: u32, mode: Mode)
+    pub(crate) fn ask(&mut self, req: u32, mode: Mode)
         ensures { self.new ≡ asked self.old req mode }
     {
         self.want = Some(Wanted {
@@ -200,7 +200,7 @@ impl Held {
     }
 
     /// It is a copy of this settled version.
-    pub fn copy_of(&mut self, stamp: Stamp, ver: u64, value: Value)
+    pub(crate) fn copy_of(&mut self, stamp: Stamp, ver: u64, value: Value)
         ensures { self.new ≡ copied self.old stamp ver value }
     {
         self.mode = Mode::Copy;
@@ -234,7 +234,7 @@ impl Held {
     }
 
     /// Takes a grant.
-    pub fn take_grant(&mut self, stamp: Stamp, mode: Mode, entry: Entry)
+    pub(crate) fn take_grant(&mut self, stamp: Stamp, mode: Mode, entry: Entry)
         ensures { self.new ≡ grant_taken self.old stamp mode entry }
     {
         if is_same(mode, Mode::Own) {
@@ -245,7 +245,7 @@ impl Held {
     }
 
     /// Ends the fetch with what was read.
-    pub fn end_fetch(&mut self, value: Value)
+    pub(crate) fn end_fetch(&mut self, value: Value)
         ensures { self.new ≡ fetch_ended self.old self.old.fetch value }
     {
         if let Some(fetch) = self.fetch {
@@ -258,7 +258,7 @@ impl Held {
     }
 
     /// Takes a new version.
-    pub fn write(&mut self, value: Value)
+    pub(crate) fn write(&mut self, value: Value)
         requires { self.old.ver < 2 ^ 64 - 1 }
         ensures { self.new ≡ written self.old value }
     {
@@ -267,7 +267,7 @@ impl Held {
     }
 
     /// Lets go of what is held.
-    pub fn let_go(&mut self)
+    pub(crate) fn let_go(&mut self)
         ensures { self.new ≡ let_go self.old }
     {
         self.mode = Mode::Nothing;
@@ -275,7 +275,7 @@ impl Held {
     }
 
     /// Ends the want and the fetch.
-    pub fn quit(&mut self)
+    pub(crate) fn quit(&mut self)
         ensures { self.new ≡ quitted self.old }
     {
         self.want = None;
@@ -283,7 +283,7 @@ impl Held {
     }
 
     /// Puts a recall off; of two the later stands.
-    pub fn put_off(&mut self, stamp: Stamp, keep: bool)
+    pub(crate) fn put_off(&mut self, stamp: Stamp, keep: bool)
         ensures { self.new ≡ put_off self.old stamp keep }
     {
         if !gives_after(self.giving, stamp) {
@@ -292,7 +292,7 @@ impl Held {
     }
 
     /// Gives up what is held, but for a copy where that may stay.
-    pub fn give_up(&mut self, stamp: Stamp, keep: bool)
+    pub(crate) fn give_up(&mut self, stamp: Stamp, keep: bool)
         ensures { self.new ≡ given_up self.old stamp keep }
     {
         if keep && is_some_mode(self.mode) {
@@ -306,7 +306,7 @@ impl Held {
     }
 
     /// Drops what a promise ends: the fetch and the recall that is put off.
-    pub fn drop_promised(&mut self)
+    pub(crate) fn drop_promised(&mut self)
         ensures { self.new ≡ promise_dropped self.old }
     {
         self.fetch = None;

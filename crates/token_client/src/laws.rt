@@ -7,23 +7,19 @@ ghost use Rattle.token_client.specs.Laws.{StaysSound, StampsNeverFall, NumbersRi
 /// off is of the promised epoch, with a stamp above the block's; and the blocks stand in their order.
 pub fn stays_sound()
     ensures { StaysSound }
-{
-}
+{}
 
 /// The stamp of a block never falls.
 pub fn stamps_never_fall()
     ensures { StampsNeverFall }
-{
-}
+{}
 
 /// The number of the last want never falls.
 pub fn numbers_rise()
     ensures { NumbersRise }
-{
-}
+{}
 
 /// A want or a fetch is open only where one was open before, or a call needed that block since.
 pub fn opens_by_need()
     ensures { OpensByNeed }
-{
-}
+{}

@@ -833,3 +833,21 @@ impl Tokens {
         dirty_blocks(alloc, &self.blocks)
     }
 }
+
+#[cfg(test)]
+impl Tokens {
+    /// Brings the counters of wants to their ends.
+    pub(crate) fn spend(&mut self) {
+        self.req = u32::MAX;
+        self.blocks.retain(|_, held| {
+            held.want = match held.want {
+                Some(want) => Some(Wanted {
+                    again: u32::MAX,
+                    ..want
+                }),
+                None => None,
+            };
+            true
+        });
+    }
+}
