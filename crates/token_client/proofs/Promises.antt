@@ -26,14 +26,10 @@ use Rattle.token_client.specs.Laws.{IsSound, IsSoundBlock}
 use Rattle.token_client.specs.State.{TokensState, held_of, with_held, put_held, epoch_of, is_in_slot}
 use Rattle.token_client.specs.Transition.{Done, ask, is_promised, refetch, give, can_refetch, recalled_above, recalled_again, recalled, on_recalled, fetched_in, dropped_in, all_dropped_in, raised, ask_copy, may_promise, on_promise, is_spent, ask_again, wanted_in, on_tick}
 use Rattle.token_client.proofs.StampOrder.{not_later_itself}
-use Rattle.token_client.proofs.Tables.{held_of-put, put_same, sorted_changed, held_of-changed, first, second}
+use Rattle.token_client.proofs.Tables.{held_of-put_itself, put_same, sorted_changed, held_of-changed, first, second}
 use Rattle.token_client.proofs.Follows.{Follows, follows_still, follows_through, follows_steps, follows_less}
 use Rattle.token_client.proofs.SoundBlocks.{contrary, by_test, and_first, and_second, asks_by_fetch, asks_less, unheld_is_unowned, unfetched-sound, promise_dropped-sound}
 use Rattle.token_client.proofs.Transitions.{epoch_at, ask-follows, ask_fetched-follows, same-follows, give-follows, recalled_again-follows, ask_again-follows}
-
--- what is known of the very block that is put
-held_of-put_itself : (block : BlockId) (h : Held) (es : List (BlockId × Held)) → held_of (put_held es block h) block ≡ h
-held_of-put_itself block h es = held_of-put block block h es ∙ ap (λ o. cond (is_eq o) h (held_of es block)) (tied_itself block_cmp_total block)
 
 -- asking changes no epoch, and no stamp of the block
 ask-same : (s : TokensState) (block : BlockId) (mode : Mode) → ((ask s block mode).state.epochs ≡ s.epochs) × ((held_of (ask s block mode).state.blocks block).at ≡ (held_of s.blocks block).at)
@@ -74,6 +70,10 @@ refetch-follows opens s p block =
     (ap (λ (g : Held). is_none g.giving) now ∙ sound.asks_ungiven asks) (inr asks) in
     follows_less opens s (ask dropped block Copy).state (follows_through (Asked s) s dropped (ask dropped block Copy).state one two))
     (λ t. follows_still opens s p)
+
+-- what is known of each block once a promise has dropped what it ends
+pub dropped-known : (s : TokensState) (slot : ℕ) (b : BlockId) → held_of (all_dropped_in slot s.blocks) b ≡ dropped_in slot b (held_of s.blocks b)
+dropped-known s slot b = held_of-changed (dropped_in slot) b s.blocks (by_test (λ (g : Held). g ≡ unknown) (is_in_slot slot b) (promise_dropped unknown) unknown (λ t. refl) (λ t. refl))
 
 module _ (opens : BlockId → Type 0) (s : TokensState) (p : IsSound s) where
   recalled_above-follows : (block : BlockId) (stamp : Stamp) (keep : Bool) → stamp.epoch ≡ epoch_at s block → is_later stamp (held_of s.blocks block).at ≡ true → Follows opens s (recalled_above s block stamp keep).state
@@ -125,9 +125,6 @@ module _ (opens : BlockId → Type 0) (s : TokensState) (p : IsSound s) where
       apart : (n m : ℕ) → (n == m) ≡ false → n ≢ m
       apart n m f = grind (arith, nat_tests)
 
-  dropped-known : (slot : ℕ) (b : BlockId) → held_of (all_dropped_in slot s.blocks) b ≡ dropped_in slot b (held_of s.blocks b)
-  dropped-known slot b = held_of-changed (dropped_in slot) b s.blocks (by_test (λ (g : Held). g ≡ unknown) (is_in_slot slot b) (promise_dropped unknown) unknown (λ t. refl) (λ t. refl))
-
   dropped-at : (slot : ℕ) (b : BlockId) (h : Held) → (dropped_in slot b h).at ≡ h.at
   dropped-at slot b h = by_test (λ (g : Held). g.at ≡ h.at) (is_in_slot slot b) (promise_dropped h) h (λ t. refl) (λ t. refl)
 
@@ -138,11 +135,11 @@ module _ (opens : BlockId → Type 0) (s : TokensState) (p : IsSound s) where
   raised-follows slot epoch = record {
     sound = record {
       sorted = sorted_changed (dropped_in slot) s.blocks p.sorted;
-      each = λ b. subst (IsSoundBlock (epoch_of (slice_set s.epochs slot epoch) (slot_of b.ino.0))) (sym (dropped-known slot b)) (dropped-sound slot epoch b);
+      each = λ b. subst (IsSoundBlock (epoch_of (slice_set s.epochs slot epoch) (slot_of b.ino.0))) (sym (dropped-known s slot b)) (dropped-sound slot epoch b);
     };
-    stamps = λ b. ap (λ (g : Held). is_later (held_of s.blocks b).at g.at) (dropped-known slot b) ∙ ap (is_later (held_of s.blocks b).at) (dropped-at slot b (held_of s.blocks b)) ∙ not_later_itself (held_of s.blocks b).at;
+    stamps = λ b. ap (λ (g : Held). is_later (held_of s.blocks b).at g.at) (dropped-known s slot b) ∙ ap (is_later (held_of s.blocks b).at) (dropped-at slot b (held_of s.blocks b)) ∙ not_later_itself (held_of s.blocks b).at;
     counted = omega arith;
-    opened = λ b a. inl (dropped-asks slot b (held_of s.blocks b) (sym (ap is_asking (dropped-known slot b)) ∙ a));
+    opened = λ b a. inl (dropped-asks slot b (held_of s.blocks b) (sym (ap is_asking (dropped-known s slot b)) ∙ a));
   }
 
 -- each of a list
@@ -228,5 +225,5 @@ on_promise-follows opens s p slot epoch =
     freed : (b : BlockId) → IsFetched s.blocks slot b → IsFree (raised s slot epoch) b
     freed b f =
         let h : Held = held_of s.blocks b in
-        let now : held_of (raised s slot epoch).blocks b ≡ promise_dropped h = dropped-known (Asked s) s p slot b ∙ ap (λ t. cond t (promise_dropped h) h) f.0 in
+        let now : held_of (raised s slot epoch).blocks b ≡ promise_dropped h = dropped-known s slot b ∙ ap (λ t. cond t (promise_dropped h) h) f.0 in
         (ap (λ (g : Held). same_mode g.mode Own) now ∙ unheld_is_unowned h.mode ((p.each b).fetch_unheld f.1), ap (λ (g : Held). is_none g.giving) now)

@@ -8,6 +8,7 @@ use Rattle.std.specs.declared.cmp.Ordering.TheVariants.{Less, Equal, Greater}
 use Rattle.std.specs.FinMap.Entries.{is_sorted, is_sorted-put, below_all, put, by_order}
 use Rattle.std.specs.Map.{lookup, remove_entry}
 use Rattle.std.specs.BTreeMap.{is_at, insert_entry}
+use Rattle.std.proofs.lemmas.Cmp.{tied_itself}
 use Rattle.xfs_base.specs.declared.block.BlockId.{BlockId}
 use Rattle.xfs_base.specs.Blocks.{block_cmp}
 use Rattle.xfs_base.proofs.BlockOrder.{block_cmp_total, block_cmp_exact, lookup-insert_entry}
@@ -64,6 +65,10 @@ put_by P q k h g false other here there = there
 -- what holds of the block that is put, and held of every other, holds of all
 pub put_each : (P : BlockId → Held → Type 0) (k : BlockId) (h : Held) (es : List (BlockId × Held)) → P k h → ((q : BlockId) → P q (held_of es q)) → (q : BlockId) → P q (held_of (put_held es k h) q)
 put_each P k h es here there q = subst (P q) (sym (held_of-put q k h es)) (put_by P q k h (held_of es q) (eq_by_cmp block_cmp q k) refl here (there q))
+
+-- what is known of the very block that is put
+pub held_of-put_itself : (block : BlockId) (h : Held) (es : List (BlockId × Held)) → held_of (put_held es block h) block ≡ h
+held_of-put_itself block h es = held_of-put block block h es ∙ ap (λ o. cond (is_eq o) h (held_of es block)) (tied_itself block_cmp_total block)
 
 -- what the block that is put has as before, each block has as before
 pub put_same : {A : Type 0} (f : Held → A) (q k : BlockId) (h : Held) (es : List (BlockId × Held)) → f h ≡ f (held_of es k) → f (held_of (put_held es k h) q) ≡ f (held_of es q)

@@ -1,4 +1,5 @@
 pub mod Held
 pub mod Laws
+pub mod Readings
 pub mod State
 pub mod Transition

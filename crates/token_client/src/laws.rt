@@ -1,6 +1,7 @@
 //! Laws of what the tokens of a client do, over every list of inputs. Each function's contract is a law;
 //! `specs/Laws.antt` says it in full.
 ghost use Rattle.token_client.specs.Laws.{StaysSound, StampsNeverFall, NumbersRise, OpensByNeed};
+ghost use Rattle.token_client.specs.Readings.{EndedWantTakesNothing, DirtyKeepsItsStamp, PromiseDrops, QuitEnds};
 
 /// Whatever is taken from the start: a block with a want or a fetch isn't owned, is clean, and isn't being
 /// given up; the settled version is at most the block's, and a dirty block is owned; a recall that is put
@@ -22,4 +23,25 @@ pub fn numbers_rise()
 /// A want or a fetch is open only where one was open before, or a call needed that block since.
 pub fn opens_by_need()
     ensures { OpensByNeed }
+{}
+
+/// A block without a want takes no grant and no supply: an ended want accepts nothing.
+pub fn ended_want_takes_nothing()
+    ensures { EndedWantTakesNothing }
+{}
+
+/// A recall of a dirty block leaves its stamp, mode, versions and value: the stamp rises only once the
+/// block is given up.
+pub fn dirty_keeps_its_stamp()
+    ensures { DirtyKeepsItsStamp }
+{}
+
+/// A promise that is taken leaves no fetch and no put-off recall in its slot.
+pub fn promise_drops()
+    ensures { PromiseDrops }
+{}
+
+/// A block that is quitted has neither a want nor a fetch.
+pub fn quit_ends()
+    ensures { QuitEnds }
 {}
