@@ -91,50 +91,41 @@ fn fetcher(alloc: Global) -> Mem<Tokens> {
     Ok(tokens)
 }
 
-fn is_want(out: Option<&Out>, req: u32, again: u32, mode: Mode) -> bool {
+/// What an out says, but for its block; of a value whether it is "old".
+#[derive(Clone, Copy, PartialEq)]
+enum Told {
+    Want(u32, u32, Mode),
+    Gave(Stamp),
+    Supply(u64, bool),
+    Flush,
+    Read(Place),
+    Ready,
+}
+
+fn shown(out: &Out) -> (BlockId, Told) {
     match out {
-        Some(Out::Want(named, number, times, wanted)) => {
-            *named == block() && *number == req && *times == again && *wanted == mode
+        Out::Want(block, req, again, mode) => (*block, Told::Want(*req, *again, *mode)),
+        Out::Gave(block, stamp) => (*block, Told::Gave(*stamp)),
+        Out::Supply(block, ver, value) => {
+            (
+                *block,
+                Told::Supply(*ver, value.bytes() == Some(b"old".as_slice())),
+            )
         }
-        _ => false,
+        Out::Flush(block) => (*block, Told::Flush),
+        Out::Read(block, place) => (*block, Told::Read(*place)),
+        Out::Ready(block) => (*block, Told::Ready),
     }
 }
 
-fn is_gave(out: Option<&Out>, turn: u64) -> bool {
-    match out {
-        Some(Out::Gave(named, given)) => *named == block() && *given == stamp(turn),
-        _ => false,
+/// Whether the input has these outs.
+fn gives(alloc: Global, tokens: &mut Tokens, input: In, wanted: &[Told]) -> Mem<bool> {
+    let outs = tokens.take(alloc, input)?;
+    let mut same = outs.len() == wanted.len();
+    for (out, wanted) in outs.as_slice().iter().zip(wanted) {
+        same = same && shown(out) == (block(), *wanted);
     }
-}
-
-fn is_supply(out: Option<&Out>, ver: u64, bytes: &[u8]) -> bool {
-    match out {
-        Some(Out::Supply(named, version, value)) => {
-            *named == block() && *version == ver && value.bytes() == Some(bytes)
-        }
-        _ => false,
-    }
-}
-
-fn is_flush(out: Option<&Out>) -> bool {
-    match out {
-        Some(Out::Flush(named)) => *named == block(),
-        _ => false,
-    }
-}
-
-fn is_read(out: Option<&Out>, item: u16) -> bool {
-    match out {
-        Some(Out::Read(named, at)) => *named == block() && *at == place(item),
-        _ => false,
-    }
-}
-
-fn is_ready(out: Option<&Out>) -> bool {
-    match out {
-        Some(Out::Ready(named)) => *named == block(),
-        _ => false,
-    }
+    Ok(same)
 }
 
 fn has(tokens: &Tokens, bytes: &[u8]) -> bool {
@@ -148,16 +139,27 @@ fn has(tokens: &Tokens, bytes: &[u8]) -> bool {
 fn a_need_is_asked_for_once(rt: HostRuntime) -> Mem<()> {
     let alloc = rt.alloc();
     let mut tokens = fresh(alloc)?;
-    let outs = tokens.take(alloc, In::Need(block(), Mode::Copy))?;
-    assert!(rt; outs.len() == 1 && is_want(outs.get(0), 1, 0, Mode::Copy));
+    assert!(rt;
+        gives(
+            alloc,
+            &mut tokens,
+            In::Need(block(), Mode::Copy),
+            &[Told::Want(1, 0, Mode::Copy)]
+        )?
+    );
     assert!(rt; tokens.want(block()) == Some(1) && tokens.asked() == 1);
-    let outs = tokens.take(alloc, In::Need(block(), Mode::Copy))?;
-    assert!(rt; outs.is_empty() && tokens.asked() == 1);
+    assert!(rt; gives(alloc, &mut tokens, In::Need(block(), Mode::Copy), &[])?);
+    assert!(rt; tokens.asked() == 1);
     let mut tokens = reader(alloc)?;
-    let outs = tokens.take(alloc, In::Need(block(), Mode::Copy))?;
-    assert!(rt; outs.is_empty());
-    let outs = tokens.take(alloc, In::Need(block(), Mode::Own))?;
-    assert!(rt; outs.len() == 1 && is_want(outs.get(0), 2, 0, Mode::Own));
+    assert!(rt; gives(alloc, &mut tokens, In::Need(block(), Mode::Copy), &[])?);
+    assert!(rt;
+        gives(
+            alloc,
+            &mut tokens,
+            In::Need(block(), Mode::Own),
+            &[Told::Want(2, 0, Mode::Own)]
+        )?
+    );
     Ok(())
 }
 
@@ -167,23 +169,21 @@ fn a_grant_is_owned_copied_or_read(rt: HostRuntime) -> Mem<()> {
     let mut tokens = fresh(alloc)?;
     tokens.take(alloc, In::Need(block(), Mode::Own))?;
     let grant = In::Granted(stamp(4), 2, 1, block(), Mode::Own, placed(5, 0));
-    let outs = tokens.take(alloc, grant)?;
-    assert!(rt; outs.is_empty() && tokens.mode(block()) == Mode::Nothing);
+    assert!(rt; gives(alloc, &mut tokens, grant, &[])?);
+    assert!(rt; tokens.mode(block()) == Mode::Nothing);
     let grant = In::Granted(stamp(4), 3, 1, block(), Mode::Own, placed(5, 0));
-    let outs = tokens.take(alloc, grant)?;
-    assert!(rt; outs.len() == 1 && is_ready(outs.get(0)));
+    assert!(rt; gives(alloc, &mut tokens, grant, &[Told::Ready])?);
     assert!(rt; tokens.mode(block()) == Mode::Own && tokens.ver(block()) == 5);
     assert!(rt; tokens.safe(block()) == 5 && tokens.at(block()) == stamp(4));
     let mut tokens = fresh(alloc)?;
     tokens.take(alloc, In::Need(block(), Mode::Copy))?;
     let grant = In::Granted(stamp(4), 3, 1, block(), Mode::Copy, absent(6));
-    let outs = tokens.take(alloc, grant)?;
-    assert!(rt; outs.len() == 1 && is_ready(outs.get(0)) && tokens.mode(block()) == Mode::Copy);
+    assert!(rt; gives(alloc, &mut tokens, grant, &[Told::Ready])?);
+    assert!(rt; tokens.mode(block()) == Mode::Copy);
     let mut tokens = fresh(alloc)?;
     tokens.take(alloc, In::Need(block(), Mode::Copy))?;
     let grant = In::Granted(stamp(4), 3, 1, block(), Mode::Copy, placed(5, 2));
-    let outs = tokens.take(alloc, grant)?;
-    assert!(rt; outs.len() == 1 && is_read(outs.get(0), 2));
+    assert!(rt; gives(alloc, &mut tokens, grant, &[Told::Read(place(2))])?);
     assert!(rt; tokens.fetching(block()) == Some(place(2)) && tokens.want(block()) == None);
     assert!(rt; tokens.mode(block()) == Mode::Nothing);
     Ok(())
@@ -195,12 +195,11 @@ fn a_supply_ends_the_want(rt: HostRuntime) -> Mem<()> {
     let mut tokens = fresh(alloc)?;
     tokens.take(alloc, In::Need(block(), Mode::Copy))?;
     let supply = In::Supplied(stamp(4), 3, 1, block(), 5, value(alloc, b"old")?);
-    let outs = tokens.take(alloc, supply)?;
-    assert!(rt; outs.len() == 1 && is_ready(outs.get(0)));
+    assert!(rt; gives(alloc, &mut tokens, supply, &[Told::Ready])?);
     assert!(rt; tokens.mode(block()) == Mode::Copy && has(&tokens, b"old"));
     let late = In::Supplied(stamp(5), 3, 1, block(), 6, value(alloc, b"late")?);
-    let outs = tokens.take(alloc, late)?;
-    assert!(rt; outs.is_empty() && has(&tokens, b"old") && tokens.ver(block()) == 5);
+    assert!(rt; gives(alloc, &mut tokens, late, &[])?);
+    assert!(rt; has(&tokens, b"old") && tokens.ver(block()) == 5);
     Ok(())
 }
 
@@ -208,10 +207,15 @@ fn a_supply_ends_the_want(rt: HostRuntime) -> Mem<()> {
 fn a_forward_is_served_at_the_same_version(rt: HostRuntime) -> Mem<()> {
     let alloc = rt.alloc();
     let mut tokens = reader(alloc)?;
-    let outs = tokens.take(alloc, In::Forwarded(stamp(5), block(), 5))?;
-    assert!(rt; outs.len() == 1 && is_supply(outs.get(0), 5, b"old"));
-    let outs = tokens.take(alloc, In::Forwarded(stamp(5), block(), 6))?;
-    assert!(rt; outs.is_empty());
+    assert!(rt;
+        gives(
+            alloc,
+            &mut tokens,
+            In::Forwarded(stamp(5), block(), 5),
+            &[Told::Supply(5, true)]
+        )?
+    );
+    assert!(rt; gives(alloc, &mut tokens, In::Forwarded(stamp(5), block(), 6), &[])?);
     Ok(())
 }
 
@@ -219,22 +223,53 @@ fn a_forward_is_served_at_the_same_version(rt: HostRuntime) -> Mem<()> {
 fn a_recall_gives_up_or_flushes(rt: HostRuntime) -> Mem<()> {
     let alloc = rt.alloc();
     let mut tokens = reader(alloc)?;
-    let outs = tokens.take(alloc, In::Recalled(stamp(3), block(), false))?;
-    assert!(rt; outs.is_empty());
-    let outs = tokens.take(alloc, In::Recalled(stamp(6), block(), false))?;
-    assert!(rt; outs.len() == 1 && is_gave(outs.get(0), 6));
+    assert!(rt;
+        gives(
+            alloc,
+            &mut tokens,
+            In::Recalled(stamp(3), block(), false),
+            &[]
+        )?
+    );
+    assert!(rt;
+        gives(
+            alloc,
+            &mut tokens,
+            In::Recalled(stamp(6), block(), false),
+            &[Told::Gave(stamp(6))]
+        )?
+    );
     assert!(rt; tokens.mode(block()) == Mode::Nothing && tokens.at(block()) == stamp(6));
-    let outs = tokens.take(alloc, In::Recalled(stamp(6), block(), false))?;
-    assert!(rt; outs.len() == 1 && is_gave(outs.get(0), 6));
+    assert!(rt;
+        gives(
+            alloc,
+            &mut tokens,
+            In::Recalled(stamp(6), block(), false),
+            &[Told::Gave(stamp(6))]
+        )?
+    );
     let mut tokens = owner(alloc)?;
-    let outs = tokens.take(alloc, In::Recalled(stamp(6), block(), true))?;
-    assert!(rt; outs.len() == 1 && is_flush(outs.get(0)));
+    assert!(rt;
+        gives(
+            alloc,
+            &mut tokens,
+            In::Recalled(stamp(6), block(), true),
+            &[Told::Flush]
+        )?
+    );
     assert!(rt; tokens.at(block()) == stamp(4) && tokens.mode(block()) == Mode::Own);
     assert!(rt; tokens.giving(block()) == Some((stamp(6), true)));
     let mut tokens = fetcher(alloc)?;
-    let outs = tokens.take(alloc, In::Recalled(stamp(6), block(), false))?;
-    assert!(rt; outs.len() == 2 && is_want(outs.get(0), 2, 0, Mode::Copy));
-    assert!(rt; is_gave(outs.get(1), 6) && tokens.fetching(block()) == None);
+    let both = [Told::Want(2, 0, Mode::Copy), Told::Gave(stamp(6))];
+    assert!(rt;
+        gives(
+            alloc,
+            &mut tokens,
+            In::Recalled(stamp(6), block(), false),
+            &both
+        )?
+    );
+    assert!(rt; tokens.fetching(block()) == None);
     Ok(())
 }
 
@@ -246,8 +281,15 @@ fn a_write_is_the_next_version(rt: HostRuntime) -> Mem<()> {
     let dirty = tokens.dirty(alloc)?;
     assert!(rt; dirty.as_slice() == [block()].as_slice());
     let mut tokens = reader(alloc)?;
-    let outs = tokens.take(alloc, In::Wrote(block(), value(alloc, b"new")?))?;
-    assert!(rt; outs.is_empty() && tokens.ver(block()) == 5);
+    assert!(rt;
+        gives(
+            alloc,
+            &mut tokens,
+            In::Wrote(block(), value(alloc, b"new")?),
+            &[]
+        )?
+    );
+    assert!(rt; tokens.ver(block()) == 5);
     Ok(())
 }
 
@@ -256,11 +298,17 @@ fn a_settled_version_lets_the_recall_be_taken_again(rt: HostRuntime) -> Mem<()> 
     let alloc = rt.alloc();
     let mut tokens = owner(alloc)?;
     tokens.take(alloc, In::Recalled(stamp(6), block(), true))?;
-    let outs = tokens.take(alloc, In::Safe(block(), 6))?;
-    assert!(rt; outs.is_empty() && tokens.safe(block()) == 6);
+    assert!(rt; gives(alloc, &mut tokens, In::Safe(block(), 6), &[])?);
+    assert!(rt; tokens.safe(block()) == 6);
     assert!(rt; tokens.dirty(alloc)?.is_empty());
-    let outs = tokens.take(alloc, In::Recalled(stamp(6), block(), true))?;
-    assert!(rt; outs.len() == 1 && is_gave(outs.get(0), 6));
+    assert!(rt;
+        gives(
+            alloc,
+            &mut tokens,
+            In::Recalled(stamp(6), block(), true),
+            &[Told::Gave(stamp(6))]
+        )?
+    );
     assert!(rt; tokens.mode(block()) == Mode::Copy && has(&tokens, b"new"));
     assert!(rt; tokens.giving(block()) == None && tokens.at(block()) == stamp(6));
     Ok(())
@@ -270,8 +318,14 @@ fn a_settled_version_lets_the_recall_be_taken_again(rt: HostRuntime) -> Mem<()> 
 fn what_was_read_ends_the_fetch(rt: HostRuntime) -> Mem<()> {
     let alloc = rt.alloc();
     let mut tokens = fetcher(alloc)?;
-    let outs = tokens.take(alloc, In::Fetched(block(), value(alloc, b"old")?))?;
-    assert!(rt; outs.len() == 1 && is_ready(outs.get(0)));
+    assert!(rt;
+        gives(
+            alloc,
+            &mut tokens,
+            In::Fetched(block(), value(alloc, b"old")?),
+            &[Told::Ready]
+        )?
+    );
     assert!(rt; tokens.mode(block()) == Mode::Copy && tokens.ver(block()) == 5);
     assert!(rt; tokens.fetching(block()) == None && has(&tokens, b"old"));
     let held = tokens.held(alloc, 1)?;
@@ -284,11 +338,11 @@ fn what_was_read_ends_the_fetch(rt: HostRuntime) -> Mem<()> {
 fn a_clean_block_leaves_the_cache(rt: HostRuntime) -> Mem<()> {
     let alloc = rt.alloc();
     let mut tokens = owner(alloc)?;
-    let outs = tokens.take(alloc, In::Evict(block()))?;
-    assert!(rt; outs.is_empty() && tokens.mode(block()) == Mode::Own);
+    assert!(rt; gives(alloc, &mut tokens, In::Evict(block()), &[])?);
+    assert!(rt; tokens.mode(block()) == Mode::Own);
     let mut tokens = reader(alloc)?;
-    let outs = tokens.take(alloc, In::Evict(block()))?;
-    assert!(rt; outs.is_empty() && tokens.mode(block()) == Mode::Nothing);
+    assert!(rt; gives(alloc, &mut tokens, In::Evict(block()), &[])?);
+    assert!(rt; tokens.mode(block()) == Mode::Nothing);
     assert!(rt; tokens.value(block()).is_none() && tokens.at(block()) == stamp(4));
     assert!(rt; tokens.held(alloc, 1)?.is_empty());
     Ok(())
@@ -298,14 +352,19 @@ fn a_clean_block_leaves_the_cache(rt: HostRuntime) -> Mem<()> {
 fn a_fetch_is_asked_for_again_or_given_up(rt: HostRuntime) -> Mem<()> {
     let alloc = rt.alloc();
     let mut tokens = fetcher(alloc)?;
-    let outs = tokens.take(alloc, In::Reask(block()))?;
-    assert!(rt; outs.len() == 1 && is_want(outs.get(0), 2, 0, Mode::Copy));
+    assert!(rt;
+        gives(
+            alloc,
+            &mut tokens,
+            In::Reask(block()),
+            &[Told::Want(2, 0, Mode::Copy)]
+        )?
+    );
     assert!(rt; tokens.fetching(block()) == Some(place(2)));
-    let outs = tokens.take(alloc, In::Quit(block()))?;
-    assert!(rt; outs.is_empty() && tokens.want(block()) == None);
+    assert!(rt; gives(alloc, &mut tokens, In::Quit(block()), &[])?);
+    assert!(rt; tokens.want(block()) == None);
     assert!(rt; tokens.fetching(block()) == None);
-    let outs = tokens.take(alloc, In::Reask(block()))?;
-    assert!(rt; outs.is_empty());
+    assert!(rt; gives(alloc, &mut tokens, In::Reask(block()), &[])?);
     Ok(())
 }
 
@@ -313,15 +372,21 @@ fn a_fetch_is_asked_for_again_or_given_up(rt: HostRuntime) -> Mem<()> {
 fn a_promise_drops_fetch_and_giving(rt: HostRuntime) -> Mem<()> {
     let alloc = rt.alloc();
     let mut tokens = fetcher(alloc)?;
-    let outs = tokens.take(alloc, In::Promise(1, 0))?;
-    assert!(rt; outs.is_empty() && tokens.promised(1) == 1);
-    let outs = tokens.take(alloc, In::Promise(1, 2))?;
-    assert!(rt; outs.len() == 1 && is_want(outs.get(0), 2, 0, Mode::Copy));
+    assert!(rt; gives(alloc, &mut tokens, In::Promise(1, 0), &[])?);
+    assert!(rt; tokens.promised(1) == 1);
+    assert!(rt;
+        gives(
+            alloc,
+            &mut tokens,
+            In::Promise(1, 2),
+            &[Told::Want(2, 0, Mode::Copy)]
+        )?
+    );
     assert!(rt; tokens.promised(1) == 2 && tokens.fetching(block()) == None);
     let mut tokens = owner(alloc)?;
     tokens.take(alloc, In::Recalled(stamp(6), block(), true))?;
-    let outs = tokens.take(alloc, In::Promise(1, 1))?;
-    assert!(rt; outs.is_empty() && tokens.giving(block()) == None);
+    assert!(rt; gives(alloc, &mut tokens, In::Promise(1, 1), &[])?);
+    assert!(rt; tokens.giving(block()) == None);
     assert!(rt; tokens.mode(block()) == Mode::Own);
     Ok(())
 }
@@ -331,13 +396,10 @@ fn a_tick_sends_the_want_again(rt: HostRuntime) -> Mem<()> {
     let alloc = rt.alloc();
     let mut tokens = fresh(alloc)?;
     tokens.take(alloc, In::Need(block(), Mode::Own))?;
-    let outs = tokens.take(alloc, In::Tick)?;
-    assert!(rt; outs.len() == 1 && is_want(outs.get(0), 1, 1, Mode::Own));
-    let outs = tokens.take(alloc, In::Tick)?;
-    assert!(rt; outs.len() == 1 && is_want(outs.get(0), 1, 2, Mode::Own));
+    assert!(rt; gives(alloc, &mut tokens, In::Tick, &[Told::Want(1, 1, Mode::Own)])?);
+    assert!(rt; gives(alloc, &mut tokens, In::Tick, &[Told::Want(1, 2, Mode::Own)])?);
     let mut tokens = reader(alloc)?;
-    let outs = tokens.take(alloc, In::Tick)?;
-    assert!(rt; outs.is_empty());
+    assert!(rt; gives(alloc, &mut tokens, In::Tick, &[])?);
     Ok(())
 }
 
@@ -346,16 +408,23 @@ fn a_counter_at_its_end_stops_the_whole_input(rt: HostRuntime) -> Mem<()> {
     let alloc = rt.alloc();
     let mut tokens = fetcher(alloc)?;
     tokens.spend();
-    let outs = tokens.take(alloc, In::Recalled(stamp(6), block(), false))?;
-    assert!(rt; outs.is_empty() && tokens.fetching(block()) == Some(place(2)));
-    let outs = tokens.take(alloc, In::Promise(1, 2))?;
-    assert!(rt; outs.is_empty() && tokens.promised(1) == 1);
+    assert!(rt;
+        gives(
+            alloc,
+            &mut tokens,
+            In::Recalled(stamp(6), block(), false),
+            &[]
+        )?
+    );
+    assert!(rt; tokens.fetching(block()) == Some(place(2)));
+    assert!(rt; gives(alloc, &mut tokens, In::Promise(1, 2), &[])?);
+    assert!(rt; tokens.promised(1) == 1);
     assert!(rt; tokens.fetching(block()) == Some(place(2)) && tokens.at(block()) == stamp(4));
     let mut tokens = fresh(alloc)?;
     tokens.take(alloc, In::Need(block(), Mode::Own))?;
     tokens.spend();
-    let outs = tokens.take(alloc, In::Tick)?;
-    assert!(rt; outs.is_empty() && tokens.want(block()) == Some(1));
+    assert!(rt; gives(alloc, &mut tokens, In::Tick, &[])?);
+    assert!(rt; tokens.want(block()) == Some(1));
     let grant = In::Granted(stamp(4), 3, 1, block(), Mode::Own, placed(u64::MAX, 0));
     tokens.take(alloc, grant)?;
     tokens.take(alloc, In::Wrote(block(), value(alloc, b"new")?))?;
