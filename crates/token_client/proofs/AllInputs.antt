@@ -1,15 +1,12 @@
 -- Each input leads to a state that follows, and so do many: the laws of the tokens.
-use Rattle.std.proofs.Common.{◌≡◌, ◌≤◌, ◌⊎◌, ℕ, Bool, true, false, ◌||◌, List, [], ◌∷◌, T, inl, inr, refl, sym, ap, ◌∙◌, arith}
+use Rattle.std.proofs.Common.{◌≡◌, ℕ, Bool, true, ◌||◌, List, [], ◌∷◌, ap}
 use Rattle.std.specs.List.{list_any}
 use Rattle.xfs_base.specs.declared.block.BlockId.{BlockId}
-use Rattle.xfs_base.specs.Blocks.{same_block}
-use Rattle.xfs_base.specs.Steps.{steps}
-use Rattle.xfs_base.proofs.BlockOrder.{same_block_itself, same_block_exact}
+use Rattle.xfs_base.proofs.BlockOrder.{same_block_itself}
 use Rattle.token_client.specs.declared.input.In.{In}
 use Rattle.token_client.specs.declared.input.In.TheVariants.{Need, Granted, Supplied, Forwarded, Recalled, Wrote, Safe, Fetched, Evict, Reask, Quit, Promise, Tick}
-use Rattle.token_client.specs.Held.{is_asking}
 use Rattle.token_client.specs.Laws.{IsSound, needs, state_after, StaysSound, StampsNeverFall, NumbersRise, OpensByNeed}
-use Rattle.token_client.specs.State.{TokensState, start_state, held_of}
+use Rattle.token_client.specs.State.{TokensState, start_state}
 use Rattle.token_client.specs.Transition.{transition}
 use Rattle.token_client.proofs.Follows.{Follows, follows_still, follows_through, follows_weaker}
 use Rattle.token_client.proofs.Promises.{on_recalled-follows, on_promise-follows, on_tick-follows}

@@ -1,15 +1,14 @@
 -- One state follows another: what holds of each block holds, no stamp fell, no number fell, and a want or
 -- a fetch was opened only where that is allowed.
-use Rattle.std.proofs.Common.{◌≡◌, ◌≤◌, ◌⊎◌, ℕ, Bool, true, false, List, [], ◌∷◌, refl, sym, ap, subst, ◌∙◌, arith}
-use Rattle.std.proofs.Common.{T, inl, inr}
-use Rattle.std.specs.FinMap.Entries.{is_sorted}
+use Rattle.std.proofs.Common.{◌≡◌, ◌≤◌, ◌⊎◌, ℕ, true, false, List, [], ◌∷◌, arith}
+use Rattle.std.proofs.Common.{inl, inr}
 use Rattle.xfs_base.specs.declared.block.BlockId.{BlockId}
-use Rattle.xfs_base.specs.Blocks.{block_cmp, slot_of}
-use Rattle.xfs_base.specs.Steps.{Stepped, steps}
+use Rattle.xfs_base.specs.Blocks.{slot_of}
+use Rattle.xfs_base.specs.Steps.{steps}
 use Rattle.token_client.specs.declared.held.Held.{Held}
 use Rattle.token_client.specs.Held.{is_later, is_asking}
 use Rattle.token_client.specs.Laws.{IsSound, IsSoundBlock}
-use Rattle.token_client.specs.State.{TokensState, held_of, put_held, with_held, epoch_of}
+use Rattle.token_client.specs.State.{TokensState, held_of, with_held, epoch_of}
 use Rattle.token_client.specs.Transition.{Done}
 use Rattle.token_client.proofs.StampOrder.{not_later_itself, not_later_through}
 use Rattle.token_client.proofs.Tables.{put_each, sorted_put}

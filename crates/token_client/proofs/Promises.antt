@@ -1,5 +1,5 @@
 -- Transitions of several steps lead to a state that follows: recalls, promises and ticks.
-use Rattle.std.proofs.Common.{◌≡◌, ◌≤◌, ◌⊎◌, ◌≢◌, ℕ, ◌+◌, ◌-◌, ◌^◌, Bool, true, false, cond, ◌&&◌, ◌||◌, ◌==◌, not, List, [], ◌∷◌, length, Option, Some, None, is_some, is_none, map, refl, sym, ap, subst, ◌∙◌, arith, nat_lt, nat_le, nat_eq}
+use Rattle.std.proofs.Common.{◌≡◌, ◌≢◌, ℕ, ◌+◌, ◌-◌, ◌^◌, Bool, true, false, cond, ◌&&◌, ◌==◌, List, [], ◌∷◌, Some, is_some, is_none, refl, sym, ap, subst, ◌∙◌, arith, nat_lt}
 use Rattle.std.proofs.Common.{T, inl, inr, slice_set, unwrap_or}
 use Rattle.std.specs.List.{filter, list_any}
 use Rattle.std.specs.Map.{keys_of, values_of, lookup}
@@ -13,23 +13,22 @@ use Rattle.std.proofs.lemmas.List.{get_or-set_other}
 use Rattle.std.proofs.lemmas.Cmp.{tied_itself}
 use Rattle.xfs_base.specs.declared.block.BlockId.{BlockId}
 use Rattle.xfs_base.specs.declared.token.Mode.{Mode}
-use Rattle.xfs_base.specs.declared.token.Mode.TheVariants.{Nothing, Copy, Own}
+use Rattle.xfs_base.specs.declared.token.Mode.TheVariants.{Copy, Own}
 use Rattle.xfs_base.specs.declared.token.Stamp.{Stamp}
 use Rattle.xfs_base.specs.Blocks.{block_cmp, slot_of}
-use Rattle.xfs_base.specs.Steps.{Stepped, still, steps, after}
+use Rattle.xfs_base.specs.Steps.{still, steps, after}
 use Rattle.xfs_base.proofs.BlockOrder.{block_cmp_total}
 use Rattle.token_client.specs.declared.held.Held.{Held}
-use Rattle.token_client.specs.declared.output.Out.{Out}
 use Rattle.token_client.specs.declared.output.Out.TheVariants.{Want}
-use Rattle.token_client.specs.Held.{unknown, same_mode, is_held, is_later, is_asking, asked, unfetched, promise_dropped}
+use Rattle.token_client.specs.Held.{unknown, same_mode, is_later, is_asking, asked, unfetched, promise_dropped}
 use Rattle.token_client.specs.Laws.{IsSound, IsSoundBlock}
-use Rattle.token_client.specs.State.{TokensState, held_of, with_held, put_held, epoch_of, is_in_slot}
+use Rattle.token_client.specs.State.{TokensState, held_of, with_held, epoch_of, is_in_slot}
 use Rattle.token_client.specs.Transition.{Done, ask, is_promised, refetch, give, can_refetch, recalled_above, recalled_again, recalled, on_recalled, fetched_in, dropped_in, all_dropped_in, raised, ask_copy, may_promise, on_promise, is_spent, ask_again, wanted_in, on_tick}
 use Rattle.token_client.proofs.StampOrder.{not_later_itself}
 use Rattle.token_client.proofs.Tables.{held_of-put_itself, put_same, sorted_changed, held_of-changed, first, second}
 use Rattle.token_client.proofs.Follows.{Follows, follows_still, follows_through, follows_steps, follows_less}
-use Rattle.token_client.proofs.SoundBlocks.{contrary, by_test, and_first, and_second, asks_by_fetch, asks_less, unheld_is_unowned, unfetched-sound, promise_dropped-sound}
-use Rattle.token_client.proofs.Transitions.{epoch_at, ask-follows, ask_fetched-follows, same-follows, give-follows, recalled_again-follows, ask_again-follows}
+use Rattle.token_client.proofs.SoundBlocks.{by_test, and_first, and_second, asks_by_fetch, asks_less, unheld_is_unowned, unfetched-sound, promise_dropped-sound}
+use Rattle.token_client.proofs.Transitions.{epoch_at, ask-follows, same-follows, give-follows, recalled_again-follows, ask_again-follows}
 
 -- asking changes no epoch, and no stamp of the block
 ask-same : (s : TokensState) (block : BlockId) (mode : Mode) → ((ask s block mode).state.epochs ≡ s.epochs) × ((held_of (ask s block mode).state.blocks block).at ≡ (held_of s.blocks block).at)

@@ -1,6 +1,5 @@
 -- The readings of the transitions, proved.
 use Rattle.std.proofs.Common.{◌≡◌, ℕ, ◌+◌, ◌-◌, ◌^◌, Bool, true, false, cond, ◌&&◌, ◌==◌, List, [], ◌∷◌, Option, Some, None, is_some, is_none, refl, sym, ap, ◌∙◌, nat_lt}
-use Rattle.std.specs.List.{list_any}
 use Rattle.xfs_base.specs.declared.block.BlockId.{BlockId}
 use Rattle.xfs_base.specs.declared.entry.Entry.{Entry}
 use Rattle.xfs_base.specs.declared.token.Mode.{Mode}
@@ -13,7 +12,7 @@ use Rattle.token_client.specs.declared.held.Wanted.{Wanted}
 use Rattle.token_client.specs.declared.output.Out.TheVariants.{Want, Gave, Flush, Ready}
 use Rattle.token_client.specs.Held.{is_wanted, is_later, is_answer, is_dirty, is_asking, asked, unfetched, grant_taken, copied, quitted, gives_after, put_off, given_up, promise_dropped}
 use Rattle.token_client.specs.Readings.{EndedWantTakesNothing, core_of, DirtyKeepsItsStamp, PromiseDrops, QuitEnds}
-use Rattle.token_client.specs.State.{TokensState, held_of, with_held, is_in_slot}
+use Rattle.token_client.specs.State.{TokensState, held_of, with_held}
 use Rattle.token_client.specs.Transition.{Done, ask, accepts, is_promised, grant_next, on_granted, on_supplied, refetch, give, can_refetch, recalled_above, is_answered, recalled_again, recalled, on_recalled, on_quit, fetched_in, raised, ask_copy, may_promise, on_promise}
 use Rattle.token_client.proofs.Tables.{put_same, held_of-put_itself}
 use Rattle.token_client.proofs.SoundBlocks.{contrary, by_test, and_second}

@@ -1,6 +1,6 @@
 -- The order of stamps is total: no stamp is later than itself, and what isn't later passes on.
-use Rattle.std.proofs.Common.{◌≡◌, ℕ, Bool, true, false, refl, sym, ap, ◌∙◌}
-use Rattle.std.specs.Ordering.{nat_cmp, is_gt, ordering_reverse}
+use Rattle.std.proofs.Common.{◌≡◌, true, false, refl, sym, ap, ◌∙◌}
+use Rattle.std.specs.Ordering.{is_gt, ordering_reverse}
 use Rattle.std.specs.Cmp.{IsTotalOrder}
 use Rattle.std.specs.declared.cmp.Ordering.{Ordering}
 use Rattle.std.specs.declared.cmp.Ordering.TheVariants.{Less, Equal, Greater}

@@ -1,7 +1,6 @@
 -- Each transition leads to a state that follows: one lemma for each of them.
-use Rattle.std.proofs.Common.{◌≡◌, ◌≤◌, ◌<◌, ◌⊎◌, ℕ, ◌+◌, ◌-◌, ◌^◌, Bool, true, false, cond, ◌&&◌, ◌||◌, ◌==◌, not, List, [], ◌∷◌, Option, Some, None, is_some, is_none, refl, sym, ap, subst, ◌∙◌, arith, nat_lt, nat_le, nat_eq}
-use Rattle.std.proofs.Common.{T, inl, inr}
-use Rattle.std.proofs.lemmas.Bool.Decides.{nat_tests}
+use Rattle.std.proofs.Common.{◌≡◌, ◌⊎◌, ℕ, ◌+◌, ◌-◌, ◌^◌, Bool, true, false, ◌&&◌, ◌==◌, not, List, [], ◌∷◌, Option, Some, None, is_some, is_none, refl, sym, ap, ◌∙◌, arith, nat_lt, nat_le}
+use Rattle.std.proofs.Common.{inl, inr}
 use Rattle.xfs_base.specs.declared.block.BlockId.{BlockId}
 use Rattle.xfs_base.specs.declared.entry.Entry.{Entry}
 use Rattle.xfs_base.specs.declared.entry.Place.{Place}
@@ -9,20 +8,19 @@ use Rattle.xfs_base.specs.declared.token.Mode.{Mode}
 use Rattle.xfs_base.specs.declared.token.Mode.TheVariants.{Nothing, Copy, Own}
 use Rattle.xfs_base.specs.declared.token.Stamp.{Stamp}
 use Rattle.xfs_base.specs.Blocks.{slot_of}
-use Rattle.xfs_base.specs.Steps.{Stepped, still, steps, after}
+use Rattle.xfs_base.specs.Steps.{still}
 use Rattle.token_client.specs.declared.held.Fetch.{Fetch}
 use Rattle.token_client.specs.declared.held.Held.{Held}
 use Rattle.token_client.specs.declared.held.Wanted.{Wanted}
 use Rattle.token_client.specs.declared.output.Out.{Out}
-use Rattle.token_client.specs.declared.output.Out.TheVariants.{Want, Gave, Flush, Read, Ready}
-use Rattle.token_client.specs.Held.{same_mode, is_held, allows, is_later, is_dirty, is_asking, must_ask, is_wanted, is_answer, may_write, is_settled_by, may_end_fetch, may_evict, asked, asked_again, grant_taken, copied, fetch_ended, written, settled, let_go, quitted, unfetched, put_off, given_up, gives_after, owned, copy_granted}
+use Rattle.token_client.specs.declared.output.Out.TheVariants.{Want, Gave, Flush, Ready}
+use Rattle.token_client.specs.Held.{same_mode, is_held, allows, is_later, is_dirty, is_asking, must_ask, is_wanted, is_answer, may_write, is_settled_by, may_end_fetch, may_evict, asked, asked_again, grant_taken, copied, fetch_ended, written, settled, let_go, quitted, put_off, given_up, gives_after, owned, copy_granted}
 use Rattle.token_client.specs.Laws.{IsSound, IsSoundBlock}
 use Rattle.token_client.specs.State.{TokensState, held_of, with_held, epoch_of}
-use Rattle.token_client.specs.Transition.{Done, ask, on_need, accepts, is_promised, grant_next, on_granted, on_supplied, serves, supplies, on_forwarded, refetch, give, can_refetch, recalled_above, is_answered, recalled_again, recalled, on_recalled, on_wrote, on_safe, on_fetched, on_evict, on_reask, on_quit, is_spent, repeated, ask_again, wanted_in, on_tick}
+use Rattle.token_client.specs.Transition.{Done, ask, on_need, accepts, is_promised, grant_next, on_granted, on_supplied, serves, supplies, on_forwarded, give, is_answered, recalled_again, on_wrote, on_safe, on_fetched, on_evict, on_reask, on_quit, is_spent, repeated, ask_again}
 use Rattle.token_client.proofs.StampOrder.{not_later_itself, not_later_back}
-use Rattle.token_client.proofs.Follows.{Follows, IsNext, follows_still, follows_put, follows_with, follows_through, follows_steps, follows_less}
-use Rattle.token_client.proofs.SoundBlocks.{contrary, by_test, and_first, and_second, not_true, asks_by_want, asks_by_fetch, asks_less, unheld_is_unowned, asked-sound, asked_again-sound, copied-sound, grant_taken-sound, fetch_ended-sound, written-sound, settled-sound, let_go-sound, quitted-sound, unfetched-sound, put_off-sound, given_up-sound}
-use Rattle.token_client.proofs.Tables.{held_of-put}
+use Rattle.token_client.proofs.Follows.{Follows, follows_still, follows_put, follows_with}
+use Rattle.token_client.proofs.SoundBlocks.{contrary, by_test, and_first, and_second, not_true, asks_by_want, asks_by_fetch, unheld_is_unowned, asked-sound, asked_again-sound, copied-sound, grant_taken-sound, fetch_ended-sound, written-sound, settled-sound, let_go-sound, quitted-sound, put_off-sound, given_up-sound}
 
 -- the epoch that a block's slot is promised to
 abbrev pub epoch_at : TokensState → BlockId → ℕ
