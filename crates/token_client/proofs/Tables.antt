@@ -2,16 +2,16 @@
 -- all are changed in place.
 use Rattle.std.proofs.Common.{◌≡◌, Bool, true, false, cond, ◌&&◌, List, [], ◌∷◌, Option, Some, refl, sym, ap, subst, ◌∙◌, map}
 use Rattle.std.specs.Prelude.{T, unwrap_or}
-use Rattle.std.specs.Ordering.{eq_by_cmp, is_eq, is_lt, match_ordering}
+use Rattle.std.specs.Ordering.{eq_by_cmp, is_eq, is_lt}
 use Rattle.std.specs.declared.cmp.Ordering.{Ordering}
 use Rattle.std.specs.declared.cmp.Ordering.TheVariants.{Less, Equal, Greater}
-use Rattle.std.specs.FinMap.Entries.{is_sorted, is_sorted-put, below_all, put, by_order}
+use Rattle.std.specs.FinMap.Entries.{is_sorted, is_sorted-put, below_all}
 use Rattle.std.specs.Map.{lookup, remove_entry}
-use Rattle.std.specs.BTreeMap.{is_at, insert_entry}
+use Rattle.std.specs.BTreeMap.{is_at}
 use Rattle.std.proofs.lemmas.Cmp.{tied_itself}
 use Rattle.xfs_base.specs.declared.block.BlockId.{BlockId}
 use Rattle.xfs_base.specs.Blocks.{block_cmp}
-use Rattle.xfs_base.proofs.BlockOrder.{block_cmp_total, block_cmp_exact, lookup-insert_entry}
+use Rattle.xfs_base.proofs.BlockOrder.{block_cmp_total, block_cmp_exact, lookup-insert_entry, insert_entry-put}
 use Rattle.token_client.specs.declared.held.Held.{Held}
 use Rattle.token_client.specs.Held.{unknown}
 use Rattle.token_client.specs.State.{held_of, put_held}
@@ -92,20 +92,10 @@ sorted_removed k (e ∷ es) h =
       | false ↦ both (below_all block_cmp e.0 (remove_entry (is_at (block_cmp k)) es)) _ (below_removed e.0 k es front) (sorted_removed k es back)
     ]
 
--- std's two words for an insertion agree
-insert_entry-put : (k : BlockId) (h : Held) (es : List (BlockId × Held)) → insert_entry block_cmp es k h ≡ put block_cmp k h es
-insert_entry-put k h [] = refl
-insert_entry-put k h (e ∷ es) =
-    elim (block_cmp k e.0) as (λ o. match_ordering o ((k, h) ∷ e ∷ es) ((e.0, h) ∷ es) (e ∷ insert_entry block_cmp es k h) ≡ by_order o ((k, h) ∷ e ∷ es) ((e.0, h) ∷ es) (e ∷ put block_cmp k h es)) [
-      | Less ↦ refl
-      | Equal ↦ refl
-      | Greater ↦ ap (λ rows. e ∷ rows) (insert_entry-put k h es)
-    ]
-
 -- the blocks stay in order once one is put
 pub sorted_put : (k : BlockId) (h : Held) (es : List (BlockId × Held)) → T (is_sorted block_cmp es) → T (is_sorted block_cmp (put_held es k h))
 sorted_put k h es s =
-    subst (λ rows. T (is_sorted block_cmp rows)) (sym (insert_entry-put k h (remove_entry (is_at (block_cmp k)) es)))
+    subst (λ rows. T (is_sorted block_cmp rows)) (sym (insert_entry-put block_cmp k h (remove_entry (is_at (block_cmp k)) es)))
     (is_sorted-put block_cmp block_cmp_total k h (remove_entry (is_at (block_cmp k)) es) (sorted_removed k es s))
 
 module _ (g : BlockId → Held → Held) where

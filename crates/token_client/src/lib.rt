@@ -4,10 +4,14 @@
 //! does next.
 #![tactic(auto)]
 
+mod asking;
+mod giving;
 pub mod held;
 pub mod input;
 pub mod laws;
 pub mod output;
+mod readers;
+mod table;
 pub mod tokens;
 
 pub use held::{Fetch, Giving, Held, Wanted};

@@ -1,0 +1,228 @@
+//! Giving blocks: forwards and recalls, and what a block goes through until it is given up.
+ghost use Rattle.std.specs.Prelude.{◌≡◌, ◌++◌, [], OnOk};
+ghost use Rattle.token_client.specs.Held.{is_dirty};
+ghost use Rattle.token_client.specs.State.{held_of};
+ghost use Rattle.token_client.specs.Transition.{serves, on_forwarded, refetch, give, recalled_above, recalled_again, recalled, is_answered, on_recalled, on_wrote, on_safe, on_evict};
+
+use crate::held::is_same;
+use crate::output::Out;
+use crate::table::{is_settled_by, may_evict, may_write, take_held};
+use crate::tokens::Tokens;
+use std::alloc::Global;
+use xfs_base::{BlockId, List, Mem, Mode, Stamp, Value};
+
+impl Tokens {
+    /// Whether a forward asks for the very version that is held as a copy.
+    pub(crate) fn serves(&self, stamp: Stamp, block: BlockId, ver: u64) -> bool
+        ensures { result ≡ serves self.now stamp block ver }
+    {
+        self.is_promised(block, stamp)
+            && is_same(self.mode(block), Mode::Copy)
+            && self.ver(block) == ver
+    }
+
+    /// A manager has a block supplied to another client.
+    #[tactic(auto, unfolding(crate::specs::Transition::on_forwarded))]
+    pub(crate) fn on_forwarded(
+        &mut self,
+        alloc: Global,
+        outs: &mut List<Out>,
+        stamp: Stamp,
+        block: BlockId,
+        ver: u64,
+    ) -> Mem<()>
+        ensures state { OnOk result (self.new ≡ (on_forwarded self.old stamp block ver).state) }
+        ensures outs { OnOk result (outs.new ≡ outs.old ++ (on_forwarded self.old stamp block ver).outs) }
+    {
+        if !self.serves(stamp, block, ver) {
+            return Ok(());
+        }
+        if let Some(value) = self.value(block) {
+            outs.push(Out::Supply(block, ver, value.copy(alloc)?))?;
+        }
+        Ok(())
+    }
+
+    /// Whether the newest version of a block isn't settled.
+    pub(crate) fn is_dirty(&self, block: BlockId) -> bool
+        ensures { result ≡ is_dirty (held_of self.now.blocks block) }
+    {
+        match self.blocks.get(&block) {
+            Some(held) => held.is_dirty(),
+            None => false,
+        }
+    }
+
+    /// Whether a recall was answered before, and nothing is being given.
+    pub(crate) fn has_answered(&self, block: BlockId, stamp: Stamp) -> bool
+        ensures { result ≡ is_answered (held_of self.now.blocks block) stamp }
+    {
+        self.at(block) == stamp && self.giving(block).is_none()
+    }
+
+    /// A call whose fetch is dropped wants its copy again.
+    #[tactic(auto, unfolding(crate::specs::Transition::refetch))]
+    pub(crate) fn refetch(&mut self, outs: &mut List<Out>, block: BlockId) -> Mem<()>
+        ensures state { OnOk result (self.new ≡ (refetch self.old block).state) }
+        ensures outs { OnOk result (outs.new ≡ outs.old ++ (refetch self.old block).outs) }
+    {
+        if !self.has_fetch(block) {
+            return Ok(());
+        }
+        let mut held = take_held(&mut self.blocks, block);
+        held.fetch = None;
+        self.blocks.insert(block, held)?;
+        self.ask(outs, block, Mode::Copy)?;
+        Ok(())
+    }
+
+    /// Gives a block up, or puts that off where it is dirty.
+    #[tactic(auto, unfolding(crate::specs::Transition::give))]
+    pub(crate) fn give(
+        &mut self,
+        outs: &mut List<Out>,
+        block: BlockId,
+        stamp: Stamp,
+        keep: bool,
+    ) -> Mem<()>
+        ensures state { OnOk result (self.new ≡ (give self.old block stamp keep).state) }
+        ensures outs { OnOk result (outs.new ≡ outs.old ++ (give self.old block stamp keep).outs) }
+    {
+        let dirty = self.is_dirty(block);
+        let mut held = take_held(&mut self.blocks, block);
+        if dirty {
+            held.put_off(stamp, keep);
+            self.blocks.insert(block, held)?;
+            outs.push(Out::Flush(block))?;
+            Ok(())
+        } else {
+            held.give_up(stamp, keep);
+            self.blocks.insert(block, held)?;
+            outs.push(Out::Gave(block, stamp))?;
+            Ok(())
+        }
+    }
+
+    /// Takes a recall above the block's stamp.
+    #[tactic(auto, unfolding(crate::specs::Transition::recalled_above))]
+    pub(crate) fn recalled_above(
+        &mut self,
+        outs: &mut List<Out>,
+        block: BlockId,
+        stamp: Stamp,
+        keep: bool,
+    ) -> Mem<()>
+        ensures state { OnOk result (self.new ≡ (recalled_above self.old block stamp keep).state) }
+        ensures outs { OnOk result (outs.new ≡ outs.old ++ (recalled_above self.old block stamp keep).outs) }
+    {
+        if self.has_fetch(block) && self.req >= u32::MAX {
+            return Ok(());
+        }
+        self.refetch(outs, block)?;
+        self.give(outs, block, stamp, keep)?;
+        Ok(())
+    }
+
+    /// Takes a recall that isn't above the block's stamp.
+    #[tactic(auto, unfolding(crate::specs::Transition::recalled_again))]
+    pub(crate) fn recalled_again(
+        &mut self,
+        outs: &mut List<Out>,
+        block: BlockId,
+        stamp: Stamp,
+    ) -> Mem<()>
+        ensures state { OnOk result (self.new ≡ (recalled_again self.old block stamp).state) }
+        ensures outs { OnOk result (outs.new ≡ outs.old ++ (recalled_again self.old block stamp).outs) }
+    {
+        if !self.has_answered(block, stamp) {
+            return Ok(());
+        }
+        outs.push(Out::Gave(block, stamp))?;
+        Ok(())
+    }
+
+    /// Takes a recall of the promised epoch.
+    #[tactic(auto, unfolding(crate::specs::Transition::recalled))]
+    pub(crate) fn recalled(
+        &mut self,
+        outs: &mut List<Out>,
+        block: BlockId,
+        stamp: Stamp,
+        keep: bool,
+    ) -> Mem<()>
+        ensures state { OnOk result (self.new ≡ (recalled self.old block stamp keep).state) }
+        ensures outs { OnOk result (outs.new ≡ outs.old ++ (recalled self.old block stamp keep).outs) }
+    {
+        if stamp.is_after(self.at(block)) {
+            self.recalled_above(outs, block, stamp, keep)?;
+            Ok(())
+        } else {
+            self.recalled_again(outs, block, stamp)?;
+            Ok(())
+        }
+    }
+
+    /// A manager takes a block back.
+    #[tactic(auto, unfolding(crate::specs::Transition::on_recalled))]
+    pub(crate) fn on_recalled(
+        &mut self,
+        outs: &mut List<Out>,
+        stamp: Stamp,
+        block: BlockId,
+        keep: bool,
+    ) -> Mem<()>
+        ensures state { OnOk result (self.new ≡ (on_recalled self.old stamp block keep).state) }
+        ensures outs { OnOk result (outs.new ≡ outs.old ++ (on_recalled self.old stamp block keep).outs) }
+    {
+        if !self.is_promised(block, stamp) {
+            return Ok(());
+        }
+        self.recalled(outs, block, stamp, keep)?;
+        Ok(())
+    }
+
+    /// The call writes a block.
+    #[tactic(auto, unfolding(crate::specs::Transition::on_wrote))]
+    pub(crate) fn on_wrote(&mut self, block: BlockId, value: Value) -> Mem<()>
+        ensures state { OnOk result (self.new ≡ (on_wrote self.old block value).state) }
+        ensures outs { (on_wrote self.old block value).outs ≡ [] }
+    {
+        if !may_write(&self.blocks, block) {
+            return Ok(());
+        }
+        let mut held = take_held(&mut self.blocks, block);
+        held.write(value);
+        self.blocks.insert(block, held)?;
+        Ok(())
+    }
+
+    /// A version of a block is settled.
+    #[tactic(auto, unfolding(crate::specs::Transition::on_safe))]
+    pub(crate) fn on_safe(&mut self, block: BlockId, ver: u64) -> Mem<()>
+        ensures state { OnOk result (self.new ≡ (on_safe self.old block ver).state) }
+        ensures outs { (on_safe self.old block ver).outs ≡ [] }
+    {
+        if !is_settled_by(&self.blocks, block, ver) {
+            return Ok(());
+        }
+        let mut held = take_held(&mut self.blocks, block);
+        held.safe = ver;
+        self.blocks.insert(block, held)?;
+        Ok(())
+    }
+
+    /// A block leaves the cache.
+    #[tactic(auto, unfolding(crate::specs::Transition::on_evict))]
+    pub(crate) fn on_evict(&mut self, block: BlockId) -> Mem<()>
+        ensures state { OnOk result (self.new ≡ (on_evict self.old block).state) }
+        ensures outs { (on_evict self.old block).outs ≡ [] }
+    {
+        if !may_evict(&self.blocks, block) {
+            return Ok(());
+        }
+        let mut held = take_held(&mut self.blocks, block);
+        held.let_go();
+        self.blocks.insert(block, held)?;
+        Ok(())
+    }
+}
