@@ -33,8 +33,8 @@ pub struct Giving {
     pub keep: bool,
 }
 
-/// What a client knows of one block (section 3.3.3 of the 1996 paper: clients cache blocks under the
-/// tokens that managers hand out).
+/// What a client knows of one block (the 1996 paper, "Cache Consistency": a client reads and writes
+/// what it caches under tokens that the block's manager hands out and revokes).
 #[derive(Drop)]
 pub struct Held {
     /// What the client may do with it.
@@ -67,7 +67,7 @@ pub(crate) fn is_same(one: Mode, other: Mode) -> bool
 }
 
 /// Whether a mode is Copy or Own.
-pub(crate) fn is_some_mode(mode: Mode) -> bool
+pub(crate) fn is_held(mode: Mode) -> bool
     ensures { result ≡ is_held mode }
 {
     match mode {
@@ -82,7 +82,7 @@ fn is_enough(mode: Mode, needed: Mode) -> bool
 {
     match needed {
         Mode::Nothing => true,
-        Mode::Copy => is_some_mode(mode),
+        Mode::Copy => is_held(mode),
         Mode::Own => is_same(mode, Mode::Own),
     }
 }
@@ -172,7 +172,7 @@ impl Held {
     pub(crate) fn may_evict(&self) -> bool
         ensures { result ≡ may_evict self.now }
     {
-        is_some_mode(self.mode) && !self.is_dirty()
+        is_held(self.mode) && !self.is_dirty()
     }
 
     /// Opens a want.
@@ -295,7 +295,7 @@ impl Held {
     pub(crate) fn give_up(&mut self, stamp: Stamp, keep: bool)
         ensures { self.new ≡ given_up self.old stamp keep }
     {
-        if keep && is_some_mode(self.mode) {
+        if keep && is_held(self.mode) {
             self.mode = Mode::Copy;
         } else {
             self.mode = Mode::Nothing;

@@ -1,4 +1,4 @@
-//! The tokens of a client (section 3.3 of the 1996 paper): what it may do with each block that it
+//! The tokens of a client (the 1996 paper, "Cache Consistency"): what it may do with each block that it
 //! caches, what it asked of managers, and what it does on a grant, a supply, a forward, a recall and a
 //! poll. This crate knows nothing of packets, logs or caches: what it gives is what the node sends or
 //! does next.

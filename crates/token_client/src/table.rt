@@ -8,7 +8,7 @@ ghost use Rattle.token_client.specs.Held.{is_answer, may_write, is_settled_by, m
 ghost use Rattle.token_client.specs.State.{held_of, held_in, dirty_in};
 ghost use Rattle.token_client.specs.Transition.{fetched_in, wanted_in, all_dropped_in, dropped_in, is_spent, copy_next, grant_next};
 
-use crate::held::{Held, Wanted, is_same, is_some_mode};
+use crate::held::{Held, Wanted, is_held, is_same};
 use crate::output::Out;
 use std::alloc::Global;
 use std::collections::BTreeMap;
@@ -78,7 +78,7 @@ pub(crate) fn held_blocks(
 {
     let mut found = List::new(alloc);
     for (block, held) in blocks {
-        if block.ino.slot() == slot && is_some_mode(held.mode) {
+        if block.ino.slot() == slot && is_held(held.mode) {
             found.push((*block, held.mode))?;
         }
     }
