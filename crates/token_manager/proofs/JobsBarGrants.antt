@@ -1,0 +1,191 @@
+-- A block that an input grants or forwards has no want that waits for it afterwards.
+use Rattle.std.proofs.Common.{◌≡◌, ℕ, ◌||◌, Bool, true, false, cond, not, nat_lt, unwrap_or, List, [], ◌∷◌, ◌++◌, ◌⊎◌, inl, inr, ⊎_elim, Option, Some, None, is_some, refl, sym, ap, subst, ◌∙◌}
+use Rattle.std.specs.Ordering.{eq_by_cmp}
+use Rattle.std.specs.Cmp.{IsEquivalence}
+use Rattle.std.specs.List.Sorted.{IsStrictlySortedBy}
+use Rattle.std.specs.Map.{keys_of}
+use Rattle.std.specs.BTreeMap.{is_at, insert_entry}
+use Rattle.std.proofs.lemmas.Cmp.{eq_by_cmp_equiv}
+use Rattle.std.proofs.lemmas.Map.{lookup-remove_entry}
+use Rattle.std.proofs.lemmas.Map.Keys.{IsDistinct-from_sorted}
+use Rattle.std.proofs.lemmas.Map.Views.{tells_apart}
+use Rattle.xfs_base.specs.declared.block.BlockId.{BlockId}
+use Rattle.xfs_base.specs.declared.entry.Entry.{Entry}
+use Rattle.xfs_base.specs.declared.token.Mode.{Mode}
+use Rattle.xfs_base.specs.Blocks.{block_cmp}
+use Rattle.xfs_base.specs.Steps.{still, steps}
+use Rattle.xfs_base.proofs.BlockOrder.{block_cmp_total, block_cmp_exact, lookup-insert_entry}
+use Rattle.xfs_base.proofs.StepLoops.{steps_keep}
+use Rattle.usage_table.proofs.Sorted.{sorted_insert, sorted_remove}
+use Rattle.token_manager.specs.declared.job.Ask.{Ask}
+use Rattle.token_manager.specs.declared.job.Job.{Job}
+use Rattle.token_manager.specs.declared.job.Awaited.{Awaited}
+use Rattle.token_manager.specs.declared.told.Out.{Out}
+use Rattle.token_manager.specs.declared.told.Out.TheVariants.{Grant, Forward, Recall, Applied, Live, Dead}
+use Rattle.token_manager.specs.declared.told.In.{In}
+use Rattle.token_manager.specs.declared.told.In.TheVariants.{Want, Gave, Deltas, Check, Tick}
+use Rattle.token_manager.specs.Beliefs.{is_own, is_nothing}
+use Rattle.token_manager.specs.Recalls.{recalls, sent, all_sent, noted, applied_of, ready_blocks}
+use Rattle.token_manager.specs.SlotState.{SlotState}
+use Rattle.token_manager.specs.Transition.{Done, started, job_at, without_job, ask_of, passers, answer, finished, applied_upto, with_deltas, finished_at, is_place, entry_at, step}
+use Rattle.token_manager.specs.Laws.{Gives, after_all}
+use Rattle.token_manager.proofs.Cases.{recalled_from, by_want, all_given, by_gave, by_deltas, let_go, by_finished_at}
+
+-- ---- which blocks are given
+
+gives_both : (b : BlockId) (xs ys : List Out) → Gives b (xs ++ ys) → Gives b xs ⊎ Gives b ys
+gives_both b [] ys g = inr g
+gives_both b (Grant client block st inc req mode entry ∷ xs) ys g = ⊎_elim (λ h. inl (inl h)) (λ r. ⊎_elim (λ h. inl (inr h)) inr (gives_both b xs ys r)) g
+gives_both b (Forward passer client block st inc req ver ∷ xs) ys g = ⊎_elim (λ h. inl (inl h)) (λ r. ⊎_elim (λ h. inl (inr h)) inr (gives_both b xs ys r)) g
+gives_both b (Recall client block st keep ∷ xs) ys g = gives_both b xs ys g
+gives_both b (Applied log upto ∷ xs) ys g = gives_both b xs ys g
+gives_both b (Live entry ∷ xs) ys g = gives_both b xs ys g
+gives_both b (Dead ∷ xs) ys g = gives_both b xs ys g
+
+sent_gives : (b block : BlockId) (awaited : List Awaited) → Gives b (sent block awaited) → ⊥
+sent_gives b block [] = λ g. g
+sent_gives b block (a ∷ rest) =
+    elim (is_some a.end) as (λ t. Gives b (cond t (sent block rest) (Recall a.client block a.stamp a.keep ∷ sent block rest)) → ⊥) [ true ↦ sent_gives b block rest | false ↦ sent_gives b block rest ]
+
+all_sent_gives : (b : BlockId) (jobs : List (BlockId × Job)) → Gives b (all_sent jobs) → ⊥
+all_sent_gives b [] g = g
+all_sent_gives b (e ∷ es) g = ⊎_elim (sent_gives b e.0 e.1.awaited) (all_sent_gives b es) (gives_both b (sent e.0 e.1.awaited) (all_sent es) g)
+
+-- what a want is answered gives just its block
+answer_gives : (s : SlotState) (ask : Ask) (from : List ℕ) (b : BlockId) → Gives b (answer s ask from ∷ []) → ask.block ≡ b
+answer_gives s ask [] b g = ⊎_elim (λ h. h) (λ no_more. absurd no_more) g
+answer_gives s ask (c ∷ cs) b g = ⊎_elim (λ h. h) (λ no_more. absurd no_more) g
+
+-- ---- the wants that wait
+
+block_laws : IsEquivalence (eq_by_cmp block_cmp)
+block_laws = eq_by_cmp_equiv block_cmp_total
+
+abbrev IsSorted : List (BlockId × Job) → Type 0
+IsSorted jobs = IsStrictlySortedBy block_cmp (keys_of jobs)
+
+after_removal : (jobs : List (BlockId × Job)) (block b : BlockId) → IsSorted jobs → job_at (without_job jobs block) b ≡ cond (eq_by_cmp block_cmp block b) None (job_at jobs b)
+after_removal jobs block b sorted =
+    lookup-remove_entry block_laws (is_at (block_cmp block)) (λ x y same. block_laws.congr block x y same) b jobs (IsDistinct-from_sorted block_cmp (keys_of jobs) sorted)
+
+gone : (jobs : List (BlockId × Job)) (block : BlockId) → IsSorted jobs → job_at (without_job jobs block) block ≡ None
+gone jobs block sorted = after_removal jobs block block sorted ∙ ap (λ t. cond t None (job_at jobs block)) (block_laws.refl block)
+
+still_gone : (jobs : List (BlockId × Job)) (block b : BlockId) → IsSorted jobs → job_at jobs b ≡ None → job_at (without_job jobs block) b ≡ None
+still_gone jobs block b sorted none =
+    after_removal jobs block b sorted ∙ elim (eq_by_cmp block_cmp block b) as (λ t. cond t None (job_at jobs b) ≡ None) [ true ↦ refl | false ↦ none ]
+
+-- the wants that wait stand in order, and each names the block for which it waits
+pub record Waiting (jobs : List (BlockId × Job)) : Type 0 where
+  pub sorted : IsSorted jobs
+  pub own : (b : BlockId) (job : Job) → job_at jobs b ≡ Some job → job.ask.block ≡ b
+
+was_there : (t : Bool) (o : Option Job) (job : Job) → cond t None o ≡ Some job → o ≡ Some job
+was_there true o job h = absurd (cc)
+was_there false o job h = h
+
+waiting-removed : (jobs : List (BlockId × Job)) (block : BlockId) → Waiting jobs → Waiting (without_job jobs block)
+waiting-removed jobs block w = record {
+  sorted = sorted_remove block_cmp (is_at (block_cmp block)) jobs w.sorted;
+  own = λ b job is. w.own b job (was_there (eq_by_cmp block_cmp block b) (job_at jobs b) job (sym (after_removal jobs block b w.sorted) ∙ is));
+}
+
+waiting-put : (jobs : List (BlockId × Job)) (block : BlockId) (job : Job) → job.ask.block ≡ block → Waiting jobs → Waiting (insert_entry block_cmp jobs block job)
+waiting-put jobs block job mine w = record {
+  sorted = sorted_insert block_cmp block_cmp_total block job jobs w.sorted;
+  own = λ b found is. put_own b found (eq_by_cmp block_cmp b block) refl (sym (lookup-insert_entry block_cmp_total b block job jobs) ∙ is);
+}
+  where
+    put_own : (b : BlockId) (found : Job) (t : Bool) → eq_by_cmp block_cmp b block ≡ t → cond t (Some job) (job_at jobs b) ≡ Some found → found.ask.block ≡ b
+    put_own b found true same is = ap (λ (o : Option Job). (unwrap_or o job).ask.block) (sym is) ∙ mine ∙ sym (tells_apart block_cmp_exact b block same)
+    put_own b found false apart is = w.own b found is
+
+-- ---- the inputs
+
+-- what is given has no want that waits for it; no want comes to wait where none waited
+record Bars (s : SlotState) (r : Done) : Type 0 where
+  given : (b : BlockId) → Gives b r.outs → job_at r.state.jobs b ≡ None
+  waiting : Waiting r.state.jobs
+  none_more : (b : BlockId) → job_at s.jobs b ≡ None → job_at r.state.jobs b ≡ None
+
+-- a want that waited is answered
+bars-answered : (s t : SlotState) (block : BlockId) (job : Job) → Waiting s.jobs → job_at s.jobs block ≡ Some job → t.jobs ≡ without_job s.jobs block → Bars s (finished t job.ask)
+bars-answered s t block job w is jobs = record {
+  given = λ b g.
+      let one : job.ask.block ≡ b = answer_gives t job.ask (passers t job.ask) b g in
+      ap (λ js. job_at js b) jobs ∙ subst (λ x. job_at (without_job s.jobs block) x ≡ None) (sym (w.own block job is) ∙ one) (gone s.jobs block w.sorted);
+  waiting = subst Waiting (sym jobs) (waiting-removed s.jobs block w);
+  none_more = λ b none. ap (λ js. job_at js b) jobs ∙ still_gone s.jobs block b w.sorted none;
+}
+
+bars-same : (s : SlotState) → Waiting s.jobs → Bars s (still s)
+bars-same s w = record { given = λ b g. absurd g; waiting = w; none_more = λ b none. none }
+
+bars-one : (s : SlotState) (block : BlockId) → Waiting s.jobs → Bars s (finished_at s block)
+bars-one s block w = by_finished_at (Bars s) s block (bars-same s w) (λ job is. bars-answered s (let_go s block) block job w is refl)
+
+bars-steps : (s : SlotState) (blocks : List BlockId) → Waiting s.jobs → Bars s (steps finished_at s blocks)
+bars-steps s [] w = bars-same s w
+bars-steps s (b ∷ bs) w =
+    let one = bars-one s b w in
+    let next = (finished_at s b).state in
+    let rest = bars-steps next bs one.waiting in
+    record {
+      given = λ x g. ⊎_elim (λ h. rest.none_more x (one.given x h)) (rest.given x) (gives_both x (finished_at s b).outs (steps finished_at next bs).outs g);
+      waiting = rest.waiting;
+      none_more = λ x none. rest.none_more x (one.none_more x none);
+    }
+
+record Barred (r : Done) : Type 0 where
+  given : (b : BlockId) → Gives b r.outs → job_at r.state.jobs b ≡ None
+  waiting : Waiting r.state.jobs
+
+barred : (s : SlotState) (r : Done) → Bars s r → Barred r
+barred s r bars = record { given = bars.given; waiting = bars.waiting }
+
+not_waiting : (o : Option Job) (x y : Bool) → (x || is_some o || y) ≡ false → o ≡ None
+not_waiting None x y h = refl
+not_waiting (Some job) true y h = absurd (cc)
+not_waiting (Some job) false y h = absurd (cc)
+
+barred-step : (s : SlotState) (input : In) → Waiting s.jobs → Barred (step s input)
+barred-step s (Want client inc req again block mode end) w =
+    let ask = ask_of client inc req again block mode in
+    by_want Barred s ask end (barred s (still s) (bars-same s w))
+    (λ going _. record {
+      given = λ b g.
+          let none : job_at s.jobs block ≡ None = not_waiting (job_at s.jobs block) (is_nothing mode) (nat_lt (applied_of s.applied client) end) going in
+          subst (λ x. job_at s.jobs x ≡ None) (answer_gives s ask (passers s ask) b g) none;
+      waiting = w;
+    })
+    (λ _. record {
+      given = λ b g. absurd (sent_gives b block (recalls s.epoch s.turn (not (is_own mode)) (recalled_from s ask)) g);
+      waiting = waiting-put s.jobs block (record { ask = ask; awaited = recalls s.epoch s.turn (not (is_own mode)) (recalled_from s ask) }) refl w;
+    })
+barred-step s (Gave client block stamp end) w =
+    by_gave Barred s client block stamp end (barred s (still s) (bars-same s w))
+    (λ job is _. barred s (finished (all_given s client block job.ask) job.ask) (bars-answered s (all_given s client block job.ask) block job w is refl))
+    (λ job is. record {
+      given = λ b g. absurd g;
+      waiting = waiting-put s.jobs block (record { ask = job.ask; awaited = noted job.awaited client stamp end }) (w.own block job is) w;
+    })
+barred-step s (Deltas log first upto rows) w =
+    by_deltas Barred s log first upto rows (barred s (still s) (bars-same s w)) (record { given = λ b g. absurd g; waiting = w })
+    (λ _. let bars = bars-steps (with_deltas s log upto rows) (ready_blocks s.jobs (applied_upto s.applied log upto)) w in record { given = bars.given; waiting = bars.waiting })
+barred-step s (Check block place) w = record { given = λ b. gives_none (is_place (entry_at s block).place place) b; waiting = w }
+  where
+    gives_none : (t : Bool) (b : BlockId) → Gives b (cond t (Live (entry_at s block)) Dead ∷ []) → job_at s.jobs b ≡ None
+    gives_none true b g = absurd g
+    gives_none false b g = absurd g
+barred-step s Tick w = record { given = λ b g. absurd (all_sent_gives b s.jobs g); waiting = w }
+
+nobody_waits : Waiting []
+unfolding IsStrictlySortedBy
+nobody_waits = record { sorted = tt; own = λ b job is. absurd (cc) }
+
+waiting-all : (s : SlotState) (inputs : List In) → Waiting s.jobs → Waiting (after_all s inputs).jobs
+waiting-all = steps_keep step (λ t. Waiting t.jobs) (λ t input w. (barred-step t input w).waiting)
+
+pub barred-all : (epoch : ℕ) (index : List (BlockId × Entry)) (beliefs : List (BlockId × ℕ × Mode)) (applied : List ℕ) (inputs : List In) (input : In) (b : BlockId)
+    → Gives b (step (after_all (started epoch index beliefs applied) inputs) input).outs → job_at (step (after_all (started epoch index beliefs applied) inputs) input).state.jobs b ≡ None
+barred-all epoch index beliefs applied inputs input = (barred-step (after_all (started epoch index beliefs applied) inputs) input (waiting-all (started epoch index beliefs applied) inputs nobody_waits)).given

@@ -1,0 +1,6 @@
+pub mod Counting
+pub mod Cases
+pub mod AppliedRises
+pub mod Turns
+pub mod OneOwner
+pub mod JobsBarGrants

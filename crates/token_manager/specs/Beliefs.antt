@@ -1,0 +1,73 @@
+-- Who is believed to hold each block.
+use Rattle.std.specs.Prelude.{ℕ, Bool, true, false, not, ◌&&◌, ◌||◌, ◌==◌, List, [], ◌∷◌, if◌then◌else◌, is_some}
+use Rattle.std.specs.Ordering.{nat_cmp, ordering_then}
+use Rattle.std.specs.declared.cmp.Ordering.{Ordering}
+use Rattle.std.specs.List.{filter}
+use Rattle.std.specs.Map.{lookup, remove_entry, set_value}
+use Rattle.std.specs.BTreeMap.{is_at, insert_entry}
+use Rattle.xfs_base.specs.Blocks.{block_cmp, same_block}
+use Rattle.xfs_base.specs.declared.block.BlockId.{BlockId}
+use Rattle.xfs_base.specs.declared.token.Mode.{Mode}
+use Rattle.xfs_base.specs.declared.token.Mode.TheVariants.{Nothing, Copy, Own}
+use Rattle.token_manager.specs.declared.job.Holder.{Holder}
+use Rattle.token_manager.specs.declared.job.Ask.{Ask}
+
+-- by block, then by client
+abbrev pub holder_cmp : Holder → Holder → Ordering
+holder_cmp a b = ordering_then (block_cmp a.block b.block) (nat_cmp a.client b.client)
+
+abbrev pub holder : BlockId → ℕ → Holder
+holder block client = record { block = block; client = client }
+
+-- whether a mode says that a client may write
+abbrev pub is_own : Mode → Bool
+is_own Nothing = false
+is_own Copy = false
+is_own Own = true
+
+-- whether a mode says that a client holds nothing
+abbrev pub is_nothing : Mode → Bool
+is_nothing Nothing = true
+is_nothing Copy = false
+is_nothing Own = false
+
+-- the other clients that are believed to hold the block, or just those that are believed to own it
+abbrev pub others : List (Holder × Bool) → BlockId → ℕ → Bool → List ℕ
+others [] block client owners = []
+others (b ∷ bs) block client owners =
+    if same_block b.0.block block && not (b.0.client == client) && (b.1 || not owners)
+    then b.0.client ∷ others bs block client owners
+    else others bs block client owners
+
+-- the beliefs of other blocks
+abbrev pub without_block : List (Holder × Bool) → BlockId → List (Holder × Bool)
+without_block beliefs block = filter (λ b. not (same_block b.0.block block)) beliefs
+
+-- the one belief about this block: that the client owns it
+abbrev pub owned_by : List (Holder × Bool) → Holder → List (Holder × Bool)
+owned_by beliefs h = insert_entry holder_cmp (without_block beliefs h.block) h true
+
+-- the client is believed to hold the block, unless it is believed to already
+abbrev pub held_by : List (Holder × Bool) → Holder → List (Holder × Bool)
+held_by beliefs h = if is_some (lookup (is_at (holder_cmp h)) beliefs) then beliefs else insert_entry holder_cmp beliefs h false
+
+-- the beliefs once the asker has what it wants
+abbrev pub after_ask : List (Holder × Bool) → Ask → List (Holder × Bool)
+after_ask beliefs ask = if is_own ask.mode then owned_by beliefs (holder ask.block ask.client) else held_by beliefs (holder ask.block ask.client)
+
+-- the client is believed to hold no more than a copy
+abbrev pub no_owner : List (Holder × Bool) → Holder → List (Holder × Bool)
+no_owner beliefs h = if is_some (lookup (is_at (holder_cmp h)) beliefs) then set_value (is_at (holder_cmp h)) beliefs false else beliefs
+
+-- the beliefs once a client gave a block up, with leave to keep a copy or without
+abbrev pub given_up : List (Holder × Bool) → Holder → Bool → List (Holder × Bool)
+given_up beliefs h keep = if keep then no_owner beliefs h else remove_entry (is_at (holder_cmp h)) beliefs
+
+-- the beliefs with one more; that a client holds nothing is no belief
+unfoldable pub believed : List (Holder × Bool) → BlockId × ℕ × Mode → List (Holder × Bool)
+believed beliefs b = if is_nothing b.2 then beliefs else insert_entry holder_cmp beliefs (holder b.0 b.1) (is_own b.2)
+
+-- the beliefs that a list names: of two about one client and block the later
+abbrev pub all_believed : List (Holder × Bool) → List (BlockId × ℕ × Mode) → List (Holder × Bool)
+all_believed beliefs [] = beliefs
+all_believed beliefs (b ∷ bs) = all_believed (believed beliefs b) bs

@@ -1,0 +1,219 @@
+-- What a slot does on each input: one transition for each kind of input, and step, which is all of them.
+use Rattle.std.specs.Prelude.{ℕ, ◌+◌, ◌-◌, ◌^◌, Bool, false, not, ◌&&◌, ◌||◌, ◌==◌, nat_lt, nat_le, List, [], ◌∷◌, length, slice_set, Option, Some, None, if◌then◌else◌, is_some}
+use Rattle.std.specs.List.{list_any}
+use Rattle.std.specs.Map.{lookup, remove_entry}
+use Rattle.std.specs.BTreeMap.{is_at, insert_entry}
+use Rattle.std.specs.Ordering.{is_eq}
+use Rattle.xfs_base.specs.Blocks.{block_cmp}
+use Rattle.xfs_base.specs.Segments.{seg_cmp}
+use Rattle.xfs_base.specs.Steps.{Stepped, still, after, steps}
+use Rattle.xfs_base.specs.declared.block.BlockId.{BlockId}
+use Rattle.xfs_base.specs.declared.entry.Entry.{Entry}
+use Rattle.xfs_base.specs.declared.entry.Place.{Place}
+use Rattle.xfs_base.specs.declared.segment.LogId.{LogId}
+use Rattle.xfs_base.specs.declared.token.Mode.{Mode}
+use Rattle.xfs_base.specs.declared.token.Stamp.{Stamp}
+use Rattle.delta_index.specs.Index.{entry_of}
+use Rattle.token_manager.specs.declared.job.Ask.{Ask}
+use Rattle.token_manager.specs.declared.job.Awaited.{Awaited}
+use Rattle.token_manager.specs.declared.job.Job.{Job}
+use Rattle.token_manager.specs.declared.told.Out.{Out}
+use Rattle.token_manager.specs.declared.told.Out.TheVariants.{Grant, Forward, Applied, Live, Dead}
+use Rattle.token_manager.specs.declared.told.In.{In}
+use Rattle.token_manager.specs.declared.told.In.TheVariants.{Want, Gave, Deltas, Check, Tick}
+use Rattle.token_manager.specs.Beliefs.{holder, is_own, is_nothing, others, after_ask, given_up, all_believed}
+use Rattle.token_manager.specs.Index.{nothing_indexed, indexed_all, has_room}
+use Rattle.token_manager.specs.Recalls.{stamp, recalls, sent, all_sent, is_answered, noted, applied_of, is_ready, ready_blocks}
+use Rattle.token_manager.specs.SlotState.{SlotState}
+
+-- a state of a slot, and what was sent on the way to it
+abbrev pub Done : Type 0
+Done = Stepped SlotState Out
+
+-- a slot that starts with this index, these beliefs and this much of each log
+abbrev pub started : ℕ → List (BlockId × Entry) → List (BlockId × ℕ × Mode) → List ℕ → SlotState
+started epoch index beliefs applied = record {
+  epoch = epoch;
+  index = indexed_all nothing_indexed index;
+  beliefs = all_believed [] beliefs;
+  jobs = [];
+  turn = 0;
+  applied = applied;
+}
+
+-- whether so many more turns can be given out
+abbrev pub has_turns : ℕ → ℕ → Bool
+has_turns turn n = nat_lt (turn + n) (2 ^ 64)
+
+abbrev pub job_at : List (BlockId × Job) → BlockId → Option Job
+job_at jobs block = lookup (is_at (block_cmp block)) jobs
+
+abbrev pub without_job : List (BlockId × Job) → BlockId → List (BlockId × Job)
+without_job jobs block = remove_entry (is_at (block_cmp block)) jobs
+
+abbrev pub entry_at : SlotState → BlockId → Entry
+entry_at s block = entry_of s.index.rows block
+
+-- the next turn, as a stamp
+abbrev pub next_stamp : SlotState → Stamp
+next_stamp s = stamp s.epoch (s.turn + 1)
+
+-- ---- a want that waits no longer
+
+-- the clients that could pass a copy on: none to one that wants to write, or that asks again
+abbrev pub passers : SlotState → Ask → List ℕ
+passers s ask = if is_own ask.mode || not (ask.again == 0) then [] else others s.beliefs ask.block ask.client false
+
+-- a word to the lowest client that can pass its copy on, else a grant of what the index holds now
+abbrev pub answer : SlotState → Ask → List ℕ → Out
+answer s ask [] = Grant ask.client ask.block (next_stamp s) ask.inc ask.req ask.mode (entry_at s ask.block)
+answer s ask (c ∷ cs) = Forward c ask.client ask.block (next_stamp s) ask.inc ask.req (entry_at s ask.block).ver
+
+-- the want is answered under a new turn, and the asker is believed to have what it wants
+abbrev pub finished : SlotState → Ask → Done
+finished s ask = record {
+  state = record s { beliefs = after_ask s.beliefs ask; turn = s.turn + 1 };
+  outs = answer s ask (passers s ask) ∷ [];
+}
+
+-- where no turn is left, nothing
+abbrev pub finish : SlotState → Ask → Done
+finish s ask = if has_turns s.turn 1 then finished s ask else still s
+
+-- ---- want
+
+-- the want waits; each of these clients gets a recall under a turn of its own
+abbrev pub recalled : SlotState → Ask → List ℕ → Done
+recalled s ask clients = record {
+  state = record s { jobs = insert_entry block_cmp s.jobs ask.block (record { ask = ask; awaited = recalls s.epoch s.turn (not (is_own ask.mode)) clients }); turn = s.turn + length clients };
+  outs = sent ask.block (recalls s.epoch s.turn (not (is_own ask.mode)) clients);
+}
+
+-- where too few turns are left, nothing
+abbrev pub recall : SlotState → Ask → List ℕ → Done
+recall s ask clients = if has_turns s.turn (length clients) then recalled s ask clients else still s
+
+-- the block is recalled from these clients; where there are none, the want need not wait
+abbrev pub recall_or_finish : SlotState → Ask → List ℕ → Done
+recall_or_finish s ask clients = if length clients == 0 then finish s ask else recall s ask clients
+
+-- whether a want is dropped: it wants nothing, another one waits for the block, or the asker's own log
+-- isn't applied up to the end that it names
+abbrev pub is_dropped : SlotState → Ask → ℕ → Bool
+is_dropped s ask end = is_nothing ask.mode || is_some (job_at s.jobs ask.block) || nat_lt (applied_of s.applied ask.client) end
+
+-- a client wants a block (section 3.3 of the 1996 paper): to read it, the other owner gives way and keeps
+-- a copy; to write it, all other holders give it up
+abbrev pub want : SlotState → Ask → ℕ → Done
+want s ask end = if is_dropped s ask end then still s else recall_or_finish s ask (others s.beliefs ask.block ask.client (not (is_own ask.mode)))
+
+-- ---- gave
+
+-- a client has given a block up
+abbrev pub given : SlotState → Ask → ℕ → BlockId → SlotState
+given s ask client block = record s { beliefs = given_up s.beliefs (holder block client) (not (is_own ask.mode)) }
+
+-- the want need wait no longer; where no turn is left, nothing, and the answer isn't noted either
+abbrev pub gave_last : SlotState → ℕ → BlockId → Ask → Done
+gave_last s client block ask = if has_turns s.turn 1 then finished (record (given s ask client block) { jobs = without_job s.jobs block }) ask else still s
+
+-- the recalls, with the answer noted; the want goes on waiting
+abbrev pub gave_one : SlotState → ℕ → BlockId → Ask → List Awaited → SlotState
+gave_one s client block ask awaited = record (given s ask client block) { jobs = insert_entry block_cmp s.jobs block (record { ask = ask; awaited = awaited }) }
+
+unfoldable pub gave_noted : SlotState → ℕ → BlockId → Ask → List Awaited → Done
+gave_noted s client block ask awaited = if is_ready s.applied awaited then gave_last s client block ask else still (gave_one s client block ask awaited)
+
+-- only the answer to an unanswered recall of the want counts
+abbrev pub gave_job : SlotState → ℕ → BlockId → Stamp → ℕ → Option Job → Done
+gave_job s client block stamp end None = still s
+gave_job s client block stamp end (Some job) =
+    if list_any (is_answered client stamp) job.awaited then gave_noted s client block job.ask (noted job.awaited client stamp end) else still s
+
+-- a client gave a block up, as it was asked to
+abbrev pub gave : SlotState → ℕ → BlockId → Stamp → ℕ → Done
+gave s client block stamp end = gave_job s client block stamp end (job_at s.jobs block)
+
+-- ---- deltas
+
+abbrev pub finished_job : SlotState → BlockId → Option Job → Done
+finished_job s block None = still s
+finished_job s block (Some job) = finished (record s { jobs = without_job s.jobs block }) job.ask
+
+-- the want that waits for this block is answered
+unfoldable pub finished_at : SlotState → BlockId → Done
+finished_at s block = finished_job s block (job_at s.jobs block)
+
+-- what is applied, with this much of one log
+abbrev pub applied_upto : List ℕ → LogId → ℕ → List ℕ
+applied_upto applied log upto = slice_set applied (log.0 - 1) upto
+
+-- the rows are merged in their order, the counts follow, and so much of the log is applied
+abbrev pub with_deltas : SlotState → LogId → ℕ → List (BlockId × Entry) → SlotState
+with_deltas s log upto rows = record s { index = indexed_all s.index rows; applied = applied_upto s.applied log upto }
+
+-- the log learns how much is applied, and then the wants that need wait no longer are answered, in order
+-- of blocks
+abbrev pub apply : SlotState → LogId → ℕ → List (BlockId × Entry) → Done
+apply s log upto rows = after (Applied log upto ∷ []) (steps finished_at (with_deltas s log upto rows) (ready_blocks s.jobs (applied_upto s.applied log upto)))
+
+-- whether turns are left for the wants that would be answered, and counts can rise by the rows
+abbrev pub can_apply : SlotState → LogId → ℕ → List (BlockId × Entry) → Bool
+can_apply s log upto rows =
+    has_turns s.turn (length (ready_blocks s.jobs (applied_upto s.applied log upto))) && has_room (length rows) s.index.usage rows
+
+-- where one could not rise, nothing
+abbrev pub apply_or_not : SlotState → LogId → ℕ → List (BlockId × Entry) → Done
+apply_or_not s log upto rows = if can_apply s log upto rows then apply s log upto rows else still s
+
+-- whether deltas join on to what is applied of their log, and lead beyond it
+abbrev pub joins_on : ℕ → ℕ → ℕ → Bool
+joins_on applied first upto = nat_le first (applied + 1) && nat_lt applied upto
+
+-- whether a slot follows a log: those of the clients and of the cleaner
+abbrev pub is_followed : LogId → Bool
+is_followed log = nat_le 1 log.0 && nat_le log.0 9
+
+-- how much of a log is applied, and nothing else
+abbrev pub told_applied : SlotState → LogId → Done
+told_applied s log = record { state = s; outs = Applied log (applied_of s.applied log.0) ∷ [] }
+
+-- deltas of a log that the slot follows
+abbrev pub deltas_of : SlotState → LogId → ℕ → ℕ → List (BlockId × Entry) → Done
+deltas_of s log first upto rows = if joins_on (applied_of s.applied log.0) first upto then apply_or_not s log upto rows else told_applied s log
+
+-- a log tells where blocks lie
+abbrev pub deltas : SlotState → LogId → ℕ → ℕ → List (BlockId × Entry) → Done
+deltas s log first upto rows = if is_followed log then deltas_of s log first upto rows else still s
+
+-- ---- check and tick
+
+-- whether a place is this one
+abbrev pub is_place : Option Place → Place → Bool
+is_place None place = false
+is_place (Some at) place = is_eq (seg_cmp at.seg.name place.seg.name) && (at.seg.group == place.seg.group) && (at.item == place.item)
+
+-- whether an entry lies at a place
+abbrev pub found : Entry → Place → Out
+found entry place = if is_place entry.place place then Live entry else Dead
+
+-- the cleaner asks whether a block lives at a place (section 3.5 of the 1996 paper)
+abbrev pub check : SlotState → BlockId → Place → Done
+check s block place = record { state = s; outs = found (entry_at s block) place ∷ [] }
+
+-- each recall that isn't answered is sent again, under its stamp
+abbrev pub tick : SlotState → Done
+tick s = record { state = s; outs = all_sent s.jobs }
+
+-- ---- all
+
+abbrev pub ask_of : ℕ → ℕ → ℕ → ℕ → BlockId → Mode → Ask
+ask_of client inc req again block mode = record { client = client; inc = inc; req = req; again = again; block = block; mode = mode }
+
+-- what a slot does on an input
+abbrev pub step : SlotState → In → Done
+step s (Want client inc req again block mode end) = want s (ask_of client inc req again block mode) end
+step s (Gave client block stamp end) = gave s client block stamp end
+step s (Deltas log first upto rows) = deltas s log first upto rows
+step s (Check block place) = check s block place
+step s Tick = tick s

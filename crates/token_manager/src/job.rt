@@ -1,0 +1,50 @@
+//! What a slot keeps of its clients: who may hold which block, and what waits for recalls.
+use xfs_base::{BlockId, List, Mode, Stamp};
+
+/// A client that may hold a block. The order is by block, then by client.
+#[derive(Clone, Copy, Debug, PartialEq, Eq, PartialOrd, Ord)]
+pub struct Holder {
+    /// The block.
+    pub block: BlockId,
+    /// The number of the client.
+    pub client: u8,
+}
+
+/// What a client wants.
+#[derive(Clone, Copy, Debug, PartialEq, Eq)]
+pub struct Ask {
+    /// The number of the client.
+    pub client: u8,
+    /// Its incarnation.
+    pub inc: u32,
+    /// The number of the want in that incarnation.
+    pub req: u32,
+    /// How often it was asked again; a want that was asked again is answered from the log alone.
+    pub again: u32,
+    /// The block.
+    pub block: BlockId,
+    /// What it wants to do with the block.
+    pub mode: Mode,
+}
+
+/// A recall that was sent.
+#[derive(Clone, Copy, Debug, PartialEq, Eq)]
+pub struct Awaited {
+    /// The client from which the block is recalled.
+    pub client: u8,
+    /// The stamp of the recall.
+    pub stamp: Stamp,
+    /// Whether the client may keep a copy.
+    pub keep: bool,
+    /// The end of its log that the client named when it gave the block up; none until then.
+    pub end: Option<u32>,
+}
+
+/// A want that waits until others have given the block up, and until what they wrote is applied.
+#[derive(Drop)]
+pub struct Job {
+    /// What is wanted.
+    pub ask: Ask,
+    /// The recalls for it, in order of clients.
+    pub awaited: List<Awaited>,
+}

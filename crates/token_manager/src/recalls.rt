@@ -1,0 +1,136 @@
+//! The recalls of the wants that wait.
+ghost use Rattle.std.specs.Prelude.{◌≡◌, ℕ, ◌+◌, ◌^◌, ◌<◌, length, OnOk, IfOk, ◌++◌};
+ghost use Rattle.std.specs.List.{list_any};
+ghost use Rattle.token_manager.specs.Recalls.{recalls, sent, all_sent, is_answered, noted, applied_of, is_applied, is_ready, ready_blocks};
+
+use crate::job::{Awaited, Job};
+use crate::told::Out;
+use std::alloc::Global;
+use std::collections::BTreeMap;
+use xfs_base::{BlockId, List, Mem, Stamp};
+
+// A recall to each of these clients, each with a turn of its own.
+pub(crate) fn recalls(
+    alloc: Global,
+    epoch: u32,
+    last: u64,
+    keep: bool,
+    clients: &[u8],
+) -> Mem<List<Awaited>>
+    requires { last + length clients.now < 2 ^ 64 }
+    ensures { IfOk result (λ awaited. awaited ≡ recalls epoch last keep clients.now) }
+{
+    let mut awaited = List::new(alloc);
+    let mut turn = last;
+    for client in clients {
+        turn += 1;
+        awaited.push(Awaited {
+            client: *client,
+            stamp: Stamp { epoch, turn },
+            keep,
+            end: None,
+        })?;
+    }
+    Ok(awaited)
+}
+
+// Sends the recalls that are not answered.
+pub(crate) fn send_recalls(outs: &mut List<Out>, block: BlockId, awaited: &[Awaited]) -> Mem<()>
+    ensures { OnOk result (outs.new ≡ outs.old ++ sent block awaited.now) }
+{
+    for recall in awaited {
+        if recall.end.is_none() {
+            outs.push(Out::Recall(recall.client, block, recall.stamp, recall.keep))?;
+        }
+    }
+    Ok(())
+}
+
+// Sends the recalls of all wants that are not answered.
+pub(crate) fn send_all(outs: &mut List<Out>, jobs: &BTreeMap<BlockId, Job>) -> Mem<()>
+    ensures { OnOk result (outs.new ≡ outs.old ++ all_sent jobs.now.entries) }
+{
+    for (block, job) in jobs {
+        send_recalls(outs, *block, job.awaited.as_slice())?;
+    }
+    Ok(())
+}
+
+fn is_answered(recall: &Awaited, client: u8, stamp: Stamp) -> bool
+    ensures { result ≡ is_answered client stamp recall.now }
+{
+    recall.client == client && recall.stamp == stamp && recall.end.is_none()
+}
+
+// Whether one of the recalls is the unanswered one of a client under a stamp.
+pub(crate) fn is_awaited(awaited: &[Awaited], client: u8, stamp: Stamp) -> bool
+    ensures { result ≡ list_any (is_answered client stamp) awaited.now }
+{
+    awaited
+        .iter()
+        .any(|recall| is_answered(recall, client, stamp))
+}
+
+// The recalls, with the end that an answer named.
+pub(crate) fn noted(
+    alloc: Global,
+    awaited: &[Awaited],
+    client: u8,
+    stamp: Stamp,
+    end: u32,
+) -> Mem<List<Awaited>>
+    ensures { IfOk result (λ after. after ≡ noted awaited.now client stamp end) }
+{
+    let mut after = List::new(alloc);
+    for recall in awaited {
+        let mut recall = *recall;
+        if is_answered(&recall, client, stamp) {
+            recall.end = Some(end);
+        }
+        after.push(recall)?;
+    }
+    Ok(after)
+}
+
+// What is applied of a log: 0 of a log that a slot does not follow.
+pub(crate) fn applied_of(applied: &[u32; 9], log: u8) -> u32
+    ensures { result ≡ applied_of applied.now log }
+{
+    let at = usize::from(log).saturating_sub(1);
+    if at < applied.len() { applied[at] } else { 0 }
+}
+
+fn is_applied(applied: &[u32; 9], log: u8, end: Option<u32>) -> bool
+    ensures { result ≡ is_applied applied.now log end }
+{
+    match end {
+        Some(end) => end <= applied_of(applied, log),
+        None => false,
+    }
+}
+
+// Whether all recalls are answered, and what each answer named is applied.
+pub(crate) fn is_ready(applied: &[u32; 9], awaited: &[Awaited]) -> bool
+    ensures { result ≡ is_ready applied.now awaited.now }
+{
+    awaited
+        .iter()
+        .all(|recall| is_applied(applied, recall.client, recall.end))
+}
+
+// The blocks whose wants need wait no longer.
+pub(crate) fn ready_blocks(
+    alloc: Global,
+    jobs: &BTreeMap<BlockId, Job>,
+    applied: &[u32; 9],
+) -> Mem<List<BlockId>>
+    ensures { IfOk result (λ blocks. blocks ≡ ready_blocks jobs.now.entries applied.now) }
+{
+    let mut blocks = List::new(alloc);
+    for (block, job) in jobs {
+        if is_ready(applied, job.awaited.as_slice()) {
+            blocks.push(*block)?;
+        }
+    }
+    Ok(blocks)
+}

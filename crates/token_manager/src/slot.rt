@@ -1,0 +1,392 @@
+//! One slot.
+ghost use Rattle.std.specs.Prelude.{◌≡◌, ℕ, ◌+◌, ◌^◌, ◌<◌, ◌≤◌, length, OnOk, IfOk, IsTrue, ◌++◌, []};
+ghost use Rattle.xfs_base.specs.Steps.{steps};
+ghost use Rattle.xfs_base.specs.declared.segment.SegName.{SegName};
+ghost use Rattle.token_manager.specs.Index.{live_in, has_room};
+ghost use Rattle.token_manager.specs.Recalls.{applied_of, ready_blocks};
+ghost use Rattle.token_manager.specs.Transition.{started, has_turns, passers, finished, recall_or_finish, recall, want, gave_last, gave_noted, gave, finished_at, is_followed, apply, apply_or_not, deltas, is_place, found, check, tick, step};
+
+use crate::beliefs::{all_believed, believe_asker, give_up, is_nothing, is_own, others};
+use crate::index::BlockIndex;
+use crate::job::{Ask, Awaited, Holder, Job};
+use crate::recalls::{
+    applied_of, is_awaited, is_ready, noted, ready_blocks, recalls, send_all, send_recalls,
+};
+use crate::told::{In, Out};
+use std::alloc::Global;
+use std::collections::BTreeMap;
+use std::marker::Model;
+use xfs_base::{BlockId, Entry, List, LogId, Mem, Mode, Place, SegName, Stamp};
+
+/// The tokens of one slot of the manager map, in one epoch (section 3.3 of the 1996 paper). Contracts see
+/// it as its state: the epoch, the index with the live blocks of each segment, who is believed to hold
+/// each block, the wants that wait, the last turn, and how much of each log is applied.
+#[derive(Drop)]
+pub struct Slot {
+    epoch: u32,
+    index: BlockIndex,
+    beliefs: BTreeMap<Holder, bool>,
+    jobs: BTreeMap<BlockId, Job>,
+    turn: u64,
+    applied: [u32; 9],
+}
+
+impl Model for Slot {
+    ghost use Rattle.token_manager.specs.SlotState.{SlotState};
+
+    ghost Value = { SlotState };
+
+    ghost view = { λ a. record { epoch = a.epoch; index = a.index; beliefs = a.beliefs.entries; jobs = a.jobs.entries; turn = a.turn; applied = a.applied } };
+}
+
+// Nine numbers as an array.
+fn nine(list: &[u32]) -> [u32; 9]
+    requires { length list.now ≡ 9 }
+    ensures { result ≡ list.now }
+{
+    [
+        list[0], list[1], list[2], list[3], list[4], list[5], list[6], list[7], list[8],
+    ]
+}
+
+// Whether a place is this one.
+fn is_place(at: Option<Place>, place: Place) -> bool
+    ensures { result ≡ is_place at place }
+{
+    match at {
+        Some(at) => {
+            at.seg.name.order(place.seg.name).is_eq()
+                && at.seg.group == place.seg.group
+                && at.item == place.item
+        }
+        None => false,
+    }
+}
+
+// What the cleaner is told of an entry that it may have found at a place.
+fn found(entry: Entry, place: Place) -> Out
+    ensures { result ≡ found entry place }
+{
+    if is_place(entry.place, place) {
+        Out::Live(entry)
+    } else {
+        Out::Dead
+    }
+}
+
+impl Slot {
+    /// A slot at the start of an epoch. `index` is what is known of where blocks lie, `beliefs` is who
+    /// holds what, where `Nothing` says nothing, and `applied` is how much of each log, from log 1, the
+    /// index covers. It may be asked only with nine numbers in `applied` and where no segment is named by
+    /// more than 4,294,967,295 rows of the index.
+    pub fn start(
+        alloc: Global,
+        epoch: u32,
+        index: List<(BlockId, Entry)>,
+        beliefs: List<(BlockId, u8, Mode)>,
+        applied: List<u32>,
+    ) -> Mem<Slot>
+        requires nine { length applied ≡ 9 }
+        requires room { (seg : SegName) → live_in seg index < 2 ^ 32 }
+        ensures { IfOk result (λ slot. slot ≡ started epoch index beliefs applied) }
+    {
+        let mut rows = BlockIndex::new(alloc);
+        rows.merge_all(alloc, index.as_slice())?;
+        Ok(Slot {
+            epoch,
+            index: rows,
+            beliefs: all_believed(alloc, beliefs.as_slice())?,
+            jobs: BTreeMap::new(alloc),
+            turn: 0,
+            applied: nine(applied.as_slice()),
+        })
+    }
+
+    /// The epoch of the slot. Takes no memory.
+    pub fn epoch(&self) -> u32
+        ensures { result ≡ self.now.epoch }
+    {
+        self.epoch
+    }
+
+    /// The last segment number of a log whose deltas are applied. Takes no memory.
+    pub fn applied(&self, log: LogId) -> u32
+        ensures { result ≡ applied_of self.now.applied log.0 }
+    {
+        applied_of(&self.applied, log.0)
+    }
+
+    /// What the index holds of each block, by block.
+    pub fn rows(&self, alloc: Global) -> Mem<List<(BlockId, Entry)>>
+        ensures { IfOk result (λ rows. rows ≡ self.now.index.rows) }
+    {
+        self.index.rows(alloc)
+    }
+
+    /// The live blocks of each segment that has one, by segment.
+    pub fn usage(&self, alloc: Global) -> Mem<List<(SegName, u32)>>
+        ensures { IfOk result (λ counts. counts ≡ self.now.index.usage) }
+    {
+        self.index.counts(alloc)
+    }
+
+    /// What a slot does on an input, and what its manager then sends, in order.
+    ///
+    /// - A want is dropped where another want waits for the block, or where the asker's log is not applied
+    ///   up to the end that it names. Else the block is recalled from the other owner, or to write from
+    ///   all other holders, and the want waits; where there are none, it is answered at once.
+    /// - An answer to a recall counts where its stamp is that of an unanswered recall of the want. The
+    ///   want is answered when all are in and what each named is applied.
+    /// - Deltas are merged where they join on to what is applied of their log and lead beyond it; the log
+    ///   is told how much is applied, and then the wants that need wait no longer are answered, in order
+    ///   of blocks. A log that is no client's and not the cleaner's is not followed.
+    /// - A check is answered `Live` exactly where the index has the block at the place.
+    /// - A tick sends the unanswered recalls again.
+    ///
+    /// Where a turn or a count of live blocks could not rise, nothing changes and nothing is sent.
+    pub fn take(&mut self, alloc: Global, input: In) -> Mem<List<Out>>
+        ensures state { OnOk result (self.new ≡ (step self.old input).state) }
+        ensures outs { IfOk result (λ outs. outs ≡ (step self.old input).outs) }
+    {
+        let mut outs = List::new(alloc);
+        match input {
+            In::Want(client, inc, req, again, block, mode, end) => {
+                let ask = Ask {
+                    client,
+                    inc,
+                    req,
+                    again,
+                    block,
+                    mode,
+                };
+                self.want(alloc, &mut outs, ask, end)?
+            }
+            In::Gave(client, block, stamp, end) => {
+                self.gave(alloc, &mut outs, client, block, stamp, end)?
+            }
+            In::Deltas(log, first, upto, rows) => {
+                self.deltas(alloc, &mut outs, log, first, upto, rows.as_slice())?
+            }
+            In::Check(block, place) => outs.push(found(self.index.get(block), place))?,
+            In::Tick => send_all(&mut outs, &self.jobs)?,
+        }
+        Ok(outs)
+    }
+
+    fn passers(&self, alloc: Global, ask: Ask) -> Mem<List<u8>>
+        ensures { IfOk result (λ clients. clients ≡ passers self.now ask) }
+    {
+        if is_own(ask.mode) || ask.again != 0 {
+            return Ok(List::new(alloc));
+        }
+        others(alloc, &self.beliefs, ask.block, ask.client, false)
+    }
+
+    // Answers a want under a new turn.
+    fn finish(&mut self, alloc: Global, outs: &mut List<Out>, ask: Ask) -> Mem<()>
+        requires { IsTrue (has_turns self.old.turn 1) }
+        ensures state { OnOk result (self.new ≡ (finished self.old ask).state) }
+        ensures outs { OnOk result (outs.new ≡ outs.old ++ (finished self.old ask).outs) }
+    {
+        let passers = self.passers(alloc, ask)?;
+        let entry = self.index.get(ask.block);
+        self.turn += 1;
+        let stamp = Stamp {
+            epoch: self.epoch,
+            turn: self.turn,
+        };
+        let out = match passers.as_slice().first() {
+            Some(passer) => Out::Forward(
+                *passer, ask.client, ask.block, stamp, ask.inc, ask.req, entry.ver,
+            ),
+            None => Out::Grant(
+                ask.client, ask.block, stamp, ask.inc, ask.req, ask.mode, entry,
+            ),
+        };
+        outs.push(out)?;
+        believe_asker(&mut self.beliefs, ask)
+    }
+
+    fn want(&mut self, alloc: Global, outs: &mut List<Out>, ask: Ask, end: u32) -> Mem<()>
+        ensures state { OnOk result (self.new ≡ (want self.old ask end).state) }
+        ensures outs { OnOk result (outs.new ≡ outs.old ++ (want self.old ask end).outs) }
+    {
+        if is_nothing(ask.mode)
+            || self.jobs.contains_key(&ask.block)
+            || applied_of(&self.applied, ask.client) < end
+        {
+            return Ok(());
+        }
+        let clients = others(
+            alloc,
+            &self.beliefs,
+            ask.block,
+            ask.client,
+            !is_own(ask.mode),
+        )?;
+        self.recall_or_finish(alloc, outs, ask, clients.as_slice())
+    }
+
+    fn recall_or_finish(
+        &mut self,
+        alloc: Global,
+        outs: &mut List<Out>,
+        ask: Ask,
+        clients: &[u8],
+    ) -> Mem<()>
+        ensures state { OnOk result (self.new ≡ (recall_or_finish self.old ask clients.now).state) }
+        ensures outs { OnOk result (outs.new ≡ outs.old ++ (recall_or_finish self.old ask clients.now).outs) }
+    {
+        if clients.len() == 0 {
+            if self.turn == u64::MAX {
+                return Ok(());
+            }
+            return self.finish(alloc, outs, ask);
+        }
+        self.recall(alloc, outs, ask, clients)
+    }
+
+    fn recall(&mut self, alloc: Global, outs: &mut List<Out>, ask: Ask, clients: &[u8]) -> Mem<()>
+        ensures state { OnOk result (self.new ≡ (recall self.old ask clients.now).state) }
+        ensures outs { OnOk result (outs.new ≡ outs.old ++ (recall self.old ask clients.now).outs) }
+    {
+        let count = clients.len() as u64;
+        if self.turn > u64::MAX - count {
+            return Ok(());
+        }
+        let awaited = recalls(alloc, self.epoch, self.turn, !is_own(ask.mode), clients)?;
+        send_recalls(outs, ask.block, awaited.as_slice())?;
+        self.turn += count;
+        self.jobs.insert(ask.block, Job { ask, awaited })?;
+        Ok(())
+    }
+
+    fn gave(
+        &mut self,
+        alloc: Global,
+        outs: &mut List<Out>,
+        client: u8,
+        block: BlockId,
+        stamp: Stamp,
+        end: u32,
+    ) -> Mem<()>
+        ensures state { OnOk result (self.new ≡ (gave self.old client block stamp end).state) }
+        ensures outs { OnOk result (outs.new ≡ outs.old ++ (gave self.old client block stamp end).outs) }
+    {
+        let (ask, awaited) = match self.jobs.get(&block) {
+            None => return Ok(()),
+            Some(job) => {
+                if !is_awaited(job.awaited.as_slice(), client, stamp) {
+                    return Ok(());
+                }
+                let ask = job.ask;
+                (
+                    ask,
+                    noted(alloc, job.awaited.as_slice(), client, stamp, end)?,
+                )
+            }
+        };
+        self.gave_noted(alloc, outs, client, block, ask, awaited)
+    }
+
+    #[tactic(auto, unfolding(crate::specs::Transition::gave_noted))]
+    fn gave_noted(
+        &mut self,
+        alloc: Global,
+        outs: &mut List<Out>,
+        client: u8,
+        block: BlockId,
+        ask: Ask,
+        awaited: List<Awaited>,
+    ) -> Mem<()>
+        ensures state { OnOk result (self.new ≡ (gave_noted self.old client block ask awaited).state) }
+        ensures outs { OnOk result (outs.new ≡ outs.old ++ (gave_noted self.old client block ask awaited).outs) }
+    {
+        let holder = Holder { block, client };
+        if !is_ready(&self.applied, awaited.as_slice()) {
+            give_up(&mut self.beliefs, holder, !is_own(ask.mode));
+            self.jobs.insert(block, Job { ask, awaited })?;
+            return Ok(());
+        }
+        if self.turn == u64::MAX {
+            return Ok(());
+        }
+        give_up(&mut self.beliefs, holder, !is_own(ask.mode));
+        self.jobs.remove(&block);
+        self.finish(alloc, outs, ask)
+    }
+
+    // Answers the want that waits for a block.
+    #[tactic(auto, unfolding(crate::specs::Transition::finished_at))]
+    fn finish_job(&mut self, alloc: Global, outs: &mut List<Out>, block: BlockId) -> Mem<()>
+        requires { IsTrue (has_turns self.old.turn 1) }
+        ensures state { OnOk result (self.new ≡ (finished_at self.old block).state) }
+        ensures outs { OnOk result (outs.new ≡ outs.old ++ (finished_at self.old block).outs) }
+        ensures turn { OnOk result (self.new.turn ≤ self.old.turn + 1) }
+    {
+        match self.jobs.remove(&block) {
+            Some(job) => self.finish(alloc, outs, job.ask)?,
+            None => {}
+        }
+        Ok(())
+    }
+
+    // Answers the wants that wait for these blocks, in order.
+    fn finish_jobs(&mut self, alloc: Global, outs: &mut List<Out>, blocks: &[BlockId]) -> Mem<()>
+        requires { IsTrue (has_turns self.old.turn (length blocks.now)) }
+        ensures state { OnOk result (self.new ≡ (steps finished_at self.old blocks.now).state) }
+        ensures outs { OnOk result (outs.new ≡ outs.old ++ (steps finished_at self.old blocks.now).outs) }
+    {
+        for block in blocks {
+            self.finish_job(alloc, outs, *block)?;
+        }
+        Ok(())
+    }
+
+    fn deltas(
+        &mut self,
+        alloc: Global,
+        outs: &mut List<Out>,
+        log: LogId,
+        first: u32,
+        upto: u32,
+        rows: &[(BlockId, Entry)],
+    ) -> Mem<()>
+        ensures state { OnOk result (self.new ≡ (deltas self.old log first upto rows.now).state) }
+        ensures outs { OnOk result (outs.new ≡ outs.old ++ (deltas self.old log first upto rows.now).outs) }
+    {
+        if log.0 < 1 || 9 < log.0 {
+            return Ok(());
+        }
+        let applied = applied_of(&self.applied, log.0);
+        if u64::from(first) <= u64::from(applied) + 1 && applied < upto {
+            return self.apply(alloc, outs, log, upto, rows);
+        }
+        outs.push(Out::Applied(log, applied))?;
+        Ok(())
+    }
+
+    fn apply(
+        &mut self,
+        alloc: Global,
+        outs: &mut List<Out>,
+        log: LogId,
+        upto: u32,
+        rows: &[(BlockId, Entry)],
+    ) -> Mem<()>
+        requires { IsTrue (is_followed log) }
+        ensures state { OnOk result (self.new ≡ (apply_or_not self.old log upto rows.now).state) }
+        ensures outs { OnOk result (outs.new ≡ outs.old ++ (apply_or_not self.old log upto rows.now).outs) }
+    {
+        let mut applied = self.applied;
+        applied[usize::from(log.0) - 1] = upto;
+        let ready = ready_blocks(alloc, &self.jobs, &applied)?;
+        if self.turn > u64::MAX - ready.len() as u64 || !self.index.has_room(rows) {
+            return Ok(());
+        }
+        outs.push(Out::Applied(log, upto))?;
+        self.index.merge_all(alloc, rows)?;
+        self.applied = applied;
+        self.finish_jobs(alloc, outs, ready.as_slice())
+    }
+}
