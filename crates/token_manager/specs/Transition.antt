@@ -102,7 +102,7 @@ recall_or_finish s ask clients = if length clients == 0 then finish s ask else r
 abbrev pub is_dropped : SlotState → Ask → ℕ → Bool
 is_dropped s ask end = is_nothing ask.mode || is_some (job_at s.jobs ask.block) || nat_lt (applied_of s.applied ask.client) end
 
--- a client wants a block (section 3.3 of the 1996 paper): to read it, the other owner gives way and keeps
+-- a client wants a block (the 1996 paper, "Cache Consistency"): to read it, the other owner gives way and keeps
 -- a copy; to write it, all other holders give it up
 abbrev pub want : SlotState → Ask → ℕ → Done
 want s ask end = if is_dropped s ask end then still s else recall_or_finish s ask (others s.beliefs ask.block ask.client (not (is_own ask.mode)))
@@ -197,7 +197,7 @@ is_place (Some at) place = is_eq (seg_cmp at.seg.name place.seg.name) && (at.seg
 abbrev pub found : Entry → Place → Out
 found entry place = if is_place entry.place place then Live entry else Dead
 
--- the cleaner asks whether a block lives at a place (section 3.5 of the 1996 paper)
+-- the cleaner asks whether a block lives at a place (the 1996 paper, "Cleaning")
 abbrev pub check : SlotState → BlockId → Place → Done
 check s block place = record { state = s; outs = found (entry_at s block) place ∷ [] }
 

@@ -18,7 +18,7 @@ use std::collections::BTreeMap;
 use std::marker::Model;
 use xfs_base::{BlockId, Entry, List, LogId, Mem, Mode, Place, SegName, Stamp};
 
-/// The tokens of one slot of the manager map, in one epoch (section 3.3 of the 1996 paper). Contracts see
+/// The tokens of one slot of the manager map, in one epoch (the 1996 paper, "Cache Consistency"). Contracts see
 /// it as its state: the epoch, the index with the live blocks of each segment, who is believed to hold
 /// each block, the wants that wait, the last turn, and how much of each log is applied.
 #[derive(Drop)]
