@@ -1,0 +1,4 @@
+pub mod AfterInputs
+pub mod RangeRows
+pub mod Ranges
+pub mod Extension

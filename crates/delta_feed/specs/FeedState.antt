@@ -1,0 +1,21 @@
+-- What a feed keeps.
+use Rattle.std.specs.Prelude.{ℕ, List, [], replicate, nat_lt, slice_index, if◌then◌else◌}
+use Rattle.delta_feed.specs.declared.events.FiledDeltas.{FiledDeltas}
+
+pub record FeedState : Type 0 where
+  -- the number up to which the slots know of the log from elsewhere
+  pub base : ℕ
+  -- the settled segments above the base, in rising order
+  pub filed : List FiledDeltas
+  -- the number of the last of them, or the base where there is none
+  pub end : ℕ
+  -- for each slot the number up to which its manager has acknowledged the log
+  pub acked : List ℕ
+
+-- nothing above the base, and each slot knows the log up to it
+abbrev pub started : ℕ → FeedState
+started base = record { base = base; filed = []; end = base; acked = replicate 8 base }
+
+-- up to which segment a slot has acknowledged the log; the base at a slot that there isn't
+abbrev pub acked_of : FeedState → ℕ → ℕ
+acked_of s slot = if nat_lt slot 8 then slice_index s.acked slot else s.base

@@ -1,0 +1,4 @@
+pub mod FeedState
+pub mod History
+pub mod RangeLaws
+pub mod Transition
