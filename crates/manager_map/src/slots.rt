@@ -56,8 +56,8 @@ impl ManagerMap {
         self.slots[usize::from(ino.slot())]
     }
 
-    /// Gives a slot to a manager under its next epoch, and answers that epoch (section 3.2.1 of the 1996
-    /// paper: the map changes when managers come and go). A slot under the last epoch, 4,294,967,295,
+    /// Gives a slot to a manager under its next epoch, and answers that epoch (the 1996 paper,
+    /// "The Manager Map": it changes when managers come and go). A slot under the last epoch, 4,294,967,295,
     /// stays as it is, and the answer is that epoch. `BadSlot` comes exactly where the slot is above 7,
     /// and then nothing has changed. Takes no memory.
     pub fn advance(&mut self, slot: u8, manager: u8) -> Result<u32, BadSlot>
