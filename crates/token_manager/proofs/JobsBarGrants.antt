@@ -58,17 +58,17 @@ answer_gives s ask (c ∷ cs) b g = ⊎_elim (λ h. h) (λ no_more. absurd no_mo
 
 -- ---- the wants that wait
 
-block_laws : IsEquivalence (eq_by_cmp block_cmp)
+pub block_laws : IsEquivalence (eq_by_cmp block_cmp)
 block_laws = eq_by_cmp_equiv block_cmp_total
 
 abbrev IsSorted : List (BlockId × Job) → Type 0
 IsSorted jobs = IsStrictlySortedBy block_cmp (keys_of jobs)
 
-after_removal : (jobs : List (BlockId × Job)) (block b : BlockId) → IsSorted jobs → job_at (without_job jobs block) b ≡ cond (eq_by_cmp block_cmp block b) None (job_at jobs b)
+pub after_removal : (jobs : List (BlockId × Job)) (block b : BlockId) → IsSorted jobs → job_at (without_job jobs block) b ≡ cond (eq_by_cmp block_cmp block b) None (job_at jobs b)
 after_removal jobs block b sorted =
     lookup-remove_entry block_laws (is_at (block_cmp block)) (λ x y same. block_laws.congr block x y same) b jobs (IsDistinct-from_sorted block_cmp (keys_of jobs) sorted)
 
-gone : (jobs : List (BlockId × Job)) (block : BlockId) → IsSorted jobs → job_at (without_job jobs block) block ≡ None
+pub gone : (jobs : List (BlockId × Job)) (block : BlockId) → IsSorted jobs → job_at (without_job jobs block) block ≡ None
 gone jobs block sorted = after_removal jobs block block sorted ∙ ap (λ t. cond t None (job_at jobs block)) (block_laws.refl block)
 
 still_gone : (jobs : List (BlockId × Job)) (block b : BlockId) → IsSorted jobs → job_at jobs b ≡ None → job_at (without_job jobs block) b ≡ None
@@ -80,17 +80,17 @@ pub record Waiting (jobs : List (BlockId × Job)) : Type 0 where
   pub sorted : IsSorted jobs
   pub own : (b : BlockId) (job : Job) → job_at jobs b ≡ Some job → job.ask.block ≡ b
 
-was_there : (t : Bool) (o : Option Job) (job : Job) → cond t None o ≡ Some job → o ≡ Some job
+pub was_there : (t : Bool) (o : Option Job) (job : Job) → cond t None o ≡ Some job → o ≡ Some job
 was_there true o job h = absurd (cc)
 was_there false o job h = h
 
-waiting-removed : (jobs : List (BlockId × Job)) (block : BlockId) → Waiting jobs → Waiting (without_job jobs block)
+pub waiting-removed : (jobs : List (BlockId × Job)) (block : BlockId) → Waiting jobs → Waiting (without_job jobs block)
 waiting-removed jobs block w = record {
   sorted = sorted_remove block_cmp (is_at (block_cmp block)) jobs w.sorted;
   own = λ b job is. w.own b job (was_there (eq_by_cmp block_cmp block b) (job_at jobs b) job (sym (after_removal jobs block b w.sorted) ∙ is));
 }
 
-waiting-put : (jobs : List (BlockId × Job)) (block : BlockId) (job : Job) → job.ask.block ≡ block → Waiting jobs → Waiting (insert_entry block_cmp jobs block job)
+pub waiting-put : (jobs : List (BlockId × Job)) (block : BlockId) (job : Job) → job.ask.block ≡ block → Waiting jobs → Waiting (insert_entry block_cmp jobs block job)
 waiting-put jobs block job mine w = record {
   sorted = sorted_insert block_cmp block_cmp_total block job jobs w.sorted;
   own = λ b found is. put_own b found (eq_by_cmp block_cmp b block) refl (sym (lookup-insert_entry block_cmp_total b block job jobs) ∙ is);
@@ -143,7 +143,7 @@ record Barred (r : Done) : Type 0 where
 barred : (s : SlotState) (r : Done) → Bars s r → Barred r
 barred s r bars = record { given = bars.given; waiting = bars.waiting }
 
-not_waiting : (o : Option Job) (x y : Bool) → (x || is_some o || y) ≡ false → o ≡ None
+pub not_waiting : (o : Option Job) (x y : Bool) → (x || is_some o || y) ≡ false → o ≡ None
 not_waiting None x y h = refl
 not_waiting (Some job) true y h = absurd (cc)
 not_waiting (Some job) false y h = absurd (cc)
@@ -179,7 +179,7 @@ barred-step s (Check block place) w = record { given = λ b. gives_none (is_plac
     gives_none false b g = absurd g
 barred-step s Tick w = record { given = λ b g. absurd (all_sent_gives b s.jobs g); waiting = w }
 
-nobody_waits : Waiting []
+pub nobody_waits : Waiting []
 unfolding IsStrictlySortedBy
 nobody_waits = record { sorted = tt; own = λ b job is. absurd (cc) }
 

@@ -4,3 +4,5 @@ pub mod AppliedRises
 pub mod Turns
 pub mod OneOwner
 pub mod JobsBarGrants
+pub mod Ranks
+pub mod Guarded

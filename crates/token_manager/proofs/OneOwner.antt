@@ -24,7 +24,7 @@ use Rattle.token_manager.specs.Transition.{Done, ask_of, applied_upto, with_delt
 use Rattle.token_manager.specs.Laws.{Has, HasOneOwner, after_all}
 use Rattle.token_manager.proofs.Cases.{by_want, by_gave, by_deltas, by_finished_at}
 
-holder_cmp_exact : CmpEqualImpliesEq holder_cmp
+pub holder_cmp_exact : CmpEqualImpliesEq holder_cmp
 holder_cmp_exact a b h = ap (λ (p : BlockId × ℕ). record { block = p.0; client = p.1 }) (exact_pairs block_cmp nat_cmp block_cmp_exact exact_unsigned (a.block, a.client) (b.block, b.client) h)
 
 -- ---- what a table has after a change

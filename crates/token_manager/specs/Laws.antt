@@ -1,15 +1,21 @@
 -- What the laws of a slot say.
-use Rattle.std.specs.Prelude.{◌≡◌, ℕ, ◌+◌, Bool, true, List, [], ◌∷◌, ◌⊎◌, ⊤}
+use Rattle.std.specs.Prelude.{◌≡◌, ℕ, ◌+◌, ◌<◌, ◌≤◌, Bool, true, List, [], ◌∷◌, ◌⊎◌, Option, Some, None, ⊤, if◌then◌else◌}
+use Rattle.std.specs.Map.{lookup}
+use Rattle.std.specs.BTreeMap.{is_at}
 use Rattle.xfs_base.specs.Steps.{steps}
 use Rattle.xfs_base.specs.declared.block.BlockId.{BlockId}
 use Rattle.token_manager.specs.declared.job.Holder.{Holder}
+use Rattle.xfs_base.specs.declared.token.Mode.{Mode}
+use Rattle.token_manager.specs.declared.job.Awaited.{Awaited}
+use Rattle.token_manager.specs.declared.job.Job.{Job}
 use Rattle.token_manager.specs.declared.told.Out.{Out}
 use Rattle.token_manager.specs.declared.told.Out.TheVariants.{Grant, Forward, Recall, Applied, Live, Dead}
 use Rattle.token_manager.specs.declared.told.In.{In}
 use Rattle.token_manager.specs.declared.told.In.TheVariants.{Want, Gave, Deltas, Check, Tick}
+use Rattle.token_manager.specs.Beliefs.{holder_cmp, holder, is_own}
 use Rattle.token_manager.specs.Recalls.{stamp}
 use Rattle.token_manager.specs.SlotState.{SlotState}
-use Rattle.token_manager.specs.Transition.{step}
+use Rattle.token_manager.specs.Transition.{job_at, step}
 
 -- the state after any inputs, in order
 abbrev pub after_all : SlotState → List In → SlotState
@@ -51,3 +57,33 @@ Gives b (Recall client block at keep ∷ outs) = Gives b outs
 Gives b (Applied log upto ∷ outs) = Gives b outs
 Gives b (Live entry ∷ outs) = Gives b outs
 Gives b (Dead ∷ outs) = Gives b outs
+
+-- what a client is believed to have of a block: 0 nothing, 1 a copy, 2 the block
+abbrev pub rank : Option Bool → ℕ
+rank None = 0
+rank (Some owns) = if owns then 2 else 1
+
+abbrev pub rank_of : List (Holder × Bool) → BlockId → ℕ → ℕ
+rank_of beliefs block client = rank (lookup (is_at (holder_cmp (holder block client))) beliefs)
+
+-- no other client is believed to have anything of a block that one is believed to own
+abbrev pub OwnsAlone : List (Holder × Bool) → Type 0
+OwnsAlone beliefs = (block : BlockId) (client other : ℕ) → (client ≡ other → ⊥) → rank_of beliefs block client + rank_of beliefs block other ≤ 2
+
+-- what a want asks for: 1 a copy, 2 the block
+abbrev pub wanted : Mode → ℕ
+wanted mode = if is_own mode then 2 else 1
+
+-- an unanswered recall to the client
+abbrev pub Awaits : List Awaited → ℕ → Type 0
+Awaits [] client = ⊥
+Awaits (a ∷ rest) client = ((a.client ≡ client) × (a.end ≡ None)) ⊎ Awaits rest client
+
+-- each other client that has more than what the want leaves to others has an unanswered recall
+abbrev pub AwaitsAll : List (Holder × Bool) → Job → Type 0
+AwaitsAll beliefs job = (client : ℕ) → (client ≡ job.ask.client → ⊥) → 2 < rank_of beliefs job.ask.block client + wanted job.ask.mode → Awaits job.awaited client
+
+-- owners are alone, and each want that waits awaits all who must give way
+pub record IsGuarded (s : SlotState) : Type 0 where
+  pub alone : OwnsAlone s.beliefs
+  pub awaits : (block : BlockId) (job : Job) → job_at s.jobs block ≡ Some job → AwaitsAll s.beliefs job

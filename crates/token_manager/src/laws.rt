@@ -9,7 +9,7 @@ ghost use Rattle.token_manager.specs.Index.{IsCounted};
 ghost use Rattle.token_manager.specs.Recalls.{applied_of};
 ghost use Rattle.token_manager.specs.SlotState.{SlotState};
 ghost use Rattle.token_manager.specs.Transition.{started, job_at, step};
-ghost use Rattle.token_manager.specs.Laws.{after_all, TakesTurns, IsNews, HasOneOwner, Gives};
+ghost use Rattle.token_manager.specs.Laws.{after_all, TakesTurns, IsNews, HasOneOwner, Gives, OwnsAlone, IsGuarded};
 
 /// Whatever a slot took, the live blocks that it counts in each segment are those that a count from
 /// scratch over the places of its index gives.
@@ -42,4 +42,12 @@ pub fn waiting_bars_grants()
     ensures { (epoch : ℕ) (index : List (BlockId × Entry)) (beliefs : List (BlockId × ℕ × Mode)) (applied : List ℕ) (inputs : List In) (input : In) (block : BlockId)
         → Gives block (step (after_all (started epoch index beliefs applied) inputs) input).outs
         → job_at (step (after_all (started epoch index beliefs applied) inputs) input).state.jobs block ≡ None }
+{}
+
+/// Where owners are alone at the start, they are alone for ever: whoever is believed to own a block is the
+/// only one that is believed to have anything of it. And each want that waits awaits an answer from every
+/// other client that must give way to it: from the owner, or where the asker wants to write, from all.
+pub fn owners_are_alone()
+    ensures { (epoch : ℕ) (index : List (BlockId × Entry)) (beliefs : List (BlockId × ℕ × Mode)) (applied : List ℕ) (inputs : List In)
+        → OwnsAlone (started epoch index beliefs applied).beliefs → IsGuarded (after_all (started epoch index beliefs applied) inputs) }
 {}

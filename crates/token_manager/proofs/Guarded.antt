@@ -1,0 +1,340 @@
+-- Owners are alone, and each want that waits awaits all who must give way: every input keeps this.
+use Rattle.std.proofs.Common.{◌≡◌, ℕ, ◌+◌, ◌≤◌, ◌<◌, ◌==◌, ◌&&◌, Bool, true, false, cond, not, nat_lt, length, List, [], ◌∷◌, ◌⊎◌, inl, inr, ⊎_elim, Option, Some, None, is_some, unwrap_or, refl, sym, ap, subst, ◌∙◌, arith}
+use Rattle.std.specs.declared.cmp.Ordering.TheVariants.{Less}
+use Rattle.std.specs.Ordering.{eq_by_cmp, is_eq}
+use Rattle.std.specs.List.{filter, AllByRecursion}
+use Rattle.std.specs.List.Sorted.{IsStrictlySortedBy}
+use Rattle.std.specs.Map.{keys_of, set_value}
+use Rattle.std.specs.BTreeMap.{is_at, insert_entry}
+use Rattle.std.proofs.lemmas.Bool.{false≢true}
+use Rattle.std.proofs.lemmas.Bool.Decides.{nat_tests}
+use Rattle.std.proofs.lemmas.Map.{keys-set_value}
+use Rattle.std.proofs.lemmas.Map.Views.{tells_apart}
+use Rattle.xfs_base.specs.declared.block.BlockId.{BlockId}
+use Rattle.xfs_base.specs.declared.entry.Entry.{Entry}
+use Rattle.xfs_base.specs.declared.token.Mode.{Mode}
+use Rattle.xfs_base.specs.declared.token.Stamp.{Stamp}
+use Rattle.xfs_base.specs.Blocks.{block_cmp, same_block}
+use Rattle.xfs_base.specs.Steps.{steps}
+use Rattle.xfs_base.proofs.BlockOrder.{block_cmp_total, block_cmp_exact, lookup-insert_entry}
+use Rattle.xfs_base.proofs.StepLoops.{steps_keep}
+use Rattle.usage_table.proofs.Sorted.{sorted_insert, sorted_remove}
+use Rattle.token_manager.specs.declared.job.Holder.{Holder}
+use Rattle.token_manager.specs.declared.job.Ask.{Ask}
+use Rattle.token_manager.specs.declared.job.Job.{Job}
+use Rattle.token_manager.specs.declared.job.Awaited.{Awaited}
+use Rattle.token_manager.specs.declared.told.In.{In}
+use Rattle.token_manager.specs.declared.told.In.TheVariants.{Want, Gave, Deltas, Check, Tick}
+use Rattle.token_manager.specs.Beliefs.{holder_cmp, holder, is_own, is_nothing, without_block, owned_by, held_by, after_ask, given_up, believed, all_believed}
+use Rattle.token_manager.specs.Recalls.{recalls, is_answered, noted, is_applied, is_ready, ready_blocks}
+use Rattle.token_manager.specs.SlotState.{SlotState}
+use Rattle.token_manager.specs.Transition.{started, job_at, without_job, ask_of, finished, given, applied_upto, with_deltas, finished_at, step}
+use Rattle.token_manager.specs.Laws.{Has, rank, rank_of, wanted, OwnsAlone, Awaits, AwaitsAll, IsGuarded, after_all}
+use Rattle.token_manager.proofs.Cases.{recalled_from, by_want, all_given, by_gave, by_deltas, let_go, by_finished_at}
+use Rattle.token_manager.proofs.OneOwner.{holder_cmp_exact}
+use Rattle.token_manager.proofs.Ranks.{holder_cmp_total, holder_laws, belief, least, asker, less, kept, found_by}
+use Rattle.token_manager.proofs.JobsBarGrants.{Waiting, block_laws, after_removal, was_there, gone, waiting-removed, waiting-put, nobody_waits, not_waiting}
+
+-- ---- the beliefs stay in order
+
+abbrev IsInOrder : List (Holder × Bool) → Type 0
+IsInOrder bs = IsStrictlySortedBy holder_cmp (keys_of bs)
+
+below_filter : (h : Holder) (p : Holder × Bool → Bool) (es : List (Holder × Bool)) → AllByRecursion (λ y. holder_cmp h y ≡ Less) (keys_of es) → AllByRecursion (λ y. holder_cmp h y ≡ Less) (keys_of (filter p es))
+below_filter h p [] below = below
+below_filter h p (e ∷ es) below =
+    elim (p e) as (λ t. AllByRecursion (λ y. holder_cmp h y ≡ Less) (keys_of (cond t (e ∷ filter p es) (filter p es)))) [ true ↦ (below.0, below_filter h p es below.1) | false ↦ below_filter h p es below.1 ]
+
+sorted_filter : (p : Holder × Bool → Bool) (es : List (Holder × Bool)) → IsStrictlySortedBy holder_cmp (keys_of es) → IsStrictlySortedBy holder_cmp (keys_of (filter p es))
+unfolding IsStrictlySortedBy
+sorted_filter p [] sorted = sorted
+sorted_filter p (e ∷ es) sorted =
+    elim (p e) as (λ t. IsStrictlySortedBy holder_cmp (keys_of (cond t (e ∷ filter p es) (filter p es)))) [ true ↦ (below_filter e.0 p es sorted.0, sorted_filter p es sorted.1) | false ↦ sorted_filter p es sorted.1 ]
+
+sorted-put : (bs : List (Holder × Bool)) (h : Holder) (owns : Bool) → IsInOrder bs → IsInOrder (insert_entry holder_cmp bs h owns)
+sorted-put bs h owns sorted = sorted_insert holder_cmp holder_cmp_total h owns bs sorted
+
+sorted-after_ask : (bs : List (Holder × Bool)) (ask : Ask) → IsInOrder bs → IsInOrder (after_ask bs ask)
+sorted-after_ask bs ask sorted =
+    let h = holder ask.block ask.client in
+    elim (is_own ask.mode) as (λ t. IsInOrder (cond t (owned_by bs h) (held_by bs h))) [
+      | true ↦ sorted-put (without_block bs h.block) h true (sorted_filter (λ b. not (same_block b.0.block h.block)) bs sorted)
+      | false ↦ elim (is_some (belief bs h)) as (λ t. IsInOrder (cond t bs (insert_entry holder_cmp bs h false))) [ true ↦ sorted | false ↦ sorted-put bs h false sorted ]
+    ]
+
+sorted-given_up : (bs : List (Holder × Bool)) (h : Holder) (keep : Bool) → IsInOrder bs → IsInOrder (given_up bs h keep)
+sorted-given_up bs h true sorted =
+    elim (is_some (belief bs h)) as (λ t. IsInOrder (cond t (set_value (is_at (holder_cmp h)) bs false) bs)) [
+      | true ↦ subst (IsStrictlySortedBy holder_cmp) (sym (keys-set_value (is_at (holder_cmp h)) bs false)) sorted
+      | false ↦ sorted
+    ]
+sorted-given_up bs h false sorted = sorted_remove holder_cmp (is_at (holder_cmp h)) bs sorted
+
+sorted-all : (bs : List (Holder × Bool)) (list : List (BlockId × ℕ × Mode)) → IsInOrder bs → IsInOrder (all_believed bs list)
+unfolding believed
+sorted-all bs [] sorted = sorted
+sorted-all bs (b ∷ list) sorted =
+    sorted-all (believed bs b) list (elim (is_nothing b.2) as (λ t. IsInOrder (cond t bs (insert_entry holder_cmp bs (holder b.0 b.1) (is_own b.2)))) [ true ↦ sorted | false ↦ sorted-put bs (holder b.0 b.1) (is_own b.2) sorted ])
+
+-- ---- owners stay alone
+
+decided : (q h : Holder) → (q ≡ h) ⊎ ((q ≡ h) → ⊥)
+decided q h =
+    elim (eq_by_cmp holder_cmp q h) as (λ t. eq_by_cmp holder_cmp q h ≡ t → (q ≡ h) ⊎ ((q ≡ h) → ⊥)) [
+      | true ↦ λ same. inl (tells_apart holder_cmp_exact q h same)
+      | false ↦ λ apart. inr (λ p. false≢true (sym apart ∙ subst (λ x. eq_by_cmp holder_cmp q x ≡ true) p (holder_laws.refl q)))
+    ] refl
+
+with_asker : (mine was other before want : ℕ) → (mine ≤ want) ⊎ (mine ≤ was) → other ≤ before → before + want ≤ 2 → was + before ≤ 2 → mine + other ≤ 2
+with_asker mine was other before want (inl a) b c d = omega arith
+with_asker mine was other before want (inr a) b c d = omega arith
+
+-- the others leave the asker what it wants
+abbrev LeavesRoom : List (Holder × Bool) → Ask → Type 0
+LeavesRoom bs ask = (c : ℕ) → (c ≡ ask.client → ⊥) → rank_of bs ask.block c + wanted ask.mode ≤ 2
+
+alone-asker : (bs : List (Holder × Bool)) (ask : Ask) (block : BlockId) (c d : ℕ) → OwnsAlone bs → LeavesRoom bs ask → (c ≡ d → ⊥) → holder block c ≡ holder ask.block ask.client → rank_of (after_ask bs ask) block c + rank_of (after_ask bs ask) block d ≤ 2
+alone-asker bs ask block c d alone room apart p =
+    let same : block ≡ ask.block = ap (λ (h : Holder). h.block) p in
+    let me : c ≡ ask.client = ap (λ (h : Holder). h.client) p in
+    let mine : (rank_of (after_ask bs ask) block c ≤ wanted ask.mode) ⊎ (rank_of (after_ask bs ask) block c ≤ rank_of bs block c) = subst (λ h. (rank (belief (after_ask bs ask) h) ≤ wanted ask.mode) ⊎ (rank (belief (after_ask bs ask) h) ≤ rank (belief bs h))) (sym p) (asker bs ask) in
+    with_asker (rank_of (after_ask bs ask) block c) (rank_of bs block c) (rank_of (after_ask bs ask) block d) (rank_of bs block d) (wanted ask.mode) mine
+    (least bs ask (holder block d) (λ q. apart (me ∙ sym (ap (λ (h : Holder). h.client) q))))
+    (subst (λ b. rank_of bs b d + wanted ask.mode ≤ 2) (sym same) (room d (λ e. apart (me ∙ sym e))))
+    (alone block c d apart)
+
+swapped : (m n : ℕ) → m + n ≤ 2 → n + m ≤ 2
+swapped m n h = omega arith
+
+both_less : (m' n' m n : ℕ) → m' ≤ m → n' ≤ n → m + n ≤ 2 → m' + n' ≤ 2
+both_less m' n' m n a b c = omega arith
+
+alone-after_ask : (bs : List (Holder × Bool)) (ask : Ask) → OwnsAlone bs → LeavesRoom bs ask → OwnsAlone (after_ask bs ask)
+alone-after_ask bs ask alone room block c d apart =
+    let h = holder ask.block ask.client in
+    ⊎_elim
+    (λ p. alone-asker bs ask block c d alone room apart p)
+    (λ c_apart. ⊎_elim
+    (λ q. swapped (rank_of (after_ask bs ask) block d) (rank_of (after_ask bs ask) block c) (alone-asker bs ask block d c alone room (λ e. apart (sym e)) q))
+    (λ d_apart. both_less _ _ (rank_of bs block c) (rank_of bs block d) (least bs ask (holder block c) c_apart) (least bs ask (holder block d) d_apart) (alone block c d apart))
+    (decided (holder block d) h))
+    (decided (holder block c) h)
+
+-- ---- what is awaited
+
+awaits-recalls : (epoch turn : ℕ) (keep : Bool) (cs : List ℕ) (c : ℕ) → Has cs c → Awaits (recalls epoch turn keep cs) c
+awaits-recalls epoch turn keep [] c has = has
+awaits-recalls epoch turn keep (x ∷ xs) c has = ⊎_elim (λ p. inl (p, refl)) (λ r. inr (awaits-recalls epoch (turn + 1) keep xs c r)) has
+
+and_left : (b c : Bool) → b && c ≡ true → b ≡ true
+and_left true c h = refl
+and_left false c h = absurd (cc)
+
+and_right : (b c : Bool) → b && c ≡ true → c ≡ true
+and_right true c h = h
+and_right false c h = absurd (cc)
+
+equal_numbers : (c d : ℕ) → (c == d) ≡ true → c ≡ d
+equal_numbers c d same = grind (arith, nat_tests)
+
+-- an answer notes no recall of another client
+awaits-noted : (awaited : List Awaited) (client : ℕ) (stamp : Stamp) (end c : ℕ) → (c ≡ client → ⊥) → Awaits awaited c → Awaits (noted awaited client stamp end) c
+awaits-noted [] client stamp end c apart waits = waits
+awaits-noted (a ∷ rest) client stamp end c apart waits =
+    ⊎_elim
+    (λ here. inl (elim (is_answered client stamp a) as (λ t. is_answered client stamp a ≡ t → ((cond t (record a { end = Some end }) a).client ≡ c) × ((cond t (record a { end = Some end }) a).end ≡ None)) [
+      | true ↦ λ answered. absurd (apart (sym here.0 ∙ equal_numbers a.client client (of_client answered)))
+      | false ↦ λ _. here
+    ] refl))
+    (λ there. inr (awaits-noted rest client stamp end c apart there))
+    waits
+  where
+    of_client : is_answered client stamp a ≡ true → (a.client == client) ≡ true
+    of_client answered = grind (arith, nat_tests)
+
+-- nothing is awaited by a want that need wait no longer
+ready_none : (applied : List ℕ) (awaited : List Awaited) (c : ℕ) → is_ready applied awaited ≡ true → Awaits awaited c → ⊥
+ready_none applied [] c ready waits = waits
+ready_none applied (a ∷ rest) c ready waits =
+    ⊎_elim
+    (λ here. false≢true (subst (λ e. is_applied applied a.client e ≡ true) here.1 (and_left (is_applied applied a.client a.end) (is_ready applied rest) ready)))
+    (ready_none applied rest c (and_right (is_applied applied a.client a.end) (is_ready applied rest) ready))
+    waits
+
+not_more : (n : ℕ) → (2 < n → ⊥) → n ≤ 2
+not_more n most = elim (nat_lt 2 n) as (λ t. nat_lt 2 n ≡ t → n ≤ 2) [ true ↦ λ more. absurd (most (grind (arith, nat_tests))) | false ↦ λ _. grind (arith, nat_tests) ] refl
+
+no_first : (cs : List ℕ) (c : ℕ) → (length cs == 0) ≡ true → Has cs c → ⊥
+no_first [] c none has = has
+no_first (x ∷ xs) c none has = let zero_long : length (x ∷ xs) ≡ 0 = equal_numbers (length (x ∷ xs)) 0 none in absurd (omega arith)
+
+more_before : (r' r w : ℕ) → r' ≤ r → 2 < r' + w → 2 < r + w
+more_before r' r w less more = omega arith
+
+awaits-less : (bs bs' : List (Holder × Bool)) (job : Job) → ((c : ℕ) → rank_of bs' job.ask.block c ≤ rank_of bs job.ask.block c) → AwaitsAll bs job → AwaitsAll bs' job
+awaits-less bs bs' job lower all c apart more = all c apart (more_before (rank_of bs' job.ask.block c) (rank_of bs job.ask.block c) (wanted job.ask.mode) (lower c) more)
+
+-- ---- the state
+
+record Sound (s : SlotState) : Type 0 where
+  sorted : IsStrictlySortedBy holder_cmp (keys_of s.beliefs)
+  waiting : Waiting s.jobs
+  alone : OwnsAlone s.beliefs
+  awaits : (block : BlockId) (job : Job) → job_at s.jobs block ≡ Some job → AwaitsAll s.beliefs job
+
+sound-finished : (s : SlotState) (ask : Ask) → Sound s → job_at s.jobs ask.block ≡ None → LeavesRoom s.beliefs ask → Sound (finished s ask).state
+sound-finished s ask sound none room = record {
+  sorted = sorted-after_ask s.beliefs ask sound.sorted;
+  waiting = sound.waiting;
+  alone = alone-after_ask s.beliefs ask sound.alone room;
+  awaits = λ block job is. awaits-less s.beliefs (after_ask s.beliefs ask) job (λ c. least s.beliefs ask (holder job.ask.block c) (λ p. other_block block job is (ap (λ (h : Holder). h.block) p))) (sound.awaits block job is);
+}
+  where
+    other_block : (block : BlockId) (job : Job) → job_at s.jobs block ≡ Some job → job.ask.block ≡ ask.block → ⊥
+    other_block block job is same =
+        let here : job_at s.jobs ask.block ≡ Some job = subst (λ b. job_at s.jobs b ≡ Some job) (sym (sound.waiting.own block job is) ∙ same) is in
+        let clash : None ≡ Some job = sym none ∙ here in
+        absurd (cc)
+
+-- a want comes to wait, or waits on
+sound-put : (s : SlotState) (block : BlockId) (job : Job) (turn : ℕ) → job.ask.block ≡ block → AwaitsAll s.beliefs job → Sound s → Sound (record s { jobs = insert_entry block_cmp s.jobs block job; turn = turn })
+sound-put s block job turn mine all sound = record {
+  sorted = sound.sorted;
+  waiting = waiting-put s.jobs block job mine sound.waiting;
+  alone = sound.alone;
+  awaits = λ b found is. at (eq_by_cmp block_cmp b block) b found (sym (lookup-insert_entry block_cmp_total b block job s.jobs) ∙ is);
+}
+  where
+    at : (t : Bool) (b : BlockId) (found : Job) → cond t (Some job) (job_at s.jobs b) ≡ Some found → AwaitsAll s.beliefs found
+    at true b found is = subst (AwaitsAll s.beliefs) (ap (λ (o : Option Job). unwrap_or o job) is) all
+    at false b found is = sound.awaits b found is
+
+-- a want no longer waits
+sound-let_go : (s : SlotState) (block : BlockId) → Sound s → Sound (let_go s block)
+sound-let_go s block sound = record {
+  sorted = sound.sorted;
+  waiting = waiting-removed s.jobs block sound.waiting;
+  alone = sound.alone;
+  awaits = λ b job is. sound.awaits b job (was_there (eq_by_cmp block_cmp block b) (job_at s.jobs b) job (sym (after_removal s.jobs block b sound.waiting.sorted) ∙ is));
+}
+
+-- a client gave a block up
+sound-given : (s : SlotState) (ask : Ask) (client : ℕ) (block : BlockId) → Sound s → Sound (given s ask client block)
+sound-given s ask client block sound =
+    let h = holder block client in
+    let keep = not (is_own ask.mode) in
+    record {
+      sorted = sorted-given_up s.beliefs h keep sound.sorted;
+      waiting = sound.waiting;
+      alone = λ b c d apart. both_less _ _ (rank_of s.beliefs b c) (rank_of s.beliefs b d) (less s.beliefs h (holder b c) keep sound.sorted) (less s.beliefs h (holder b d) keep sound.sorted) (sound.alone b c d apart);
+      awaits = λ b job is. awaits-less s.beliefs (given_up s.beliefs h keep) job (λ c. less s.beliefs h (holder job.ask.block c) keep sound.sorted) (sound.awaits b job is);
+    }
+
+-- after the answer the others are still awaited
+awaits-given : (s : SlotState) (job : Job) (client : ℕ) (block : BlockId) (stamp : Stamp) (end : ℕ) → Sound s → job_at s.jobs block ≡ Some job
+    → AwaitsAll (given s job.ask client block).beliefs (record { ask = job.ask; awaited = noted job.awaited client stamp end })
+awaits-given s job client block stamp end sound is c apart more =
+    let h = holder block client in
+    let mine : job.ask.block ≡ block = sound.waiting.own block job is in
+    let left : rank_of (given s job.ask client block).beliefs block client + wanted job.ask.mode ≤ 2 = kept s.beliefs h job.ask.mode sound.sorted in
+    let other : c ≡ client → ⊥ = λ same. clash (rank_of (given s job.ask client block).beliefs job.ask.block c + wanted job.ask.mode) more (subst (λ b. rank_of (given s job.ask client block).beliefs b c + wanted job.ask.mode ≤ 2) (sym mine) (subst (λ x. rank_of (given s job.ask client block).beliefs block x + wanted job.ask.mode ≤ 2) (sym same) left)) in
+    awaits-noted job.awaited client stamp end c other (awaits-less s.beliefs (given s job.ask client block).beliefs job (λ x. less s.beliefs h (holder job.ask.block x) (not (is_own job.ask.mode)) sound.sorted) (sound.awaits block job is) c apart more)
+  where
+    clash : (n : ℕ) → 2 < n → n ≤ 2 → ⊥
+    clash n more most = omega arith
+
+-- who is not awaited leaves room
+leaves_room : (bs : List (Holder × Bool)) (applied : List ℕ) (job : Job) → AwaitsAll bs job → is_ready applied job.awaited ≡ true → LeavesRoom bs job.ask
+leaves_room bs applied job all ready c apart = not_more _ (λ more. ready_none applied job.awaited c ready (all c apart more))
+
+-- ---- deltas
+
+-- each of these blocks for which a want waits has one that need wait no longer
+abbrev ReadyAt : List (BlockId × Job) → List ℕ → List BlockId → Type 0
+ReadyAt jobs applied blocks = (block : BlockId) → Has blocks block → (job : Job) → job_at jobs block ≡ Some job → is_ready applied job.awaited ≡ true
+
+has_key : (jobs : List (BlockId × Job)) (applied : List ℕ) (block : BlockId) → Has (ready_blocks jobs applied) block → Has (keys_of jobs) block
+has_key [] applied block = λ has. has
+has_key (e ∷ es) applied block =
+    elim (is_ready applied e.1.awaited) as (λ t. Has (cond t (e.0 ∷ ready_blocks es applied) (ready_blocks es applied)) block → Has (keys_of (e ∷ es)) block) [
+      | true ↦ λ has. ⊎_elim inl (λ r. inr (has_key es applied block r)) has
+      | false ↦ λ has. inr (has_key es applied block has)
+    ]
+
+below_has : (first block : BlockId) (ks : List BlockId) → AllByRecursion (λ y. block_cmp first y ≡ Less) ks → Has ks block → block_cmp first block ≡ Less
+below_has first block [] below has = absurd has
+below_has first block (k ∷ ks) below has = ⊎_elim (λ p. subst (λ x. block_cmp first x ≡ Less) p below.0) (below_has first block ks below.1) has
+
+-- a block above the first is not the first
+not_first : (first block : BlockId) → is_at (block_cmp block) first ≡ true → block_cmp first block ≡ Less → ⊥
+not_first first block same below =
+    let one : block ≡ first = tells_apart block_cmp_exact block first same in
+    let itself : is_eq (block_cmp first block) ≡ true = subst (λ x. is_eq (block_cmp first x) ≡ true) (sym one) (block_laws.refl first) in
+    false≢true (sym (ap is_eq below) ∙ itself)
+
+ready_finds : (jobs : List (BlockId × Job)) (applied : List ℕ) → IsStrictlySortedBy block_cmp (keys_of jobs) → ReadyAt jobs applied (ready_blocks jobs applied)
+unfolding IsStrictlySortedBy
+ready_finds [] applied sorted block has job is = absurd has
+ready_finds (e ∷ es) applied sorted block has job is =
+    at (is_at (block_cmp block) e.0) refl is (is_ready applied e.1.awaited) refl has (λ h j. ready_finds es applied sorted.1 block h job j)
+  where
+    at : (t : Bool) → is_at (block_cmp block) e.0 ≡ t → cond t (Some e.1) (job_at es block) ≡ Some job → (r : Bool) → is_ready applied e.1.awaited ≡ r → Has (cond r (e.0 ∷ ready_blocks es applied) (ready_blocks es applied)) block
+        → (Has (ready_blocks es applied) block → job_at es block ≡ Some job → is_ready applied job.awaited ≡ true) → is_ready applied job.awaited ≡ true
+    at true same found true ready h rest = subst (λ (j : Job). is_ready applied j.awaited ≡ true) (ap (λ (o : Option Job). unwrap_or o job) found) ready
+    at true same found false ready h rest = absurd (not_first e.0 block same (below_has e.0 block (keys_of es) sorted.0 (has_key es applied block h)))
+    at false apart found true ready h rest = ⊎_elim (λ p. absurd (false≢true (sym apart ∙ subst (λ x. is_at (block_cmp block) x ≡ true) (sym p) (block_laws.refl block)))) (λ h. rest h found) h
+    at false apart found false ready h rest = rest h found
+
+sound-answered : (s : SlotState) (applied : List ℕ) (block : BlockId) (job : Job) → Sound s → job_at s.jobs block ≡ Some job → is_ready applied job.awaited ≡ true → Sound (finished (let_go s block) job.ask).state
+sound-answered s applied block job sound is ready =
+    sound-finished (let_go s block) job.ask (sound-let_go s block sound)
+    (subst (λ x. job_at (without_job s.jobs block) x ≡ None) (sym (sound.waiting.own block job is)) (gone s.jobs block sound.waiting.sorted))
+    (leaves_room s.beliefs applied job (sound.awaits block job is) ready)
+
+jobs_fewer : (s : SlotState) (block b : BlockId) (job : Job) → Waiting s.jobs → job_at (finished_at s block).state.jobs b ≡ Some job → job_at s.jobs b ≡ Some job
+jobs_fewer s block b job w = by_finished_at (λ r. job_at r.state.jobs b ≡ Some job → job_at s.jobs b ≡ Some job) s block (λ is. is)
+    (λ _ _ is. was_there (eq_by_cmp block_cmp block b) (job_at s.jobs b) job (sym (after_removal s.jobs block b w.sorted) ∙ is))
+
+sound-steps : (s : SlotState) (applied : List ℕ) (blocks : List BlockId) → Sound s → ReadyAt s.jobs applied blocks → Sound (steps finished_at s blocks).state
+sound-steps s applied [] sound ready = sound
+sound-steps s applied (b ∷ bs) sound ready =
+    let one : Sound (finished_at s b).state = by_finished_at (λ r. Sound r.state) s b sound (λ job is. sound-answered s applied b job sound is (ready b (inl refl) job is)) in
+    sound-steps (finished_at s b).state applied bs one (λ block has job is. ready block (inr has) job (jobs_fewer s b block job sound.waiting is))
+
+-- ---- the inputs
+
+sound-step : (s : SlotState) (input : In) → Sound s → Sound (step s input).state
+sound-step s (Want client inc req again block mode end) sound =
+    let ask = ask_of client inc req again block mode in
+    by_want (λ r. Sound r.state) s ask end sound
+    (λ going none. sound-finished s ask sound (not_waiting (job_at s.jobs block) _ _ going) (λ c apart. not_more _ (λ more. no_first (recalled_from s ask) c none (found_by s.beliefs ask c apart more))))
+    (λ _. sound-put s block (record { ask = ask; awaited = recalls s.epoch s.turn (not (is_own mode)) (recalled_from s ask) }) (s.turn + length (recalled_from s ask)) refl
+    (λ c apart more. awaits-recalls s.epoch s.turn (not (is_own mode)) (recalled_from s ask) c (found_by s.beliefs ask c apart more)) sound)
+sound-step s (Gave client block stamp end) sound =
+    by_gave (λ r. Sound r.state) s client block stamp end sound
+    (λ job is ready. sound-finished (all_given s client block job.ask) job.ask (sound-let_go (given s job.ask client block) block (sound-given s job.ask client block sound))
+    (subst (λ x. job_at (without_job s.jobs block) x ≡ None) (sym (sound.waiting.own block job is)) (gone s.jobs block sound.waiting.sorted))
+    (leaves_room (given s job.ask client block).beliefs s.applied (record { ask = job.ask; awaited = noted job.awaited client stamp end }) (awaits-given s job client block stamp end sound is) ready))
+    (λ job is. sound-put (given s job.ask client block) block (record { ask = job.ask; awaited = noted job.awaited client stamp end }) s.turn (sound.waiting.own block job is) (awaits-given s job client block stamp end sound is) (sound-given s job.ask client block sound))
+sound-step s (Deltas log first upto rows) sound =
+    by_deltas (λ r. Sound r.state) s log first upto rows sound sound
+    (λ _. sound-steps (with_deltas s log upto rows) (applied_upto s.applied log upto) (ready_blocks s.jobs (applied_upto s.applied log upto))
+    (record { sorted = sound.sorted; waiting = sound.waiting; alone = sound.alone; awaits = sound.awaits })
+    (ready_finds s.jobs (applied_upto s.applied log upto) sound.waiting.sorted))
+sound-step s (Check block place) sound = sound
+sound-step s Tick sound = sound
+
+no_beliefs : IsStrictlySortedBy holder_cmp []
+unfolding IsStrictlySortedBy
+no_beliefs = tt
+
+pub guarded-all : (epoch : ℕ) (index : List (BlockId × Entry)) (beliefs : List (BlockId × ℕ × Mode)) (applied : List ℕ) (inputs : List In) → OwnsAlone (started epoch index beliefs applied).beliefs → IsGuarded (after_all (started epoch index beliefs applied) inputs)
+guarded-all epoch index beliefs applied inputs alone =
+    let first : Sound (started epoch index beliefs applied) = record {
+      sorted = sorted-all [] beliefs no_beliefs;
+      waiting = nobody_waits;
+      alone = alone;
+      awaits = λ block job is. absurd (cc);
+    } in
+    let last : Sound (after_all (started epoch index beliefs applied) inputs) = steps_keep step Sound sound-step (started epoch index beliefs applied) inputs first in
+    record { alone = last.alone; awaits = last.awaits }

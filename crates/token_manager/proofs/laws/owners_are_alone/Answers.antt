@@ -1,0 +1,5 @@
+use Rattle.token_manager.proofs.Guarded.{guarded-all}
+use Rattle.token_manager.proofs.laws.owners_are_alone.Goals as goal
+
+pub returns : goal.returns
+returns c = guarded-all
