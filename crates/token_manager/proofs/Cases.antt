@@ -52,6 +52,24 @@ by_gave Q s client block stamp end same done noted_ = by_job (job_at s.jobs bloc
         (λ _. noted_ job is))
         (λ _. same)
 
+-- the same, with the recall that is answered
+pub by_gave_answered : (Q : Done → Type 0) (s : SlotState) (client : ℕ) (block : BlockId) (stamp : Stamp) (end : ℕ) → Q (still s)
+    → ((job : Job) → job_at s.jobs block ≡ Some job → list_any (is_answered client stamp) job.awaited ≡ true → Q (finished (all_given s client block job.ask) job.ask))
+    → ((job : Job) → job_at s.jobs block ≡ Some job → list_any (is_answered client stamp) job.awaited ≡ true → Q (still (gave_one s client block job.ask (noted job.awaited client stamp end))))
+    → Q (gave s client block stamp end)
+unfolding gave_noted
+by_gave_answered Q s client block stamp end same done noted_ = by_job (job_at s.jobs block) refl
+  where
+    by_job : (o : Option Job) → job_at s.jobs block ≡ o → Q (gave_job s client block stamp end o)
+    by_job None is = same
+    by_job (Some job) is =
+        let awaited = noted job.awaited client stamp end in
+        choose Q (list_any (is_answered client stamp) job.awaited) (gave_noted s client block job.ask awaited) (still s)
+        (λ any. choose Q (is_ready s.applied awaited) (gave_last s client block job.ask) (still (gave_one s client block job.ask awaited))
+        (λ _. choose Q (has_turns s.turn 1) (finished (all_given s client block job.ask) job.ask) (still s) (λ _. done job is any) (λ _. same))
+        (λ _. noted_ job is any))
+        (λ _. same)
+
 pub by_deltas : (Q : Done → Type 0) (s : SlotState) (log : LogId) (first upto : ℕ) (rows : List (BlockId × Entry)) → Q (still s) → Q (told_applied s log)
     → (joins_on (applied_of s.applied log.0) first upto ≡ true → Q (apply s log upto rows)) → Q (deltas s log first upto rows)
 by_deltas Q s log first upto rows same told done =

@@ -1,4 +1,5 @@
 -- Owners are alone, and each want that waits awaits all who must give way: every input keeps this.
+-- Besides, the beliefs and the wants stand in order.
 use Rattle.std.proofs.Common.{◌≡◌, ℕ, ◌+◌, ◌≤◌, ◌<◌, ◌==◌, ◌&&◌, Bool, true, false, cond, not, nat_lt, length, List, [], ◌∷◌, ◌⊎◌, inl, inr, ⊎_elim, Option, Some, None, is_some, unwrap_or, refl, sym, ap, subst, ◌∙◌, arith}
 use Rattle.std.specs.declared.cmp.Ordering.TheVariants.{Less}
 use Rattle.std.specs.Ordering.{eq_by_cmp, is_eq}
@@ -17,7 +18,6 @@ use Rattle.xfs_base.specs.declared.token.Stamp.{Stamp}
 use Rattle.xfs_base.specs.Blocks.{block_cmp, same_block}
 use Rattle.xfs_base.specs.Steps.{steps}
 use Rattle.xfs_base.proofs.BlockOrder.{block_cmp_total, block_cmp_exact, lookup-insert_entry}
-use Rattle.xfs_base.proofs.StepLoops.{steps_keep}
 use Rattle.usage_table.proofs.Sorted.{sorted_insert, sorted_remove}
 use Rattle.token_manager.specs.declared.job.Holder.{Holder}
 use Rattle.token_manager.specs.declared.job.Ask.{Ask}
@@ -29,7 +29,7 @@ use Rattle.token_manager.specs.Beliefs.{holder_cmp, holder, is_own, is_nothing, 
 use Rattle.token_manager.specs.Recalls.{recalls, is_answered, noted, is_applied, is_ready, ready_blocks}
 use Rattle.token_manager.specs.SlotState.{SlotState}
 use Rattle.token_manager.specs.Transition.{started, job_at, without_job, ask_of, finished, given, applied_upto, with_deltas, finished_at, step}
-use Rattle.token_manager.specs.Laws.{Has, rank, rank_of, wanted, OwnsAlone, Awaits, AwaitsAll, IsGuarded, after_all}
+use Rattle.token_manager.specs.Laws.{Has, rank, rank_of, wanted, OwnsAlone, Awaits}
 use Rattle.token_manager.proofs.Cases.{recalled_from, by_want, all_given, by_gave, by_deltas, let_go, by_finished_at}
 use Rattle.token_manager.proofs.OneOwner.{holder_cmp_exact}
 use Rattle.token_manager.proofs.Ranks.{holder_cmp_total, holder_laws, belief, least, asker, less, kept, found_by}
@@ -122,19 +122,23 @@ alone-after_ask bs ask alone room block c d apart =
 
 -- ---- what is awaited
 
+-- the want awaits all who must give way
+abbrev pub AwaitsAll : List (Holder × Bool) → Job → Type 0
+AwaitsAll beliefs job = (client : ℕ) → (client ≡ job.ask.client → ⊥) → 2 < rank_of beliefs job.ask.block client + wanted job.ask.mode → Awaits job.awaited client
+
 awaits-recalls : (epoch turn : ℕ) (keep : Bool) (cs : List ℕ) (c : ℕ) → Has cs c → Awaits (recalls epoch turn keep cs) c
 awaits-recalls epoch turn keep [] c has = has
 awaits-recalls epoch turn keep (x ∷ xs) c has = ⊎_elim (λ p. inl (p, refl)) (λ r. inr (awaits-recalls epoch (turn + 1) keep xs c r)) has
 
-and_left : (b c : Bool) → b && c ≡ true → b ≡ true
+pub and_left : (b c : Bool) → b && c ≡ true → b ≡ true
 and_left true c h = refl
 and_left false c h = absurd (cc)
 
-and_right : (b c : Bool) → b && c ≡ true → c ≡ true
+pub and_right : (b c : Bool) → b && c ≡ true → c ≡ true
 and_right true c h = h
 and_right false c h = absurd (cc)
 
-equal_numbers : (c d : ℕ) → (c == d) ≡ true → c ≡ d
+pub equal_numbers : (c d : ℕ) → (c == d) ≡ true → c ≡ d
 equal_numbers c d same = grind (arith, nat_tests)
 
 -- an answer notes no recall of another client
@@ -176,11 +180,11 @@ awaits-less bs bs' job lower all c apart more = all c apart (more_before (rank_o
 
 -- ---- the state
 
-record Sound (s : SlotState) : Type 0 where
-  sorted : IsStrictlySortedBy holder_cmp (keys_of s.beliefs)
-  waiting : Waiting s.jobs
-  alone : OwnsAlone s.beliefs
-  awaits : (block : BlockId) (job : Job) → job_at s.jobs block ≡ Some job → AwaitsAll s.beliefs job
+pub record Sound (s : SlotState) : Type 0 where
+  pub sorted : IsStrictlySortedBy holder_cmp (keys_of s.beliefs)
+  pub waiting : Waiting s.jobs
+  pub alone : OwnsAlone s.beliefs
+  pub awaits : (block : BlockId) (job : Job) → job_at s.jobs block ≡ Some job → AwaitsAll s.beliefs job
 
 sound-finished : (s : SlotState) (ask : Ask) → Sound s → job_at s.jobs ask.block ≡ None → LeavesRoom s.beliefs ask → Sound (finished s ask).state
 sound-finished s ask sound none room = record {
@@ -250,7 +254,7 @@ leaves_room bs applied job all ready c apart = not_more _ (λ more. ready_none a
 -- ---- deltas
 
 -- each of these blocks for which a want waits has one that need wait no longer
-abbrev ReadyAt : List (BlockId × Job) → List ℕ → List BlockId → Type 0
+abbrev pub ReadyAt : List (BlockId × Job) → List ℕ → List BlockId → Type 0
 ReadyAt jobs applied blocks = (block : BlockId) → Has blocks block → (job : Job) → job_at jobs block ≡ Some job → is_ready applied job.awaited ≡ true
 
 has_key : (jobs : List (BlockId × Job)) (applied : List ℕ) (block : BlockId) → Has (ready_blocks jobs applied) block → Has (keys_of jobs) block
@@ -272,7 +276,7 @@ not_first first block same below =
     let itself : is_eq (block_cmp first block) ≡ true = subst (λ x. is_eq (block_cmp first x) ≡ true) (sym one) (block_laws.refl first) in
     false≢true (sym (ap is_eq below) ∙ itself)
 
-ready_finds : (jobs : List (BlockId × Job)) (applied : List ℕ) → IsStrictlySortedBy block_cmp (keys_of jobs) → ReadyAt jobs applied (ready_blocks jobs applied)
+pub ready_finds : (jobs : List (BlockId × Job)) (applied : List ℕ) → IsStrictlySortedBy block_cmp (keys_of jobs) → ReadyAt jobs applied (ready_blocks jobs applied)
 unfolding IsStrictlySortedBy
 ready_finds [] applied sorted block has job is = absurd has
 ready_finds (e ∷ es) applied sorted block has job is =
@@ -285,17 +289,17 @@ ready_finds (e ∷ es) applied sorted block has job is =
     at false apart found true ready h rest = ⊎_elim (λ p. absurd (false≢true (sym apart ∙ subst (λ x. is_at (block_cmp block) x ≡ true) (sym p) (block_laws.refl block)))) (λ h. rest h found) h
     at false apart found false ready h rest = rest h found
 
-sound-answered : (s : SlotState) (applied : List ℕ) (block : BlockId) (job : Job) → Sound s → job_at s.jobs block ≡ Some job → is_ready applied job.awaited ≡ true → Sound (finished (let_go s block) job.ask).state
+pub sound-answered : (s : SlotState) (applied : List ℕ) (block : BlockId) (job : Job) → Sound s → job_at s.jobs block ≡ Some job → is_ready applied job.awaited ≡ true → Sound (finished (let_go s block) job.ask).state
 sound-answered s applied block job sound is ready =
     sound-finished (let_go s block) job.ask (sound-let_go s block sound)
     (subst (λ x. job_at (without_job s.jobs block) x ≡ None) (sym (sound.waiting.own block job is)) (gone s.jobs block sound.waiting.sorted))
     (leaves_room s.beliefs applied job (sound.awaits block job is) ready)
 
-jobs_fewer : (s : SlotState) (block b : BlockId) (job : Job) → Waiting s.jobs → job_at (finished_at s block).state.jobs b ≡ Some job → job_at s.jobs b ≡ Some job
+pub jobs_fewer : (s : SlotState) (block b : BlockId) (job : Job) → Waiting s.jobs → job_at (finished_at s block).state.jobs b ≡ Some job → job_at s.jobs b ≡ Some job
 jobs_fewer s block b job w = by_finished_at (λ r. job_at r.state.jobs b ≡ Some job → job_at s.jobs b ≡ Some job) s block (λ is. is)
     (λ _ _ is. was_there (eq_by_cmp block_cmp block b) (job_at s.jobs b) job (sym (after_removal s.jobs block b w.sorted) ∙ is))
 
-sound-steps : (s : SlotState) (applied : List ℕ) (blocks : List BlockId) → Sound s → ReadyAt s.jobs applied blocks → Sound (steps finished_at s blocks).state
+pub sound-steps : (s : SlotState) (applied : List ℕ) (blocks : List BlockId) → Sound s → ReadyAt s.jobs applied blocks → Sound (steps finished_at s blocks).state
 sound-steps s applied [] sound ready = sound
 sound-steps s applied (b ∷ bs) sound ready =
     let one : Sound (finished_at s b).state = by_finished_at (λ r. Sound r.state) s b sound (λ job is. sound-answered s applied b job sound is (ready b (inl refl) job is)) in
@@ -303,7 +307,7 @@ sound-steps s applied (b ∷ bs) sound ready =
 
 -- ---- the inputs
 
-sound-step : (s : SlotState) (input : In) → Sound s → Sound (step s input).state
+pub sound-step : (s : SlotState) (input : In) → Sound s → Sound (step s input).state
 sound-step s (Want client inc req again block mode end) sound =
     let ask = ask_of client inc req again block mode in
     by_want (λ r. Sound r.state) s ask end sound
@@ -328,13 +332,10 @@ no_beliefs : IsStrictlySortedBy holder_cmp []
 unfolding IsStrictlySortedBy
 no_beliefs = tt
 
-pub guarded-all : (epoch : ℕ) (index : List (BlockId × Entry)) (beliefs : List (BlockId × ℕ × Mode)) (applied : List ℕ) (inputs : List In) → OwnsAlone (started epoch index beliefs applied).beliefs → IsGuarded (after_all (started epoch index beliefs applied) inputs)
-guarded-all epoch index beliefs applied inputs alone =
-    let first : Sound (started epoch index beliefs applied) = record {
-      sorted = sorted-all [] beliefs no_beliefs;
-      waiting = nobody_waits;
-      alone = alone;
-      awaits = λ block job is. absurd (cc);
-    } in
-    let last : Sound (after_all (started epoch index beliefs applied) inputs) = steps_keep step Sound sound-step (started epoch index beliefs applied) inputs first in
-    record { alone = last.alone; awaits = last.awaits }
+pub sound-start : (epoch : ℕ) (index : List (BlockId × Entry)) (beliefs : List (BlockId × ℕ × Mode)) (applied : List ℕ) → OwnsAlone (started epoch index beliefs applied).beliefs → Sound (started epoch index beliefs applied)
+sound-start epoch index beliefs applied alone = record {
+  sorted = sorted-all [] beliefs no_beliefs;
+  waiting = nobody_waits;
+  alone = alone;
+  awaits = λ block job is. absurd (cc);
+}

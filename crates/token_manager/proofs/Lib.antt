@@ -6,3 +6,4 @@ pub mod OneOwner
 pub mod JobsBarGrants
 pub mod Ranks
 pub mod Guarded
+pub mod AwaitsJust

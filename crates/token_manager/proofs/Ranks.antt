@@ -48,7 +48,7 @@ never : (t : Bool) → nothing_held ≡ cond t nothing_held nothing_held
 never true = refl
 never false = refl
 
-belief-without_block : (q : Holder) (block : BlockId) (bs : List (Holder × Bool)) → belief (without_block bs block) q ≡ cond (same_block q.block block) None (belief bs q)
+pub belief-without_block : (q : Holder) (block : BlockId) (bs : List (Holder × Bool)) → belief (without_block bs block) q ≡ cond (same_block q.block block) None (belief bs q)
 belief-without_block q block [] = never (same_block q.block block)
 belief-without_block q block (e ∷ es) =
     let at = is_at (holder_cmp q) e.0 in
@@ -76,7 +76,7 @@ least_put : (t : Bool) (o : Option Bool) → (t ≡ true → ⊥) → rank (cond
 least_put true o apart = absurd (apart refl)
 least_put false o apart = omega arith
 
-apart_test : (q h : Holder) → (q ≡ h → ⊥) → eq_by_cmp holder_cmp q h ≡ true → ⊥
+pub apart_test : (q h : Holder) → (q ≡ h → ⊥) → eq_by_cmp holder_cmp q h ≡ true → ⊥
 apart_test q h apart same = apart (tells_apart holder_cmp_exact q h same)
 
 least-owned_by : (bs : List (Holder × Bool)) (h q : Holder) → (q ≡ h → ⊥) → rank (belief (owned_by bs h) q) ≤ rank (belief bs q)
@@ -132,10 +132,10 @@ none_held : (o : Option Bool) → is_some o ≡ false → rank o ≡ 0
 none_held None none = refl
 none_held (Some x) none = absurd (cc)
 
-disowned : (bs : List (Holder × Bool)) (h q : Holder) → IsSome (belief bs h) → belief (set_value (is_at (holder_cmp h)) bs false) q ≡ cond (is_at (holder_cmp h) q) (Some false) (belief bs q)
+pub disowned : (bs : List (Holder × Bool)) (h q : Holder) → IsSome (belief bs h) → belief (set_value (is_at (holder_cmp h)) bs false) q ≡ cond (is_at (holder_cmp h) q) (Some false) (belief bs q)
 disowned bs h q some = lookup-set_value holder_laws (is_at (holder_cmp h)) (one_test h) q false bs some
 
-forgotten : (bs : List (Holder × Bool)) (h q : Holder) → IsStrictlySortedBy holder_cmp (keys_of bs) → belief (remove_entry (is_at (holder_cmp h)) bs) q ≡ cond (is_at (holder_cmp h) q) None (belief bs q)
+pub forgotten : (bs : List (Holder × Bool)) (h q : Holder) → IsStrictlySortedBy holder_cmp (keys_of bs) → belief (remove_entry (is_at (holder_cmp h)) bs) q ≡ cond (is_at (holder_cmp h) q) None (belief bs q)
 forgotten bs h q sorted = lookup-remove_entry holder_laws (is_at (holder_cmp h)) (one_test h) q bs (IsDistinct-from_sorted holder_cmp (keys_of bs) sorted)
 
 -- nobody has more than before
@@ -178,7 +178,7 @@ has_rest true d c cs h = inr h
 has_rest false d c cs h = h
 
 -- whether one with this belief must give way
-abbrev gives_way : Bool → Option Bool → Bool
+abbrev pub gives_way : Bool → Option Bool → Bool
 gives_way owners None = false
 gives_way owners (Some owns) = owns || not owners
 

@@ -1,11 +1,12 @@
 -- What the laws of a slot say.
-use Rattle.std.specs.Prelude.{◌≡◌, ℕ, ◌+◌, ◌<◌, ◌≤◌, Bool, true, List, [], ◌∷◌, ◌⊎◌, Option, Some, None, ⊤, if◌then◌else◌}
+use Rattle.std.specs.Prelude.{◌≡◌, ◌↔◌, ℕ, ◌+◌, ◌<◌, ◌≤◌, Bool, true, List, [], ◌∷◌, ◌⊎◌, Option, Some, None, ⊤, if◌then◌else◌}
 use Rattle.std.specs.Map.{lookup}
 use Rattle.std.specs.BTreeMap.{is_at}
 use Rattle.xfs_base.specs.Steps.{steps}
 use Rattle.xfs_base.specs.declared.block.BlockId.{BlockId}
 use Rattle.token_manager.specs.declared.job.Holder.{Holder}
 use Rattle.xfs_base.specs.declared.token.Mode.{Mode}
+use Rattle.token_manager.specs.declared.job.Ask.{Ask}
 use Rattle.token_manager.specs.declared.job.Awaited.{Awaited}
 use Rattle.token_manager.specs.declared.job.Job.{Job}
 use Rattle.token_manager.specs.declared.told.Out.{Out}
@@ -79,11 +80,15 @@ abbrev pub Awaits : List Awaited → ℕ → Type 0
 Awaits [] client = ⊥
 Awaits (a ∷ rest) client = ((a.client ≡ client) × (a.end ≡ None)) ⊎ Awaits rest client
 
--- each other client that has more than what the want leaves to others has an unanswered recall
-abbrev pub AwaitsAll : List (Holder × Bool) → Job → Type 0
-AwaitsAll beliefs job = (client : ℕ) → (client ≡ job.ask.client → ⊥) → 2 < rank_of beliefs job.ask.block client + wanted job.ask.mode → Awaits job.awaited client
+-- a client other than the asker that has more of the block than the want leaves to others
+abbrev pub MustGiveWay : List (Holder × Bool) → Ask → ℕ → Type 0
+MustGiveWay beliefs ask client = (client ≡ ask.client → ⊥) × (2 < rank_of beliefs ask.block client + wanted ask.mode)
 
--- owners are alone, and each want that waits awaits all who must give way
+-- the want awaits those who must give way, and nobody else
+abbrev pub AwaitsJust : List (Holder × Bool) → Job → Type 0
+AwaitsJust beliefs job = (client : ℕ) → Awaits job.awaited client ↔ MustGiveWay beliefs job.ask client
+
+-- owners are alone, and each want that waits awaits just those who must give way
 pub record IsGuarded (s : SlotState) : Type 0 where
   pub alone : OwnsAlone s.beliefs
-  pub awaits : (block : BlockId) (job : Job) → job_at s.jobs block ≡ Some job → AwaitsAll s.beliefs job
+  pub awaits : (block : BlockId) (job : Job) → job_at s.jobs block ≡ Some job → AwaitsJust s.beliefs job

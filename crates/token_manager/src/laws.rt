@@ -45,8 +45,9 @@ pub fn waiting_bars_grants()
 {}
 
 /// Where owners are alone at the start, they are alone for ever: whoever is believed to own a block is the
-/// only one that is believed to have anything of it. And each want that waits awaits an answer from every
-/// other client that must give way to it: from the owner, or where the asker wants to write, from all.
+/// only one that is believed to have anything of it. And each want that waits awaits an answer from just
+/// the other clients that must give way to it: from the owner, or where the asker wants to write, from all
+/// who have anything of the block.
 pub fn owners_are_alone()
     ensures { (epoch : ℕ) (index : List (BlockId × Entry)) (beliefs : List (BlockId × ℕ × Mode)) (applied : List ℕ) (inputs : List In)
         → OwnsAlone (started epoch index beliefs applied).beliefs → IsGuarded (after_all (started epoch index beliefs applied) inputs) }

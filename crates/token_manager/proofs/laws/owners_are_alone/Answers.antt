@@ -1,4 +1,4 @@
-use Rattle.token_manager.proofs.Guarded.{guarded-all}
+use Rattle.token_manager.proofs.AwaitsJust.{guarded-all}
 use Rattle.token_manager.proofs.laws.owners_are_alone.Goals as goal
 
 pub returns : goal.returns
