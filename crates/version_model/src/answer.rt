@@ -2,7 +2,7 @@
 ghost use Rattle.std.specs.Prelude.{◌≡◌, IfOk};
 
 use std::alloc::Global;
-use xfs_base::{Copied, Crosses, List, Mem, SegName, Text, Value, copy_each};
+use xfs_base::{Bytes, Copied, Crosses, List, Mem, SegName, Text, Value, copy_each};
 
 /// Why a call on files is refused. `docs/LANGUAGE.md` says when each comes.
 #[derive(Clone, Copy, Debug, PartialEq, Eq)]
@@ -37,7 +37,7 @@ pub enum Answer {
     /// A file or a directory was made, with this index number.
     Made(u32),
     /// These bytes were read from a file.
-    Bytes(List<u8>),
+    Bytes(Bytes),
     /// The size of a file, in bytes.
     Size(u64),
     /// The names in a directory.

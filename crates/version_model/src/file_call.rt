@@ -2,7 +2,7 @@
 ghost use Rattle.std.specs.Prelude.{◌≡◌, IfOk};
 
 use std::alloc::Global;
-use xfs_base::{Copied, Crosses, List, Mem, Text, copy_each};
+use xfs_base::{Bytes, Copied, Crosses, List, Mem, Text, copy_each};
 
 /// A call on files. A path is the list of its names; the root is the empty list.
 #[derive(Drop)]
@@ -24,7 +24,7 @@ pub enum FileCall {
         /// Where in the file, in bytes.
         offset: u32,
         /// What is written.
-        bytes: List<u8>,
+        bytes: Bytes,
     },
     /// Reads bytes of a file.
     Get {

@@ -83,6 +83,21 @@ pub enum Work {
     NetHold,
     /// The network delivers what it holds.
     NetGo,
+    /// The network delivers at most so many packets, one after the other, though it holds them back.
+    NetStep(u32),
+    /// A board of the replicated registry stops.
+    BoardStop(u8),
+    /// A board of the replicated registry starts again.
+    BoardStart(u8),
+    /// A storage server stops within the disk write or sync that follows so many more.
+    ServerStop {
+        /// The server.
+        server: u8,
+        /// How many writes and syncs of its disk still pass.
+        passes: u32,
+    },
+    /// A storage server starts again from its disk.
+    ServerStart(u8),
 }
 
 impl Work {
@@ -124,6 +139,14 @@ impl Work {
             Work::NetMix(number) => Ok(Work::NetMix(*number)),
             Work::NetHold => Ok(Work::NetHold),
             Work::NetGo => Ok(Work::NetGo),
+            Work::NetStep(count) => Ok(Work::NetStep(*count)),
+            Work::BoardStop(board) => Ok(Work::BoardStop(*board)),
+            Work::BoardStart(board) => Ok(Work::BoardStart(*board)),
+            Work::ServerStop { server, passes } => Ok(Work::ServerStop {
+                server: *server,
+                passes: *passes,
+            }),
+            Work::ServerStart(server) => Ok(Work::ServerStart(*server)),
         }
     }
 }

@@ -1,7 +1,8 @@
 -- What the value of a block may be.
 use Rattle.std.specs.Prelude.{ℕ, ◌≤◌, List, length, Option, Some, None}
+use Rattle.xfs_base.specs.Limits.{max_value}
 
--- Absent, or 1 to 4,096 bytes
+-- Absent, or 1 to 8,192 bytes
 abbrev pub IsValue : Option (List ℕ) → Type 0
 IsValue None = Unit {0}
-IsValue (Some bytes) = (1 ≤ length bytes) × (length bytes ≤ 4096)
+IsValue (Some bytes) = (1 ≤ length bytes) × (length bytes ≤ max_value)

@@ -1,7 +1,7 @@
 //! What a storage server keeps of a segment.
 ghost use Rattle.std.specs.Prelude.{◌≡◌, IfOk};
 
-use crate::{Copied, List, Mem, Prior, SegName};
+use crate::{Bytes, Copied, Mem, Prior, SegName};
 use std::alloc::Global;
 
 /// What is said of a fragment: of which segment, over which group, and which part.
@@ -13,7 +13,7 @@ pub struct FragMeta {
     pub group: u32,
     /// The segment before it in its log.
     pub prior: Prior,
-    /// The number of the fragment in the stripe, from 0; the last is the parity.
+    /// The number of the fragment in the stripe, from 0; the parity stands last.
     pub index: u8,
     /// The length of the whole segment, in bytes.
     pub len: u32,
@@ -25,11 +25,11 @@ pub struct Fragment {
     /// What it is a part of.
     pub meta: FragMeta,
     /// Its bytes.
-    pub bytes: List<u8>,
+    pub bytes: Bytes,
 }
 
 impl Fragment {
-    /// A fragment equal to this one.
+    /// A fragment equal to this one, which shares its bytes.
     pub fn copy(&self, alloc: Global) -> Mem<Fragment>
         ensures { IfOk result (λ copied. copied ≡ self.now) }
     {

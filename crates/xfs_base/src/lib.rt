@@ -4,12 +4,14 @@
 #![tactic(auto)]
 
 pub mod block;
+pub mod bytes;
 pub mod copied;
 pub mod entry;
 pub mod field_reader;
 pub mod field_writer;
 pub mod fragment;
 pub mod gate;
+pub mod limits;
 pub mod list;
 pub mod news;
 pub mod node;
@@ -21,6 +23,7 @@ pub mod token;
 pub mod value;
 
 pub use block::{BlockId, Ino};
+pub use bytes::Bytes;
 pub use copied::{Copied, copy_each};
 pub use entry::{Entry, Place};
 pub use field_reader::FieldReader;
@@ -31,11 +34,11 @@ pub use list::{List, Mem};
 pub use news::SlotNews;
 pub use node::NodeId;
 pub use segment::{End, LogId, Pass, Prior, SegName, SegRef};
-pub use setup::Setup;
+pub use setup::{GroupSetup, Setup};
 pub use text::Text;
 pub use threads::Crosses;
 pub use token::{Mode, Stamp};
-pub use value::{MAX_VALUE, Value, ValueError};
+pub use value::{Value, ValueError};
 
 #[cfg(test)]
 mod tests;

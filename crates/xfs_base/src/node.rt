@@ -1,7 +1,9 @@
 //! Names of nodes.
 ghost use Rattle.std.specs.Prelude.{◌≡◌, ◌↔◌, IsTrue};
+ghost use Rattle.xfs_base.specs.Logs.{log_of, WritesLog};
 ghost use Rattle.xfs_base.specs.Nodes.{node_cmp};
 
+use crate::LogId;
 use std::cmp::Ordering;
 
 /// A node of the cluster. Nodes of one kind count from 1: at most 8 clients, 4 managers and 12 storage
@@ -27,6 +29,19 @@ impl NodeId {
         ensures { result ≡ node_cmp self other }
     {
         self.cmp(&other)
+    }
+
+    /// The log that this node writes. Storage servers and the registry write none.
+    pub fn log(self) -> LogId
+        requires { WritesLog self }
+        ensures { result ≡ record { 0 = log_of self } }
+    {
+        match self {
+            NodeId::Client(number) => LogId(number),
+            NodeId::Manager(number) => LogId(9 + number),
+            NodeId::Server(_) | NodeId::Registry => LogId(0),
+            NodeId::Cleaner => LogId(9),
+        }
     }
 
     /// Whether both name one node.

@@ -1,7 +1,8 @@
 //! Which types may be sent to other threads and shared between them.
 use crate::{
-    BlockId, End, Entry, Failed, FieldReader, FieldWriter, FragMeta, Fragment, List, LogId, Mode,
-    NodeId, OpenGate, Prior, SegName, Setup, SlotNews, Stamp, Text, Value,
+    BlockId, Bytes, End, Entry, Failed, FieldReader, FieldWriter, FragMeta, Fragment, GroupSetup,
+    Ino, List, LogId, Mode, NodeId, OpenGate, Pass, Place, Prior, SegName, SegRef, Setup, SlotNews,
+    Stamp, Text, Value,
 };
 
 /// A type whose values may be sent to another thread and shared between threads. Each crate states it
@@ -12,11 +13,15 @@ impl<T: Send + Sync> Crosses for List<T> {}
 
 impl Crosses for Text {}
 
+impl Crosses for Bytes {}
+
 impl Crosses for Value {}
 
 impl Crosses for Fragment {}
 
 impl Crosses for SlotNews {}
+
+impl Crosses for GroupSetup {}
 
 impl Crosses for Setup {}
 
@@ -30,6 +35,8 @@ impl Crosses for Failed {}
 
 impl Crosses for NodeId {}
 
+impl Crosses for Ino {}
+
 impl Crosses for BlockId {}
 
 impl Crosses for Stamp {}
@@ -38,7 +45,13 @@ impl Crosses for Mode {}
 
 impl Crosses for LogId {}
 
+impl Crosses for Pass {}
+
 impl Crosses for SegName {}
+
+impl Crosses for SegRef {}
+
+impl Crosses for Place {}
 
 impl Crosses for End {}
 

@@ -1,30 +1,29 @@
 //! The value of a block.
 ghost use Rattle.std.specs.Prelude.{◌≡◌, ◌<◌, ◌⊎◌, ◌↔◌, length, IfOk, IfSome, IsErrOf, IsTrue, Some, None};
+ghost use Rattle.xfs_base.specs.Limits.{max_value};
 
-use crate::{Copied, List, Mem};
+use crate::limits::MAX_VALUE;
+use crate::{Bytes, Copied, Mem};
 use std::alloc::Global;
 use std::marker::Model;
 use thiserror::Error;
-
-/// The most bytes that a block's value may have.
-pub const MAX_VALUE: usize = 4096;
 
 /// Why bytes are no value.
 #[derive(Debug, Drop, Error)]
 pub enum ValueError {
     /// There are none, or more than a block holds; with their number.
-    #[error("a value has 1 to 4096 bytes, and not {0}")]
+    #[error("a value has 1 to 8192 bytes, and not {0}")]
     BadLength(usize),
     /// Want of memory.
     #[error("out of memory")]
     Memory,
 }
 
-/// The value of a block: Absent, or 1 to 4,096 bytes. Contracts see it as an option of its bytes, where
+/// The value of a block: Absent, or 1 to 8,192 bytes. Contracts see it as an option of its bytes, where
 /// none is Absent.
 #[derive(Drop)]
 pub struct Value {
-    bytes: Option<List<u8>>,
+    bytes: Option<Bytes>,
 }
 
 impl Model for Value {
@@ -49,18 +48,16 @@ impl Value {
     }
 
     /// The value of these bytes. `BadLength` with their number exactly where there are none or more than
-    /// 4,096.
+    /// 8,192.
     pub fn of(alloc: Global, bytes: &[u8]) -> Result<Value, ValueError>
         ensures ok { IfOk result (λ value. value ≡ Some bytes.now) }
-        ensures bad_length { (n : _) → IsErrOf result (ValueError.BadLength n) ↔ ((n ≡ length bytes.now) × ((length bytes.now ≡ 0) ⊎ (4096 < length bytes.now))) }
+        ensures bad_length { (n : _) → IsErrOf result (ValueError.BadLength n) ↔ ((n ≡ length bytes.now) × ((length bytes.now ≡ 0) ⊎ (max_value < length bytes.now))) }
     {
         if bytes.is_empty() || bytes.len() > MAX_VALUE {
             return Err(ValueError::BadLength(bytes.len()));
         }
-        match Vec::from_slice(alloc, bytes) {
-            Ok(vec) => Ok(Value {
-                bytes: Some(List::from_vec(vec)),
-            }),
+        match Bytes::of(alloc, bytes) {
+            Ok(made) => Ok(Value { bytes: Some(made) }),
             Err(_) => Err(ValueError::Memory),
         }
     }
@@ -73,7 +70,7 @@ impl Value {
     {
         match &self.bytes {
             None => None,
-            Some(list) => Some(list.as_slice()),
+            Some(bytes) => Some(bytes.as_slice()),
         }
     }
 
@@ -88,14 +85,14 @@ impl Value {
         }
     }
 
-    /// A value equal to this one.
+    /// A value equal to this one, which shares its bytes.
     pub fn copy(&self, alloc: Global) -> Mem<Value>
         ensures { IfOk result (λ copied. copied ≡ self.now) }
     {
         match &self.bytes {
             None => Ok(Value { bytes: None }),
-            Some(list) => Ok(Value {
-                bytes: Some(list.copy(alloc)?),
+            Some(bytes) => Ok(Value {
+                bytes: Some(bytes.copy(alloc)?),
             }),
         }
     }

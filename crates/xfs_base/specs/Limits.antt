@@ -1,0 +1,30 @@
+-- The limits that a run keeps, each stated once.
+use Rattle.std.specs.Prelude.{ℕ}
+
+-- the most bytes that the value of a block may have
+abbrev pub max_value : ℕ
+max_value = 8192
+
+-- how many bytes of a file one block of it holds
+abbrev pub file_block : ℕ
+file_block = 4096
+
+-- how many blocks one segment holds at most
+abbrev pub segment_blocks : ℕ
+segment_blocks = 24
+
+-- how many items a script may have
+abbrev pub max_lines : ℕ
+max_lines = 20000
+
+-- how many bytes a script or the text of a file may have
+abbrev pub max_bytes : ℕ
+max_bytes = 1048576
+
+-- the greatest number of a u32
+abbrev pub u32_end : ℕ
+u32_end = 4294967295
+
+-- how far below its type's end each counter of a node stands before the node takes an event
+abbrev pub counter_room : ℕ
+counter_room = 65536

@@ -1,0 +1,19 @@
+//! The limits that a run keeps, each stated once. `specs/Limits.antt` has the same for definitions.
+
+/// The most bytes that the value of a block may have.
+pub const MAX_VALUE: usize = 8_192;
+
+/// How many bytes of a file one block of it holds, and the most that a bucket of a directory has.
+pub const FILE_BLOCK: usize = 4_096;
+
+/// How many blocks one segment holds at most: a client with so many dirty blocks seals.
+pub const SEGMENT_BLOCKS: usize = 24;
+
+/// How many items a script may have.
+pub const MAX_LINES: u32 = 20_000;
+
+/// How many bytes a script or the text of a file may have.
+pub const MAX_BYTES: usize = 1_048_576;
+
+/// How far below its type's end each counter of a node stands before the node takes an event.
+pub const COUNTER_ROOM: u32 = 65_536;
