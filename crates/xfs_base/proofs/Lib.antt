@@ -1,2 +1,7 @@
 pub mod BlockOrder
+pub mod Booleans
+pub mod Members
+pub mod Orders
+pub mod Sorted
 pub mod StepLoops
+pub mod Tables

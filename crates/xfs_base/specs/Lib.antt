@@ -2,6 +2,7 @@ pub mod Blocks
 pub mod Fields
 pub mod Limits
 pub mod Logs
+pub mod Modes
 pub mod Nodes
 pub mod Segments
 pub mod Stamps

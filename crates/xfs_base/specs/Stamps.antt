@@ -14,3 +14,7 @@ abbrev pub is_greater : Ordering → Bool
 is_greater Less = false
 is_greater Equal = false
 is_greater Greater = true
+
+-- whether one stamp is later than another
+abbrev pub is_later : Stamp → Stamp → Bool
+is_later a b = is_greater (stamp_cmp a b)

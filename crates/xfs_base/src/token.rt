@@ -1,6 +1,7 @@
 //! What a manager grants: modes, and the stamps that order its words.
 ghost use Rattle.std.specs.Prelude.{◌≡◌};
-ghost use Rattle.xfs_base.specs.Stamps.{stamp_cmp, is_greater};
+ghost use Rattle.xfs_base.specs.Modes.{is_nothing, is_held, is_own, same_mode, allows};
+ghost use Rattle.xfs_base.specs.Stamps.{stamp_cmp, is_later};
 
 use std::cmp::Ordering;
 
@@ -24,7 +25,7 @@ impl Stamp {
 
     /// Whether this stamp is later than another.
     pub fn is_after(self, other: Stamp) -> bool
-        ensures { result ≡ is_greater (stamp_cmp self other) }
+        ensures { result ≡ is_later self other }
     {
         self > other
     }
@@ -39,4 +40,54 @@ pub enum Mode {
     Copy,
     /// It may read and write, and no other client holds the block.
     Own,
+}
+
+impl Mode {
+    /// Whether nothing is held.
+    pub fn is_nothing(self) -> bool
+        ensures { result ≡ is_nothing self }
+    {
+        !self.is_held()
+    }
+
+    /// Whether something is held: `Copy` or `Own`.
+    pub fn is_held(self) -> bool
+        ensures { result ≡ is_held self }
+    {
+        match self {
+            Mode::Nothing => false,
+            Mode::Copy | Mode::Own => true,
+        }
+    }
+
+    /// Whether the holder may write.
+    pub fn is_own(self) -> bool
+        ensures { result ≡ is_own self }
+    {
+        match self {
+            Mode::Own => true,
+            Mode::Nothing | Mode::Copy => false,
+        }
+    }
+
+    /// Whether both are one mode.
+    pub fn is_same(self, other: Mode) -> bool
+        ensures { result ≡ same_mode self other }
+    {
+        matches!(
+            (self, other),
+            (Mode::Nothing, Mode::Nothing) | (Mode::Copy, Mode::Copy) | (Mode::Own, Mode::Own)
+        )
+    }
+
+    /// Whether it lets its holder do what needs another mode.
+    pub fn allows(self, needed: Mode) -> bool
+        ensures { result ≡ allows self needed }
+    {
+        match needed {
+            Mode::Nothing => true,
+            Mode::Copy => self.is_held(),
+            Mode::Own => self.is_own(),
+        }
+    }
 }
