@@ -21,6 +21,18 @@ append v block = record block { versions = block.versions ++ v ∷ [] }
 abbrev pub pin : ℕ → BlockHistory → BlockHistory
 pin n block = record block { pinned = max n block.pinned }
 
+-- the greatest version by a client is pinned
+abbrev pub pin_all : ℕ → BlockHistory → BlockHistory
+pin_all client block = pin (greatest_by client 1 block.versions) block
+
+-- a fall of a client waits until it is back
+abbrev pub tell : ℕ → FallTold → History → History
+tell client fall h = record h { told = λ c. if c == client then h.told c ++ fall ∷ [] else h.told c }
+
+-- no fall of a client waits any more
+abbrev pub clear : ℕ → History → History
+clear client h = record h { told = λ c. if c == client then [] else h.told c }
+
 -- the versions above n are gone
 abbrev pub cut_to : ℕ → BlockHistory → BlockHistory
 cut_to n block = record { versions = take n block.versions; pinned = n }
@@ -47,12 +59,9 @@ after (Wrote client block value) h = change block (append (record { content = va
 after (Read client block ver value) h =
     if is_by_other client ver (h.of_block block).versions then change block (pin ver) h else h
 after (Synced client) h =
-    record h { of_block = λ b. pin (greatest_by client 1 (h.of_block b).versions) (h.of_block b) }
-after (Fell client flight falls) h =
-    record h { told = λ c. if c == client then h.told c ++ (record { flight = flight; falls = falls }) ∷ [] else h.told c }
-after (Back client chain) h =
-    let settled = settle chain (h.told client) h in
-    record settled { told = λ c. if c == client then [] else settled.told c }
+    record h { of_block = λ b. pin_all client (h.of_block b) }
+after (Fell client flight falls) h = tell client (record { flight = flight; falls = falls }) h
+after (Back client chain) h = clear client (settle chain (h.told client) h)
 after (Lost node seg) h = h
 after (Filed seg) h = h
 after (Dropped seg) h = h

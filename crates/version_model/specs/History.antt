@@ -1,35 +1,26 @@
 -- The history of each block: the versions that were written, and which of them may never fall again.
 use Rattle.std.specs.Prelude.{ℕ, zero, suc, ◌+◌, max, Bool, true, false, ◌==◌, List, [], ◌∷◌, slice_get, Option, Some, None, if◌then◌else◌}
 use Rattle.xfs_base.specs.declared.block.BlockId.{BlockId}
-use Rattle.version_model.specs.declared.act.Fall.{Fall}
+pub use Rattle.version_model.specs.declared.history.Version.{Version}
+pub use Rattle.version_model.specs.declared.history.BlockHistory.{BlockHistory}
+pub use Rattle.version_model.specs.declared.history.FallTold.{FallTold}
 
 -- Absent, or its bytes
 abbrev pub Content : Type 0
 Content = Option (List ℕ)
-
--- a version: what was written, and by which client
-pub record Version : Type 0 where
-  pub content : Content
-  pub writer : ℕ
-
--- the versions of one block, the oldest first, and the pinned one: the newest that someone else read or that was synced
-pub record BlockHistory : Type 0 where
-  pub versions : List Version
-  pub pinned : ℕ
-
--- what a crashed client may lose: the number and incarnation of its flight, and its falls
-pub record FallTold : Type 0 where
-  pub flight : Option (ℕ × ℕ)
-  pub falls : List Fall
 
 -- the history of each block, and of each client the falls that wait for it to come back
 pub record History : Type 0 where
   pub of_block : BlockId → BlockHistory
   pub told : ℕ → List FallTold
 
+-- the history of a block that was never written
+abbrev pub unwritten : BlockHistory
+unwritten = record { versions = []; pinned = 0 }
+
 -- no block was written and no client fell
 abbrev pub nothing_yet : History
-nothing_yet = record { of_block = λ b. record { versions = []; pinned = 0 }; told = λ c. [] }
+nothing_yet = record { of_block = λ b. unwritten; told = λ c. [] }
 
 -- what version n holds: Absent for 0, nothing past the newest
 abbrev pub content_at : ℕ → List Version → Option Content

@@ -1,12 +1,14 @@
 -- When a list of acts is legal: each read answers the newest version, and no fall goes below a pinned version.
-use Rattle.std.specs.Prelude.{◌≡◌, ℕ, ◌≤◌, false, List, [], ◌∷◌, length, Some}
+use Rattle.std.specs.Prelude.{◌≡◌, ℕ, ◌+◌, ◌≤◌, false, List, [], ◌∷◌, length, slice_get, take, Some}
 use Rattle.std.specs.List.{AllByRecursion}
 use Rattle.xfs_base.specs.Blocks.{same_block}
 use Rattle.version_model.specs.declared.act.Act.{Act}
 use Rattle.version_model.specs.declared.act.Act.TheVariants.{Wrote, Read, Synced, Fell, Back, Lost, Filed, Dropped, Answered}
 use Rattle.version_model.specs.declared.act.Fall.{Fall}
 use Rattle.version_model.specs.History.{Version, BlockHistory, History, content_at, nothing_yet}
-use Rattle.version_model.specs.Effects.{after}
+use Rattle.version_model.specs.declared.verdict.Verdict.{Verdict}
+use Rattle.version_model.specs.declared.verdict.Verdict.TheVariants.{Legal, Illegal}
+use Rattle.version_model.specs.Effects.{after, history_after}
 
 -- the newest version is by this client
 abbrev pub IsNewestBy : ℕ → List Version → Type 0
@@ -48,3 +50,15 @@ AreLegalFrom h (a ∷ rest) = IsLegalIn a h × AreLegalFrom (after a h) rest
 -- the same of all acts of a run
 abbrev pub AreLegal : List Act → Type 0
 AreLegal acts = AreLegalFrom nothing_yet acts
+
+-- the first act that is not legal: those before it are, and it isn't after them
+pub record IsFirstIllegal (acts : List Act) (place : ℕ) : Type 0 where
+  pub act : Act
+  pub stands : slice_get acts place ≡ Some act
+  pub before : AreLegal (take place acts)
+  pub illegal : ¬ (IsLegalIn act (history_after (take place acts) nothing_yet))
+
+-- what is said of a list of acts: that all are legal and how many they are, or which is the first that is not, counted from 1
+abbrev pub IsVerdict : List Act → Verdict → Type 0
+IsVerdict acts (Legal count) = AreLegal acts × (count ≡ length acts)
+IsVerdict acts (Illegal number) = (place : ℕ) × (number ≡ place + 1) × IsFirstIllegal acts place

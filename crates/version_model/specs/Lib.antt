@@ -1,3 +1,4 @@
 pub mod Effects
 pub mod History
 pub mod Legal
+pub mod Shown

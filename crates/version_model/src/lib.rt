@@ -6,12 +6,17 @@
 pub mod act;
 pub mod answer;
 pub mod file_call;
+mod histories;
+pub mod history;
+mod judge;
 pub mod verdict;
 pub mod work;
 
 pub use act::{Act, Fall};
 pub use answer::{Answer, FileFault};
 pub use file_call::FileCall;
+pub use history::{BlockHistory, FallTold, Version};
+pub use judge::legal;
 pub use verdict::Verdict;
 pub use work::Work;
 

@@ -1,0 +1,18 @@
+use Rattle.std.proofs.Common.{get_or, take, sym, ap, subst, ◌∙◌}
+use Rattle.std.proofs.lemmas.List.{take_more}
+use Rattle.version_model.specs.Effects.{after, history_after}
+use Rattle.version_model.specs.History.{nothing_yet}
+use Rattle.version_model.specs.Legal.{AreLegal, IsLegalIn}
+use Rattle.version_model.proofs.Each.{history_more, legal_more}
+use Rattle.version_model.proofs.judge.legal.Goals as goal
+
+pub loop-place-preserved : goal.loop-place-preserved
+loop-place-preserved c =
+    let act = c.index-acts-place.result in
+    let now = take_more c.args.acts.now c.loop-place.place act c.loop-place-test.true in
+    let is = c.index-acts-place.is in
+    let here = get_or c.args.acts.now c.loop-place.place act in
+    record {
+      shows = c.in_ok-take.ensures ∙ ap (after act) c.loop-place.invariant.shows ∙ ap (λ a. after a (history_after (take c.loop-place.place c.args.acts.now) nothing_yet)) is ∙ sym (history_more nothing_yet (take c.loop-place.place c.args.acts.now) here) ∙ ap (λ acts. history_after acts nothing_yet) (sym now);
+      legal = subst AreLegal (sym now) (legal_more nothing_yet _ here c.loop-place.invariant.legal (subst (λ a. IsLegalIn a (history_after (take c.loop-place.place c.args.acts.now) nothing_yet)) is (subst (IsLegalIn act) c.loop-place.invariant.shows (c.is_legal.ensures.0 c.if-not-is_legal.false))))
+    }
