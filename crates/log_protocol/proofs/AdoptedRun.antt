@@ -192,7 +192,7 @@ abbrev w20 : State
 w20 = serves w19 path 1
 
 s20 : Steps w0 w20
-s20 = More s19 (Serves path 1 (record { writing = refl; settled = settled_alone w19 refl refl; undoubted = λ e a b. (0, lt01, refl); read = read }))
+s20 = More s19 (Serves path 1 (record { writing = refl; settled = settled_alone w19 refl refl; undoubted = λ e p a b. (0, lt01, refl); read = read }))
 
 -- name 1 is dropped and deleted
 abbrev w21 : State
@@ -242,7 +242,7 @@ abbrev w27 : State
 w27 = learns w26 w26.registry_generation
 
 s27 : Steps w0 w27
-s27 = More s26 (Learns w26.registry_generation (record { rises = up; known = λ v. same v }))
+s27 = More s26 (Learns w26.registry_generation (record { known = λ v. same v }))
 
 abbrev w28 : State
 w28 = fills w27 0 0 told

@@ -181,7 +181,7 @@ abbrev w18 : State
 w18 = serves w17 (λ q. 1) 1
 
 s18 : Steps w0 w18
-s18 = More s17 (Serves (λ q. 1) 1 (record { writing = refl; settled = settled_alone w17 refl refl; undoubted = λ e a b. (0, lt01, refl); read = read }))
+s18 = More s17 (Serves (λ q. 1) 1 (record { writing = refl; settled = settled_alone w17 refl refl; undoubted = λ e p a b. (0, lt01, refl); read = read }))
 
 abbrev w19 : State
 w19 = crashes w18

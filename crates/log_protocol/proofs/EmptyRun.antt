@@ -82,7 +82,7 @@ abbrev w9 : State
 w9 = serves w8 (λ q. 0) 1
 
 s9 : Steps w0 w9
-s9 = More s8 (Serves (λ q. 0) 1 (record { writing = refl; settled = settled_alone w8 refl refl; undoubted = λ e a b. absurd (nothing a); read = record { last = λ q a e. refl; back = λ q a less. absurd (below q a less) } }))
+s9 = More s8 (Serves (λ q. 0) 1 (record { writing = refl; settled = settled_alone w8 refl refl; undoubted = λ e p a b. absurd (nothing a); read = record { last = λ q a e. refl; back = λ q a less. absurd (below q a less) } }))
 
 pub empty_opened : EmptyOpened
 empty_opened = record { state = w9; reached = record { names = names; run = s9 }; clean = refl; serving = refl; boot = refl; head = refl }

@@ -13,7 +13,7 @@ use Rattle.log_protocol.specs.Step.Steps.{Done, More}
 use Rattle.log_protocol.proofs.Invariant.{Invariant}
 use Rattle.log_protocol.proofs.Induction.{step_keeps}
 use Rattle.log_protocol.proofs.NewNames.{new_seal, new_restripe, new_opening}
-use Rattle.log_protocol.proofs.Serving.{served_clean}
+use Rattle.log_protocol.proofs.Serving.{served_clean, opening_after}
 
 pub record Grows (w v : State) : Type 0 where
   -- what is booked stays booked,
@@ -166,8 +166,8 @@ serves_grows w path sure can i = record {
   marked = λ u x k k1. k;
   holds = λ u x k k1 k2. k;
   clean = λ k. (served_clean w path sure can k).0;
-  head = λ k. let was = served_clean w path sure can k in let writing = can.writing in let r = (i.rising was.0 was.1).opening_above (omega arith) (omega arith) in omega arith;
-  line = λ q k k1. let was = served_clean w path sure can k in let writing = can.writing in let r = (i.rising was.0 was.1).opening_above (omega arith) (omega arith) in grind (arith, nat_tests);
+  head = λ k. let was = served_clean w path sure can k in let writing = can.writing in let r = opening_after w writing i.shelf (λ z. i.rising was.0 (was.1 z)) in omega arith;
+  line = λ q k k1. let was = served_clean w path sure can k in let writing = can.writing in let r = opening_after w writing i.shelf (λ z. i.rising was.0 (was.1 z)) in grind (arith, nat_tests);
 }
 
 pub step_grows : (w u : State) → Step w u → Invariant w → Grows w u

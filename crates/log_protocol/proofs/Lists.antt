@@ -3,11 +3,11 @@
 use Rattle.std.proofs.Common.{◌≡◌, ℕ, ◌<◌, ◌≤◌, arith}
 use Rattle.std.proofs.lemmas.Bool.Decides.{nat_tests}
 use Rattle.log_protocol.specs.Tables.{In}
-use Rattle.log_protocol.specs.Packets.{StorePacket, StoredPacket, FragmentPacket, FencedPacket}
+use Rattle.log_protocol.specs.Packets.{FencedPacket}
 use Rattle.log_protocol.specs.State.{State, new_log}
-use Rattle.log_protocol.specs.ServerSteps.{loses, CanHear, hears, CanLearn, learns, CanSend, sends, CanAccept, accepts, CanAcceptAgain, accepts_again, CanTell, tells, CanFill, fills, CanDrop, drops, CanDelete, deletes, CanRaise, raises, CanFence, fences}
-use Rattle.log_protocol.specs.OwnerSteps.{CanSeal, seals, CanRestripe, restripes, CanNote, notes, CanSettle, settles, crashes, CanRestart, restarts}
-use Rattle.log_protocol.specs.OpeningSteps.{CanBegin, begins, CanPickNone, picks_none, CanPickKept, picks_kept, CanPickPrior, picks_prior, CanCut, cuts, CanOpen, opens, CanServe, serves}
+use Rattle.log_protocol.specs.ServerSteps.{CanRaise, raises, CanFence, fences}
+use Rattle.log_protocol.specs.OwnerSteps.{CanSeal, seals, CanRestripe, restripes, CanRestart, restarts}
+use Rattle.log_protocol.specs.OpeningSteps.{CanBegin, begins, CanOpen, opens}
 use Rattle.log_protocol.specs.Step.{Step}
 use Rattle.log_protocol.specs.Step.Step.{Loses, Hears, Learns, Sends, Accepts, Accepts_again, Tells, Fills, Drops, Deletes, Raises, Fences, Seals, Restripes, Notes, Settles, Crashes, Restarts, Begins, Picks_none, Picks_kept, Picks_prior, Cuts, Opens, Serves}
 use Rattle.log_protocol.proofs.Generations.{Generations}
@@ -26,36 +26,6 @@ pub record Lists (w : State) : Type 0 where
   pub fenced_boot : (p : FencedPacket) → In p w.fenceds → p.incarnation ≤ w.incarnation
   -- and its horizon was the least one of its moment
   pub fenced_low : (p : FencedPacket) → In p w.fenceds → p.low ≤ w.low
-
-loses_keeps_lists : (w : State) (v : ℕ) → Generations w → Texts w → Lists w → Lists (loses w v)
-loses_keeps_lists w v generations texts lists = grind (arith, nat_tests)
-
-hears_keeps_lists : (w : State) (v g : ℕ) → CanHear w v g → Generations w → Texts w → Lists w → Lists (hears w v g)
-hears_keeps_lists w v g can generations texts lists = grind (arith, nat_tests)
-
-learns_keeps_lists : (w : State) (map : ℕ → ℕ) → CanLearn w map → Generations w → Texts w → Lists w → Lists (learns w map)
-learns_keeps_lists w map can generations texts lists = grind (arith, nat_tests)
-
-sends_keeps_lists : (w : State) (x i : ℕ) → CanSend w x i → Generations w → Texts w → Lists w → Lists (sends w x i)
-sends_keeps_lists w x i can generations texts lists = grind (arith, nat_tests)
-
-accepts_keeps_lists : (w : State) (p : StorePacket) → CanAccept w p → Generations w → Texts w → Lists w → Lists (accepts w p)
-accepts_keeps_lists w p can generations texts lists = grind (arith, nat_tests)
-
-accepts_again_keeps_lists : (w : State) (p : StorePacket) → CanAcceptAgain w p → Generations w → Texts w → Lists w → Lists (accepts_again w p)
-accepts_again_keeps_lists w p can generations texts lists = grind (arith, nat_tests)
-
-tells_keeps_lists : (w : State) (v x : ℕ) → CanTell w v x → Generations w → Texts w → Lists w → Lists (tells w v x)
-tells_keeps_lists w v x can generations texts lists = grind (arith, nat_tests)
-
-fills_keeps_lists : (w : State) (v i : ℕ) (p : FragmentPacket) → CanFill w v i p → Generations w → Texts w → Lists w → Lists (fills w v i p)
-fills_keeps_lists w v i p can generations texts lists = grind (arith, nat_tests)
-
-drops_keeps_lists : (w : State) (x : ℕ) → CanDrop w x → Generations w → Texts w → Lists w → Lists (drops w x)
-drops_keeps_lists w x can generations texts lists = grind (arith, nat_tests)
-
-deletes_keeps_lists : (w : State) (v x : ℕ) → CanDelete w x → Generations w → Texts w → Lists w → Lists (deletes w v x)
-deletes_keeps_lists w v x can generations texts lists = grind (arith, nat_tests)
 
 raises_keeps_lists : (w : State) (low : ℕ) → CanRaise w low → Generations w → Texts w → Lists w → Lists (raises w low)
 raises_keeps_lists w low can generations texts lists = record {
@@ -97,15 +67,6 @@ restripes_keeps_lists w x text count server can generations texts lists = record
   fenced_low = λ p k0. grind (arith, nat_tests, lists.fenced_low p);
 }
 
-notes_keeps_lists : (w : State) (p : StoredPacket) → CanNote w p → Generations w → Texts w → Lists w → Lists (notes w p)
-notes_keeps_lists w p can generations texts lists = grind (arith, nat_tests)
-
-settles_keeps_lists : (w : State) → CanSettle w → Generations w → Texts w → Lists w → Lists (settles w)
-settles_keeps_lists w can generations texts lists = grind (arith, nat_tests)
-
-crashes_keeps_lists : (w : State) → Generations w → Texts w → Lists w → Lists (crashes w)
-crashes_keeps_lists w generations texts lists = grind (arith, nat_tests)
-
 restarts_keeps_lists : (w : State) → CanRestart w → Generations w → Texts w → Lists w → Lists (restarts w)
 restarts_keeps_lists w can generations texts lists = record {
   list_flag = λ p x k0. grind (arith, nat_tests, lists.list_flag p x);
@@ -126,18 +87,6 @@ begins_keeps_lists w can generations texts lists = record {
   fenced_low = λ p k0. grind (arith, nat_tests, lists.fenced_low p);
 }
 
-picks_none_keeps_lists : (w : State) (list_of : ℕ → FencedPacket) (low : ℕ) → CanPickNone w list_of low → Generations w → Texts w → Lists w → Lists (picks_none w low)
-picks_none_keeps_lists w list_of low can generations texts lists = grind (arith, nat_tests)
-
-picks_kept_keeps_lists : (w : State) (list_of : ℕ → FencedPacket) (low x : ℕ) → CanPickKept w list_of low x → Generations w → Texts w → Lists w → Lists (picks_kept w low x)
-picks_kept_keeps_lists w list_of low x can generations texts lists = grind (arith, nat_tests)
-
-picks_prior_keeps_lists : (w : State) (list_of : ℕ → FencedPacket) (low x i : ℕ) → CanPickPrior w list_of low x i → Generations w → Texts w → Lists w → Lists (picks_prior w low x)
-picks_prior_keeps_lists w list_of low x i can generations texts lists = grind (arith, nat_tests)
-
-cuts_keeps_lists : (w : State) (low : ℕ) → CanCut w low → Generations w → Texts w → Lists w → Lists (cuts w low)
-cuts_keeps_lists w low can generations texts lists = grind (arith, nat_tests)
-
 opens_keeps_lists : (w : State) (x text count : ℕ) (server : ℕ → ℕ) → CanOpen w x count server → Generations w → Texts w → Lists w → Lists (opens w x text count server)
 opens_keeps_lists w x text count server can generations texts lists = record {
   list_flag = λ p x k0. grind (arith, nat_tests, lists.list_flag p x);
@@ -148,35 +97,32 @@ opens_keeps_lists w x text count server can generations texts lists = record {
   fenced_low = λ p k0. grind (arith, nat_tests, lists.fenced_low p);
 }
 
-serves_keeps_lists : (w : State) (path : ℕ → ℕ) (sure : ℕ) → CanServe w path sure → Generations w → Texts w → Lists w → Lists (serves w path sure)
-serves_keeps_lists w path sure can generations texts lists = grind (arith, nat_tests)
-
 pub step_keeps_lists : (w u : State) → Step w u → Generations w → Texts w → Lists w → Lists u
-step_keeps_lists w u (Loses v) generations texts lists = loses_keeps_lists w v generations texts lists
-step_keeps_lists w u (Hears v g can) generations texts lists = hears_keeps_lists w v g can generations texts lists
-step_keeps_lists w u (Learns map can) generations texts lists = learns_keeps_lists w map can generations texts lists
-step_keeps_lists w u (Sends x i can) generations texts lists = sends_keeps_lists w x i can generations texts lists
-step_keeps_lists w u (Accepts p can) generations texts lists = accepts_keeps_lists w p can generations texts lists
-step_keeps_lists w u (Accepts_again p can) generations texts lists = accepts_again_keeps_lists w p can generations texts lists
-step_keeps_lists w u (Tells v x can) generations texts lists = tells_keeps_lists w v x can generations texts lists
-step_keeps_lists w u (Fills v i p can) generations texts lists = fills_keeps_lists w v i p can generations texts lists
-step_keeps_lists w u (Drops x can) generations texts lists = drops_keeps_lists w x can generations texts lists
-step_keeps_lists w u (Deletes v x can) generations texts lists = deletes_keeps_lists w v x can generations texts lists
+step_keeps_lists w u (Loses v) generations texts lists = grind (arith, nat_tests)
+step_keeps_lists w u (Hears v g can) generations texts lists = grind (arith, nat_tests)
+step_keeps_lists w u (Learns map can) generations texts lists = grind (arith, nat_tests)
+step_keeps_lists w u (Sends x i can) generations texts lists = grind (arith, nat_tests)
+step_keeps_lists w u (Accepts p can) generations texts lists = grind (arith, nat_tests)
+step_keeps_lists w u (Accepts_again p can) generations texts lists = grind (arith, nat_tests)
+step_keeps_lists w u (Tells v x can) generations texts lists = grind (arith, nat_tests)
+step_keeps_lists w u (Fills v i p can) generations texts lists = grind (arith, nat_tests)
+step_keeps_lists w u (Drops x can) generations texts lists = grind (arith, nat_tests)
+step_keeps_lists w u (Deletes v x can) generations texts lists = grind (arith, nat_tests)
 step_keeps_lists w u (Raises low can) generations texts lists = raises_keeps_lists w low can generations texts lists
 step_keeps_lists w u (Fences v c can) generations texts lists = fences_keeps_lists w v c can generations texts lists
 step_keeps_lists w u (Seals x text count server content can) generations texts lists = seals_keeps_lists w x text count server content can generations texts lists
 step_keeps_lists w u (Restripes x text count server can) generations texts lists = restripes_keeps_lists w x text count server can generations texts lists
-step_keeps_lists w u (Notes p can) generations texts lists = notes_keeps_lists w p can generations texts lists
-step_keeps_lists w u (Settles can) generations texts lists = settles_keeps_lists w can generations texts lists
-step_keeps_lists w u Crashes generations texts lists = crashes_keeps_lists w generations texts lists
+step_keeps_lists w u (Notes p can) generations texts lists = grind (arith, nat_tests)
+step_keeps_lists w u (Settles can) generations texts lists = grind (arith, nat_tests)
+step_keeps_lists w u Crashes generations texts lists = grind (arith, nat_tests)
 step_keeps_lists w u (Restarts can) generations texts lists = restarts_keeps_lists w can generations texts lists
 step_keeps_lists w u (Begins can) generations texts lists = begins_keeps_lists w can generations texts lists
-step_keeps_lists w u (Picks_none list_of low can) generations texts lists = picks_none_keeps_lists w list_of low can generations texts lists
-step_keeps_lists w u (Picks_kept list_of low x can) generations texts lists = picks_kept_keeps_lists w list_of low x can generations texts lists
-step_keeps_lists w u (Picks_prior list_of low x i can) generations texts lists = picks_prior_keeps_lists w list_of low x i can generations texts lists
-step_keeps_lists w u (Cuts low can) generations texts lists = cuts_keeps_lists w low can generations texts lists
+step_keeps_lists w u (Picks_none list_of low can) generations texts lists = grind (arith, nat_tests)
+step_keeps_lists w u (Picks_kept list_of low x can) generations texts lists = grind (arith, nat_tests)
+step_keeps_lists w u (Picks_prior list_of low x i can) generations texts lists = grind (arith, nat_tests)
+step_keeps_lists w u (Cuts low can) generations texts lists = grind (arith, nat_tests)
 step_keeps_lists w u (Opens x text count server can) generations texts lists = opens_keeps_lists w x text count server can generations texts lists
-step_keeps_lists w u (Serves path sure can) generations texts lists = serves_keeps_lists w path sure can generations texts lists
+step_keeps_lists w u (Serves path sure can) generations texts lists = grind (arith, nat_tests)
 
 pub new_log_lists : (servers : ℕ) (seq_of incarnation_of attempt_of : ℕ → ℕ) → Lists (new_log servers seq_of incarnation_of attempt_of)
 new_log_lists servers seq_of incarnation_of attempt_of = grind (arith, nat_tests)

@@ -50,7 +50,7 @@ pub record CanPickNone (w : State) (list_of : ℕ → FencedPacket) (low : ℕ) 
   pub nothing : (v y : ℕ) → v < w.servers → (list_of v).listed y ≡ 1 → w.seq_of y < low
 
 abbrev pub picks_none : State → ℕ → State
-picks_none w low = record w { phase = 2; base = 0; opening_seq = low; read_low = low }
+picks_none w low = record w { phase = 2; base = 0; opening_seq = low; read_low = low; pick_low = low }
 
 -- Pick and keep: no original member of the picked name lacks it; the log is opened after it.
 pub record CanPickKept (w : State) (list_of : ℕ → FencedPacket) (low x : ℕ) : Type 0 where
@@ -63,7 +63,7 @@ pub record CanPickKept (w : State) (list_of : ℕ → FencedPacket) (low x : ℕ
   pub whole : (j : ℕ) → j < w.member_count x → ((list_of (w.member_server x j)).listed x ≡ 1) ⊎ ((list_of (w.member_server x j)).generation ≡ w.member_generation x j → ⊥)
 
 abbrev pub picks_kept : State → ℕ → ℕ → State
-picks_kept w low x = record w { phase = 2; base = x; opening_seq = suc (w.seq_of x); read_low = low; secured = λ y i. if y == x then 1 else w.secured y i }
+picks_kept w low x = record w { phase = 2; base = x; opening_seq = suc (w.seq_of x); read_low = low; pick_low = low; secured = λ y i. if y == x then 1 else w.secured y i }
 
 -- Pick and discard: an original member of the picked name lacks it; the log is opened in its place, after its prior.
 pub record CanPickPrior (w : State) (list_of : ℕ → FencedPacket) (low x i : ℕ) : Type 0 where
@@ -78,7 +78,7 @@ pub record CanPickPrior (w : State) (list_of : ℕ → FencedPacket) (low x i : 
   pub original : (list_of (w.member_server x i)).generation ≡ w.member_generation x i
 
 abbrev pub picks_prior : State → ℕ → ℕ → State
-picks_prior w low x = record w { phase = 2; base = w.prior_of x; opening_seq = w.seq_of x; read_low = low }
+picks_prior w low x = record w { phase = 2; base = w.prior_of x; opening_seq = w.seq_of x; read_low = low; pick_low = low }
 
 -- Cut: a later Welcome of the same opening brings a greater horizon, and reading back ends there.
 pub record CanCut (w : State) (low : ℕ) : Type 0 where
@@ -118,7 +118,7 @@ pub record CanServe (w : State) (path : ℕ → ℕ) (sure : ℕ) : Type 0 where
   pub writing : w.phase ≡ 3
   pub settled : Settled w
   -- this restart isn't doubtful
-  pub undoubted : sure ≡ 1 → Undoubted w
+  pub undoubted : sure ≡ 1 → w.pick_low ≤ w.head → Undoubted w
   -- reading back went by the priors
   pub read : ReadBack w path
 

@@ -12,7 +12,7 @@ loses w v =
       generation = put w.generation v (suc (w.generation v));
       holds = λ u x. if u == v then 0 else w.holds u x;
       marked = λ u x. if u == v then 0 else w.marked u x;
-      hurt = λ i. if w.member_server (w.line w.head) i == v then 1 else w.hurt i;
+      hurt = λ i. if w.member_server (w.line w.head) i == v then (if w.dropped (w.line w.head) == 0 then 1 else w.hurt i) else w.hurt i;
     }
 
 -- Hear: the registry takes a generation that a server reached from its Hello.
@@ -27,8 +27,6 @@ hears w v g = record w { registry_generation = put w.registry_generation v g }
 
 -- Learn: the owner takes a newer map, from a MapNews or a Welcome.
 pub record CanLearn (w : State) (map : ℕ → ℕ) : Type 0 where
-  -- the owner takes news of a greater version alone, and a map's generations rise with its version
-  pub rises : (v : ℕ) → w.owner_generation v ≤ map v
   -- the registry sends its own map of some moment
   pub known : (v : ℕ) → map v ≤ w.registry_generation v
 

@@ -53,6 +53,8 @@ pub record State : Type 0 where
   pub base : ℕ
   pub opening_seq : ℕ
   pub read_low : ℕ
+  -- ghost: the least horizon by which the last opening picked
+  pub pick_low : ℕ
   -- the feed of a serving owner: by seq the segment whose deltas it has, for every seq above feed_base
   pub feed : ℕ → ℕ
   pub feed_base : ℕ
@@ -116,6 +118,7 @@ new_log servers seq_of incarnation_of attempt_of = record {
   base = 0;
   opening_seq = 1;
   read_low = 1;
+  pick_low = 1;
   feed = λ q. 0;
   feed_base = 0;
   line = λ q. 0;
