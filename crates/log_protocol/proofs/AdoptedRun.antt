@@ -12,7 +12,7 @@ use Rattle.log_protocol.specs.Step.{Steps}
 use Rattle.log_protocol.specs.Step.Step.{Loses, Hears, Learns, Sends, Accepts, Accepts_again, Tells, Fills, Drops, Deletes, Raises, Fences, Seals, Restripes, Notes, Settles, Crashes, Begins, Picks_kept, Cuts, Opens, Serves}
 use Rattle.log_protocol.specs.Step.Steps.{Done, More}
 use Rattle.log_protocol.specs.LogRuns.{TailAdopted}
-use Rattle.log_protocol.proofs.RunParts.{first_server, one_server, at_zero, store_to_first, stored_by_first, settled_alone, second_attempt, first_dropped, le11, le12, le22, le24, lt01, lt02, lt03, lt04}
+use Rattle.log_protocol.proofs.RunParts.{first_server, one_server, at_zero, store_to_first, stored_by_first, settled_alone, second_attempt, first_dropped, le11, le12, le22, lt01, lt02, lt03, lt04}
 
 abbrev seqs : ℕ → ℕ
 seqs x = if nat_lt x 3 then x else x - 1
@@ -145,39 +145,46 @@ w14 = picks_kept w13 1 3
 s14 : Steps w0 w14
 s14 = More s13 (Picks_kept list_of 1 3 (record { gathering = refl; gathered = gathered; picked = picked; whole = λ j k. inl refl }))
 
+-- the least horizon rises while it reads back, which ends there; name 1, which was read before, stays read
 abbrev w15 : State
-w15 = cuts w14 1
+w15 = raises w14 2
 
 s15 : Steps w0 w15
-s15 = More s14 (Cuts 1 (record { rises = le11; known = le11 }))
+s15 = More s14 (Raises 2 (record { rises = le12; filed = λ e. le22 }))
 
--- its opening segment, name 4, is stored, and it serves
 abbrev w16 : State
-w16 = opens w15 4 10 1 first_server
+w16 = cuts w15 2
 
 s16 : Steps w0 w16
-s16 = More s15 (Opens 4 10 1 first_server (record { reading = refl; named = lt04; next = refl; own = refl; group = one_server w15 refl }))
+s16 = More s15 (Cuts 2 (record { rises = le12; known = le22 }))
 
+-- its opening segment, name 4, is stored, and it serves
 abbrev w17 : State
-w17 = sends w16 4 0
+w17 = opens w16 4 10 1 first_server
 
 s17 : Steps w0 w17
-s17 = More s16 (Sends 4 0 (record { booked = refl; member = lt01 }))
+s17 = More s16 (Opens 4 10 1 first_server (record { reading = refl; named = lt04; next = refl; own = refl; group = one_server w16 refl }))
 
 abbrev w18 : State
-w18 = accepts w17 (store_to_first 4 10)
+w18 = sends w17 4 0
 
 s18 : Steps w0 w18
-s18 = More s17 (Accepts (store_to_first 4 10) (record { sent = inl refl; present = refl; unmarked = refl; absent = refl }))
+s18 = More s17 (Sends 4 0 (record { booked = refl; member = lt01 }))
 
 abbrev w19 : State
-w19 = notes w18 (stored_by_first 4)
+w19 = accepts w18 (store_to_first 4 10)
 
 s19 : Steps w0 w19
-s19 = More s18 (Notes (stored_by_first 4) (record { sent = inl refl; flying = lt04; named = refl }))
+s19 = More s18 (Accepts (store_to_first 4 10) (record { sent = inl refl; present = refl; unmarked = refl; absent = refl }))
 
-read : ReadBack w19 path
-read = record { last = λ q a e. last q e; back = λ q a less. back q a less }
+abbrev w20 : State
+w20 = notes w19 (stored_by_first 4)
+
+s20 : Steps w0 w20
+s20 = More s19 (Notes (stored_by_first 4) (record { sent = inl refl; flying = lt04; named = refl }))
+
+read : ReadBack w20 path 1
+read = record { picked = le11; cut = le12; last = λ q a e. last q e; back = λ q a less. back q a less }
   where
     last : (q : ℕ) → suc q ≡ 3 → path q ≡ 3
     last q e = grind (arith, nat_tests)
@@ -185,22 +192,16 @@ read = record { last = λ q a e. last q e; back = λ q a less. back q a less }
     one : (q : ℕ) → 1 ≤ q → suc q < 3 → q ≡ 1
     one q a less = omega arith
 
-    back : (q : ℕ) → 1 ≤ q → suc q < 3 → path q ≡ w19.prior_of (path (suc q))
-    back q a less = subst (λ z. path z ≡ w19.prior_of (path (suc z))) (sym (one q a less)) refl
+    back : (q : ℕ) → 1 ≤ q → suc q < 3 → path q ≡ w20.prior_of (path (suc q))
+    back q a less = subst (λ z. path z ≡ w20.prior_of (path (suc z))) (sym (one q a less)) refl
 
-abbrev w20 : State
-w20 = serves w19 path 1
-
-s20 : Steps w0 w20
-s20 = More s19 (Serves path 1 (record { writing = refl; settled = settled_alone w19 refl refl; undoubted = λ e p a b. (0, lt01, refl); read = read }))
-
--- name 1 is dropped and deleted
 abbrev w21 : State
-w21 = raises w20 2
+w21 = serves w20 path 1 1
 
 s21 : Steps w0 w21
-s21 = More s20 (Raises 2 (record { rises = le12; filed = λ e. le24 }))
+s21 = More s20 (Serves path 1 1 (record { writing = refl; settled = settled_alone w20 refl refl; undoubted = λ e p a b. (0, lt01, refl); read = read }))
 
+-- name 1 is dropped and deleted
 abbrev w22 : State
 w22 = drops w21 1
 

@@ -65,7 +65,7 @@ step_keeps_boots w u (Picks_kept list_of low x can) boots = grind (arith, nat_te
 step_keeps_boots w u (Picks_prior list_of low x i can) boots = grind (arith, nat_tests)
 step_keeps_boots w u (Cuts low can) boots = grind (arith, nat_tests)
 step_keeps_boots w u (Opens x text count server can) boots = grind (arith, nat_tests)
-step_keeps_boots w u (Serves path sure can) boots = grind (arith, nat_tests)
+step_keeps_boots w u (Serves path lowest sure can) boots = grind (arith, nat_tests)
 
 pub new_log_boots : (servers : ℕ) (seq_of incarnation_of attempt_of : ℕ → ℕ) → Boots (new_log servers seq_of incarnation_of attempt_of)
 new_log_boots servers seq_of incarnation_of attempt_of = grind (arith, nat_tests)

@@ -56,7 +56,7 @@ step_keeps_contents w u (Picks_kept list_of low x can) boots contents = grind (a
 step_keeps_contents w u (Picks_prior list_of low x i can) boots contents = grind (arith, nat_tests)
 step_keeps_contents w u (Cuts low can) boots contents = grind (arith, nat_tests)
 step_keeps_contents w u (Opens x text count server can) boots contents = opens_keeps_contents w x text count server can boots contents
-step_keeps_contents w u (Serves path sure can) boots contents = grind (arith, nat_tests)
+step_keeps_contents w u (Serves path lowest sure can) boots contents = grind (arith, nat_tests)
 
 pub new_log_contents : (servers : ℕ) (seq_of incarnation_of attempt_of : ℕ → ℕ) → Contents (new_log servers seq_of incarnation_of attempt_of)
 new_log_contents servers seq_of incarnation_of attempt_of = grind (arith, nat_tests)

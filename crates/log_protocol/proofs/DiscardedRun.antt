@@ -171,17 +171,17 @@ w17 = notes w16 (stored_by_first 3)
 s17 : Steps w0 w17
 s17 = More s16 (Notes (stored_by_first 3) (record { sent = inl refl; flying = lt03; named = refl }))
 
-read : ReadBack w17 (λ q. 1)
-read = record { last = λ q a e. refl; back = λ q a less. absurd (below q a less) }
+read : ReadBack w17 (λ q. 1) 1
+read = record { picked = le11; cut = le11; last = λ q a e. refl; back = λ q a less. absurd (below q a less) }
   where
     below : (q : ℕ) → 1 ≤ q → suc q < 2 → ⊥
     below q a less = omega arith
 
 abbrev w18 : State
-w18 = serves w17 (λ q. 1) 1
+w18 = serves w17 (λ q. 1) 1 1
 
 s18 : Steps w0 w18
-s18 = More s17 (Serves (λ q. 1) 1 (record { writing = refl; settled = settled_alone w17 refl refl; undoubted = λ e p a b. (0, lt01, refl); read = read }))
+s18 = More s17 (Serves (λ q. 1) 1 1 (record { writing = refl; settled = settled_alone w17 refl refl; undoubted = λ e p a b. (0, lt01, refl); read = read }))
 
 abbrev w19 : State
 w19 = crashes w18

@@ -79,10 +79,10 @@ s8 : Steps w0 w8
 s8 = More s7 (Notes (stored_by_first 1) (record { sent = inl refl; flying = lt01; named = refl }))
 
 abbrev w9 : State
-w9 = serves w8 (λ q. 0) 1
+w9 = serves w8 (λ q. 0) 1 1
 
 s9 : Steps w0 w9
-s9 = More s8 (Serves (λ q. 0) 1 (record { writing = refl; settled = settled_alone w8 refl refl; undoubted = λ e p a b. absurd (nothing a); read = record { last = λ q a e. refl; back = λ q a less. absurd (below q a less) } }))
+s9 = More s8 (Serves (λ q. 0) 1 1 (record { writing = refl; settled = settled_alone w8 refl refl; undoubted = λ e p a b. absurd (nothing a); read = record { picked = le11; cut = le11; last = λ q a e. refl; back = λ q a less. absurd (below q a less) } }))
 
 pub empty_opened : EmptyOpened
 empty_opened = record { state = w9; reached = record { names = names; run = s9 }; clean = refl; serving = refl; boot = refl; head = refl }

@@ -43,7 +43,7 @@ step_keeps_generations w u (Picks_kept list_of low x can) generations = grind (a
 step_keeps_generations w u (Picks_prior list_of low x i can) generations = grind (arith, nat_tests)
 step_keeps_generations w u (Cuts low can) generations = grind (arith, nat_tests)
 step_keeps_generations w u (Opens x text count server can) generations = grind (arith, nat_tests)
-step_keeps_generations w u (Serves path sure can) generations = grind (arith, nat_tests)
+step_keeps_generations w u (Serves path lowest sure can) generations = grind (arith, nat_tests)
 
 pub new_log_generations : (servers : ℕ) (seq_of incarnation_of attempt_of : ℕ → ℕ) → Generations (new_log servers seq_of incarnation_of attempt_of)
 new_log_generations servers seq_of incarnation_of attempt_of = grind (arith, nat_tests)

@@ -146,8 +146,8 @@ cuts_grows w low can i = grind (arith, nat_tests)
 opens_grows : (w : State) (x text count : ℕ) (server : ℕ → ℕ) → CanOpen w x count server → Invariant w → Grows w (opens w x text count server)
 opens_grows w x text count server can i = let new : w.booked x ≡ 1 → ⊥ = new_opening w x count server can i.shelf.boots in grind (arith, nat_tests)
 
-serves_grows : (w : State) (path : ℕ → ℕ) (sure : ℕ) → CanServe w path sure → Invariant w → Grows w (serves w path sure)
-serves_grows w path sure can i = record {
+serves_grows : (w : State) (path : ℕ → ℕ) (lowest sure : ℕ) → CanServe w path lowest sure → Invariant w → Grows w (serves w path lowest sure)
+serves_grows w path lowest sure can i = record {
   booked = λ x k. k;
   text_of = λ x k. refl;
   member_count = λ x k. refl;
@@ -165,9 +165,9 @@ serves_grows w path sure can i = record {
   incarnation_of = λ x. refl;
   marked = λ u x k k1. k;
   holds = λ u x k k1 k2. k;
-  clean = λ k. (served_clean w path sure can k).0;
-  head = λ k. let was = served_clean w path sure can k in let writing = can.writing in let r = opening_after w writing i.shelf (λ z. i.rising was.0 (was.1 z)) in omega arith;
-  line = λ q k k1. let was = served_clean w path sure can k in let writing = can.writing in let r = opening_after w writing i.shelf (λ z. i.rising was.0 (was.1 z)) in grind (arith, nat_tests);
+  clean = λ k. (served_clean w path lowest sure can k).0;
+  head = λ k. let was = served_clean w path lowest sure can k in let writing = can.writing in let r = opening_after w writing i.shelf (λ z. i.rising was.0 (was.1 z)) in omega arith;
+  line = λ q k k1. let was = served_clean w path lowest sure can k in let writing = can.writing in let r = opening_after w writing i.shelf (λ z. i.rising was.0 (was.1 z)) in grind (arith, nat_tests);
 }
 
 pub step_grows : (w u : State) → Step w u → Invariant w → Grows w u
@@ -195,7 +195,7 @@ step_grows w u (Picks_kept list_of low x can) past = picks_kept_grows w list_of 
 step_grows w u (Picks_prior list_of low x i can) past = picks_prior_grows w list_of low x i can past
 step_grows w u (Cuts low can) past = cuts_grows w low can past
 step_grows w u (Opens x text count server can) past = opens_grows w x text count server can past
-step_grows w u (Serves path sure can) past = serves_grows w path sure can past
+step_grows w u (Serves path lowest sure can) past = serves_grows w path lowest sure can past
 
 grows_on : (w x v : State) → Grows w x → Grows x v → Grows w v
 grows_on w x v a b = record {

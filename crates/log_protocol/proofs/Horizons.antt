@@ -23,12 +23,12 @@ pub record Horizons (w : State) : Type 0 where
   pub low_some : 1 ≤ w.low
   -- at a Begin too
   pub begin_some : 1 ≤ w.begin_low
-  -- an opening reads back to a horizon no older than its Begin
-  pub read_after : 2 ≤ w.phase → w.phase ≤ 3 → w.begin_low ≤ w.read_low
+  -- an opening picks by a horizon no older than its Begin
+  pub pick_after : 2 ≤ w.phase → w.phase ≤ 3 → w.begin_low ≤ w.pick_low
+  -- and reads back to one no older than that of its pick
+  pub pick_before : 2 ≤ w.phase → w.phase ≤ 3 → w.pick_low ≤ w.read_low
   -- that is past
   pub read_past : 2 ≤ w.phase → w.phase ≤ 3 → w.read_low ≤ w.low
-  -- the pick was by a horizon no later than that
-  pub pick_before : 2 ≤ w.phase → w.phase ≤ 3 → w.pick_low ≤ w.read_low
   -- where the pick's horizon was beyond the head, so is the opening segment
   pub pick_beyond : 2 ≤ w.phase → w.phase ≤ 3 → suc w.head ≤ w.pick_low → suc w.head ≤ w.opening_seq
   -- what was dropped is below the least horizon
@@ -63,7 +63,7 @@ step_keeps_horizons w u (Picks_kept list_of low x can) horizons = let a = can.ga
 step_keeps_horizons w u (Picks_prior list_of low x i can) horizons = let a = can.gathered in let b = can.picked.above in grind (arith, nat_tests)
 step_keeps_horizons w u (Cuts low can) horizons = grind (arith, nat_tests)
 step_keeps_horizons w u (Opens x text count server can) horizons = grind (arith, nat_tests)
-step_keeps_horizons w u (Serves path sure can) horizons = grind (arith, nat_tests)
+step_keeps_horizons w u (Serves path lowest sure can) horizons = grind (arith, nat_tests)
 
 pub new_log_horizons : (servers : ℕ) (seq_of incarnation_of attempt_of : ℕ → ℕ) → Horizons (new_log servers seq_of incarnation_of attempt_of)
 new_log_horizons servers seq_of incarnation_of attempt_of = grind (arith, nat_tests)

@@ -11,7 +11,7 @@ use Rattle.log_protocol.proofs.ShelfInvariant.{step_keeps_shelf, new_log_shelf}
 use Rattle.log_protocol.proofs.Line.{Line, loses_keeps_line, hears_keeps_line, learns_keeps_line, sends_keeps_line, accepts_keeps_line, accepts_again_keeps_line, tells_keeps_line, fills_keeps_line, drops_keeps_line, deletes_keeps_line, raises_keeps_line, fences_keeps_line, seals_keeps_line, restripes_keeps_line, notes_keeps_line, settles_keeps_line, crashes_keeps_line, begins_keeps_line, picks_none_keeps_line, picks_kept_keeps_line, picks_prior_keeps_line, cuts_keeps_line, opens_keeps_line, new_log_line}
 use Rattle.log_protocol.proofs.Spans.{Spans, loses_keeps_spans, hears_keeps_spans, learns_keeps_spans, sends_keeps_spans, accepts_keeps_spans, accepts_again_keeps_spans, tells_keeps_spans, fills_keeps_spans, drops_keeps_spans, deletes_keeps_spans, raises_keeps_spans, fences_keeps_spans, seals_keeps_spans, restripes_keeps_spans, notes_keeps_spans, settles_keeps_spans, crashes_keeps_spans, begins_keeps_spans, picks_none_keeps_spans, picks_kept_keeps_spans, picks_prior_keeps_spans, cuts_keeps_spans, opens_keeps_spans, new_log_spans}
 use Rattle.log_protocol.proofs.Rising.{Rising, loses_keeps_rising, hears_keeps_rising, learns_keeps_rising, sends_keeps_rising, accepts_keeps_rising, accepts_again_keeps_rising, tells_keeps_rising, fills_keeps_rising, drops_keeps_rising, deletes_keeps_rising, raises_keeps_rising, fences_keeps_rising, seals_keeps_rising, restripes_keeps_rising, notes_keeps_rising, settles_keeps_rising, crashes_keeps_rising, begins_keeps_rising, picks_none_keeps_rising, picks_kept_keeps_rising, picks_prior_keeps_rising, cuts_keeps_rising, opens_keeps_rising, new_log_rising}
-use Rattle.log_protocol.proofs.Serving.{served_clean, opening_after, pick_seen, serves_keeps_line, serves_keeps_spans, serves_keeps_rising}
+use Rattle.log_protocol.proofs.Serving.{served_clean, opening_after, serves_keeps_line, serves_keeps_spans, serves_keeps_rising}
 
 step_keeps_line : (w u : State) → Step w u → Invariant w → u.clean ≡ 1 → Line u
 step_keeps_line w u (Loses v) past clean = loses_keeps_line w v past.shelf (past.line clean)
@@ -38,9 +38,9 @@ step_keeps_line w u (Picks_kept list_of low x can) past clean = picks_kept_keeps
 step_keeps_line w u (Picks_prior list_of low x i can) past clean = picks_prior_keeps_line w list_of low x i can past.shelf (past.line clean)
 step_keeps_line w u (Cuts low can) past clean = cuts_keeps_line w low can past.shelf (past.line clean)
 step_keeps_line w u (Opens x text count server can) past clean = opens_keeps_line w x text count server can past.shelf (past.line clean)
-step_keeps_line w u (Serves path sure can) past clean =
-    let was = served_clean w path sure can clean in
-    serves_keeps_line w path sure can past.shelf (past.line was.0) (opening_after w can.writing past.shelf (λ k. past.rising was.0 (was.1 k))) (λ k. past.rising was.0 (was.1 (pick_seen w can.writing past.shelf k)))
+step_keeps_line w u (Serves path lowest sure can) past clean =
+    let was = served_clean w path lowest sure can clean in
+    serves_keeps_line w path lowest sure can past.shelf (past.line was.0) (opening_after w can.writing past.shelf (λ k. past.rising was.0 (was.1 k))) (λ k. past.rising was.0 (was.1 k))
 
 step_keeps_spans : (w u : State) → Step w u → Invariant w → u.clean ≡ 1 → Spans u
 step_keeps_spans w u (Loses v) past clean = loses_keeps_spans w v past.shelf (past.line clean) (past.spans clean)
@@ -67,9 +67,9 @@ step_keeps_spans w u (Picks_kept list_of low x can) past clean = picks_kept_keep
 step_keeps_spans w u (Picks_prior list_of low x i can) past clean = picks_prior_keeps_spans w list_of low x i can past.shelf (past.line clean) (past.spans clean)
 step_keeps_spans w u (Cuts low can) past clean = cuts_keeps_spans w low can past.shelf (past.line clean) (past.spans clean)
 step_keeps_spans w u (Opens x text count server can) past clean = opens_keeps_spans w x text count server can past.shelf (past.line clean) (past.spans clean)
-step_keeps_spans w u (Serves path sure can) past clean =
-    let was = served_clean w path sure can clean in
-    serves_keeps_spans w path sure can past.shelf (past.line was.0) (past.spans was.0) (opening_after w can.writing past.shelf (λ k. past.rising was.0 (was.1 k))) (λ k. past.rising was.0 (was.1 (pick_seen w can.writing past.shelf k)))
+step_keeps_spans w u (Serves path lowest sure can) past clean =
+    let was = served_clean w path lowest sure can clean in
+    serves_keeps_spans w path lowest sure can past.shelf (past.line was.0) (past.spans was.0) (opening_after w can.writing past.shelf (λ k. past.rising was.0 (was.1 k))) (λ k. past.rising was.0 (was.1 k))
 
 step_keeps_rising : (w u : State) → Step w u → Invariant w → u.clean ≡ 1 → Undoubted u → Rising u
 step_keeps_rising w u (Loses v) past clean holds = loses_keeps_rising w v past.shelf (past.line clean) (past.spans clean) (past.rising clean) holds
@@ -96,9 +96,9 @@ step_keeps_rising w u (Picks_kept list_of low x can) past clean holds = picks_ke
 step_keeps_rising w u (Picks_prior list_of low x i can) past clean holds = picks_prior_keeps_rising w list_of low x i can past.shelf (past.line clean) (past.spans clean) (past.rising clean) holds
 step_keeps_rising w u (Cuts low can) past clean holds = cuts_keeps_rising w low can past.shelf (past.line clean) (past.spans clean) (past.rising clean) holds
 step_keeps_rising w u (Opens x text count server can) past clean holds = opens_keeps_rising w x text count server can past.shelf (past.line clean) (past.spans clean) (past.rising clean) holds
-step_keeps_rising w u (Serves path sure can) past clean holds =
-    let was = served_clean w path sure can clean in
-    serves_keeps_rising w path sure can past.shelf (past.line was.0) (opening_after w can.writing past.shelf (λ k. past.rising was.0 (was.1 k))) (λ k. past.rising was.0 (was.1 (pick_seen w can.writing past.shelf k)))
+step_keeps_rising w u (Serves path lowest sure can) past clean holds =
+    let was = served_clean w path lowest sure can clean in
+    serves_keeps_rising w path lowest sure can past.shelf (past.line was.0) (opening_after w can.writing past.shelf (λ k. past.rising was.0 (was.1 k))) (λ k. past.rising was.0 (was.1 k))
 
 pub step_keeps : (w u : State) → Step w u → Invariant w → Invariant u
 step_keeps w u step i = record {

@@ -122,7 +122,7 @@ step_keeps_lists w u (Picks_kept list_of low x can) generations texts lists = gr
 step_keeps_lists w u (Picks_prior list_of low x i can) generations texts lists = grind (arith, nat_tests)
 step_keeps_lists w u (Cuts low can) generations texts lists = grind (arith, nat_tests)
 step_keeps_lists w u (Opens x text count server can) generations texts lists = opens_keeps_lists w x text count server can generations texts lists
-step_keeps_lists w u (Serves path sure can) generations texts lists = grind (arith, nat_tests)
+step_keeps_lists w u (Serves path lowest sure can) generations texts lists = grind (arith, nat_tests)
 
 pub new_log_lists : (servers : ℕ) (seq_of incarnation_of attempt_of : ℕ → ℕ) → Lists (new_log servers seq_of incarnation_of attempt_of)
 new_log_lists servers seq_of incarnation_of attempt_of = grind (arith, nat_tests)

@@ -31,10 +31,10 @@ one_line_always w reached clean = let i = always w reached in let l = i.line cle
 }
 
 pub adopts_one_always : (w : State) → Reached w → w.clean ≡ 1 → AdoptsOne w
-adopts_one_always w reached clean path q writing read beyond below some =
+adopts_one_always w reached clean path lowest q writing read beyond below some =
     let i = always w reached in
-    let chain : Chain w path = chain_read w path writing i.shelf.horizons i.shelf.priors read in
-    let above : w.read_low ≤ q = (let l = (i.line clean).low_head in let m = i.shelf.horizons.read_past (omega arith) (omega arith) in omega arith) in
+    let chain : Chain w path lowest = chain_read w path lowest writing i.shelf.horizons i.shelf.priors read in
+    let above : lowest ≤ q = (let c = read.cut in let l = (i.line clean).low_head in let m = i.shelf.horizons.read_past (omega arith) (omega arith) in omega arith) in
     let booked = chain.booked q above below in
     let e = chain.seq q above below in
     let boot = (i.spans clean).content_head (path q) booked (omega arith) some in

@@ -28,4 +28,4 @@ step_keeps_names w u (Picks_kept list_of low x can) names = names
 step_keeps_names w u (Picks_prior list_of low x i can) names = names
 step_keeps_names w u (Cuts low can) names = names
 step_keeps_names w u (Opens x text count server can) names = names
-step_keeps_names w u (Serves path sure can) names = names
+step_keeps_names w u (Serves path lowest sure can) names = names

@@ -45,7 +45,7 @@ pub record Priors (w : State) : Type 0 where
   -- and secured whole
   pub base_secured : (j : ℕ) → 2 ≤ w.phase → w.phase ≤ 3 → 0 < w.base → w.secured w.base j ≡ 1
   -- an opening without one has nothing to read back
-  pub no_base : 2 ≤ w.phase → w.phase ≤ 3 → w.base ≡ 0 → w.opening_seq ≤ w.read_low
+  pub no_base : 2 ≤ w.phase → w.phase ≤ 3 → w.base ≡ 0 → w.opening_seq ≤ w.pick_low
 
 picks_kept_keeps_priors : (w : State) (list_of : ℕ → FencedPacket) (low x : ℕ) → CanPickKept w list_of low x → Names w.seq_of w.incarnation_of w.attempt_of → Boots w → Lists w → Horizons w → Secured w → Priors w → Priors (picks_kept w low x)
 picks_kept_keeps_priors w list_of low x can names boots lists horizons secured priors =
@@ -120,7 +120,7 @@ step_keeps_priors w u (Picks_kept list_of low x can) names boots lists horizons 
 step_keeps_priors w u (Picks_prior list_of low x i can) names boots lists horizons secured priors = picks_prior_keeps_priors w list_of low x i can names boots lists horizons secured priors
 step_keeps_priors w u (Cuts low can) names boots lists horizons secured priors = grind (arith, nat_tests)
 step_keeps_priors w u (Opens x text count server can) names boots lists horizons secured priors = grind (arith, nat_tests)
-step_keeps_priors w u (Serves path sure can) names boots lists horizons secured priors = grind (arith, nat_tests)
+step_keeps_priors w u (Serves path lowest sure can) names boots lists horizons secured priors = grind (arith, nat_tests)
 
 pub new_log_priors : (servers : ℕ) (seq_of incarnation_of attempt_of : ℕ → ℕ) → Priors (new_log servers seq_of incarnation_of attempt_of)
 new_log_priors servers seq_of incarnation_of attempt_of = grind (arith, nat_tests)

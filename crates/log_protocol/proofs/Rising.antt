@@ -24,9 +24,9 @@ pub record Rising (w : State) : Type 0 where
   -- an opening segment comes after the head
   pub opening_above : 2 ≤ w.phase → w.phase ≤ 3 → suc w.head ≤ w.opening_seq
   -- one just after the head is built on it
-  pub base_root : 2 ≤ w.phase → w.phase ≤ 3 → w.opening_seq ≡ suc w.head → w.read_low ≤ w.head → w.base ≡ w.line w.head
+  pub base_root : 2 ≤ w.phase → w.phase ≤ 3 → w.opening_seq ≡ suc w.head → w.pick_low ≤ w.head → w.base ≡ w.line w.head
   -- one further is built on a segment of a boot no earlier than the last that served
-  pub base_up : 2 ≤ w.phase → w.phase ≤ 3 → suc w.head < w.opening_seq → w.read_low ≤ w.head → w.served ≤ w.incarnation_of w.base
+  pub base_up : 2 ≤ w.phase → w.phase ≤ 3 → suc w.head < w.opening_seq → w.pick_low ≤ w.head → w.served ≤ w.incarnation_of w.base
 
 -- the premise on losses held before a loss
 lost_sure : (w : State) (v : ℕ) → Undoubted (loses w v) → Undoubted w

@@ -62,7 +62,7 @@ step_keeps_secured w u (Picks_kept list_of low x can) generations boots texts li
 step_keeps_secured w u (Picks_prior list_of low x i can) generations boots texts lists secured = grind (arith, nat_tests)
 step_keeps_secured w u (Cuts low can) generations boots texts lists secured = grind (arith, nat_tests)
 step_keeps_secured w u (Opens x text count server can) generations boots texts lists secured = grind (arith, nat_tests)
-step_keeps_secured w u (Serves path sure can) generations boots texts lists secured = grind (arith, nat_tests)
+step_keeps_secured w u (Serves path lowest sure can) generations boots texts lists secured = grind (arith, nat_tests)
 
 pub new_log_secured : (servers : ℕ) (seq_of incarnation_of attempt_of : ℕ → ℕ) → Secured (new_log servers seq_of incarnation_of attempt_of)
 new_log_secured servers seq_of incarnation_of attempt_of = grind (arith, nat_tests)

@@ -4,7 +4,7 @@ use Rattle.std.proofs.lemmas.Bool.Decides.{nat_tests}
 use Rattle.log_protocol.specs.State.{State}
 use Rattle.log_protocol.specs.OpeningSteps.{ReadBack, Undoubted, CanServe, serves}
 use Rattle.log_protocol.proofs.ShelfInvariant.{ShelfInvariant}
-use Rattle.log_protocol.proofs.ReadChain.{Chain, Link, chain_read, has_prior, link_at}
+use Rattle.log_protocol.proofs.ReadChain.{Chain, Link, chain_read, has_prior, link_at, picked_above}
 use Rattle.log_protocol.proofs.Line.{Line}
 use Rattle.log_protocol.proofs.Spans.{Spans}
 use Rattle.log_protocol.proofs.Rising.{Rising}
@@ -12,9 +12,9 @@ use Rattle.log_protocol.proofs.Rising.{Rising}
 -- one name of the chain against the line: up to the head it is on it, beyond the head it is of a boot no earlier than the last that served
 record Up (w : State) (x q : ℕ) : Type 0 where
   on_line : q ≤ w.head → x ≡ w.line q
-  beyond : suc w.head ≤ q → w.read_low ≤ w.head → w.served ≤ w.incarnation_of x
+  beyond : suc w.head ≤ q → w.pick_low ≤ w.head → w.served ≤ w.incarnation_of x
 
-base_up : (w : State) (q : ℕ) → w.phase ≡ 3 → (w.read_low ≤ w.head → Rising w) → w.read_low ≤ q → suc q ≡ w.opening_seq → Up w w.base q
+base_up : (w : State) (q : ℕ) → w.phase ≡ 3 → (w.pick_low ≤ w.head → Rising w) → w.pick_low ≤ q → suc q ≡ w.opening_seq → Up w w.base q
 base_up w q writing rising above next =
     let a : 2 ≤ w.phase = omega arith in
     let b : w.phase ≤ 3 = omega arith in
@@ -23,27 +23,27 @@ base_up w q writing rising above next =
       beyond = λ k0 k1. (rising k1).base_up a b (omega arith) k1;
     }
 
-prior_up : (w : State) (x q : ℕ) → w.phase ≡ 3 → ShelfInvariant w → Line w → (w.read_low ≤ w.head → Rising w) → w.read_low ≤ q → Link w x (suc q) → Up w x (suc q) → Up w (w.prior_of x) q
+prior_up : (w : State) (x q : ℕ) → w.phase ≡ 3 → ShelfInvariant w → Line w → (w.pick_low ≤ w.head → Rising w) → w.pick_low ≤ q → Link w x (suc q) → Up w x (suc q) → Up w (w.prior_of x) q
 prior_up w x q writing shelf line rising above link up =
     let low = (has_prior w x q writing shelf.horizons shelf.priors above link).0 in
     record {
-      on_line = λ k. let r = rising (omega arith) in grind (arith, line.line_prior q, line.next_prior x link.booked, r.root x link.booked, shelf.horizons.line_before (omega arith), shelf.horizons.read_after (omega arith) (omega arith), shelf.boots.served_boot, link.seq, up.on_line, up.beyond);
+      on_line = λ k. let r = rising (omega arith) in grind (arith, line.line_prior q, line.next_prior x link.booked, r.root x link.booked, shelf.horizons.line_before (omega arith), shelf.horizons.pick_after (omega arith) (omega arith), shelf.boots.served_boot, link.seq, up.on_line, up.beyond);
       beyond = λ k0 k1. let r = rising k1 in grind (arith, r.root_up x link.booked, line.served_next x link.booked, link.seq, up.beyond);
     }
 
-up_at : (w : State) (path : ℕ → ℕ) → w.phase ≡ 3 → ShelfInvariant w → Line w → (w.read_low ≤ w.head → Rising w) → ReadBack w path → (below q : ℕ) → w.read_low ≤ q → suc (q + below) ≡ w.opening_seq → Up w (path q) q
-up_at w path writing shelf line rising read zero q above e = subst (λ x. Up w x q) (sym (read.last q above (omega arith))) (base_up w q writing rising above (omega arith))
-up_at w path writing shelf line rising read (suc below) q above e = subst (λ x. Up w x q) (sym (read.back q above (omega arith))) (prior_up w (path (suc q)) q writing shelf line rising above (link_at w path writing shelf.horizons shelf.priors read below (suc q) (omega arith) (omega arith)) (up_at w path writing shelf line rising read below (suc q) (omega arith) (omega arith)))
+up_at : (w : State) (path : ℕ → ℕ) (lowest : ℕ) → w.phase ≡ 3 → ShelfInvariant w → Line w → (w.pick_low ≤ w.head → Rising w) → ReadBack w path lowest → (below q : ℕ) → lowest ≤ q → suc (q + below) ≡ w.opening_seq → Up w (path q) q
+up_at w path lowest writing shelf line rising read zero q above e = subst (λ x. Up w x q) (sym (read.last q above (omega arith))) (base_up w q writing rising (picked_above w path lowest q read above) (omega arith))
+up_at w path lowest writing shelf line rising read (suc below) q above e = subst (λ x. Up w x q) (sym (read.back q above (omega arith))) (prior_up w (path (suc q)) q writing shelf line rising (picked_above w path lowest q read above) (link_at w path lowest writing shelf.horizons shelf.priors read below (suc q) (omega arith) (omega arith)) (up_at w path lowest writing shelf line rising read below (suc q) (omega arith) (omega arith)))
 
 -- what was read back is the line as far as the head
-pub chain_on_line : (w : State) (path : ℕ → ℕ) → w.phase ≡ 3 → ShelfInvariant w → Line w → (w.read_low ≤ w.head → Rising w) → ReadBack w path → (q : ℕ) → w.read_low ≤ q → q < w.opening_seq → q ≤ w.head → path q ≡ w.line q
-chain_on_line w path writing shelf line rising read q a b = (up_at w path writing shelf line rising read (w.opening_seq - suc q) q a (omega arith)).on_line
+pub chain_on_line : (w : State) (path : ℕ → ℕ) (lowest : ℕ) → w.phase ≡ 3 → ShelfInvariant w → Line w → (w.pick_low ≤ w.head → Rising w) → ReadBack w path lowest → (q : ℕ) → lowest ≤ q → q < w.opening_seq → q ≤ w.head → path q ≡ w.line q
+chain_on_line w path lowest writing shelf line rising read q a b = (up_at w path lowest writing shelf line rising read (w.opening_seq - suc q) q a (omega arith)).on_line
 
 -- an opening that served and left the log clean was undoubted
-pub served_clean : (w : State) (path : ℕ → ℕ) (sure : ℕ) → CanServe w path sure → (serves w path sure).clean ≡ 1 → (w.clean ≡ 1) × (w.pick_low ≤ w.head → Undoubted w)
-served_clean w path sure can clean = go sure can.undoubted clean
+pub served_clean : (w : State) (path : ℕ → ℕ) (lowest sure : ℕ) → CanServe w path lowest sure → (serves w path lowest sure).clean ≡ 1 → (w.clean ≡ 1) × (w.pick_low ≤ w.head → Undoubted w)
+served_clean w path lowest sure can clean = go sure can.undoubted clean
   where
-    go : (s : ℕ) → (s ≡ 1 → w.pick_low ≤ w.head → Undoubted w) → (serves w path s).clean ≡ 1 → (w.clean ≡ 1) × (w.pick_low ≤ w.head → Undoubted w)
+    go : (s : ℕ) → (s ≡ 1 → w.pick_low ≤ w.head → Undoubted w) → (serves w path lowest s).clean ≡ 1 → (w.clean ≡ 1) × (w.pick_low ≤ w.head → Undoubted w)
     go zero f z = absurd (omega arith)
     go (suc s) f z = (grind (arith, nat_tests), f (grind (arith, nat_tests)))
 
@@ -53,23 +53,19 @@ opening_after w writing shelf rising =
     let seen : w.pick_low ≤ w.head → suc w.head ≤ w.opening_seq = λ k. (rising k).opening_above (omega arith) (omega arith) in
     grind (arith, seen, shelf.horizons.pick_beyond (omega arith) (omega arith))
 
--- what was read below the head was picked below it
-pub pick_seen : (w : State) → w.phase ≡ 3 → ShelfInvariant w → w.read_low ≤ w.head → w.pick_low ≤ w.head
-pick_seen w writing shelf k = let a = shelf.horizons.pick_before (omega arith) (omega arith) in omega arith
-
 -- what is filed by then is on the new line
-filed_on_line : (w : State) (path : ℕ → ℕ) (sure x : ℕ) → w.seq_of w.flight ≡ w.opening_seq → suc w.head ≤ w.opening_seq → (w.filed x ≡ 1 → w.line (w.seq_of x) ≡ x) → (w.filed x ≡ 1 → w.seq_of x ≤ w.head) → (w.read_low ≤ w.seq_of x → w.seq_of x < w.opening_seq → w.seq_of x ≤ w.head → path (w.seq_of x) ≡ w.line (w.seq_of x)) → (serves w path sure).filed x ≡ 1 → (serves w path sure).line (w.seq_of x) ≡ x
-filed_on_line w path sure x seq above old_line old_head same filed = grind (arith, nat_tests)
+filed_on_line : (w : State) (path : ℕ → ℕ) (lowest sure x : ℕ) → w.seq_of w.flight ≡ w.opening_seq → suc w.head ≤ w.opening_seq → (w.filed x ≡ 1 → w.line (w.seq_of x) ≡ x) → (w.filed x ≡ 1 → w.seq_of x ≤ w.head) → (lowest ≤ w.seq_of x → w.seq_of x < w.opening_seq → w.seq_of x ≤ w.head → path (w.seq_of x) ≡ w.line (w.seq_of x)) → (serves w path lowest sure).filed x ≡ 1 → (serves w path lowest sure).line (w.seq_of x) ≡ x
+filed_on_line w path lowest sure x seq above old_line old_head same filed = grind (arith, nat_tests)
 
-pub serves_keeps_line : (w : State) (path : ℕ → ℕ) (sure : ℕ) → CanServe w path sure → ShelfInvariant w → Line w → suc w.head ≤ w.opening_seq → (w.read_low ≤ w.head → Rising w) → Line (serves w path sure)
-serves_keeps_line w path sure can shelf line after rising =
-    let chain : Chain w path = chain_read w path can.writing shelf.horizons shelf.priors can.read in
-    let lined = chain_on_line w path can.writing shelf line rising can.read in
+pub serves_keeps_line : (w : State) (path : ℕ → ℕ) (lowest sure : ℕ) → CanServe w path lowest sure → ShelfInvariant w → Line w → suc w.head ≤ w.opening_seq → (w.pick_low ≤ w.head → Rising w) → Line (serves w path lowest sure)
+serves_keeps_line w path lowest sure can shelf line after rising =
+    let chain : Chain w path lowest = chain_read w path lowest can.writing shelf.horizons shelf.priors can.read in
+    let lined = chain_on_line w path lowest can.writing shelf line rising can.read in
     let writing = can.writing in
     record {
       serving_end = λ k0. grind (arith, nat_tests, line.serving_end);
       line_none = grind (arith, nat_tests, line.line_none);
-      filed_line = λ x k0. filed_on_line w path sure x (let f = shelf.boots.opening_flight writing in shelf.boots.opening_seq_alone w.flight writing (shelf.boots.flight_booked f) (shelf.boots.flight_boot f)) after (line.filed_line x) (line.filed_head x) (lined (w.seq_of x)) k0;
+      filed_line = λ x k0. filed_on_line w path lowest sure x (let f = shelf.boots.opening_flight writing in shelf.boots.opening_seq_alone w.flight writing (shelf.boots.flight_booked f) (shelf.boots.flight_boot f)) after (line.filed_line x) (line.filed_head x) (lined (w.seq_of x)) k0;
       filed_head = λ x k0. grind (arith, nat_tests, line.filed_head x);
       line_filed = λ q k0 k1. grind (arith, nat_tests, line.line_filed q);
       line_seq = λ q k0 k1. grind (arith, nat_tests, line.line_seq q);
@@ -84,10 +80,10 @@ serves_keeps_line w path sure can shelf line after rising =
       feed_line = λ q k0 k1 k2. grind (arith, nat_tests, line.feed_line q);
     }
 
-pub serves_keeps_spans : (w : State) (path : ℕ → ℕ) (sure : ℕ) → CanServe w path sure → ShelfInvariant w → Line w → Spans w → suc w.head ≤ w.opening_seq → (w.read_low ≤ w.head → Rising w) → Spans (serves w path sure)
-serves_keeps_spans w path sure can shelf line spans after rising =
-    let chain : Chain w path = chain_read w path can.writing shelf.horizons shelf.priors can.read in
-    let lined = chain_on_line w path can.writing shelf line rising can.read in
+pub serves_keeps_spans : (w : State) (path : ℕ → ℕ) (lowest sure : ℕ) → CanServe w path lowest sure → ShelfInvariant w → Line w → Spans w → suc w.head ≤ w.opening_seq → (w.pick_low ≤ w.head → Rising w) → Spans (serves w path lowest sure)
+serves_keeps_spans w path lowest sure can shelf line spans after rising =
+    let chain : Chain w path lowest = chain_read w path lowest can.writing shelf.horizons shelf.priors can.read in
+    let lined = chain_on_line w path lowest can.writing shelf line rising can.read in
     let writing = can.writing in
     record {
       hurt_head = λ j k0 k1 k2 k3. grind (arith, nat_tests, spans.hurt_head j);
@@ -97,10 +93,10 @@ serves_keeps_spans w path sure can shelf line spans after rising =
       content_head = λ x k0 k1 k2. grind (arith, nat_tests, spans.content_head x);
     }
 
-pub serves_keeps_rising : (w : State) (path : ℕ → ℕ) (sure : ℕ) → CanServe w path sure → ShelfInvariant w → Line w → suc w.head ≤ w.opening_seq → (w.read_low ≤ w.head → Rising w) → Rising (serves w path sure)
-serves_keeps_rising w path sure can shelf line after rising =
-    let chain : Chain w path = chain_read w path can.writing shelf.horizons shelf.priors can.read in
-    let lined = chain_on_line w path can.writing shelf line rising can.read in
+pub serves_keeps_rising : (w : State) (path : ℕ → ℕ) (lowest sure : ℕ) → CanServe w path lowest sure → ShelfInvariant w → Line w → suc w.head ≤ w.opening_seq → (w.pick_low ≤ w.head → Rising w) → Rising (serves w path lowest sure)
+serves_keeps_rising w path lowest sure can shelf line after rising =
+    let chain : Chain w path lowest = chain_read w path lowest can.writing shelf.horizons shelf.priors can.read in
+    let lined = chain_on_line w path lowest can.writing shelf line rising can.read in
     let writing = can.writing in
     record {
       above = λ x k0 k1. grind (arith, nat_tests);

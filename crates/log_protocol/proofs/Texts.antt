@@ -86,7 +86,7 @@ step_keeps_texts w u (Picks_kept list_of low x can) boots texts = grind (arith, 
 step_keeps_texts w u (Picks_prior list_of low x i can) boots texts = grind (arith, nat_tests)
 step_keeps_texts w u (Cuts low can) boots texts = grind (arith, nat_tests)
 step_keeps_texts w u (Opens x text count server can) boots texts = opens_keeps_texts w x text count server can boots texts
-step_keeps_texts w u (Serves path sure can) boots texts = grind (arith, nat_tests)
+step_keeps_texts w u (Serves path lowest sure can) boots texts = grind (arith, nat_tests)
 
 pub new_log_texts : (servers : ℕ) (seq_of incarnation_of attempt_of : ℕ → ℕ) → Texts (new_log servers seq_of incarnation_of attempt_of)
 new_log_texts servers seq_of incarnation_of attempt_of = grind (arith, nat_tests)

@@ -9,8 +9,8 @@ use Rattle.log_protocol.specs.Step.Steps.{Done, More}
 use Rattle.log_protocol.specs.LogLaws.{Reached}
 use Rattle.log_protocol.specs.UndoubtedRuns.{SureStep, SureRun}
 
-serves_clean : (w : State) (path : ℕ → ℕ) (sure : ℕ) → sure ≡ 1 → w.clean ≡ 1 → (serves w path sure).clean ≡ 1
-serves_clean w path sure holds clean = grind (arith, nat_tests)
+serves_clean : (w : State) (path : ℕ → ℕ) (lowest sure : ℕ) → sure ≡ 1 → w.clean ≡ 1 → (serves w path lowest sure).clean ≡ 1
+serves_clean w path lowest sure holds clean = grind (arith, nat_tests)
 
 step_clean : (w u : State) (step : Step w u) → SureStep step → w.clean ≡ 1 → u.clean ≡ 1
 step_clean w u (Loses v) holds clean = clean
@@ -37,7 +37,7 @@ step_clean w u (Picks_kept list_of low x can) holds clean = clean
 step_clean w u (Picks_prior list_of low x i can) holds clean = clean
 step_clean w u (Cuts low can) holds clean = clean
 step_clean w u (Opens x text count server can) holds clean = clean
-step_clean w u (Serves path sure can) holds clean = serves_clean w path sure holds clean
+step_clean w u (Serves path lowest sure can) holds clean = serves_clean w path lowest sure holds clean
 
 run_clean : (w u : State) (run : Steps w u) → SureRun run → w.clean ≡ 1 → u.clean ≡ 1
 run_clean w u Done holds clean = clean

@@ -35,7 +35,7 @@ pub record InFlightThen (w : State) (x q : ℕ) : Type 0 where
 
 -- What a reopening adopts: of what it reads back beyond the head, only what the last boot that served had in flight tells anything.
 abbrev pub AdoptsOne : State → Type 0
-AdoptsOne w = (path : ℕ → ℕ) (q : ℕ) → w.phase ≡ 3 → ReadBack w path → w.head < q → q < w.opening_seq → 0 < w.content_of (path q) → InFlightThen w (path q) q
+AdoptsOne w = (path : ℕ → ℕ) (lowest q : ℕ) → w.phase ≡ 3 → ReadBack w path lowest → w.head < q → q < w.opening_seq → 0 < w.content_of (path q) → InFlightThen w (path q) q
 
 -- What the feed tells: a serving owner's feed begins no later than the least horizon, and from there to the head it has the filed segments.
 pub record FeedWhole (w : State) : Type 0 where

@@ -103,31 +103,35 @@ pub record CanOpen (w : State) (x count : ℕ) (server : ℕ → ℕ) : Type 0 w
 abbrev pub opens : State → ℕ → ℕ → ℕ → (ℕ → ℕ) → State
 opens w x text count server = record (books w x text count server w.base 0) { phase = 3; spanning = 1 }
 
--- What an opening read back, by seq: the base, and below each name its prior, down to the horizon.
-pub record ReadBack (w : State) (path : ℕ → ℕ) : Type 0 where
-  pub last : (q : ℕ) → w.read_low ≤ q → suc q ≡ w.opening_seq → path q ≡ w.base
-  pub back : (q : ℕ) → w.read_low ≤ q → suc q < w.opening_seq → path q ≡ w.prior_of (path (suc q))
+-- What an opening read back, by seq: the base, and below each name its prior, down to the seq `lowest`.
+pub record ReadBack (w : State) (path : ℕ → ℕ) (lowest : ℕ) : Type 0 where
+  -- nothing below the horizon of the pick is read
+  pub picked : w.pick_low ≤ lowest
+  -- and all that isn't below the horizon that was taken last; what was read before a cut stays read
+  pub cut : lowest ≤ w.read_low
+  pub last : (q : ℕ) → lowest ≤ q → suc q ≡ w.opening_seq → path q ≡ w.base
+  pub back : (q : ℕ) → lowest ≤ q → suc q < w.opening_seq → path q ≡ w.prior_of (path (suc q))
 
 -- The premise on losses: of the newest filed segment, unless the horizon passed it before the span, some member never lacked its fragment since the span began.
 abbrev pub Undoubted : State → Type 0
 Undoubted w = 0 < w.head → w.span_low ≤ w.head → (i : ℕ) × (i < w.member_count (w.line w.head)) × (w.hurt i ≡ 0)
 
 -- Serve: the opening segment has settled; it and all that was read back are filed, and the owner serves. `sure` is 1 where the premise on losses holds.
-pub record CanServe (w : State) (path : ℕ → ℕ) (sure : ℕ) : Type 0 where
+pub record CanServe (w : State) (path : ℕ → ℕ) (lowest sure : ℕ) : Type 0 where
   -- settling looked at an opening segment
   pub writing : w.phase ≡ 3
   pub settled : Settled w
   -- this restart isn't doubtful
   pub undoubted : sure ≡ 1 → w.pick_low ≤ w.head → Undoubted w
   -- reading back went by the priors
-  pub read : ReadBack w path
+  pub read : ReadBack w path lowest
 
-abbrev pub serves : State → (ℕ → ℕ) → ℕ → State
-serves w path sure =
+abbrev pub serves : State → (ℕ → ℕ) → ℕ → ℕ → State
+serves w path lowest sure =
     record w {
       clean = if sure == 1 then w.clean else 0;
       secured = λ x i. if x == w.flight then 1 else w.secured x i;
-      filed = λ x. if x == w.flight then 1 else if nat_lt (w.seq_of x) w.read_low then w.filed x else if nat_lt (w.seq_of x) w.opening_seq then (if path (w.seq_of x) == x then 1 else w.filed x) else w.filed x;
+      filed = λ x. if x == w.flight then 1 else if nat_lt (w.seq_of x) lowest then w.filed x else if nat_lt (w.seq_of x) w.opening_seq then (if path (w.seq_of x) == x then 1 else w.filed x) else w.filed x;
       line = λ q. if q == w.opening_seq then w.flight else if nat_lt w.head q then path q else w.line q;
       head = w.opening_seq;
       served = w.incarnation;

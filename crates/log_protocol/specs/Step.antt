@@ -56,7 +56,7 @@ pub data Step : State → State → Type 0 where
   -- the opening segment is written
   Opens : {w : State} (x text count : ℕ) (server : ℕ → ℕ) → CanOpen w x count server → Step w (opens w x text count server)
   -- the opening segment has settled, and the owner serves
-  Serves : {w : State} (path : ℕ → ℕ) (sure : ℕ) → CanServe w path sure → Step w (serves w path sure)
+  Serves : {w : State} (path : ℕ → ℕ) (lowest sure : ℕ) → CanServe w path lowest sure → Step w (serves w path lowest sure)
 
 -- the runs from one state to another, step by step
 pub data Steps : State → State → Type 0 where

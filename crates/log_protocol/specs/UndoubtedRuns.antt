@@ -7,7 +7,7 @@ use Rattle.log_protocol.specs.Step.Steps.{Done, More}
 
 -- one step: an opening that serves has the premise, by the guard of its step
 abbrev pub SureStep : {w u : State} → Step w u → Type 0
-SureStep (Serves path sure can) = sure ≡ 1
+SureStep (Serves path lowest sure can) = sure ≡ 1
 SureStep (Restarts can) = ⊥
 SureStep step = ⊤
 
