@@ -2,12 +2,13 @@
 -- Stands on Rows, Bounds and Joins.
 use Rattle.std.proofs.Common.{◌≡◌, ℕ, ◌<◌, ◌≤◌, arith}
 use Rattle.std.proofs.lemmas.Bool.Decides.{nat_tests}
-use Rattle.log_protocol.specs.IndexState.{Entry, IndexState, new_block}
-use Rattle.log_protocol.specs.IndexSteps.{CanFile, files, files_none, CanCopy, copies, indexes, CanMerge, CanActivate, CanKeep, keeps_horizon, moves, CanBeat, beats, CanDropRow, drops_row, IndexStep}
-use Rattle.log_protocol.specs.IndexSteps.IndexStep.{Files, Files_none, Copies, Merges, Activates, Keeps, Moves, Beats, Drops_row}
+use Rattle.log_protocol.specs.IndexState.{IndexState, new_block}
+use Rattle.log_protocol.specs.IndexSteps.{CanBeat, beats, IndexStep}
+use Rattle.log_protocol.specs.IndexSteps.IndexStep.{Files, Files_none, Copies, Merges, Activates, Keeps, Moves, Promises, Beats, Counts, Drops_row}
 use Rattle.log_protocol.proofs.IndexRows.{IndexRows}
 use Rattle.log_protocol.proofs.IndexBounds.{IndexBounds}
 use Rattle.log_protocol.proofs.IndexJoins.{IndexJoins}
+use Rattle.log_protocol.proofs.IndexPlaces.{named_beats}
 
 pub record IndexBeaten (w : IndexState) : Type 0 where
   -- in version,
@@ -18,50 +19,63 @@ pub record IndexBeaten (w : IndexState) : Type 0 where
   pub below_seq : (l q : ℕ) → w.beaten l q ≡ 1 → 0 < w.version l q → w.version l q ≡ w.top.version → w.hop l q ≡ w.top.hop → w.top.seq < q
   -- it is filed
   pub beaten_filed : (l q : ℕ) → w.beaten l q ≡ 1 → q ≤ w.head l
-  -- only such rows are dropped
-  pub dropped_beaten : (l q : ℕ) → w.dropped l q ≡ 1 → w.beaten l q ≡ 1
+  -- who answered Dead told of such a row,
+  pub told_beaten : (e l q : ℕ) → w.told e l q ≡ 1 → w.beaten l q ≡ 1
+  -- only such a Dead is counted,
+  pub dead_beaten : (l q : ℕ) → 0 < w.dead_at l q → w.beaten l q ≡ 1
+  -- and only what is counted is dropped
+  pub dropped_dead : (l q : ℕ) → w.dropped l q ≡ 1 → 0 < w.dead_at l q
 
-files_keeps_index_beaten : (w : IndexState) (l version : ℕ) → CanFile w l version → IndexRows w → IndexBounds w → IndexJoins w → IndexBeaten w → IndexBeaten (files w l version)
-files_keeps_index_beaten w l version can rows bounds joins beaten = grind (arith, nat_tests)
+-- what an active manager answers Dead is below what it names, and so below the join
+record Below (w : IndexState) (l q : ℕ) : Type 0 where
+  version : w.version l q ≤ w.top.version
+  hop : w.version l q ≡ w.top.version → w.hop l q ≤ w.top.hop
+  seq : w.version l q ≡ w.top.version → w.hop l q ≡ w.top.hop → w.top.seq < q
+  filed : q ≤ w.head l
 
-files_none_keeps_index_beaten : (w : IndexState) (l : ℕ) → IndexRows w → IndexBounds w → IndexJoins w → IndexBeaten w → IndexBeaten (files_none w l)
-files_none_keeps_index_beaten w l rows bounds joins beaten = grind (arith, nat_tests)
-
-copies_keeps_index_beaten : (w : IndexState) (l q : ℕ) → CanCopy w l q → IndexRows w → IndexBounds w → IndexJoins w → IndexBeaten w → IndexBeaten (copies w l q)
-copies_keeps_index_beaten w l q can rows bounds joins beaten = grind (arith, nat_tests)
-
-merges_keeps_index_beaten : (w : IndexState) (e : ℕ) (applied : ℕ → ℕ) (entry : Entry) → CanMerge w e applied entry → IndexRows w → IndexBounds w → IndexJoins w → IndexBeaten w → IndexBeaten (indexes w e applied entry)
-merges_keeps_index_beaten w e applied entry can rows bounds joins beaten = grind (arith, nat_tests)
-
-activates_keeps_index_beaten : (w : IndexState) (e : ℕ) (applied : ℕ → ℕ) (entry : Entry) → CanActivate w e applied entry → IndexRows w → IndexBounds w → IndexJoins w → IndexBeaten w → IndexBeaten (indexes w e applied entry)
-activates_keeps_index_beaten w e applied entry can rows bounds joins beaten = grind (arith, nat_tests)
-
-keeps_keeps_index_beaten : (w : IndexState) (horizon : ℕ → ℕ) → CanKeep w horizon → IndexRows w → IndexBounds w → IndexJoins w → IndexBeaten w → IndexBeaten (keeps_horizon w horizon)
-keeps_keeps_index_beaten w horizon can rows bounds joins beaten = grind (arith, nat_tests)
-
-moves_keeps_index_beaten : (w : IndexState) → IndexRows w → IndexBounds w → IndexJoins w → IndexBeaten w → IndexBeaten (moves w)
-moves_keeps_index_beaten w rows bounds joins beaten = grind (arith, nat_tests)
-
-beats_keeps_index_beaten : (w : IndexState) (d e l q : ℕ) → CanBeat w d e l q → IndexRows w → IndexBounds w → IndexJoins w → IndexBeaten w → IndexBeaten (beats w l q)
-beats_keeps_index_beaten w d e l q can rows bounds joins beaten =
+told_below : (w : IndexState) (d e l q : ℕ) → CanBeat w d e l q → IndexRows w → IndexBounds w → IndexJoins w → Below w l q
+told_below w d e l q can rows bounds joins =
     let j = joins.each e can.on in
-    let a = bounds.floor_rises d e l (let p = can.promised in omega arith) in
-    let f = bounds.active_covered e l can.on in
-    grind (arith, nat_tests)
+    let some = can.some in
+    let lower = can.below in
+    let rises = bounds.floor_rises d e l can.kept_by in
+    let covered = bounds.active_covered e l can.on in
+    let within : q ≤ w.applied e l = omega arith in
+    let b = named_beats w (w.applied e) (w.index e) l q rows j within some can.elsewhere in
+    let v = b.version in
+    let s = j.within (omega arith) in
+    let f = bounds.applied_filed e (w.index e).log in
+    let its_version = j.its_version (omega arith) in
+    let its_hop = j.its_hop (omega arith) in
+    let n = rows.top.newest (w.index e).log (w.index e).seq (omega arith) in
+    record {
+      version = omega arith;
+      hop = λ same. let h = b.hop (omega arith) in let k = rows.top.furthest (w.index e).log (w.index e).seq (omega arith) (omega arith) in omega arith;
+      seq = λ same same_hop.
+          let h = b.hop (omega arith) in
+          let k = rows.top.furthest (w.index e).log (w.index e).seq (omega arith) (omega arith) in
+          let c = b.seq (omega arith) (omega arith) in
+          let m = rows.top.earliest (w.index e).log (w.index e).seq (omega arith) (omega arith) (omega arith) (omega arith) in
+          omega arith;
+      filed = let g = bounds.applied_filed e l in omega arith;
+    }
 
-drops_row_keeps_index_beaten : (w : IndexState) (l q : ℕ) → CanDropRow w l q → IndexRows w → IndexBounds w → IndexJoins w → IndexBeaten w → IndexBeaten (drops_row w l q)
-drops_row_keeps_index_beaten w l q can rows bounds joins beaten = grind (arith, nat_tests)
+-- so the facts on such rows hold of it too
+beats_keeps_index_beaten : (w : IndexState) (d e l q : ℕ) → Below w l q → IndexBeaten w → IndexBeaten (beats w e l q)
+beats_keeps_index_beaten w d e l q below beaten = grind (arith, nat_tests)
 
 pub step_keeps_index_beaten : (w u : IndexState) → IndexStep w u → IndexRows w → IndexBounds w → IndexJoins w → IndexBeaten w → IndexBeaten u
-step_keeps_index_beaten w u (Files l version can) rows bounds joins beaten = files_keeps_index_beaten w l version can rows bounds joins beaten
-step_keeps_index_beaten w u (Files_none l) rows bounds joins beaten = files_none_keeps_index_beaten w l rows bounds joins beaten
-step_keeps_index_beaten w u (Copies l q can) rows bounds joins beaten = copies_keeps_index_beaten w l q can rows bounds joins beaten
-step_keeps_index_beaten w u (Merges e applied entry can) rows bounds joins beaten = merges_keeps_index_beaten w e applied entry can rows bounds joins beaten
-step_keeps_index_beaten w u (Activates e applied entry can) rows bounds joins beaten = activates_keeps_index_beaten w e applied entry can rows bounds joins beaten
-step_keeps_index_beaten w u (Keeps horizon can) rows bounds joins beaten = keeps_keeps_index_beaten w horizon can rows bounds joins beaten
-step_keeps_index_beaten w u Moves rows bounds joins beaten = moves_keeps_index_beaten w rows bounds joins beaten
-step_keeps_index_beaten w u (Beats d e l q can) rows bounds joins beaten = beats_keeps_index_beaten w d e l q can rows bounds joins beaten
-step_keeps_index_beaten w u (Drops_row l q can) rows bounds joins beaten = drops_row_keeps_index_beaten w l q can rows bounds joins beaten
+step_keeps_index_beaten w u (Files l version can) rows bounds joins beaten = grind (arith, nat_tests)
+step_keeps_index_beaten w u (Files_none l can) rows bounds joins beaten = grind (arith, nat_tests)
+step_keeps_index_beaten w u (Copies l q can) rows bounds joins beaten = grind (arith, nat_tests)
+step_keeps_index_beaten w u (Merges e applied entry can) rows bounds joins beaten = grind (arith, nat_tests)
+step_keeps_index_beaten w u (Activates e applied entry can) rows bounds joins beaten = grind (arith, nat_tests)
+step_keeps_index_beaten w u (Keeps horizon can) rows bounds joins beaten = grind (arith, nat_tests)
+step_keeps_index_beaten w u Moves rows bounds joins beaten = grind (arith, nat_tests)
+step_keeps_index_beaten w u (Promises e can) rows bounds joins beaten = grind (arith, nat_tests)
+step_keeps_index_beaten w u (Beats d e l q can) rows bounds joins beaten = beats_keeps_index_beaten w d e l q (told_below w d e l q can rows bounds joins) beaten
+step_keeps_index_beaten w u (Counts e l q can) rows bounds joins beaten = grind (arith, nat_tests)
+step_keeps_index_beaten w u (Drops_row l q can) rows bounds joins beaten = grind (arith, nat_tests)
 
 pub new_block_index_beaten : (cleaner : ℕ) → IndexBeaten (new_block cleaner)
 new_block_index_beaten cleaner = grind (arith, nat_tests)

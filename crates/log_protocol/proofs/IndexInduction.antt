@@ -1,20 +1,22 @@
 -- The invariant of the index of one block, and that it holds at every state of every run.
--- Its groups, in the order in which they are proved: Rows (on nothing), Bounds (on nothing), Joins (on Rows, Bounds), Beaten (on the three).
+-- Its groups, in the order in which they are proved: Rows (on nothing), Bounds (on nothing), Joins (on Rows, Bounds), Beaten and Dead (each on the three).
 use Rattle.std.proofs.Common.{◌≡◌, ap, ◌∙◌, arith}
 use Rattle.log_protocol.specs.IndexState.{IndexState, new_block}
 use Rattle.log_protocol.specs.IndexSteps.{IndexStep, IndexSteps}
 use Rattle.log_protocol.specs.IndexSteps.IndexSteps.{Done, More}
-use Rattle.log_protocol.specs.IndexLaws.{IndexReached, IndexIsJoin, CleaningLosesNothing}
+use Rattle.log_protocol.specs.IndexLaws.{IndexReached, IndexIsJoin, CleaningLosesNothing, DeadStays, HorizonStays}
 use Rattle.log_protocol.proofs.IndexRows.{IndexRows, step_keeps_index_rows, new_block_index_rows}
 use Rattle.log_protocol.proofs.IndexBounds.{IndexBounds, step_keeps_index_bounds, new_block_index_bounds}
 use Rattle.log_protocol.proofs.IndexJoins.{IndexJoins, step_keeps_index_joins, new_block_index_joins}
 use Rattle.log_protocol.proofs.IndexBeaten.{IndexBeaten, step_keeps_index_beaten, new_block_index_beaten}
+use Rattle.log_protocol.proofs.IndexDead.{IndexDead, step_keeps_index_dead, new_block_index_dead, stays}
 
 pub record IndexInvariant (w : IndexState) : Type 0 where
   pub rows : IndexRows w
   pub bounds : IndexBounds w
   pub joins : IndexJoins w
   pub beaten : IndexBeaten w
+  pub dead : IndexDead w
 
 pub index_step_keeps : (w u : IndexState) → IndexStep w u → IndexInvariant w → IndexInvariant u
 index_step_keeps w u step i = record {
@@ -22,6 +24,7 @@ index_step_keeps w u step i = record {
   bounds = step_keeps_index_bounds w u step i.bounds;
   joins = step_keeps_index_joins w u step i.rows i.bounds i.joins;
   beaten = step_keeps_index_beaten w u step i.rows i.bounds i.joins i.beaten;
+  dead = step_keeps_index_dead w u step i.rows i.bounds i.joins i.dead;
 }
 
 index_run_keeps : (w u : IndexState) → IndexSteps w u → IndexInvariant w → IndexInvariant u
@@ -29,7 +32,7 @@ index_run_keeps w u Done i = i
 index_run_keeps w u (More {v = v} run step) i = index_step_keeps v u step (index_run_keeps w v run i)
 
 pub index_always : (w : IndexState) → IndexReached w → IndexInvariant w
-index_always w run = index_run_keeps (new_block w.cleaner) w run (record { rows = new_block_index_rows w.cleaner; bounds = new_block_index_bounds w.cleaner; joins = new_block_index_joins w.cleaner; beaten = new_block_index_beaten w.cleaner })
+index_always w run = index_run_keeps (new_block w.cleaner) w run (record { rows = new_block_index_rows w.cleaner; bounds = new_block_index_bounds w.cleaner; joins = new_block_index_joins w.cleaner; beaten = new_block_index_beaten w.cleaner; dead = new_block_index_dead w.cleaner })
 
 pub index_is_join_always : (w : IndexState) → IndexReached w → IndexIsJoin w
 index_is_join_always w run = let i = index_always w run in record { all = i.rows.top; each = i.joins.each; begun = i.bounds.active_begun }
@@ -38,7 +41,7 @@ pub cleaning_loses_nothing_always : (w : IndexState) → IndexReached w → Clea
 cleaning_loses_nothing_always w run l q dropped some same_log same_seq =
     let i = index_always w run in
     let top = i.rows.top in
-    let dead = i.beaten.dropped_beaten l q dropped in
+    let dead = i.beaten.dead_beaten l q (i.beaten.dropped_dead l q dropped) in
     let a = i.beaten.below_version l q dead in
     let r = top.its_version (omega arith) in
     let s = top.its_hop (omega arith) in
@@ -46,3 +49,13 @@ cleaning_loses_nothing_always w run l q dropped some same_log same_seq =
     let g : w.hop w.top.log w.top.seq ≡ w.hop l q = ap (λ z. w.hop z w.top.seq) same_log ∙ ap (w.hop l) same_seq in
     let z = i.beaten.below_seq l q dead some (omega arith) (omega arith) in
     omega arith
+
+pub dead_stays_always : (w : IndexState) → IndexReached w → DeadStays w
+dead_stays_always w run = let i = index_always w run in record {
+  counted = i.beaten.dropped_dead;
+  reigned = λ l q dead. i.bounds.active_reigning (w.dead_at l q) (i.dead.told_active (w.dead_at l q) l q (i.dead.dead_told l q dead));
+  stays = λ l q e dead from on. stays w l q e i.joins i.dead dead from on;
+}
+
+pub horizon_stays_always : (w : IndexState) → IndexReached w → HorizonStays w
+horizon_stays_always w run = (index_always w run).bounds.floor_flat

@@ -24,6 +24,8 @@ pub mod IndexRows
 pub mod IndexBounds
 pub mod IndexJoins
 pub mod IndexBeaten
+pub mod IndexPlaces
+pub mod IndexDead
 pub mod IndexInduction
 pub mod IndexMerge
 pub mod Growth

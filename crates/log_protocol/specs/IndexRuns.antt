@@ -9,8 +9,8 @@ pub record IndexMoved : Type 0 where
   pub state : IndexState
   pub reached : IndexReached state
   pub both_active : (state.active 1 ≡ 1) × (state.active 2 ≡ 1)
-  pub horizon : state.floor 2 0 ≡ 3
-  pub dropped : state.dropped 0 1 ≡ 1
-  pub older : state.version 0 1 ≡ 5
+  pub horizon : state.floor 2 1 ≡ 3
+  pub dropped : state.dropped 1 1 ≡ 1
+  pub older : state.version 1 1 ≡ 5
   pub newest : state.top.version ≡ 6
   pub copied : state.top.hop ≡ 1

@@ -11,7 +11,7 @@ pub record Entry : Type 0 where
   pub seq : ℕ
 
 pub record IndexState : Type 0 where
-  -- logs below this number are clients', the log of this number is the cleaner's
+  -- logs from 1 to below this number are clients', the log of this number is the cleaner's; number 0 is nobody's and stays empty
   pub cleaner : ℕ
   -- the rows, by log and seq, and the head of each log's line
   pub version : ℕ → ℕ → ℕ
@@ -30,11 +30,20 @@ pub record IndexState : Type 0 where
   -- ghost: the client's log and the seq at which each version was filed
   pub version_log : ℕ → ℕ
   pub version_seq : ℕ → ℕ
-  -- ghost, by log and seq: 1 where the cleaner was told that this row is dead
+  -- ghost: the greatest epoch at which a manager was ever active
+  pub reigning : ℕ
+  -- the epoch that the cleaner has promised, and ghost, by epoch: the head of the cleaner's log when it first promised that much
+  pub promised : ℕ
+  pub polled : ℕ → ℕ
+  -- ghost, by epoch, log and seq: 1 where the manager of that epoch has answered that this row is dead; and by log and seq: 1 where any has
+  pub told : ℕ → ℕ → ℕ → ℕ
   pub beaten : ℕ → ℕ → ℕ
+  -- by log and seq: the epoch at which the cleaner counted a Dead of this row, 0 where it has not; and ghost: the seq of what that manager's index named then
+  pub dead_at : ℕ → ℕ → ℕ
+  pub beater : ℕ → ℕ → ℕ
   pub dropped : ℕ → ℕ → ℕ
 
--- A block of which nothing is known: no rows, epoch 1, no manager active yet, horizons at 1.
+-- A block of which nothing is known: no rows, epoch 1, no manager active yet, horizons at 1; the cleaner has promised epoch 1.
 abbrev pub new_block : ℕ → IndexState
 new_block cleaner = record {
   cleaner = cleaner;
@@ -49,7 +58,13 @@ new_block cleaner = record {
   floor = λ e l. 1;
   version_log = λ v. 0;
   version_seq = λ v. 0;
+  reigning = 0;
+  promised = 1;
+  polled = λ e. 0;
+  told = λ e l q. 0;
   beaten = λ l q. 0;
+  dead_at = λ l q. 0;
+  beater = λ l q. 0;
   dropped = λ l q. 0;
 }
 

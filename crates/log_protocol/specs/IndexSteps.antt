@@ -7,6 +7,7 @@ use Rattle.log_protocol.specs.IndexState.{Entry, IndexState, Joins}
 -- File: a client's log files a segment with a new version of the block.
 pub record CanFile (w : IndexState) (l version : ℕ) : Type 0 where
   -- the log is a client's
+  pub named : 0 < l
   pub client : l < w.cleaner
   -- only an owner writes, and it writes above what was settled: the token law
   pub new : w.top.version < version
@@ -23,6 +24,10 @@ files w l version =
     }
 
 -- File none: a log files a segment that says nothing of the block.
+pub record CanFileNone (w : IndexState) (l : ℕ) : Type 0 where
+  -- the log is somebody's
+  pub named : 0 < l
+
 abbrev pub files_none : IndexState → ℕ → IndexState
 files_none w l = record w { version = put_at w.version l (suc (w.head l)) 0; hop = put_at w.hop l (suc (w.head l)) 0; head = put w.head l (suc (w.head l)) }
 
@@ -63,6 +68,12 @@ pub record CanMerge (w : IndexState) (e : ℕ) (applied : ℕ → ℕ) (entry : 
 pub record CanActivate (w : IndexState) (e : ℕ) (applied : ℕ → ℕ) (entry : Entry) : Type 0 where
   -- it was told the epoch by the registry
   pub begun : e ≤ w.epoch
+  -- one stay of one manager has each epoch, and it becomes active once
+  pub fresh : w.active e ≡ 0
+  -- the cleaner has reported to it, so it has promised the epoch,
+  pub heard : e ≤ w.promised
+  -- and named the end of its log, which is no shorter than when it first promised that
+  pub reported : w.polled e ≤ applied w.cleaner
   -- it applies at least what the horizon of the map that named it covers
   pub covered : (l : ℕ) → w.floor e l ≤ suc (applied l)
   -- a reported end is filed
@@ -70,13 +81,14 @@ pub record CanActivate (w : IndexState) (e : ℕ) (applied : ℕ → ℕ) (entry
   -- the join of the parts' rows and of the logs read from the horizon
   pub joins : Joins w.version w.hop applied entry
 
+abbrev pub activates : IndexState → ℕ → (ℕ → ℕ) → Entry → IndexState
+activates w e applied entry = record (indexes w e applied entry) { reigning = if nat_lt w.reigning e then e else w.reigning }
+
 -- Keep a horizon: the registry takes a checkpoint of the slot's present manager.
 pub record CanKeep (w : IndexState) (horizon : ℕ → ℕ) : Type 0 where
-  -- the registry takes it at the kept epoch alone, from the manager that is active there
-  pub present : w.active w.epoch ≡ 1
-  -- and refuses a horizon below the kept one
+  -- the registry refuses a horizon below the kept one
   pub rises : (l : ℕ) → w.floor w.epoch l ≤ horizon l
-  -- a checkpoint covers what its manager had applied
+  -- and takes it at the kept epoch alone: the checkpoint covers what that epoch's manager had applied
   pub applied : (l : ℕ) → horizon l ≤ suc (w.applied w.epoch l)
 
 abbrev pub keeps_horizon : IndexState → (ℕ → ℕ) → IndexState
@@ -86,24 +98,43 @@ keeps_horizon w horizon = record w { floor = λ e l. if nat_lt e w.epoch then w.
 abbrev pub moves : IndexState → IndexState
 moves w = record w { epoch = suc w.epoch }
 
--- Dead: a manager answers the cleaner that its index names another row.
+-- Promise: the cleaner promises an epoch, from a Poll or a map.
+pub record CanPromise (w : IndexState) (e : ℕ) : Type 0 where
+  -- it promises no lower one than before
+  pub rises : w.promised ≤ e
+
+abbrev pub promises : IndexState → ℕ → IndexState
+promises w e = record w { promised = e; polled = λ d. if nat_lt w.promised d then (if nat_lt e d then w.polled d else w.head w.cleaner) else w.polled d }
+
+-- Dead: a manager answers the cleaner's Check of a row that its index names another one.
 pub record CanBeat (w : IndexState) (d e l q : ℕ) : Type 0 where
-  -- the cleaner's horizons were kept by epoch d, and it counts a Dead of the epoch that it was promised, no earlier
-  pub promised : d ≤ e
   -- only an active manager answers a Check
   pub on : w.active e ≡ 1
-  -- a candidate is below the least horizon
+  -- the row is below a horizon that was kept by an epoch d, no later than the manager's
+  pub kept_by : d ≤ e
   pub below : q < w.floor d l
+  -- it is a row of the block: an item without a place is not asked about
+  pub some : 0 < w.version l q
   -- the manager's entry is elsewhere
   pub elsewhere : (w.index e).log ≡ l → (w.index e).seq ≡ q → ⊥
 
-abbrev pub beats : IndexState → ℕ → ℕ → IndexState
-beats w l q = record w { beaten = put_at w.beaten l q 1 }
+abbrev pub beats : IndexState → ℕ → ℕ → ℕ → IndexState
+beats w e l q = record w { told = λ c m r. if c == e then put_at (w.told e) l q 1 m r else w.told c m r; beaten = put_at w.beaten l q 1 }
 
--- Drop: the cleaner drops the segment once each of its rows was answered Dead.
+-- Count: the cleaner counts a Dead.
+pub record CanCount (w : IndexState) (e l q : ℕ) : Type 0 where
+  -- only what was answered is delivered
+  pub told : w.told e l q ≡ 1
+  -- a Dead counts where it is of the epoch that is promised
+  pub latest : e ≡ w.promised
+
+abbrev pub counts : IndexState → ℕ → ℕ → ℕ → IndexState
+counts w e l q = record w { dead_at = put_at w.dead_at l q e; beater = put_at w.beater l q (w.index e).seq }
+
+-- Drop: the cleaner drops the segment once a Dead of each of its placed rows was counted.
 pub record CanDropRow (w : IndexState) (l q : ℕ) : Type 0 where
-  -- the Dead of this row has come
-  pub beaten : w.beaten l q ≡ 1
+  -- a Dead of this row was
+  pub counted : 0 < w.dead_at l q
 
 abbrev pub drops_row : IndexState → ℕ → ℕ → IndexState
 drops_row w l q = record w { dropped = put_at w.dropped l q 1 }
@@ -112,19 +143,23 @@ pub data IndexStep : IndexState → IndexState → Type 0 where
   -- a client's log files a new version of the block
   Files : {w : IndexState} (l version : ℕ) → CanFile w l version → IndexStep w (files w l version)
   -- a log files a segment without the block
-  Files_none : {w : IndexState} (l : ℕ) → IndexStep w (files_none w l)
+  Files_none : {w : IndexState} (l : ℕ) → CanFileNone w l → IndexStep w (files_none w l)
   -- the cleaner files a copy of a row
   Copies : {w : IndexState} (l q : ℕ) → CanCopy w l q → IndexStep w (copies w l q)
   -- an active manager applies Deltas
   Merges : {w : IndexState} (e : ℕ) (applied : ℕ → ℕ) (entry : Entry) → CanMerge w e applied entry → IndexStep w (indexes w e applied entry)
   -- a manager that took the slot over becomes active
-  Activates : {w : IndexState} (e : ℕ) (applied : ℕ → ℕ) (entry : Entry) → CanActivate w e applied entry → IndexStep w (indexes w e applied entry)
+  Activates : {w : IndexState} (e : ℕ) (applied : ℕ → ℕ) (entry : Entry) → CanActivate w e applied entry → IndexStep w (activates w e applied entry)
   -- the registry keeps the horizon of a checkpoint
   Keeps : {w : IndexState} (horizon : ℕ → ℕ) → CanKeep w horizon → IndexStep w (keeps_horizon w horizon)
   -- the slot moves to its next epoch
   Moves : {w : IndexState} → IndexStep w (moves w)
-  -- the cleaner is told that a row is dead
-  Beats : {w : IndexState} (d e l q : ℕ) → CanBeat w d e l q → IndexStep w (beats w l q)
+  -- the cleaner promises an epoch
+  Promises : {w : IndexState} (e : ℕ) → CanPromise w e → IndexStep w (promises w e)
+  -- a manager answers that a row is dead
+  Beats : {w : IndexState} (d e l q : ℕ) → CanBeat w d e l q → IndexStep w (beats w e l q)
+  -- the cleaner counts a Dead
+  Counts : {w : IndexState} (e l q : ℕ) → CanCount w e l q → IndexStep w (counts w e l q)
   -- the cleaner drops a dead row
   Drops_row : {w : IndexState} (l q : ℕ) → CanDropRow w l q → IndexStep w (drops_row w l q)
 

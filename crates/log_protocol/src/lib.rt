@@ -21,7 +21,7 @@ ghost use Rattle.log_protocol.specs.PickRule.{gather, best, SameLists};
 ghost use Rattle.log_protocol.specs.NamesAsNumbers.{code_seq, code_incarnation, code_attempt, Decodes};
 ghost use Rattle.log_protocol.specs.Counting.{FewHurt};
 ghost use Rattle.log_protocol.specs.IndexState.{Entry, IndexState, Joins};
-ghost use Rattle.log_protocol.specs.IndexLaws.{IndexReached, IndexIsJoin, CleaningLosesNothing};
+ghost use Rattle.log_protocol.specs.IndexLaws.{IndexReached, IndexIsJoin, CleaningLosesNothing, DeadStays, HorizonStays};
 ghost use Rattle.log_protocol.specs.IndexMerge.{FirstGreatest, merged};
 ghost use Rattle.log_protocol.specs.IndexRuns.{IndexMoved};
 
@@ -106,6 +106,18 @@ pub fn index_is_the_join()
 /// (The 1996 paper, "LFS": the cleaner copies what is live, and frees the rest.)
 pub fn cleaning_loses_nothing()
     ensures nothing_lost { (w : IndexState) → IndexReached w → CleaningLosesNothing w }
+{}
+
+/// What was counted dead stays dead: in every run a row of which the cleaner counted a Dead, as it does before it drops
+/// it, is named by no manager that is active at that epoch or later, unless a newer version is filed.
+pub fn dead_stays()
+    ensures dead { (w : IndexState) → IndexReached w → DeadStays w }
+{}
+
+/// Horizons stand still since the reigning epoch, the greatest at which a manager was ever active: a checkpoint is taken
+/// from an active manager alone.
+pub fn horizons_stand_still()
+    ensures still { (w : IndexState) → IndexReached w → HorizonStays w }
 {}
 
 /// Merging gives the join: an entry that is the join of what was applied, merged with the first greatest row of the
