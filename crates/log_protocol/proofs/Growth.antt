@@ -118,8 +118,8 @@ settles_grows w can i = record {
   marked = λ u x k k1. k;
   holds = λ u x k k1 k2. k;
   clean = λ k. k;
-  head = λ k. let e = (i.line k).serving_end can.serving in let f = i.shelf.boots.flight_seq can.flying can.serving in let h = (i.line k).head_seq in grind (arith, nat_tests);
-  line = λ q k k1. let e = (i.line k).serving_end can.serving in let f = i.shelf.boots.flight_seq can.flying can.serving in let h = (i.line k).head_seq in grind (arith, nat_tests);
+  head = λ k. let e = (i.line k).its_end in let f = i.shelf.boots.flight_seq can.flying can.serving in let h = (i.line k).head_seq in grind (arith, nat_tests);
+  line = λ q k k1. let e = (i.line k).its_end in let f = i.shelf.boots.flight_seq can.flying can.serving in let h = (i.line k).head_seq in grind (arith, nat_tests);
 }
 
 crashes_grows : (w : State) → Invariant w → Grows w (crashes w)

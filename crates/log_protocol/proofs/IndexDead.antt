@@ -185,6 +185,7 @@ stays_not w l q e joins dead counted from on same_l same_q top = go (eq-or-lt_of
   where
     told : w.told (w.dead_at l q) l q ≡ 1
     told = dead.dead_told l q counted
+
     go : (w.dead_at l q ≡ e) ⊎ (w.dead_at l q < e) → ⊥
     go (inl s) = dead.told_elsewhere e l q (ap (λ z. w.told z l q) (sym s) ∙ told) same_l same_q
     go (inr before) =

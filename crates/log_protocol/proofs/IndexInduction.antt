@@ -1,10 +1,11 @@
 -- The invariant of the index of one block, and that it holds at every state of every run.
 -- Its groups, in the order in which they are proved: Rows (on nothing), Bounds (on nothing), Joins (on Rows, Bounds), Beaten and Dead (each on the three).
-use Rattle.std.proofs.Common.{◌≡◌, ap, ◌∙◌, arith}
+use Rattle.std.proofs.Common.{◌≡◌, sym, ap, ◌∙◌, arith}
 use Rattle.log_protocol.specs.IndexState.{IndexState, new_block}
 use Rattle.log_protocol.specs.IndexSteps.{IndexStep, IndexSteps}
 use Rattle.log_protocol.specs.IndexSteps.IndexSteps.{Done, More}
 use Rattle.log_protocol.specs.IndexLaws.{IndexReached, IndexIsJoin, CleaningLosesNothing, DeadStays, HorizonStays}
+use Rattle.log_protocol.specs.IndexBoundLaws.{IndexInBounds, RowsInPlace}
 use Rattle.log_protocol.proofs.IndexRows.{IndexRows, step_keeps_index_rows, new_block_index_rows}
 use Rattle.log_protocol.proofs.IndexBounds.{IndexBounds, step_keeps_index_bounds, new_block_index_bounds}
 use Rattle.log_protocol.proofs.IndexJoins.{IndexJoins, step_keeps_index_joins, new_block_index_joins}
@@ -59,3 +60,30 @@ dead_stays_always w run = let i = index_always w run in record {
 
 pub horizon_stays_always : (w : IndexState) → IndexReached w → HorizonStays w
 horizon_stays_always w run = (index_always w run).bounds.floor_flat
+
+pub index_in_bounds_always : (w : IndexState) → IndexReached w → IndexInBounds w
+index_in_bounds_always w run = let i = index_always w run in record {
+  applied_filed = i.bounds.applied_filed;
+  idle = i.bounds.idle;
+  active_covered = i.bounds.active_covered;
+  active_reported = i.dead.active_reported;
+  active_begun = i.bounds.active_begun;
+  active_promised = i.dead.active_promised;
+  active_reigning = i.bounds.active_reigning;
+  reigning_active = i.bounds.reigning_active;
+  floor_some = i.bounds.floor_some;
+  floor_rises = i.bounds.floor_rises;
+  floor_filed = i.bounds.floor_filed;
+  floor_ahead = i.bounds.floor_ahead;
+}
+
+pub rows_in_place_always : (w : IndexState) → IndexReached w → RowsInPlace w
+rows_in_place_always w run = let r = (index_always w run).rows in record {
+  nobody = r.nobody;
+  no_other = r.no_other;
+  seq_some = r.seq_some;
+  unfiled = r.unfiled;
+  client_hop = r.client_hop;
+  copy_hop = r.copy_hop;
+  one_place = λ a x b y ca cb some same. (sym (r.one_log a x ca some) ∙ (ap w.version_log same ∙ r.one_log b y cb (omega arith)), sym (r.one_seq a x ca some) ∙ (ap w.version_seq same ∙ r.one_seq b y cb (omega arith)));
+}

@@ -44,11 +44,11 @@ named_beats w upto entry l q rows j within some elsewhere = record {
   version = j.newest l q within;
   hop = λ same. j.furthest l q within same;
   seq = λ same same_hop.
-    let a = j.earliest l q within same same_hop some in
-    let v : 0 < entry.version = omega arith in
-    let b : entry.log ≡ l = same_log w entry.log entry.seq l q rows (let z = j.its_version v in omega arith) (j.its_version v ∙ sym same) (j.its_hop v ∙ sym same_hop) in
-    let c : entry.seq ≡ q → ⊥ = elsewhere b in
-    grind (arith, nat_tests);
+      let a = j.earliest l q within same same_hop some in
+      let v : 0 < entry.version = omega arith in
+      let b : entry.log ≡ l = same_log w entry.log entry.seq l q rows (let z = j.its_version v in omega arith) (j.its_version v ∙ sym same) (j.its_hop v ∙ sym same_hop) in
+      let c : entry.seq ≡ q → ⊥ = elsewhere b in
+      grind (arith, nat_tests);
 }
 
 -- and where that has the same version, it is a copy in the cleaner's log

@@ -20,6 +20,8 @@ pub mod Serving
 pub mod Invariant
 pub mod Induction
 pub mod LogTheorems
+pub mod StateLaws
+pub mod StepLaws
 pub mod IndexRows
 pub mod IndexBounds
 pub mod IndexJoins
@@ -27,9 +29,11 @@ pub mod IndexBeaten
 pub mod IndexPlaces
 pub mod IndexDead
 pub mod IndexInduction
+pub mod IndexGrowth
 pub mod IndexMerge
 pub mod Growth
 pub mod Interval
+pub mod TwoRounds
 pub mod PickFold
 pub mod PickedLists
 pub mod NamesAsNumbers

@@ -11,8 +11,8 @@ use Rattle.log_protocol.proofs.ShelfInvariant.{ShelfInvariant}
 use Rattle.log_protocol.proofs.NewNames.{new_seal, new_restripe}
 
 pub record Line (w : State) : Type 0 where
-  -- the end of a serving owner is the head of the line
-  pub serving_end : w.phase ≡ 4 → w.end ≡ w.line w.head
+  -- the end is the head of the line, also while the owner is down or opens its log
+  pub its_end : w.end ≡ w.line w.head
   -- before seq 1 there is nothing
   pub line_none : w.line 0 ≡ 0
   -- what is filed is on the line

@@ -63,7 +63,7 @@ serves_keeps_line w path lowest sure can shelf line after rising =
     let lined = chain_on_line w path lowest can.writing shelf line rising can.read in
     let writing = can.writing in
     record {
-      serving_end = λ k0. grind (arith, nat_tests, line.serving_end);
+      its_end = grind (arith, nat_tests, line.its_end);
       line_none = grind (arith, nat_tests, line.line_none);
       filed_line = λ x k0. filed_on_line w path lowest sure x (let f = shelf.boots.opening_flight writing in shelf.boots.opening_seq_alone w.flight writing (shelf.boots.flight_booked f) (shelf.boots.flight_boot f)) after (line.filed_line x) (line.filed_head x) (lined (w.seq_of x)) k0;
       filed_head = λ x k0. grind (arith, nat_tests, line.filed_head x);
@@ -89,7 +89,9 @@ serves_keeps_spans w path lowest sure can shelf line spans after rising =
       hurt_head = λ j k0 k1 k2 k3. grind (arith, nat_tests, spans.hurt_head j);
       unlisted_hurt = λ p j k0 k1 k2 k3 k4 k5 k6 k7. grind (arith, nat_tests, spans.unlisted_hurt p j);
       unlisted_later = λ p j k0 k1 k2 k3 k4 k5 k6 k7. grind (arith, nat_tests, spans.unlisted_later p j);
+      original_unhurt = λ j k0 k1 k2. grind (arith, nat_tests, spans.original_unhurt j);
       no_span = λ x k0 k1. grind (arith, nat_tests, spans.no_span x);
+      no_span_serving = λ k0. grind (arith, nat_tests, spans.no_span_serving);
       content_head = λ x k0 k1 k2. grind (arith, nat_tests, spans.content_head x);
     }
 

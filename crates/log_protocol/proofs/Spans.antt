@@ -19,8 +19,12 @@ pub record Spans (w : State) : Type 0 where
   pub unlisted_hurt : (p : FencedPacket) (j : ℕ) → In p w.fenceds → p.incarnation ≡ w.incarnation → w.served < w.incarnation → 0 < w.head → p.low ≤ w.head → j < w.member_count (w.line w.head) → w.member_server (w.line w.head) j ≡ p.from → p.listed (w.line w.head) ≡ 0 → w.hurt j ≡ 1
   -- and says that it is of a later generation
   pub unlisted_later : (p : FencedPacket) (j : ℕ) → In p w.fenceds → p.incarnation ≡ w.incarnation → w.served < w.incarnation → 0 < w.head → p.low ≤ w.head → j < w.member_count (w.line w.head) → w.member_server (w.line w.head) j ≡ p.from → p.listed (w.line w.head) ≡ 0 → w.member_generation (w.line w.head) j < p.generation
+  -- a member of the head that is of the generation that its group names isn't hurt
+  pub original_unhurt : (j : ℕ) → 0 < w.head → j < w.member_count (w.line w.head) → w.member_generation (w.line w.head) j ≡ w.generation (w.member_server (w.line w.head) j) → w.hurt j ≡ 0
   -- where no opening segment was written since, no name is of a later boot than the last that served
   pub no_span : (x : ℕ) → w.spanning ≡ 0 → w.booked x ≡ 1 → w.incarnation_of x ≤ w.served
+  -- a serving owner is in no span
+  pub no_span_serving : w.phase ≡ 4 → w.spanning ≡ 0
   -- what tells something beyond the head is of the last boot that served
   pub content_head : (x : ℕ) → w.booked x ≡ 1 → suc w.head ≤ w.seq_of x → 0 < w.content_of x → w.incarnation_of x ≡ w.served
 
@@ -72,7 +76,9 @@ fills_keeps_spans w v i p can shelf line spans = record {
   hurt_head = λ j k0 k1 k2 k3. grind (arith, nat_tests, spans.hurt_head j);
   unlisted_hurt = λ p j k0 k1 k2 k3 k4 k5 k6 k7. grind (arith, nat_tests, spans.unlisted_hurt p j);
   unlisted_later = λ p j k0 k1 k2 k3 k4 k5 k6 k7. grind (arith, nat_tests, spans.unlisted_later p j);
+  original_unhurt = λ j k0 k1 k2. grind (arith, nat_tests, spans.original_unhurt j);
   no_span = λ y k0 k1. grind (arith, nat_tests, spans.no_span y);
+  no_span_serving = λ k0. grind (arith, nat_tests, spans.no_span_serving);
   content_head = λ y k0 k1 k2. grind (arith, nat_tests, spans.content_head y);
 }
 
@@ -81,7 +87,9 @@ drops_keeps_spans w x can shelf line spans = record {
   hurt_head = λ j k0 k1 k2 k3. grind (arith, nat_tests, spans.hurt_head j);
   unlisted_hurt = λ p j k0 k1 k2 k3 k4 k5 k6 k7. grind (arith, nat_tests, spans.unlisted_hurt p j);
   unlisted_later = λ p j k0 k1 k2 k3 k4 k5 k6 k7. grind (arith, nat_tests, spans.unlisted_later p j);
+  original_unhurt = λ j k0 k1 k2. grind (arith, nat_tests, spans.original_unhurt j);
   no_span = λ y k0 k1. grind (arith, nat_tests, spans.no_span y);
+  no_span_serving = λ k0. grind (arith, nat_tests, spans.no_span_serving);
   content_head = λ y k0 k1 k2. grind (arith, nat_tests, spans.content_head y);
 }
 
@@ -90,7 +98,9 @@ deletes_keeps_spans w v x can shelf line spans = record {
   hurt_head = λ j k0 k1 k2 k3. grind (arith, nat_tests, spans.hurt_head j);
   unlisted_hurt = λ p j k0 k1 k2 k3 k4 k5 k6 k7. grind (arith, nat_tests, spans.unlisted_hurt p j);
   unlisted_later = λ p j k0 k1 k2 k3 k4 k5 k6 k7. grind (arith, nat_tests, spans.unlisted_later p j);
+  original_unhurt = λ j k0 k1 k2. grind (arith, nat_tests, spans.original_unhurt j);
   no_span = λ y k0 k1. grind (arith, nat_tests, spans.no_span y);
+  no_span_serving = λ k0. grind (arith, nat_tests, spans.no_span_serving);
   content_head = λ y k0 k1 k2. grind (arith, nat_tests, spans.content_head y);
 }
 
@@ -102,7 +112,9 @@ fences_keeps_spans w v c can shelf line spans = record {
   hurt_head = λ j k0 k1 k2 k3. grind (arith, nat_tests, spans.hurt_head j);
   unlisted_hurt = λ p j k0 k1 k2 k3 k4 k5 k6 k7. (fresh_list w v c p j shelf line spans k0 k1 k2 k3 k4 k5 k6 k7).hurt;
   unlisted_later = λ p j k0 k1 k2 k3 k4 k5 k6 k7. (fresh_list w v c p j shelf line spans k0 k1 k2 k3 k4 k5 k6 k7).later;
+  original_unhurt = λ j k0 k1 k2. grind (arith, nat_tests, spans.original_unhurt j);
   no_span = λ x k0 k1. grind (arith, nat_tests, spans.no_span x);
+  no_span_serving = λ k0. grind (arith, nat_tests, spans.no_span_serving);
   content_head = λ x k0 k1 k2. grind (arith, nat_tests, spans.content_head x);
 }
 
@@ -118,7 +130,9 @@ restripes_keeps_spans w x text count server can shelf line spans =
       hurt_head = λ j k0 k1 k2 k3. grind (arith, nat_tests, spans.hurt_head j);
       unlisted_hurt = λ p j k0 k1 k2 k3 k4 k5 k6 k7. grind (arith, nat_tests, spans.unlisted_hurt p j);
       unlisted_later = λ p j k0 k1 k2 k3 k4 k5 k6 k7. grind (arith, nat_tests, spans.unlisted_later p j);
+      original_unhurt = λ j k0 k1 k2. grind (arith, nat_tests, spans.original_unhurt j);
       no_span = λ y k0 k1. grind (arith, nat_tests, spans.no_span y, spans.no_span w.flight, shelf.boots.flight_boot can.flying, shelf.boots.flight_booked can.flying);
+      no_span_serving = λ k0. grind (arith, nat_tests, spans.no_span_serving);
       content_head = λ y k0 k1 k2. grind (arith, nat_tests, spans.content_head y);
     }
 
@@ -136,7 +150,9 @@ begins_keeps_spans w can shelf line spans = record {
   hurt_head = λ j k0 k1 k2 k3. grind (arith, nat_tests, spans.hurt_head j);
   unlisted_hurt = λ p j k0 k1 k2 k3 k4 k5 k6 k7. grind (arith, nat_tests, spans.unlisted_hurt p j, shelf.lists.fenced_boot p k0);
   unlisted_later = λ p j k0 k1 k2 k3 k4 k5 k6 k7. grind (arith, nat_tests, spans.unlisted_later p j, shelf.lists.fenced_boot p k0);
+  original_unhurt = λ j k0 k1 k2. grind (arith, nat_tests, spans.original_unhurt j);
   no_span = λ x k0 k1. grind (arith, nat_tests, spans.no_span x);
+  no_span_serving = λ k0. grind (arith, nat_tests, spans.no_span_serving);
   content_head = λ x k0 k1 k2. grind (arith, nat_tests, spans.content_head x);
 }
 
@@ -157,7 +173,9 @@ opens_keeps_spans w x text count server can shelf line spans = record {
   hurt_head = λ j k0 k1 k2 k3. grind (arith, nat_tests, spans.hurt_head j);
   unlisted_hurt = λ p j k0 k1 k2 k3 k4 k5 k6 k7. grind (arith, nat_tests, spans.unlisted_hurt p j);
   unlisted_later = λ p j k0 k1 k2 k3 k4 k5 k6 k7. grind (arith, nat_tests, spans.unlisted_later p j);
+  original_unhurt = λ j k0 k1 k2. grind (arith, nat_tests, spans.original_unhurt j);
   no_span = λ y k0 k1. grind (arith, nat_tests, spans.no_span y);
+  no_span_serving = λ k0. grind (arith, nat_tests, spans.no_span_serving);
   content_head = λ y k0 k1 k2. grind (arith, nat_tests, spans.content_head y);
 }
 

@@ -8,10 +8,14 @@ pub mod Step
 pub mod LogLaws
 pub mod IndexState
 pub mod IndexSteps
+pub mod StateLaws
+pub mod StepLaws
 pub mod IndexLaws
+pub mod IndexBoundLaws
 pub mod GrowthLaws
 pub mod PickRule
 pub mod Counting
+pub mod LossLaws
 pub mod IndexMerge
 pub mod NamesAsNumbers
 pub mod LogRuns

@@ -11,17 +11,22 @@ ghost use Rattle.std.specs.Prelude.{◌≡◌, ℕ, ◌<◌, ◌≤◌, suc, Lis
 ghost use Rattle.log_protocol.specs.Tables.{put};
 ghost use Rattle.log_protocol.specs.Packets.{FencedPacket};
 ghost use Rattle.log_protocol.specs.State.{State, Names};
-ghost use Rattle.log_protocol.specs.OpeningSteps.{Picked, Undoubted};
-ghost use Rattle.log_protocol.specs.Step.{Steps};
+ghost use Rattle.log_protocol.specs.OpeningSteps.{Picked, Undoubted, CanServe};
+ghost use Rattle.log_protocol.specs.Step.{Step, Steps};
 ghost use Rattle.log_protocol.specs.LogLaws.{Reached, LogsWhole, OneText, OneLine, AdoptsOne, FeedWhole};
+ghost use Rattle.log_protocol.specs.StateLaws.{BookInOrder, ShelvesInOrder, OwnerInOrder, HorizonsInOrder, EndIsHead, OriginalUnhurt};
+ghost use Rattle.log_protocol.specs.StepLaws.{NamesNew, FilesWhatWasRead, HurtEarned};
 ghost use Rattle.log_protocol.specs.UndoubtedRuns.{SureRun};
 ghost use Rattle.log_protocol.specs.GrowthLaws.{PastStays, LacksBetween};
 ghost use Rattle.log_protocol.specs.LogRuns.{TailAdopted, TailDiscarded, EmptyOpened};
 ghost use Rattle.log_protocol.specs.PickRule.{gather, best, SameLists};
 ghost use Rattle.log_protocol.specs.NamesAsNumbers.{code_seq, code_incarnation, code_attempt, Decodes};
 ghost use Rattle.log_protocol.specs.Counting.{FewHurt};
+ghost use Rattle.log_protocol.specs.LossLaws.{MissedTwice, Whole, ReadBy, TornBetween};
 ghost use Rattle.log_protocol.specs.IndexState.{Entry, IndexState, Joins};
 ghost use Rattle.log_protocol.specs.IndexLaws.{IndexReached, IndexIsJoin, CleaningLosesNothing, DeadStays, HorizonStays};
+ghost use Rattle.log_protocol.specs.IndexSteps.{IndexSteps};
+ghost use Rattle.log_protocol.specs.IndexBoundLaws.{IndexInBounds, RowsInPlace, IndexPastStays};
 ghost use Rattle.log_protocol.specs.IndexMerge.{FirstGreatest, merged};
 ghost use Rattle.log_protocol.specs.IndexRuns.{IndexMoved};
 
@@ -70,8 +75,55 @@ pub fn few_losses_are_undoubted()
     ensures undoubted { (w : State) → FewHurt w → Undoubted w }
 {}
 
-/// What only grows: between two moments of a run, a booked name keeps its text and prior, what is filed or dropped
-/// stays so, the least horizon never falls, and the line is only added to.
+/// A hurt member is one that lacks the head: in a clean log a member of the head that is of the generation that its
+/// group names isn't hurt; and over each step of a span, a member that is hurt was so before, or lacks its fragment of
+/// the head now, while the head isn't dropped. So what is lost after it was dropped never makes a restart doubtful.
+pub fn hurt_is_earned()
+    ensures original { (w : State) → Reached w → w.clean ≡ 1 → OriginalUnhurt w }
+    ensures earned { (w u : State) → Reached w → Step w u → w.clean ≡ 1 → HurtEarned w u }
+{}
+
+/// Two rounds tell of a torn segment: where more members than the spare ones answered Missing in two rounds of a reader,
+/// each in one generation, and the segment isn't dropped when the second round ends, it was torn, and not dropped, when
+/// the first one ended: all of them lacked their fragments at that one moment.
+pub fn two_rounds_tell_of_a_torn_segment()
+    ensures torn { (since m u : State) (x spare : ℕ) → Reached since → Steps since m → Steps m u → MissedTwice since m u x spare → (u.dropped x ≡ 1 → ⊥) → TornBetween m x spare }
+{}
+
+/// What a reopening reads back is whole unless it was dropped, and it wasn't dropped where a later horizon doesn't pass
+/// it. Both hold in every run, also after a doubtful opening.
+pub fn what_is_read_back_is_whole()
+    ensures whole { (w : State) (x : ℕ) → Reached w → ReadBy w x → w.dropped x ≡ 0 → Whole w x }
+    ensures kept { (w u : State) (x : ℕ) → Reached w → Steps w u → u.low ≤ u.seq_of x → w.dropped x ≡ 0 }
+{}
+
+/// The end is the head: while no doubtful opening has served, the owner's end is the newest filed segment, whatever its
+/// phase, and the filed segments are just those of the line, none later than its head.
+pub fn end_is_head()
+    ensures head { (w : State) → Reached w → w.clean ≡ 1 → EndIsHead w }
+{}
+
+/// Small facts of every state of every run: of booked names, of shelves and packets, of the owner, of horizons.
+pub fn all_is_in_order()
+    ensures book { (w : State) → Reached w → BookInOrder w }
+    ensures shelves { (w : State) → Reached w → ShelvesInOrder w }
+    ensures owner { (w : State) → Reached w → OwnerInOrder w }
+    ensures horizons { (w : State) → Reached w → HorizonsInOrder w }
+{}
+
+/// Names are new: what a seal, a restripe or an opening books was not booked before.
+pub fn names_are_new()
+    ensures new { (w : State) → Reached w → NamesNew w }
+{}
+
+/// Serving files what was read: after an opening that serves, what is filed is what was, the opening segment, and each
+/// segment that was read back, also one that a later horizon passed in the meantime.
+pub fn serving_files_what_was_read()
+    ensures files { (w : State) (path : ℕ → ℕ) (lowest sure : ℕ) → Reached w → CanServe w path lowest sure → FilesWhatWasRead w path lowest sure }
+{}
+
+/// What only grows: between two moments of a run, a booked name keeps its text, group, prior and content, what is filed
+/// or dropped stays so, the least horizon never falls, and the line is only added to.
 pub fn past_stays()
     ensures stays { (w u : State) → Reached w → Steps w u → PastStays w u }
 {}
@@ -118,6 +170,24 @@ pub fn dead_stays()
 /// from an active manager alone.
 pub fn horizons_stand_still()
     ensures still { (w : IndexState) → IndexReached w → HorizonStays w }
+{}
+
+/// The index is in bounds: how far managers have applied the logs, against heads, horizons, epochs and the cleaner's
+/// promises; no horizon is more than one above what is filed.
+pub fn index_is_in_bounds()
+    ensures bounds { (w : IndexState) → IndexReached w → IndexInBounds w }
+{}
+
+/// Rows are in place: which logs say something of the block and where, and that a version stands at one place of the
+/// clients' logs.
+pub fn rows_are_in_place()
+    ensures placed { (w : IndexState) → IndexReached w → RowsInPlace w }
+{}
+
+/// What only grows in the index: between two moments of a run, what is filed keeps its row, heads, epochs, promises,
+/// horizons and what is applied only rise, and what was answered Dead, counted or dropped stays so.
+pub fn index_past_stays()
+    ensures stays { (w u : IndexState) → IndexReached w → IndexSteps w u → IndexPastStays w u }
 {}
 
 /// Merging gives the join: an entry that is the join of what was applied, merged with the first greatest row of the
