@@ -11,7 +11,8 @@ use Rattle.log_protocol.specs.OpeningSteps.{begins, Gathered, Picked, picks_kept
 use Rattle.log_protocol.specs.Step.{Steps}
 use Rattle.log_protocol.specs.Step.Step.{Loses, Hears, Learns, Sends, Accepts, Accepts_again, Tells, Fills, Drops, Deletes, Raises, Fences, Seals, Restripes, Notes, Settles, Crashes, Begins, Picks_kept, Cuts, Opens, Serves}
 use Rattle.log_protocol.specs.Step.Steps.{Done, More}
-use Rattle.log_protocol.specs.LogRuns.{TailAdopted}
+use Rattle.log_protocol.specs.StepKinds.{kinds}
+use Rattle.log_protocol.specs.LogRuns.{adopted_steps, TailAdopted}
 use Rattle.log_protocol.proofs.RunParts.{first_server, one_server, at_zero, store_to_first, stored_by_first, settled_alone, second_attempt, first_dropped, le11, le12, le22, lt01, lt02, lt03, lt04}
 
 abbrev seqs : ℕ → ℕ
@@ -251,10 +252,15 @@ w28 = fills w27 0 0 told
 s28 : Steps w0 w28
 s28 = More s27 (Fills 0 0 told (record { sent = inl refl; member = lt01; own = refl; unmarked = refl; absent = refl }))
 
+steps : kinds s28 ≡ adopted_steps
+unfolding s1 s2 s3 s4 s5 s6 s7 s8 s9 s10 s11 s12 s13 s14 s15 s16 s17 s18 s19 s20 s21 s22 s23 s24 s25 s26 s27 s28
+steps = refl
+
 pub tail_adopted : TailAdopted
 tail_adopted = record {
   state = w28;
   reached = record { names = names; run = s28 };
+  steps = steps;
   clean = refl;
   serving = refl;
   boot = refl;

@@ -12,7 +12,8 @@ use Rattle.log_protocol.specs.OpeningSteps.{begins, Gathered, Picked, picks_prio
 use Rattle.log_protocol.specs.Step.{Steps}
 use Rattle.log_protocol.specs.Step.Step.{Sends, Accepts, Fences, Seals, Notes, Settles, Crashes, Restarts, Begins, Picks_prior, Opens, Serves}
 use Rattle.log_protocol.specs.Step.Steps.{Done, More}
-use Rattle.log_protocol.specs.LogRuns.{TailDiscarded}
+use Rattle.log_protocol.specs.StepKinds.{kinds}
+use Rattle.log_protocol.specs.LogRuns.{discarded_steps, TailDiscarded}
 use Rattle.log_protocol.proofs.RunParts.{first_server, store_to_first, stored_by_first, settled_alone, le11, le12, le22, lt01, lt02, lt03, lt12}
 
 abbrev seqs : ℕ → ℕ
@@ -195,6 +196,10 @@ w20 = restarts w19
 s20 : Steps w0 w20
 s20 = More s19 (Restarts (record { down = refl }))
 
+steps : kinds s20 ≡ discarded_steps
+unfolding s1 s2 s3 s4 s5 s6 s7 s8 s9 s10 s11 s12 s13 s14 s15 s16 s17 s18 s19 s20
+steps = refl
+
 pub tail_discarded : TailDiscarded
 tail_discarded = record {
   served = w18;
@@ -209,5 +214,6 @@ tail_discarded = record {
   one_filed = (refl, refl);
   restarted = w20;
   later = record { names = names; run = s20 };
+  steps = steps;
   again = (refl, refl);
 }

@@ -9,7 +9,8 @@ use Rattle.log_protocol.specs.OpeningSteps.{begins, Gathered, picks_none, opens,
 use Rattle.log_protocol.specs.Step.{Steps}
 use Rattle.log_protocol.specs.Step.Step.{Sends, Accepts, Fences, Notes, Crashes, Begins, Picks_none, Opens, Serves}
 use Rattle.log_protocol.specs.Step.Steps.{Done, More}
-use Rattle.log_protocol.specs.LogRuns.{EmptyOpened}
+use Rattle.log_protocol.specs.StepKinds.{kinds}
+use Rattle.log_protocol.specs.LogRuns.{empty_steps, EmptyOpened}
 use Rattle.log_protocol.proofs.RunParts.{first_server, one_server, at_zero, store_to_first, stored_by_first, settled_alone, le11, le22, lt01}
 
 names : Names (λ x. x) (λ x. 2) (λ x. 1)
@@ -84,5 +85,9 @@ w9 = serves w8 (λ q. 0) 1 1
 s9 : Steps w0 w9
 s9 = More s8 (Serves (λ q. 0) 1 1 (record { writing = refl; settled = settled_alone w8 refl refl; undoubted = λ e p a b. absurd (nothing a); read = record { picked = le11; cut = le11; last = λ q a e. refl; back = λ q a less. absurd (below q a less) } }))
 
+steps : kinds s9 ≡ empty_steps
+unfolding s1 s2 s3 s4 s5 s6 s7 s8 s9
+steps = refl
+
 pub empty_opened : EmptyOpened
-empty_opened = record { state = w9; reached = record { names = names; run = s9 }; clean = refl; serving = refl; boot = refl; head = refl }
+empty_opened = record { state = w9; reached = record { names = names; run = s9 }; steps = steps; clean = refl; serving = refl; boot = refl; head = refl }

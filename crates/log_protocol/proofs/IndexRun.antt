@@ -6,7 +6,8 @@ use Rattle.log_protocol.specs.IndexState.{Entry, IndexState, new_block, Joins}
 use Rattle.log_protocol.specs.IndexSteps.{files, files_none, copies, indexes, activates, keeps_horizon, moves, promises, beats, counts, drops_row, IndexSteps}
 use Rattle.log_protocol.specs.IndexSteps.IndexStep.{Files, Files_none, Copies, Merges, Activates, Keeps, Moves, Promises, Beats, Counts, Drops_row}
 use Rattle.log_protocol.specs.IndexSteps.IndexSteps.{Done, More}
-use Rattle.log_protocol.specs.IndexRuns.{IndexMoved}
+use Rattle.log_protocol.specs.IndexStepKinds.{index_kinds}
+use Rattle.log_protocol.specs.IndexRuns.{moved_steps, IndexMoved}
 use Rattle.log_protocol.proofs.RunParts.{le11, le12, le22, lt01, lt05, lt06, lt12, lt13, lt56}
 
 abbrev first : Entry
@@ -122,5 +123,9 @@ u13 = files_none u12 1
 s13 : IndexSteps u0 u13
 s13 = More s12 (Files_none 1 (record { named = lt01 }))
 
+steps : index_kinds s13 ≡ moved_steps
+unfolding s1 s2 s3 s4 s5 s6 s7 s8 s9 s10 s11 s12 s13
+steps = refl
+
 pub index_moved : IndexMoved
-index_moved = record { state = u13; reached = s13; both_active = (refl, refl); horizon = refl; dropped = refl; older = refl; newest = refl; copied = refl }
+index_moved = record { state = u13; reached = s13; steps = steps; both_active = (refl, refl); horizon = refl; dropped = refl; older = refl; newest = refl; copied = refl }

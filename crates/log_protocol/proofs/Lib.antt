@@ -43,4 +43,5 @@ pub mod AdoptedRun
 pub mod EmptyRun
 pub mod DiscardedRun
 pub mod IndexRun
+pub mod StepsTaken
 pub mod UndoubtedRuns

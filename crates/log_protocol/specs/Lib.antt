@@ -18,6 +18,8 @@ pub mod Counting
 pub mod LossLaws
 pub mod IndexMerge
 pub mod NamesAsNumbers
+pub mod StepKinds
 pub mod LogRuns
+pub mod IndexStepKinds
 pub mod IndexRuns
 pub mod UndoubtedRuns

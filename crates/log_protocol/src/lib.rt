@@ -18,7 +18,7 @@ ghost use Rattle.log_protocol.specs.StateLaws.{BookInOrder, ShelvesInOrder, Owne
 ghost use Rattle.log_protocol.specs.StepLaws.{NamesNew, FilesWhatWasRead, HurtEarned};
 ghost use Rattle.log_protocol.specs.UndoubtedRuns.{SureRun};
 ghost use Rattle.log_protocol.specs.GrowthLaws.{PastStays, LacksBetween};
-ghost use Rattle.log_protocol.specs.LogRuns.{TailAdopted, TailDiscarded, EmptyOpened};
+ghost use Rattle.log_protocol.specs.LogRuns.{TailAdopted, TailDiscarded, EmptyOpened, EveryStepTaken};
 ghost use Rattle.log_protocol.specs.PickRule.{gather, best, SameLists};
 ghost use Rattle.log_protocol.specs.NamesAsNumbers.{code_seq, code_incarnation, code_attempt, Decodes};
 ghost use Rattle.log_protocol.specs.Counting.{FewHurt};
@@ -28,7 +28,7 @@ ghost use Rattle.log_protocol.specs.IndexLaws.{IndexReached, IndexIsJoin, Cleani
 ghost use Rattle.log_protocol.specs.IndexSteps.{IndexSteps};
 ghost use Rattle.log_protocol.specs.IndexBoundLaws.{IndexInBounds, RowsInPlace, IndexPastStays};
 ghost use Rattle.log_protocol.specs.IndexMerge.{FirstGreatest, merged};
-ghost use Rattle.log_protocol.specs.IndexRuns.{IndexMoved};
+ghost use Rattle.log_protocol.specs.IndexRuns.{IndexMoved, EveryIndexStepTaken};
 
 /// Logs stay whole: in every run each member of a filed segment that isn't dropped holds its fragment, at its index,
 /// or its server is of a later generation than the segment's group names. So nothing but losses takes a fragment
@@ -198,10 +198,13 @@ pub fn merging_gives_the_join()
 
 /// The laws speak of something: runs reach a state in which a restriped tail was adopted, a segment dropped, and a
 /// server lost and filled again; one in which a tail was discarded; one in which an empty log was opened; and one in
-/// which managers were activated, a horizon kept, a row dropped and another copied.
+/// which managers were activated, a horizon kept, a row dropped and another copied. Each says which steps it takes, and
+/// together they take every kind of step, so each guard is one that something meets.
 pub fn runs_exist()
     ensures adopted { TailAdopted }
     ensures discarded { TailDiscarded }
     ensures empty { EmptyOpened }
     ensures index { IndexMoved }
+    ensures every_step { EveryStepTaken }
+    ensures every_index_step { EveryIndexStepTaken }
 {}
