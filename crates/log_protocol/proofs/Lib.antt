@@ -30,8 +30,10 @@ pub mod IndexPlaces
 pub mod IndexDead
 pub mod IndexInduction
 pub mod IndexGrowth
+pub mod IndexRunsGoOn
 pub mod IndexMerge
 pub mod Growth
+pub mod RunsGoOn
 pub mod Interval
 pub mod TwoRounds
 pub mod PickFold

@@ -2,6 +2,10 @@
 use Rattle.std.specs.Prelude.{◌≡◌, ℕ, ◌≤◌}
 use Rattle.log_protocol.specs.State.{State}
 
+-- What names say and how many servers there are is the same in w and u.
+abbrev pub SameNames : State → State → Type 0
+SameNames w u = (u.servers ≡ w.servers) × (u.seq_of ≡ w.seq_of) × (u.incarnation_of ≡ w.incarnation_of) × (u.attempt_of ≡ w.attempt_of)
+
 -- The past stays: from w to a later u the book keeps each name with its text, group, prior and content, what is filed or dropped stays so, generations, horizons and boots never fall, and the line of a log that is still clean is only added to.
 pub record PastStays (w u : State) : Type 0 where
   pub text : (x : ℕ) → w.booked x ≡ 1 → (u.booked x ≡ 1) × (u.text_of x ≡ w.text_of x)

@@ -72,7 +72,7 @@ pub record State : Type 0 where
   pub spanning : ℕ
   -- ghost: 1 where no opening has served while the premise on losses failed
   pub clean : ℕ
-  -- ghost: the members of the head that lacked their fragment, at a later generation, since the span began
+  -- ghost: the members of the head that lacked their fragment, at a later generation, since the span began and while the head wasn't dropped
   pub hurt : ℕ → ℕ
 
 -- No two names say the same, and 0 has no seq.

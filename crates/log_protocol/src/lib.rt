@@ -17,7 +17,7 @@ ghost use Rattle.log_protocol.specs.LogLaws.{Reached, LogsWhole, OneText, OneLin
 ghost use Rattle.log_protocol.specs.StateLaws.{BookInOrder, ShelvesInOrder, OwnerInOrder, HorizonsInOrder, EndIsHead, OriginalUnhurt};
 ghost use Rattle.log_protocol.specs.StepLaws.{NamesNew, FilesWhatWasRead, HurtEarned};
 ghost use Rattle.log_protocol.specs.UndoubtedRuns.{SureRun};
-ghost use Rattle.log_protocol.specs.GrowthLaws.{PastStays, LacksBetween};
+ghost use Rattle.log_protocol.specs.GrowthLaws.{PastStays, LacksBetween, SameNames};
 ghost use Rattle.log_protocol.specs.LogRuns.{TailAdopted, TailDiscarded, EmptyOpened, EveryStepTaken};
 ghost use Rattle.log_protocol.specs.PickRule.{gather, best, SameLists};
 ghost use Rattle.log_protocol.specs.NamesAsNumbers.{code_seq, code_incarnation, code_attempt, Decodes};
@@ -120,6 +120,16 @@ pub fn names_are_new()
 /// segment that was read back, also one that a later horizon passed in the meantime.
 pub fn serving_files_what_was_read()
     ensures files { (w : State) (path : ℕ → ℕ) (lowest sure : ℕ) → Reached w → CanServe w path lowest sure → FilesWhatWasRead w path lowest sure }
+{}
+
+/// Runs go on: steps that follow a run make a run, what it reaches is reached, and neither what names say nor the number
+/// of servers ever changes.
+pub fn runs_go_on()
+    ensures joined { (w v u : State) → Steps w v → Steps v u → Steps w u }
+    ensures reached { (w u : State) → Reached w → Steps w u → Reached u }
+    ensures names { (w u : State) → Steps w u → SameNames w u }
+    ensures index_joined { (w v u : IndexState) → IndexSteps w v → IndexSteps v u → IndexSteps w u }
+    ensures index_reached { (w u : IndexState) → IndexReached w → IndexSteps w u → IndexReached u }
 {}
 
 /// What only grows: between two moments of a run, a booked name keeps its text, group, prior and content, what is filed
