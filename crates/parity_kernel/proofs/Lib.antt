@@ -1,2 +1,5 @@
 pub mod Bytes
-pub mod Lanes
+pub mod Chunks
+pub mod Doubling
+pub mod FieldLaws
+pub mod Powers

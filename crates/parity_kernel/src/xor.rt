@@ -2,10 +2,8 @@ ghost use Rattle.std.specs.Prelude.{◌≡◌, ◌+◌, ◌≤◌, ◌++◌, len
 ghost use Rattle.std.specs.Simd.Lanes.{chunk, put_chunk};
 ghost use Rattle.parity_kernel.specs.Bytewise.{xor_of};
 
+use crate::lanes::LANES;
 use std::simd::prelude::*;
-
-/// How many bytes are folded at a time.
-const LANES: usize = 32;
 
 /// Folds one fragment into another of the same length: each byte of `to` becomes its exclusive or
 /// with the byte of `from` at the same place. Folding the same bytes in again gives the old ones
@@ -42,36 +40,5 @@ fn xor_bytes(to: &mut [u8], from: &[u8], at: usize)
 {
     for place in at..to.len() {
         to[place] ^= from[place];
-    }
-}
-
-#[cfg(test)]
-mod tests {
-    use super::*;
-
-    // The lengths are those round a vector's, and a longer one; the plain loop is the measure.
-    #[test]
-    fn whole_vectors_and_the_plain_loop_agree(rt: HostRuntime) {
-        let mut before = [0_u8; 4096];
-        let mut from = [0_u8; 4096];
-        for place in 0..4096_usize {
-            before[place] = (place * 3 % 256) as u8;
-            from[place] = (place * 7 % 251) as u8;
-        }
-        for length in [0_usize, 1, 31, 32, 33, 63, 64, 65, 4096] {
-            let length = length.min(4096);
-            let mut to = before;
-            let mut plain = before;
-            xor_into(&mut to[..length], &from[..length]);
-            xor_bytes(&mut plain[..length], &from[..length], 0);
-            assert!(rt; to == plain, "at length {length}");
-        }
-    }
-
-    #[test]
-    fn folds_byte_by_byte(rt: HostRuntime) {
-        let mut to = [0x0f, 0xf0];
-        xor_into(&mut to, &[0xff, 0xff]);
-        assert_eq!(rt; to, [0xf0, 0x0f]);
     }
 }

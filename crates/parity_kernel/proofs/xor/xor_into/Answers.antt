@@ -2,7 +2,7 @@ use Rattle.std.proofs.Common.{◌+◌, ◌++◌, List, ℕ, take, drop, ◌∙�
 use Rattle.std.specs.Int.Bits.{bit_xor}
 use Rattle.parity_kernel.specs.Bytewise.{xor_of}
 use Rattle.parity_kernel.proofs.Bytes.{xor_undone}
-use Rattle.parity_kernel.proofs.Lanes.{chunk_more, zip2_undone}
+use Rattle.parity_kernel.proofs.Chunks.{chunk_more, zip2_undone}
 use Rattle.parity_kernel.proofs.xor.xor_into.Goals as goal
 
 pub loop-to-preserved : goal.loop-to-preserved
