@@ -5,8 +5,8 @@ use Rattle.std.specs.List.{list_any}
 use Rattle.std.proofs.lemmas.Bool.{false≢true}
 use Rattle.std.proofs.lemmas.List.Folds.{list_any-append}
 use Rattle.group_map.specs.declared.group.Group.{Group}
-use Rattle.group_map.specs.declared.group.Member.{Member}
-use Rattle.group_map.specs.Groups.{current_ids, numbered, present_members, retired, has_server, is_hit, followers}
+use Rattle.group_map.specs.Groups.{current_ids, numbered, present_layout, retired, has_server, is_hit, followers}
+use Rattle.group_map.specs.Layout.{Layout}
 
 abbrev pub any_current : List Group → Bool
 any_current gs = list_any (λ g. g.current) gs
@@ -16,7 +16,7 @@ or-true true = refl
 or-true false = refl
 
 -- one group more, which is current or not and has the server or not
-one_more : (c h r a : Bool) (k : ℕ) (f : Group → List Member) (g : Group) (hit : List Group) → (c || a) ≡ true → (a ≡ true → (r || any_current (numbered k (map f hit))) ≡ true)
+one_more : (c h r a : Bool) (k : ℕ) (f : Group → Layout) (g : Group) (hit : List Group) → (c || a) ≡ true → (a ≡ true → (r || any_current (numbered k (map f hit))) ≡ true)
     → (((c && not h) || r) || any_current (numbered k (map f (cond (c && h) (g ∷ hit) hit)))) ≡ true
 one_more true true r a k f g hit e ih = or-true r
 one_more true false r a k f g hit e ih = refl
@@ -25,7 +25,7 @@ one_more false h r a k f g hit e ih = ih e
 current_or_followed : (server k : ℕ) (generations : List ℕ) (gs : List Group) → any_current gs ≡ true → (any_current (map (retired server) gs) || any_current (numbered k (followers generations server gs))) ≡ true
 current_or_followed server k generations [] e = cc
 current_or_followed server k generations (g ∷ gs) e =
-    one_more g.current (has_server server g) (any_current (map (retired server) gs)) (any_current gs) k (λ x. present_members generations x.members) g (filter (is_hit server) gs) e (current_or_followed server k generations gs)
+    one_more g.current (has_server server g) (any_current (map (retired server) gs)) (any_current gs) k (present_layout generations) g (filter (is_hit server) gs) e (current_or_followed server k generations gs)
 
 pub any_current-lost : (server k : ℕ) (generations : List ℕ) (gs : List Group) → any_current gs ≡ true → any_current (map (retired server) gs ++ numbered k (followers generations server gs)) ≡ true
 any_current-lost server k generations gs e =

@@ -28,7 +28,7 @@ first_of_both true b e = refl
 first_of_both false b e = e
 
 IsLater-retired : (server : ℕ) (old new : Group) → IsLater old new → IsLater old (retired server new)
-IsLater-retired server old new l = record { id = l.id; members = l.members; obsolete_for_ever = λ c. l.obsolete_for_ever (first_of_both new.current (not (has_server server new)) c) }
+IsLater-retired server old new l = record { id = l.id; members = l.members; parity = l.parity; obsolete_for_ever = λ c. l.obsolete_for_ever (first_of_both new.current (not (has_server server new)) c) }
 
 IsLater-after : (state : GroupMapState) (losses : List Loss) (id : ℕ) (old new : Group) → IsLater old new → group_of state id ≡ Some new → IsSomeAnd (group_of (after_losses state losses) id) (IsLater old)
 IsLater-after state [] id old new l e = subst (λ o. IsSomeAnd o (IsLater old)) (sym e) l
@@ -36,4 +36,4 @@ IsLater-after state (s ∷ ss) id old new l e =
     IsLater-after (lost state s.server s.generation) ss id old (retired s.server new) (IsLater-retired s.server old new l) (group_of-lost state s.server s.generation id new e)
 
 pub stays : (state : GroupMapState) (losses : List Loss) (id : ℕ) (group : Group) → group_of state id ≡ Some group → IsSomeAnd (group_of (after_losses state losses) id) (IsLater group)
-stays state losses id group e = IsLater-after state losses id group group (record { id = refl; members = refl; obsolete_for_ever = λ c. c }) e
+stays state losses id group e = IsLater-after state losses id group group (record { id = refl; members = refl; parity = refl; obsolete_for_ever = λ c. c }) e

@@ -2,6 +2,7 @@ pub mod AlwaysCurrent
 pub mod FallingGenerations
 pub mod KeptGroups
 pub mod Numbers
+pub mod Presence
 pub mod Stripes
 pub mod TestGroups
 pub mod WellFormedMaps

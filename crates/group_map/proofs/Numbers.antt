@@ -3,8 +3,8 @@ use Rattle.std.proofs.Common.{◌≡◌, ℕ, zero, suc, ◌+◌, ◌<◌, ◌�
 use Rattle.std.specs.Prelude.{◌==◌, IsTrue, IsSomeAnd, slice_get, slice_index, find, filter}
 use Rattle.std.proofs.lemmas.Bool.Decides.{nat_tests}
 use Rattle.group_map.specs.declared.group.Group.{Group}
-use Rattle.group_map.specs.declared.group.Member.{Member}
 use Rattle.group_map.specs.Groups.{current_ids, numbered, retired}
+use Rattle.group_map.specs.Layout.{Layout}
 use Rattle.group_map.specs.WellFormed.{IsNumbered}
 
 -- the group of an id stands at its place
@@ -76,10 +76,10 @@ IsNumbered-append k (x ∷ xs) ys h i =
     let e : k + suc (length xs) ≡ (k + 1) + length xs = omega arith in
     (h.0, IsNumbered-append (k + 1) xs ys h.1 (subst (λ n. IsNumbered n ys) e i))
 
-pub IsNumbered-numbered : (k : ℕ) (mss : List (List Member)) → IsNumbered k (numbered k mss)
+pub IsNumbered-numbered : (k : ℕ) (ls : List Layout) → IsNumbered k (numbered k ls)
 IsNumbered-numbered k [] = tt
-IsNumbered-numbered k (ms ∷ mss) = (refl, IsNumbered-numbered (k + 1) mss)
+IsNumbered-numbered k (l ∷ ls) = (refl, IsNumbered-numbered (k + 1) ls)
 
-pub length-numbered : (k : ℕ) (mss : List (List Member)) → length (numbered k mss) ≡ length mss
+pub length-numbered : (k : ℕ) (ls : List Layout) → length (numbered k ls) ≡ length ls
 length-numbered k [] = refl
-length-numbered k (ms ∷ mss) = ap suc (length-numbered (k + 1) mss)
+length-numbered k (l ∷ ls) = ap suc (length-numbered (k + 1) ls)

@@ -1,27 +1,37 @@
--- The groups of the tests: their servers exist and differ.
+-- The groups of the test: their servers exist and differ, and their parities are right.
 use Rattle.std.proofs.Common.{ℕ, List, [], ◌∷◌, arith, rules}
 use Rattle.std.specs.Prelude.{All, nat_eq}
 use Rattle.std.specs.List.{IsDistinct}
 use Rattle.std.proofs.lemmas.List.Elements.{All-nil, All-cons}
+use Rattle.group_map.specs.Sizes.{IsParity}
 use Rattle.group_map.specs.WellFormed.{IsServer}
+use Rattle.xfs_base.specs.declared.setup.GroupSetup.{GroupSetup}
+
+abbrev pub first : GroupSetup
+first = record { servers = 1 ∷ 2 ∷ 3 ∷ []; parity = 1 }
+
+abbrev pub second : GroupSetup
+second = record { servers = 3 ∷ 4 ∷ 5 ∷ []; parity = 1 }
+
+abbrev pub third : GroupSetup
+third = record { servers = 5 ∷ 2 ∷ 1 ∷ 4 ∷ []; parity = 2 }
+
+-- what holds of each holds of all
+three : (P : GroupSetup → Type 0) → P first → P second → P third → All P (first ∷ second ∷ third ∷ [])
+three P a b c = All-cons P first (second ∷ third ∷ []) a (All-cons P second (third ∷ []) b (All-cons P third [] c (All-nil P)))
 
 three_exist : (n a b c : ℕ) → IsServer n a → IsServer n b → IsServer n c → All (IsServer n) (a ∷ b ∷ c ∷ [])
 three_exist n a b c x y z = All-cons (IsServer n) a (b ∷ c ∷ []) x (All-cons (IsServer n) b (c ∷ []) y (All-cons (IsServer n) c [] z (All-nil (IsServer n))))
 
-two_exist : (n a b : ℕ) → IsServer n a → IsServer n b → All (IsServer n) (a ∷ b ∷ [])
-two_exist n a b x y = All-cons (IsServer n) a (b ∷ []) x (All-cons (IsServer n) b [] y (All-nil (IsServer n)))
-
-abbrev AllExist : ℕ → List ℕ → Type 0
-AllExist n g = All (IsServer n) g
+pub three_groups_exist : All (λ g. All (IsServer 5) g.servers) (first ∷ second ∷ third ∷ [])
+three_groups_exist =
+    three (λ g. All (IsServer 5) g.servers)
+    (three_exist 5 1 2 3 (omega arith, omega arith) (omega arith, omega arith) (omega arith, omega arith))
+    (three_exist 5 3 4 5 (omega arith, omega arith) (omega arith, omega arith) (omega arith, omega arith))
+    (All-cons (IsServer 5) 5 (2 ∷ 1 ∷ 4 ∷ []) (omega arith, omega arith) (three_exist 5 2 1 4 (omega arith, omega arith) (omega arith, omega arith) (omega arith, omega arith)))
 
 abbrev Differ : List ℕ → Type 0
 Differ g = IsDistinct nat_eq g
-
-pub three_groups_exist : All (λ g. All (IsServer 5) g) ((1 ∷ 2 ∷ 3 ∷ []) ∷ (3 ∷ 4 ∷ 5 ∷ []) ∷ (5 ∷ 2 ∷ 1 ∷ []) ∷ [])
-three_groups_exist =
-    All-cons (AllExist 5) (1 ∷ 2 ∷ 3 ∷ []) ((3 ∷ 4 ∷ 5 ∷ []) ∷ (5 ∷ 2 ∷ 1 ∷ []) ∷ []) (three_exist 5 1 2 3 (omega arith, omega arith) (omega arith, omega arith) (omega arith, omega arith))
-    (All-cons (AllExist 5) (3 ∷ 4 ∷ 5 ∷ []) ((5 ∷ 2 ∷ 1 ∷ []) ∷ []) (three_exist 5 3 4 5 (omega arith, omega arith) (omega arith, omega arith) (omega arith, omega arith))
-    (All-cons (AllExist 5) (5 ∷ 2 ∷ 1 ∷ []) [] (three_exist 5 5 2 1 (omega arith, omega arith) (omega arith, omega arith) (omega arith, omega arith)) (All-nil (AllExist 5))))
 
 d123 : Differ (1 ∷ 2 ∷ 3 ∷ [])
 unfolding IsDistinct
@@ -31,23 +41,12 @@ d345 : Differ (3 ∷ 4 ∷ 5 ∷ [])
 unfolding IsDistinct
 d345 = search rules
 
-d521 : Differ (5 ∷ 2 ∷ 1 ∷ [])
+d5214 : Differ (5 ∷ 2 ∷ 1 ∷ 4 ∷ [])
 unfolding IsDistinct
-d521 = search rules
+d5214 = search rules
 
-d12 : Differ (1 ∷ 2 ∷ [])
-unfolding IsDistinct
-d12 = search rules
+pub three_groups_differ : All (λ g. IsDistinct nat_eq g.servers) (first ∷ second ∷ third ∷ [])
+three_groups_differ = three (λ g. IsDistinct nat_eq g.servers) d123 d345 d5214
 
-pub three_groups_differ : All (λ g. IsDistinct nat_eq g) ((1 ∷ 2 ∷ 3 ∷ []) ∷ (3 ∷ 4 ∷ 5 ∷ []) ∷ (5 ∷ 2 ∷ 1 ∷ []) ∷ [])
-three_groups_differ =
-    All-cons Differ (1 ∷ 2 ∷ 3 ∷ []) ((3 ∷ 4 ∷ 5 ∷ []) ∷ (5 ∷ 2 ∷ 1 ∷ []) ∷ []) d123
-    (All-cons Differ (3 ∷ 4 ∷ 5 ∷ []) ((5 ∷ 2 ∷ 1 ∷ []) ∷ []) d345 (All-cons Differ (5 ∷ 2 ∷ 1 ∷ []) [] d521 (All-nil Differ)))
-
-pub pair_exists : All (λ g. All (IsServer 3) g) ((1 ∷ 2 ∷ 3 ∷ []) ∷ (1 ∷ 2 ∷ []) ∷ [])
-pair_exists =
-    All-cons (AllExist 3) (1 ∷ 2 ∷ 3 ∷ []) ((1 ∷ 2 ∷ []) ∷ []) (three_exist 3 1 2 3 (omega arith, omega arith) (omega arith, omega arith) (omega arith, omega arith))
-    (All-cons (AllExist 3) (1 ∷ 2 ∷ []) [] (two_exist 3 1 2 (omega arith, omega arith) (omega arith, omega arith)) (All-nil (AllExist 3)))
-
-pub pair_differs : All (λ g. IsDistinct nat_eq g) ((1 ∷ 2 ∷ 3 ∷ []) ∷ (1 ∷ 2 ∷ []) ∷ [])
-pair_differs = All-cons Differ (1 ∷ 2 ∷ 3 ∷ []) ((1 ∷ 2 ∷ []) ∷ []) d123 (All-cons Differ (1 ∷ 2 ∷ []) [] d12 (All-nil Differ))
+pub three_groups_parity : All (λ g. IsParity g.parity) (first ∷ second ∷ third ∷ [])
+three_groups_parity = three (λ g. IsParity g.parity) (omega arith, omega arith) (omega arith, omega arith) (omega arith, omega arith)

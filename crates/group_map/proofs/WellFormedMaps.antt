@@ -5,24 +5,27 @@ use Rattle.std.specs.List.{IsDistinct}
 use Rattle.std.proofs.lemmas.List.{length-map, length-set, length-replicate, length-append}
 use Rattle.group_map.specs.declared.group.Group.{Group}
 use Rattle.group_map.specs.GroupMapState.{GroupMapState}
-use Rattle.group_map.specs.Groups.{started, lost, numbered, first_members, followers, generations_after, retired, is_hit}
+use Rattle.group_map.specs.Groups.{started, lost, numbered, first_layout, followers, generations_after, retired, is_hit}
+use Rattle.xfs_base.specs.declared.setup.GroupSetup.{GroupSetup}
 use Rattle.group_map.specs.Losses.{Loss, MayLoseAll, after_losses}
-use Rattle.group_map.specs.Sizes.{bad_size}
+use Rattle.group_map.specs.Sizes.{IsParity, bad_size}
 use Rattle.group_map.specs.WellFormed.{IsServer, IsNumbered, IsGroupMap}
 use Rattle.group_map.proofs.AlwaysCurrent.{any_current, any_current-lost}
 use Rattle.group_map.proofs.Numbers.{IsNumbered-append, IsNumbered-retired, IsNumbered-numbered, length-numbered}
+use Rattle.group_map.proofs.Presence.{present-started, present-lost}
 use Rattle.group_map.proofs.Stripes.{stripes-started, stripes-lost}
 
-any_current-started : (gs : List (List ℕ)) → 1 ≤ length gs → any_current (numbered 1 (map first_members gs)) ≡ true
+any_current-started : (gs : List GroupSetup) → 1 ≤ length gs → any_current (numbered 1 (map first_layout gs)) ≡ true
 any_current-started [] l = absurd (omega arith)
 any_current-started (g ∷ gs) l = refl
 
-pub IsGroupMap-started : (servers : ℕ) (gs : List (List ℕ)) → 1 ≤ length gs → length gs ≤ 4294967295 → bad_size gs ≡ None → All (λ g. All (IsServer servers) g) gs → All (λ g. IsDistinct nat_eq g) gs → IsGroupMap (started servers gs)
-IsGroupMap-started servers gs one few e exist differ = record {
+pub IsGroupMap-started : (servers : ℕ) (gs : List GroupSetup) → 1 ≤ length gs → length gs ≤ 4294967295 → bad_size gs ≡ None → All (λ g. All (IsServer servers) g.servers) gs → All (λ g. IsDistinct nat_eq g.servers) gs → All (λ g. IsParity g.parity) gs → IsGroupMap (started servers gs)
+IsGroupMap-started servers gs one few e exist differ parity = record {
   each_server = length-replicate servers 1;
-  by_id = IsNumbered-numbered 1 (map first_members gs);
-  few = subst (λ n. n ≤ 4294967295) (sym (length-numbered 1 (map first_members gs) ∙ length-map gs first_members)) few;
-  stripes = stripes-started servers gs e exist differ;
+  by_id = IsNumbered-numbered 1 (map first_layout gs);
+  few = subst (λ n. n ≤ 4294967295) (sym (length-numbered 1 (map first_layout gs) ∙ length-map gs first_layout)) few;
+  stripes = stripes-started servers gs e exist differ parity;
+  present = present-started servers gs exist;
   current = any_current-started gs one;
 }
 
@@ -35,18 +38,19 @@ by_id-lost gs server generations h =
     IsNumbered-append 1 (map (retired server) gs) _ (IsNumbered-retired server 1 gs h)
     (subst (λ n. IsNumbered n (numbered (length gs + 1) (followers generations server gs))) e (IsNumbered-numbered (length gs + 1) (followers generations server gs)))
 
-pub IsGroupMap-lost : (state : GroupMapState) (server generation : ℕ) → length state.groups + length (filter (is_hit server) state.groups) ≤ 4294967295 → IsGroupMap state → IsGroupMap (lost state server generation)
-IsGroupMap-lost state server generation room h =
+pub IsGroupMap-lost : (state : GroupMapState) (server generation : ℕ) → IsServer state.servers server → length state.groups + length (filter (is_hit server) state.groups) ≤ 4294967295 → IsGroupMap state → IsGroupMap (lost state server generation)
+IsGroupMap-lost state server generation exists room h =
     let now : List ℕ = generations_after state.generations server generation in
     record {
       each_server = length-set state.generations (server - 1) generation ∙ h.each_server;
       by_id = by_id-lost state.groups server now h.by_id;
       few = subst (λ n. n ≤ 4294967295) (sym (length-lost state.groups server (length state.groups + 1) now)) room;
       stripes = stripes-lost state.servers server (length state.groups + 1) now state.groups h.stripes;
+      present = present-lost state.servers server generation (length state.groups + 1) state.generations state.groups exists h.stripes h.present;
       current = any_current-lost server (length state.groups + 1) now state.groups h.current;
     }
 
 pub IsGroupMap-after : (state : GroupMapState) (losses : List Loss) → IsGroupMap state → MayLoseAll state losses → IsGroupMap (after_losses state losses)
 IsGroupMap-after state [] h may = h
 IsGroupMap-after state (l ∷ ls) h may =
-    IsGroupMap-after (lost state l.server l.generation) ls (IsGroupMap-lost state l.server l.generation may.0.room h) may.1
+    IsGroupMap-after (lost state l.server l.generation) ls (IsGroupMap-lost state l.server l.generation may.0.exists may.0.room h) may.1

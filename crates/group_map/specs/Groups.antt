@@ -4,6 +4,8 @@ use Rattle.std.specs.List.{list_any}
 use Rattle.group_map.specs.declared.group.Group.{Group}
 use Rattle.group_map.specs.declared.group.Member.{Member}
 use Rattle.group_map.specs.GroupMapState.{GroupMapState}
+use Rattle.group_map.specs.Layout.{Layout}
+use Rattle.xfs_base.specs.declared.setup.GroupSetup.{GroupSetup}
 
 -- the group of this id, where there is one
 abbrev pub group_of : GroupMapState → ℕ → Option Group
@@ -21,18 +23,22 @@ current_ids groups = map (λ g. g.id) (filter (λ g. g.current) groups)
 abbrev pub chosen : List Group → ℕ → ℕ → ℕ
 chosen groups log seq = slice_index (current_ids groups) ((log + seq) % length (current_ids groups))
 
--- current groups of these members, with ids from this one on
-abbrev pub numbered : ℕ → List (List Member) → List Group
+-- current groups of these layouts, with ids from this one on
+abbrev pub numbered : ℕ → List Layout → List Group
 numbered id [] = []
-numbered id (members ∷ rest) = record { id = id; members = members; current = true } ∷ numbered (id + 1) rest
+numbered id (layout ∷ rest) = record { id = id; members = layout.members; parity = layout.parity; current = true } ∷ numbered (id + 1) rest
 
 -- these servers at generation 1
 abbrev pub first_members : List ℕ → List Member
 first_members servers = map (λ s. record { server = s; generation = 1 }) servers
 
+-- the group of a setup, with its servers at generation 1
+abbrev pub first_layout : GroupSetup → Layout
+first_layout g = record { members = first_members g.servers; parity = g.parity }
+
 -- the map at first: ids from 1, all generations 1, all groups current
-abbrev pub started : ℕ → List (List ℕ) → GroupMapState
-started servers groups = record { servers = servers; generations = replicate servers 1; groups = numbered 1 (map first_members groups) }
+abbrev pub started : ℕ → List GroupSetup → GroupMapState
+started servers groups = record { servers = servers; generations = replicate servers 1; groups = numbered 1 (map first_layout groups) }
 
 abbrev pub has_server : ℕ → Group → Bool
 has_server server g = list_any (λ m. m.server == server) g.members
@@ -43,15 +49,19 @@ is_hit server g = g.current && has_server server g
 
 -- the group after the loss: it stays current only where it does not have the server
 abbrev pub retired : ℕ → Group → Group
-retired server g = record { id = g.id; members = g.members; current = g.current && not (has_server server g) }
+retired server g = record { id = g.id; members = g.members; parity = g.parity; current = g.current && not (has_server server g) }
 
 -- the same servers at these generations
 abbrev pub present_members : List ℕ → List Member → List Member
 present_members generations members = map (λ m. record { server = m.server; generation = generation_at generations m.server }) members
 
--- for each group that the loss ends, the members of the group that follows it
-abbrev pub followers : List ℕ → ℕ → List Group → List (List Member)
-followers generations server groups = map (λ g. present_members generations g.members) (filter (is_hit server) groups)
+-- the group that follows: the same servers at these generations, and the same parity
+abbrev pub present_layout : List ℕ → Group → Layout
+present_layout generations g = record { members = present_members generations g.members; parity = g.parity }
+
+-- for each group that the loss ends, the group that follows it
+abbrev pub followers : List ℕ → ℕ → List Group → List Layout
+followers generations server groups = map (present_layout generations) (filter (is_hit server) groups)
 
 abbrev pub generations_after : List ℕ → ℕ → ℕ → List ℕ
 generations_after generations server generation = slice_set generations (server - 1) generation

@@ -1,5 +1,6 @@
 pub mod GroupMapState
 pub mod Groups
+pub mod Layout
 pub mod Losses
 pub mod Sizes
 pub mod WellFormed

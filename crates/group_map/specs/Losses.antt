@@ -29,4 +29,5 @@ MayLoseAll state (l ∷ ls) = MayLose state l × MayLoseAll (lost state l.server
 pub record IsLater (old new : Group) : Type 0 where
   pub id : new.id ≡ old.id
   pub members : new.members ≡ old.members
+  pub parity : new.parity ≡ old.parity
   pub obsolete_for_ever : IsTrue new.current → IsTrue old.current

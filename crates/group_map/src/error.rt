@@ -5,8 +5,8 @@ use xfs_base::Crosses;
 /// Why groups of servers make no map.
 #[derive(Debug, Drop, Error)]
 pub enum GroupError {
-    /// The first size of a group that has fewer than 3 or more than 8 servers.
-    #[error("a stripe group has 3 to 8 servers, and not {0}")]
+    /// The first size of a group that has fewer servers than two more than its parity, or more than 8.
+    #[error("a stripe group has two servers more than its parity, or up to 8, and not {0}")]
     BadSize(usize),
     /// Want of memory.
     #[error("out of memory")]

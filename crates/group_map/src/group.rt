@@ -22,8 +22,11 @@ pub struct Member {
 pub struct Group {
     /// The id, from 1.
     pub id: u32,
-    /// The servers, 3 to 8 that differ. Fragment i of a segment lies at the member at place i.
+    /// The servers, which differ: 3 to 8 where the parity is 1, 4 to 8 where it is 2. Fragment i of a
+    /// segment lies at the member at place i.
     pub members: List<Member>,
+    /// How many of a segment's fragments are parity, 1 or 2: so many lost fragments are made good.
+    pub parity: u8,
     /// Whether new segments go to it.
     pub current: bool,
 }
@@ -36,6 +39,7 @@ impl Group {
         Ok(Group {
             id: self.id,
             members: self.members.copy(alloc)?,
+            parity: self.parity,
             current: self.current,
         })
     }
@@ -68,9 +72,9 @@ impl Crosses for Member {}
 
 impl Crosses for Group {}
 
-/// Whether a group may have this many servers.
-pub(crate) fn is_group_size(size: usize) -> bool
-    ensures { result ≡ is_group_size size }
+/// Whether a group of this parity may have this many servers.
+pub(crate) fn is_group_size(parity: u8, size: usize) -> bool
+    ensures { result ≡ is_group_size parity size }
 {
-    3 <= size && size <= 8
+    usize::from(parity) + 2 <= size && size <= 8
 }

@@ -2,15 +2,15 @@
 ghost use Rattle.std.specs.Prelude.{◌≡◌, ◌↔◌, ◌+◌, ◌<◌, ◌≤◌, IfOk, OnOk, OnErr, IsErrOf, IsTrue, MatchResult, IsSomeAnd, Some, None, All, length, filter, nat_eq, slice_index};
 ghost use Rattle.std.specs.List.{IsDistinct};
 ghost use Rattle.group_map.specs.Groups.{group_of, generation_at, current_ids, chosen, started, is_hit, lost};
-ghost use Rattle.group_map.specs.Sizes.{bad_size};
-ghost use Rattle.group_map.specs.WellFormed.{IsServer, IsStripe};
+ghost use Rattle.group_map.specs.Sizes.{IsParity, bad_size};
+ghost use Rattle.group_map.specs.WellFormed.{IsServer, IsStripe, IsPresent};
 
 use crate::losing::{follow, generation_of, retire};
 use crate::starting::{first_bad_size, first_groups};
 use crate::{Group, GroupError, NoGroup};
 use std::alloc::Global;
 use std::marker::Model;
-use xfs_base::{Copied, Crosses, List, LogId, Mem, copy_each};
+use xfs_base::{Copied, Crosses, GroupSetup, List, LogId, Mem, copy_each};
 
 /// The stripe group map (the 1996 paper, "The Stripe Group Map"): all groups that were ever made, by id, and the
 /// generation of each storage server, which rises with each loss of what the server kept. One group at
@@ -34,13 +34,14 @@ impl Model for GroupMap {
 }
 
 impl GroupMap {
-    /// The map of these groups of servers: ids count from 1, generations are 1, all groups are current.
-    /// `BadSize` exactly where a group has fewer than 3 or more than 8 servers, with the size of the
-    /// first such.
-    pub fn start(alloc: Global, servers: u8, groups: &[List<u8>]) -> Result<GroupMap, GroupError>
+    /// The map of these groups: ids count from 1, generations are 1, all groups are current. `BadSize`
+    /// exactly where a group has fewer servers than two more than its parity, or more than 8, with the
+    /// size of the first such.
+    pub fn start(alloc: Global, servers: u8, groups: &[GroupSetup]) -> Result<GroupMap, GroupError>
         requires count { (1 ≤ length groups.now) × (length groups.now ≤ 4294967295) }
-        requires exist { All (λ g. All (IsServer servers) g) groups.now }
-        requires differ { All (λ g. IsDistinct nat_eq g) groups.now }
+        requires exist { All (λ g. All (IsServer servers) g.servers) groups.now }
+        requires differ { All (λ g. IsDistinct nat_eq g.servers) groups.now }
+        requires parity { All (λ g. IsParity g.parity) groups.now }
         ensures ok { IfOk result (λ map. map ≡ started servers groups.now) }
         ensures bad_size { (n : _) → IsErrOf result (GroupError.BadSize n) ↔ (bad_size groups.now ≡ Some n) }
         ensures fits { OnOk result (bad_size groups.now ≡ None) }
@@ -55,10 +56,11 @@ impl GroupMap {
     }
 
     /// The map of groups whose sizes are right.
-    fn of_groups(alloc: Global, servers: u8, groups: &[List<u8>]) -> Mem<GroupMap>
+    fn of_groups(alloc: Global, servers: u8, groups: &[GroupSetup]) -> Mem<GroupMap>
         requires count { (1 ≤ length groups.now) × (length groups.now ≤ 4294967295) }
-        requires exist { All (λ g. All (IsServer servers) g) groups.now }
-        requires differ { All (λ g. IsDistinct nat_eq g) groups.now }
+        requires exist { All (λ g. All (IsServer servers) g.servers) groups.now }
+        requires differ { All (λ g. IsDistinct nat_eq g.servers) groups.now }
+        requires parity { All (λ g. IsParity g.parity) groups.now }
         requires fits { bad_size groups.now ≡ None }
         ensures { IfOk result (λ map. map ≡ started servers groups.now) }
     {
@@ -71,10 +73,12 @@ impl GroupMap {
         })
     }
 
-    /// The group of this id, current or obsolete. `NoGroup` with the id exactly where there is none.
+    /// The group of this id, current or obsolete. The members of a current one are at the generations
+    /// that their servers have now. `NoGroup` with the id exactly where there is none.
     pub fn lookup(&self, id: u32) -> Result<&Group, NoGroup>
         ensures exact { MatchResult result (λ group. group_of self.now id ≡ Some group.now) (λ e. (e.0 ≡ id) × (group_of self.now id ≡ None)) }
-        ensures stripe { IfOk result (λ group. IsStripe self.now.servers group.now.members) }
+        ensures stripe { IfOk result (λ group. IsStripe self.now.servers group.now.parity group.now.members) }
+        ensures present { IfOk result (λ group. IsPresent self.now.generations group.now) }
     {
         let groups = &self.groups;
         if id == 0 {

@@ -39,6 +39,7 @@ pub(crate) fn retire(alloc: Global, groups: &[Group], server: u8) -> Mem<List<Gr
         after.push(Group {
             id: group.id,
             members: group.members.copy(alloc)?,
+            parity: group.parity,
             current: group.current && !group.has(server),
         })?;
     }
@@ -63,6 +64,7 @@ pub(crate) fn follow(
             after.push(Group {
                 id,
                 members,
+                parity: group.parity,
                 current: true,
             })?;
         }

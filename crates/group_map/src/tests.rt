@@ -4,54 +4,38 @@ ghost use Rattle.group_map.specs.Groups.{started, lost};
 
 use crate::{GroupError, GroupMap, Member, NoGroup};
 use std::alloc::Global;
-use xfs_base::{List, LogId, Mem};
+use xfs_base::{GroupSetup, List, LogId, Mem};
 
-fn servers(alloc: Global, numbers: &[u8]) -> Mem<List<u8>>
-    ensures { IfOk result (λ list. list ≡ numbers.now) }
+fn setup(alloc: Global, numbers: &[u8], parity: u8) -> Mem<GroupSetup>
+    ensures { IfOk result (λ group. group ≡ record { servers = numbers.now; parity = parity }) }
 {
-    Ok(List::from_vec(Vec::from_slice(alloc, numbers)?))
+    Ok(GroupSetup {
+        servers: List::from_vec(Vec::from_slice(alloc, numbers)?),
+        parity,
+    })
 }
 
-/// Three groups, of which the first and the last have server 2.
-fn three_groups(alloc: Global, groups: &[List<u8>]) -> Result<GroupMap, GroupError>
-    requires { groups.now ≡ (1 ∷ 2 ∷ 3 ∷ []) ∷ (3 ∷ 4 ∷ 5 ∷ []) ∷ (5 ∷ 2 ∷ 1 ∷ []) ∷ [] }
-    ensures { IfOk result (λ map. map ≡ started 5 ((1 ∷ 2 ∷ 3 ∷ []) ∷ (3 ∷ 4 ∷ 5 ∷ []) ∷ (5 ∷ 2 ∷ 1 ∷ []) ∷ [])) }
+/// Three groups, of which the first and the last have server 2; the last has two parity fragments.
+fn three_groups(alloc: Global, groups: &[GroupSetup]) -> Result<GroupMap, GroupError>
+    requires { groups.now ≡ record { servers = 1 ∷ 2 ∷ 3 ∷ []; parity = 1 } ∷ record { servers = 3 ∷ 4 ∷ 5 ∷ []; parity = 1 } ∷ record { servers = 5 ∷ 2 ∷ 1 ∷ 4 ∷ []; parity = 2 } ∷ [] }
+    ensures { IfOk result (λ map. map ≡ started 5 (record { servers = 1 ∷ 2 ∷ 3 ∷ []; parity = 1 } ∷ record { servers = 3 ∷ 4 ∷ 5 ∷ []; parity = 1 } ∷ record { servers = 5 ∷ 2 ∷ 1 ∷ 4 ∷ []; parity = 2 } ∷ [])) }
 {
     GroupMap::start(alloc, 5, groups)
 }
 
 fn lose_server_2(alloc: Global, map: &mut GroupMap) -> Mem<()>
-    requires { map.old ≡ started 5 ((1 ∷ 2 ∷ 3 ∷ []) ∷ (3 ∷ 4 ∷ 5 ∷ []) ∷ (5 ∷ 2 ∷ 1 ∷ []) ∷ []) }
-    ensures { OnOk result (map.new ≡ lost (started 5 ((1 ∷ 2 ∷ 3 ∷ []) ∷ (3 ∷ 4 ∷ 5 ∷ []) ∷ (5 ∷ 2 ∷ 1 ∷ []) ∷ [])) 2 2) }
+    requires { map.old ≡ started 5 (record { servers = 1 ∷ 2 ∷ 3 ∷ []; parity = 1 } ∷ record { servers = 3 ∷ 4 ∷ 5 ∷ []; parity = 1 } ∷ record { servers = 5 ∷ 2 ∷ 1 ∷ 4 ∷ []; parity = 2 } ∷ []) }
 {
     map.after_loss(alloc, 2, 2)
-}
-
-/// A group of 3 servers and one of 2.
-fn pair(alloc: Global, groups: &[List<u8>]) -> Result<GroupMap, GroupError>
-    requires { groups.now ≡ (1 ∷ 2 ∷ 3 ∷ []) ∷ (1 ∷ 2 ∷ []) ∷ [] }
-{
-    GroupMap::start(alloc, 3, groups)
-}
-
-#[test]
-fn group_of_two_servers_is_refused(rt: HostRuntime) -> Mem<()> {
-    let alloc = rt.alloc();
-    let groups = [servers(alloc, &[1, 2, 3])?, servers(alloc, &[1, 2])?];
-    match pair(alloc, &groups) {
-        Err(GroupError::BadSize(size)) => assert!(rt; size == 2),
-        _ => assert!(rt; false, "the pair was taken"),
-    }
-    Ok(())
 }
 
 #[test]
 fn loss_ends_each_group_of_the_server_and_follows_it(rt: HostRuntime) -> Mem<()> {
     let alloc = rt.alloc();
     let groups = [
-        servers(alloc, &[1, 2, 3])?,
-        servers(alloc, &[3, 4, 5])?,
-        servers(alloc, &[5, 2, 1])?,
+        setup(alloc, &[1, 2, 3], 1)?,
+        setup(alloc, &[3, 4, 5], 1)?,
+        setup(alloc, &[5, 2, 1, 4], 2)?,
     ];
     match three_groups(alloc, &groups) {
         Ok(mut map) => {
@@ -62,21 +46,30 @@ fn loss_ends_each_group_of_the_server_and_follows_it(rt: HostRuntime) -> Mem<()>
             lose_server_2(alloc, &mut map)?;
             let map = map.copy(alloc)?;
             let wanted = [
-                (1, [(1, 1), (2, 1), (3, 1)], false),
-                (2, [(3, 1), (4, 1), (5, 1)], true),
-                (3, [(5, 1), (2, 1), (1, 1)], false),
-                (4, [(1, 1), (2, 2), (3, 1)], true),
-                (5, [(5, 1), (2, 2), (1, 1)], true),
+                (1, [(1, 1), (2, 1), (3, 1)].as_slice(), 1, false),
+                (2, [(3, 1), (4, 1), (5, 1)].as_slice(), 1, true),
+                (3, [(5, 1), (2, 1), (1, 1), (4, 1)].as_slice(), 2, false),
+                (4, [(1, 1), (2, 2), (3, 1)].as_slice(), 1, true),
+                (5, [(5, 1), (2, 2), (1, 1), (4, 1)].as_slice(), 2, true),
             ];
-            for (id, members, current) in wanted {
+            for (id, members, parity, current) in wanted {
                 match map.lookup(id) {
                     Ok(group) => {
-                        assert!(rt; group.id == id && group.current == current, "{id}");
-                        let members = members.map(|(server, generation)| Member {
-                            server,
-                            generation,
-                        });
-                        assert!(rt; group.members.as_slice() == members.as_slice(), "{id}");
+                        assert!(rt; group.id == id && group.parity == parity, "{id}");
+                        assert!(rt; group.current == current, "{id}");
+                        assert!(rt; group.members.len() == members.len(), "{id}");
+                        for (found, (server, generation)) in group
+                            .members
+                            .as_slice()
+                            .iter()
+                            .zip(members)
+                        {
+                            let wanted = Member {
+                                server: *server,
+                                generation: *generation,
+                            };
+                            assert!(rt; *found == wanted, "{id}");
+                        }
                     }
                     Err(_) => assert!(rt; false, "no group {id}"),
                 }

@@ -1,5 +1,5 @@
 -- Each field, and each group of fields, is read as it is spelled.
-use Rattle.std.proofs.Common.{◌≡◌, ℕ, zero, suc, ◌+◌, ◌^◌, ◌<◌, ◌≤◌, true, ltb, leb, eqb, List, [], ◌∷◌, ◌++◌, length, Option, Some, None, refl, sym, ap, ◌∙◌, arith}
+use Rattle.std.proofs.Common.{◌≡◌, ℕ, zero, suc, ◌+◌, ◌^◌, ◌<◌, ◌≤◌, Bool, true, false, cond, ltb, leb, eqb, List, [], ◌∷◌, ◌++◌, length, Option, Some, None, refl, sym, ap, ◌∙◌, arith}
 use Rattle.std.specs.Prelude.{IfSome}
 use Rattle.std.specs.Int.{w8, w16, w32, w64, to_be_bytes}
 use Rattle.std.specs.List.{flat_map, AllByRecursion}
@@ -14,10 +14,10 @@ use Rattle.xfs_base.specs.declared.segment.Prior.{Prior}
 use Rattle.xfs_base.specs.declared.segment.SegName.{SegName}
 use Rattle.segment_format.specs.declared.head.Head.{Head}
 use Rattle.segment_format.specs.declared.seg_error.SegError.TheVariants.{BadMark, BadVersion, BadLength}
-use Rattle.segment_format.specs.Format.{version, most, longest, mark, is_mark, is_within, IsWithin, is_log, IsLog, is_length, IsLength}
+use Rattle.segment_format.specs.Format.{first_version, second_version, most, longest, mark, is_mark, is_within, IsWithin, is_log, IsLog, is_version, IsVersion, is_length, IsLength}
 use Rattle.segment_format.specs.Ranges.{FitsBlock, FitsPass, FitsName, FitsPrior, FitsPlace, FitsRow}
 use Rattle.segment_format.specs.Reading.{number, raw, checked}
-use Rattle.segment_format.specs.ReadingFields.{block_at, log_at, pass_at, name_at, prior_at, head_at, value_at, place_at, flagged_at, row_at, rows_at}
+use Rattle.segment_format.specs.ReadingFields.{block_at, log_at, pass_at, name_at, prior_at, mark_at, head_at, value_at, place_at, flagged_at, row_at, rows_at}
 use Rattle.segment_format.specs.Text.{block_text, pass_text, name_text, prior_text, value_text, place_text, row_text, head_text, IsPlace, IsRow}
 use Rattle.segment_format.proofs.Readers.{IsReader, then-reader, gives-reader, checked-reader, as-reader, cons-reader, OfCons, number16, number32, number64, byte-reader, raw-reader}
 
@@ -131,22 +131,23 @@ prior-reader =
 
 -- ---- the header
 
-mark-reader : IsReader (checked (raw 3) is_mark BadMark) (λ bytes. bytes) (λ bytes. bytes ≡ mark)
+pub mark-reader : IsReader mark_at (λ bytes. bytes) (λ bytes. bytes ≡ mark)
+unfolding mark_at
 mark-reader =
     as-reader (checked-reader is_mark BadMark (raw-reader 3))
     (λ bytes v. refl)
     (λ bytes v. mark_is bytes v.0 v.1)
     (λ bytes v. (ap (λ (l : List ℕ). length l) v, ap (λ (l : List ℕ). is_mark l) v))
 
-version-reader : IsReader (checked (number w8) (λ n. eqb n version) BadVersion) (λ n. n ∷ []) (λ n. n ≡ version)
+version-reader : IsReader (checked (number w8) is_version BadVersion) (λ n. n ∷ []) IsVersion
 version-reader =
-    as-reader (checked-reader (λ n. eqb n version) BadVersion byte-reader)
+    as-reader (checked-reader is_version BadVersion byte-reader)
     (λ n v. refl)
-    (λ n v. eq_true n version v.1)
-    (λ n v. (omega (arith, v), true_eq n version v))
+    (λ n v. within_true first_version second_version n v.1)
+    (λ n v. (omega (arith, v.1), true_within first_version second_version n v))
 
 abbrev pub OfHead : Head → Type 0
-OfHead h = OfName h.name × FitsPrior h.prior × (h.group < 2 ^ 32) × (h.count ≤ most + most)
+OfHead h = IsVersion h.version × OfName h.name × FitsPrior h.prior × (h.group < 2 ^ 32) × (h.count ≤ most + most)
 
 count-reader : IsReader (checked (number w16) (λ n. leb n (most + most)) BadLength) (to_be_bytes w16) (λ n. n ≤ most + most)
 count-reader =
@@ -159,36 +160,38 @@ pub head-reader : IsReader head_at head_text OfHead
 unfolding head_at
 head-reader =
     as-reader
-    (then-reader (λ (h : Head). mark) mark-reader
-    (λ m _. then-reader (λ (h : Head). version) version-reader
-    (λ v _. then-reader (λ (h : Head). h.name) name-reader
+    (then-reader (λ (h : Head). h.version) version-reader
+    (λ version _. then-reader (λ (h : Head). h.name) name-reader
     (λ name _. then-reader (λ (h : Head). h.prior) prior-reader
     (λ prior _. then-reader (λ (h : Head). h.group) number32
     (λ group _. then-reader (λ (h : Head). h.count) count-reader
-    (λ count _. gives-reader (record { name = name; prior = prior; group = group; count = count }))
+    (λ count _. gives-reader (record { version = version; name = name; prior = prior; group = group; count = count }))
     (λ count x _ h. ap (λ (y : Head). y.count) h))
     (λ group x _ h. ap (λ (y : Head). y.group) h.1))
     (λ prior x _ h. ap (λ (y : Head). y.prior) h.1.1))
     (λ name x _ h. ap (λ (y : Head). y.name) h.1.1.1))
-    (λ v x w _. sym w))
-    (λ m x w _. sym w))
+    (λ version x _ h. ap (λ (y : Head). y.version) h.1.1.1.1))
     (λ h v. refl)
-    (λ h v. (v.1.1.0, v.1.1.1.0, v.1.1.1.1.0, v.1.1.1.1.1.0))
-    (λ h v. (refl, (refl, (v.0, (v.1, (v.2, (v.3, refl)))))))
+    (λ h v. (v.0, v.1.0, v.1.1.0, v.1.1.1.0, v.1.1.1.1.0))
+    (λ h v. (v.0, (v.1, (v.2, (v.3, (v.4, refl))))))
 
 -- ---- values
 
 -- a value that is present, of a length in bounds
-abbrev pub OfValue : Option (List ℕ) → Type 0
-OfValue None = ⊥
-OfValue (Some bytes) = IsLength (length bytes)
+abbrev pub OfValue : ℕ → Option (List ℕ) → Type 0
+OfValue version None = ⊥
+OfValue version (Some bytes) = IsLength version (length bytes)
 
-length-reader : IsReader (checked (number w16) is_length BadLength) (to_be_bytes w16) IsLength
-length-reader =
-    as-reader (checked-reader is_length BadLength number16)
+longest_fits : (b : Bool) (n : ℕ) → n ≤ cond b 4096 8192 → n < 2 ^ 16
+longest_fits true n le = omega arith
+longest_fits false n le = omega arith
+
+length-reader : (version : ℕ) → IsReader (checked (number w16) (is_length version) BadLength) (to_be_bytes w16) (IsLength version)
+length-reader version =
+    as-reader (checked-reader (is_length version) BadLength number16)
     (λ n v. refl)
-    (λ n v. within_true 1 longest n v.1)
-    (λ n v. (omega (arith, v.1), true_within 1 longest n v))
+    (λ n v. within_true 1 (longest version) n v.1)
+    (λ n v. (longest_fits (eqb version first_version) n v.1, true_within 1 (longest version) n v))
 
 bytes_of : Option (List ℕ) → List ℕ
 bytes_of None = []
@@ -204,28 +207,28 @@ unfolding bytes_of
 value_spelled None h = absurd cc
 value_spelled (Some bytes) h = ap (λ (l : List ℕ). to_be_bytes w16 (length bytes) ++ l) (append-nil bytes)
 
-value_to : (v : Option (List ℕ)) → IsLength (length (bytes_of v)) → v ≡ Some (bytes_of v) → OfValue v
+value_to : (version : ℕ) (v : Option (List ℕ)) → IsLength version (length (bytes_of v)) → v ≡ Some (bytes_of v) → OfValue version v
 unfolding bytes_of
-value_to None l h = absurd cc
-value_to (Some bytes) l h = l
+value_to version None l h = absurd cc
+value_to version (Some bytes) l h = l
 
-value_from : (v : Option (List ℕ)) → OfValue v → IsLength (length (bytes_of v)) × (v ≡ Some (bytes_of v))
+value_from : (version : ℕ) (v : Option (List ℕ)) → OfValue version v → IsLength version (length (bytes_of v)) × (v ≡ Some (bytes_of v))
 unfolding bytes_of
-value_from None h = absurd h
-value_from (Some bytes) h = (h, refl)
+value_from version None h = absurd h
+value_from version (Some bytes) h = (h, refl)
 
-pub value-reader : IsReader value_at value_text OfValue
+pub value-reader : (version : ℕ) → IsReader (value_at version) value_text (OfValue version)
 unfolding value_at
-value-reader =
+value-reader version =
     as-reader
-    (then-reader (λ (v : Option (List ℕ)). length (bytes_of v)) length-reader
+    (then-reader (λ (v : Option (List ℕ)). length (bytes_of v)) (length-reader version)
     (λ n _. then-reader (λ (v : Option (List ℕ)). bytes_of v) (raw-reader n)
     (λ bytes _. gives-reader (Some bytes))
     (λ bytes v _ h. some_of v bytes h))
     (λ n v _ h. h.0))
     (λ v h. value_spelled v h.1.1)
-    (λ v h. value_to v h.0 h.1.1)
-    (λ v h. ((value_from v h).0, (refl, (value_from v h).1)))
+    (λ v h. value_to version v h.0 h.1.1)
+    (λ v h. let f = value_from version v h in (f.0, (refl, f.1)))
 
 -- ---- rows
 

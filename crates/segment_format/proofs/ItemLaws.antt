@@ -89,31 +89,31 @@ rows_of (Block block value) = []
 rows_of (Delta block ver hop item) = []
 rows_of (Part slot rows) = rows
 
-abbrev pub FullItem : Item → Type 0
-FullItem x = FitsItem x × IsItem x
+abbrev pub FullItem : ℕ → Item → Type 0
+FullItem version x = FitsItem x × IsItem version x
 
-abbrev OfBlock : Item → Type 0
-OfBlock (Block block value) = FitsBlock block × OfValue value
-OfBlock (Delta block ver hop item) = ⊥
-OfBlock (Part slot rows) = ⊥
+abbrev OfBlock : ℕ → Item → Type 0
+OfBlock version (Block block value) = FitsBlock block × OfValue version value
+OfBlock version (Delta block ver hop item) = ⊥
+OfBlock version (Part slot rows) = ⊥
 
-block_from : (x : Item) → OfBlock x → FitsBlock (block_of x) × (OfValue (value_of x) × (x ≡ Block (block_of x) (value_of x)))
-block_from (Block block value) h = (h.0, (h.1, refl))
-block_from (Delta block ver hop item) h = absurd h
-block_from (Part slot rows) h = absurd h
+block_from : (version : ℕ) (x : Item) → OfBlock version x → FitsBlock (block_of x) × (OfValue version (value_of x) × (x ≡ Block (block_of x) (value_of x)))
+block_from version (Block block value) h = (h.0, (h.1, refl))
+block_from version (Delta block ver hop item) h = absurd h
+block_from version (Part slot rows) h = absurd h
 
-block_item-reader : IsReader block_item_at body_text OfBlock
+block_item-reader : (version : ℕ) → IsReader (block_item_at version) body_text (OfBlock version)
 unfolding block_item_at
-block_item-reader =
+block_item-reader version =
     as-reader
     (then-reader (λ (x : Item). block_of x) block-reader
-    (λ block _. then-reader (λ (x : Item). value_of x) value-reader
+    (λ block _. then-reader (λ (x : Item). value_of x) (value-reader version)
     (λ value _. gives-reader (Block block value))
     (λ value x _ h. ap (λ (y : Item). value_of y) h))
     (λ block x _ h. ap (λ (y : Item). block_of y) h.1))
     (λ x v. ap (λ (l : List ℕ). block_text (block_of x) ++ l) (append-nil (value_text (value_of x))) ∙ ap (λ (y : Item). body_text y) (sym v.1.1))
-    (λ x v. subst (λ (y : Item). OfBlock y) (sym v.1.1) (v.0, v.1.0))
-    (λ x v. block_from x v)
+    (λ x v. subst (λ (y : Item). OfBlock version y) (sym v.1.1) (v.0, v.1.0))
+    (λ x v. block_from version x v)
 
 abbrev OfDelta : Item → Type 0
 OfDelta (Block block value) = ⊥
@@ -183,58 +183,58 @@ part_item-reader =
 
 -- ---- all three
 
-value_is : (block : BlockId) (value : Option (List ℕ)) → OfValue value → IsItem (Block block value)
-value_is block None h = h
-value_is block (Some bytes) h = h
+value_is : (version : ℕ) (block : BlockId) (value : Option (List ℕ)) → OfValue version value → IsItem version (Block block value)
+value_is version block None h = h
+value_is version block (Some bytes) h = h
 
-is_value : (block : BlockId) (value : Option (List ℕ)) → IsItem (Block block value) → OfValue value
-is_value block None h = h
-is_value block (Some bytes) h = h
+is_value : (version : ℕ) (block : BlockId) (value : Option (List ℕ)) → IsItem version (Block block value) → OfValue version value
+is_value version block None h = h
+is_value version block (Some bytes) h = h
 
-abbrev OfBody : ℕ → Item → Type 0
-OfBody kind x = FullItem x × (kind_of x ≡ kind)
+abbrev OfBody : ℕ → ℕ → Item → Type 0
+OfBody version kind x = FullItem version x × (kind_of x ≡ kind)
 
-body_block : (kind : ℕ) (x : Item) → kind ≡ 1 → OfBlock x → OfBody kind x
-body_block kind (Block block value) k h = ((h.0, value_is block value h.1), sym k)
-body_block kind (Delta block ver hop item) k h = absurd h
-body_block kind (Part slot rows) k h = absurd h
+body_block : (version kind : ℕ) (x : Item) → kind ≡ 1 → OfBlock version x → OfBody version kind x
+body_block version kind (Block block value) k h = ((h.0, value_is version block value h.1), sym k)
+body_block version kind (Delta block ver hop item) k h = absurd h
+body_block version kind (Part slot rows) k h = absurd h
 
-block_body : (kind : ℕ) (x : Item) → kind ≡ 1 → OfBody kind x → OfBlock x
-block_body kind (Block block value) k h = (h.0.0, is_value block value h.0.1)
-block_body kind (Delta block ver hop item) k h = absurd (omega (arith, k, h.1))
-block_body kind (Part slot rows) k h = absurd (omega (arith, k, h.1))
+block_body : (version kind : ℕ) (x : Item) → kind ≡ 1 → OfBody version kind x → OfBlock version x
+block_body version kind (Block block value) k h = (h.0.0, is_value version block value h.0.1)
+block_body version kind (Delta block ver hop item) k h = absurd (omega (arith, k, h.1))
+block_body version kind (Part slot rows) k h = absurd (omega (arith, k, h.1))
 
-body_delta : (kind : ℕ) (x : Item) → kind ≡ 2 → OfDelta x → OfBody kind x
-body_delta kind (Block block value) k h = absurd h
-body_delta kind (Delta block ver hop item) k h = ((h, tt), sym k)
-body_delta kind (Part slot rows) k h = absurd h
+body_delta : (version kind : ℕ) (x : Item) → kind ≡ 2 → OfDelta x → OfBody version kind x
+body_delta version kind (Block block value) k h = absurd h
+body_delta version kind (Delta block ver hop item) k h = ((h, tt), sym k)
+body_delta version kind (Part slot rows) k h = absurd h
 
-delta_body : (kind : ℕ) (x : Item) → kind ≡ 2 → OfBody kind x → OfDelta x
-delta_body kind (Block block value) k h = absurd (omega (arith, k, h.1))
-delta_body kind (Delta block ver hop item) k h = h.0.0
-delta_body kind (Part slot rows) k h = absurd (omega (arith, k, h.1))
+delta_body : (version kind : ℕ) (x : Item) → kind ≡ 2 → OfBody version kind x → OfDelta x
+delta_body version kind (Block block value) k h = absurd (omega (arith, k, h.1))
+delta_body version kind (Delta block ver hop item) k h = h.0.0
+delta_body version kind (Part slot rows) k h = absurd (omega (arith, k, h.1))
 
-body_part : (kind : ℕ) (x : Item) → kind ≡ 3 → OfPart x → OfBody kind x
-body_part kind (Block block value) k h = absurd h
-body_part kind (Delta block ver hop item) k h = absurd h
-body_part kind (Part slot rows) k h = ((h.2, (h.0, h.1, h.3)), sym k)
+body_part : (version kind : ℕ) (x : Item) → kind ≡ 3 → OfPart x → OfBody version kind x
+body_part version kind (Block block value) k h = absurd h
+body_part version kind (Delta block ver hop item) k h = absurd h
+body_part version kind (Part slot rows) k h = ((h.2, (h.0, h.1, h.3)), sym k)
 
-part_body : (kind : ℕ) (x : Item) → kind ≡ 3 → OfBody kind x → OfPart x
-part_body kind (Block block value) k h = absurd (omega (arith, k, h.1))
-part_body kind (Delta block ver hop item) k h = absurd (omega (arith, k, h.1))
-part_body kind (Part slot rows) k h = (h.0.1.0, h.0.1.1, h.0.0, h.0.1.2)
+part_body : (version kind : ℕ) (x : Item) → kind ≡ 3 → OfBody version kind x → OfPart x
+part_body version kind (Block block value) k h = absurd (omega (arith, k, h.1))
+part_body version kind (Delta block ver hop item) k h = absurd (omega (arith, k, h.1))
+part_body version kind (Part slot rows) k h = (h.0.1.0, h.0.1.1, h.0.0, h.0.1.2)
 
 third_kind : (kind : ℕ) → IsWithin 1 3 kind → eqb kind 1 ≡ false → eqb kind 2 ≡ false → kind ≡ 3
 third_kind kind w a b = let lo : 1 ≤ kind = w.0 in let hi : kind ≤ 3 = w.1 in grind (arith, nat_tests)
 
-body_cases : (kind : ℕ) → IsWithin 1 3 kind → (b c : Bool) → eqb kind 1 ≡ b → eqb kind 2 ≡ c → IsReader (cond b block_item_at (cond c delta_item_at part_item_at)) body_text (OfBody kind)
-body_cases kind w true c e f = let k = eq_true kind 1 e in as-reader block_item-reader (λ x v. refl) (λ x v. body_block kind x k v) (λ x v. block_body kind x k v)
-body_cases kind w false true e f = let k = eq_true kind 2 f in as-reader delta_item-reader (λ x v. refl) (λ x v. body_delta kind x k v) (λ x v. delta_body kind x k v)
-body_cases kind w false false e f = let k = third_kind kind w e f in as-reader part_item-reader (λ x v. refl) (λ x v. body_part kind x k v) (λ x v. part_body kind x k v)
+body_cases : (version kind : ℕ) → IsWithin 1 3 kind → (b c : Bool) → eqb kind 1 ≡ b → eqb kind 2 ≡ c → IsReader (cond b (block_item_at version) (cond c delta_item_at part_item_at)) body_text (OfBody version kind)
+body_cases version kind w true c e f = let k = eq_true kind 1 e in as-reader (block_item-reader version) (λ x v. refl) (λ x v. body_block version kind x k v) (λ x v. block_body version kind x k v)
+body_cases version kind w false true e f = let k = eq_true kind 2 f in as-reader delta_item-reader (λ x v. refl) (λ x v. body_delta version kind x k v) (λ x v. delta_body version kind x k v)
+body_cases version kind w false false e f = let k = third_kind kind w e f in as-reader part_item-reader (λ x v. refl) (λ x v. body_part version kind x k v) (λ x v. part_body version kind x k v)
 
-body-reader : (kind : ℕ) → IsWithin 1 3 kind → IsReader (body_at kind) body_text (OfBody kind)
+body-reader : (version kind : ℕ) → IsWithin 1 3 kind → IsReader (body_at version kind) body_text (OfBody version kind)
 unfolding body_at
-body-reader kind w = body_cases kind w (eqb kind 1) (eqb kind 2) refl refl
+body-reader version kind w = body_cases version kind w (eqb kind 1) (eqb kind 2) refl refl
 
 -- ---- an item behind what is seen
 
@@ -262,13 +262,13 @@ joins_from seen (Block block value) j = (((omega arith, omega arith), true_lt se
 joins_from seen (Delta block ver hop item) j = (((omega arith, omega arith), true_lt seen.deltas most j.0, refl), j.1)
 joins_from seen (Part slot rows) j = (((omega arith, omega arith), true_lt seen.others most j.0, true_none seen.awaited j.1), refl)
 
-pub item-reader : (seen : Seen) → IsReader (item_at seen) item_text (λ x. FullItem x × Joins seen x)
+pub item-reader : (version : ℕ) (seen : Seen) → IsReader (item_at version seen) item_text (λ x. FullItem version x × Joins seen x)
 unfolding item_at
-item-reader seen =
+item-reader version seen =
     as-reader
     (checked-reader (follows seen.awaited) BadRef
     (then-reader (λ (x : Item). kind_of x) (kind-reader seen)
-    (λ kind v. body-reader kind v.0)
+    (λ kind v. body-reader version kind v.0)
     (λ kind x _ h. h.1)))
     (λ x v. kind_spelled x)
     (λ x v. (v.0.1.0, joins_to seen x v.0.0 v.1))

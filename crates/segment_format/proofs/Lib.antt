@@ -1,3 +1,4 @@
+pub mod Attempts
 pub mod Loops
 pub mod Writes
 pub mod Readers

@@ -58,34 +58,34 @@ rows_end front count i f total le so_far =
 
 -- ---- items
 
-pub items_go_on : (front : List Item) (seen : Seen) (count i : ℕ) (f g : Fields) (item : Item) (total : Result (List Item × Fields) SegError) → i < count → item_at seen f ≡ Ok (item, g)
-    → with_front front (items_at seen (count - i) f) ≡ total → with_front (front ++ item ∷ []) (items_at (after item seen) (count - (i + 1)) g) ≡ total
+pub items_go_on : (version : ℕ) (front : List Item) (seen : Seen) (count i : ℕ) (f g : Fields) (item : Item) (total : Result (List Item × Fields) SegError) → i < count → item_at version seen f ≡ Ok (item, g)
+    → with_front front (items_at version seen (count - i) f) ≡ total → with_front (front ++ item ∷ []) (items_at version (after item seen) (count - (i + 1)) g) ≡ total
 unfolding items_at
-items_go_on front seen count i f g item total lt h so_far =
+items_go_on version front seen count i f g item total lt h so_far =
     let k : count - i ≡ suc (count - (i + 1)) = omega arith in
-    let one : with_front front (items_at seen (count - i) f) ≡ with_front (front ++ item ∷ []) (items_at (after item seen) (count - (i + 1)) g) = rw (k, h) (regroup front item (items_at (after item seen) (count - (i + 1)) g)) in
+    let one : with_front front (items_at version seen (count - i) f) ≡ with_front (front ++ item ∷ []) (items_at version (after item seen) (count - (i + 1)) g) = rw (k, h) (regroup front item (items_at version (after item seen) (count - (i + 1)) g)) in
     sym one ∙ so_far
 
-pub items_fail : (e : SegError) (front : List Item) (seen : Seen) (count i : ℕ) (f : Fields) (total : Result (List Item × Fields) SegError) → i < count → Fails e (item_at seen f)
-    → with_front front (items_at seen (count - i) f) ≡ total → Fails e total
+pub items_fail : (version : ℕ) (e : SegError) (front : List Item) (seen : Seen) (count i : ℕ) (f : Fields) (total : Result (List Item × Fields) SegError) → i < count → Fails e (item_at version seen f)
+    → with_front front (items_at version seen (count - i) f) ≡ total → Fails e total
 unfolding items_at
-items_fail e front seen count i f total lt h so_far =
+items_fail version e front seen count i f total lt h so_far =
     let k : count - i ≡ suc (count - (i + 1)) = omega arith in
-    let here : Fails e (items_at seen (count - i) f) = rw k (fails_in e (item_at seen f) (λ item. items_at (after item seen) (count - (i + 1)) >>= λ others. gives (item ∷ others)) h) in
-    fails_on e front (items_at seen (count - i) f) total here so_far
+    let here : Fails e (items_at version seen (count - i) f) = rw k (fails_in e (item_at version seen f) (λ item. items_at version (after item seen) (count - (i + 1)) >>= λ others. gives (item ∷ others)) h) in
+    fails_on e front (items_at version seen (count - i) f) total here so_far
 
-pub items_end : (front : List Item) (seen : Seen) (count i : ℕ) (f : Fields) (total : Result (List Item × Fields) SegError) → count ≤ i → is_none seen.awaited ≡ true → with_front front (items_at seen (count - i) f) ≡ total → total ≡ Ok (front, f)
+pub items_end : (version : ℕ) (front : List Item) (seen : Seen) (count i : ℕ) (f : Fields) (total : Result (List Item × Fields) SegError) → count ≤ i → is_none seen.awaited ≡ true → with_front front (items_at version seen (count - i) f) ≡ total → total ≡ Ok (front, f)
 unfolding items_at
-items_end front seen count i f total le none so_far =
+items_end version front seen count i f total le none so_far =
     let k : count - i ≡ 0 = omega arith in
-    let one : with_front front (items_at seen (count - i) f) ≡ Ok (front, f) = rw (k, none) (ap (λ items. Ok (items, f)) (append-nil front)) in
+    let one : with_front front (items_at version seen (count - i) f) ≡ Ok (front, f) = rw (k, none) (ap (λ items. Ok (items, f)) (append-nil front)) in
     sym so_far ∙ one
 
-pub items_miss : (front : List Item) (seen : Seen) (count i : ℕ) (f : Fields) (total : Result (List Item × Fields) SegError) → count ≤ i → is_none seen.awaited ≡ false → with_front front (items_at seen (count - i) f) ≡ total → total ≡ Err (BadRef f.at)
+pub items_miss : (version : ℕ) (front : List Item) (seen : Seen) (count i : ℕ) (f : Fields) (total : Result (List Item × Fields) SegError) → count ≤ i → is_none seen.awaited ≡ false → with_front front (items_at version seen (count - i) f) ≡ total → total ≡ Err (BadRef f.at)
 unfolding items_at
-items_miss front seen count i f total le some so_far =
+items_miss version front seen count i f total le some so_far =
     let k : count - i ≡ 0 = omega arith in
-    let one : with_front front (items_at seen (count - i) f) ≡ Err (BadRef f.at) = rw (k, some) refl in
+    let one : with_front front (items_at version seen (count - i) f) ≡ Err (BadRef f.at) = rw (k, some) refl in
     sym so_far ∙ one
 
 -- one item more is seen

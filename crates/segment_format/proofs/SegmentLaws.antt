@@ -1,9 +1,9 @@
 -- A whole segment is read as it is spelled: what is read is the text of the segment, and the text of a segment is read as it.
 use Rattle.std.proofs.Common.{◌≡◌, ℕ, zero, suc, ◌+◌, ◌<◌, ◌≤◌, Bool, true, false, cond, eqb, List, [], ◌∷◌, ◌++◌, length, Option, Some, None, Result, Ok, Err, refl, sym, ap, subst, ◌∙◌, arith}
-use Rattle.std.specs.Prelude.{is_none, ◌&&◌}
-use Rattle.std.specs.List.{flat_map, AllByRecursion}
+use Rattle.std.specs.Prelude.{is_none, ◌&&◌, ◌||◌}
+use Rattle.std.specs.List.{flat_map, list_any, AllByRecursion}
 use Rattle.std.proofs.lemmas.List.{append-nil, nil_from_length}
-use Rattle.std.proofs.lemmas.Bool.{eqb-true}
+use Rattle.std.proofs.lemmas.Bool.{eqb-true, ltb-false}
 use Rattle.xfs_base.specs.declared.block.BlockId.{BlockId}
 use Rattle.xfs_base.specs.Blocks.{same_block}
 use Rattle.xfs_base.specs.Fields.{Fields}
@@ -15,15 +15,15 @@ use Rattle.segment_format.specs.declared.segment.Segment.{Segment}
 use Rattle.segment_format.specs.declared.seen.Awaited.{Awaited}
 use Rattle.segment_format.specs.declared.seen.Seen.{Seen}
 use Rattle.segment_format.specs.declared.seg_error.SegError.{SegError}
-use Rattle.segment_format.specs.declared.seg_error.SegError.TheVariants.{BadRef, Trailing}
-use Rattle.segment_format.specs.Format.{most}
+use Rattle.segment_format.specs.declared.seg_error.SegError.TheVariants.{BadVersion, BadRef, Trailing}
+use Rattle.segment_format.specs.Format.{first_version, second_version, longest, most, mark, IsVersion}
 use Rattle.segment_format.specs.Ranges.{FitsItem, Fits}
-use Rattle.segment_format.specs.ReadingItems.{items_at, segment_at, ended, answer_of}
+use Rattle.segment_format.specs.ReadingItems.{items_at, parts_at, segment_at, ended, answer_of}
 use Rattle.segment_format.specs.Rule.{KeepsRule, deltas_in, others_in, nothing_seen, after, no_item, answers}
-use Rattle.segment_format.specs.Text.{item_text, head_text, head_of, text_of, IsItem, KeepsLimits, IsText}
+use Rattle.segment_format.specs.Text.{item_text, head_text, is_long, version_of, head_of, text_of, IsItem, KeepsLimits, IsText}
 use Rattle.segment_format.proofs.Writes.{kinds_count}
 use Rattle.segment_format.proofs.Readers.{IsBytes, IsReader, then-reader, gives-reader, checked-reader, as-reader, cons-reader, OfCons}
-use Rattle.segment_format.proofs.FieldLaws.{eq_true, true_eq, head-reader, OfHead}
+use Rattle.segment_format.proofs.FieldLaws.{eq_true, true_eq, mark-reader, head-reader, OfHead}
 use Rattle.segment_format.proofs.ItemLaws.{FullItem, Joins, item-reader}
 
 -- ---- the rule on Deltas, an item at a time
@@ -76,111 +76,174 @@ end_rule (Some a) n r = absurd r
 
 -- ---- items
 
-abbrev OfItems : ℕ → Seen → List Item → Type 0
-OfItems n seen items = (length items ≡ n) × AllByRecursion FullItem items × KeepsRule seen.awaited (seen.others + seen.deltas) items × (seen.others + others_in items ≤ most) × (seen.deltas + deltas_in items ≤ most)
+abbrev OfItems : ℕ → ℕ → Seen → List Item → Type 0
+OfItems version n seen items = (length items ≡ n) × AllByRecursion (FullItem version) items × KeepsRule seen.awaited (seen.others + seen.deltas) items × (seen.others + others_in items ≤ most) × (seen.deltas + deltas_in items ≤ most)
 
-none_to : (seen : Seen) (items : List Item) → seen.others ≤ most → seen.deltas ≤ most → items ≡ [] → is_none seen.awaited ≡ true → OfItems 0 seen items
-none_to seen [] o d e h = (refl, tt, rule_end seen.awaited (seen.others + seen.deltas) h, omega arith, omega arith)
-none_to seen (x ∷ xs) o d e h = absurd cc
+none_to : (version : ℕ) (seen : Seen) (items : List Item) → seen.others ≤ most → seen.deltas ≤ most → items ≡ [] → is_none seen.awaited ≡ true → OfItems version 0 seen items
+none_to version seen [] o d e h = (refl, tt, rule_end seen.awaited (seen.others + seen.deltas) h, omega arith, omega arith)
+none_to version seen (x ∷ xs) o d e h = absurd cc
 
-none_from : (seen : Seen) (items : List Item) → OfItems 0 seen items → (items ≡ []) × (is_none seen.awaited ≡ true)
-none_from seen [] h = (refl, end_rule seen.awaited (seen.others + seen.deltas) h.2)
-none_from seen (x ∷ xs) h = absurd (omega (arith, h.0))
+none_from : (version : ℕ) (seen : Seen) (items : List Item) → OfItems version 0 seen items → (items ≡ []) × (is_none seen.awaited ≡ true)
+none_from version seen [] h = (refl, end_rule seen.awaited (seen.others + seen.deltas) h.2)
+none_from version seen (x ∷ xs) h = absurd (omega (arith, h.0))
 
-abbrev Next : Seen → Item → Type 0
-Next seen x = FullItem x × Joins seen x
+abbrev Next : ℕ → Seen → Item → Type 0
+Next version seen x = FullItem version x × Joins seen x
 
-next_bounds : (seen : Seen) (x : Item) → Next seen x → seen.others ≤ most → seen.deltas ≤ most → ((after x seen).others ≤ most) × ((after x seen).deltas ≤ most)
-next_bounds seen (Block block value) v o d = let lt : seen.others < most = v.1.0 in (omega arith, d)
-next_bounds seen (Delta block ver hop item) v o d = let lt : seen.deltas < most = v.1.0 in (o, omega arith)
-next_bounds seen (Part slot rows) v o d = let lt : seen.others < most = v.1.0 in (omega arith, d)
+next_bounds : (version : ℕ) (seen : Seen) (x : Item) → Next version seen x → seen.others ≤ most → seen.deltas ≤ most → ((after x seen).others ≤ most) × ((after x seen).deltas ≤ most)
+next_bounds version seen (Block block value) v o d = let lt : seen.others < most = v.1.0 in (omega arith, d)
+next_bounds version seen (Delta block ver hop item) v o d = let lt : seen.deltas < most = v.1.0 in (o, omega arith)
+next_bounds version seen (Part slot rows) v o d = let lt : seen.others < most = v.1.0 in (omega arith, d)
 
-cons_to : (n : ℕ) (seen : Seen) (x : Item) (xs : List Item) → Next seen x → OfItems n (after x seen) xs → OfItems (suc n) seen (x ∷ xs)
-cons_to n seen (Block block value) xs v h =
+cons_to : (version n : ℕ) (seen : Seen) (x : Item) (xs : List Item) → Next version seen x → OfItems version n (after x seen) xs → OfItems version (suc n) seen (x ∷ xs)
+cons_to version n seen (Block block value) xs v h =
     (ap suc h.0, (v.0, h.1), rule_cons seen.awaited (seen.others + seen.deltas) (seen.others + 1 + seen.deltas) (Block block value) xs v.1.1 (omega arith) h.2, omega (arith, h.3), omega (arith, h.4))
-cons_to n seen (Delta block ver hop item) xs v h =
+cons_to version n seen (Delta block ver hop item) xs v h =
     (ap suc h.0, (v.0, h.1), rule_cons seen.awaited (seen.others + seen.deltas) (seen.others + (seen.deltas + 1)) (Delta block ver hop item) xs v.1.1 (omega arith) h.2, omega (arith, h.3), omega (arith, h.4))
-cons_to n seen (Part slot rows) xs v h =
+cons_to version n seen (Part slot rows) xs v h =
     (ap suc h.0, (v.0, h.1), rule_cons seen.awaited (seen.others + seen.deltas) (seen.others + 1 + seen.deltas) (Part slot rows) xs v.1.1 (omega arith) h.2, omega (arith, h.3), omega (arith, h.4))
 
-cons_from : (n : ℕ) (seen : Seen) (x : Item) (xs : List Item) → OfItems (suc n) seen (x ∷ xs) → Next seen x × OfItems n (after x seen) xs
-cons_from n seen (Block block value) xs h =
+cons_from : (version n : ℕ) (seen : Seen) (x : Item) (xs : List Item) → OfItems version (suc n) seen (x ∷ xs) → Next version seen x × OfItems version n (after x seen) xs
+cons_from version n seen (Block block value) xs h =
     let r = rule_uncons seen.awaited (seen.others + seen.deltas) (seen.others + 1 + seen.deltas) (Block block value) xs (omega arith) h.2 in
     let len : length xs ≡ n = omega (arith, h.0) in
     ((h.1.0, (omega (arith, h.3), r.0)), (len, h.1.1, r.1, omega (arith, h.3), omega (arith, h.4)))
-cons_from n seen (Delta block ver hop item) xs h =
+cons_from version n seen (Delta block ver hop item) xs h =
     let r = rule_uncons seen.awaited (seen.others + seen.deltas) (seen.others + (seen.deltas + 1)) (Delta block ver hop item) xs (omega arith) h.2 in
     let len : length xs ≡ n = omega (arith, h.0) in
     ((h.1.0, (omega (arith, h.4), r.0)), (len, h.1.1, r.1, omega (arith, h.3), omega (arith, h.4)))
-cons_from n seen (Part slot rows) xs h =
+cons_from version n seen (Part slot rows) xs h =
     let r = rule_uncons seen.awaited (seen.others + seen.deltas) (seen.others + 1 + seen.deltas) (Part slot rows) xs (omega arith) h.2 in
     let len : length xs ≡ n = omega (arith, h.0) in
     ((h.1.0, (omega (arith, h.3), r.0)), (len, h.1.1, r.1, omega (arith, h.3), omega (arith, h.4)))
 
-of_cons_to : (n : ℕ) (seen : Seen) (items : List Item) → OfCons (Next seen) (λ x xs. OfItems n (after x seen) xs) items → OfItems (suc n) seen items
-of_cons_to n seen [] h = absurd h
-of_cons_to n seen (x ∷ xs) h = cons_to n seen x xs h.0 h.1
+of_cons_to : (version n : ℕ) (seen : Seen) (items : List Item) → OfCons (Next version seen) (λ x xs. OfItems version n (after x seen) xs) items → OfItems version (suc n) seen items
+of_cons_to version n seen [] h = absurd h
+of_cons_to version n seen (x ∷ xs) h = cons_to version n seen x xs h.0 h.1
 
-of_cons_from : (n : ℕ) (seen : Seen) (items : List Item) → OfItems (suc n) seen items → OfCons (Next seen) (λ x xs. OfItems n (after x seen) xs) items
-of_cons_from n seen [] h = absurd (omega (arith, h.0))
-of_cons_from n seen (x ∷ xs) h = cons_from n seen x xs h
+of_cons_from : (version n : ℕ) (seen : Seen) (items : List Item) → OfItems version (suc n) seen items → OfCons (Next version seen) (λ x xs. OfItems version n (after x seen) xs) items
+of_cons_from version n seen [] h = absurd (omega (arith, h.0))
+of_cons_from version n seen (x ∷ xs) h = cons_from version n seen x xs h
 
-items-reader : (n : ℕ) (seen : Seen) → seen.others ≤ most → seen.deltas ≤ most → IsReader (items_at seen n) (flat_map item_text) (OfItems n seen)
+items-reader : (version n : ℕ) (seen : Seen) → seen.others ≤ most → seen.deltas ≤ most → IsReader (items_at version seen n) (flat_map item_text) (OfItems version n seen)
 unfolding items_at
-items-reader zero seen o d =
+items-reader version zero seen o d =
     as-reader (checked-reader (λ none. is_none seen.awaited) BadRef (gives-reader []))
     (λ items v. ap (λ (l : List Item). flat_map item_text l) (sym v.0))
-    (λ items v. none_to seen items o d v.0 v.1)
-    (none_from seen)
-items-reader (suc n) seen o d =
-    as-reader (cons-reader (item-reader seen) (λ x v. let b = next_bounds seen x v o d in items-reader n (after x seen) b.0 b.1))
+    (λ items v. none_to version seen items o d v.0 v.1)
+    (none_from version seen)
+items-reader version (suc n) seen o d =
+    as-reader (cons-reader (item-reader version seen) (λ x v. let b = next_bounds version seen x v o d in items-reader version n (after x seen) b.0 b.1))
     (λ items v. refl)
-    (of_cons_to n seen)
-    (of_cons_from n seen)
+    (of_cons_to version n seen)
+    (of_cons_from version n seen)
 
 -- ---- a segment
 
-all_fit : (items : List Item) → AllByRecursion FullItem items → AllByRecursion FitsItem items × AllByRecursion IsItem items
-all_fit [] h = (tt, tt)
-all_fit (x ∷ xs) h = let r = all_fit xs h.1 in ((h.0.0, r.0), (h.0.1, r.1))
+-- ---- the version that the items need
 
-fit_all : (items : List Item) → AllByRecursion FitsItem items → AllByRecursion IsItem items → AllByRecursion FullItem items
-fit_all [] f h = tt
-fit_all (x ∷ xs) f h = ((f.0, h.0), fit_all xs f.1 h.1)
+below_longest : (b : Bool) (n : ℕ) → n ≤ cond b 4096 8192 → n ≤ 8192
+below_longest true n le = omega arith
+below_longest false n le = le
+
+-- what an item of any version keeps to
+any_version : (version : ℕ) (x : Item) → IsItem version x → IsItem second_version x
+any_version version (Block block None) h = h
+any_version version (Block block (Some bytes)) h = (h.0, below_longest (eqb version first_version) (length bytes) h.1)
+any_version version (Delta block ver hop item) h = h
+any_version version (Part slot rows) h = h
+
+not_long : (x : Item) → is_long x ≡ false → IsItem second_version x → IsItem first_version x
+not_long (Block block None) e h = h
+not_long (Block block (Some bytes)) e h = (h.0, ltb-false (longest first_version) (length bytes) e)
+not_long (Delta block ver hop item) e h = h
+not_long (Part slot rows) e h = h
+
+or_false : (a b : Bool) → a || b ≡ false → (a ≡ false) × (b ≡ false)
+or_false true b h = absurd cc
+or_false false b h = (refl, h)
+
+none_long : (items : List Item) → list_any is_long items ≡ false → AllByRecursion (IsItem second_version) items → AllByRecursion (IsItem first_version) items
+none_long [] e h = tt
+none_long (x ∷ xs) e h = let p = or_false (is_long x) (list_any is_long xs) e in (not_long x p.0 h.0, none_long xs p.1 h.1)
+
+needed : (items : List Item) (b : Bool) → list_any is_long items ≡ b → AllByRecursion (IsItem second_version) items → AllByRecursion (IsItem (cond b second_version first_version)) items
+needed items true e h = h
+needed items false e h = none_long items e h
+
+version_in : (b : Bool) → IsVersion (cond b second_version first_version)
+version_in true = (omega arith, omega arith)
+version_in false = (omega arith, omega arith)
+
+all_fit : (version : ℕ) (items : List Item) → AllByRecursion (FullItem version) items → AllByRecursion FitsItem items × AllByRecursion (IsItem second_version) items
+all_fit version [] h = (tt, tt)
+all_fit version (x ∷ xs) h = let r = all_fit version xs h.1 in ((h.0.0, r.0), (any_version version x h.0.1, r.1))
+
+fit_all : (version : ℕ) (items : List Item) → AllByRecursion FitsItem items → AllByRecursion (IsItem version) items → AllByRecursion (FullItem version) items
+fit_all version [] f h = tt
+fit_all version (x ∷ xs) f h = ((f.0, h.0), fit_all version xs f.1 h.1)
+
+-- ---- the header and the items
+
+-- the version of the header is the one that the items need
+abbrev OfParts : Head × List Item → Type 0
+OfParts p = OfHead p.0 × OfItems p.0.version p.0.count nothing_seen p.1 × (p.0.version ≡ version_of p.1)
+
+parts-reader : IsReader parts_at (λ p. head_text p.0 ++ flat_map item_text p.1) OfParts
+unfolding parts_at
+parts-reader =
+    as-reader
+    (checked-reader (λ p. eqb p.0.version (version_of p.1)) BadVersion
+    (then-reader (λ (p : Head × List Item). p.0) head-reader
+    (λ head _. then-reader (λ (p : Head × List Item). p.1) (items-reader head.version head.count nothing_seen (omega arith) (omega arith))
+    (λ items _. gives-reader (head, items))
+    (λ items p _ h. ap (λ (x : Head × List Item). x.1) h))
+    (λ head p _ h. ap (λ (x : Head × List Item). x.0) h.1)))
+    (λ p v. ap (λ (l : List ℕ). head_text p.0 ++ l) (append-nil (flat_map item_text p.1)))
+    (λ p v. (v.0.0, v.0.1.0, eq_true p.0.version (version_of p.1) v.1))
+    (λ p v. ((v.0, (v.1, refl)), true_eq p.0.version (version_of p.1) v.2))
+
+-- ---- a segment
 
 abbrev OfSegment : Segment → Type 0
 OfSegment s = Fits s × KeepsLimits s
 
-segment_to : (s : Segment) → OfHead (head_of s) → OfItems (length s.items) nothing_seen s.items → OfSegment s
-segment_to s h v =
-    let a = all_fit s.items v.1 in
-    (record { name = h.0.0; prior = h.1; group = h.2; items = a.0 }, record { log = h.0.1; items = a.1; others = omega (arith, v.3); deltas = omega (arith, v.4); rule = v.2 })
+abbrev parts_of : Segment → Head × List Item
+parts_of s = (head_of s, s.items)
 
-head_from : (s : Segment) → OfSegment s → OfHead (head_of s)
-head_from s v = ((v.0.name, v.1.log), v.0.prior, v.0.group, omega (arith, kinds_count s.items, v.1.others, v.1.deltas))
+segment_to : (s : Segment) → OfParts (parts_of s) → OfSegment s
+segment_to s v =
+    let a = all_fit (version_of s.items) s.items v.1.1 in
+    (record { name = v.0.1.0; prior = v.0.2; group = v.0.3; items = a.0 }, record { log = v.0.1.1; items = a.1; others = omega (arith, v.1.3); deltas = omega (arith, v.1.4); rule = v.1.2 })
 
-items_from : (s : Segment) → OfSegment s → OfItems (length s.items) nothing_seen s.items
-items_from s v = (refl, fit_all s.items v.0.items v.1.items, v.1.rule, omega (arith, v.1.others), omega (arith, v.1.deltas))
+segment_from : (s : Segment) → OfSegment s → OfParts (parts_of s)
+segment_from s v = (
+  (version_in (list_any is_long s.items), (v.0.name, v.1.log), v.0.prior, v.0.group, omega (arith, kinds_count s.items, v.1.others, v.1.deltas)),
+  (refl, fit_all (version_of s.items) s.items v.0.items (needed s.items (list_any is_long s.items) refl v.1.items), v.1.rule, omega (arith, v.1.others), omega (arith, v.1.deltas)),
+  refl,
+)
 
-head_is : (head : Head) (s : Segment) → length s.items ≡ head.count → s ≡ record { name = head.name; prior = head.prior; group = head.group; items = s.items } → head_of s ≡ head
-head_is head s c e =
-    let n : s.name ≡ head.name = ap (λ (x : Segment). x.name) e in
-    let p : s.prior ≡ head.prior = ap (λ (x : Segment). x.prior) e in
-    let g : s.group ≡ head.group = ap (λ (x : Segment). x.group) e in
-    λ i. record { name = n i; prior = p i; group = g i; count = c i }
+abbrev segment_of : Head × List Item → Segment
+segment_of p = record { name = p.0.name; prior = p.0.prior; group = p.0.group; items = p.1 }
+
+parts_are : (p : Head × List Item) (s : Segment) → OfParts p → s ≡ segment_of p → parts_of s ≡ p
+parts_are p s v e =
+    let version : version_of p.1 ≡ p.0.version = sym v.2 in
+    let count : length p.1 ≡ p.0.count = v.1.0 in
+    ap (λ (x : Segment). parts_of x) e ∙ (λ i. (record { version = version i; name = p.0.name; prior = p.0.prior; group = p.0.group; count = count i }, p.1))
 
 pub segment-reader : IsReader segment_at text_of OfSegment
 unfolding segment_at
 segment-reader =
     as-reader
-    (then-reader (λ (s : Segment). head_of s) head-reader
-    (λ head _. then-reader (λ (s : Segment). s.items) (items-reader head.count nothing_seen (omega arith) (omega arith))
-    (λ items _. gives-reader (record { name = head.name; prior = head.prior; group = head.group; items = items }))
-    (λ items s _ h. ap (λ (x : Segment). x.items) h))
-    (λ head s _ h. head_is head s h.0.0 h.1))
-    (λ s v. ap (λ (l : List ℕ). head_text (head_of s) ++ l) (append-nil (flat_map item_text s.items)))
-    (λ s v. segment_to s v.0 v.1.0)
-    (λ s v. (head_from s v, (items_from s v, refl)))
+    (then-reader (λ (s : Segment). mark) mark-reader
+    (λ m _. then-reader (λ (s : Segment). parts_of s) parts-reader
+    (λ p _. gives-reader (segment_of p))
+    (λ p s v h. parts_are p s v h))
+    (λ m s v _. sym v))
+    (λ s v. ap (λ (l : List ℕ). mark ++ l) (append-nil (head_text (head_of s) ++ flat_map item_text s.items)))
+    (λ s v. segment_to s v.1.0)
+    (λ s v. (refl, (segment_from s v, refl)))
 
 -- ---- all of the bytes
 

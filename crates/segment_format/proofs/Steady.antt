@@ -10,11 +10,12 @@ use Rattle.segment_format.specs.declared.segment.Item.TheVariants.{Block, Delta,
 use Rattle.segment_format.specs.declared.seg_error.SegError.{SegError}
 use Rattle.segment_format.specs.declared.seg_error.SegError.TheVariants.{Short, BadMark, BadVersion, BadKind, BadLength, BadRef}
 use Rattle.segment_format.specs.Answers.{place, IsShort}
-use Rattle.segment_format.specs.Format.{version, most, is_mark, is_log, is_length, is_row_count}
+use Rattle.segment_format.specs.Format.{most, is_mark, is_log, is_version, is_length, is_row_count}
 use Rattle.segment_format.specs.Reading.{Reader, next, ◌>>=◌, gives, past, raw, number, judged, checked}
-use Rattle.segment_format.specs.ReadingFields.{block_at, log_at, pass_at, name_at, prior_at, head_at, value_at, place_at, flagged_at, row_at, rows_at}
-use Rattle.segment_format.specs.ReadingItems.{kind_at, block_item_at, delta_item_at, part_item_at, body_at, item_at, items_at, segment_at}
+use Rattle.segment_format.specs.ReadingFields.{block_at, log_at, pass_at, name_at, prior_at, mark_at, head_at, value_at, place_at, flagged_at, row_at, rows_at}
+use Rattle.segment_format.specs.ReadingItems.{kind_at, block_item_at, delta_item_at, part_item_at, body_at, item_at, items_at, parts_at, segment_at}
 use Rattle.segment_format.specs.Rule.{nothing_seen, after, is_kind, has_room, may_come, follows}
+use Rattle.segment_format.specs.Text.{version_of}
 
 -- the same bytes, and more behind them
 abbrev pub with_more : List ℕ → Fields → Fields
@@ -129,20 +130,23 @@ prior-steady : IsSteady prior_at
 unfolding prior_at
 prior-steady = then-steady pass-steady (λ pass. then-steady (number-steady w32) (λ group. gives-steady (record { pass = pass; group = group })))
 
+mark-steady : IsSteady mark_at
+unfolding mark_at
+mark-steady = checked-steady is_mark BadMark (λ at. refl) (raw-steady 3)
+
 head-steady : IsSteady head_at
 unfolding head_at
 head-steady =
-    then-steady (checked-steady is_mark BadMark (λ at. refl) (raw-steady 3))
-    (λ m. then-steady (checked-steady (λ n. eqb n version) BadVersion (λ at. refl) (number-steady w8))
-    (λ v. then-steady name-steady
+    then-steady (checked-steady is_version BadVersion (λ at. refl) (number-steady w8))
+    (λ version. then-steady name-steady
     (λ name. then-steady prior-steady
     (λ prior. then-steady (number-steady w32)
     (λ group. then-steady (checked-steady (λ n. leb n (most + most)) BadLength (λ at. refl) (number-steady w16))
-    (λ count. gives-steady (record { name = name; prior = prior; group = group; count = count })))))))
+    (λ count. gives-steady (record { version = version; name = name; prior = prior; group = group; count = count }))))))
 
-value-steady : IsSteady value_at
+value-steady : (version : ℕ) → IsSteady (value_at version)
 unfolding value_at
-value-steady = then-steady (checked-steady is_length BadLength (λ at. refl) (number-steady w16)) (λ n. then-steady (raw-steady n) (λ bytes. gives-steady (Some bytes)))
+value-steady version = then-steady (checked-steady (is_length version) BadLength (λ at. refl) (number-steady w16)) (λ n. then-steady (raw-steady n) (λ bytes. gives-steady (Some bytes)))
 
 place-steady : IsSteady place_at
 unfolding place_at
@@ -172,9 +176,9 @@ kind-steady : (seen : Seen) → IsSteady (kind_at seen)
 unfolding kind_at
 kind-steady seen = checked-steady (may_come seen) BadRef (λ at. refl) (checked-steady (has_room seen) BadLength (λ at. refl) (checked-steady is_kind BadKind (λ at. refl) (number-steady w8)))
 
-block_item-steady : IsSteady block_item_at
+block_item-steady : (version : ℕ) → IsSteady (block_item_at version)
 unfolding block_item_at
-block_item-steady = then-steady block-steady (λ block. then-steady value-steady (λ value. gives-steady (Block block value)))
+block_item-steady version = then-steady block-steady (λ block. then-steady (value-steady version) (λ value. gives-steady (Block block value)))
 
 delta_item-steady : IsSteady delta_item_at
 unfolding delta_item_at
@@ -197,22 +201,28 @@ cond-steady : {A : Type 0} (b : Bool) {p q : Reader A} → IsSteady p → IsStea
 cond-steady true hp hq = hp
 cond-steady false hp hq = hq
 
-body-steady : (kind : ℕ) → IsSteady (body_at kind)
+body-steady : (version kind : ℕ) → IsSteady (body_at version kind)
 unfolding body_at
-body-steady kind = cond-steady (eqb kind 1) block_item-steady (cond-steady (eqb kind 2) delta_item-steady part_item-steady)
+body-steady version kind = cond-steady (eqb kind 1) (block_item-steady version) (cond-steady (eqb kind 2) delta_item-steady part_item-steady)
 
-item-steady : (seen : Seen) → IsSteady (item_at seen)
+item-steady : (version : ℕ) (seen : Seen) → IsSteady (item_at version seen)
 unfolding item_at
-item-steady seen = checked-steady (follows seen.awaited) BadRef (λ at. refl) (then-steady (kind-steady seen) body-steady)
+item-steady version seen = checked-steady (follows seen.awaited) BadRef (λ at. refl) (then-steady (kind-steady seen) (body-steady version))
 
-items-steady : (n : ℕ) (seen : Seen) → IsSteady (items_at seen n)
+items-steady : (version n : ℕ) (seen : Seen) → IsSteady (items_at version seen n)
 unfolding items_at
-items-steady zero seen = checked-steady (λ none. is_none seen.awaited) BadRef (λ at. refl) (gives-steady [])
-items-steady (suc n) seen = then-steady (item-steady seen) (λ item. then-steady (items-steady n (after item seen)) (λ others. gives-steady (item ∷ others)))
+items-steady version zero seen = checked-steady (λ none. is_none seen.awaited) BadRef (λ at. refl) (gives-steady [])
+items-steady version (suc n) seen = then-steady (item-steady version seen) (λ item. then-steady (items-steady version n (after item seen)) (λ others. gives-steady (item ∷ others)))
+
+parts-steady : IsSteady parts_at
+unfolding parts_at
+parts-steady =
+    checked-steady (λ parts. eqb parts.0.version (version_of parts.1)) BadVersion (λ at. refl)
+    (then-steady head-steady (λ head. then-steady (items-steady head.version head.count nothing_seen) (λ items. gives-steady (head, items))))
 
 pub segment-steady : IsSteady segment_at
 unfolding segment_at
 segment-steady =
-    then-steady head-steady
-    (λ head. then-steady (items-steady head.count nothing_seen)
-    (λ items. gives-steady (record { name = head.name; prior = head.prior; group = head.group; items = items })))
+    then-steady mark-steady
+    (λ mark. then-steady parts-steady
+    (λ parts. gives-steady (record { name = parts.0.name; prior = parts.0.prior; group = parts.0.group; items = parts.1 })))

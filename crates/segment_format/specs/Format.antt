@@ -1,17 +1,25 @@
--- What sets segment format 1 apart from the next, and the limits of both.
-use Rattle.std.specs.Prelude.{ℕ, ◌≤◌, Bool, false, List, [], ◌∷◌, nat_le, ◌==◌, ◌&&◌}
+-- What sets the two segment formats apart, and the limits of both.
+use Rattle.std.specs.Prelude.{ℕ, ◌≤◌, Bool, false, List, [], ◌∷◌, nat_le, ◌==◌, ◌&&◌, if◌then◌else◌}
+use Rattle.xfs_base.specs.Limits.{max_value, segment_blocks}
 
--- the version byte
-abbrev pub version : ℕ
-version = 1
+-- the version byte of format 1, and of format 2, which has longer Blocks
+abbrev pub first_version : ℕ
+first_version = 1
 
--- the most bytes of a block's value
-abbrev pub longest : ℕ
-longest = 4096
+abbrev pub second_version : ℕ
+second_version = 2
+
+-- the most bytes of a Block in a text of this version
+abbrev pub longest : ℕ → ℕ
+longest version = if version == first_version then 4096 else max_value
+
+-- how many bytes the header has
+abbrev pub header_length : ℕ
+header_length = 35
 
 -- the most items that are Block or Part, and the most that are Delta
 abbrev pub most : ℕ
-most = 24
+most = segment_blocks
 
 -- the three bytes that begin each segment: x F S
 abbrev pub mark : List ℕ
@@ -35,12 +43,19 @@ is_log n = is_within 1 13 n
 abbrev pub IsLog : ℕ → Type 0
 IsLog n = IsWithin 1 13 n
 
--- a block's value has 1 to so many bytes
-abbrev pub is_length : ℕ → Bool
-is_length n = is_within 1 longest n
+-- a version is 1 or 2
+abbrev pub is_version : ℕ → Bool
+is_version n = is_within first_version second_version n
 
-abbrev pub IsLength : ℕ → Type 0
-IsLength n = IsWithin 1 longest n
+abbrev pub IsVersion : ℕ → Type 0
+IsVersion n = IsWithin first_version second_version n
+
+-- a Block in a text of this version has 1 to so many bytes
+abbrev pub is_length : ℕ → ℕ → Bool
+is_length version n = is_within 1 (longest version) n
+
+abbrev pub IsLength : ℕ → ℕ → Type 0
+IsLength version n = IsWithin 1 (longest version) n
 
 -- a Part has 1 to 128 rows
 abbrev pub is_row_count : ℕ → Bool

@@ -1,5 +1,5 @@
 -- The header's fields, and those within an item, from the left.
-use Rattle.std.specs.Prelude.{ℕ, zero, suc, ◌+◌, List, [], ◌∷◌, Option, Some, None, nat_lt, nat_le, ◌==◌}
+use Rattle.std.specs.Prelude.{ℕ, zero, suc, ◌+◌, List, [], ◌∷◌, Option, Some, None, nat_lt, nat_le}
 use Rattle.std.specs.Int.{w8, w16, w32, w64}
 use Rattle.xfs_base.specs.declared.block.BlockId.{BlockId}
 use Rattle.xfs_base.specs.declared.entry.Entry.{Entry}
@@ -10,7 +10,7 @@ use Rattle.xfs_base.specs.declared.segment.Prior.{Prior}
 use Rattle.xfs_base.specs.declared.segment.SegName.{SegName}
 use Rattle.segment_format.specs.declared.head.Head.{Head}
 use Rattle.segment_format.specs.declared.seg_error.SegError.TheVariants.{BadMark, BadVersion, BadLength}
-use Rattle.segment_format.specs.Format.{version, most, is_mark, is_log, is_length}
+use Rattle.segment_format.specs.Format.{most, is_mark, is_log, is_version, is_length}
 use Rattle.segment_format.specs.Reading.{Reader, ◌>>=◌, gives, raw, number, checked}
 
 unfoldable pub block_at : Reader BlockId
@@ -43,20 +43,23 @@ prior_at = do
   group ← number w32
   gives (record { pass = pass; group = group })
 
+unfoldable pub mark_at : Reader (List ℕ)
+mark_at = checked (raw 3) is_mark BadMark
+
+-- the header behind the mark
 unfoldable pub head_at : Reader Head
 head_at = do
-  mark ← checked (raw 3) is_mark BadMark
-  given ← checked (number w8) (λ n. n == version) BadVersion
+  version ← checked (number w8) is_version BadVersion
   name ← name_at
   prior ← prior_at
   group ← number w32
   count ← checked (number w16) (λ n. nat_le n (most + most)) BadLength
-  gives (record { name = name; prior = prior; group = group; count = count })
+  gives (record { version = version; name = name; prior = prior; group = group; count = count })
 
--- a block's value: its length, and so many bytes
-unfoldable pub value_at : Reader (Option (List ℕ))
-value_at = do
-  n ← checked (number w16) is_length BadLength
+-- a block's value, in a text of this version: its length, and so many bytes
+unfoldable pub value_at : ℕ → Reader (Option (List ℕ))
+value_at version = do
+  n ← checked (number w16) (is_length version) BadLength
   bytes ← raw n
   gives (Some bytes)
 

@@ -1,26 +1,28 @@
--- Items, and a whole segment, from the left.
+-- Items, and a whole segment, from the left. A number after a name is the version of the text.
 use Rattle.std.specs.Prelude.{ℕ, zero, suc, List, [], ◌∷◌, length, nat_lt, ◌==◌, if◌then◌else◌, Result, Ok, Err, is_none}
 use Rattle.std.specs.Int.{w8, w16, w32, w64}
 use Rattle.xfs_base.specs.Fields.{Fields}
+use Rattle.segment_format.specs.declared.head.Head.{Head}
 use Rattle.segment_format.specs.declared.segment.Item.{Item}
 use Rattle.segment_format.specs.declared.segment.Item.TheVariants.{Block, Delta, Part}
 use Rattle.segment_format.specs.declared.segment.Segment.{Segment}
 use Rattle.segment_format.specs.declared.seen.Seen.{Seen}
 use Rattle.segment_format.specs.declared.seg_error.SegError.{SegError}
-use Rattle.segment_format.specs.declared.seg_error.SegError.TheVariants.{BadKind, BadLength, BadRef, Trailing}
+use Rattle.segment_format.specs.declared.seg_error.SegError.TheVariants.{BadVersion, BadKind, BadLength, BadRef, Trailing}
 use Rattle.segment_format.specs.Format.{is_row_count}
 use Rattle.segment_format.specs.Reading.{Reader, ◌>>=◌, gives, number, checked}
-use Rattle.segment_format.specs.ReadingFields.{block_at, value_at, rows_at, head_at}
+use Rattle.segment_format.specs.ReadingFields.{block_at, value_at, rows_at, mark_at, head_at}
 use Rattle.segment_format.specs.Rule.{nothing_seen, after, is_kind, has_room, may_come, follows}
+use Rattle.segment_format.specs.Text.{version_of}
 
 -- the kind of the next item
 unfoldable pub kind_at : Seen → Reader ℕ
 kind_at seen = checked (checked (checked (number w8) is_kind BadKind) (has_room seen) BadLength) (may_come seen) BadRef
 
-unfoldable pub block_item_at : Reader Item
-block_item_at = do
+unfoldable pub block_item_at : ℕ → Reader Item
+block_item_at version = do
   block ← block_at
-  value ← value_at
+  value ← value_at version
   gives (Block block value)
 
 unfoldable pub delta_item_at : Reader Item
@@ -39,26 +41,30 @@ part_item_at = do
   gives (Part slot rows)
 
 -- what stands behind a kind
-unfoldable pub body_at : ℕ → Reader Item
-body_at kind = if kind == 1 then block_item_at else if kind == 2 then delta_item_at else part_item_at
+unfoldable pub body_at : ℕ → ℕ → Reader Item
+body_at version kind = if kind == 1 then block_item_at version else if kind == 2 then delta_item_at else part_item_at
 
 -- one item: a Delta is read whole before its rule is tested
-unfoldable pub item_at : Seen → Reader Item
-item_at seen = checked (kind_at seen >>= body_at) (follows seen.awaited) BadRef
+unfoldable pub item_at : ℕ → Seen → Reader Item
+item_at version seen = checked (kind_at seen >>= body_at version) (follows seen.awaited) BadRef
 
 -- so many items, behind what is seen; none may be missing at the end
-unfoldable pub items_at : Seen → ℕ → Reader (List Item)
-items_at seen zero = checked (gives []) (λ none. is_none seen.awaited) BadRef
-items_at seen (suc n) = do
-  item ← item_at seen
-  others ← items_at (after item seen) n
+unfoldable pub items_at : ℕ → Seen → ℕ → Reader (List Item)
+items_at version seen zero = checked (gives []) (λ none. is_none seen.awaited) BadRef
+items_at version seen (suc n) = do
+  item ← item_at version seen
+  others ← items_at version (after item seen) n
   gives (item ∷ others)
+
+-- what stands behind the mark; the version must be the one that the items need, which is known behind the last of them
+unfoldable pub parts_at : Reader (Head × List Item)
+parts_at = checked (head_at >>= λ head. items_at head.version nothing_seen head.count >>= λ items. gives (head, items)) (λ parts. parts.0.version == version_of parts.1) BadVersion
 
 unfoldable pub segment_at : Reader Segment
 segment_at = do
-  head ← head_at
-  items ← items_at nothing_seen head.count
-  gives (record { name = head.name; prior = head.prior; group = head.group; items = items })
+  mark ← mark_at
+  parts ← parts_at
+  gives (record { name = parts.0.name; prior = parts.0.prior; group = parts.0.group; items = parts.1 })
 
 -- all of the bytes
 abbrev pub ended : Result (Segment × Fields) SegError → Result Segment SegError

@@ -1,7 +1,7 @@
--- Segment format 1: the text of a segment, field by field. All numbers are big-endian.
-use Rattle.std.specs.Prelude.{◌≡◌, ℕ, ◌<◌, ◌≤◌, List, [], ◌∷◌, ◌++◌, length, Option, Some, None, IfSome}
+-- Segment formats 1 and 2: the text of a segment, field by field. All numbers are big-endian.
+use Rattle.std.specs.Prelude.{◌≡◌, ℕ, ◌<◌, ◌≤◌, Bool, false, List, [], ◌∷◌, ◌++◌, length, Option, Some, None, IfSome, nat_lt, if◌then◌else◌}
 use Rattle.std.specs.Int.{w16, w32, w64, to_be_bytes}
-use Rattle.std.specs.List.{flat_map, AllByRecursion}
+use Rattle.std.specs.List.{flat_map, list_any, AllByRecursion}
 use Rattle.xfs_base.specs.declared.block.BlockId.{BlockId}
 use Rattle.xfs_base.specs.declared.entry.Entry.{Entry}
 use Rattle.xfs_base.specs.declared.entry.Place.{Place}
@@ -12,7 +12,7 @@ use Rattle.segment_format.specs.declared.head.Head.{Head}
 use Rattle.segment_format.specs.declared.segment.Item.{Item}
 use Rattle.segment_format.specs.declared.segment.Item.TheVariants.{Block, Delta, Part}
 use Rattle.segment_format.specs.declared.segment.Segment.{Segment}
-use Rattle.segment_format.specs.Format.{version, most, mark, IsLog, IsLength, IsRowCount}
+use Rattle.segment_format.specs.Format.{first_version, second_version, longest, most, mark, IsLog, IsLength, IsRowCount}
 use Rattle.segment_format.specs.Rule.{KeepsRule, deltas_in, others_in}
 
 abbrev pub block_text : BlockId → List ℕ
@@ -45,15 +45,26 @@ item_text (Block block value) = 1 ∷ block_text block ++ value_text value
 item_text (Delta block ver hop item) = 2 ∷ block_text block ++ to_be_bytes w64 ver ++ to_be_bytes w32 hop ++ to_be_bytes w16 item
 item_text (Part slot rows) = 3 ∷ slot ∷ to_be_bytes w16 (length rows) ++ flat_map row_text rows
 
--- the header's 35 bytes
+-- the header's 32 bytes behind the mark
 abbrev pub head_text : Head → List ℕ
-head_text h = mark ++ version ∷ name_text h.name ++ prior_text h.prior ++ to_be_bytes w32 h.group ++ to_be_bytes w16 h.count
+head_text h = h.version ∷ name_text h.name ++ prior_text h.prior ++ to_be_bytes w32 h.group ++ to_be_bytes w16 h.count
+
+-- a Block that has more bytes than format 1 allows
+abbrev pub is_long : Item → Bool
+is_long (Block block None) = false
+is_long (Block block (Some bytes)) = nat_lt (longest first_version) (length bytes)
+is_long (Delta block ver hop item) = false
+is_long (Part slot rows) = false
+
+-- format 2 is for segments with such a Block, and for them alone
+abbrev pub version_of : List Item → ℕ
+version_of items = if list_any is_long items then second_version else first_version
 
 abbrev pub head_of : Segment → Head
-head_of s = record { name = s.name; prior = s.prior; group = s.group; count = length s.items }
+head_of s = record { version = version_of s.items; name = s.name; prior = s.prior; group = s.group; count = length s.items }
 
 abbrev pub text_of : Segment → List ℕ
-text_of s = head_text (head_of s) ++ flat_map item_text s.items
+text_of s = mark ++ head_text (head_of s) ++ flat_map item_text s.items
 
 -- ---- which segments have a text
 
@@ -63,16 +74,17 @@ IsPlace p = IsLog p.seg.name.log.0
 abbrev pub IsRow : BlockId × Entry → Type 0
 IsRow r = IfSome r.1.place IsPlace
 
-abbrev pub IsItem : Item → Type 0
-IsItem (Block block None) = ⊥
-IsItem (Block block (Some bytes)) = IsLength (length bytes)
-IsItem (Delta block ver hop item) = Unit {0}
-IsItem (Part slot rows) = (slot < 8) × IsRowCount (length rows) × AllByRecursion IsRow rows
+-- what a text of this version may have as an item
+abbrev pub IsItem : ℕ → Item → Type 0
+IsItem version (Block block None) = ⊥
+IsItem version (Block block (Some bytes)) = IsLength version (length bytes)
+IsItem version (Delta block ver hop item) = Unit {0}
+IsItem version (Part slot rows) = (slot < 8) × IsRowCount (length rows) × AllByRecursion IsRow rows
 
 -- the limits and the rule on Deltas
 pub record KeepsLimits (s : Segment) : Type 0 where
   pub log : IsLog s.name.log.0
-  pub items : AllByRecursion IsItem s.items
+  pub items : AllByRecursion (IsItem second_version) s.items
   pub others : others_in s.items ≤ most
   pub deltas : deltas_in s.items ≤ most
   pub rule : KeepsRule None 0 s.items

@@ -2,10 +2,10 @@
 ghost use Rattle.std.specs.Prelude.{◌≡◌};
 ghost use Rattle.std.specs.Int.{w8, w16, w32, w64};
 ghost use Rattle.segment_format.specs.Reading.{Gives, number, raw};
-ghost use Rattle.segment_format.specs.ReadingFields.{block_at, log_at, pass_at, name_at, prior_at, head_at, value_at, place_at, flagged_at, row_at, rows_at};
+ghost use Rattle.segment_format.specs.ReadingFields.{block_at, log_at, pass_at, name_at, prior_at, mark_at, head_at, value_at, place_at, flagged_at, row_at, rows_at};
 
 use crate::SegError;
-use crate::format::{MOST, VERSION, is_length, is_log, is_mark};
+use crate::format::{MOST, is_length, is_log, is_mark, is_version};
 use crate::head::Head;
 use std::alloc::Global;
 use xfs_base::{
@@ -112,19 +112,26 @@ fn prior_of(reader: &mut FieldReader) -> Result<Prior, SegError>
     Ok(Prior { pass, group })
 }
 
-#[tactic(auto, unfolding(crate::specs::ReadingFields::head_at))]
-pub(crate) fn head_of(reader: &mut FieldReader) -> Result<Head, SegError>
-    ensures { Gives (λ x. (x, reader.new)) result (head_at reader.old) }
+#[tactic(auto, unfolding(crate::specs::ReadingFields::mark_at))]
+pub(crate) fn mark_of<'a>(reader: &mut FieldReader<'a>) -> Result<&'a [u8], SegError>
+    ensures { Gives (λ bytes. (bytes.now, reader.new)) result (mark_at reader.old) }
 {
     let start = reader.at();
     let mark = bytes_of(3, reader)?;
     if !is_mark(mark) {
         return Err(SegError::BadMark(start));
     }
-    let after_mark = reader.at();
+    Ok(mark)
+}
+
+#[tactic(auto, unfolding(crate::specs::ReadingFields::head_at))]
+pub(crate) fn head_of(reader: &mut FieldReader) -> Result<Head, SegError>
+    ensures { Gives (λ x. (x, reader.new)) result (head_at reader.old) }
+{
+    let start = reader.at();
     let version = u8_of(reader)?;
-    if version != VERSION {
-        return Err(SegError::BadVersion(after_mark));
+    if !is_version(version) {
+        return Err(SegError::BadVersion(start));
     }
     let name = name_of(reader)?;
     let prior = prior_of(reader)?;
@@ -135,6 +142,7 @@ pub(crate) fn head_of(reader: &mut FieldReader) -> Result<Head, SegError>
         return Err(SegError::BadLength(at));
     }
     Ok(Head {
+        version,
         name,
         prior,
         group,
@@ -143,12 +151,16 @@ pub(crate) fn head_of(reader: &mut FieldReader) -> Result<Head, SegError>
 }
 
 #[tactic(auto, unfolding(crate::specs::ReadingFields::value_at))]
-pub(crate) fn value_of(alloc: Global, reader: &mut FieldReader) -> Result<Value, SegError>
-    ensures { Gives (λ x. (x, reader.new)) result (value_at reader.old) }
+pub(crate) fn value_of(
+    alloc: Global,
+    version: u8,
+    reader: &mut FieldReader,
+) -> Result<Value, SegError>
+    ensures { Gives (λ x. (x, reader.new)) result (value_at version reader.old) }
 {
     let at = reader.at();
     let length = u16_of(reader)?;
-    if !is_length(length) {
+    if !is_length(version, length) {
         return Err(SegError::BadLength(at));
     }
     let bytes = bytes_of(usize::from(length), reader)?;

@@ -5,12 +5,16 @@ ghost use Rattle.segment_format.specs.declared.seg_error.SegError.TheVariants.{M
 ghost use Rattle.segment_format.specs.Ranges.{Fits};
 ghost use Rattle.segment_format.specs.Text.{IsText};
 ghost use Rattle.segment_format.specs.Reading.{Gives};
-ghost use Rattle.segment_format.specs.ReadingItems.{kind_at, block_item_at, delta_item_at, part_item_at, body_at, item_at, items_at, segment_at, answer_of};
+ghost use Rattle.segment_format.specs.ReadingItems.{kind_at, block_item_at, delta_item_at, part_item_at, body_at, item_at, items_at, parts_at, segment_at, answer_of};
 ghost use Rattle.segment_format.specs.Rule.{nothing_seen};
 
-use crate::decode_fields::{block_of, head_of, rows_of, u8_of, u16_of, u32_of, u64_of, value_of};
+use crate::decode_fields::{
+    block_of, head_of, mark_of, rows_of, u8_of, u16_of, u32_of, u64_of, value_of,
+};
 use crate::format::is_row_count;
+use crate::head::Head;
 use crate::seen::{Seen, is_kind};
+use crate::segment::version_of;
 use crate::{Item, SegError, Segment};
 use std::alloc::Global;
 use xfs_base::{FieldReader, List};
@@ -34,11 +38,11 @@ fn kind_of(seen: Seen, reader: &mut FieldReader) -> Result<u8, SegError>
 }
 
 #[tactic(auto, unfolding(crate::specs::ReadingItems::block_item_at))]
-fn block_item_of(alloc: Global, reader: &mut FieldReader) -> Result<Item, SegError>
-    ensures { Gives (λ x. (x, reader.new)) result (block_item_at reader.old) }
+fn block_item_of(alloc: Global, version: u8, reader: &mut FieldReader) -> Result<Item, SegError>
+    ensures { Gives (λ x. (x, reader.new)) result (block_item_at version reader.old) }
 {
     let block = block_of(reader)?;
-    let value = value_of(alloc, reader)?;
+    let value = value_of(alloc, version, reader)?;
     Ok(Item::Block { block, value })
 }
 
@@ -77,11 +81,11 @@ fn part_item_of(alloc: Global, reader: &mut FieldReader) -> Result<Item, SegErro
 }
 
 #[tactic(auto, unfolding(crate::specs::ReadingItems::body_at))]
-fn body_of(alloc: Global, kind: u8, reader: &mut FieldReader) -> Result<Item, SegError>
-    ensures { Gives (λ x. (x, reader.new)) result (body_at kind reader.old) }
+fn body_of(alloc: Global, version: u8, kind: u8, reader: &mut FieldReader) -> Result<Item, SegError>
+    ensures { Gives (λ x. (x, reader.new)) result (body_at version kind reader.old) }
 {
     if kind == 1 {
-        return block_item_of(alloc, reader);
+        return block_item_of(alloc, version, reader);
     }
     if kind == 2 {
         return delta_item_of(reader);
@@ -90,25 +94,35 @@ fn body_of(alloc: Global, kind: u8, reader: &mut FieldReader) -> Result<Item, Se
 }
 
 #[tactic(auto, unfolding(crate::specs::ReadingItems::item_at))]
-fn item_of(alloc: Global, seen: Seen, reader: &mut FieldReader) -> Result<Item, SegError>
-    ensures { Gives (λ x. (x, reader.new)) result (item_at seen reader.old) }
+fn item_of(
+    alloc: Global,
+    version: u8,
+    seen: Seen,
+    reader: &mut FieldReader,
+) -> Result<Item, SegError>
+    ensures { Gives (λ x. (x, reader.new)) result (item_at version seen reader.old) }
 {
     let at = reader.at();
     let kind = kind_of(seen, reader)?;
-    let item = body_of(alloc, kind, reader)?;
+    let item = body_of(alloc, version, kind, reader)?;
     if !seen.follows(&item) {
         return Err(SegError::BadRef(at));
     }
     Ok(item)
 }
 
-fn items_of(alloc: Global, count: u16, reader: &mut FieldReader) -> Result<List<Item>, SegError>
-    ensures { Gives (λ x. (x, reader.new)) result (items_at nothing_seen count reader.old) }
+fn items_of(
+    alloc: Global,
+    version: u8,
+    count: u16,
+    reader: &mut FieldReader,
+) -> Result<List<Item>, SegError>
+    ensures { Gives (λ x. (x, reader.new)) result (items_at version nothing_seen count reader.old) }
 {
     let mut items = List::new(alloc);
     let mut seen = Seen::nothing();
     for _ in 0..count {
-        let item = item_of(alloc, seen, reader)?;
+        let item = item_of(alloc, version, seen, reader)?;
         seen = seen.after(&item);
         items.push(item)?;
     }
@@ -118,12 +132,25 @@ fn items_of(alloc: Global, count: u16, reader: &mut FieldReader) -> Result<List<
     Ok(items)
 }
 
+#[tactic(auto, unfolding(crate::specs::ReadingItems::parts_at))]
+fn parts_of(alloc: Global, reader: &mut FieldReader) -> Result<(Head, List<Item>), SegError>
+    ensures { Gives (λ x. ((x.0, x.1), reader.new)) result (parts_at reader.old) }
+{
+    let start = reader.at();
+    let head = head_of(reader)?;
+    let items = items_of(alloc, head.version, head.count, reader)?;
+    if head.version != version_of(items.as_slice()) {
+        return Err(SegError::BadVersion(start));
+    }
+    Ok((head, items))
+}
+
 #[tactic(auto, unfolding(crate::specs::ReadingItems::segment_at))]
 fn segment_of(alloc: Global, reader: &mut FieldReader) -> Result<Segment, SegError>
     ensures { Gives (λ x. (x, reader.new)) result (segment_at reader.old) }
 {
-    let head = head_of(reader)?;
-    let items = items_of(alloc, head.count, reader)?;
+    let _mark = mark_of(reader)?;
+    let (head, items) = parts_of(alloc, reader)?;
     Ok(Segment {
         name: head.name,
         prior: head.prior,

@@ -1,9 +1,11 @@
 //! Writing a segment's text.
 ghost use Rattle.std.specs.Prelude.{◌≡◌, ◌++◌, ◌<◌, ◌^◌, length, OnOk, IfOk};
 ghost use Rattle.std.specs.List.{AllByRecursion, flat_map};
-ghost use Rattle.segment_format.specs.Text.{block_text, pass_text, name_text, prior_text, value_text, place_text, row_text, item_text, head_text, head_of, text_of, IsItem, KeepsLimits, IsText};
+ghost use Rattle.segment_format.specs.Format.{mark, second_version};
+ghost use Rattle.segment_format.specs.Text.{block_text, pass_text, name_text, prior_text, value_text, place_text, row_text, item_text, head_text, head_of, text_of, version_of, IsItem, KeepsLimits, IsText};
 
-use crate::format::{MARK, VERSION};
+use crate::format::MARK;
+use crate::segment::version_of;
 use crate::{Item, Segment};
 use std::alloc::Global;
 use xfs_base::{BlockId, Entry, FieldWriter, List, Mem, Pass, Place, Prior, SegName, Value};
@@ -89,7 +91,7 @@ fn put_rows(alloc: Global, out: &mut FieldWriter, rows: &[(BlockId, Entry)]) -> 
 }
 
 fn put_item(alloc: Global, out: &mut FieldWriter, item: &Item) -> Mem<()>
-    requires { IsItem item.now }
+    requires { IsItem second_version item.now }
     ensures { OnOk result (out.new ≡ out.old ++ item_text item.now) }
 {
     match item {
@@ -123,7 +125,7 @@ fn put_item(alloc: Global, out: &mut FieldWriter, item: &Item) -> Mem<()>
 }
 
 fn put_items(alloc: Global, out: &mut FieldWriter, items: &[Item]) -> Mem<()>
-    requires { AllByRecursion IsItem items.now }
+    requires { AllByRecursion (IsItem second_version) items.now }
     ensures { OnOk result (out.new ≡ out.old ++ flat_map item_text items.now) }
 {
     for item in items {
@@ -134,10 +136,10 @@ fn put_items(alloc: Global, out: &mut FieldWriter, items: &[Item]) -> Mem<()>
 
 fn put_head(alloc: Global, out: &mut FieldWriter, segment: &Segment) -> Mem<()>
     requires { length segment.now.items < 2 ^ 16 }
-    ensures { OnOk result (out.new ≡ out.old ++ head_text (head_of segment.now)) }
+    ensures { OnOk result (out.new ≡ out.old ++ (mark ++ head_text (head_of segment.now))) }
 {
     out.put_bytes(alloc, &MARK)?;
-    out.put_u8(alloc, VERSION)?;
+    out.put_u8(alloc, version_of(segment.items.as_slice()))?;
     put_name(alloc, out, segment.name)?;
     put_prior(alloc, out, segment.prior)?;
     out.put_u32(alloc, segment.group)?;

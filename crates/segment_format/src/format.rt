@@ -1,12 +1,18 @@
-//! What sets segment format 1 apart from the next, and the limits of both.
+//! What sets the two segment formats apart, and the limits of both.
 ghost use Rattle.std.specs.Prelude.{◌≡◌};
-ghost use Rattle.segment_format.specs.Format.{is_mark, is_log, is_length, is_row_count};
+ghost use Rattle.segment_format.specs.Format.{longest, is_mark, is_log, is_version, is_length, is_row_count};
 
-/// The version byte.
-pub const VERSION: u8 = 1;
+/// The version byte of format 1.
+pub const FIRST_VERSION: u8 = 1;
 
-/// The most bytes of a block's value.
-pub const LONGEST: u16 = 4096;
+/// The version byte of format 2, which has longer Blocks.
+pub const SECOND_VERSION: u8 = 2;
+
+/// The most bytes of a Block in format 1.
+pub const SHORT_LIMIT: u16 = 4096;
+
+/// The most bytes of a Block in format 2.
+pub const LONG_LIMIT: u16 = 8192;
 
 /// The most items of a segment that are Block or Part, and the most that are Delta.
 pub const MOST: u16 = 24;
@@ -34,11 +40,29 @@ pub(crate) fn is_log(n: u8) -> bool
     1 <= n && n <= 13
 }
 
-/// Whether a block's value may have so many bytes.
-pub(crate) fn is_length(n: u16) -> bool
-    ensures { result ≡ is_length n }
+/// Whether this is the version of a format.
+pub(crate) fn is_version(n: u8) -> bool
+    ensures { result ≡ is_version n }
 {
-    1 <= n && n <= LONGEST
+    FIRST_VERSION <= n && n <= SECOND_VERSION
+}
+
+/// The most bytes of a Block in a text of this version.
+pub(crate) fn longest(version: u8) -> u16
+    ensures { result ≡ longest version }
+{
+    if version == FIRST_VERSION {
+        SHORT_LIMIT
+    } else {
+        LONG_LIMIT
+    }
+}
+
+/// Whether a Block in a text of this version may have so many bytes.
+pub(crate) fn is_length(version: u8, n: u16) -> bool
+    ensures { result ≡ is_length version n }
+{
+    1 <= n && n <= longest(version)
 }
 
 /// Whether a Part may have so many rows.

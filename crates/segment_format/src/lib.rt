@@ -1,4 +1,4 @@
-//! Segments as bytes, format 1, in both directions. `docs/FORMATS.md` has the format in words.
+//! Segments as bytes, formats 1 and 2, in both directions. `docs/FORMATS.md` has the format in words.
 #![tactic(auto)]
 
 mod decode_fields;
@@ -14,7 +14,7 @@ mod threads;
 
 pub use decoding::decode;
 pub use encoding::encode;
-pub use laws::texts_are_apart;
+pub use laws::{attempts_have_one_content, texts_are_apart};
 pub use seg_error::SegError;
 pub use segment::{Item, Segment};
 

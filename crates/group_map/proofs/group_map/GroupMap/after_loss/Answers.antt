@@ -4,7 +4,7 @@ use Rattle.std.proofs.lemmas.Grind.{common_steps}
 use Rattle.group_map.specs.declared.group.Group.{Group}
 use Rattle.group_map.specs.GroupMapState.{GroupMapState}
 use Rattle.group_map.specs.Groups.{numbered, followers, generations_after, retired, is_hit}
-use Rattle.group_map.specs.WellFormed.{IsGroupMap}
+use Rattle.group_map.specs.WellFormed.{IsServer, IsGroupMap}
 use Rattle.group_map.proofs.WellFormedMaps.{IsGroupMap-lost}
 use Rattle.group_map.proofs.group_map.GroupMap.after_loss.Goals as goal
 
@@ -18,6 +18,7 @@ invariant_of-self c =
     let room : length c.self.inside.groups + length (filter (is_hit c.args.server) c.self.inside.groups) ≤ 4294967295 =
     subst (λ (s : GroupMapState). length s.groups + length (filter (is_hit c.args.server) s.groups) ≤ 4294967295) (sym c.self.view_is) c.requires.room
     in
+    let exists : IsServer c.self.inside.servers c.args.server = subst (λ (s : GroupMapState). IsServer s.servers c.args.server) (sym c.self.view_is) c.requires.exists in
     subst (λ (ns : List ℕ). IsGroupMap (record { servers = c.self.inside.servers; generations = ns; groups = c.follow.new.after })) (sym generations)
     (subst (λ (gs : List Group). IsGroupMap (record { servers = c.self.inside.servers; generations = generations_after c.self.inside.generations c.args.server c.args.generation; groups = gs })) (sym groups)
-    (IsGroupMap-lost (record { servers = c.self.inside.servers; generations = c.self.inside.generations; groups = c.self.inside.groups }) c.args.server c.args.generation room c.self.invariant))
+    (IsGroupMap-lost (record { servers = c.self.inside.servers; generations = c.self.inside.generations; groups = c.self.inside.groups }) c.args.server c.args.generation exists room c.self.invariant))

@@ -3,8 +3,9 @@ use Rattle.std.specs.Prelude.{◌==◌, slice_get, find}
 use Rattle.group_map.specs.declared.group.Group.{Group}
 use Rattle.group_map.specs.GroupMapState.{GroupMapState}
 use Rattle.group_map.specs.Groups.{group_of}
-use Rattle.group_map.specs.WellFormed.{IsStripe, IsNumbered}
+use Rattle.group_map.specs.WellFormed.{IsStripe, IsPresent, IsNumbered}
 use Rattle.group_map.proofs.Numbers.{find-numbered, find-below}
+use Rattle.group_map.proofs.Presence.{is_present}
 use Rattle.group_map.proofs.Stripes.{stripe_at}
 use Rattle.group_map.proofs.group_map.GroupMap.lookup.Goals as goal
 
@@ -28,8 +29,17 @@ returns-in-Some-clause-exact c =
 pub returns-in-Some-clause-stripe : goal.returns-in-Some-clause-stripe
 returns-in-Some-clause-stripe c =
     let got : slice_get c.self.inside.groups (c.args.id - 1) ≡ Some c.in-Some.group.now = search rules in
-    subst (λ (s : GroupMapState). IsStripe s.servers c.in-Some.group.now.members) c.self.view_is
+    subst (λ (s : GroupMapState). IsStripe s.servers c.in-Some.group.now.parity c.in-Some.group.now.members) c.self.view_is
     (stripe_at c.self.inside.servers c.self.inside.groups (c.args.id - 1) c.in-Some.group.now c.self.invariant.stripes got)
+
+pub returns-in-Some-clause-present : goal.returns-in-Some-clause-present
+returns-in-Some-clause-present c =
+    let got : slice_get c.self.inside.groups (c.args.id - 1) ≡ Some c.in-Some.group.now = search rules in
+    let at : group_of (record { servers = c.self.inside.servers; generations = c.self.inside.generations; groups = c.self.inside.groups }) c.args.id ≡ Some c.in-Some.group.now =
+    at_place c.self.inside.groups c.args.id (Some c.in-Some.group.now) (λ e. omega arith) c.self.invariant.by_id got
+    in
+    subst (λ (s : GroupMapState). IsPresent s.generations c.in-Some.group.now) c.self.view_is
+    (is_present (record { servers = c.self.inside.servers; generations = c.self.inside.generations; groups = c.self.inside.groups }) c.args.id c.in-Some.group.now c.self.invariant.present at)
 
 pub returns-in-None-clause-exact : goal.returns-in-None-clause-exact
 returns-in-None-clause-exact c =
