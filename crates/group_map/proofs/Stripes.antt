@@ -29,7 +29,7 @@ servers-present generations (m ∷ ms) = ap (λ xs. m.server ∷ xs) (servers-pr
 
 IsStripe-first : (servers parity : ℕ) (g : List ℕ) → IsParity parity → is_group_size parity (length g) ≡ true → All (IsServer servers) g → IsDistinct nat_eq g → IsStripe servers parity (first_members g)
 IsStripe-first servers parity g two size exist differ = record {
-  parity = two;
+  one_or_two = two;
   size = subst (λ n. IsTrue (is_group_size parity n)) (sym (length-map g _)) size;
   exist = All-map (λ (m : Member). IsServer servers m.server) (λ (s : ℕ). record { server = s; generation = 1 }) g exist;
   differ = subst (IsDistinct nat_eq) (sym (servers-first g)) differ;
@@ -37,7 +37,7 @@ IsStripe-first servers parity g two size exist differ = record {
 
 IsStripe-present : (servers parity : ℕ) (generations : List ℕ) (ms : List Member) → IsStripe servers parity ms → IsStripe servers parity (present_members generations ms)
 IsStripe-present servers parity generations ms s = record {
-  parity = s.parity;
+  one_or_two = s.one_or_two;
   size = subst (λ n. IsTrue (is_group_size parity n)) (sym (length-map ms _)) s.size;
   exist = All-map (λ (m : Member). IsServer servers m.server) (λ (m : Member). record { server = m.server; generation = generation_at generations m.server }) ms s.exist;
   differ = subst (IsDistinct nat_eq) (sym (servers-present generations ms)) s.differ;

@@ -13,7 +13,7 @@ IsServer servers s = (1 ≤ s) × (s ≤ servers)
 
 -- the parity and the members of a group: as many as a group of that parity may have, servers that exist and that differ
 pub record IsStripe (servers parity : ℕ) (members : List Member) : Type 0 where
-  pub parity : IsParity parity
+  pub one_or_two : IsParity parity
   pub size : IsTrue (is_group_size parity (length members))
   pub exist : All (λ m. IsServer servers m.server) members
   pub differ : IsDistinct nat_eq (map (λ m. m.server) members)
