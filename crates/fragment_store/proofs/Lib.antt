@@ -1,0 +1,5 @@
+pub mod Barred
+pub mod Entries
+pub mod Histories
+pub mod Names
+pub mod Tables
