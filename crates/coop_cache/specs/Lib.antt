@@ -1,0 +1,3 @@
+pub mod CacheState
+pub mod Transition
+pub mod Use

@@ -1,0 +1,36 @@
+-- What a cache was told, newest first, and when each block was used last.
+use Rattle.std.specs.Prelude.{ℕ, ◌+◌, ◌<◌, Bool, false, List, [], ◌∷◌, All, length, if◌then◌else◌}
+use Rattle.std.specs.List.{AllPairs}
+use Rattle.xfs_base.specs.declared.block.BlockId.{BlockId}
+use Rattle.xfs_base.specs.Blocks.{same_block}
+use Rattle.coop_cache.specs.declared.input.In.{In}
+use Rattle.coop_cache.specs.declared.input.In.TheVariants.{Clean, Touch, Dirty, Gone}
+use Rattle.coop_cache.specs.declared.output.Out.{Out}
+use Rattle.coop_cache.specs.declared.output.Out.TheVariants.{Victim}
+use Rattle.coop_cache.specs.CacheState.{CacheState, started}
+use Rattle.coop_cache.specs.Transition.{transition}
+
+-- a cache that began with this capacity and took these inputs
+abbrev pub state_after : ℕ → List In → CacheState
+state_after capacity [] = started capacity
+state_after capacity (input ∷ earlier) = (transition (state_after capacity earlier) input).state
+
+-- whether an input uses the block
+abbrev pub uses : In → BlockId → Bool
+uses (Clean used) block = same_block used block
+uses (Touch used) block = same_block used block
+uses (Dirty changed) block = false
+uses (Gone gone) block = false
+
+-- the number of the last input that used the block, counted from 1; 0 where none did
+abbrev pub last_use : List In → BlockId → ℕ
+last_use [] block = 0
+last_use (input ∷ earlier) block = if uses input block then length earlier + 1 else last_use earlier block
+
+-- what the cache keeps stands in the order of the last uses
+abbrev pub IsByUse : List In → List BlockId → Type 0
+IsByUse history blocks = AllPairs (λ a b. last_use history a < last_use history b) blocks
+
+-- a victim was used before every block that stays
+abbrev pub IsLeastUsed : List In → List BlockId → Out → Type 0
+IsLeastUsed history stay (Victim block) = All (λ b. last_use history block < last_use history b) stay

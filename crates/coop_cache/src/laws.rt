@@ -1,0 +1,22 @@
+//! What is true of a cache, whatever it was told before. Each function stands for the law that its
+//! contract states; a call of it does nothing. A history is what a cache took, newest first.
+ghost use Rattle.std.specs.Prelude.{ℕ, ◌<◌, ◌≤◌, List, ◌∷◌, All, length};
+ghost use Rattle.coop_cache.specs.declared.input.In.{In};
+ghost use Rattle.coop_cache.specs.Transition.{transition};
+ghost use Rattle.coop_cache.specs.Use.{state_after, IsByUse, IsLeastUsed};
+
+/// The order is exact: of two blocks that a cache keeps, the earlier in its order was used last before the
+/// later.
+pub fn order_is_by_use()
+    ensures { (capacity : ℕ) (history : List In) → IsByUse history (state_after capacity history).blocks }
+{}
+
+/// A victim is the least recently used: it was used last before every block that the cache keeps.
+pub fn victim_is_least_recently_used()
+    ensures { (capacity : ℕ) (history : List In) (input : In) → All (IsLeastUsed (input ∷ history) (state_after capacity (input ∷ history)).blocks) (transition (state_after capacity history) input).outs }
+{}
+
+/// A cache never keeps more clean blocks than it may.
+pub fn capacity_is_kept()
+    ensures { (capacity : ℕ) (history : List In) → length (state_after capacity history).blocks ≤ capacity }
+{}
