@@ -2,6 +2,8 @@
 ghost use Rattle.std.specs.Prelude.{◌≡◌, ◌≤◌};
 ghost use Rattle.manager_map.specs.Slots.{first_entry, next_entry};
 
+use xfs_base::Crosses;
+
 /// The manager of a slot, and the epoch since which it is. The epoch counts the slot's managers from 1.
 #[derive(Clone, Copy, Debug, PartialEq, Eq)]
 pub struct SlotEntry {
@@ -10,6 +12,8 @@ pub struct SlotEntry {
     /// The manager, from 1.
     pub manager: u8,
 }
+
+impl Crosses for SlotEntry {}
 
 impl SlotEntry {
     // Where a slot starts.

@@ -5,7 +5,7 @@ ghost use Rattle.manager_map.specs.Slots.{start_entries, entry_at, after_move};
 
 use crate::SlotEntry;
 use std::marker::Model;
-use xfs_base::Ino;
+use xfs_base::{Crosses, Ino};
 
 /// How many slots there are.
 const SLOTS: usize = 8;
@@ -33,6 +33,10 @@ impl Model for ManagerMap {
 
     ghost inverse = { λ slots. record { slots = slots } };
 }
+
+impl Crosses for BadSlot {}
+
+impl Crosses for ManagerMap {}
 
 impl ManagerMap {
     /// The map that a cluster of this many managers starts with: slot i has manager (i mod managers) + 1

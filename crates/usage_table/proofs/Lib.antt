@@ -1,4 +1,2 @@
 pub mod FromScratch
-pub mod SegOrder
-pub mod Sorted
 pub mod Table

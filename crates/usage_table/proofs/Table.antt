@@ -18,8 +18,8 @@ use Rattle.xfs_base.specs.declared.segment.SegName.{SegName}
 use Rattle.xfs_base.specs.Segments.{seg_cmp}
 use Rattle.xfs_base.proofs.BlockOrder.{lookup-insert_entry}
 use Rattle.usage_table.specs.Counts.{IsTable, count_of, blocks_at, is_same, with_one_more, with_one_less, after_shift}
-use Rattle.usage_table.proofs.SegOrder.{seg_cmp_total, seg_cmp_exact}
-use Rattle.usage_table.proofs.Sorted.{sorted_insert, sorted_remove}
+use Rattle.xfs_base.proofs.Orders.{seg_cmp_total, seg_cmp_exact}
+use Rattle.xfs_base.proofs.Sorted.{sorted_insert, sorted_remove}
 
 same_laws : IsEquivalence (eq_by_cmp seg_cmp)
 same_laws = eq_by_cmp_equiv seg_cmp_total

@@ -10,7 +10,7 @@ ghost use Rattle.usage_table.specs.Counts.{count_of, blocks_at, is_same, with_on
 use std::alloc::Global;
 use std::collections::BTreeMap;
 use std::marker::Model;
-use xfs_base::{List, Mem, SegName};
+use xfs_base::{Crosses, List, Mem, SegName};
 
 /// How many live blocks each segment has: the utilization by which a cleaner chooses. Contracts see it as
 /// the counts above 0, by segment.
@@ -30,6 +30,8 @@ impl Model for Usage {
 
     ghost invariant = { λ u. IsTable u.counts.entries };
 }
+
+impl Crosses for Usage {}
 
 impl Usage {
     /// A table of no live block. Takes no memory.
