@@ -1,165 +1,188 @@
 -- What a feed keeps after any inputs is what they determine.
-use Rattle.std.proofs.Common.{◌≡◌, ℕ, ◌<◌, ◌≤◌, true, false, cond, List, [], ◌∷◌, ◌++◌, length, get_or, set, refl, sym, ap, ◌∙◌, arith}
-use Rattle.std.specs.Prelude.{nat_lt, ◌==◌, ◌&&◌}
+use Rattle.std.proofs.Common.{◌≡◌, ℕ, ◌<◌, ◌≤◌, Bool, true, false, cond, not, List, [], ◌∷◌, ◌++◌, ◌||◌, length, get_or, set, refl, sym, ap, ◌∙◌, arith, append_assoc}
+use Rattle.std.specs.Prelude.{max, nat_lt, ◌==◌, ◌&&◌}
+use Rattle.std.specs.List.{list_any}
 use Rattle.std.proofs.lemmas.Bool.Decides.{nat_tests}
-use Rattle.std.proofs.lemmas.List.{length-set, get_or-set_same, get_or-set_other, get_or-replicate}
-use Rattle.xfs_base.specs.declared.block.BlockId.{BlockId}
-use Rattle.xfs_base.specs.declared.entry.Entry.{Entry}
-use Rattle.delta_feed.specs.declared.events.In.{In}
-use Rattle.delta_feed.specs.declared.events.In.TheVariants.{Settled, Ack, NewEpoch, Push, Tick}
-use Rattle.delta_feed.specs.FeedState.{FeedState, acked_of}
-use Rattle.delta_feed.specs.Transition.{settled, acknowledged, new_epoch}
-use Rattle.delta_feed.specs.History.{state_after, greatest, end_of, filed_by, acks_since, acknowledged_by}
+use Rattle.std.proofs.lemmas.List.{append-nil, length-set, get_or-set_same, get_or-set_other, get_or-replicate}
+use Rattle.xfs_base.specs.Steps.{steps}
+use Rattle.xfs_base.proofs.Booleans.{by_test}
+use Rattle.delta_feed.specs.declared.feed.FiledDeltas.{FiledDeltas}
+use Rattle.delta_feed.specs.declared.input.In.{In}
+use Rattle.delta_feed.specs.declared.input.In.TheVariants.{Settled, Ack, NewEpoch, Push, Tick}
+use Rattle.delta_feed.specs.FeedState.{FeedState, started, acked_of}
+use Rattle.delta_feed.specs.Transition.{acknowledged, new_epoch, transition}
+use Rattle.delta_feed.specs.History.{state_after, greatest, settled_numbers, end_of, filed_by, renews, acks_since, acknowledged_by}
 
-pub record IsAfter (base : ℕ) (history : List In) (s : FeedState) : Type 0 where
-  pub base_is : s.base ≡ base
-  pub filed_is : s.filed ≡ filed_by base history
-  pub end_is : s.end ≡ end_of base history
-  pub eight : length s.acked ≡ 8
-  pub acked_is : (slot : ℕ) → slot < 8 → get_or s.acked slot 0 ≡ acknowledged_by base slot history
+-- ---- greatest numbers
+
+pub greatest-max : (n least : ℕ) (ns : List ℕ) → greatest (max n least) ns ≡ max n (greatest least ns)
+greatest-max n least [] = refl
+greatest-max n least (m ∷ ns) = let rest : greatest (max n least) ns ≡ max n (greatest least ns) = greatest-max n least ns in omega arith
+
+-- ---- one input
+
+kept_base : (s : FeedState) (input : In) → (transition s input).state.base ≡ s.base
+kept_base s (Settled seq rows) = by_test (λ (t : FeedState). t.base ≡ s.base) (nat_lt s.end seq) (record s { filed = s.filed ++ record { seq = seq; rows = rows } ∷ []; end = seq }) s (λ _. refl) (λ _. refl)
+kept_base s (Ack slot applied) = by_test (λ (t : FeedState). t.base ≡ s.base) (nat_lt slot 8 && nat_lt (acked_of s slot) applied) (record s { acked = set s.acked slot applied }) s (λ _. refl) (λ _. refl)
+kept_base s (NewEpoch slot) = by_test (λ (t : FeedState). t.base ≡ s.base) (nat_lt slot 8) (record s { acked = set s.acked slot s.base }) s (λ _. refl) (λ _. refl)
+kept_base s (Push slot) = refl
+kept_base s Tick = refl
+
+kept_eight : (s : FeedState) (input : In) → length s.acked ≡ 8 → length (transition s input).state.acked ≡ 8
+kept_eight s (Settled seq rows) eight = by_test (λ (t : FeedState). length t.acked ≡ 8) (nat_lt s.end seq) (record s { filed = s.filed ++ record { seq = seq; rows = rows } ∷ []; end = seq }) s (λ _. eight) (λ _. eight)
+kept_eight s (Ack slot applied) eight =
+    by_test (λ (t : FeedState). length t.acked ≡ 8) (nat_lt slot 8 && nat_lt (acked_of s slot) applied) (record s { acked = set s.acked slot applied }) s (λ _. length-set s.acked slot applied ∙ eight) (λ _. eight)
+kept_eight s (NewEpoch slot) eight = by_test (λ (t : FeedState). length t.acked ≡ 8) (nat_lt slot 8) (record s { acked = set s.acked slot s.base }) s (λ _. length-set s.acked slot s.base ∙ eight) (λ _. eight)
+kept_eight s (Push slot) eight = eight
+kept_eight s Tick eight = eight
 
 -- a slot that there is
 pub acked_in : (s : FeedState) (slot : ℕ) → slot < 8 → acked_of s slot ≡ get_or s.acked slot 0
 acked_in s slot l = let p : nat_lt slot 8 ≡ true = grind (arith, nat_tests) in ap (λ t. cond t (get_or s.acked slot 0) s.base) p
 
-settled_keeps : (base : ℕ) (h : List In) (s : FeedState) (seq : ℕ) (rows : List (BlockId × Entry)) → IsAfter base h s → IsAfter base (Settled seq rows ∷ h) (settled s seq rows)
-settled_keeps base h s seq rows k =
-    let same : nat_lt s.end seq ≡ nat_lt (end_of base h) seq = ap (λ e. nat_lt e seq) k.end_is in
-    elim (nat_lt s.end seq) as (λ t. nat_lt s.end seq ≡ t → IsAfter base (Settled seq rows ∷ h) (cond t (record s { filed = s.filed ++ record { seq = seq; rows = rows } ∷ []; end = seq }) s)) [
+module _ (slot : ℕ) (l : slot < 8) (s : FeedState) (eight : length s.acked ≡ 8) where
+  abbrev now : FeedState → ℕ
+  now t = get_or t.acked slot 0
+
+  ack_more : (n : ℕ) → now (acknowledged s slot n) ≡ max n (now s)
+  ack_more n =
+      let is : acked_of s slot ≡ now s = acked_in s slot l in
+      by_test (λ (t : FeedState). now t ≡ max n (now s)) (nat_lt slot 8 && nat_lt (acked_of s slot) n) (record s { acked = set s.acked slot n }) s
+      (λ p. let less : now s < n = grind (arith, nat_tests) in get_or-set_same s.acked slot n 0 (rw eight l) ∙ omega (arith, less))
+      (λ p. let most : n ≤ now s = grind (arith, nat_tests) in omega (arith, most))
+
+  ack_own : (acker n : ℕ) → (acker == slot) ≡ true → now (acknowledged s acker n) ≡ max n (now s)
+  ack_own acker n one = let is : acker ≡ slot = grind (arith, nat_tests) in ap (λ a. now (acknowledged s a n)) is ∙ ack_more n
+
+  ack_other : (acker n : ℕ) → (acker == slot) ≡ false → now (acknowledged s acker n) ≡ now s
+  ack_other acker n apart =
+      by_test (λ (t : FeedState). now t ≡ now s) (nat_lt acker 8 && nat_lt (acked_of s acker) n) (record s { acked = set s.acked acker n }) s (λ _. get_or-set_other s.acked acker slot n 0 (grind (arith, nat_tests))) (λ _. refl)
+
+  renew_own : (renewed : ℕ) → (renewed == slot) ≡ true → now (new_epoch s renewed) ≡ s.base
+  renew_own renewed one =
+      let is : renewed ≡ slot = grind (arith, nat_tests) in
+      let p : nat_lt slot 8 ≡ true = grind (arith, nat_tests) in
+      ap (λ r. now (new_epoch s r)) is ∙ ap (λ t. now (cond t (record s { acked = set s.acked slot s.base }) s)) p ∙ get_or-set_same s.acked slot s.base 0 (rw eight l)
+
+  renew_other : (renewed : ℕ) → (renewed == slot) ≡ false → now (new_epoch s renewed) ≡ now s
+  renew_other renewed apart =
+      by_test (λ (t : FeedState). now t ≡ now s) (nat_lt renewed 8) (record s { acked = set s.acked renewed s.base }) s (λ _. get_or-set_other s.acked renewed slot s.base 0 (grind (arith, nat_tests))) (λ _. refl)
+
+-- ---- many inputs, from any state
+
+abbrev later : FeedState → List In → FeedState
+later s inputs = (steps transition s inputs).state
+
+base_after : (s : FeedState) (inputs : List In) → (later s inputs).base ≡ s.base
+base_after s [] = refl
+base_after s (i ∷ is) = base_after (transition s i).state is ∙ kept_base s i
+
+eight_after : (s : FeedState) (inputs : List In) → length s.acked ≡ 8 → length (later s inputs).acked ≡ 8
+eight_after s [] eight = eight
+eight_after s (i ∷ is) eight = eight_after (transition s i).state is (kept_eight s i eight)
+
+filed_after : (s : FeedState) (inputs : List In) → (later s inputs).filed ≡ s.filed ++ filed_by s.end inputs
+filed_after s [] = sym (append-nil s.filed)
+filed_after s (Settled seq rows ∷ is) =
+    let f : FiledDeltas = record { seq = seq; rows = rows } in
+    elim (nat_lt s.end seq) as (λ t. (later (cond t (record s { filed = s.filed ++ f ∷ []; end = seq }) s) is).filed ≡ s.filed ++ cond t (f ∷ filed_by seq is) (filed_by s.end is)) [
+      | true ↦ filed_after (record s { filed = s.filed ++ f ∷ []; end = seq }) is ∙ append_assoc s.filed (f ∷ []) (filed_by seq is)
+      | false ↦ filed_after s is
+    ]
+filed_after s (Ack slot applied ∷ is) =
+    filed_after (acknowledged s slot applied) is
+    ∙ by_test (λ (t : FeedState). t.filed ++ filed_by t.end is ≡ s.filed ++ filed_by s.end is) (nat_lt slot 8 && nat_lt (acked_of s slot) applied) (record s { acked = set s.acked slot applied }) s (λ _. refl) (λ _. refl)
+filed_after s (NewEpoch slot ∷ is) =
+    filed_after (new_epoch s slot) is
+    ∙ by_test (λ (t : FeedState). t.filed ++ filed_by t.end is ≡ s.filed ++ filed_by s.end is) (nat_lt slot 8) (record s { acked = set s.acked slot s.base }) s (λ _. refl) (λ _. refl)
+filed_after s (Push slot ∷ is) = filed_after s is
+filed_after s (Tick ∷ is) = filed_after s is
+
+end_after : (s : FeedState) (inputs : List In) → (later s inputs).end ≡ greatest s.end (settled_numbers inputs)
+end_after s [] = refl
+end_after s (Settled seq rows ∷ is) =
+    let numbers : List ℕ = settled_numbers is in
+    let f : FiledDeltas = record { seq = seq; rows = rows } in
+    elim (nat_lt s.end seq) as (λ t. nat_lt s.end seq ≡ t → (later (cond t (record s { filed = s.filed ++ f ∷ []; end = seq }) s) is).end ≡ max seq (greatest s.end numbers)) [
       | true ↦ λ p.
-          let q : nat_lt (end_of base h) seq ≡ true = sym same ∙ p in
-          let above : end_of base h < seq = grind (arith, nat_tests) in
-          record {
-            base_is = k.base_is;
-            filed_is = ap (λ fs. fs ++ record { seq = seq; rows = rows } ∷ []) k.filed_is
-                ∙ sym (ap (λ t. cond t (filed_by base h ++ record { seq = seq; rows = rows } ∷ []) (filed_by base h)) q);
-            end_is = omega (arith, above);
-            eight = k.eight;
-            acked_is = k.acked_is;
-          }
+          let less : s.end < seq = grind (arith, nat_tests) in
+          let is_max : seq ≡ max seq s.end = omega (arith, less) in
+          end_after (record s { filed = s.filed ++ f ∷ []; end = seq }) is ∙ ap (λ m. greatest m numbers) is_max ∙ greatest-max seq s.end numbers
       | false ↦ λ p.
-          let q : nat_lt (end_of base h) seq ≡ false = sym same ∙ p in
-          let below : seq ≤ end_of base h = grind (arith, nat_tests) in
-          record {
-            base_is = k.base_is;
-            filed_is = k.filed_is ∙ sym (ap (λ t. cond t (filed_by base h ++ record { seq = seq; rows = rows } ∷ []) (filed_by base h)) q);
-            end_is = k.end_is ∙ omega (arith, below);
-            eight = k.eight;
-            acked_is = k.acked_is;
-          }
+          let most : seq ≤ s.end = grind (arith, nat_tests) in
+          let is_max : s.end ≡ max seq s.end = omega (arith, most) in
+          end_after s is ∙ ap (λ m. greatest m numbers) is_max ∙ greatest-max seq s.end numbers
     ] refl
+end_after s (Ack slot applied ∷ is) =
+    end_after (acknowledged s slot applied) is
+    ∙ by_test (λ (t : FeedState). greatest t.end (settled_numbers is) ≡ greatest s.end (settled_numbers is)) (nat_lt slot 8 && nat_lt (acked_of s slot) applied) (record s { acked = set s.acked slot applied }) s (λ _. refl) (λ _. refl)
+end_after s (NewEpoch slot ∷ is) =
+    end_after (new_epoch s slot) is
+    ∙ by_test (λ (t : FeedState). greatest t.end (settled_numbers is) ≡ greatest s.end (settled_numbers is)) (nat_lt slot 8) (record s { acked = set s.acked slot s.base }) s (λ _. refl) (λ _. refl)
+end_after s (Push slot ∷ is) = end_after s is
+end_after s (Tick ∷ is) = end_after s is
 
--- what a slot has acknowledged once one of them has acknowledged more
-acked_more : (base : ℕ) (h : List In) (s : FeedState) (acker upto : ℕ) → IsAfter base h s → acker < 8 → get_or s.acked acker 0 < upto
-    → (slot : ℕ) → slot < 8 → get_or (set s.acked acker upto) slot 0 ≡ acknowledged_by base slot (Ack acker upto ∷ h)
-acked_more base h s acker upto k in_range more slot l =
-    elim (acker == slot) as (λ t. (acker == slot) ≡ t → get_or (set s.acked acker upto) slot 0 ≡ greatest base (cond t (upto ∷ acks_since slot h) (acks_since slot h))) [
-      | true ↦ λ p.
-          let one : slot ≡ acker = grind (arith, nat_tests) in
-          let old : get_or s.acked slot 0 ≡ acknowledged_by base slot h = k.acked_is slot l in
-          let less : acknowledged_by base slot h < upto = rw (sym old) (rw one more) in
-          ap (λ n. get_or (set s.acked acker upto) n 0) one ∙ get_or-set_same s.acked acker upto 0 (rw k.eight in_range) ∙ omega (arith, less)
-      | false ↦ λ p. get_or-set_other s.acked acker slot upto 0 (grind (arith, nat_tests)) ∙ k.acked_is slot l
-    ] refl
+-- an acknowledgement counts where the slot gets no new epoch later
+ack_counts : (one renewed : Bool) (base was told n : ℕ) (acks : List ℕ) → (one ≡ true → told ≡ max n was) → (one ≡ false → told ≡ was)
+    → greatest (cond renewed base told) acks ≡ greatest (cond renewed base was) (cond (one && not renewed) (n ∷ acks) acks)
+ack_counts true true base was told n acks own other = refl
+ack_counts true false base was told n acks own other = ap (λ m. greatest m acks) (own refl) ∙ greatest-max n was acks
+ack_counts false true base was told n acks own other = refl
+ack_counts false false base was told n acks own other = ap (λ m. greatest m acks) (other refl)
 
-acked_test : (s : FeedState) (slot upto : ℕ) → (nat_lt slot 8 && nat_lt (acked_of s slot) upto) ≡ true → (slot < 8) × (get_or s.acked slot 0 < upto)
-acked_test s slot upto p =
-    let l : slot < 8 = grind (arith, nat_tests) in
-    let e : acked_of s slot ≡ get_or s.acked slot 0 = acked_in s slot l in
-    (l, grind (arith, nat_tests))
+-- after a new epoch the base is what the slot has
+renewal_counts : (one renewed : Bool) (base was told : ℕ) (acks : List ℕ) → (one ≡ true → told ≡ base) → (one ≡ false → told ≡ was)
+    → greatest (cond renewed base told) acks ≡ greatest (cond (one || renewed) base was) acks
+renewal_counts true true base was told acks own other = refl
+renewal_counts true false base was told acks own other = ap (λ m. greatest m acks) (own refl)
+renewal_counts false true base was told acks own other = refl
+renewal_counts false false base was told acks own other = ap (λ m. greatest m acks) (other refl)
 
--- an acknowledgement that is not above the one before
-acked_same : (base : ℕ) (h : List In) (s : FeedState) (acker upto : ℕ) → IsAfter base h s → (nat_lt acker 8 && nat_lt (acked_of s acker) upto) ≡ false
-    → (slot : ℕ) → slot < 8 → get_or s.acked slot 0 ≡ acknowledged_by base slot (Ack acker upto ∷ h)
-acked_same base h s acker upto k no_more slot l =
-    elim (acker == slot) as (λ t. (acker == slot) ≡ t → get_or s.acked slot 0 ≡ greatest base (cond t (upto ∷ acks_since slot h) (acks_since slot h))) [
-      | true ↦ λ p.
-          let one : slot ≡ acker = grind (arith, nat_tests) in
-          let in_range : acker < 8 = rw (sym one) l in
-          let least : upto ≤ get_or s.acked acker 0 = let e : acked_of s acker ≡ get_or s.acked acker 0 = acked_in s acker in_range in grind (arith, nat_tests) in
-          let old : get_or s.acked slot 0 ≡ acknowledged_by base slot h = k.acked_is slot l in
-          let less : upto ≤ acknowledged_by base slot h = rw (sym old) (rw one least) in
-          old ∙ omega (arith, less)
-      | false ↦ λ p. k.acked_is slot l
-    ] refl
+acks_after : (slot : ℕ) → slot < 8 → (s : FeedState) → length s.acked ≡ 8 → (inputs : List In)
+    → get_or (later s inputs).acked slot 0 ≡ greatest (cond (list_any (renews slot) inputs) s.base (get_or s.acked slot 0)) (acks_since slot inputs)
+acks_after slot l s eight [] = refl
+acks_after slot l s eight (Settled seq rows ∷ is) =
+    let more : FeedState = record s { filed = s.filed ++ record { seq = seq; rows = rows } ∷ []; end = seq } in
+    by_test (λ (t : FeedState). get_or (later t is).acked slot 0 ≡ greatest (cond (list_any (renews slot) is) s.base (get_or s.acked slot 0)) (acks_since slot is)) (nat_lt s.end seq) more s
+    (λ _. acks_after slot l more eight is) (λ _. acks_after slot l s eight is)
+acks_after slot l s eight (Ack acker n ∷ is) =
+    let t : FeedState = acknowledged s acker n in
+    let renewed : Bool = list_any (renews slot) is in
+    acks_after slot l t (kept_eight s (Ack acker n) eight) is
+    ∙ ap (λ b. greatest (cond renewed b (get_or t.acked slot 0)) (acks_since slot is)) (kept_base s (Ack acker n))
+    ∙ ack_counts (acker == slot) renewed s.base (get_or s.acked slot 0) (get_or t.acked slot 0) n (acks_since slot is) (ack_own slot l s eight acker n) (ack_other slot l s eight acker n)
+acks_after slot l s eight (NewEpoch other ∷ is) =
+    let t : FeedState = new_epoch s other in
+    let renewed : Bool = list_any (renews slot) is in
+    acks_after slot l t (kept_eight s (NewEpoch other) eight) is
+    ∙ ap (λ b. greatest (cond renewed b (get_or t.acked slot 0)) (acks_since slot is)) (kept_base s (NewEpoch other))
+    ∙ renewal_counts (other == slot) renewed s.base (get_or s.acked slot 0) (get_or t.acked slot 0) (acks_since slot is) (renew_own slot l s eight other) (renew_other slot l s eight other)
+acks_after slot l s eight (Push asked ∷ is) = acks_after slot l s eight is
+acks_after slot l s eight (Tick ∷ is) = acks_after slot l s eight is
 
-acknowledged_keeps : (base : ℕ) (h : List In) (s : FeedState) (slot upto : ℕ) → IsAfter base h s → IsAfter base (Ack slot upto ∷ h) (acknowledged s slot upto)
-acknowledged_keeps base h s slot upto k =
-    elim (nat_lt slot 8 && nat_lt (acked_of s slot) upto) as (λ t. (nat_lt slot 8 && nat_lt (acked_of s slot) upto) ≡ t → IsAfter base (Ack slot upto ∷ h) (cond t (record s { acked = set s.acked slot upto }) s)) [
-      | true ↦ λ p. record {
-        base_is = k.base_is;
-        filed_is = k.filed_is;
-        end_is = k.end_is;
-        eight = length-set s.acked slot upto ∙ k.eight;
-        acked_is = acked_more base h s slot upto k (acked_test s slot upto p).0 (acked_test s slot upto p).1;
-      }
-      | false ↦ λ p. record {
-        base_is = k.base_is;
-        filed_is = k.filed_is;
-        end_is = k.end_is;
-        eight = k.eight;
-        acked_is = acked_same base h s slot upto k p;
-      }
-    ] refl
+-- ---- many inputs, from the start
 
-acked_anew : (base : ℕ) (h : List In) (s : FeedState) (renewed : ℕ) → IsAfter base h s → renewed < 8
-    → (slot : ℕ) → slot < 8 → get_or (set s.acked renewed s.base) slot 0 ≡ acknowledged_by base slot (NewEpoch renewed ∷ h)
-acked_anew base h s renewed k in_range slot l =
-    elim (renewed == slot) as (λ t. (renewed == slot) ≡ t → get_or (set s.acked renewed s.base) slot 0 ≡ greatest base (cond t [] (acks_since slot h))) [
-      | true ↦ λ p.
-          let one : slot ≡ renewed = grind (arith, nat_tests) in
-          ap (λ n. get_or (set s.acked renewed s.base) n 0) one ∙ get_or-set_same s.acked renewed s.base 0 (rw k.eight in_range) ∙ k.base_is
-      | false ↦ λ p. get_or-set_other s.acked renewed slot s.base 0 (grind (arith, nat_tests)) ∙ k.acked_is slot l
-    ] refl
+pub record IsAfter (base : ℕ) (inputs : List In) (s : FeedState) : Type 0 where
+  pub base_is : s.base ≡ base
+  pub filed_is : s.filed ≡ filed_by base inputs
+  pub end_is : s.end ≡ end_of base inputs
+  pub eight : length s.acked ≡ 8
+  pub acked_is : (slot : ℕ) → slot < 8 → get_or s.acked slot 0 ≡ acknowledged_by base slot inputs
 
--- a slot that there isn't says nothing of those that there are
-acked_beside : (base : ℕ) (h : List In) (s : FeedState) (renewed : ℕ) → IsAfter base h s → nat_lt renewed 8 ≡ false
-    → (slot : ℕ) → slot < 8 → get_or s.acked slot 0 ≡ acknowledged_by base slot (NewEpoch renewed ∷ h)
-acked_beside base h s renewed k out slot l =
-    elim (renewed == slot) as (λ t. (renewed == slot) ≡ t → get_or s.acked slot 0 ≡ greatest base (cond t [] (acks_since slot h))) [
-      | true ↦ λ p.
-          let one : slot ≡ renewed = grind (arith, nat_tests) in
-          let past : 8 ≤ renewed = grind (arith, nat_tests) in
-          absurd (omega (arith, one, past, l))
-      | false ↦ λ p. k.acked_is slot l
-    ] refl
+either_base : (renewed : Bool) (base was : ℕ) → was ≡ base → cond renewed base was ≡ base
+either_base true base was is = refl
+either_base false base was is = is
 
-new_epoch_keeps : (base : ℕ) (h : List In) (s : FeedState) (slot : ℕ) → IsAfter base h s → IsAfter base (NewEpoch slot ∷ h) (new_epoch s slot)
-new_epoch_keeps base h s slot k =
-    elim (nat_lt slot 8) as (λ t. nat_lt slot 8 ≡ t → IsAfter base (NewEpoch slot ∷ h) (cond t (record s { acked = set s.acked slot s.base }) s)) [
-      | true ↦ λ p. record {
-        base_is = k.base_is;
-        filed_is = k.filed_is;
-        end_is = k.end_is;
-        eight = length-set s.acked slot s.base ∙ k.eight;
-        acked_is = acked_anew base h s slot k (grind (arith, nat_tests));
-      }
-      | false ↦ λ p. record {
-        base_is = k.base_is;
-        filed_is = k.filed_is;
-        end_is = k.end_is;
-        eight = k.eight;
-        acked_is = acked_beside base h s slot k p;
-      }
-    ] refl
-
-pub is_after : (base : ℕ) (h : List In) → IsAfter base h (state_after base h)
-is_after base [] = record {
-  base_is = refl;
-  filed_is = refl;
-  end_is = refl;
-  eight = refl;
-  acked_is = λ slot l. get_or-replicate 8 slot base 0 l;
+pub is_after : (base : ℕ) (inputs : List In) → IsAfter base inputs (state_after base inputs)
+is_after base inputs = record {
+  base_is = base_after (started base) inputs;
+  filed_is = filed_after (started base) inputs;
+  end_is = end_after (started base) inputs;
+  eight = eight_after (started base) inputs refl;
+  acked_is = λ slot l.
+      acks_after slot l (started base) refl inputs
+      ∙ ap (λ m. greatest m (acks_since slot inputs)) (either_base (list_any (renews slot) inputs) base (get_or (started base).acked slot 0) (get_or-replicate 8 slot base 0 l));
 }
-is_after base (Settled seq rows ∷ h) = settled_keeps base h (state_after base h) seq rows (is_after base h)
-is_after base (Ack slot upto ∷ h) = acknowledged_keeps base h (state_after base h) slot upto (is_after base h)
-is_after base (NewEpoch slot ∷ h) = new_epoch_keeps base h (state_after base h) slot (is_after base h)
-is_after base (Push slot ∷ h) =
-    let k : IsAfter base h (state_after base h) = is_after base h in
-    record { base_is = k.base_is; filed_is = k.filed_is; end_is = k.end_is; eight = k.eight; acked_is = k.acked_is }
-is_after base (Tick ∷ h) =
-    let k : IsAfter base h (state_after base h) = is_after base h in
-    record { base_is = k.base_is; filed_is = k.filed_is; end_is = k.end_is; eight = k.eight; acked_is = k.acked_is }
 
-pub acked_after : (base : ℕ) (h : List In) (s : FeedState) → IsAfter base h s → (slot : ℕ) → slot < 8 → acked_of s slot ≡ acknowledged_by base slot h
-acked_after base h s k slot l = acked_in s slot l ∙ k.acked_is slot l
+pub acked_after : (base : ℕ) (inputs : List In) (s : FeedState) → IsAfter base inputs s → (slot : ℕ) → slot < 8 → acked_of s slot ≡ acknowledged_by base slot inputs
+acked_after base inputs s k slot l = acked_in s slot l ∙ k.acked_is slot l

@@ -8,7 +8,7 @@ use Rattle.delta_index.specs.Entries.{no_entry, first_greatest}
 use Rattle.delta_index.specs.Join.{join}
 use Rattle.delta_index.proofs.EntryAlgebra.{first_greatest-assoc, first_greatest-repeat}
 use Rattle.delta_index.proofs.JoinAlgebra.{none-join}
-use Rattle.delta_feed.specs.declared.events.FiledDeltas.{FiledDeltas}
+use Rattle.delta_feed.specs.declared.feed.FiledDeltas.{FiledDeltas}
 use Rattle.delta_feed.specs.History.{deltas_between}
 use Rattle.delta_feed.proofs.RangeRows.{IsRising, rising_below, between_more, between_same}
 

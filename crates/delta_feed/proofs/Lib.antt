@@ -2,3 +2,4 @@ pub mod AfterInputs
 pub mod RangeRows
 pub mod Ranges
 pub mod Extension
+pub mod Skipping

@@ -1,6 +1,6 @@
 -- The rows of a range join to what the filed segments in it join to.
-use Rattle.std.proofs.Common.{◌≡◌, ℕ, ◌+◌, ◌<◌, ◌≤◌, true, false, cond, List, [], ◌∷◌, ◌++◌, map, refl, sym, ap, ◌∙◌, arith}
-use Rattle.std.specs.Prelude.{nat_lt, nat_le, ◌==◌, ◌&&◌, All}
+use Rattle.std.proofs.Common.{◌≡◌, ℕ, ◌+◌, ◌<◌, ◌≤◌, true, false, cond, List, [], ◌∷◌, ◌++◌, map, refl, sym, ap, subst, ◌∙◌, arith}
+use Rattle.std.specs.Prelude.{max, nat_lt, nat_le, ◌==◌, ◌&&◌, All}
 use Rattle.std.specs.List.{filter, flat_map, fold}
 use Rattle.std.proofs.lemmas.Bool.Decides.{nat_tests}
 use Rattle.std.proofs.lemmas.List.Elements.{All-nil, All-cons, All-head, All-tail, All-append, All-weaker, filter_passes}
@@ -11,20 +11,17 @@ use Rattle.xfs_base.proofs.BlockOrder.{same_block_exact}
 use Rattle.delta_index.specs.Entries.{no_entry, first_greatest}
 use Rattle.delta_index.specs.Join.{join}
 use Rattle.delta_index.proofs.JoinAlgebra.{join-append}
-use Rattle.delta_feed.specs.declared.events.FiledDeltas.{FiledDeltas}
-use Rattle.delta_feed.specs.declared.events.In.{In}
-use Rattle.delta_feed.specs.declared.events.In.TheVariants.{Settled, Ack, NewEpoch, Push, Tick}
+use Rattle.delta_feed.specs.declared.feed.FiledDeltas.{FiledDeltas}
+use Rattle.delta_feed.specs.declared.input.In.{In}
+use Rattle.delta_feed.specs.declared.input.In.TheVariants.{Settled, Ack, NewEpoch, Push, Tick}
 use Rattle.delta_feed.specs.Transition.{slot_rows, rows_after}
-use Rattle.delta_feed.specs.History.{end_of, filed_by, deltas_between}
+use Rattle.delta_feed.specs.History.{greatest, settled_numbers, end_of, filed_by, deltas_between}
+use Rattle.delta_feed.proofs.AfterInputs.{greatest-max}
 
 -- segments with rising numbers, above one and up to another
 abbrev pub IsRising : ℕ → List FiledDeltas → ℕ → Type 0
 IsRising low [] high = low ≤ high
 IsRising low (f ∷ fs) high = (low < f.seq) × IsRising f.seq fs high
-
-rising_push : (low : ℕ) (fs : List FiledDeltas) (high : ℕ) (f : FiledDeltas) → IsRising low fs high → high < f.seq → IsRising low (fs ++ f ∷ []) f.seq
-rising_push low [] high f r l = (omega (arith, r, l), omega arith)
-rising_push low (g ∷ fs) high f r l = (r.0, rising_push g.seq fs high f r.1 l)
 
 pub rising_below : (low : ℕ) (fs : List FiledDeltas) (high : ℕ) → IsRising low fs high → low ≤ high
 rising_below low [] high r = r
@@ -35,23 +32,24 @@ rising_upto low [] high r = All-nil (λ f. f.seq ≤ high)
 rising_upto low (f ∷ fs) high r = All-cons (λ g. g.seq ≤ high) f fs (rising_below f.seq fs high r.1) (rising_upto f.seq fs high r.1)
 
 -- the filed segments rise from the base to the end
-pub filed_rising : (base : ℕ) (h : List In) → IsRising base (filed_by base h) (end_of base h)
+pub filed_rising : (base : ℕ) (inputs : List In) → IsRising base (filed_by base inputs) (end_of base inputs)
 filed_rising base [] = omega arith
-filed_rising base (Settled seq rows ∷ h) =
-    elim (nat_lt (end_of base h) seq) as (λ t. nat_lt (end_of base h) seq ≡ t → IsRising base (cond t (filed_by base h ++ record { seq = seq; rows = rows } ∷ []) (filed_by base h)) (end_of base (Settled seq rows ∷ h))) [
+filed_rising base (Settled seq rows ∷ is) =
+    let numbers : List ℕ = settled_numbers is in
+    elim (nat_lt base seq) as (λ t. nat_lt base seq ≡ t → IsRising base (cond t (record { seq = seq; rows = rows } ∷ filed_by seq is) (filed_by base is)) (max seq (greatest base numbers))) [
       | true ↦ λ p.
-          let above : end_of base h < seq = grind (arith, nat_tests) in
-          let e : end_of base (Settled seq rows ∷ h) ≡ seq = omega (arith, above) in
-          rw e (rising_push base (filed_by base h) (end_of base h) (record { seq = seq; rows = rows }) (filed_rising base h) above)
+          let above : base < seq = grind (arith, nat_tests) in
+          let is_max : seq ≡ max seq base = omega (arith, above) in
+          (above, subst (IsRising seq (filed_by seq is)) (ap (λ m. greatest m numbers) is_max ∙ greatest-max seq base numbers) (filed_rising seq is))
       | false ↦ λ p.
-          let below : seq ≤ end_of base h = grind (arith, nat_tests) in
-          let e : end_of base (Settled seq rows ∷ h) ≡ end_of base h = omega (arith, below) in
-          rw e (filed_rising base h)
+          let below : seq ≤ base = grind (arith, nat_tests) in
+          let is_max : base ≡ max seq base = omega (arith, below) in
+          subst (IsRising base (filed_by base is)) (ap (λ m. greatest m numbers) is_max ∙ greatest-max seq base numbers) (filed_rising base is)
     ] refl
-filed_rising base (Ack slot upto ∷ h) = filed_rising base h
-filed_rising base (NewEpoch slot ∷ h) = filed_rising base h
-filed_rising base (Push slot ∷ h) = filed_rising base h
-filed_rising base (Tick ∷ h) = filed_rising base h
+filed_rising base (Ack slot applied ∷ is) = filed_rising base is
+filed_rising base (NewEpoch slot ∷ is) = filed_rising base is
+filed_rising base (Push slot ∷ is) = filed_rising base is
+filed_rising base (Tick ∷ is) = filed_rising base is
 
 -- a block's rows are all among those of its slot
 kept : (slot : ℕ) (q : BlockId) → slot_of q.ino.0 ≡ slot → (rows : List (BlockId × Entry)) → filter (λ (m : BlockId × Entry). same_block q m.0) (slot_rows slot rows) ≡ filter (λ (m : BlockId × Entry). same_block q m.0) rows

@@ -6,9 +6,9 @@ use Rattle.std.proofs.lemmas.Bool.Decides.{nat_tests}
 use Rattle.std.proofs.lemmas.List.Elements.{All-nil, All-cons, All-append}
 use Rattle.xfs_base.specs.declared.block.BlockId.{BlockId}
 use Rattle.xfs_base.specs.declared.entry.Entry.{Entry}
-use Rattle.delta_feed.specs.declared.events.In.{In}
-use Rattle.delta_feed.specs.declared.events.In.TheVariants.{Settled, Ack, NewEpoch, Push, Tick}
-use Rattle.delta_feed.specs.declared.events.Out.TheVariants.{Range}
+use Rattle.delta_feed.specs.declared.input.In.{In}
+use Rattle.delta_feed.specs.declared.input.In.TheVariants.{Settled, Ack, NewEpoch, Push, Tick}
+use Rattle.delta_feed.specs.declared.output.Out.TheVariants.{Range}
 use Rattle.delta_feed.specs.FeedState.{FeedState, acked_of}
 use Rattle.delta_feed.specs.Transition.{rows_after, pushed, transition}
 use Rattle.delta_feed.specs.History.{state_after, end_of, filed_by, acknowledged_by}
@@ -43,7 +43,7 @@ ticks_true base h s k (slot ∷ slots) = All-append (IsTrueRange base h) (pushed
 
 pub ranges_true : (base : ℕ) (h : List In) (input : In) → All (IsTrueRange base h) (transition (state_after base h) input).outs
 ranges_true base h (Settled seq rows) = All-nil (IsTrueRange base h)
-ranges_true base h (Ack slot upto) = All-nil (IsTrueRange base h)
+ranges_true base h (Ack slot applied) = All-nil (IsTrueRange base h)
 ranges_true base h (NewEpoch slot) = All-nil (IsTrueRange base h)
 ranges_true base h (Push slot) = pushes_true base h (state_after base h) slot (is_after base h)
 ranges_true base h Tick = ticks_true base h (state_after base h) (is_after base h) (range_with_len 0 8)

@@ -1,6 +1,7 @@
 -- What a feed keeps.
-use Rattle.std.specs.Prelude.{ℕ, List, [], replicate, nat_lt, slice_index, if◌then◌else◌}
-use Rattle.delta_feed.specs.declared.events.FiledDeltas.{FiledDeltas}
+use Rattle.std.specs.Prelude.{ℕ, ◌≤◌, List, [], All, replicate, nat_lt, slice_index, if◌then◌else◌}
+use Rattle.std.specs.List.Sorted.{IsNonDecreasingBy}
+use Rattle.delta_feed.specs.declared.feed.FiledDeltas.{FiledDeltas}
 
 pub record FeedState : Type 0 where
   -- the number up to which the slots know of the log from elsewhere
@@ -11,6 +12,11 @@ pub record FeedState : Type 0 where
   pub end : ℕ
   -- for each slot the number up to which its manager has acknowledged the log
   pub acked : List ℕ
+
+-- the numbers of the segments do not fall, and none is above the end
+pub record IsInOrder (filed : List FiledDeltas) (end : ℕ) : Type 0 where
+  pub rising : IsNonDecreasingBy (λ f. f.seq) filed
+  pub upto : All (λ f. f.seq ≤ end) filed
 
 -- nothing above the base, and each slot knows the log up to it
 abbrev pub started : ℕ → FeedState

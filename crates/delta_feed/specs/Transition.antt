@@ -5,16 +5,20 @@ use Rattle.xfs_base.specs.declared.block.BlockId.{BlockId}
 use Rattle.xfs_base.specs.declared.entry.Entry.{Entry}
 use Rattle.xfs_base.specs.Blocks.{slot_of}
 use Rattle.xfs_base.specs.Steps.{Stepped, still}
-use Rattle.delta_feed.specs.declared.events.FiledDeltas.{FiledDeltas}
-use Rattle.delta_feed.specs.declared.events.In.{In}
-use Rattle.delta_feed.specs.declared.events.In.TheVariants.{Settled, Ack, NewEpoch, Push, Tick}
-use Rattle.delta_feed.specs.declared.events.Out.{Out}
-use Rattle.delta_feed.specs.declared.events.Out.TheVariants.{Range}
+use Rattle.delta_feed.specs.declared.feed.FiledDeltas.{FiledDeltas}
+use Rattle.delta_feed.specs.declared.input.In.{In}
+use Rattle.delta_feed.specs.declared.input.In.TheVariants.{Settled, Ack, NewEpoch, Push, Tick}
+use Rattle.delta_feed.specs.declared.output.Out.{Out}
+use Rattle.delta_feed.specs.declared.output.Out.TheVariants.{Range}
 use Rattle.delta_feed.specs.FeedState.{FeedState, acked_of}
 
 -- the rows of a slot's blocks
 abbrev pub slot_rows : ℕ → List (BlockId × Entry) → List (BlockId × Entry)
 slot_rows slot rows = filter (λ row. slot_of row.0.ino.0 == slot) rows
+
+-- the rows of a slot in these segments
+abbrev pub all_rows : ℕ → List FiledDeltas → List (BlockId × Entry)
+all_rows slot filed = flat_map (λ f. slot_rows slot f.rows) filed
 
 -- the rows of a slot in the segments above a number
 abbrev pub rows_after : ℕ → ℕ → List FiledDeltas → List (BlockId × Entry)
@@ -52,7 +56,7 @@ ticked s = flat_map (pushed s) (range_with_len 0 8)
 -- what each input makes of a feed
 abbrev pub transition : FeedState → In → Stepped FeedState Out
 transition s (Settled seq rows) = still (settled s seq rows)
-transition s (Ack slot upto) = still (acknowledged s slot upto)
+transition s (Ack slot applied) = still (acknowledged s slot applied)
 transition s (NewEpoch slot) = still (new_epoch s slot)
 transition s (Push slot) = record { state = s; outs = pushed s slot }
 transition s Tick = record { state = s; outs = ticked s }

@@ -1,15 +1,26 @@
 //! The feed.
-ghost use Rattle.std.specs.Prelude.{◌≡◌, ◌++◌, IfOk, OnOk};
+ghost use Rattle.std.specs.Prelude.{◌≡◌, ◌++◌, ◌≤◌, ℕ, length, drop, IfOk, OnOk};
 ghost use Rattle.delta_feed.specs.FeedState.{acked_of, started};
-ghost use Rattle.delta_feed.specs.Transition.{slot_rows, rows_after, settled, acknowledged, new_epoch, pushed, ticked, transition};
+ghost use Rattle.std.specs.List.Sorted.{IsNonDecreasingBy};
+ghost use Rattle.delta_feed.specs.declared.feed.FiledDeltas.{FiledDeltas};
+ghost use Rattle.delta_feed.specs.Transition.{slot_rows, all_rows, rows_after, settled, acknowledged, new_epoch, pushed, ticked, transition};
 
-use crate::{FiledDeltas, In, Out};
+use crate::{In, Out};
 use std::alloc::Global;
 use std::marker::Model;
 use xfs_base::{BlockId, Crosses, Entry, List, Mem};
 
 /// How many slots the manager map has.
 const SLOTS: u8 = 8;
+
+/// What one settled segment says of blocks.
+#[derive(Drop)]
+pub struct FiledDeltas {
+    /// The number of the segment in its log.
+    pub seq: u32,
+    /// The blocks and their entries, in the segment's order.
+    pub rows: List<(BlockId, Entry)>,
+}
 
 /// The deltas of one log by segment, above a base, and how far each slot has acknowledged them (the 1996
 /// paper, "Writes": once a segment is stored, its writer tells the managers of the files in it what
@@ -23,12 +34,16 @@ pub struct Feed {
 }
 
 impl Model for Feed {
-    ghost use Rattle.delta_feed.specs.FeedState.{FeedState};
+    ghost use Rattle.delta_feed.specs.FeedState.{FeedState, IsInOrder};
 
     ghost Value = { FeedState };
 
     ghost view = { λ f. record { base = f.base; filed = f.filed; end = f.end; acked = f.acked } };
+
+    ghost invariant = { λ f. IsInOrder f.filed f.end };
 }
+
+impl Crosses for FiledDeltas {}
 
 impl Crosses for Feed {}
 
@@ -54,10 +69,10 @@ impl Feed {
     {
         let mut outs = List::new(alloc);
         match input {
-            In::Settled(seq, rows) => self.settled(seq, rows)?,
-            In::Ack(slot, upto) => self.acknowledged(slot, upto),
-            In::NewEpoch(slot) => self.new_epoch(slot),
-            In::Push(slot) => self.push(alloc, &mut outs, slot)?,
+            In::Settled { seq, rows } => self.settled(seq, rows)?,
+            In::Ack { slot, applied } => self.acknowledged(slot, applied),
+            In::NewEpoch { slot } => self.new_epoch(slot),
+            In::Push { slot } => self.push(alloc, &mut outs, slot)?,
             In::Tick => self.tick(alloc, &mut outs)?,
         }
         Ok(outs)
@@ -85,11 +100,11 @@ impl Feed {
         Ok(())
     }
 
-    fn acknowledged(&mut self, slot: u8, upto: u32)
-        ensures { self.new ≡ acknowledged self.old slot upto }
+    fn acknowledged(&mut self, slot: u8, applied: u32)
+        ensures { self.new ≡ acknowledged self.old slot applied }
     {
-        if slot < SLOTS && self.acked(slot) < upto {
-            self.acked[usize::from(slot)] = upto;
+        if slot < SLOTS && self.acked(slot) < applied {
+            self.acked[usize::from(slot)] = applied;
         }
     }
 
@@ -108,7 +123,12 @@ impl Feed {
         let acked = self.acked(slot);
         if slot < SLOTS && acked < self.end {
             let rows = rows_after(alloc, &self.filed, slot, acked)?;
-            outs.push(Out::Range(slot, acked + 1, self.end, rows))?;
+            outs.push(Out::Range {
+                slot,
+                first: acked + 1,
+                upto: self.end,
+                rows,
+            })?;
         }
         Ok(())
     }
@@ -123,20 +143,37 @@ impl Feed {
     }
 }
 
-// The rows of a slot in the segments above a number.
+// The rows of a slot in the segments above a number. It takes time by these segments, and not by those
+// below them.
 fn rows_after(
     alloc: Global,
     filed: &List<FiledDeltas>,
     slot: u8,
     number: u32,
 ) -> Mem<List<(BlockId, Entry)>>
+    requires { IsNonDecreasingBy (λ (f : FiledDeltas). f.seq) filed.now }
     ensures { IfOk result (λ rows. rows ≡ rows_after slot number filed.now) }
 {
+    let filed = filed.as_slice();
+    all_rows(alloc, &filed[count_upto(filed, number)..], slot)
+}
+
+// How many segments have no greater number than this: those after them are all that are above it.
+fn count_upto(filed: &[FiledDeltas], number: u32) -> usize
+    requires { IsNonDecreasingBy (λ (f : FiledDeltas). f.seq) filed.now }
+    ensures within { result ≤ length filed.now }
+    ensures rest { (slot : ℕ) → all_rows slot (drop result filed.now) ≡ rows_after slot number filed.now }
+{
+    filed.partition_point(|segment| segment.seq <= number)
+}
+
+// The rows of a slot in these segments.
+fn all_rows(alloc: Global, filed: &[FiledDeltas], slot: u8) -> Mem<List<(BlockId, Entry)>>
+    ensures { IfOk result (λ rows. rows ≡ all_rows slot filed.now) }
+{
     let mut rows = List::new(alloc);
-    for segment in filed.as_slice() {
-        if number < segment.seq {
-            add_slot_rows(&mut rows, slot, &segment.rows)?;
-        }
+    for segment in filed {
+        add_slot_rows(&mut rows, slot, &segment.rows)?;
     }
     Ok(rows)
 }

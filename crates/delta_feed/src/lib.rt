@@ -4,12 +4,14 @@
 //! packets, stripes or managers.
 #![tactic(auto)]
 
-pub mod events;
 pub mod feed;
+pub mod input;
 pub mod laws;
+pub mod output;
 
-pub use events::{FiledDeltas, In, Out};
-pub use feed::Feed;
+pub use feed::{Feed, FiledDeltas};
+pub use input::In;
+pub use output::Out;
 
 #[cfg(test)]
 mod tests;

@@ -4,4 +4,4 @@ use Rattle.delta_feed.proofs.Ranges.{known_untold}
 use Rattle.delta_feed.proofs.laws.push_tells_nothing_known.Goals as goal
 
 pub returns : goal.returns
-returns c = λ base history slot l knows. known_untold base history (state_after base history) slot (is_after base history) l knows
+returns c = λ base inputs slot l knows. known_untold base inputs (state_after base inputs) slot (is_after base inputs) l knows

@@ -4,4 +4,4 @@ use Rattle.delta_feed.proofs.Ranges.{lacking_told}
 use Rattle.delta_feed.proofs.laws.push_tells_what_is_lacking.Goals as goal
 
 pub returns : goal.returns
-returns c = λ base history slot l lacks. lacking_told base history (state_after base history) slot (is_after base history) l lacks
+returns c = λ base inputs slot l lacks. lacking_told base inputs (state_after base inputs) slot (is_after base inputs) l lacks

@@ -7,6 +7,6 @@ use Rattle.delta_feed.proofs.Extension.{extend}
 use Rattle.delta_feed.proofs.laws.ranges_extend_what_is_known.Goals as goal
 
 pub returns : goal.returns
-returns c = λ base history slot first upto rows told applied q at meets covers.
-    ap (first_greatest (join (deltas_between (base + 1) applied (filed_by base history)) q)) (told.joins q at)
-    ∙ extend base first applied upto q meets covers base (filed_by base history) (omega arith) (rw told.ends (filed_rising base history))
+returns c = λ base inputs slot first upto rows told applied q at meets covers.
+    ap (first_greatest (join (deltas_between (base + 1) applied (filed_by base inputs)) q)) (told.joins q at)
+    ∙ extend base first applied upto q meets covers base (filed_by base inputs) (omega arith) (rw told.ends (filed_rising base inputs))
