@@ -1,52 +1,54 @@
 -- Transitions of several steps lead to a state that follows: recalls, promises and ticks.
 use Rattle.std.proofs.Common.{◌≡◌, ◌≢◌, ℕ, ◌+◌, ◌-◌, ◌^◌, Bool, true, false, cond, ◌&&◌, ◌==◌, List, [], ◌∷◌, Some, is_some, is_none, refl, sym, ap, subst, ◌∙◌, arith, nat_lt}
-use Rattle.std.proofs.Common.{T, inl, inr, slice_set, unwrap_or}
-use Rattle.std.specs.List.{filter, list_any}
+use Rattle.std.proofs.Common.{inl, inr, slice_set, unwrap_or}
+use Rattle.std.specs.List.{filter, list_any, AllByRecursion}
+use Rattle.std.specs.List.Sorted.{IsStrictlySortedBy}
 use Rattle.std.specs.Map.{keys_of, values_of, lookup}
 use Rattle.std.specs.BTreeMap.{is_at}
-use Rattle.std.specs.Ordering.{eq_by_cmp, is_lt, is_eq, ordering_reverse}
-use Rattle.std.specs.FinMap.Entries.{is_sorted, below_all}
-use Rattle.std.specs.declared.cmp.Ordering.{Ordering}
-use Rattle.std.specs.declared.cmp.Ordering.TheVariants.{Less, Equal, Greater}
+use Rattle.std.specs.Ordering.{eq_by_cmp, is_eq, ordering_reverse}
+use Rattle.std.specs.declared.cmp.Ordering.TheVariants.{Less}
 use Rattle.std.proofs.lemmas.Bool.Decides.{nat_tests}
 use Rattle.std.proofs.lemmas.List.{get_or-set_other}
 use Rattle.std.proofs.lemmas.Cmp.{tied_itself}
 use Rattle.xfs_base.specs.declared.block.BlockId.{BlockId}
 use Rattle.xfs_base.specs.declared.token.Mode.{Mode}
-use Rattle.xfs_base.specs.declared.token.Mode.TheVariants.{Copy, Own}
+use Rattle.xfs_base.specs.declared.token.Mode.TheVariants.{Copy}
 use Rattle.xfs_base.specs.declared.token.Stamp.{Stamp}
 use Rattle.xfs_base.specs.Blocks.{block_cmp, slot_of}
 use Rattle.xfs_base.specs.Steps.{still, steps, after}
 use Rattle.xfs_base.proofs.BlockOrder.{block_cmp_total}
+use Rattle.xfs_base.specs.Modes.{is_own}
+use Rattle.xfs_base.specs.Stamps.{is_later}
+use Rattle.xfs_base.proofs.Booleans.{by_test, and_first, and_second}
+use Rattle.xfs_base.proofs.Orders.{not_later_itself}
 use Rattle.token_client.specs.declared.held.Held.{Held}
 use Rattle.token_client.specs.declared.output.Out.TheVariants.{Want}
-use Rattle.token_client.specs.Held.{unknown, same_mode, is_later, is_asking, asked, unfetched, promise_dropped}
+use Rattle.token_client.specs.Held.{unknown, is_asking, asked, unfetched, promise_dropped}
 use Rattle.token_client.specs.Laws.{IsSound, IsSoundBlock}
 use Rattle.token_client.specs.State.{TokensState, held_of, with_held, epoch_of, is_in_slot}
 use Rattle.token_client.specs.Transition.{Done, ask, is_promised, refetch, give, can_refetch, recalled_above, recalled_again, recalled, on_recalled, fetched_in, dropped_in, all_dropped_in, raised, ask_copy, may_promise, on_promise, is_spent, ask_again, wanted_in, on_tick}
-use Rattle.token_client.proofs.StampOrder.{not_later_itself}
-use Rattle.token_client.proofs.Tables.{held_of-put_itself, put_same, sorted_changed, held_of-changed, first, second}
+use Rattle.token_client.proofs.Tables.{InOrder, held_of-put_itself, put_same, in_order-changed, held_of-changed}
 use Rattle.token_client.proofs.Follows.{Follows, follows_still, follows_through, follows_steps, follows_less}
-use Rattle.token_client.proofs.SoundBlocks.{by_test, and_first, and_second, asks_by_fetch, asks_less, unheld_is_unowned, unfetched-sound, promise_dropped-sound}
+use Rattle.token_client.proofs.SoundBlocks.{asks_by_fetch, asks_less, unheld_is_unowned, unfetched-sound, promise_dropped-sound}
 use Rattle.token_client.proofs.Transitions.{epoch_at, ask-follows, same-follows, give-follows, recalled_again-follows, ask_again-follows}
 
 -- asking changes no epoch, and no stamp of the block
-ask-same : (s : TokensState) (block : BlockId) (mode : Mode) → ((ask s block mode).state.epochs ≡ s.epochs) × ((held_of (ask s block mode).state.blocks block).at ≡ (held_of s.blocks block).at)
+ask-same : (s : TokensState) (block : BlockId) (mode : Mode) → ((ask s block mode).state.epochs ≡ s.epochs) × ((held_of (ask s block mode).state.blocks block).stamp ≡ (held_of s.blocks block).stamp)
 unfolding ask
 ask-same s block mode =
     let h : Held = held_of s.blocks block in
-    by_test (λ (d : Done). (d.state.epochs ≡ s.epochs) × ((held_of d.state.blocks block).at ≡ h.at)) (nat_lt s.req (2 ^ 32 - 1))
+    by_test (λ (d : Done). (d.state.epochs ≡ s.epochs) × ((held_of d.state.blocks block).stamp ≡ h.stamp)) (nat_lt s.req (2 ^ 32 - 1))
     (record { state = record (with_held s block (asked h (s.req + 1) mode)) { req = s.req + 1 }; outs = Want block (s.req + 1) 0 mode ∷ [] }) (still s)
-    (λ t. (refl, ap (λ (g : Held). g.at) (held_of-put_itself block (asked h (s.req + 1) mode) s.blocks)))
+    (λ t. (refl, ap (λ (g : Held). g.stamp) (held_of-put_itself block (asked h (s.req + 1) mode) s.blocks)))
     (λ t. (refl, refl))
 
-refetch-same : (s : TokensState) (block : BlockId) → ((refetch s block).state.epochs ≡ s.epochs) × ((held_of (refetch s block).state.blocks block).at ≡ (held_of s.blocks block).at)
+refetch-same : (s : TokensState) (block : BlockId) → ((refetch s block).state.epochs ≡ s.epochs) × ((held_of (refetch s block).state.blocks block).stamp ≡ (held_of s.blocks block).stamp)
 unfolding refetch
 refetch-same s block =
     let h : Held = held_of s.blocks block in
     let dropped : TokensState = with_held s block (unfetched h) in
-    by_test (λ (d : Done). (d.state.epochs ≡ s.epochs) × ((held_of d.state.blocks block).at ≡ h.at)) (is_some h.fetch) (ask dropped block Copy) (still s)
-    (λ t. ((ask-same dropped block Copy).0, (ask-same dropped block Copy).1 ∙ ap (λ (g : Held). g.at) (held_of-put_itself block (unfetched h) s.blocks)))
+    by_test (λ (d : Done). (d.state.epochs ≡ s.epochs) × ((held_of d.state.blocks block).stamp ≡ h.stamp)) (is_some h.fetch) (ask dropped block Copy) (still s)
+    (λ t. ((ask-same dropped block Copy).0, (ask-same dropped block Copy).1 ∙ ap (λ (g : Held). g.stamp) (held_of-put_itself block (unfetched h) s.blocks)))
     (λ t. (refl, refl))
 
 -- what asked in a state
@@ -65,7 +67,7 @@ refetch-follows opens s p block =
     let asks : is_asking h ≡ true = asks_by_fetch h t in
     let one : Follows (Asked s) s dropped = same-follows (Asked s) s p block (unfetched h) refl (asks_less h) (unfetched-sound (epoch_at s block) h sound) in
     let two : Follows (Asked s) dropped (ask dropped block Copy).state = ask-follows (Asked s) dropped one.sound block Copy
-    (ap (λ (g : Held). same_mode g.mode Own) now ∙ unheld_is_unowned h.mode (sound.fetch_unheld t))
+    (ap (λ (g : Held). is_own g.mode) now ∙ unheld_is_unowned h.mode (sound.fetch_unheld t))
     (ap (λ (g : Held). is_none g.giving) now ∙ sound.asks_ungiven asks) (inr asks) in
     follows_less opens s (ask dropped block Copy).state (follows_through (Asked s) s dropped (ask dropped block Copy).state one two))
     (λ t. follows_still opens s p)
@@ -75,13 +77,13 @@ pub dropped-known : (s : TokensState) (slot : ℕ) (b : BlockId) → held_of (al
 dropped-known s slot b = held_of-changed (dropped_in slot) b s.blocks (by_test (λ (g : Held). g ≡ unknown) (is_in_slot slot b) (promise_dropped unknown) unknown (λ t. refl) (λ t. refl))
 
 module _ (opens : BlockId → Type 0) (s : TokensState) (p : IsSound s) where
-  recalled_above-follows : (block : BlockId) (stamp : Stamp) (keep : Bool) → stamp.epoch ≡ epoch_at s block → is_later stamp (held_of s.blocks block).at ≡ true → Follows opens s (recalled_above s block stamp keep).state
+  recalled_above-follows : (block : BlockId) (stamp : Stamp) (keep : Bool) → stamp.epoch ≡ epoch_at s block → is_later stamp (held_of s.blocks block).stamp ≡ true → Follows opens s (recalled_above s block stamp keep).state
   unfolding recalled_above
   recalled_above-follows block stamp keep promised above =
       let asked_for : Done = refetch s block in
       let given : Done = give asked_for.state block stamp keep in
       let one : Follows opens s asked_for.state = refetch-follows opens s p block in
-      let same : (asked_for.state.epochs ≡ s.epochs) × ((held_of asked_for.state.blocks block).at ≡ (held_of s.blocks block).at) = refetch-same s block in
+      let same : (asked_for.state.epochs ≡ s.epochs) × ((held_of asked_for.state.blocks block).stamp ≡ (held_of s.blocks block).stamp) = refetch-same s block in
       let two : Follows opens asked_for.state given.state = give-follows opens asked_for.state one.sound block stamp keep
       (promised ∙ sym (ap (λ es. epoch_of es (slot_of block.ino.0)) same.0)) (ap (is_later stamp) same.1 ∙ above) in
       by_test (λ (d : Done). Follows opens s d.state) (can_refetch s block) (after asked_for.outs given) (still s)
@@ -91,16 +93,16 @@ module _ (opens : BlockId → Type 0) (s : TokensState) (p : IsSound s) where
   recalled-follows : (block : BlockId) (stamp : Stamp) (keep : Bool) → stamp.epoch ≡ epoch_at s block → Follows opens s (recalled s block stamp keep).state
   unfolding recalled
   recalled-follows block stamp keep promised =
-      by_test (λ (d : Done). Follows opens s d.state) (is_later stamp (held_of s.blocks block).at) (recalled_above s block stamp keep) (recalled_again s block stamp)
+      by_test (λ (d : Done). Follows opens s d.state) (is_later stamp (held_of s.blocks block).stamp) (recalled_above s block stamp keep) (recalled_again s block stamp)
       (λ t. recalled_above-follows block stamp keep promised t)
       (λ t. recalled_again-follows opens s p block stamp)
 
   epoch_from_test : (n m : ℕ) → (n == m) ≡ true → m ≡ n
   epoch_from_test n m h = grind (arith, nat_tests)
 
-  pub on_recalled-follows : (stamp : Stamp) (block : BlockId) (keep : Bool) → Follows opens s (on_recalled s stamp block keep).state
+  pub on_recalled-follows : (block : BlockId) (stamp : Stamp) (keep : Bool) → Follows opens s (on_recalled s block stamp keep).state
   unfolding on_recalled
-  on_recalled-follows stamp block keep =
+  on_recalled-follows block stamp keep =
       by_test (λ (d : Done). Follows opens s d.state) (is_promised s block stamp) (recalled s block stamp keep) (still s)
       (λ t. recalled-follows block stamp keep (epoch_from_test (epoch_at s block) stamp.epoch t))
       (λ t. follows_still opens s p)
@@ -124,8 +126,8 @@ module _ (opens : BlockId → Type 0) (s : TokensState) (p : IsSound s) where
       apart : (n m : ℕ) → (n == m) ≡ false → n ≢ m
       apart n m f = grind (arith, nat_tests)
 
-  dropped-at : (slot : ℕ) (b : BlockId) (h : Held) → (dropped_in slot b h).at ≡ h.at
-  dropped-at slot b h = by_test (λ (g : Held). g.at ≡ h.at) (is_in_slot slot b) (promise_dropped h) h (λ t. refl) (λ t. refl)
+  dropped-at : (slot : ℕ) (b : BlockId) (h : Held) → (dropped_in slot b h).stamp ≡ h.stamp
+  dropped-at slot b h = by_test (λ (g : Held). g.stamp ≡ h.stamp) (is_in_slot slot b) (promise_dropped h) h (λ t. refl) (λ t. refl)
 
   dropped-asks : (slot : ℕ) (b : BlockId) (h : Held) → is_asking (dropped_in slot b h) ≡ true → is_asking h ≡ true
   dropped-asks slot b h = by_test (λ (g : Held). is_asking g ≡ true → is_asking h ≡ true) (is_in_slot slot b) (promise_dropped h) h (λ t a. asks_less h a) (λ t a. a)
@@ -133,10 +135,10 @@ module _ (opens : BlockId → Type 0) (s : TokensState) (p : IsSound s) where
   raised-follows : (slot epoch : ℕ) → Follows opens s (raised s slot epoch)
   raised-follows slot epoch = record {
     sound = record {
-      sorted = sorted_changed (dropped_in slot) s.blocks p.sorted;
+      sorted = in_order-changed (dropped_in slot) s.blocks p.sorted;
       each = λ b. subst (IsSoundBlock (epoch_of (slice_set s.epochs slot epoch) (slot_of b.ino.0))) (sym (dropped-known s slot b)) (dropped-sound slot epoch b);
     };
-    stamps = λ b. ap (λ (g : Held). is_later (held_of s.blocks b).at g.at) (dropped-known s slot b) ∙ ap (is_later (held_of s.blocks b).at) (dropped-at slot b (held_of s.blocks b)) ∙ not_later_itself (held_of s.blocks b).at;
+    stamps = λ b. ap (λ (g : Held). is_later (held_of s.blocks b).stamp g.stamp) (dropped-known s slot b) ∙ ap (is_later (held_of s.blocks b).stamp) (dropped-at slot b (held_of s.blocks b)) ∙ not_later_itself (held_of s.blocks b).stamp;
     counted = omega arith;
     opened = λ b a. inl (dropped-asks slot b (held_of s.blocks b) (sym (ap is_asking (dropped-known s slot b)) ∙ a));
   }
@@ -154,24 +156,19 @@ Each-weaker P Q f (x ∷ xs) h = (f x h.0, Each-weaker P Q f xs h.1)
 abbrev Agrees : List (BlockId × Held) → List (BlockId × Held) → Type 0
 Agrees table es = Each (λ e. held_of table e.0 ≡ e.1) es
 
-less_reversed : (o : Ordering) → T (is_lt o) → is_eq (ordering_reverse o) ≡ false
-less_reversed Less h = refl
-less_reversed Equal h = absurd h
-less_reversed Greater h = absurd h
-
-agrees-more : (d : BlockId × Held) (table es : List (BlockId × Held)) → T (below_all block_cmp d.0 es) → Agrees table es → Agrees (d ∷ table) es
+agrees-more : (d : BlockId × Held) (table es : List (BlockId × Held)) → AllByRecursion (λ b. block_cmp d.0 b ≡ Less) (keys_of es) → Agrees table es → Agrees (d ∷ table) es
 agrees-more d table [] below h = tt
 agrees-more d table (e ∷ es) below h =
-    let ahead : T (is_lt (block_cmp d.0 e.0)) = first (is_lt (block_cmp d.0 e.0)) (below_all block_cmp d.0 es) below in
-    let apart : eq_by_cmp block_cmp e.0 d.0 ≡ false = ap is_eq (block_cmp_total.antisymm e.0 d.0) ∙ less_reversed (block_cmp d.0 e.0) ahead in
-    (ap (λ t. unwrap_or (cond t (Some d.1) (lookup (is_at (block_cmp e.0)) table)) unknown) apart ∙ h.0, agrees-more d table es (second (is_lt (block_cmp d.0 e.0)) (below_all block_cmp d.0 es) below) h.1)
+    let apart : eq_by_cmp block_cmp e.0 d.0 ≡ false = ap is_eq (block_cmp_total.antisymm e.0 d.0) ∙ ap (λ o. is_eq (ordering_reverse o)) below.0 in
+    (ap (λ t. unwrap_or (cond t (Some d.1) (lookup (is_at (block_cmp e.0)) table)) unknown) apart ∙ h.0, agrees-more d table es below.1 h.1)
 
 -- a table in order answers with its own entries
-agrees-itself : (es : List (BlockId × Held)) → T (is_sorted block_cmp es) → Agrees es es
+agrees-itself : (es : List (BlockId × Held)) → InOrder es → Agrees es es
+unfolding IsStrictlySortedBy
 agrees-itself [] s = tt
 agrees-itself (e ∷ es) s = (
   ap (λ o. unwrap_or (cond (is_eq o) (Some e.1) (lookup (is_at (block_cmp e.0)) es)) unknown) (tied_itself block_cmp_total e.0),
-  agrees-more e es es (first (below_all block_cmp e.0 es) (is_sorted block_cmp es) s) (agrees-itself es (second (below_all block_cmp e.0 es) (is_sorted block_cmp es) s)),
+  agrees-more e es es s.0 (agrees-itself es s.1),
 )
 
 -- what is found to be fetched is being fetched
@@ -187,7 +184,7 @@ fetched-facts table slot (e ∷ es) h =
 
 -- a copy of the block may be asked for
 abbrev IsFree : TokensState → BlockId → Type 0
-IsFree s b = (same_mode (held_of s.blocks b).mode Own ≡ false) × (is_none (held_of s.blocks b).giving ≡ true)
+IsFree s b = (is_own (held_of s.blocks b).mode ≡ false) × (is_none (held_of s.blocks b).giving ≡ true)
 
 -- asking leaves others free
 ask-free : (s : TokensState) (block : BlockId) (mode : Mode) (b : BlockId) → IsFree s b → IsFree (ask s block mode).state b
@@ -196,7 +193,7 @@ ask-free s block mode b free =
     let g : Held = asked (held_of s.blocks block) (s.req + 1) mode in
     by_test (λ (d : Done). IsFree d.state b) (nat_lt s.req (2 ^ 32 - 1))
     (record { state = record (with_held s block g) { req = s.req + 1 }; outs = Want block (s.req + 1) 0 mode ∷ [] }) (still s)
-    (λ t. (put_same (λ (h : Held). same_mode h.mode Own) b block g s.blocks refl ∙ free.0, put_same (λ (h : Held). is_none h.giving) b block g s.blocks refl ∙ free.1))
+    (λ t. (put_same (λ (h : Held). is_own h.mode) b block g s.blocks refl ∙ free.0, put_same (λ (h : Held). is_none h.giving) b block g s.blocks refl ∙ free.1))
     (λ t. free)
 
 asks-follow : (opens : BlockId → Type 0) (s : TokensState) → IsSound s → (blocks : List BlockId) → Each (IsFree s) blocks → Each opens blocks → Follows opens s (steps ask_copy s blocks).state
@@ -225,4 +222,4 @@ on_promise-follows opens s p slot epoch =
     freed b f =
         let h : Held = held_of s.blocks b in
         let now : held_of (raised s slot epoch).blocks b ≡ promise_dropped h = dropped-known s slot b ∙ ap (λ t. cond t (promise_dropped h) h) f.0 in
-        (ap (λ (g : Held). same_mode g.mode Own) now ∙ unheld_is_unowned h.mode ((p.each b).fetch_unheld f.1), ap (λ (g : Held). is_none g.giving) now)
+        (ap (λ (g : Held). is_own g.mode) now ∙ unheld_is_unowned h.mode ((p.each b).fetch_unheld f.1), ap (λ (g : Held). is_none g.giving) now)

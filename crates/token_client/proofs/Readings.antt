@@ -7,15 +7,16 @@ use Rattle.xfs_base.specs.declared.token.Mode.TheVariants.{Copy}
 use Rattle.xfs_base.specs.declared.token.Stamp.{Stamp}
 use Rattle.xfs_base.specs.Steps.{still, after, steps}
 use Rattle.xfs_base.proofs.StepLoops.{steps_keep}
+use Rattle.xfs_base.specs.Stamps.{is_later}
+use Rattle.xfs_base.proofs.Booleans.{contrary, by_test, and_second}
 use Rattle.token_client.specs.declared.held.Held.{Held}
 use Rattle.token_client.specs.declared.held.Wanted.{Wanted}
 use Rattle.token_client.specs.declared.output.Out.TheVariants.{Want, Gave, Flush, Ready}
-use Rattle.token_client.specs.Held.{is_wanted, is_later, is_answer, is_dirty, is_asking, asked, unfetched, grant_taken, copied, quitted, gives_after, put_off, given_up, promise_dropped}
+use Rattle.token_client.specs.Held.{is_wanted, is_answer, is_dirty, is_asking, asked, unfetched, grant_taken, copied, unasked, gives_after, put_off, given_up, promise_dropped}
 use Rattle.token_client.specs.Readings.{EndedWantTakesNothing, core_of, DirtyKeepsItsStamp, PromiseDrops, QuitEnds}
 use Rattle.token_client.specs.State.{TokensState, held_of, with_held}
-use Rattle.token_client.specs.Transition.{Done, ask, accepts, is_promised, grant_next, on_granted, on_supplied, refetch, give, can_refetch, recalled_above, is_answered, recalled_again, recalled, on_recalled, on_quit, fetched_in, raised, ask_copy, may_promise, on_promise}
+use Rattle.token_client.specs.Transition.{Done, ask, accepts, is_promised, grant_next, on_granted, on_supplied, refetch, give, can_refetch, recalled_above, was_answered, recalled_again, recalled, on_recalled, on_quit, fetched_in, raised, ask_copy, may_promise, on_promise}
 use Rattle.token_client.proofs.Tables.{put_same, held_of-put_itself}
-use Rattle.token_client.proofs.SoundBlocks.{contrary, by_test, and_second}
 use Rattle.token_client.proofs.Promises.{dropped-known}
 
 none_wanted : (w : Option Wanted) (req : ℕ) (mode : Mode) → is_none w ≡ true → is_wanted w req mode ≡ true → false ≡ true
@@ -23,31 +24,31 @@ none_wanted None req mode h t = t
 none_wanted (Some w) req mode h t = h
 
 -- without a want nothing is accepted
-not_accepted : (s : TokensState) (stamp : Stamp) (inc req : ℕ) (block : BlockId) (mode : Mode) → is_none (held_of s.blocks block).want ≡ true → accepts s stamp inc req block mode ≡ true → false ≡ true
-not_accepted s stamp inc req block mode h t =
+not_accepted : (s : TokensState) (block : BlockId) (stamp : Stamp) (inc req : ℕ) (mode : Mode) → is_none (held_of s.blocks block).want ≡ true → accepts s block stamp inc req mode ≡ true → false ≡ true
+not_accepted s block stamp inc req mode h t =
     let g : Held = held_of s.blocks block in
-    none_wanted g.want req mode h (and_first' (is_wanted g.want req mode) (is_later stamp g.at) (and_second (is_promised s block stamp && (inc == s.inc)) (is_answer g stamp req mode) t))
+    none_wanted g.want req mode h (and_first' (is_wanted g.want req mode) (is_later stamp g.stamp) (and_second (is_promised s block stamp && (inc == s.inc)) (is_answer g stamp req mode) t))
   where
     and_first' : (a b : Bool) → (a && b) ≡ true → a ≡ true
     and_first' true b e = refl
     and_first' false b e = e
 
-granted-still : (s : TokensState) (stamp : Stamp) (inc req : ℕ) (block : BlockId) → is_none (held_of s.blocks block).want ≡ true → (mode : Mode) (entry : Entry) → on_granted s stamp inc req block mode entry ≡ still s
+granted-still : (s : TokensState) (block : BlockId) (stamp : Stamp) (inc req : ℕ) → is_none (held_of s.blocks block).want ≡ true → (mode : Mode) (entry : Entry) → on_granted s block stamp inc req mode entry ≡ still s
 unfolding on_granted
-granted-still s stamp inc req block h mode entry =
-    by_test (λ (d : Done). d ≡ still s) (accepts s stamp inc req block mode)
+granted-still s block stamp inc req h mode entry =
+    by_test (λ (d : Done). d ≡ still s) (accepts s block stamp inc req mode)
     (record { state = with_held s block (grant_taken (held_of s.blocks block) stamp mode entry); outs = grant_next block mode entry.place ∷ [] }) (still s)
-    (λ t. contrary (not_accepted s stamp inc req block mode h t)) (λ t. refl)
+    (λ t. contrary (not_accepted s block stamp inc req mode h t)) (λ t. refl)
 
-supplied-still : (s : TokensState) (stamp : Stamp) (inc req : ℕ) (block : BlockId) → is_none (held_of s.blocks block).want ≡ true → (ver : ℕ) (value : Option (List ℕ)) → on_supplied s stamp inc req block ver value ≡ still s
+supplied-still : (s : TokensState) (block : BlockId) (stamp : Stamp) (inc req : ℕ) → is_none (held_of s.blocks block).want ≡ true → (ver : ℕ) (value : Option (List ℕ)) → on_supplied s block stamp inc req ver value ≡ still s
 unfolding on_supplied
-supplied-still s stamp inc req block h ver value =
-    by_test (λ (d : Done). d ≡ still s) (accepts s stamp inc req block Copy)
+supplied-still s block stamp inc req h ver value =
+    by_test (λ (d : Done). d ≡ still s) (accepts s block stamp inc req Copy)
     (record { state = with_held s block (copied (held_of s.blocks block) stamp ver value); outs = Ready block ∷ [] }) (still s)
-    (λ t. contrary (not_accepted s stamp inc req block Copy h t)) (λ t. refl)
+    (λ t. contrary (not_accepted s block stamp inc req Copy h t)) (λ t. refl)
 
 pub ended_want_takes_nothing : EndedWantTakesNothing
-ended_want_takes_nothing s stamp inc req block h = (granted-still s stamp inc req block h, supplied-still s stamp inc req block h)
+ended_want_takes_nothing s block stamp inc req h = (granted-still s block stamp inc req h, supplied-still s block stamp inc req h)
 
 -- the block in a state, but for what it asks and gives
 abbrev core_in : TokensState → BlockId → Held
@@ -92,17 +93,17 @@ recalled_above-core s block stamp keep dirty =
 recalled_again-core : (s : TokensState) (block : BlockId) (stamp : Stamp) → core_in (recalled_again s block stamp).state block ≡ core_in s block
 unfolding recalled_again
 recalled_again-core s block stamp =
-    by_test (λ (d : Done). core_in d.state block ≡ core_in s block) (is_answered (held_of s.blocks block) stamp) (record { state = s; outs = Gave block stamp ∷ [] }) (still s) (λ t. refl) (λ t. refl)
+    by_test (λ (d : Done). core_in d.state block ≡ core_in s block) (was_answered (held_of s.blocks block) stamp) (record { state = s; outs = Gave block stamp ∷ [] }) (still s) (λ t. refl) (λ t. refl)
 
 recalled-core : (s : TokensState) (block : BlockId) (stamp : Stamp) (keep : Bool) → is_dirty (held_of s.blocks block) ≡ true → core_in (recalled s block stamp keep).state block ≡ core_in s block
 unfolding recalled
 recalled-core s block stamp keep dirty =
-    by_test (λ (d : Done). core_in d.state block ≡ core_in s block) (is_later stamp (held_of s.blocks block).at) (recalled_above s block stamp keep) (recalled_again s block stamp)
+    by_test (λ (d : Done). core_in d.state block ≡ core_in s block) (is_later stamp (held_of s.blocks block).stamp) (recalled_above s block stamp keep) (recalled_again s block stamp)
     (λ t. recalled_above-core s block stamp keep dirty) (λ t. recalled_again-core s block stamp)
 
 pub dirty_keeps_its_stamp : DirtyKeepsItsStamp
 unfolding on_recalled
-dirty_keeps_its_stamp s stamp block keep dirty =
+dirty_keeps_its_stamp s block stamp keep dirty =
     by_test (λ (d : Done). core_in d.state block ≡ core_in s block) (is_promised s block stamp) (recalled s block stamp keep) (still s) (λ t. recalled-core s block stamp keep dirty) (λ t. refl)
 
 -- a block has neither a fetch nor a recall that is put off
@@ -132,5 +133,5 @@ pub quit_ends : QuitEnds
 unfolding on_quit
 quit_ends s block =
     let h : Held = held_of s.blocks block in
-    by_test (λ (d : Done). is_asking (held_of d.state.blocks block) ≡ false) (is_asking h) (still (with_held s block (quitted h))) (still s)
-    (λ t. ap is_asking (held_of-put_itself block (quitted h) s.blocks)) (λ t. t)
+    by_test (λ (d : Done). is_asking (held_of d.state.blocks block) ≡ false) (is_asking h) (still (with_held s block (unasked h))) (still s)
+    (λ t. ap is_asking (held_of-put_itself block (unasked h) s.blocks)) (λ t. t)

@@ -9,56 +9,59 @@ use Rattle.xfs_base.specs.declared.token.Mode.TheVariants.{Nothing, Copy, Own}
 use Rattle.xfs_base.specs.declared.token.Stamp.{Stamp}
 use Rattle.xfs_base.specs.Blocks.{slot_of}
 use Rattle.xfs_base.specs.Steps.{still}
+use Rattle.xfs_base.specs.Modes.{is_held, allows, is_own}
+use Rattle.xfs_base.specs.Stamps.{is_later}
+use Rattle.xfs_base.proofs.Booleans.{contrary, by_test, and_first, and_second, not_true}
+use Rattle.xfs_base.proofs.Orders.{not_later_itself, not_later_back}
 use Rattle.token_client.specs.declared.held.Fetch.{Fetch}
 use Rattle.token_client.specs.declared.held.Held.{Held}
 use Rattle.token_client.specs.declared.held.Wanted.{Wanted}
 use Rattle.token_client.specs.declared.output.Out.{Out}
 use Rattle.token_client.specs.declared.output.Out.TheVariants.{Want, Gave, Flush, Ready}
-use Rattle.token_client.specs.Held.{same_mode, is_held, allows, is_later, is_dirty, is_asking, must_ask, is_wanted, is_answer, may_write, is_settled_by, may_end_fetch, may_evict, asked, asked_again, grant_taken, copied, fetch_ended, written, settled, let_go, quitted, put_off, given_up, gives_after, owned, copy_granted}
+use Rattle.token_client.specs.Held.{is_dirty, is_asking, must_ask, is_wanted, is_answer, may_write, is_settled_by, may_end_fetch, may_evict, asked, asked_again, grant_taken, copied, fetch_ended, written, version_settled, let_go, unasked, put_off, given_up, gives_after, owned, copy_granted}
 use Rattle.token_client.specs.Laws.{IsSound, IsSoundBlock}
 use Rattle.token_client.specs.State.{TokensState, held_of, with_held, epoch_of}
-use Rattle.token_client.specs.Transition.{Done, ask, on_need, accepts, is_promised, grant_next, on_granted, on_supplied, serves, supplies, on_forwarded, give, is_answered, recalled_again, on_wrote, on_safe, on_fetched, on_evict, on_reask, on_quit, is_spent, repeated, ask_again}
-use Rattle.token_client.proofs.StampOrder.{not_later_itself, not_later_back}
+use Rattle.token_client.specs.Transition.{Done, ask, on_need, accepts, is_promised, grant_next, on_granted, on_supplied, serves, supplies, on_forwarded, give, was_answered, recalled_again, on_wrote, on_settled, on_fetched, on_evict, on_reask, on_quit, is_spent, repeated, ask_again}
 use Rattle.token_client.proofs.Follows.{Follows, follows_still, follows_put, follows_with}
-use Rattle.token_client.proofs.SoundBlocks.{contrary, by_test, and_first, and_second, not_true, asks_by_want, asks_by_fetch, unheld_is_unowned, asked-sound, asked_again-sound, copied-sound, grant_taken-sound, fetch_ended-sound, written-sound, settled-sound, let_go-sound, quitted-sound, put_off-sound, given_up-sound}
+use Rattle.token_client.proofs.SoundBlocks.{asks_by_want, asks_by_fetch, unheld_is_unowned, asked-sound, asked_again-sound, copied-sound, grant_taken-sound, fetch_ended-sound, written-sound, version_settled-sound, let_go-sound, unasked-sound, put_off-sound, given_up-sound}
 
 -- the epoch that a block's slot is promised to
 abbrev pub epoch_at : TokensState → BlockId → ℕ
 epoch_at s block = epoch_of s.epochs (slot_of block.ino.0)
 
 -- what doesn't let a call do what it needs isn't Own
-unowned_where_needed : (held needed : Mode) → allows held needed ≡ false → same_mode held Own ≡ false
+unowned_where_needed : (held needed : Mode) → allows held needed ≡ false → is_own held ≡ false
 unowned_where_needed held Nothing h = contrary (sym h)
 unowned_where_needed held Copy h = unheld_is_unowned held h
 unowned_where_needed held Own h = h
 
 -- a want that is answered is there, and the stamp is above the block's
-answered_want : (w : Option Wanted) (req : ℕ) (mode : Mode) → is_wanted w req mode ≡ true → is_some w ≡ true
+pub answered_want : (w : Option Wanted) (req : ℕ) (mode : Mode) → is_wanted w req mode ≡ true → is_some w ≡ true
 answered_want None req mode h = h
 answered_want (Some w) req mode h = refl
 
-granted_at : (h : Held) (stamp : Stamp) (mode : Mode) (entry : Entry) → (grant_taken h stamp mode entry).at ≡ stamp
-granted_at h stamp mode entry = by_test (λ (g : Held). g.at ≡ stamp) (same_mode mode Own) (owned h stamp entry.ver) (copy_granted h stamp entry.ver entry.place) (λ t. refl) (λ t. copy_at entry.place)
+granted_at : (h : Held) (stamp : Stamp) (mode : Mode) (entry : Entry) → (grant_taken h stamp mode entry).stamp ≡ stamp
+granted_at h stamp mode entry = by_test (λ (g : Held). g.stamp ≡ stamp) (is_own mode) (owned h stamp entry.ver) (copy_granted h stamp entry.ver entry.place) (λ t. refl) (λ t. copy_at entry.place)
   where
-    copy_at : (place : Option Place) → (copy_granted h stamp entry.ver place).at ≡ stamp
+    copy_at : (place : Option Place) → (copy_granted h stamp entry.ver place).stamp ≡ stamp
     copy_at None = refl
     copy_at (Some place) = refl
 
-put_off-at : (h : Held) (stamp : Stamp) (keep : Bool) → (put_off h stamp keep).at ≡ h.at
-put_off-at h stamp keep = by_test (λ (g : Held). g.at ≡ h.at) (gives_after h.giving stamp) h (record h { giving = Some (record { stamp = stamp; keep = keep }) }) (λ t. refl) (λ t. refl)
+put_off-at : (h : Held) (stamp : Stamp) (keep : Bool) → (put_off h stamp keep).stamp ≡ h.stamp
+put_off-at h stamp keep = by_test (λ (g : Held). g.stamp ≡ h.stamp) (gives_after h.giving stamp) h (record h { giving = Some (record { stamp = stamp; keep = keep }) }) (λ t. refl) (λ t. refl)
 
 put_off-asks : (h : Held) (stamp : Stamp) (keep : Bool) → is_asking (put_off h stamp keep) ≡ true → is_asking h ≡ true
 put_off-asks h stamp keep = by_test (λ (g : Held). is_asking g ≡ true → is_asking h ≡ true) (gives_after h.giving stamp) h (record h { giving = Some (record { stamp = stamp; keep = keep }) }) (λ t a. a) (λ t a. a)
 
-given_up-at : (h : Held) (stamp : Stamp) (keep : Bool) → (given_up h stamp keep).at ≡ stamp
+given_up-at : (h : Held) (stamp : Stamp) (keep : Bool) → (given_up h stamp keep).stamp ≡ stamp
 given_up-at h stamp keep =
-    by_test (λ (g : Held). g.at ≡ stamp) (keep && is_held h.mode) (record h { mode = Copy; at = stamp; giving = None }) (record h { mode = Nothing; value = None; at = stamp; giving = None }) (λ t. refl) (λ t. refl)
+    by_test (λ (g : Held). g.stamp ≡ stamp) (keep && is_held h.mode) (record h { mode = Copy; stamp = stamp; giving = None }) (record h { mode = Nothing; value = None; stamp = stamp; giving = None }) (λ t. refl) (λ t. refl)
 
 given_up-asks : (h : Held) (stamp : Stamp) (keep : Bool) → is_asking (given_up h stamp keep) ≡ true → is_asking h ≡ true
 given_up-asks h stamp keep =
-    by_test (λ (g : Held). is_asking g ≡ true → is_asking h ≡ true) (keep && is_held h.mode) (record h { mode = Copy; at = stamp; giving = None }) (record h { mode = Nothing; value = None; at = stamp; giving = None }) (λ t a. a) (λ t a. a)
+    by_test (λ (g : Held). is_asking g ≡ true → is_asking h ≡ true) (keep && is_held h.mode) (record h { mode = Copy; stamp = stamp; giving = None }) (record h { mode = Nothing; value = None; stamp = stamp; giving = None }) (λ t a. a) (λ t a. a)
 
-fetch_ended-at : (h : Held) (fetch : Option Fetch) (value : Option (List ℕ)) → (fetch_ended h fetch value).at ≡ h.at
+fetch_ended-at : (h : Held) (fetch : Option Fetch) (value : Option (List ℕ)) → (fetch_ended h fetch value).stamp ≡ h.stamp
 fetch_ended-at h None value = refl
 fetch_ended-at h (Some fetch) value = refl
 
@@ -70,14 +73,14 @@ module _ (opens : BlockId → Type 0) (s : TokensState) (p : IsSound s) where
   stays = follows_still opens s p
 
   -- a want may be opened for a block that isn't owned and isn't being given up
-  pub ask-follows : (block : BlockId) (mode : Mode) → same_mode (held_of s.blocks block).mode Own ≡ false → is_none (held_of s.blocks block).giving ≡ true → (is_asking (held_of s.blocks block) ≡ true) ⊎ opens block → At (ask s block mode)
+  pub ask-follows : (block : BlockId) (mode : Mode) → is_own (held_of s.blocks block).mode ≡ false → is_none (held_of s.blocks block).giving ≡ true → (is_asking (held_of s.blocks block) ≡ true) ⊎ opens block → At (ask s block mode)
   unfolding ask
   ask-follows block mode unowned ungiven why =
       let h : Held = held_of s.blocks block in
       by_test At (nat_lt s.req (2 ^ 32 - 1))
       (record { state = record (with_held s block (asked h (s.req + 1) mode)) { req = s.req + 1 }; outs = Want block (s.req + 1) 0 mode ∷ [] }) (still s)
       (λ t. follows_put opens s block (asked h (s.req + 1) mode) (s.req + 1) p (omega arith)
-      (record { sound = asked-sound (epoch_at s block) h (p.each block) (s.req + 1) mode unowned ungiven; stamp = not_later_itself h.at; opened = λ a. why }))
+      (record { sound = asked-sound (epoch_at s block) h (p.each block) (s.req + 1) mode unowned ungiven; stamp = not_later_itself h.stamp; opened = λ a. why }))
       (λ t. stays)
 
   pub on_need-follows : (block : BlockId) (mode : Mode) → opens block → At (on_need s block mode)
@@ -91,74 +94,74 @@ module _ (opens : BlockId → Type 0) (s : TokensState) (p : IsSound s) where
       (λ t. stays)
 
   -- what is put for an answer to the open want follows, where no want and no fetch is opened by it
-  pub answer-follows : (stamp : Stamp) (inc req : ℕ) (block : BlockId) (mode : Mode) (g : Held) (outs : List Out) → accepts s stamp inc req block mode ≡ true → g.at ≡ stamp
+  pub answer-follows : (block : BlockId) (stamp : Stamp) (inc req : ℕ) (mode : Mode) (g : Held) (outs : List Out) → accepts s block stamp inc req mode ≡ true → g.stamp ≡ stamp
       → (is_asking (held_of s.blocks block) ≡ true → IsSoundBlock (epoch_at s block) g) → At (record { state = with_held s block g; outs = outs })
-  answer-follows stamp inc req block mode g outs t at sound =
+  answer-follows block stamp inc req mode g outs t at sound =
       let h : Held = held_of s.blocks block in
       let answer : is_answer h stamp req mode ≡ true = and_second (is_promised s block stamp && (inc == s.inc)) (is_answer h stamp req mode) t in
-      let asks : is_asking h ≡ true = asks_by_want h (answered_want h.want req mode (and_first (is_wanted h.want req mode) (is_later stamp h.at) answer)) in
-      let above : is_later stamp h.at ≡ true = and_second (is_wanted h.want req mode) (is_later stamp h.at) answer in
-      follows_with opens s block g p (record { sound = sound asks; stamp = ap (is_later h.at) at ∙ not_later_back h.at stamp above; opened = λ a. inl asks })
+      let asks : is_asking h ≡ true = asks_by_want h (answered_want h.want req mode (and_first (is_wanted h.want req mode) (is_later stamp h.stamp) answer)) in
+      let above : is_later stamp h.stamp ≡ true = and_second (is_wanted h.want req mode) (is_later stamp h.stamp) answer in
+      follows_with opens s block g p (record { sound = sound asks; stamp = ap (is_later h.stamp) at ∙ not_later_back h.stamp stamp above; opened = λ a. inl asks })
 
-  pub on_granted-follows : (stamp : Stamp) (inc req : ℕ) (block : BlockId) (mode : Mode) (entry : Entry) → At (on_granted s stamp inc req block mode entry)
+  pub on_granted-follows : (block : BlockId) (stamp : Stamp) (inc req : ℕ) (mode : Mode) (entry : Entry) → At (on_granted s block stamp inc req mode entry)
   unfolding on_granted
-  on_granted-follows stamp inc req block mode entry =
+  on_granted-follows block stamp inc req mode entry =
       let h : Held = held_of s.blocks block in
       let outs : List Out = grant_next block mode entry.place ∷ [] in
-      by_test At (accepts s stamp inc req block mode) (record { state = with_held s block (grant_taken h stamp mode entry); outs = outs }) (still s)
-      (λ t. answer-follows stamp inc req block mode (grant_taken h stamp mode entry) outs t (granted_at h stamp mode entry) (grant_taken-sound (epoch_at s block) h (p.each block) stamp mode entry))
+      by_test At (accepts s block stamp inc req mode) (record { state = with_held s block (grant_taken h stamp mode entry); outs = outs }) (still s)
+      (λ t. answer-follows block stamp inc req mode (grant_taken h stamp mode entry) outs t (granted_at h stamp mode entry) (grant_taken-sound (epoch_at s block) h (p.each block) stamp mode entry))
       (λ t. stays)
 
-  pub on_supplied-follows : (stamp : Stamp) (inc req : ℕ) (block : BlockId) (ver : ℕ) (value : Option (List ℕ)) → At (on_supplied s stamp inc req block ver value)
+  pub on_supplied-follows : (block : BlockId) (stamp : Stamp) (inc req : ℕ) (ver : ℕ) (value : Option (List ℕ)) → At (on_supplied s block stamp inc req ver value)
   unfolding on_supplied
-  on_supplied-follows stamp inc req block ver value =
+  on_supplied-follows block stamp inc req ver value =
       let h : Held = held_of s.blocks block in
-      by_test At (accepts s stamp inc req block Copy) (record { state = with_held s block (copied h stamp ver value); outs = Ready block ∷ [] }) (still s)
-      (λ t. answer-follows stamp inc req block Copy (copied h stamp ver value) (Ready block ∷ []) t refl
+      by_test At (accepts s block stamp inc req Copy) (record { state = with_held s block (copied h stamp ver value); outs = Ready block ∷ [] }) (still s)
+      (λ t. answer-follows block stamp inc req Copy (copied h stamp ver value) (Ready block ∷ []) t refl
       (λ a. copied-sound (epoch_at s block) h (p.each block) stamp ver value ((p.each block).asks_ungiven a)))
       (λ t. stays)
 
-  pub on_forwarded-follows : (stamp : Stamp) (block : BlockId) (ver : ℕ) → At (on_forwarded s stamp block ver)
+  pub on_forwarded-follows : (block : BlockId) (stamp : Stamp) (ver : ℕ) → At (on_forwarded s block stamp ver)
   unfolding on_forwarded
-  on_forwarded-follows stamp block ver =
-      by_test At (serves s stamp block ver) (record { state = s; outs = supplies block ver (held_of s.blocks block).value }) (still s) (λ t. stays) (λ t. stays)
+  on_forwarded-follows block stamp ver =
+      by_test At (serves s block stamp ver) (record { state = s; outs = supplies block ver (held_of s.blocks block).value }) (still s) (λ t. stays) (λ t. stays)
 
   -- what leaves the stamp, and opens no want and no fetch, follows where it is sound
-  pub same-follows : (block : BlockId) (g : Held) → g.at ≡ (held_of s.blocks block).at → (is_asking g ≡ true → is_asking (held_of s.blocks block) ≡ true) → IsSoundBlock (epoch_at s block) g → Follows opens s (with_held s block g)
+  pub same-follows : (block : BlockId) (g : Held) → g.stamp ≡ (held_of s.blocks block).stamp → (is_asking g ≡ true → is_asking (held_of s.blocks block) ≡ true) → IsSoundBlock (epoch_at s block) g → Follows opens s (with_held s block g)
   same-follows block g at asks sound =
       let h : Held = held_of s.blocks block in
-      follows_with opens s block g p (record { sound = sound; stamp = ap (is_later h.at) at ∙ not_later_itself h.at; opened = λ a. inl (asks a) })
+      follows_with opens s block g p (record { sound = sound; stamp = ap (is_later h.stamp) at ∙ not_later_itself h.stamp; opened = λ a. inl (asks a) })
 
-  pub give-follows : (block : BlockId) (stamp : Stamp) (keep : Bool) → stamp.epoch ≡ epoch_at s block → is_later stamp (held_of s.blocks block).at ≡ true → At (give s block stamp keep)
+  pub give-follows : (block : BlockId) (stamp : Stamp) (keep : Bool) → stamp.epoch ≡ epoch_at s block → is_later stamp (held_of s.blocks block).stamp ≡ true → At (give s block stamp keep)
   unfolding give
   give-follows block stamp keep promised above =
       let h : Held = held_of s.blocks block in
       by_test At (is_dirty h) (record { state = with_held s block (put_off h stamp keep); outs = Flush block ∷ [] }) (record { state = with_held s block (given_up h stamp keep); outs = Gave block stamp ∷ [] })
       (λ t. same-follows block (put_off h stamp keep) (put_off-at h stamp keep) (put_off-asks h stamp keep) (put_off-sound (epoch_at s block) h (p.each block) stamp keep t promised above))
       (λ t. follows_with opens s block (given_up h stamp keep) p
-      (record { sound = given_up-sound (epoch_at s block) h (p.each block) stamp keep t; stamp = ap (is_later h.at) (given_up-at h stamp keep) ∙ not_later_back h.at stamp above; opened = λ a. inl (given_up-asks h stamp keep a) }))
+      (record { sound = given_up-sound (epoch_at s block) h (p.each block) stamp keep t; stamp = ap (is_later h.stamp) (given_up-at h stamp keep) ∙ not_later_back h.stamp stamp above; opened = λ a. inl (given_up-asks h stamp keep a) }))
 
   pub recalled_again-follows : (block : BlockId) (stamp : Stamp) → At (recalled_again s block stamp)
   unfolding recalled_again
-  recalled_again-follows block stamp = by_test At (is_answered (held_of s.blocks block) stamp) (record { state = s; outs = Gave block stamp ∷ [] }) (still s) (λ t. stays) (λ t. stays)
+  recalled_again-follows block stamp = by_test At (was_answered (held_of s.blocks block) stamp) (record { state = s; outs = Gave block stamp ∷ [] }) (still s) (λ t. stays) (λ t. stays)
 
   pub on_wrote-follows : (block : BlockId) (value : Option (List ℕ)) → At (on_wrote s block value)
   unfolding on_wrote
   on_wrote-follows block value =
       let h : Held = held_of s.blocks block in
-      let free : Bool = same_mode h.mode Own && is_none h.giving in
+      let free : Bool = is_own h.mode && is_none h.giving in
       by_test At (may_write h) (still (with_held s block (written h value))) (still s)
       (λ t. same-follows block (written h value) refl (λ a. a)
-      (written-sound (epoch_at s block) h (p.each block) value (and_first (same_mode h.mode Own) (is_none h.giving) (and_first free (nat_lt h.ver (2 ^ 64 - 1)) t))))
+      (written-sound (epoch_at s block) h (p.each block) value (and_first (is_own h.mode) (is_none h.giving) (and_first free (nat_lt h.ver (2 ^ 64 - 1)) t))))
       (λ t. stays)
 
-  pub on_safe-follows : (block : BlockId) (ver : ℕ) → At (on_safe s block ver)
-  unfolding on_safe
-  on_safe-follows block ver =
+  pub on_settled-follows : (block : BlockId) (ver : ℕ) → At (on_settled s block ver)
+  unfolding on_settled
+  on_settled-follows block ver =
       let h : Held = held_of s.blocks block in
-      by_test At (is_settled_by h ver) (still (with_held s block (settled h ver))) (still s)
-      (λ t. same-follows block (settled h ver) refl (λ a. a)
-      (settled-sound (epoch_at s block) h (p.each block) ver (and_first (nat_lt h.safe ver) (nat_le ver h.ver) t) (and_second (nat_lt h.safe ver) (nat_le ver h.ver) t)))
+      by_test At (is_settled_by h ver) (still (with_held s block (version_settled h ver))) (still s)
+      (λ t. same-follows block (version_settled h ver) refl (λ a. a)
+      (version_settled-sound (epoch_at s block) h (p.each block) ver (and_first (nat_lt h.settled ver) (nat_le ver h.ver) t) (and_second (nat_lt h.settled ver) (nat_le ver h.ver) t)))
       (λ t. stays)
 
   pub on_fetched-follows : (block : BlockId) (value : Option (List ℕ)) → At (on_fetched s block value)
@@ -195,7 +198,7 @@ module _ (opens : BlockId → Type 0) (s : TokensState) (p : IsSound s) where
   unfolding on_quit
   on_quit-follows block =
       let h : Held = held_of s.blocks block in
-      by_test At (is_asking h) (still (with_held s block (quitted h))) (still s) (λ t. same-follows block (quitted h) refl (λ a. t) (quitted-sound (epoch_at s block) h (p.each block))) (λ t. stays)
+      by_test At (is_asking h) (still (with_held s block (unasked h))) (still s) (λ t. same-follows block (unasked h) refl (λ a. t) (unasked-sound (epoch_at s block) h (p.each block))) (λ t. stays)
 
   repeated-follows : (block : BlockId) (w : Option Wanted) → (is_some w ≡ true → is_asking (held_of s.blocks block) ≡ true) → At (repeated s block w)
   repeated-follows block None asks = stays

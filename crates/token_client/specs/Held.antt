@@ -1,11 +1,12 @@
 -- What a client knows of one block, and how each event changes it.
-use Rattle.std.specs.Prelude.{ℕ, ◌+◌, ◌-◌, ◌^◌, Bool, true, false, ◌&&◌, ◌||◌, ◌==◌, nat_lt, nat_le, not, List, Option, Some, None, is_some, is_none, if◌then◌else◌}
+use Rattle.std.specs.Prelude.{ℕ, ◌+◌, ◌-◌, ◌^◌, Bool, false, ◌&&◌, ◌||◌, ◌==◌, nat_lt, nat_le, not, List, Option, Some, None, is_some, is_none, if◌then◌else◌}
 use Rattle.xfs_base.specs.declared.entry.Entry.{Entry}
 use Rattle.xfs_base.specs.declared.entry.Place.{Place}
 use Rattle.xfs_base.specs.declared.token.Mode.{Mode}
 use Rattle.xfs_base.specs.declared.token.Mode.TheVariants.{Nothing, Copy, Own}
 use Rattle.xfs_base.specs.declared.token.Stamp.{Stamp}
-use Rattle.xfs_base.specs.Stamps.{stamp_cmp, is_greater}
+use Rattle.xfs_base.specs.Modes.{is_held, is_own, same_mode, allows}
+use Rattle.xfs_base.specs.Stamps.{is_later}
 use Rattle.token_client.specs.declared.held.Fetch.{Fetch}
 use Rattle.token_client.specs.declared.held.Giving.{Giving}
 use Rattle.token_client.specs.declared.held.Held.{Held}
@@ -13,39 +14,11 @@ use Rattle.token_client.specs.declared.held.Wanted.{Wanted}
 
 -- nothing is known of a block that no event spoke of
 abbrev pub unknown : Held
-unknown = record { mode = Nothing; ver = 0; safe = 0; value = None; at = record { epoch = 0; turn = 0 }; want = None; fetch = None; giving = None }
-
--- whether one stamp is later than another
-abbrev pub is_later : Stamp → Stamp → Bool
-is_later a b = is_greater (stamp_cmp a b)
-
--- whether two modes are one
-abbrev pub same_mode : Mode → Mode → Bool
-same_mode Nothing Nothing = true
-same_mode Nothing Copy = false
-same_mode Nothing Own = false
-same_mode Copy Nothing = false
-same_mode Copy Copy = true
-same_mode Copy Own = false
-same_mode Own Nothing = false
-same_mode Own Copy = false
-same_mode Own Own = true
-
--- whether a mode is Copy or Own
-abbrev pub is_held : Mode → Bool
-is_held Nothing = false
-is_held Copy = true
-is_held Own = true
-
--- whether a mode lets a call do what needs another: Own lets it read and write, Copy read
-abbrev pub allows : Mode → Mode → Bool
-allows mode Nothing = true
-allows mode Copy = is_held mode
-allows mode Own = same_mode mode Own
+unknown = record { mode = Nothing; ver = 0; settled = 0; value = None; stamp = record { epoch = 0; turn = 0 }; want = None; fetch = None; giving = None }
 
 -- whether the newest version isn't settled
 abbrev pub is_dirty : Held → Bool
-is_dirty h = nat_lt h.safe h.ver
+is_dirty h = nat_lt h.settled h.ver
 
 -- whether a want or a fetch is open
 abbrev pub is_asking : Held → Bool
@@ -62,15 +35,15 @@ is_wanted (Some w) req mode = (w.req == req) && same_mode w.mode mode
 
 -- whether what came with this stamp answers the open want
 abbrev pub is_answer : Held → Stamp → ℕ → Mode → Bool
-is_answer h stamp req mode = is_wanted h.want req mode && is_later stamp h.at
+is_answer h stamp req mode = is_wanted h.want req mode && is_later stamp h.stamp
 
 -- whether the block may be written: it is owned and nobody waits to be given it
 abbrev pub may_write : Held → Bool
-may_write h = (same_mode h.mode Own && is_none h.giving) && nat_lt h.ver (2 ^ 64 - 1)
+may_write h = (is_own h.mode && is_none h.giving) && nat_lt h.ver (2 ^ 64 - 1)
 
 -- whether a version that is settled is news
 abbrev pub is_settled_by : Held → ℕ → Bool
-is_settled_by h ver = nat_lt h.safe ver && nat_le ver h.ver
+is_settled_by h ver = nat_lt h.settled ver && nat_le ver h.ver
 
 -- whether what was read ends the fetch: a fetch goes on only while there is no want
 abbrev pub may_end_fetch : Held → Bool
@@ -90,15 +63,15 @@ asked_again h w = record h { want = Some (record w { again = w.again + 1 }) }
 
 -- owned at the granted version, with no value until the call writes
 abbrev pub owned : Held → Stamp → ℕ → Held
-owned h stamp ver = record h { mode = Own; ver = ver; safe = ver; value = None; at = stamp; want = None; fetch = None }
+owned h stamp ver = record h { mode = Own; ver = ver; settled = ver; value = None; stamp = stamp; want = None; fetch = None }
 
 -- a copy of a settled version
 abbrev pub copied : Held → Stamp → ℕ → Option (List ℕ) → Held
-copied h stamp ver value = record h { mode = Copy; ver = ver; safe = ver; value = Some value; at = stamp; want = None; fetch = None }
+copied h stamp ver value = record h { mode = Copy; ver = ver; settled = ver; value = Some value; stamp = stamp; want = None; fetch = None }
 
 -- a copy that has to be read first
 abbrev pub fetched_from : Held → Stamp → ℕ → Place → Held
-fetched_from h stamp ver place = record h { mode = Nothing; value = None; at = stamp; want = None; fetch = Some (record { ver = ver; place = place }) }
+fetched_from h stamp ver place = record h { mode = Nothing; value = None; stamp = stamp; want = None; fetch = Some (record { ver = ver; place = place }) }
 
 -- a granted copy: of no place, it is of an absent version
 abbrev pub copy_granted : Held → Stamp → ℕ → Option Place → Held
@@ -107,28 +80,28 @@ copy_granted h stamp ver (Some place) = fetched_from h stamp ver place
 
 -- what a grant makes of the block
 abbrev pub grant_taken : Held → Stamp → Mode → Entry → Held
-grant_taken h stamp mode entry = if same_mode mode Own then owned h stamp entry.ver else copy_granted h stamp entry.ver entry.place
+grant_taken h stamp mode entry = if is_own mode then owned h stamp entry.ver else copy_granted h stamp entry.ver entry.place
 
 -- the fetch ends with the value that was read
 abbrev pub fetch_ended : Held → Option Fetch → Option (List ℕ) → Held
 fetch_ended h None value = h
-fetch_ended h (Some fetch) value = record h { mode = Copy; ver = fetch.ver; safe = fetch.ver; value = Some value; fetch = None }
+fetch_ended h (Some fetch) value = record h { mode = Copy; ver = fetch.ver; settled = fetch.ver; value = Some value; fetch = None }
 
 -- a new version
 abbrev pub written : Held → Option (List ℕ) → Held
 written h value = record h { ver = h.ver + 1; value = Some value }
 
 -- a version is known to be settled
-abbrev pub settled : Held → ℕ → Held
-settled h ver = record h { safe = ver }
+abbrev pub version_settled : Held → ℕ → Held
+version_settled h ver = record h { settled = ver }
 
 -- nothing is held any more
 abbrev pub let_go : Held → Held
 let_go h = record h { mode = Nothing; value = None }
 
 -- want and fetch are over
-abbrev pub quitted : Held → Held
-quitted h = record h { want = None; fetch = None }
+abbrev pub unasked : Held → Held
+unasked h = record h { want = None; fetch = None }
 
 -- the fetch is dropped
 abbrev pub unfetched : Held → Held
@@ -151,5 +124,5 @@ put_off h stamp keep = if gives_after h.giving stamp then h else record h { givi
 abbrev pub given_up : Held → Stamp → Bool → Held
 given_up h stamp keep =
     if keep && is_held h.mode
-    then record h { mode = Copy; at = stamp; giving = None }
-    else record h { mode = Nothing; value = None; at = stamp; giving = None }
+    then record h { mode = Copy; stamp = stamp; giving = None }
+    else record h { mode = Nothing; value = None; stamp = stamp; giving = None }

@@ -14,9 +14,9 @@ use Rattle.token_client.specs.Transition.{transition, may_promise}
 -- A block without a want takes no grant and no supply.
 abbrev pub EndedWantTakesNothing : Type 0
 EndedWantTakesNothing =
-    (s : TokensState) (stamp : Stamp) (inc req : ℕ) (block : BlockId) → is_none (held_of s.blocks block).want ≡ true
-    → ((mode : Mode) (entry : Entry) → transition s (Granted stamp inc req block mode entry) ≡ still s)
-    × ((ver : ℕ) (value : Option (List ℕ)) → transition s (Supplied stamp inc req block ver value) ≡ still s)
+    (s : TokensState) (block : BlockId) (stamp : Stamp) (inc req : ℕ) → is_none (held_of s.blocks block).want ≡ true
+    → ((mode : Mode) (entry : Entry) → transition s (Granted block stamp inc req mode entry) ≡ still s)
+    × ((ver : ℕ) (value : Option (List ℕ)) → transition s (Supplied block stamp inc req ver value) ≡ still s)
 
 -- the block but for its want, its fetch and the recall that is put off: mode, versions, value and stamp
 abbrev pub core_of : Held → Held
@@ -25,8 +25,8 @@ core_of h = record h { want = None; fetch = None; giving = None }
 -- A dirty block that is recalled keeps its stamp, its mode, its versions and its value.
 abbrev pub DirtyKeepsItsStamp : Type 0
 DirtyKeepsItsStamp =
-    (s : TokensState) (stamp : Stamp) (block : BlockId) (keep : Bool) → is_dirty (held_of s.blocks block) ≡ true
-    → core_of (held_of (transition s (Recalled stamp block keep)).state.blocks block) ≡ core_of (held_of s.blocks block)
+    (s : TokensState) (block : BlockId) (stamp : Stamp) (keep : Bool) → is_dirty (held_of s.blocks block) ≡ true
+    → core_of (held_of (transition s (Recalled block stamp keep)).state.blocks block) ≡ core_of (held_of s.blocks block)
 
 -- Once a promise is taken, no block of its slot is being fetched or given up.
 abbrev pub PromiseDrops : Type 0
@@ -34,6 +34,6 @@ PromiseDrops =
     (s : TokensState) (slot epoch : ℕ) (block : BlockId) → may_promise s slot epoch ≡ true → is_in_slot slot block ≡ true
     → (is_none (held_of (transition s (Promise slot epoch)).state.blocks block).fetch ≡ true) × (is_none (held_of (transition s (Promise slot epoch)).state.blocks block).giving ≡ true)
 
--- A block that is quitted has neither a want nor a fetch.
+-- A block whose call answers that it is lost has neither a want nor a fetch.
 abbrev pub QuitEnds : Type 0
 QuitEnds = (s : TokensState) (block : BlockId) → is_asking (held_of (transition s (Quit block)).state.blocks block) ≡ false

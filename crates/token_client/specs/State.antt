@@ -6,8 +6,9 @@ use Rattle.std.specs.List.{filter}
 use Rattle.xfs_base.specs.declared.block.BlockId.{BlockId}
 use Rattle.xfs_base.specs.declared.token.Mode.{Mode}
 use Rattle.xfs_base.specs.Blocks.{block_cmp, slot_of}
+use Rattle.xfs_base.specs.Modes.{is_held}
 use Rattle.token_client.specs.declared.held.Held.{Held}
-use Rattle.token_client.specs.Held.{unknown, is_dirty, is_held}
+use Rattle.token_client.specs.Held.{unknown, is_dirty}
 
 -- the incarnation of the client, the promised epoch of each slot, the number of the last want, and what
 -- is known of each block, by block
@@ -18,8 +19,8 @@ pub record TokensState : Type 0 where
   pub blocks : List (BlockId × Held)
 
 -- nothing was asked, and nothing is known of any block
-abbrev pub start_state : ℕ → List ℕ → TokensState
-start_state inc epochs = record { inc = inc; epochs = epochs; req = 0; blocks = [] }
+abbrev pub started : ℕ → List ℕ → TokensState
+started inc epochs = record { inc = inc; epochs = epochs; req = 0; blocks = [] }
 
 -- what is known of a block
 abbrev pub held_of : List (BlockId × Held) → BlockId → Held

@@ -6,17 +6,19 @@ use Rattle.xfs_base.specs.declared.block.BlockId.{BlockId}
 use Rattle.xfs_base.specs.declared.entry.Entry.{Entry}
 use Rattle.xfs_base.specs.declared.entry.Place.{Place}
 use Rattle.xfs_base.specs.declared.token.Mode.{Mode}
-use Rattle.xfs_base.specs.declared.token.Mode.TheVariants.{Copy, Own}
+use Rattle.xfs_base.specs.declared.token.Mode.TheVariants.{Copy}
 use Rattle.xfs_base.specs.declared.token.Stamp.{Stamp}
 use Rattle.xfs_base.specs.Blocks.{slot_of}
 use Rattle.xfs_base.specs.Steps.{Stepped, still, after, steps}
+use Rattle.xfs_base.specs.Modes.{same_mode, is_own}
+use Rattle.xfs_base.specs.Stamps.{is_later}
 use Rattle.token_client.specs.declared.held.Held.{Held}
 use Rattle.token_client.specs.declared.held.Wanted.{Wanted}
 use Rattle.token_client.specs.declared.input.In.{In}
-use Rattle.token_client.specs.declared.input.In.TheVariants.{Need, Granted, Supplied, Forwarded, Recalled, Wrote, Safe, Fetched, Evict, Reask, Quit, Promise, Tick}
+use Rattle.token_client.specs.declared.input.In.TheVariants.{Need, Granted, Supplied, Forwarded, Recalled, Wrote, Settled, Fetched, Evict, Reask, Quit, Promise, Tick}
 use Rattle.token_client.specs.declared.output.Out.{Out}
 use Rattle.token_client.specs.declared.output.Out.TheVariants.{Want, Gave, Supply, Flush, Read, Ready}
-use Rattle.token_client.specs.Held.{same_mode, is_later, is_dirty, is_asking, must_ask, is_answer, may_write, is_settled_by, may_end_fetch, may_evict, asked, asked_again, grant_taken, copied, fetch_ended, written, settled, let_go, quitted, unfetched, promise_dropped, put_off, given_up}
+use Rattle.token_client.specs.Held.{is_dirty, is_asking, must_ask, is_answer, may_write, is_settled_by, may_end_fetch, may_evict, asked, asked_again, grant_taken, copied, fetch_ended, written, version_settled, let_go, unasked, unfetched, promise_dropped, put_off, given_up}
 use Rattle.token_client.specs.State.{TokensState, held_of, with_held, epoch_of, is_in_slot}
 
 -- a state, and what was given on the way to it
@@ -41,8 +43,8 @@ on_need s block mode = if must_ask (held_of s.blocks block) mode then ask s bloc
 
 -- An answer counts in the promised epoch, in this incarnation, for the open want, and with a stamp above
 -- the block's.
-abbrev pub accepts : TokensState → Stamp → ℕ → ℕ → BlockId → Mode → Bool
-accepts s stamp inc req block mode = is_promised s block stamp && (inc == s.inc) && is_answer (held_of s.blocks block) stamp req mode
+abbrev pub accepts : TokensState → BlockId → Stamp → ℕ → ℕ → Mode → Bool
+accepts s block stamp inc req mode = is_promised s block stamp && (inc == s.inc) && is_answer (held_of s.blocks block) stamp req mode
 
 -- what is next after a grant: a copy that lies in a log has to be read first
 abbrev pub copy_next : BlockId → Option Place → Out
@@ -50,34 +52,34 @@ copy_next block None = Ready block
 copy_next block (Some place) = Read block place
 
 abbrev pub grant_next : BlockId → Mode → Option Place → Out
-grant_next block mode place = if same_mode mode Own then Ready block else copy_next block place
+grant_next block mode place = if is_own mode then Ready block else copy_next block place
 
 -- A grant ends the want. Own is owned at once, and the waiting call runs on; so it does with a copy of an
 -- absent version. A copy with a place is fetched from there.
-unfoldable pub on_granted : TokensState → Stamp → ℕ → ℕ → BlockId → Mode → Entry → Done
-on_granted s stamp inc req block mode entry =
-    if accepts s stamp inc req block mode
+unfoldable pub on_granted : TokensState → BlockId → Stamp → ℕ → ℕ → Mode → Entry → Done
+on_granted s block stamp inc req mode entry =
+    if accepts s block stamp inc req mode
     then record { state = with_held s block (grant_taken (held_of s.blocks block) stamp mode entry); outs = grant_next block mode entry.place ∷ [] }
     else still s
 
 -- A supply ends a want of a copy, and a fetch; the waiting call runs on.
-unfoldable pub on_supplied : TokensState → Stamp → ℕ → ℕ → BlockId → ℕ → Option (List ℕ) → Done
-on_supplied s stamp inc req block ver value =
-    if accepts s stamp inc req block Copy
+unfoldable pub on_supplied : TokensState → BlockId → Stamp → ℕ → ℕ → ℕ → Option (List ℕ) → Done
+on_supplied s block stamp inc req ver value =
+    if accepts s block stamp inc req Copy
     then record { state = with_held s block (copied (held_of s.blocks block) stamp ver value); outs = Ready block ∷ [] }
     else still s
 
 -- whether a forward of the promised epoch asks for the very version that is held as a copy
-abbrev pub serves : TokensState → Stamp → BlockId → ℕ → Bool
-serves s stamp block ver = is_promised s block stamp && same_mode (held_of s.blocks block).mode Copy && ((held_of s.blocks block).ver == ver)
+abbrev pub serves : TokensState → BlockId → Stamp → ℕ → Bool
+serves s block stamp ver = is_promised s block stamp && same_mode (held_of s.blocks block).mode Copy && ((held_of s.blocks block).ver == ver)
 
 abbrev pub supplies : BlockId → ℕ → Option (Option (List ℕ)) → List Out
 supplies block ver None = []
 supplies block ver (Some value) = Supply block ver value ∷ []
 
 -- A forward has the block supplied with its own value, and changes nothing.
-unfoldable pub on_forwarded : TokensState → Stamp → BlockId → ℕ → Done
-on_forwarded s stamp block ver = if serves s stamp block ver then record { state = s; outs = supplies block ver (held_of s.blocks block).value } else still s
+unfoldable pub on_forwarded : TokensState → BlockId → Stamp → ℕ → Done
+on_forwarded s block stamp ver = if serves s block stamp ver then record { state = s; outs = supplies block ver (held_of s.blocks block).value } else still s
 
 -- A call whose fetch is dropped wants its copy again, with a new number.
 unfoldable pub refetch : TokensState → BlockId → Done
@@ -103,20 +105,20 @@ recalled_above s block stamp keep =
     else still s
 
 -- whether a recall was answered before, and nothing is being given
-abbrev pub is_answered : Held → Stamp → Bool
-is_answered h stamp = ((h.at.epoch == stamp.epoch) && (h.at.turn == stamp.turn)) && is_none h.giving
+abbrev pub was_answered : Held → Stamp → Bool
+was_answered h stamp = ((h.stamp.epoch == stamp.epoch) && (h.stamp.turn == stamp.turn)) && is_none h.giving
 
 -- A recall that was answered is answered again. An older one is dropped.
 unfoldable pub recalled_again : TokensState → BlockId → Stamp → Done
-recalled_again s block stamp = if is_answered (held_of s.blocks block) stamp then record { state = s; outs = Gave block stamp ∷ [] } else still s
+recalled_again s block stamp = if was_answered (held_of s.blocks block) stamp then record { state = s; outs = Gave block stamp ∷ [] } else still s
 
 -- a recall of the promised epoch, by where its stamp stands to the block's
 unfoldable pub recalled : TokensState → BlockId → Stamp → Bool → Done
-recalled s block stamp keep = if is_later stamp (held_of s.blocks block).at then recalled_above s block stamp keep else recalled_again s block stamp
+recalled s block stamp keep = if is_later stamp (held_of s.blocks block).stamp then recalled_above s block stamp keep else recalled_again s block stamp
 
 -- A recall counts in the promised epoch alone.
-unfoldable pub on_recalled : TokensState → Stamp → BlockId → Bool → Done
-on_recalled s stamp block keep = if is_promised s block stamp then recalled s block stamp keep else still s
+unfoldable pub on_recalled : TokensState → BlockId → Stamp → Bool → Done
+on_recalled s block stamp keep = if is_promised s block stamp then recalled s block stamp keep else still s
 
 -- A write makes the next version of a block that is owned and isn't being given up.
 unfoldable pub on_wrote : TokensState → BlockId → Option (List ℕ) → Done
@@ -124,8 +126,8 @@ on_wrote s block value = if may_write (held_of s.blocks block) then still (with_
 
 -- A version of the block is settled. A put-off recall is taken again by the node, after the cache had
 -- its turn.
-unfoldable pub on_safe : TokensState → BlockId → ℕ → Done
-on_safe s block ver = if is_settled_by (held_of s.blocks block) ver then still (with_held s block (settled (held_of s.blocks block) ver)) else still s
+unfoldable pub on_settled : TokensState → BlockId → ℕ → Done
+on_settled s block ver = if is_settled_by (held_of s.blocks block) ver then still (with_held s block (version_settled (held_of s.blocks block) ver)) else still s
 
 -- What was read ends the fetch; the block is a copy of the version that was granted, and the waiting call
 -- runs on.
@@ -145,7 +147,7 @@ on_reask s block = if is_some (held_of s.blocks block).fetch then ask s block Co
 
 -- The want and the fetch of a block whose call answers that it is lost are over.
 unfoldable pub on_quit : TokensState → BlockId → Done
-on_quit s block = if is_asking (held_of s.blocks block) then still (with_held s block (quitted (held_of s.blocks block))) else still s
+on_quit s block = if is_asking (held_of s.blocks block) then still (with_held s block (unasked (held_of s.blocks block))) else still s
 
 -- the blocks of a slot that are being fetched
 abbrev pub fetched_in : ℕ → List (BlockId × Held) → List BlockId
@@ -198,12 +200,12 @@ on_tick s = if list_any (λ h. is_spent h.want) (values_of s.blocks) then still 
 -- what the tokens do on an input
 abbrev pub transition : TokensState → In → Done
 transition s (Need block mode) = on_need s block mode
-transition s (Granted stamp inc req block mode entry) = on_granted s stamp inc req block mode entry
-transition s (Supplied stamp inc req block ver value) = on_supplied s stamp inc req block ver value
-transition s (Forwarded stamp block ver) = on_forwarded s stamp block ver
-transition s (Recalled stamp block keep) = on_recalled s stamp block keep
+transition s (Granted block stamp inc req mode entry) = on_granted s block stamp inc req mode entry
+transition s (Supplied block stamp inc req ver value) = on_supplied s block stamp inc req ver value
+transition s (Forwarded block stamp ver) = on_forwarded s block stamp ver
+transition s (Recalled block stamp keep) = on_recalled s block stamp keep
 transition s (Wrote block value) = on_wrote s block value
-transition s (Safe block ver) = on_safe s block ver
+transition s (Settled block ver) = on_settled s block ver
 transition s (Fetched block value) = on_fetched s block value
 transition s (Evict block) = on_evict s block
 transition s (Reask block) = on_reask s block

@@ -36,13 +36,13 @@ impl Tokens {
     /// Whether a grant or a supply is accepted.
     pub(crate) fn accepts(
         &self,
+        block: BlockId,
         stamp: Stamp,
         inc: u32,
         req: u32,
-        block: BlockId,
         mode: Mode,
     ) -> bool
-        ensures { result ≡ accepts self.now stamp inc req block mode }
+        ensures { result ≡ accepts self.now block stamp inc req mode }
     {
         self.is_promised(block, stamp)
             && inc == self.inc
@@ -73,7 +73,12 @@ impl Tokens {
         held.ask(req, mode);
         self.blocks.insert(block, held)?;
         self.req = req;
-        outs.push(Out::Want(block, req, 0, mode))?;
+        outs.push(Out::Want {
+            block,
+            req,
+            again: 0,
+            mode,
+        })?;
         Ok(())
     }
 
@@ -95,17 +100,17 @@ impl Tokens {
     pub(crate) fn on_granted(
         &mut self,
         outs: &mut List<Out>,
+        block: BlockId,
         stamp: Stamp,
         inc: u32,
         req: u32,
-        block: BlockId,
         mode: Mode,
         entry: Entry,
     ) -> Mem<()>
-        ensures state { OnOk result (self.new ≡ (on_granted self.old stamp inc req block mode entry).state) }
-        ensures outs { OnOk result (outs.new ≡ outs.old ++ (on_granted self.old stamp inc req block mode entry).outs) }
+        ensures state { OnOk result (self.new ≡ (on_granted self.old block stamp inc req mode entry).state) }
+        ensures outs { OnOk result (outs.new ≡ outs.old ++ (on_granted self.old block stamp inc req mode entry).outs) }
     {
-        if !self.accepts(stamp, inc, req, block, mode) {
+        if !self.accepts(block, stamp, inc, req, mode) {
             return Ok(());
         }
         let mut held = take_held(&mut self.blocks, block);
@@ -120,23 +125,23 @@ impl Tokens {
     pub(crate) fn on_supplied(
         &mut self,
         outs: &mut List<Out>,
+        block: BlockId,
         stamp: Stamp,
         inc: u32,
         req: u32,
-        block: BlockId,
         ver: u64,
         value: Value,
     ) -> Mem<()>
-        ensures state { OnOk result (self.new ≡ (on_supplied self.old stamp inc req block ver value).state) }
-        ensures outs { OnOk result (outs.new ≡ outs.old ++ (on_supplied self.old stamp inc req block ver value).outs) }
+        ensures state { OnOk result (self.new ≡ (on_supplied self.old block stamp inc req ver value).state) }
+        ensures outs { OnOk result (outs.new ≡ outs.old ++ (on_supplied self.old block stamp inc req ver value).outs) }
     {
-        if !self.accepts(stamp, inc, req, block, Mode::Copy) {
+        if !self.accepts(block, stamp, inc, req, Mode::Copy) {
             return Ok(());
         }
         let mut held = take_held(&mut self.blocks, block);
         held.copy_of(stamp, ver, value);
         self.blocks.insert(block, held)?;
-        outs.push(Out::Ready(block))?;
+        outs.push(Out::Ready { block })?;
         Ok(())
     }
 
@@ -157,7 +162,7 @@ impl Tokens {
         let mut held = take_held(&mut self.blocks, block);
         held.end_fetch(value);
         self.blocks.insert(block, held)?;
-        outs.push(Out::Ready(block))?;
+        outs.push(Out::Ready { block })?;
         Ok(())
     }
 
@@ -249,7 +254,12 @@ impl Tokens {
         let mut held = take_held(&mut self.blocks, block);
         held.want = Some(Wanted { again, ..want });
         self.blocks.insert(block, held)?;
-        outs.push(Out::Want(block, want.req, again, want.mode))?;
+        outs.push(Out::Want {
+            block,
+            req: want.req,
+            again,
+            mode: want.mode,
+        })?;
         Ok(())
     }
 

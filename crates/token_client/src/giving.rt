@@ -2,9 +2,8 @@
 ghost use Rattle.std.specs.Prelude.{◌≡◌, ◌++◌, [], OnOk};
 ghost use Rattle.token_client.specs.Held.{is_dirty};
 ghost use Rattle.token_client.specs.State.{held_of};
-ghost use Rattle.token_client.specs.Transition.{serves, on_forwarded, refetch, give, recalled_above, recalled_again, recalled, is_answered, on_recalled, on_wrote, on_safe, on_evict};
+ghost use Rattle.token_client.specs.Transition.{serves, on_forwarded, refetch, give, recalled_above, recalled_again, recalled, was_answered, on_recalled, on_wrote, on_settled, on_evict};
 
-use crate::held::is_same;
 use crate::output::Out;
 use crate::table::{is_settled_by, may_evict, may_write, take_held};
 use crate::tokens::Tokens;
@@ -13,11 +12,11 @@ use xfs_base::{BlockId, List, Mem, Mode, Stamp, Value};
 
 impl Tokens {
     /// Whether a forward asks for the very version that is held as a copy.
-    pub(crate) fn serves(&self, stamp: Stamp, block: BlockId, ver: u64) -> bool
-        ensures { result ≡ serves self.now stamp block ver }
+    pub(crate) fn serves(&self, block: BlockId, stamp: Stamp, ver: u64) -> bool
+        ensures { result ≡ serves self.now block stamp ver }
     {
         self.is_promised(block, stamp)
-            && is_same(self.mode(block), Mode::Copy)
+            && self.mode(block).is_same(Mode::Copy)
             && self.ver(block) == ver
     }
 
@@ -27,18 +26,22 @@ impl Tokens {
         &mut self,
         alloc: Global,
         outs: &mut List<Out>,
-        stamp: Stamp,
         block: BlockId,
+        stamp: Stamp,
         ver: u64,
     ) -> Mem<()>
-        ensures state { OnOk result (self.new ≡ (on_forwarded self.old stamp block ver).state) }
-        ensures outs { OnOk result (outs.new ≡ outs.old ++ (on_forwarded self.old stamp block ver).outs) }
+        ensures state { OnOk result (self.new ≡ (on_forwarded self.old block stamp ver).state) }
+        ensures outs { OnOk result (outs.new ≡ outs.old ++ (on_forwarded self.old block stamp ver).outs) }
     {
-        if !self.serves(stamp, block, ver) {
+        if !self.serves(block, stamp, ver) {
             return Ok(());
         }
         if let Some(value) = self.value(block) {
-            outs.push(Out::Supply(block, ver, value.copy(alloc)?))?;
+            outs.push(Out::Supply {
+                block,
+                ver,
+                value: value.copy(alloc)?,
+            })?;
         }
         Ok(())
     }
@@ -54,10 +57,10 @@ impl Tokens {
     }
 
     /// Whether a recall was answered before, and nothing is being given.
-    pub(crate) fn has_answered(&self, block: BlockId, stamp: Stamp) -> bool
-        ensures { result ≡ is_answered (held_of self.now.blocks block) stamp }
+    pub(crate) fn was_answered(&self, block: BlockId, stamp: Stamp) -> bool
+        ensures { result ≡ was_answered (held_of self.now.blocks block) stamp }
     {
-        self.at(block) == stamp && self.giving(block).is_none()
+        self.stamp(block) == stamp && self.giving(block).is_none()
     }
 
     /// A call whose fetch is dropped wants its copy again.
@@ -93,12 +96,12 @@ impl Tokens {
         if dirty {
             held.put_off(stamp, keep);
             self.blocks.insert(block, held)?;
-            outs.push(Out::Flush(block))?;
+            outs.push(Out::Flush { block })?;
             Ok(())
         } else {
             held.give_up(stamp, keep);
             self.blocks.insert(block, held)?;
-            outs.push(Out::Gave(block, stamp))?;
+            outs.push(Out::Gave { block, stamp })?;
             Ok(())
         }
     }
@@ -134,10 +137,10 @@ impl Tokens {
         ensures state { OnOk result (self.new ≡ (recalled_again self.old block stamp).state) }
         ensures outs { OnOk result (outs.new ≡ outs.old ++ (recalled_again self.old block stamp).outs) }
     {
-        if !self.has_answered(block, stamp) {
+        if !self.was_answered(block, stamp) {
             return Ok(());
         }
-        outs.push(Out::Gave(block, stamp))?;
+        outs.push(Out::Gave { block, stamp })?;
         Ok(())
     }
 
@@ -153,7 +156,7 @@ impl Tokens {
         ensures state { OnOk result (self.new ≡ (recalled self.old block stamp keep).state) }
         ensures outs { OnOk result (outs.new ≡ outs.old ++ (recalled self.old block stamp keep).outs) }
     {
-        if stamp.is_after(self.at(block)) {
+        if stamp.is_after(self.stamp(block)) {
             self.recalled_above(outs, block, stamp, keep)?;
             Ok(())
         } else {
@@ -167,12 +170,12 @@ impl Tokens {
     pub(crate) fn on_recalled(
         &mut self,
         outs: &mut List<Out>,
-        stamp: Stamp,
         block: BlockId,
+        stamp: Stamp,
         keep: bool,
     ) -> Mem<()>
-        ensures state { OnOk result (self.new ≡ (on_recalled self.old stamp block keep).state) }
-        ensures outs { OnOk result (outs.new ≡ outs.old ++ (on_recalled self.old stamp block keep).outs) }
+        ensures state { OnOk result (self.new ≡ (on_recalled self.old block stamp keep).state) }
+        ensures outs { OnOk result (outs.new ≡ outs.old ++ (on_recalled self.old block stamp keep).outs) }
     {
         if !self.is_promised(block, stamp) {
             return Ok(());
@@ -197,16 +200,16 @@ impl Tokens {
     }
 
     /// A version of a block is settled.
-    #[tactic(auto, unfolding(crate::specs::Transition::on_safe))]
-    pub(crate) fn on_safe(&mut self, block: BlockId, ver: u64) -> Mem<()>
-        ensures state { OnOk result (self.new ≡ (on_safe self.old block ver).state) }
-        ensures outs { (on_safe self.old block ver).outs ≡ [] }
+    #[tactic(auto, unfolding(crate::specs::Transition::on_settled))]
+    pub(crate) fn on_settled(&mut self, block: BlockId, ver: u64) -> Mem<()>
+        ensures state { OnOk result (self.new ≡ (on_settled self.old block ver).state) }
+        ensures outs { (on_settled self.old block ver).outs ≡ [] }
     {
         if !is_settled_by(&self.blocks, block, ver) {
             return Ok(());
         }
         let mut held = take_held(&mut self.blocks, block);
-        held.safe = ver;
+        held.settled = ver;
         self.blocks.insert(block, held)?;
         Ok(())
     }

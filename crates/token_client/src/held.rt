@@ -1,8 +1,8 @@
 //! What a client knows of one block.
 ghost use Rattle.std.specs.Prelude.{◌≡◌, ◌<◌, ◌^◌, ◌-◌};
-ghost use Rattle.token_client.specs.Held.{same_mode, is_held, allows, gives_after};
+ghost use Rattle.token_client.specs.Held.{gives_after};
 
-use xfs_base::{Entry, Mode, Place, Stamp, Value};
+use xfs_base::{Crosses, Entry, Mode, Place, Stamp, Value};
 
 /// A want that no answer has ended.
 #[derive(Clone, Copy, Debug, PartialEq, Eq)]
@@ -42,12 +42,12 @@ pub struct Held {
     /// The version of its value.
     pub ver: u64,
     /// The greatest version that is known to be settled.
-    pub safe: u64,
+    pub settled: u64,
     /// Its value, where one is kept.
     pub value: Option<Value>,
     /// The stamp of the last word of a manager that was followed. It never falls, and stays when the
     /// block is held no more: an older word is known by it.
-    pub at: Stamp,
+    pub stamp: Stamp,
     /// The open want.
     pub want: Option<Wanted>,
     /// The fetch that runs.
@@ -56,36 +56,13 @@ pub struct Held {
     pub giving: Option<Giving>,
 }
 
-/// Whether two modes are one.
-pub(crate) fn is_same(one: Mode, other: Mode) -> bool
-    ensures { result ≡ same_mode one other }
-{
-    matches!(
-        (one, other),
-        (Mode::Nothing, Mode::Nothing) | (Mode::Copy, Mode::Copy) | (Mode::Own, Mode::Own)
-    )
-}
+impl Crosses for Wanted {}
 
-/// Whether a mode is Copy or Own.
-pub(crate) fn is_held(mode: Mode) -> bool
-    ensures { result ≡ is_held mode }
-{
-    match mode {
-        Mode::Nothing => false,
-        Mode::Copy | Mode::Own => true,
-    }
-}
+impl Crosses for Fetch {}
 
-/// Whether a mode lets a call do what needs another.
-fn is_enough(mode: Mode, needed: Mode) -> bool
-    ensures { result ≡ allows mode needed }
-{
-    match needed {
-        Mode::Nothing => true,
-        Mode::Copy => is_held(mode),
-        Mode::Own => is_same(mode, Mode::Own),
-    }
-}
+impl Crosses for Giving {}
+
+impl Crosses for Held {}
 
 /// Whether a later recall stands there already.
 fn gives_after(giving: Option<Giving>, stamp: Stamp) -> bool
@@ -98,7 +75,7 @@ fn gives_after(giving: Option<Giving>, stamp: Stamp) -> bool
 }
 
 impl Held {
-    ghost use Rattle.token_client.specs.Held.{unknown, is_dirty, is_asking, must_ask, is_wanted, is_answer, may_write, is_settled_by, may_end_fetch, may_evict, asked, asked_again, owned, copied, fetched_from, copy_granted, grant_taken, fetch_ended, written, settled, let_go, quitted, unfetched, promise_dropped, put_off, given_up};
+    ghost use Rattle.token_client.specs.Held.{unknown, is_dirty, is_asking, must_ask, is_wanted, is_answer, may_write, is_settled_by, may_end_fetch, may_evict, asked, asked_again, owned, copied, fetched_from, copy_granted, grant_taken, fetch_ended, written, version_settled, let_go, unasked, unfetched, promise_dropped, put_off, given_up};
 
     /// Nothing is known.
     pub(crate) fn new() -> Held
@@ -107,9 +84,9 @@ impl Held {
         Held {
             mode: Mode::Nothing,
             ver: 0,
-            safe: 0,
+            settled: 0,
             value: None,
-            at: Stamp { epoch: 0, turn: 0 },
+            stamp: Stamp { epoch: 0, turn: 0 },
             want: None,
             fetch: None,
             giving: None,
@@ -120,7 +97,7 @@ impl Held {
     pub(crate) fn is_dirty(&self) -> bool
         ensures { result ≡ is_dirty self.now }
     {
-        self.safe < self.ver
+        self.settled < self.ver
     }
 
     /// Whether a want or a fetch is open.
@@ -134,7 +111,7 @@ impl Held {
     pub(crate) fn must_ask(&self, mode: Mode) -> bool
         ensures { result ≡ must_ask self.now mode }
     {
-        !self.is_asking() && self.giving.is_none() && !is_enough(self.mode, mode)
+        !self.is_asking() && self.giving.is_none() && !self.mode.allows(mode)
     }
 
     /// Whether what came with this stamp answers the open want.
@@ -142,7 +119,7 @@ impl Held {
         ensures { result ≡ is_answer self.now stamp req mode }
     {
         match self.want {
-            Some(want) => want.req == req && is_same(want.mode, mode) && stamp.is_after(self.at),
+            Some(want) => want.req == req && want.mode.is_same(mode) && stamp.is_after(self.stamp),
             None => false,
         }
     }
@@ -151,14 +128,14 @@ impl Held {
     pub(crate) fn may_write(&self) -> bool
         ensures { result ≡ may_write self.now }
     {
-        is_same(self.mode, Mode::Own) && self.giving.is_none() && self.ver < u64::MAX
+        self.mode.is_own() && self.giving.is_none() && self.ver < u64::MAX
     }
 
     /// Whether it is news that a version is settled.
     pub(crate) fn is_settled_by(&self, ver: u64) -> bool
         ensures { result ≡ is_settled_by self.now ver }
     {
-        self.safe < ver && ver <= self.ver
+        self.settled < ver && ver <= self.ver
     }
 
     /// Whether what was read ends the fetch.
@@ -172,7 +149,7 @@ impl Held {
     pub(crate) fn may_evict(&self) -> bool
         ensures { result ≡ may_evict self.now }
     {
-        is_held(self.mode) && !self.is_dirty()
+        self.mode.is_held() && !self.is_dirty()
     }
 
     /// Opens a want.
@@ -192,9 +169,9 @@ impl Held {
     {
         self.mode = Mode::Own;
         self.ver = ver;
-        self.safe = ver;
+        self.settled = ver;
         self.value = None;
-        self.at = stamp;
+        self.stamp = stamp;
         self.want = None;
         self.fetch = None;
     }
@@ -205,9 +182,9 @@ impl Held {
     {
         self.mode = Mode::Copy;
         self.ver = ver;
-        self.safe = ver;
+        self.settled = ver;
         self.value = Some(value);
-        self.at = stamp;
+        self.stamp = stamp;
         self.want = None;
         self.fetch = None;
     }
@@ -218,7 +195,7 @@ impl Held {
     {
         self.mode = Mode::Nothing;
         self.value = None;
-        self.at = stamp;
+        self.stamp = stamp;
         self.want = None;
         self.fetch = Some(Fetch { ver, place });
     }
@@ -237,7 +214,7 @@ impl Held {
     pub(crate) fn take_grant(&mut self, stamp: Stamp, mode: Mode, entry: Entry)
         ensures { self.new ≡ grant_taken self.old stamp mode entry }
     {
-        if is_same(mode, Mode::Own) {
+        if mode.is_own() {
             self.own(stamp, entry.ver);
         } else {
             self.take_copy(stamp, entry.ver, entry.place);
@@ -251,7 +228,7 @@ impl Held {
         if let Some(fetch) = self.fetch {
             self.mode = Mode::Copy;
             self.ver = fetch.ver;
-            self.safe = fetch.ver;
+            self.settled = fetch.ver;
             self.value = Some(value);
             self.fetch = None;
         }
@@ -276,7 +253,7 @@ impl Held {
 
     /// Ends the want and the fetch.
     pub(crate) fn quit(&mut self)
-        ensures { self.new ≡ quitted self.old }
+        ensures { self.new ≡ unasked self.old }
     {
         self.want = None;
         self.fetch = None;
@@ -295,13 +272,13 @@ impl Held {
     pub(crate) fn give_up(&mut self, stamp: Stamp, keep: bool)
         ensures { self.new ≡ given_up self.old stamp keep }
     {
-        if keep && is_held(self.mode) {
+        if keep && self.mode.is_held() {
             self.mode = Mode::Copy;
         } else {
             self.mode = Mode::Nothing;
             self.value = None;
         }
-        self.at = stamp;
+        self.stamp = stamp;
         self.giving = None;
     }
 

@@ -1,34 +1,110 @@
 //! What the tokens of a client take.
-use xfs_base::{BlockId, Entry, Mode, Stamp, Value};
+use xfs_base::{BlockId, Crosses, Entry, Mode, Stamp, Value};
 
-/// What the tokens of a client take. A pair of numbers behind a stamp is the incarnation of the client
-/// that asked and the number of its want.
+/// What the tokens of a client take. `inc` and `req` are the incarnation of the client that asked, and the
+/// number of its want.
 #[derive(Drop)]
 pub enum In {
-    /// A call needs the block in this mode.
-    Need(BlockId, Mode),
-    /// A manager grants the block in this mode, with what its index holds.
-    Granted(Stamp, u32, u32, BlockId, Mode, Entry),
-    /// Another client supplies this version of the block.
-    Supplied(Stamp, u32, u32, BlockId, u64, Value),
-    /// A manager has this version of the block supplied to another client.
-    Forwarded(Stamp, BlockId, u64),
-    /// A manager takes the block back; where the flag is set a copy may stay.
-    Recalled(Stamp, BlockId, bool),
-    /// The call writes the block.
-    Wrote(BlockId, Value),
-    /// This version of the block is settled.
-    Safe(BlockId, u64),
-    /// The block was read from the log.
-    Fetched(BlockId, Value),
-    /// The block leaves the cache.
-    Evict(BlockId),
-    /// A round of reading the block failed, and its place is asked for again.
-    Reask(BlockId),
-    /// The call that waits for the block answers that it is lost.
-    Quit(BlockId),
-    /// The slot has this epoch.
-    Promise(u8, u32),
+    /// A call needs a block in a mode.
+    Need {
+        /// The block.
+        block: BlockId,
+        /// The mode.
+        mode: Mode,
+    },
+    /// A manager grants a block.
+    Granted {
+        /// The block.
+        block: BlockId,
+        /// When it was granted.
+        stamp: Stamp,
+        /// The incarnation of the want.
+        inc: u32,
+        /// The number of the want.
+        req: u32,
+        /// The mode.
+        mode: Mode,
+        /// What the manager's index holds of the block.
+        entry: Entry,
+    },
+    /// Another client supplies a block.
+    Supplied {
+        /// The block.
+        block: BlockId,
+        /// When the manager said so.
+        stamp: Stamp,
+        /// The incarnation of the want.
+        inc: u32,
+        /// The number of the want.
+        req: u32,
+        /// The version.
+        ver: u64,
+        /// Its value.
+        value: Value,
+    },
+    /// A manager has a block supplied to another client.
+    Forwarded {
+        /// The block.
+        block: BlockId,
+        /// When the manager said so.
+        stamp: Stamp,
+        /// The version to supply.
+        ver: u64,
+    },
+    /// A manager takes a block back.
+    Recalled {
+        /// The block.
+        block: BlockId,
+        /// When it was recalled.
+        stamp: Stamp,
+        /// Whether a copy may stay.
+        keep: bool,
+    },
+    /// The call writes a block.
+    Wrote {
+        /// The block.
+        block: BlockId,
+        /// The value of its next version.
+        value: Value,
+    },
+    /// A version of a block is settled.
+    Settled {
+        /// The block.
+        block: BlockId,
+        /// The version.
+        ver: u64,
+    },
+    /// A block was read from the log.
+    Fetched {
+        /// The block.
+        block: BlockId,
+        /// What was read.
+        value: Value,
+    },
+    /// A block leaves the cache.
+    Evict {
+        /// The block.
+        block: BlockId,
+    },
+    /// A round of reading a block failed, and its place is asked for again.
+    Reask {
+        /// The block.
+        block: BlockId,
+    },
+    /// The call that waits for a block answers that it is lost.
+    Quit {
+        /// The block.
+        block: BlockId,
+    },
+    /// A slot has this epoch.
+    Promise {
+        /// The slot, 0 to 7.
+        slot: u8,
+        /// The epoch.
+        epoch: u32,
+    },
     /// Time passes.
     Tick,
 }
+
+impl Crosses for In {}

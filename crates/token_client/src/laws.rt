@@ -1,6 +1,6 @@
 //! Laws of what the tokens of a client do, over every list of inputs. Each function's contract is a law;
 //! `specs/Laws.antt` says it in full.
-ghost use Rattle.token_client.specs.Laws.{StaysSound, StampsNeverFall, NumbersRise, OpensByNeed};
+ghost use Rattle.token_client.specs.Laws.{StaysSound, StampsNeverFall, NumbersRise, OpensByNeed, DirtyVersionsNeverFall};
 ghost use Rattle.token_client.specs.Readings.{EndedWantTakesNothing, DirtyKeepsItsStamp, PromiseDrops, QuitEnds};
 
 /// Whatever is taken from the start: a block with a want or a fetch isn't owned, is clean, and isn't being
@@ -25,6 +25,11 @@ pub fn opens_by_need()
     ensures { OpensByNeed }
 {}
 
+/// No input lowers the version of a dirty block, so what of it is in flight is at most the block's version.
+pub fn dirty_versions_never_fall()
+    ensures { DirtyVersionsNeverFall }
+{}
+
 /// A block without a want takes no grant and no supply: an ended want accepts nothing.
 pub fn ended_want_takes_nothing()
     ensures { EndedWantTakesNothing }
@@ -41,7 +46,7 @@ pub fn promise_drops()
     ensures { PromiseDrops }
 {}
 
-/// A block that is quitted has neither a want nor a fetch.
+/// A block whose call answers that it is lost has neither a want nor a fetch.
 pub fn quit_ends()
     ensures { QuitEnds }
 {}

@@ -29,11 +29,11 @@ impl Tokens {
     }
 
     /// The greatest version of a block that is known to be settled.
-    pub fn safe(&self, block: BlockId) -> u64
-        ensures { result ≡ (held_of self.now.blocks block).safe }
+    pub fn settled(&self, block: BlockId) -> u64
+        ensures { result ≡ (held_of self.now.blocks block).settled }
     {
         match self.blocks.get(&block) {
-            Some(held) => held.safe,
+            Some(held) => held.settled,
             None => 0,
         }
     }
@@ -83,11 +83,11 @@ impl Tokens {
     }
 
     /// The stamp of the last word of a manager on a block that was followed.
-    pub fn at(&self, block: BlockId) -> Stamp
-        ensures { result ≡ (held_of self.now.blocks block).at }
+    pub fn stamp(&self, block: BlockId) -> Stamp
+        ensures { result ≡ (held_of self.now.blocks block).stamp }
     {
         match self.blocks.get(&block) {
-            Some(held) => held.at,
+            Some(held) => held.stamp,
             None => Stamp { epoch: 0, turn: 0 },
         }
     }

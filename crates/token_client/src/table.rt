@@ -8,7 +8,7 @@ ghost use Rattle.token_client.specs.Held.{is_answer, may_write, is_settled_by, m
 ghost use Rattle.token_client.specs.State.{held_of, held_in, dirty_in};
 ghost use Rattle.token_client.specs.Transition.{fetched_in, wanted_in, all_dropped_in, dropped_in, is_spent, copy_next, grant_next};
 
-use crate::held::{Held, Wanted, is_held, is_same};
+use crate::held::{Held, Wanted};
 use crate::output::Out;
 use std::alloc::Global;
 use std::collections::BTreeMap;
@@ -78,7 +78,7 @@ pub(crate) fn held_blocks(
 {
     let mut found = List::new(alloc);
     for (block, held) in blocks {
-        if block.ino.slot() == slot && is_held(held.mode) {
+        if block.ino.slot() == slot && held.mode.is_held() {
             found.push((*block, held.mode))?;
         }
     }
@@ -86,7 +86,7 @@ pub(crate) fn held_blocks(
 }
 
 /// Whether a want can't be counted once more.
-pub(crate) fn is_at_end(want: Option<Wanted>) -> bool
+pub(crate) fn is_spent(want: Option<Wanted>) -> bool
     ensures { result ≡ is_spent want }
 {
     match want {
@@ -99,7 +99,7 @@ pub(crate) fn is_at_end(want: Option<Wanted>) -> bool
 pub(crate) fn has_spent(blocks: &BTreeMap<BlockId, Held>) -> bool
     ensures { result ≡ list_any (λ h. is_spent h.want) (values_of blocks.now.entries) }
 {
-    blocks.values().any(|held| is_at_end(held.want))
+    blocks.values().any(|held| is_spent(held.want))
 }
 
 /// Drops what a promise of a slot ends, if the block is of the slot.
@@ -126,8 +126,8 @@ pub(crate) fn copy_next(block: BlockId, place: Option<Place>) -> Out
     ensures { result ≡ copy_next block place }
 {
     match place {
-        None => Out::Ready(block),
-        Some(place) => Out::Read(block, place),
+        None => Out::Ready { block },
+        Some(place) => Out::Read { block, place },
     }
 }
 
@@ -135,8 +135,8 @@ pub(crate) fn copy_next(block: BlockId, place: Option<Place>) -> Out
 pub(crate) fn grant_next(block: BlockId, mode: Mode, place: Option<Place>) -> Out
     ensures { result ≡ grant_next block mode place }
 {
-    if is_same(mode, Mode::Own) {
-        Out::Ready(block)
+    if mode.is_own() {
+        Out::Ready { block }
     } else {
         copy_next(block, place)
     }

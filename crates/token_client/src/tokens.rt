@@ -1,15 +1,15 @@
 //! The tokens of a client: their state, their start, and what they take.
 ghost use Rattle.std.specs.Prelude.{◌≡◌, length, OnOk, IfOk};
-ghost use Rattle.token_client.specs.State.{start_state};
+ghost use Rattle.token_client.specs.State.{started};
 ghost use Rattle.token_client.specs.Transition.{transition};
 
-use crate::held::{Held, Wanted};
+use crate::held::Held;
 use crate::input::In;
 use crate::output::Out;
 use std::alloc::Global;
 use std::collections::BTreeMap;
 use std::marker::Model;
-use xfs_base::{BlockId, List, Mem};
+use xfs_base::{BlockId, Crosses, List, Mem};
 
 /// The tokens of a client. Contracts see them as a record of their parts (`specs/State.antt`).
 #[derive(Drop)]
@@ -28,11 +28,13 @@ impl Model for Tokens {
     ghost view = { λ a. record { inc = a.inc; epochs = a.epochs; req = a.req; blocks = a.blocks.entries } };
 }
 
+impl Crosses for Tokens {}
+
 impl Tokens {
     /// No block is known, and nothing was asked. The epochs are those that the slots are promised to.
     pub fn start(alloc: Global, inc: u32, epochs: List<u32>) -> Mem<Tokens>
         requires { length epochs ≡ 8 }
-        ensures { IfOk result (λ tokens. tokens ≡ start_state inc epochs) }
+        ensures { IfOk result (λ tokens. tokens ≡ started inc epochs) }
     {
         let mut promised = [0_u32; 8];
         promised.copy_from_slice(epochs.as_slice());
@@ -53,44 +55,36 @@ impl Tokens {
     {
         let mut outs = List::new(alloc);
         match input {
-            In::Need(block, mode) => self.on_need(&mut outs, block, mode)?,
-            In::Granted(stamp, inc, req, block, mode, entry) => {
-                self.on_granted(&mut outs, stamp, inc, req, block, mode, entry)?
+            In::Need { block, mode } => self.on_need(&mut outs, block, mode)?,
+            In::Granted {
+                block,
+                stamp,
+                inc,
+                req,
+                mode,
+                entry,
+            } => self.on_granted(&mut outs, block, stamp, inc, req, mode, entry)?,
+            In::Supplied {
+                block,
+                stamp,
+                inc,
+                req,
+                ver,
+                value,
+            } => self.on_supplied(&mut outs, block, stamp, inc, req, ver, value)?,
+            In::Forwarded { block, stamp, ver } => {
+                self.on_forwarded(alloc, &mut outs, block, stamp, ver)?
             }
-            In::Supplied(stamp, inc, req, block, ver, value) => {
-                self.on_supplied(&mut outs, stamp, inc, req, block, ver, value)?
-            }
-            In::Forwarded(stamp, block, ver) => {
-                self.on_forwarded(alloc, &mut outs, stamp, block, ver)?
-            }
-            In::Recalled(stamp, block, keep) => self.on_recalled(&mut outs, stamp, block, keep)?,
-            In::Wrote(block, value) => self.on_wrote(block, value)?,
-            In::Safe(block, ver) => self.on_safe(block, ver)?,
-            In::Fetched(block, value) => self.on_fetched(&mut outs, block, value)?,
-            In::Evict(block) => self.on_evict(block)?,
-            In::Reask(block) => self.on_reask(&mut outs, block)?,
-            In::Quit(block) => self.on_quit(block)?,
-            In::Promise(slot, epoch) => self.on_promise(alloc, &mut outs, slot, epoch)?,
+            In::Recalled { block, stamp, keep } => self.on_recalled(&mut outs, block, stamp, keep)?,
+            In::Wrote { block, value } => self.on_wrote(block, value)?,
+            In::Settled { block, ver } => self.on_settled(block, ver)?,
+            In::Fetched { block, value } => self.on_fetched(&mut outs, block, value)?,
+            In::Evict { block } => self.on_evict(block)?,
+            In::Reask { block } => self.on_reask(&mut outs, block)?,
+            In::Quit { block } => self.on_quit(block)?,
+            In::Promise { slot, epoch } => self.on_promise(alloc, &mut outs, slot, epoch)?,
             In::Tick => self.on_tick(alloc, &mut outs)?,
         }
         Ok(outs)
-    }
-}
-
-#[cfg(test)]
-impl Tokens {
-    /// Brings the counters of wants to their ends.
-    pub(crate) fn spend(&mut self) {
-        self.req = u32::MAX;
-        self.blocks.retain(|_, held| {
-            held.want = match held.want {
-                Some(want) => Some(Wanted {
-                    again: u32::MAX,
-                    ..want
-                }),
-                None => None,
-            };
-            true
-        });
     }
 }

@@ -1,6 +1,6 @@
 use Rattle.std.proofs.Common.{rules}
 use Rattle.token_client.specs.Transition.{dropped_in}
-use Rattle.token_client.proofs.Pairs.{map_each_pair}
+use Rattle.xfs_base.proofs.Pairs.{map_each_pair}
 use Rattle.token_client.proofs.table.drop_all_in.Goals as goal
 
 pub returns : goal.returns
