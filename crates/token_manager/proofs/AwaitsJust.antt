@@ -1,5 +1,5 @@
 -- A want that waits awaits nobody but those who must give way, each of them once: every input keeps this.
-use Rattle.std.proofs.Common.{◌≡◌, ℕ, ◌+◌, ◌≤◌, ◌<◌, ◌==◌, ◌&&◌, ◌||◌, Bool, true, false, cond, not, length, List, [], ◌∷◌, inl, inr, ⊎_elim, Option, Some, None, is_some, unwrap_or, refl, sym, ap, subst, ◌∙◌, arith}
+use Rattle.std.proofs.Common.{Contains, ◌≡◌, ℕ, ◌+◌, ◌≤◌, ◌<◌, ◌==◌, ◌&&◌, ◌||◌, Bool, true, false, cond, not, length, List, [], ◌∷◌, inl, inr, ⊎_elim, Option, Some, None, is_some, unwrap_or, refl, sym, ap, subst, ◌∙◌, arith}
 use Rattle.std.specs.declared.cmp.Ordering.TheVariants.{Less}
 use Rattle.std.specs.Ordering.{eq_by_cmp, is_eq}
 use Rattle.std.specs.List.{list_any, AllByRecursion}
@@ -16,58 +16,59 @@ use Rattle.xfs_base.specs.declared.token.Stamp.{Stamp}
 use Rattle.xfs_base.specs.Blocks.{block_cmp, same_block}
 use Rattle.xfs_base.specs.Steps.{steps}
 use Rattle.xfs_base.proofs.BlockOrder.{block_cmp_total, lookup-insert_entry, same_block_exact}
+use Rattle.xfs_base.proofs.Members.{contains_nothing, contains_first, contains_rest, contains_cases}
 use Rattle.xfs_base.proofs.StepLoops.{steps_keep}
+use Rattle.xfs_base.specs.Modes.{is_own}
 use Rattle.token_manager.specs.declared.job.Holder.{Holder}
-use Rattle.token_manager.specs.declared.job.Ask.{Ask}
+use Rattle.token_manager.specs.declared.job.Wanted.{Wanted}
 use Rattle.token_manager.specs.declared.job.Job.{Job}
 use Rattle.token_manager.specs.declared.job.Awaited.{Awaited}
-use Rattle.token_manager.specs.declared.told.In.{In}
-use Rattle.token_manager.specs.declared.told.In.TheVariants.{Want, Gave, Deltas, Check, Tick}
-use Rattle.token_manager.specs.Beliefs.{holder_cmp, holder, is_own, others, without_block, owned_by, held_by, after_ask, given_up}
-use Rattle.token_manager.specs.Recalls.{recalls, is_answered, noted, ready_blocks}
+use Rattle.token_manager.specs.declared.input.In.{In}
+use Rattle.token_manager.specs.declared.input.In.TheVariants.{Want, Gave, Deltas, Check, Tick}
+use Rattle.token_manager.specs.Beliefs.{holder_cmp, holder, others, without_block, owned_by, held_by, want_met, given_up}
+use Rattle.token_manager.specs.Recalls.{recalls, answers, noted, ready_blocks}
 use Rattle.token_manager.specs.SlotState.{SlotState}
-use Rattle.token_manager.specs.Transition.{started, job_at, without_job, ask_of, finished, given, gave_one, applied_upto, with_deltas, finished_at, step}
-use Rattle.token_manager.specs.Laws.{Has, rank, rank_of, wanted, OwnsAlone, Awaits, MustGiveWay, IsGuarded, after_all}
+use Rattle.token_manager.specs.Transition.{started, job_at, without_job, want_of, finished, given, gave_one, applied_upto, with_deltas, finished_at, transition}
+use Rattle.token_manager.specs.Laws.{share, share_of, wanted_share, OwnsAlone, Awaits, MustGiveWay, IsGuarded, state_after}
 use Rattle.token_manager.proofs.Cases.{recalled_from, by_want, all_given, by_gave_answered, by_deltas, let_go, by_finished_at}
-use Rattle.token_manager.proofs.OneOwner.{holder_cmp_exact}
-use Rattle.token_manager.proofs.Ranks.{holder_cmp_total, holder_laws, belief, belief-without_block, apart_test, disowned, forgotten, gives_way}
+use Rattle.token_manager.proofs.Shares.{holder_cmp_exact, holder_cmp_total, holder_laws, belief, belief-without_block, apart_test, disowned, forgotten, gives_way}
 use Rattle.token_manager.proofs.JobsBarGrants.{Waiting, block_laws, waiting-removed, after_removal, was_there, gone, not_waiting}
-use Rattle.token_manager.proofs.Guarded.{Sound, sound-step, sound-answered, sound-start, ReadyAt, ready_finds, jobs_fewer, equal_numbers}
+use Rattle.token_manager.proofs.Guarded.{Sound, sound-transition, sound-answered, sound-start, ReadyAt, ready_finds, jobs_fewer, equal_numbers}
 
 -- ---- what changes keep
 
-kept_cond : (t of : Bool) (o : Option Bool) → (t ≡ true → ⊥) → (of ≡ true → ⊥) → rank o ≤ rank (cond t (Some true) (cond of None o))
+kept_cond : (t of : Bool) (o : Option Bool) → (t ≡ true → ⊥) → (of ≡ true → ⊥) → share o ≤ share (cond t (Some true) (cond of None o))
 kept_cond true of o apart other = absurd (apart refl)
 kept_cond false true o apart other = absurd (other refl)
 kept_cond false false o apart other = omega arith
 
-kept_put : (t : Bool) (x o : Option Bool) → (t ≡ true → ⊥) → rank o ≤ rank (cond t x o)
+kept_put : (t : Bool) (x o : Option Bool) → (t ≡ true → ⊥) → share o ≤ share (cond t x o)
 kept_put true x o apart = absurd (apart refl)
 kept_put false x o apart = omega arith
 
 -- of other blocks nobody has less than before
-more_elsewhere : (bs : List (Holder × Bool)) (ask : Ask) (q : Holder) → (q.block ≡ ask.block → ⊥) → rank (belief bs q) ≤ rank (belief (after_ask bs ask) q)
-more_elsewhere bs ask q other =
-    let h = holder ask.block ask.client in
+more_elsewhere : (bs : List (Holder × Bool)) (want : Wanted) (q : Holder) → (q.block ≡ want.block → ⊥) → share (belief bs q) ≤ share (belief (want_met bs want) q)
+more_elsewhere bs want q other =
+    let h = holder want.block want.client in
     let apart : eq_by_cmp holder_cmp q h ≡ true → ⊥ = apart_test q h (λ p. other (ap (λ (x : Holder). x.block) p)) in
-    elim (is_own ask.mode) as (λ t. rank (belief bs q) ≤ rank (belief (cond t (owned_by bs h) (held_by bs h)) q)) [
+    elim (is_own want.mode) as (λ t. share (belief bs q) ≤ share (belief (cond t (owned_by bs h) (held_by bs h)) q)) [
       | true ↦
           let is : belief (owned_by bs h) q ≡ cond (eq_by_cmp holder_cmp q h) (Some true) (cond (same_block q.block h.block) None (belief bs q)) = lookup-insert_entry holder_cmp_total q h true (without_block bs h.block) ∙ ap (cond (eq_by_cmp holder_cmp q h) (Some true)) (belief-without_block q h.block bs) in
-          subst (λ o. rank (belief bs q) ≤ rank o) (sym is) (kept_cond (eq_by_cmp holder_cmp q h) (same_block q.block h.block) (belief bs q) apart (λ same. other (sym (same_block_exact q.block h.block same))))
-      | false ↦ elim (is_some (belief bs h)) as (λ t. rank (belief bs q) ≤ rank (belief (cond t bs (insert_entry holder_cmp bs h false)) q)) [
+          subst (λ o. share (belief bs q) ≤ share o) (sym is) (kept_cond (eq_by_cmp holder_cmp q h) (same_block q.block h.block) (belief bs q) apart (λ same. other (sym (same_block_exact q.block h.block same))))
+      | false ↦ elim (is_some (belief bs h)) as (λ t. share (belief bs q) ≤ share (belief (cond t bs (insert_entry holder_cmp bs h false)) q)) [
         | true ↦ omega arith
-        | false ↦ subst (λ o. rank (belief bs q) ≤ rank o) (sym (lookup-insert_entry holder_cmp_total q h false bs)) (kept_put (eq_by_cmp holder_cmp q h) (Some false) (belief bs q) apart)
+        | false ↦ subst (λ o. share (belief bs q) ≤ share o) (sym (lookup-insert_entry holder_cmp_total q h false bs)) (kept_put (eq_by_cmp holder_cmp q h) (Some false) (belief bs q) apart)
       ]
     ]
 
 -- nobody but the giver has less than before
-more_others : (bs : List (Holder × Bool)) (h q : Holder) (keep : Bool) → IsStrictlySortedBy holder_cmp (keys_of bs) → (q ≡ h → ⊥) → rank (belief bs q) ≤ rank (belief (given_up bs h keep) q)
+more_others : (bs : List (Holder × Bool)) (h q : Holder) (keep : Bool) → IsStrictlySortedBy holder_cmp (keys_of bs) → (q ≡ h → ⊥) → share (belief bs q) ≤ share (belief (given_up bs h keep) q)
 more_others bs h q true sorted apart =
-    elim (is_some (belief bs h)) as (λ t. is_some (belief bs h) ≡ t → rank (belief bs q) ≤ rank (belief (cond t (set_value (is_at (holder_cmp h)) bs false) bs) q)) [
-      | true ↦ λ some. subst (λ o. rank (belief bs q) ≤ rank o) (sym (disowned bs h q some)) (kept_put (is_at (holder_cmp h) q) (Some false) (belief bs q) (λ same. apart (sym (tells_apart holder_cmp_exact h q same))))
+    elim (is_some (belief bs h)) as (λ t. is_some (belief bs h) ≡ t → share (belief bs q) ≤ share (belief (cond t (set_value (is_at (holder_cmp h)) bs false) bs) q)) [
+      | true ↦ λ some. subst (λ o. share (belief bs q) ≤ share o) (sym (disowned bs h q some)) (kept_put (is_at (holder_cmp h) q) (Some false) (belief bs q) (λ same. apart (sym (tells_apart holder_cmp_exact h q same))))
       | false ↦ λ _. omega arith
     ] refl
-more_others bs h q false sorted apart = subst (λ o. rank (belief bs q) ≤ rank o) (sym (forgotten bs h q sorted)) (kept_put (is_at (holder_cmp h) q) None (belief bs q) (λ same. apart (sym (tells_apart holder_cmp_exact h q same))))
+more_others bs h q false sorted apart = subst (λ o. share (belief bs q) ≤ share o) (sym (forgotten bs h q sorted)) (kept_put (is_at (holder_cmp h) q) None (belief bs q) (λ same. apart (sym (tells_apart holder_cmp_exact h q same))))
 
 -- ---- whom a want finds
 
@@ -96,9 +97,9 @@ three false y z p = absurd (cc)
 itself_not : (c : ℕ) → (c == c) ≡ false → ⊥
 itself_not c h = let same : (c == c) ≡ true = grind (arith, nat_tests) in false≢true (sym h ∙ same)
 
-others_from : (bs : List (Holder × Bool)) (block : BlockId) (asking c : ℕ) (owners : Bool) → IsStrictlySortedBy holder_cmp (keys_of bs) → Has (others bs block asking owners) c → (c ≡ asking → ⊥) × (gives_way owners (belief bs (holder block c)) ≡ true)
+others_from : (bs : List (Holder × Bool)) (block : BlockId) (asking c : ℕ) (owners : Bool) → IsStrictlySortedBy holder_cmp (keys_of bs) → Contains (others bs block asking owners) c → (c ≡ asking → ⊥) × (gives_way owners (belief bs (holder block c)) ≡ true)
 unfolding IsStrictlySortedBy
-others_from [] block asking c owners sorted has = absurd has
+others_from [] block asking c owners sorted has = absurd (contains_nothing c has)
 others_from (e ∷ es) block asking c owners sorted has =
     at (Passes e.0 e.1 block asking owners) refl has (λ h. others_from es block asking c owners sorted.1 h)
   where
@@ -118,15 +119,15 @@ others_from (e ∷ es) block asking c owners sorted has =
         let same : is_at (holder_cmp (holder block c)) e.0 ≡ true = subst (λ h. eq_by_cmp holder_cmp (holder block c) h ≡ true) whole (holder_laws.refl (holder block c)) in
         ((λ it. itself_not asking (subst (λ x. (x == asking) ≡ false) (me ∙ it) parts.1.0)), ap (λ t. gives_way owners (cond t (Some e.1) (belief es (holder block c)))) same ∙ parts.1.1)
 
-    at : (t : Bool) → Passes e.0 e.1 block asking owners ≡ t → Has (cond t (e.0.client ∷ others es block asking owners) (others es block asking owners)) c
-        → (Has (others es block asking owners) c → (c ≡ asking → ⊥) × (gives_way owners (belief es (holder block c)) ≡ true)) → (c ≡ asking → ⊥) × (gives_way owners (belief (e ∷ es) (holder block c)) ≡ true)
-    at true passes h rest = ⊎_elim (first passes) (λ r. later (rest r)) h
+    at : (t : Bool) → Passes e.0 e.1 block asking owners ≡ t → Contains (cond t (e.0.client ∷ others es block asking owners) (others es block asking owners)) c
+        → (Contains (others es block asking owners) c → (c ≡ asking → ⊥) × (gives_way owners (belief es (holder block c)) ≡ true)) → (c ≡ asking → ⊥) × (gives_way owners (belief (e ∷ es) (holder block c)) ≡ true)
+    at true passes h rest = ⊎_elim (first passes) (λ r. later (rest r)) (contains_cases e.0.client c (others es block asking owners) h)
     at false fails h rest = later (rest h)
 
 -- no client twice
 abbrev Once : List ℕ → Type 0
 Once [] = Unit {0}
-Once (x ∷ xs) = (Has xs x → ⊥) × Once xs
+Once (x ∷ xs) = (Contains xs x → ⊥) × Once xs
 
 others_once : (bs : List (Holder × Bool)) (block : BlockId) (asking : ℕ) (owners : Bool) → IsStrictlySortedBy holder_cmp (keys_of bs) → Once (others bs block asking owners)
 unfolding IsStrictlySortedBy
@@ -147,9 +148,9 @@ abbrev OneEach : List Awaited → Type 0
 OneEach [] = Unit {0}
 OneEach (a ∷ rest) = (a.end ≡ None → Awaits rest a.client → ⊥) × OneEach rest
 
-recalls-await : (epoch turn : ℕ) (keep : Bool) (cs : List ℕ) (c : ℕ) → Awaits (recalls epoch turn keep cs) c → Has cs c
-recalls-await epoch turn keep [] c waits = waits
-recalls-await epoch turn keep (x ∷ xs) c waits = ⊎_elim (λ p. inl p.0) (λ r. inr (recalls-await epoch (turn + 1) keep xs c r)) waits
+recalls-await : (epoch turn : ℕ) (keep : Bool) (cs : List ℕ) (c : ℕ) → Awaits (recalls epoch turn keep cs) c → Contains cs c
+recalls-await epoch turn keep [] c waits = absurd waits
+recalls-await epoch turn keep (x ∷ xs) c waits = ⊎_elim (λ p. subst (Contains (x ∷ xs)) p.0 (contains_first x xs)) (λ r. contains_rest x c xs (recalls-await epoch (turn + 1) keep xs c r)) waits
 
 recalls-once : (epoch turn : ℕ) (keep : Bool) (cs : List ℕ) → Once cs → OneEach (recalls epoch turn keep cs)
 recalls-once epoch turn keep [] once = tt
@@ -161,39 +162,39 @@ noted_head false a end c h = (refl, h)
 
 noted-awaits : (awaited : List Awaited) (client : ℕ) (stamp : Stamp) (end c : ℕ) → Awaits (noted awaited client stamp end) c → Awaits awaited c
 noted-awaits [] client stamp end c waits = waits
-noted-awaits (a ∷ rest) client stamp end c waits = ⊎_elim (λ h. inl (noted_head (is_answered client stamp a) a end c h).1) (λ r. inr (noted-awaits rest client stamp end c r)) waits
+noted-awaits (a ∷ rest) client stamp end c waits = ⊎_elim (λ h. inl (noted_head (answers client stamp a) a end c h).1) (λ r. inr (noted-awaits rest client stamp end c r)) waits
 
 noted-once : (awaited : List Awaited) (client : ℕ) (stamp : Stamp) (end : ℕ) → OneEach awaited → OneEach (noted awaited client stamp end)
 noted-once [] client stamp end once = tt
 noted-once (a ∷ rest) client stamp end once = (
-  (λ none waits. let h = noted_head (is_answered client stamp a) a end _ (refl, none) in
+  (λ none waits. let h = noted_head (answers client stamp a) a end _ (refl, none) in
       once.0 h.1.1 (subst (Awaits rest) (sym h.1.0) (noted-awaits rest client stamp end _ waits))),
   noted-once rest client stamp end once.1,
 )
 
 -- an answer is to an unanswered recall of the client
-answered : (client : ℕ) (stamp : Stamp) (a : Awaited) → is_answered client stamp a ≡ true → (a.client ≡ client) × (a.end ≡ None)
+answered : (client : ℕ) (stamp : Stamp) (a : Awaited) → answers client stamp a ≡ true → (a.client ≡ client) × (a.end ≡ None)
 answered client stamp a h = (equal_numbers a.client client (grind (arith, nat_tests)), unnamed a.end (grind (arith, nat_tests)))
   where
     unnamed : (o : Option ℕ) → is_some o ≡ false → o ≡ None
     unnamed None none = refl
     unnamed (Some x) none = absurd (cc)
 
-any_awaits : (awaited : List Awaited) (client : ℕ) (stamp : Stamp) → list_any (is_answered client stamp) awaited ≡ true → Awaits awaited client
+any_awaits : (awaited : List Awaited) (client : ℕ) (stamp : Stamp) → list_any (answers client stamp) awaited ≡ true → Awaits awaited client
 any_awaits [] client stamp any = absurd (cc)
-any_awaits (a ∷ rest) client stamp any = at (is_answered client stamp a) refl any (any_awaits rest client stamp)
+any_awaits (a ∷ rest) client stamp any = at (answers client stamp a) refl any (any_awaits rest client stamp)
   where
-    at : (t : Bool) → is_answered client stamp a ≡ t → t || list_any (is_answered client stamp) rest ≡ true → (list_any (is_answered client stamp) rest ≡ true → Awaits rest client) → Awaits (a ∷ rest) client
+    at : (t : Bool) → answers client stamp a ≡ t → t || list_any (answers client stamp) rest ≡ true → (list_any (answers client stamp) rest ≡ true → Awaits rest client) → Awaits (a ∷ rest) client
     at true is _ later = inl (answered client stamp a is)
     at false is any later = inr (later any)
 
 -- after its answer nothing is awaited of the client
-no_longer : (awaited : List Awaited) (client : ℕ) (stamp : Stamp) (end : ℕ) → OneEach awaited → list_any (is_answered client stamp) awaited ≡ true → Awaits (noted awaited client stamp end) client → ⊥
+no_longer : (awaited : List Awaited) (client : ℕ) (stamp : Stamp) (end : ℕ) → OneEach awaited → list_any (answers client stamp) awaited ≡ true → Awaits (noted awaited client stamp end) client → ⊥
 no_longer [] client stamp end once any waits = waits
-no_longer (a ∷ rest) client stamp end once any waits = at (is_answered client stamp a) refl any waits (no_longer rest client stamp end once.1)
+no_longer (a ∷ rest) client stamp end once any waits = at (answers client stamp a) refl any waits (no_longer rest client stamp end once.1)
   where
-    at : (t : Bool) → is_answered client stamp a ≡ t → t || list_any (is_answered client stamp) rest ≡ true → Awaits (cond t (record a { end = Some end }) a ∷ noted rest client stamp end) client
-        → (list_any (is_answered client stamp) rest ≡ true → Awaits (noted rest client stamp end) client → ⊥) → ⊥
+    at : (t : Bool) → answers client stamp a ≡ t → t || list_any (answers client stamp) rest ≡ true → Awaits (cond t (record a { end = Some end }) a ∷ noted rest client stamp end) client
+        → (list_any (answers client stamp) rest ≡ true → Awaits (noted rest client stamp end) client → ⊥) → ⊥
     at true is _ waits later =
         let a_is = answered client stamp a is in
         ⊎_elim (λ h. let e : Some end ≡ None = h.1 in absurd (cc)) (λ r. once.0 a_is.1 (subst (Awaits rest) (sym a_is.0) (noted-awaits rest client stamp end client r))) waits
@@ -202,16 +203,16 @@ no_longer (a ∷ rest) client stamp end once any waits = at (is_answered client 
 -- ---- the state
 
 record Exact (s : SlotState) : Type 0 where
-  only : (block : BlockId) (job : Job) → job_at s.jobs block ≡ Some job → (c : ℕ) → Awaits job.awaited c → MustGiveWay s.beliefs job.ask c
+  only : (block : BlockId) (job : Job) → job_at s.jobs block ≡ Some job → (c : ℕ) → Awaits job.awaited c → MustGiveWay s.beliefs job.want c
   once : (block : BlockId) (job : Job) → job_at s.jobs block ≡ Some job → OneEach job.awaited
 
 more_after : (r r' w : ℕ) → r ≤ r' → 2 < r + w → 2 < r' + w
 more_after r r' w less more = omega arith
 
-must_kept : (bs bs' : List (Holder × Bool)) (ask : Ask) (c : ℕ) → rank_of bs ask.block c ≤ rank_of bs' ask.block c → MustGiveWay bs ask c → MustGiveWay bs' ask c
-must_kept bs bs' ask c less way = (way.0, more_after (rank_of bs ask.block c) (rank_of bs' ask.block c) (wanted ask.mode) less way.1)
+must_kept : (bs bs' : List (Holder × Bool)) (want : Wanted) (c : ℕ) → share_of bs want.block c ≤ share_of bs' want.block c → MustGiveWay bs want c → MustGiveWay bs' want c
+must_kept bs bs' want c less way = (way.0, more_after (share_of bs want.block c) (share_of bs' want.block c) (wanted_share want.mode) less way.1)
 
-must_found : (t : Bool) (o : Option Bool) → gives_way (not t) o ≡ true → 2 < rank o + cond t 2 1
+must_found : (t : Bool) (o : Option Bool) → gives_way (not t) o ≡ true → 2 < share o + cond t 2 1
 must_found t None way = absurd (cc)
 must_found true (Some true) way = omega arith
 must_found true (Some false) way = omega arith
@@ -222,26 +223,26 @@ other_holder : (h k : Holder) → (h.block ≡ k.block → ⊥) → h ≡ k → 
 other_holder h k other same = other (ap (λ (x : Holder). x.block) same)
 
 -- a want that waits for one block, where none waits for the other, waits for another block
-other_block : (jobs : List (BlockId × Job)) (block b : BlockId) (job : Job) → Waiting jobs → job_at jobs block ≡ None → job_at jobs b ≡ Some job → job.ask.block ≡ block → ⊥
+other_block : (jobs : List (BlockId × Job)) (block b : BlockId) (job : Job) → Waiting jobs → job_at jobs block ≡ None → job_at jobs b ≡ Some job → job.want.block ≡ block → ⊥
 other_block jobs block b job w none is same =
     let here : job_at jobs block ≡ Some job = subst (λ x. job_at jobs x ≡ Some job) (sym (w.own b job is) ∙ same) is in
     let clash : None ≡ Some job = sym none ∙ here in
     absurd (cc)
 
-exact-finished : (s : SlotState) (ask : Ask) → Waiting s.jobs → Exact s → job_at s.jobs ask.block ≡ None → Exact (finished s ask).state
-exact-finished s ask w exact none = record {
-  only = λ block job is c waits. must_kept s.beliefs (after_ask s.beliefs ask) job.ask c (more_elsewhere s.beliefs ask (holder job.ask.block c) (other_block s.jobs ask.block block job w none is)) (exact.only block job is c waits);
+exact-finished : (s : SlotState) (want : Wanted) → Waiting s.jobs → Exact s → job_at s.jobs want.block ≡ None → Exact (finished s want).state
+exact-finished s want w exact none = record {
+  only = λ block job is c waits. must_kept s.beliefs (want_met s.beliefs want) job.want c (more_elsewhere s.beliefs want (holder job.want.block c) (other_block s.jobs want.block block job w none is)) (exact.only block job is c waits);
   once = exact.once;
 }
 
-exact-recalled : (s : SlotState) (job : Job) (turn : ℕ) → ((c : ℕ) → Awaits job.awaited c → MustGiveWay s.beliefs job.ask c) → OneEach job.awaited → Exact s → Exact (record s { jobs = insert_entry block_cmp s.jobs job.ask.block job; turn = turn })
+exact-recalled : (s : SlotState) (job : Job) (turn : ℕ) → ((c : ℕ) → Awaits job.awaited c → MustGiveWay s.beliefs job.want c) → OneEach job.awaited → Exact s → Exact (record s { jobs = insert_entry block_cmp s.jobs job.want.block job; turn = turn })
 exact-recalled s job turn only once exact = record {
-  only = λ b found is. at (eq_by_cmp block_cmp b job.ask.block) b found (sym (lookup-insert_entry block_cmp_total b job.ask.block job s.jobs) ∙ is);
-  once = λ b found is. each (eq_by_cmp block_cmp b job.ask.block) b found (sym (lookup-insert_entry block_cmp_total b job.ask.block job s.jobs) ∙ is);
+  only = λ b found is. at (eq_by_cmp block_cmp b job.want.block) b found (sym (lookup-insert_entry block_cmp_total b job.want.block job s.jobs) ∙ is);
+  once = λ b found is. each (eq_by_cmp block_cmp b job.want.block) b found (sym (lookup-insert_entry block_cmp_total b job.want.block job s.jobs) ∙ is);
 }
   where
-    at : (t : Bool) (b : BlockId) (found : Job) → cond t (Some job) (job_at s.jobs b) ≡ Some found → (c : ℕ) → Awaits found.awaited c → MustGiveWay s.beliefs found.ask c
-    at true b found is = subst (λ (j : Job). (c : ℕ) → Awaits j.awaited c → MustGiveWay s.beliefs j.ask c) (ap (λ (o : Option Job). unwrap_or o job) is) only
+    at : (t : Bool) (b : BlockId) (found : Job) → cond t (Some job) (job_at s.jobs b) ≡ Some found → (c : ℕ) → Awaits found.awaited c → MustGiveWay s.beliefs found.want c
+    at true b found is = subst (λ (j : Job). (c : ℕ) → Awaits j.awaited c → MustGiveWay s.beliefs j.want c) (ap (λ (o : Option Job). unwrap_or o job) is) only
     at false b found is = exact.only b found is
 
     each : (t : Bool) (b : BlockId) (found : Job) → cond t (Some job) (job_at s.jobs b) ≡ Some found → OneEach found.awaited
@@ -255,38 +256,38 @@ exact-let_go s block w exact = record {
 }
 
 -- wants for other blocks lose nobody by an answer
-kept_given : (s : SlotState) (ask : Ask) (client : ℕ) (block b : BlockId) (job : Job) → Sound s → Exact s → job_at s.jobs b ≡ Some job → (job.ask.block ≡ block → ⊥) → (c : ℕ) → Awaits job.awaited c → MustGiveWay (given s ask client block).beliefs job.ask c
-kept_given s ask client block b job sound exact is other c waits =
-    must_kept s.beliefs (given s ask client block).beliefs job.ask c (more_others s.beliefs (holder block client) (holder job.ask.block c) (not (is_own ask.mode)) sound.sorted (other_holder (holder job.ask.block c) (holder block client) other)) (exact.only b job is c waits)
+kept_given : (s : SlotState) (want : Wanted) (client : ℕ) (block b : BlockId) (job : Job) → Sound s → Exact s → job_at s.jobs b ≡ Some job → (job.want.block ≡ block → ⊥) → (c : ℕ) → Awaits job.awaited c → MustGiveWay (given s want client block).beliefs job.want c
+kept_given s want client block b job sound exact is other c waits =
+    must_kept s.beliefs (given s want client block).beliefs job.want c (more_others s.beliefs (holder block client) (holder job.want.block c) (not (is_own want.mode)) sound.sorted (other_holder (holder job.want.block c) (holder block client) other)) (exact.only b job is c waits)
 
-exact-all_given : (s : SlotState) (ask : Ask) (client : ℕ) (block : BlockId) → Sound s → Exact s → Exact (all_given s client block ask)
-exact-all_given s ask client block sound exact =
+exact-all_given : (s : SlotState) (want : Wanted) (client : ℕ) (block : BlockId) → Sound s → Exact s → Exact (all_given s client block want)
+exact-all_given s want client block sound exact =
     let w = sound.waiting in
     let removed = waiting-removed s.jobs block w in
     let was : (b : BlockId) (job : Job) → job_at (without_job s.jobs block) b ≡ Some job → job_at s.jobs b ≡ Some job = λ b job is. was_there (eq_by_cmp block_cmp block b) (job_at s.jobs b) job (sym (after_removal s.jobs block b w.sorted) ∙ is) in
     record {
-      only = λ b job is. kept_given s ask client block b job sound exact (was b job is) (other_block (without_job s.jobs block) block b job removed (gone s.jobs block w.sorted) is);
+      only = λ b job is. kept_given s want client block b job sound exact (was b job is) (other_block (without_job s.jobs block) block b job removed (gone s.jobs block w.sorted) is);
       once = λ b job is. exact.once b job (was b job is);
     }
 
-exact-gave_one : (s : SlotState) (job : Job) (client : ℕ) (block : BlockId) (stamp : Stamp) (end : ℕ) → Sound s → Exact s → job_at s.jobs block ≡ Some job → list_any (is_answered client stamp) job.awaited ≡ true
-    → Exact (gave_one s client block job.ask (noted job.awaited client stamp end))
+exact-gave_one : (s : SlotState) (job : Job) (client : ℕ) (block : BlockId) (stamp : Stamp) (end : ℕ) → Sound s → Exact s → job_at s.jobs block ≡ Some job → list_any (answers client stamp) job.awaited ≡ true
+    → Exact (gave_one s client block job.want (noted job.awaited client stamp end))
 exact-gave_one s job client block stamp end sound exact mine any = record {
   only = λ b found is. at (eq_by_cmp block_cmp b block) b found refl (sym (lookup-insert_entry block_cmp_total b block waits_on s.jobs) ∙ is);
   once = λ b found is. each (eq_by_cmp block_cmp b block) b found (sym (lookup-insert_entry block_cmp_total b block waits_on s.jobs) ∙ is);
 }
   where
     waits_on : Job
-    waits_on = record { ask = job.ask; awaited = noted job.awaited client stamp end }
+    waits_on = record { want = job.want; awaited = noted job.awaited client stamp end }
 
-    left : (c : ℕ) → Awaits (noted job.awaited client stamp end) c → MustGiveWay (given s job.ask client block).beliefs job.ask c
+    left : (c : ℕ) → Awaits (noted job.awaited client stamp end) c → MustGiveWay (given s job.want client block).beliefs job.want c
     left c waits =
-        let other : holder job.ask.block c ≡ holder block client → ⊥ = λ p. no_longer job.awaited client stamp end (exact.once block job mine) any (subst (Awaits (noted job.awaited client stamp end)) (ap (λ (h : Holder). h.client) p) waits) in
-        must_kept s.beliefs (given s job.ask client block).beliefs job.ask c (more_others s.beliefs (holder block client) (holder job.ask.block c) (not (is_own job.ask.mode)) sound.sorted other) (exact.only block job mine c (noted-awaits job.awaited client stamp end c waits))
+        let other : holder job.want.block c ≡ holder block client → ⊥ = λ p. no_longer job.awaited client stamp end (exact.once block job mine) any (subst (Awaits (noted job.awaited client stamp end)) (ap (λ (h : Holder). h.client) p) waits) in
+        must_kept s.beliefs (given s job.want client block).beliefs job.want c (more_others s.beliefs (holder block client) (holder job.want.block c) (not (is_own job.want.mode)) sound.sorted other) (exact.only block job mine c (noted-awaits job.awaited client stamp end c waits))
 
-    at : (t : Bool) (b : BlockId) (found : Job) → eq_by_cmp block_cmp b block ≡ t → cond t (Some waits_on) (job_at s.jobs b) ≡ Some found → (c : ℕ) → Awaits found.awaited c → MustGiveWay (given s job.ask client block).beliefs found.ask c
-    at true b found _ is = subst (λ (j : Job). (c : ℕ) → Awaits j.awaited c → MustGiveWay (given s job.ask client block).beliefs j.ask c) (ap (λ (o : Option Job). unwrap_or o waits_on) is) left
-    at false b found apart is = kept_given s job.ask client block b found sound exact is
+    at : (t : Bool) (b : BlockId) (found : Job) → eq_by_cmp block_cmp b block ≡ t → cond t (Some waits_on) (job_at s.jobs b) ≡ Some found → (c : ℕ) → Awaits found.awaited c → MustGiveWay (given s job.want client block).beliefs found.want c
+    at true b found _ is = subst (λ (j : Job). (c : ℕ) → Awaits j.awaited c → MustGiveWay (given s job.want client block).beliefs j.want c) (ap (λ (o : Option Job). unwrap_or o waits_on) is) left
+    at false b found apart is = kept_given s job.want client block b found sound exact is
         (λ same. false≢true (sym apart ∙ subst (λ x. eq_by_cmp block_cmp b x ≡ true) (sym (sound.waiting.own b found is) ∙ same) (block_laws.refl b)))
 
     each : (t : Bool) (b : BlockId) (found : Job) → cond t (Some waits_on) (job_at s.jobs b) ≡ Some found → OneEach found.awaited
@@ -297,40 +298,40 @@ exact-steps : (s : SlotState) (applied : List ℕ) (blocks : List BlockId) → S
 exact-steps s applied [] sound exact ready = exact
 exact-steps s applied (b ∷ bs) sound exact ready =
     let w = sound.waiting in
-    let one : Exact (finished_at s b).state = by_finished_at (λ r. Exact r.state) s b exact (λ job is. exact-finished (let_go s b) job.ask (waiting-removed s.jobs b w) (exact-let_go s b w exact) (subst (λ x. job_at (without_job s.jobs b) x ≡ None) (sym (w.own b job is)) (gone s.jobs b w.sorted))) in
-    let next : Sound (finished_at s b).state = by_finished_at (λ r. Sound r.state) s b sound (λ job is. sound-answered s applied b job sound is (ready b (inl refl) job is)) in
-    exact-steps (finished_at s b).state applied bs next one (λ block has job is. ready block (inr has) job (jobs_fewer s b block job w is))
+    let one : Exact (finished_at s b).state = by_finished_at (λ r. Exact r.state) s b exact (λ job is. exact-finished (let_go s b) job.want (waiting-removed s.jobs b w) (exact-let_go s b w exact) (subst (λ x. job_at (without_job s.jobs b) x ≡ None) (sym (w.own b job is)) (gone s.jobs b w.sorted))) in
+    let next : Sound (finished_at s b).state = by_finished_at (λ r. Sound r.state) s b sound (λ job is. sound-answered s applied b job sound is (ready b (contains_first b bs) job is)) in
+    exact-steps (finished_at s b).state applied bs next one (λ block has job is. ready block (contains_rest b block bs has) job (jobs_fewer s b block job w is))
 
 -- ---- the inputs
 
-exact-step : (s : SlotState) (input : In) → Sound s → Exact s → Exact (step s input).state
-exact-step s (Want client inc req again block mode end) sound exact =
-    let ask = ask_of client inc req again block mode in
+exact-transition : (s : SlotState) (input : In) → Sound s → Exact s → Exact (transition s input).state
+exact-transition s (Want client block inc req again mode end) sound exact =
+    let want = want_of client block inc req again mode in
     let owners = not (is_own mode) in
-    by_want (λ r. Exact r.state) s ask end exact
-    (λ going _. exact-finished s ask sound.waiting exact (not_waiting (job_at s.jobs block) _ _ going))
-    (λ _. exact-recalled s (record { ask = ask; awaited = recalls s.epoch s.turn owners (recalled_from s ask) }) (s.turn + length (recalled_from s ask))
-    (λ c waits. let found = others_from s.beliefs block client c owners sound.sorted (recalls-await s.epoch s.turn owners (recalled_from s ask) c waits) in (found.0, must_found (is_own mode) (belief s.beliefs (holder block c)) found.1))
-    (recalls-once s.epoch s.turn owners (recalled_from s ask) (others_once s.beliefs block client owners sound.sorted)) exact)
-exact-step s (Gave client block stamp end) sound exact =
+    by_want (λ r. Exact r.state) s want end exact
+    (λ going _. exact-finished s want sound.waiting exact (not_waiting (job_at s.jobs block) _ _ going))
+    (λ _. exact-recalled s (record { want = want; awaited = recalls s.epoch s.turn owners (recalled_from s want) }) (s.turn + length (recalled_from s want))
+    (λ c waits. let found = others_from s.beliefs block client c owners sound.sorted (recalls-await s.epoch s.turn owners (recalled_from s want) c waits) in (found.0, must_found (is_own mode) (belief s.beliefs (holder block c)) found.1))
+    (recalls-once s.epoch s.turn owners (recalled_from s want) (others_once s.beliefs block client owners sound.sorted)) exact)
+exact-transition s (Gave client block stamp end) sound exact =
     let w = sound.waiting in
     by_gave_answered (λ r. Exact r.state) s client block stamp end exact
-    (λ job is _. exact-finished (all_given s client block job.ask) job.ask (waiting-removed s.jobs block w) (exact-all_given s job.ask client block sound exact) (subst (λ x. job_at (without_job s.jobs block) x ≡ None) (sym (w.own block job is)) (gone s.jobs block w.sorted)))
+    (λ job is _. exact-finished (all_given s client block job.want) job.want (waiting-removed s.jobs block w) (exact-all_given s job.want client block sound exact) (subst (λ x. job_at (without_job s.jobs block) x ≡ None) (sym (w.own block job is)) (gone s.jobs block w.sorted)))
     (λ job is any. exact-gave_one s job client block stamp end sound exact is any)
-exact-step s (Deltas log first upto rows) sound exact =
+exact-transition s (Deltas log first upto rows) sound exact =
     by_deltas (λ r. Exact r.state) s log first upto rows exact exact
     (λ _. exact-steps (with_deltas s log upto rows) (applied_upto s.applied log upto) (ready_blocks s.jobs (applied_upto s.applied log upto))
     (record { sorted = sound.sorted; waiting = sound.waiting; alone = sound.alone; awaits = sound.awaits })
     (record { only = exact.only; once = exact.once })
     (ready_finds s.jobs (applied_upto s.applied log upto) sound.waiting.sorted))
-exact-step s (Check block place) sound exact = exact
-exact-step s Tick sound exact = exact
+exact-transition s (Check block place) sound exact = exact
+exact-transition s Tick sound exact = exact
 
-pub guarded-all : (epoch : ℕ) (index : List (BlockId × Entry)) (beliefs : List (BlockId × ℕ × Mode)) (applied : List ℕ) (inputs : List In) → OwnsAlone (started epoch index beliefs applied).beliefs → IsGuarded (after_all (started epoch index beliefs applied) inputs)
+pub guarded-all : (epoch : ℕ) (index : List (BlockId × Entry)) (beliefs : List (BlockId × ℕ × Mode)) (applied : List ℕ) (inputs : List In) → OwnsAlone (started epoch index beliefs applied).beliefs → IsGuarded (state_after (started epoch index beliefs applied) inputs)
 guarded-all epoch index beliefs applied inputs alone =
     let first : Exact (started epoch index beliefs applied) = record { only = λ block job is. absurd (cc); once = λ block job is. absurd (cc) } in
-    let last : Sound (after_all (started epoch index beliefs applied) inputs) × Exact (after_all (started epoch index beliefs applied) inputs) =
-    steps_keep step (λ t. Sound t × Exact t) (λ t input both. (sound-step t input both.0, exact-step t input both.0 both.1)) (started epoch index beliefs applied) inputs (sound-start epoch index beliefs applied alone, first)
+    let last : Sound (state_after (started epoch index beliefs applied) inputs) × Exact (state_after (started epoch index beliefs applied) inputs) =
+    steps_keep transition (λ t. Sound t × Exact t) (λ t input both. (sound-transition t input both.0, exact-transition t input both.0 both.1)) (started epoch index beliefs applied) inputs (sound-start epoch index beliefs applied alone, first)
     in
     record {
       alone = last.0.alone;

@@ -6,39 +6,40 @@ use Rattle.xfs_base.specs.declared.block.BlockId.{BlockId}
 use Rattle.xfs_base.specs.declared.entry.Entry.{Entry}
 use Rattle.xfs_base.specs.declared.segment.LogId.{LogId}
 use Rattle.xfs_base.specs.declared.token.Stamp.{Stamp}
-use Rattle.token_manager.specs.declared.job.Ask.{Ask}
+use Rattle.xfs_base.specs.Modes.{is_own}
+use Rattle.token_manager.specs.declared.job.Wanted.{Wanted}
 use Rattle.token_manager.specs.declared.job.Job.{Job}
-use Rattle.token_manager.specs.Beliefs.{is_own, others}
-use Rattle.token_manager.specs.Recalls.{is_answered, noted, applied_of, is_ready}
+use Rattle.token_manager.specs.Beliefs.{others}
+use Rattle.token_manager.specs.Recalls.{answers, noted, applied_of, is_ready}
 use Rattle.token_manager.specs.SlotState.{SlotState}
-use Rattle.token_manager.specs.Transition.{Done, has_turns, job_at, without_job, finished, finish, recalled, recall, recall_or_finish, is_dropped, want, given, gave_last, gave_one, gave_noted, gave_job, gave, finished_job, finished_at, can_apply, apply, apply_or_not, joins_on, is_followed, told_applied, deltas_of, deltas}
+use Rattle.token_manager.specs.Transition.{Done, has_turns, job_at, without_job, finished, finish, recalled, recall, recall_or_finish, is_dropped, on_want, given, gave_last, gave_one, gave_noted, gave_job, on_gave, finished_job, finished_at, can_apply, apply, apply_or_not, joins_on, is_followed, told_applied, deltas_of, on_deltas}
 
 choose : (Q : Done → Type 0) (b : Bool) (x y : Done) → (b ≡ true → Q x) → (b ≡ false → Q y) → Q (cond b x y)
 choose Q true x y first second = first refl
 choose Q false x y first second = second refl
 
 -- the clients from which a want recalls its block
-abbrev pub recalled_from : SlotState → Ask → List ℕ
-recalled_from s ask = others s.beliefs ask.block ask.client (not (is_own ask.mode))
+abbrev pub recalled_from : SlotState → Wanted → List ℕ
+recalled_from s want = others s.beliefs want.block want.client (not (is_own want.mode))
 
-pub by_want : (Q : Done → Type 0) (s : SlotState) (ask : Ask) (end : ℕ) → Q (still s)
-    → (is_dropped s ask end ≡ false → (length (recalled_from s ask) == 0) ≡ true → Q (finished s ask))
-    → (is_dropped s ask end ≡ false → Q (recalled s ask (recalled_from s ask))) → Q (want s ask end)
-by_want Q s ask end same done waits =
-    let clients = recalled_from s ask in
-    choose Q (is_dropped s ask end) (still s) (recall_or_finish s ask clients) (λ _. same) (λ going.
-    choose Q (length clients == 0) (finish s ask) (recall s ask clients)
-    (λ none. choose Q (has_turns s.turn 1) (finished s ask) (still s) (λ _. done going none) (λ _. same))
-    (λ _. choose Q (has_turns s.turn (length clients)) (recalled s ask clients) (still s) (λ _. waits going) (λ _. same)))
+pub by_want : (Q : Done → Type 0) (s : SlotState) (want : Wanted) (end : ℕ) → Q (still s)
+    → (is_dropped s want end ≡ false → (length (recalled_from s want) == 0) ≡ true → Q (finished s want))
+    → (is_dropped s want end ≡ false → Q (recalled s want (recalled_from s want))) → Q (on_want s want end)
+by_want Q s want end same done waits =
+    let clients = recalled_from s want in
+    choose Q (is_dropped s want end) (still s) (recall_or_finish s want clients) (λ _. same) (λ going.
+    choose Q (length clients == 0) (finish s want) (recall s want clients)
+    (λ none. choose Q (has_turns s.turn 1) (finished s want) (still s) (λ _. done going none) (λ _. same))
+    (λ _. choose Q (has_turns s.turn (length clients)) (recalled s want clients) (still s) (λ _. waits going) (λ _. same)))
 
 -- the state in which a want is answered once its last recall is
-abbrev pub all_given : SlotState → ℕ → BlockId → Ask → SlotState
-all_given s client block ask = record (given s ask client block) { jobs = without_job s.jobs block }
+abbrev pub all_given : SlotState → ℕ → BlockId → Wanted → SlotState
+all_given s client block want = record (given s want client block) { jobs = without_job s.jobs block }
 
 pub by_gave : (Q : Done → Type 0) (s : SlotState) (client : ℕ) (block : BlockId) (stamp : Stamp) (end : ℕ) → Q (still s)
-    → ((job : Job) → job_at s.jobs block ≡ Some job → is_ready s.applied (noted job.awaited client stamp end) ≡ true → Q (finished (all_given s client block job.ask) job.ask))
-    → ((job : Job) → job_at s.jobs block ≡ Some job → Q (still (gave_one s client block job.ask (noted job.awaited client stamp end))))
-    → Q (gave s client block stamp end)
+    → ((job : Job) → job_at s.jobs block ≡ Some job → is_ready s.applied (noted job.awaited client stamp end) ≡ true → Q (finished (all_given s client block job.want) job.want))
+    → ((job : Job) → job_at s.jobs block ≡ Some job → Q (still (gave_one s client block job.want (noted job.awaited client stamp end))))
+    → Q (on_gave s client block stamp end)
 unfolding gave_noted
 by_gave Q s client block stamp end same done noted_ = by_job (job_at s.jobs block) refl
   where
@@ -46,17 +47,17 @@ by_gave Q s client block stamp end same done noted_ = by_job (job_at s.jobs bloc
     by_job None is = same
     by_job (Some job) is =
         let awaited = noted job.awaited client stamp end in
-        choose Q (list_any (is_answered client stamp) job.awaited) (gave_noted s client block job.ask awaited) (still s)
-        (λ _. choose Q (is_ready s.applied awaited) (gave_last s client block job.ask) (still (gave_one s client block job.ask awaited))
-        (λ ready. choose Q (has_turns s.turn 1) (finished (all_given s client block job.ask) job.ask) (still s) (λ _. done job is ready) (λ _. same))
+        choose Q (list_any (answers client stamp) job.awaited) (gave_noted s client block job.want awaited) (still s)
+        (λ _. choose Q (is_ready s.applied awaited) (gave_last s client block job.want) (still (gave_one s client block job.want awaited))
+        (λ ready. choose Q (has_turns s.turn 1) (finished (all_given s client block job.want) job.want) (still s) (λ _. done job is ready) (λ _. same))
         (λ _. noted_ job is))
         (λ _. same)
 
 -- the same, with the recall that is answered
 pub by_gave_answered : (Q : Done → Type 0) (s : SlotState) (client : ℕ) (block : BlockId) (stamp : Stamp) (end : ℕ) → Q (still s)
-    → ((job : Job) → job_at s.jobs block ≡ Some job → list_any (is_answered client stamp) job.awaited ≡ true → Q (finished (all_given s client block job.ask) job.ask))
-    → ((job : Job) → job_at s.jobs block ≡ Some job → list_any (is_answered client stamp) job.awaited ≡ true → Q (still (gave_one s client block job.ask (noted job.awaited client stamp end))))
-    → Q (gave s client block stamp end)
+    → ((job : Job) → job_at s.jobs block ≡ Some job → list_any (answers client stamp) job.awaited ≡ true → Q (finished (all_given s client block job.want) job.want))
+    → ((job : Job) → job_at s.jobs block ≡ Some job → list_any (answers client stamp) job.awaited ≡ true → Q (still (gave_one s client block job.want (noted job.awaited client stamp end))))
+    → Q (on_gave s client block stamp end)
 unfolding gave_noted
 by_gave_answered Q s client block stamp end same done noted_ = by_job (job_at s.jobs block) refl
   where
@@ -64,14 +65,14 @@ by_gave_answered Q s client block stamp end same done noted_ = by_job (job_at s.
     by_job None is = same
     by_job (Some job) is =
         let awaited = noted job.awaited client stamp end in
-        choose Q (list_any (is_answered client stamp) job.awaited) (gave_noted s client block job.ask awaited) (still s)
-        (λ any. choose Q (is_ready s.applied awaited) (gave_last s client block job.ask) (still (gave_one s client block job.ask awaited))
-        (λ _. choose Q (has_turns s.turn 1) (finished (all_given s client block job.ask) job.ask) (still s) (λ _. done job is any) (λ _. same))
+        choose Q (list_any (answers client stamp) job.awaited) (gave_noted s client block job.want awaited) (still s)
+        (λ any. choose Q (is_ready s.applied awaited) (gave_last s client block job.want) (still (gave_one s client block job.want awaited))
+        (λ _. choose Q (has_turns s.turn 1) (finished (all_given s client block job.want) job.want) (still s) (λ _. done job is any) (λ _. same))
         (λ _. noted_ job is any))
         (λ _. same)
 
 pub by_deltas : (Q : Done → Type 0) (s : SlotState) (log : LogId) (first upto : ℕ) (rows : List (BlockId × Entry)) → Q (still s) → Q (told_applied s log)
-    → (joins_on (applied_of s.applied log.0) first upto ≡ true → Q (apply s log upto rows)) → Q (deltas s log first upto rows)
+    → (joins_on (applied_of s.applied log.0) first upto ≡ true → Q (apply s log upto rows)) → Q (on_deltas s log first upto rows)
 by_deltas Q s log first upto rows same told done =
     choose Q (is_followed log) (deltas_of s log first upto rows) (still s)
     (λ _. choose Q (joins_on (applied_of s.applied log.0) first upto) (apply_or_not s log upto rows) (told_applied s log)
@@ -83,7 +84,7 @@ by_deltas Q s log first upto rows same told done =
 abbrev pub let_go : SlotState → BlockId → SlotState
 let_go s block = record s { jobs = without_job s.jobs block }
 
-pub by_finished_at : (Q : Done → Type 0) (s : SlotState) (block : BlockId) → Q (still s) → ((job : Job) → job_at s.jobs block ≡ Some job → Q (finished (let_go s block) job.ask)) → Q (finished_at s block)
+pub by_finished_at : (Q : Done → Type 0) (s : SlotState) (block : BlockId) → Q (still s) → ((job : Job) → job_at s.jobs block ≡ Some job → Q (finished (let_go s block) job.want)) → Q (finished_at s block)
 unfolding finished_at
 by_finished_at Q s block same done = by_job (job_at s.jobs block) refl
   where
@@ -92,6 +93,6 @@ by_finished_at Q s block same done = by_job (job_at s.jobs block) refl
     by_job (Some job) is = done job is
 
 -- what is sent when the want that waits for a block is answered
-pub finished_at-outs : (s : SlotState) (block : BlockId) (job : Job) → job_at s.jobs block ≡ Some job → (finished_at s block).outs ≡ (finished s job.ask).outs
+pub finished_at-outs : (s : SlotState) (block : BlockId) (job : Job) → job_at s.jobs block ≡ Some job → (finished_at s block).outs ≡ (finished s job.want).outs
 unfolding finished_at
 finished_at-outs s block job is = ap (λ o. (finished_job s block o).outs) is

@@ -21,8 +21,8 @@ use Rattle.xfs_base.proofs.BlockOrder.{block_cmp_total}
 use Rattle.delta_index.specs.Entries.{no_entry, is_newer}
 use Rattle.delta_index.specs.Index.{entry_of, merged}
 use Rattle.usage_table.specs.Counts.{count_of, blocks_at, after_shift}
-use Rattle.usage_table.proofs.SegOrder.{seg_cmp_total, seg_cmp_exact}
-use Rattle.usage_table.proofs.Sorted.{sorted_insert}
+use Rattle.xfs_base.proofs.Orders.{seg_cmp_total, seg_cmp_exact}
+use Rattle.xfs_base.proofs.Sorted.{sorted_insert}
 use Rattle.usage_table.proofs.Table.{table_after_shift, count_of-after_shift}
 use Rattle.token_manager.specs.Index.{Indexed, nothing_indexed, IsCounted, segment_of, live_in, moved, indexed, indexed_all, can_rise, has_room, Fits}
 

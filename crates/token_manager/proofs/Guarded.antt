@@ -1,6 +1,6 @@
 -- Owners are alone, and each want that waits awaits all who must give way: every input keeps this.
 -- Besides, the beliefs and the wants stand in order.
-use Rattle.std.proofs.Common.{◌≡◌, ℕ, ◌+◌, ◌≤◌, ◌<◌, ◌==◌, ◌&&◌, Bool, true, false, cond, not, nat_lt, length, List, [], ◌∷◌, ◌⊎◌, inl, inr, ⊎_elim, Option, Some, None, is_some, unwrap_or, refl, sym, ap, subst, ◌∙◌, arith}
+use Rattle.std.proofs.Common.{Contains, ◌≡◌, ℕ, ◌+◌, ◌≤◌, ◌<◌, ◌==◌, Bool, true, false, cond, not, nat_lt, length, List, [], ◌∷◌, ◌⊎◌, inl, inr, ⊎_elim, Option, Some, None, is_some, unwrap_or, refl, sym, ap, subst, ◌∙◌, arith}
 use Rattle.std.specs.declared.cmp.Ordering.TheVariants.{Less}
 use Rattle.std.specs.Ordering.{eq_by_cmp, is_eq}
 use Rattle.std.specs.List.{filter, AllByRecursion}
@@ -18,21 +18,23 @@ use Rattle.xfs_base.specs.declared.token.Stamp.{Stamp}
 use Rattle.xfs_base.specs.Blocks.{block_cmp, same_block}
 use Rattle.xfs_base.specs.Steps.{steps}
 use Rattle.xfs_base.proofs.BlockOrder.{block_cmp_total, block_cmp_exact, lookup-insert_entry}
-use Rattle.usage_table.proofs.Sorted.{sorted_insert, sorted_remove}
+use Rattle.xfs_base.proofs.Sorted.{sorted_insert, sorted_remove}
+use Rattle.xfs_base.specs.Modes.{is_own, is_nothing}
+use Rattle.xfs_base.proofs.Booleans.{and_first, and_second}
+use Rattle.xfs_base.proofs.Members.{contains_nothing, contains_first, contains_rest, contains_cases}
 use Rattle.token_manager.specs.declared.job.Holder.{Holder}
-use Rattle.token_manager.specs.declared.job.Ask.{Ask}
+use Rattle.token_manager.specs.declared.job.Wanted.{Wanted}
 use Rattle.token_manager.specs.declared.job.Job.{Job}
 use Rattle.token_manager.specs.declared.job.Awaited.{Awaited}
-use Rattle.token_manager.specs.declared.told.In.{In}
-use Rattle.token_manager.specs.declared.told.In.TheVariants.{Want, Gave, Deltas, Check, Tick}
-use Rattle.token_manager.specs.Beliefs.{holder_cmp, holder, is_own, is_nothing, without_block, owned_by, held_by, after_ask, given_up, believed, all_believed}
-use Rattle.token_manager.specs.Recalls.{recalls, is_answered, noted, is_applied, is_ready, ready_blocks}
+use Rattle.token_manager.specs.declared.input.In.{In}
+use Rattle.token_manager.specs.declared.input.In.TheVariants.{Want, Gave, Deltas, Check, Tick}
+use Rattle.token_manager.specs.Beliefs.{holder_cmp, holder, without_block, owned_by, held_by, want_met, given_up, believed, all_believed}
+use Rattle.token_manager.specs.Recalls.{recalls, answers, noted, is_applied, is_ready, ready_blocks}
 use Rattle.token_manager.specs.SlotState.{SlotState}
-use Rattle.token_manager.specs.Transition.{started, job_at, without_job, ask_of, finished, given, applied_upto, with_deltas, finished_at, step}
-use Rattle.token_manager.specs.Laws.{Has, rank, rank_of, wanted, OwnsAlone, Awaits}
+use Rattle.token_manager.specs.Transition.{started, job_at, without_job, want_of, finished, given, applied_upto, with_deltas, finished_at, transition}
+use Rattle.token_manager.specs.Laws.{share, share_of, wanted_share, OwnsAlone, Awaits}
 use Rattle.token_manager.proofs.Cases.{recalled_from, by_want, all_given, by_gave, by_deltas, let_go, by_finished_at}
-use Rattle.token_manager.proofs.OneOwner.{holder_cmp_exact}
-use Rattle.token_manager.proofs.Ranks.{holder_cmp_total, holder_laws, belief, least, asker, less, kept, found_by}
+use Rattle.token_manager.proofs.Shares.{holder_cmp_exact, holder_cmp_total, holder_laws, belief, least, asker, less, kept, found_by}
 use Rattle.token_manager.proofs.JobsBarGrants.{Waiting, block_laws, after_removal, was_there, gone, waiting-removed, waiting-put, nobody_waits, not_waiting}
 
 -- ---- the beliefs stay in order
@@ -54,10 +56,10 @@ sorted_filter p (e ∷ es) sorted =
 sorted-put : (bs : List (Holder × Bool)) (h : Holder) (owns : Bool) → IsInOrder bs → IsInOrder (insert_entry holder_cmp bs h owns)
 sorted-put bs h owns sorted = sorted_insert holder_cmp holder_cmp_total h owns bs sorted
 
-sorted-after_ask : (bs : List (Holder × Bool)) (ask : Ask) → IsInOrder bs → IsInOrder (after_ask bs ask)
-sorted-after_ask bs ask sorted =
-    let h = holder ask.block ask.client in
-    elim (is_own ask.mode) as (λ t. IsInOrder (cond t (owned_by bs h) (held_by bs h))) [
+sorted-want_met : (bs : List (Holder × Bool)) (want : Wanted) → IsInOrder bs → IsInOrder (want_met bs want)
+sorted-want_met bs want sorted =
+    let h = holder want.block want.client in
+    elim (is_own want.mode) as (λ t. IsInOrder (cond t (owned_by bs h) (held_by bs h))) [
       | true ↦ sorted-put (without_block bs h.block) h true (sorted_filter (λ b. not (same_block b.0.block h.block)) bs sorted)
       | false ↦ elim (is_some (belief bs h)) as (λ t. IsInOrder (cond t bs (insert_entry holder_cmp bs h false))) [ true ↦ sorted | false ↦ sorted-put bs h false sorted ]
     ]
@@ -90,17 +92,17 @@ with_asker mine was other before want (inl a) b c d = omega arith
 with_asker mine was other before want (inr a) b c d = omega arith
 
 -- the others leave the asker what it wants
-abbrev LeavesRoom : List (Holder × Bool) → Ask → Type 0
-LeavesRoom bs ask = (c : ℕ) → (c ≡ ask.client → ⊥) → rank_of bs ask.block c + wanted ask.mode ≤ 2
+abbrev LeavesRoom : List (Holder × Bool) → Wanted → Type 0
+LeavesRoom bs want = (c : ℕ) → (c ≡ want.client → ⊥) → share_of bs want.block c + wanted_share want.mode ≤ 2
 
-alone-asker : (bs : List (Holder × Bool)) (ask : Ask) (block : BlockId) (c d : ℕ) → OwnsAlone bs → LeavesRoom bs ask → (c ≡ d → ⊥) → holder block c ≡ holder ask.block ask.client → rank_of (after_ask bs ask) block c + rank_of (after_ask bs ask) block d ≤ 2
-alone-asker bs ask block c d alone room apart p =
-    let same : block ≡ ask.block = ap (λ (h : Holder). h.block) p in
-    let me : c ≡ ask.client = ap (λ (h : Holder). h.client) p in
-    let mine : (rank_of (after_ask bs ask) block c ≤ wanted ask.mode) ⊎ (rank_of (after_ask bs ask) block c ≤ rank_of bs block c) = subst (λ h. (rank (belief (after_ask bs ask) h) ≤ wanted ask.mode) ⊎ (rank (belief (after_ask bs ask) h) ≤ rank (belief bs h))) (sym p) (asker bs ask) in
-    with_asker (rank_of (after_ask bs ask) block c) (rank_of bs block c) (rank_of (after_ask bs ask) block d) (rank_of bs block d) (wanted ask.mode) mine
-    (least bs ask (holder block d) (λ q. apart (me ∙ sym (ap (λ (h : Holder). h.client) q))))
-    (subst (λ b. rank_of bs b d + wanted ask.mode ≤ 2) (sym same) (room d (λ e. apart (me ∙ sym e))))
+alone-asker : (bs : List (Holder × Bool)) (want : Wanted) (block : BlockId) (c d : ℕ) → OwnsAlone bs → LeavesRoom bs want → (c ≡ d → ⊥) → holder block c ≡ holder want.block want.client → share_of (want_met bs want) block c + share_of (want_met bs want) block d ≤ 2
+alone-asker bs want block c d alone room apart p =
+    let same : block ≡ want.block = ap (λ (h : Holder). h.block) p in
+    let me : c ≡ want.client = ap (λ (h : Holder). h.client) p in
+    let mine : (share_of (want_met bs want) block c ≤ wanted_share want.mode) ⊎ (share_of (want_met bs want) block c ≤ share_of bs block c) = subst (λ h. (share (belief (want_met bs want) h) ≤ wanted_share want.mode) ⊎ (share (belief (want_met bs want) h) ≤ share (belief bs h))) (sym p) (asker bs want) in
+    with_asker (share_of (want_met bs want) block c) (share_of bs block c) (share_of (want_met bs want) block d) (share_of bs block d) (wanted_share want.mode) mine
+    (least bs want (holder block d) (λ q. apart (me ∙ sym (ap (λ (h : Holder). h.client) q))))
+    (subst (λ b. share_of bs b d + wanted_share want.mode ≤ 2) (sym same) (room d (λ e. apart (me ∙ sym e))))
     (alone block c d apart)
 
 swapped : (m n : ℕ) → m + n ≤ 2 → n + m ≤ 2
@@ -109,14 +111,14 @@ swapped m n h = omega arith
 both_less : (m' n' m n : ℕ) → m' ≤ m → n' ≤ n → m + n ≤ 2 → m' + n' ≤ 2
 both_less m' n' m n a b c = omega arith
 
-alone-after_ask : (bs : List (Holder × Bool)) (ask : Ask) → OwnsAlone bs → LeavesRoom bs ask → OwnsAlone (after_ask bs ask)
-alone-after_ask bs ask alone room block c d apart =
-    let h = holder ask.block ask.client in
+alone-want_met : (bs : List (Holder × Bool)) (want : Wanted) → OwnsAlone bs → LeavesRoom bs want → OwnsAlone (want_met bs want)
+alone-want_met bs want alone room block c d apart =
+    let h = holder want.block want.client in
     ⊎_elim
-    (λ p. alone-asker bs ask block c d alone room apart p)
+    (λ p. alone-asker bs want block c d alone room apart p)
     (λ c_apart. ⊎_elim
-    (λ q. swapped (rank_of (after_ask bs ask) block d) (rank_of (after_ask bs ask) block c) (alone-asker bs ask block d c alone room (λ e. apart (sym e)) q))
-    (λ d_apart. both_less _ _ (rank_of bs block c) (rank_of bs block d) (least bs ask (holder block c) c_apart) (least bs ask (holder block d) d_apart) (alone block c d apart))
+    (λ q. swapped (share_of (want_met bs want) block d) (share_of (want_met bs want) block c) (alone-asker bs want block d c alone room (λ e. apart (sym e)) q))
+    (λ d_apart. both_less _ _ (share_of bs block c) (share_of bs block d) (least bs want (holder block c) c_apart) (least bs want (holder block d) d_apart) (alone block c d apart))
     (decided (holder block d) h))
     (decided (holder block c) h)
 
@@ -124,19 +126,11 @@ alone-after_ask bs ask alone room block c d apart =
 
 -- the want awaits all who must give way
 abbrev pub AwaitsAll : List (Holder × Bool) → Job → Type 0
-AwaitsAll beliefs job = (client : ℕ) → (client ≡ job.ask.client → ⊥) → 2 < rank_of beliefs job.ask.block client + wanted job.ask.mode → Awaits job.awaited client
+AwaitsAll beliefs job = (client : ℕ) → (client ≡ job.want.client → ⊥) → 2 < share_of beliefs job.want.block client + wanted_share job.want.mode → Awaits job.awaited client
 
-awaits-recalls : (epoch turn : ℕ) (keep : Bool) (cs : List ℕ) (c : ℕ) → Has cs c → Awaits (recalls epoch turn keep cs) c
-awaits-recalls epoch turn keep [] c has = has
-awaits-recalls epoch turn keep (x ∷ xs) c has = ⊎_elim (λ p. inl (p, refl)) (λ r. inr (awaits-recalls epoch (turn + 1) keep xs c r)) has
-
-pub and_left : (b c : Bool) → b && c ≡ true → b ≡ true
-and_left true c h = refl
-and_left false c h = absurd (cc)
-
-pub and_right : (b c : Bool) → b && c ≡ true → c ≡ true
-and_right true c h = h
-and_right false c h = absurd (cc)
+awaits-recalls : (epoch turn : ℕ) (keep : Bool) (cs : List ℕ) (c : ℕ) → Contains cs c → Awaits (recalls epoch turn keep cs) c
+awaits-recalls epoch turn keep [] c has = contains_nothing c has
+awaits-recalls epoch turn keep (x ∷ xs) c has = ⊎_elim (λ p. inl (p, refl)) (λ r. inr (awaits-recalls epoch (turn + 1) keep xs c r)) (contains_cases x c xs has)
 
 pub equal_numbers : (c d : ℕ) → (c == d) ≡ true → c ≡ d
 equal_numbers c d same = grind (arith, nat_tests)
@@ -146,14 +140,14 @@ awaits-noted : (awaited : List Awaited) (client : ℕ) (stamp : Stamp) (end c : 
 awaits-noted [] client stamp end c apart waits = waits
 awaits-noted (a ∷ rest) client stamp end c apart waits =
     ⊎_elim
-    (λ here. inl (elim (is_answered client stamp a) as (λ t. is_answered client stamp a ≡ t → ((cond t (record a { end = Some end }) a).client ≡ c) × ((cond t (record a { end = Some end }) a).end ≡ None)) [
+    (λ here. inl (elim (answers client stamp a) as (λ t. answers client stamp a ≡ t → ((cond t (record a { end = Some end }) a).client ≡ c) × ((cond t (record a { end = Some end }) a).end ≡ None)) [
       | true ↦ λ answered. absurd (apart (sym here.0 ∙ equal_numbers a.client client (of_client answered)))
       | false ↦ λ _. here
     ] refl))
     (λ there. inr (awaits-noted rest client stamp end c apart there))
     waits
   where
-    of_client : is_answered client stamp a ≡ true → (a.client == client) ≡ true
+    of_client : answers client stamp a ≡ true → (a.client == client) ≡ true
     of_client answered = grind (arith, nat_tests)
 
 -- nothing is awaited by a want that need wait no longer
@@ -161,22 +155,22 @@ ready_none : (applied : List ℕ) (awaited : List Awaited) (c : ℕ) → is_read
 ready_none applied [] c ready waits = waits
 ready_none applied (a ∷ rest) c ready waits =
     ⊎_elim
-    (λ here. false≢true (subst (λ e. is_applied applied a.client e ≡ true) here.1 (and_left (is_applied applied a.client a.end) (is_ready applied rest) ready)))
-    (ready_none applied rest c (and_right (is_applied applied a.client a.end) (is_ready applied rest) ready))
+    (λ here. false≢true (subst (λ e. is_applied applied a.client e ≡ true) here.1 (and_first (is_applied applied a.client a.end) (is_ready applied rest) ready)))
+    (ready_none applied rest c (and_second (is_applied applied a.client a.end) (is_ready applied rest) ready))
     waits
 
 not_more : (n : ℕ) → (2 < n → ⊥) → n ≤ 2
 not_more n most = elim (nat_lt 2 n) as (λ t. nat_lt 2 n ≡ t → n ≤ 2) [ true ↦ λ more. absurd (most (grind (arith, nat_tests))) | false ↦ λ _. grind (arith, nat_tests) ] refl
 
-no_first : (cs : List ℕ) (c : ℕ) → (length cs == 0) ≡ true → Has cs c → ⊥
-no_first [] c none has = has
+no_first : (cs : List ℕ) (c : ℕ) → (length cs == 0) ≡ true → Contains cs c → ⊥
+no_first [] c none has = contains_nothing c has
 no_first (x ∷ xs) c none has = let zero_long : length (x ∷ xs) ≡ 0 = equal_numbers (length (x ∷ xs)) 0 none in absurd (omega arith)
 
 more_before : (r' r w : ℕ) → r' ≤ r → 2 < r' + w → 2 < r + w
 more_before r' r w less more = omega arith
 
-awaits-less : (bs bs' : List (Holder × Bool)) (job : Job) → ((c : ℕ) → rank_of bs' job.ask.block c ≤ rank_of bs job.ask.block c) → AwaitsAll bs job → AwaitsAll bs' job
-awaits-less bs bs' job lower all c apart more = all c apart (more_before (rank_of bs' job.ask.block c) (rank_of bs job.ask.block c) (wanted job.ask.mode) (lower c) more)
+awaits-less : (bs bs' : List (Holder × Bool)) (job : Job) → ((c : ℕ) → share_of bs' job.want.block c ≤ share_of bs job.want.block c) → AwaitsAll bs job → AwaitsAll bs' job
+awaits-less bs bs' job lower all c apart more = all c apart (more_before (share_of bs' job.want.block c) (share_of bs job.want.block c) (wanted_share job.want.mode) (lower c) more)
 
 -- ---- the state
 
@@ -186,22 +180,22 @@ pub record Sound (s : SlotState) : Type 0 where
   pub alone : OwnsAlone s.beliefs
   pub awaits : (block : BlockId) (job : Job) → job_at s.jobs block ≡ Some job → AwaitsAll s.beliefs job
 
-sound-finished : (s : SlotState) (ask : Ask) → Sound s → job_at s.jobs ask.block ≡ None → LeavesRoom s.beliefs ask → Sound (finished s ask).state
-sound-finished s ask sound none room = record {
-  sorted = sorted-after_ask s.beliefs ask sound.sorted;
+sound-finished : (s : SlotState) (want : Wanted) → Sound s → job_at s.jobs want.block ≡ None → LeavesRoom s.beliefs want → Sound (finished s want).state
+sound-finished s want sound none room = record {
+  sorted = sorted-want_met s.beliefs want sound.sorted;
   waiting = sound.waiting;
-  alone = alone-after_ask s.beliefs ask sound.alone room;
-  awaits = λ block job is. awaits-less s.beliefs (after_ask s.beliefs ask) job (λ c. least s.beliefs ask (holder job.ask.block c) (λ p. other_block block job is (ap (λ (h : Holder). h.block) p))) (sound.awaits block job is);
+  alone = alone-want_met s.beliefs want sound.alone room;
+  awaits = λ block job is. awaits-less s.beliefs (want_met s.beliefs want) job (λ c. least s.beliefs want (holder job.want.block c) (λ p. other_block block job is (ap (λ (h : Holder). h.block) p))) (sound.awaits block job is);
 }
   where
-    other_block : (block : BlockId) (job : Job) → job_at s.jobs block ≡ Some job → job.ask.block ≡ ask.block → ⊥
+    other_block : (block : BlockId) (job : Job) → job_at s.jobs block ≡ Some job → job.want.block ≡ want.block → ⊥
     other_block block job is same =
-        let here : job_at s.jobs ask.block ≡ Some job = subst (λ b. job_at s.jobs b ≡ Some job) (sym (sound.waiting.own block job is) ∙ same) is in
+        let here : job_at s.jobs want.block ≡ Some job = subst (λ b. job_at s.jobs b ≡ Some job) (sym (sound.waiting.own block job is) ∙ same) is in
         let clash : None ≡ Some job = sym none ∙ here in
         absurd (cc)
 
 -- a want comes to wait, or waits on
-sound-put : (s : SlotState) (block : BlockId) (job : Job) (turn : ℕ) → job.ask.block ≡ block → AwaitsAll s.beliefs job → Sound s → Sound (record s { jobs = insert_entry block_cmp s.jobs block job; turn = turn })
+sound-put : (s : SlotState) (block : BlockId) (job : Job) (turn : ℕ) → job.want.block ≡ block → AwaitsAll s.beliefs job → Sound s → Sound (record s { jobs = insert_entry block_cmp s.jobs block job; turn = turn })
 sound-put s block job turn mine all sound = record {
   sorted = sound.sorted;
   waiting = waiting-put s.jobs block job mine sound.waiting;
@@ -223,51 +217,51 @@ sound-let_go s block sound = record {
 }
 
 -- a client gave a block up
-sound-given : (s : SlotState) (ask : Ask) (client : ℕ) (block : BlockId) → Sound s → Sound (given s ask client block)
-sound-given s ask client block sound =
+sound-given : (s : SlotState) (want : Wanted) (client : ℕ) (block : BlockId) → Sound s → Sound (given s want client block)
+sound-given s want client block sound =
     let h = holder block client in
-    let keep = not (is_own ask.mode) in
+    let keep = not (is_own want.mode) in
     record {
       sorted = sorted-given_up s.beliefs h keep sound.sorted;
       waiting = sound.waiting;
-      alone = λ b c d apart. both_less _ _ (rank_of s.beliefs b c) (rank_of s.beliefs b d) (less s.beliefs h (holder b c) keep sound.sorted) (less s.beliefs h (holder b d) keep sound.sorted) (sound.alone b c d apart);
-      awaits = λ b job is. awaits-less s.beliefs (given_up s.beliefs h keep) job (λ c. less s.beliefs h (holder job.ask.block c) keep sound.sorted) (sound.awaits b job is);
+      alone = λ b c d apart. both_less _ _ (share_of s.beliefs b c) (share_of s.beliefs b d) (less s.beliefs h (holder b c) keep sound.sorted) (less s.beliefs h (holder b d) keep sound.sorted) (sound.alone b c d apart);
+      awaits = λ b job is. awaits-less s.beliefs (given_up s.beliefs h keep) job (λ c. less s.beliefs h (holder job.want.block c) keep sound.sorted) (sound.awaits b job is);
     }
 
 -- after the answer the others are still awaited
 awaits-given : (s : SlotState) (job : Job) (client : ℕ) (block : BlockId) (stamp : Stamp) (end : ℕ) → Sound s → job_at s.jobs block ≡ Some job
-    → AwaitsAll (given s job.ask client block).beliefs (record { ask = job.ask; awaited = noted job.awaited client stamp end })
+    → AwaitsAll (given s job.want client block).beliefs (record { want = job.want; awaited = noted job.awaited client stamp end })
 awaits-given s job client block stamp end sound is c apart more =
     let h = holder block client in
-    let mine : job.ask.block ≡ block = sound.waiting.own block job is in
-    let left : rank_of (given s job.ask client block).beliefs block client + wanted job.ask.mode ≤ 2 = kept s.beliefs h job.ask.mode sound.sorted in
-    let other : c ≡ client → ⊥ = λ same. clash (rank_of (given s job.ask client block).beliefs job.ask.block c + wanted job.ask.mode) more (subst (λ b. rank_of (given s job.ask client block).beliefs b c + wanted job.ask.mode ≤ 2) (sym mine) (subst (λ x. rank_of (given s job.ask client block).beliefs block x + wanted job.ask.mode ≤ 2) (sym same) left)) in
-    awaits-noted job.awaited client stamp end c other (awaits-less s.beliefs (given s job.ask client block).beliefs job (λ x. less s.beliefs h (holder job.ask.block x) (not (is_own job.ask.mode)) sound.sorted) (sound.awaits block job is) c apart more)
+    let mine : job.want.block ≡ block = sound.waiting.own block job is in
+    let left : share_of (given s job.want client block).beliefs block client + wanted_share job.want.mode ≤ 2 = kept s.beliefs h job.want.mode sound.sorted in
+    let other : c ≡ client → ⊥ = λ same. clash (share_of (given s job.want client block).beliefs job.want.block c + wanted_share job.want.mode) more (subst (λ b. share_of (given s job.want client block).beliefs b c + wanted_share job.want.mode ≤ 2) (sym mine) (subst (λ x. share_of (given s job.want client block).beliefs block x + wanted_share job.want.mode ≤ 2) (sym same) left)) in
+    awaits-noted job.awaited client stamp end c other (awaits-less s.beliefs (given s job.want client block).beliefs job (λ x. less s.beliefs h (holder job.want.block x) (not (is_own job.want.mode)) sound.sorted) (sound.awaits block job is) c apart more)
   where
     clash : (n : ℕ) → 2 < n → n ≤ 2 → ⊥
     clash n more most = omega arith
 
 -- who is not awaited leaves room
-leaves_room : (bs : List (Holder × Bool)) (applied : List ℕ) (job : Job) → AwaitsAll bs job → is_ready applied job.awaited ≡ true → LeavesRoom bs job.ask
+leaves_room : (bs : List (Holder × Bool)) (applied : List ℕ) (job : Job) → AwaitsAll bs job → is_ready applied job.awaited ≡ true → LeavesRoom bs job.want
 leaves_room bs applied job all ready c apart = not_more _ (λ more. ready_none applied job.awaited c ready (all c apart more))
 
 -- ---- deltas
 
 -- each of these blocks for which a want waits has one that need wait no longer
 abbrev pub ReadyAt : List (BlockId × Job) → List ℕ → List BlockId → Type 0
-ReadyAt jobs applied blocks = (block : BlockId) → Has blocks block → (job : Job) → job_at jobs block ≡ Some job → is_ready applied job.awaited ≡ true
+ReadyAt jobs applied blocks = (block : BlockId) → Contains blocks block → (job : Job) → job_at jobs block ≡ Some job → is_ready applied job.awaited ≡ true
 
-has_key : (jobs : List (BlockId × Job)) (applied : List ℕ) (block : BlockId) → Has (ready_blocks jobs applied) block → Has (keys_of jobs) block
+has_key : (jobs : List (BlockId × Job)) (applied : List ℕ) (block : BlockId) → Contains (ready_blocks jobs applied) block → Contains (keys_of jobs) block
 has_key [] applied block = λ has. has
 has_key (e ∷ es) applied block =
-    elim (is_ready applied e.1.awaited) as (λ t. Has (cond t (e.0 ∷ ready_blocks es applied) (ready_blocks es applied)) block → Has (keys_of (e ∷ es)) block) [
-      | true ↦ λ has. ⊎_elim inl (λ r. inr (has_key es applied block r)) has
-      | false ↦ λ has. inr (has_key es applied block has)
+    elim (is_ready applied e.1.awaited) as (λ t. Contains (cond t (e.0 ∷ ready_blocks es applied) (ready_blocks es applied)) block → Contains (keys_of (e ∷ es)) block) [
+      | true ↦ λ has. ⊎_elim (λ p. subst (Contains (keys_of (e ∷ es))) p (contains_first e.0 (keys_of es))) (λ r. contains_rest e.0 block (keys_of es) (has_key es applied block r)) (contains_cases e.0 block (ready_blocks es applied) has)
+      | false ↦ λ has. contains_rest e.0 block (keys_of es) (has_key es applied block has)
     ]
 
-below_has : (first block : BlockId) (ks : List BlockId) → AllByRecursion (λ y. block_cmp first y ≡ Less) ks → Has ks block → block_cmp first block ≡ Less
-below_has first block [] below has = absurd has
-below_has first block (k ∷ ks) below has = ⊎_elim (λ p. subst (λ x. block_cmp first x ≡ Less) p below.0) (below_has first block ks below.1) has
+below_has : (first block : BlockId) (ks : List BlockId) → AllByRecursion (λ y. block_cmp first y ≡ Less) ks → Contains ks block → block_cmp first block ≡ Less
+below_has first block [] below has = absurd (contains_nothing block has)
+below_has first block (k ∷ ks) below has = ⊎_elim (λ p. subst (λ x. block_cmp first x ≡ Less) p below.0) (below_has first block ks below.1) (contains_cases k block ks has)
 
 -- a block above the first is not the first
 not_first : (first block : BlockId) → is_at (block_cmp block) first ≡ true → block_cmp first block ≡ Less → ⊥
@@ -278,20 +272,20 @@ not_first first block same below =
 
 pub ready_finds : (jobs : List (BlockId × Job)) (applied : List ℕ) → IsStrictlySortedBy block_cmp (keys_of jobs) → ReadyAt jobs applied (ready_blocks jobs applied)
 unfolding IsStrictlySortedBy
-ready_finds [] applied sorted block has job is = absurd has
+ready_finds [] applied sorted block has job is = absurd (contains_nothing block has)
 ready_finds (e ∷ es) applied sorted block has job is =
     at (is_at (block_cmp block) e.0) refl is (is_ready applied e.1.awaited) refl has (λ h j. ready_finds es applied sorted.1 block h job j)
   where
-    at : (t : Bool) → is_at (block_cmp block) e.0 ≡ t → cond t (Some e.1) (job_at es block) ≡ Some job → (r : Bool) → is_ready applied e.1.awaited ≡ r → Has (cond r (e.0 ∷ ready_blocks es applied) (ready_blocks es applied)) block
-        → (Has (ready_blocks es applied) block → job_at es block ≡ Some job → is_ready applied job.awaited ≡ true) → is_ready applied job.awaited ≡ true
+    at : (t : Bool) → is_at (block_cmp block) e.0 ≡ t → cond t (Some e.1) (job_at es block) ≡ Some job → (r : Bool) → is_ready applied e.1.awaited ≡ r → Contains (cond r (e.0 ∷ ready_blocks es applied) (ready_blocks es applied)) block
+        → (Contains (ready_blocks es applied) block → job_at es block ≡ Some job → is_ready applied job.awaited ≡ true) → is_ready applied job.awaited ≡ true
     at true same found true ready h rest = subst (λ (j : Job). is_ready applied j.awaited ≡ true) (ap (λ (o : Option Job). unwrap_or o job) found) ready
     at true same found false ready h rest = absurd (not_first e.0 block same (below_has e.0 block (keys_of es) sorted.0 (has_key es applied block h)))
-    at false apart found true ready h rest = ⊎_elim (λ p. absurd (false≢true (sym apart ∙ subst (λ x. is_at (block_cmp block) x ≡ true) (sym p) (block_laws.refl block)))) (λ h. rest h found) h
+    at false apart found true ready h rest = ⊎_elim (λ p. absurd (false≢true (sym apart ∙ subst (λ x. is_at (block_cmp block) x ≡ true) (sym p) (block_laws.refl block)))) (λ h. rest h found) (contains_cases e.0 block (ready_blocks es applied) h)
     at false apart found false ready h rest = rest h found
 
-pub sound-answered : (s : SlotState) (applied : List ℕ) (block : BlockId) (job : Job) → Sound s → job_at s.jobs block ≡ Some job → is_ready applied job.awaited ≡ true → Sound (finished (let_go s block) job.ask).state
+pub sound-answered : (s : SlotState) (applied : List ℕ) (block : BlockId) (job : Job) → Sound s → job_at s.jobs block ≡ Some job → is_ready applied job.awaited ≡ true → Sound (finished (let_go s block) job.want).state
 sound-answered s applied block job sound is ready =
-    sound-finished (let_go s block) job.ask (sound-let_go s block sound)
+    sound-finished (let_go s block) job.want (sound-let_go s block sound)
     (subst (λ x. job_at (without_job s.jobs block) x ≡ None) (sym (sound.waiting.own block job is)) (gone s.jobs block sound.waiting.sorted))
     (leaves_room s.beliefs applied job (sound.awaits block job is) ready)
 
@@ -302,31 +296,31 @@ jobs_fewer s block b job w = by_finished_at (λ r. job_at r.state.jobs b ≡ Som
 pub sound-steps : (s : SlotState) (applied : List ℕ) (blocks : List BlockId) → Sound s → ReadyAt s.jobs applied blocks → Sound (steps finished_at s blocks).state
 sound-steps s applied [] sound ready = sound
 sound-steps s applied (b ∷ bs) sound ready =
-    let one : Sound (finished_at s b).state = by_finished_at (λ r. Sound r.state) s b sound (λ job is. sound-answered s applied b job sound is (ready b (inl refl) job is)) in
-    sound-steps (finished_at s b).state applied bs one (λ block has job is. ready block (inr has) job (jobs_fewer s b block job sound.waiting is))
+    let one : Sound (finished_at s b).state = by_finished_at (λ r. Sound r.state) s b sound (λ job is. sound-answered s applied b job sound is (ready b (contains_first b bs) job is)) in
+    sound-steps (finished_at s b).state applied bs one (λ block has job is. ready block (contains_rest b block bs has) job (jobs_fewer s b block job sound.waiting is))
 
 -- ---- the inputs
 
-pub sound-step : (s : SlotState) (input : In) → Sound s → Sound (step s input).state
-sound-step s (Want client inc req again block mode end) sound =
-    let ask = ask_of client inc req again block mode in
-    by_want (λ r. Sound r.state) s ask end sound
-    (λ going none. sound-finished s ask sound (not_waiting (job_at s.jobs block) _ _ going) (λ c apart. not_more _ (λ more. no_first (recalled_from s ask) c none (found_by s.beliefs ask c apart more))))
-    (λ _. sound-put s block (record { ask = ask; awaited = recalls s.epoch s.turn (not (is_own mode)) (recalled_from s ask) }) (s.turn + length (recalled_from s ask)) refl
-    (λ c apart more. awaits-recalls s.epoch s.turn (not (is_own mode)) (recalled_from s ask) c (found_by s.beliefs ask c apart more)) sound)
-sound-step s (Gave client block stamp end) sound =
+pub sound-transition : (s : SlotState) (input : In) → Sound s → Sound (transition s input).state
+sound-transition s (Want client block inc req again mode end) sound =
+    let want = want_of client block inc req again mode in
+    by_want (λ r. Sound r.state) s want end sound
+    (λ going none. sound-finished s want sound (not_waiting (job_at s.jobs block) _ _ going) (λ c apart. not_more _ (λ more. no_first (recalled_from s want) c none (found_by s.beliefs want c apart more))))
+    (λ _. sound-put s block (record { want = want; awaited = recalls s.epoch s.turn (not (is_own mode)) (recalled_from s want) }) (s.turn + length (recalled_from s want)) refl
+    (λ c apart more. awaits-recalls s.epoch s.turn (not (is_own mode)) (recalled_from s want) c (found_by s.beliefs want c apart more)) sound)
+sound-transition s (Gave client block stamp end) sound =
     by_gave (λ r. Sound r.state) s client block stamp end sound
-    (λ job is ready. sound-finished (all_given s client block job.ask) job.ask (sound-let_go (given s job.ask client block) block (sound-given s job.ask client block sound))
+    (λ job is ready. sound-finished (all_given s client block job.want) job.want (sound-let_go (given s job.want client block) block (sound-given s job.want client block sound))
     (subst (λ x. job_at (without_job s.jobs block) x ≡ None) (sym (sound.waiting.own block job is)) (gone s.jobs block sound.waiting.sorted))
-    (leaves_room (given s job.ask client block).beliefs s.applied (record { ask = job.ask; awaited = noted job.awaited client stamp end }) (awaits-given s job client block stamp end sound is) ready))
-    (λ job is. sound-put (given s job.ask client block) block (record { ask = job.ask; awaited = noted job.awaited client stamp end }) s.turn (sound.waiting.own block job is) (awaits-given s job client block stamp end sound is) (sound-given s job.ask client block sound))
-sound-step s (Deltas log first upto rows) sound =
+    (leaves_room (given s job.want client block).beliefs s.applied (record { want = job.want; awaited = noted job.awaited client stamp end }) (awaits-given s job client block stamp end sound is) ready))
+    (λ job is. sound-put (given s job.want client block) block (record { want = job.want; awaited = noted job.awaited client stamp end }) s.turn (sound.waiting.own block job is) (awaits-given s job client block stamp end sound is) (sound-given s job.want client block sound))
+sound-transition s (Deltas log first upto rows) sound =
     by_deltas (λ r. Sound r.state) s log first upto rows sound sound
     (λ _. sound-steps (with_deltas s log upto rows) (applied_upto s.applied log upto) (ready_blocks s.jobs (applied_upto s.applied log upto))
     (record { sorted = sound.sorted; waiting = sound.waiting; alone = sound.alone; awaits = sound.awaits })
     (ready_finds s.jobs (applied_upto s.applied log upto) sound.waiting.sorted))
-sound-step s (Check block place) sound = sound
-sound-step s Tick sound = sound
+sound-transition s (Check block place) sound = sound
+sound-transition s Tick sound = sound
 
 no_beliefs : IsStrictlySortedBy holder_cmp []
 unfolding IsStrictlySortedBy

@@ -16,45 +16,45 @@ use Rattle.xfs_base.specs.Blocks.{block_cmp}
 use Rattle.xfs_base.specs.Steps.{still, steps}
 use Rattle.xfs_base.proofs.BlockOrder.{block_cmp_total, block_cmp_exact, lookup-insert_entry}
 use Rattle.xfs_base.proofs.StepLoops.{steps_keep}
-use Rattle.usage_table.proofs.Sorted.{sorted_insert, sorted_remove}
-use Rattle.token_manager.specs.declared.job.Ask.{Ask}
+use Rattle.xfs_base.proofs.Sorted.{sorted_insert, sorted_remove}
+use Rattle.xfs_base.specs.Modes.{is_own, is_nothing}
+use Rattle.token_manager.specs.declared.job.Wanted.{Wanted}
 use Rattle.token_manager.specs.declared.job.Job.{Job}
 use Rattle.token_manager.specs.declared.job.Awaited.{Awaited}
-use Rattle.token_manager.specs.declared.told.Out.{Out}
-use Rattle.token_manager.specs.declared.told.Out.TheVariants.{Grant, Forward, Recall, Applied, Live, Dead}
-use Rattle.token_manager.specs.declared.told.In.{In}
-use Rattle.token_manager.specs.declared.told.In.TheVariants.{Want, Gave, Deltas, Check, Tick}
-use Rattle.token_manager.specs.Beliefs.{is_own, is_nothing}
+use Rattle.token_manager.specs.declared.output.Out.{Out}
+use Rattle.token_manager.specs.declared.output.Out.TheVariants.{Grant, Forward, Recall, Applied, Live, Dead}
+use Rattle.token_manager.specs.declared.input.In.{In}
+use Rattle.token_manager.specs.declared.input.In.TheVariants.{Want, Gave, Deltas, Check, Tick}
 use Rattle.token_manager.specs.Recalls.{recalls, sent, all_sent, noted, applied_of, ready_blocks}
 use Rattle.token_manager.specs.SlotState.{SlotState}
-use Rattle.token_manager.specs.Transition.{Done, started, job_at, without_job, ask_of, passers, answer, finished, applied_upto, with_deltas, finished_at, is_place, entry_at, step}
-use Rattle.token_manager.specs.Laws.{Gives, after_all}
+use Rattle.token_manager.specs.Transition.{Done, started, job_at, without_job, want_of, passers, answer, finished, applied_upto, with_deltas, finished_at, is_place, entry_at, transition}
+use Rattle.token_manager.specs.Laws.{HandsOut, state_after}
 use Rattle.token_manager.proofs.Cases.{recalled_from, by_want, all_given, by_gave, by_deltas, let_go, by_finished_at}
 
 -- ---- which blocks are given
 
-gives_both : (b : BlockId) (xs ys : List Out) → Gives b (xs ++ ys) → Gives b xs ⊎ Gives b ys
+gives_both : (b : BlockId) (xs ys : List Out) → HandsOut b (xs ++ ys) → HandsOut b xs ⊎ HandsOut b ys
 gives_both b [] ys g = inr g
 gives_both b (Grant client block st inc req mode entry ∷ xs) ys g = ⊎_elim (λ h. inl (inl h)) (λ r. ⊎_elim (λ h. inl (inr h)) inr (gives_both b xs ys r)) g
-gives_both b (Forward passer client block st inc req ver ∷ xs) ys g = ⊎_elim (λ h. inl (inl h)) (λ r. ⊎_elim (λ h. inl (inr h)) inr (gives_both b xs ys r)) g
+gives_both b (Forward client block st to inc req ver ∷ xs) ys g = ⊎_elim (λ h. inl (inl h)) (λ r. ⊎_elim (λ h. inl (inr h)) inr (gives_both b xs ys r)) g
 gives_both b (Recall client block st keep ∷ xs) ys g = gives_both b xs ys g
 gives_both b (Applied log upto ∷ xs) ys g = gives_both b xs ys g
 gives_both b (Live entry ∷ xs) ys g = gives_both b xs ys g
 gives_both b (Dead ∷ xs) ys g = gives_both b xs ys g
 
-sent_gives : (b block : BlockId) (awaited : List Awaited) → Gives b (sent block awaited) → ⊥
+sent_gives : (b block : BlockId) (awaited : List Awaited) → HandsOut b (sent block awaited) → ⊥
 sent_gives b block [] = λ g. g
 sent_gives b block (a ∷ rest) =
-    elim (is_some a.end) as (λ t. Gives b (cond t (sent block rest) (Recall a.client block a.stamp a.keep ∷ sent block rest)) → ⊥) [ true ↦ sent_gives b block rest | false ↦ sent_gives b block rest ]
+    elim (is_some a.end) as (λ t. HandsOut b (cond t (sent block rest) (Recall a.client block a.stamp a.keep ∷ sent block rest)) → ⊥) [ true ↦ sent_gives b block rest | false ↦ sent_gives b block rest ]
 
-all_sent_gives : (b : BlockId) (jobs : List (BlockId × Job)) → Gives b (all_sent jobs) → ⊥
+all_sent_gives : (b : BlockId) (jobs : List (BlockId × Job)) → HandsOut b (all_sent jobs) → ⊥
 all_sent_gives b [] g = g
 all_sent_gives b (e ∷ es) g = ⊎_elim (sent_gives b e.0 e.1.awaited) (all_sent_gives b es) (gives_both b (sent e.0 e.1.awaited) (all_sent es) g)
 
 -- what a want is answered gives just its block
-answer_gives : (s : SlotState) (ask : Ask) (from : List ℕ) (b : BlockId) → Gives b (answer s ask from ∷ []) → ask.block ≡ b
-answer_gives s ask [] b g = ⊎_elim (λ h. h) (λ no_more. absurd no_more) g
-answer_gives s ask (c ∷ cs) b g = ⊎_elim (λ h. h) (λ no_more. absurd no_more) g
+answer_gives : (s : SlotState) (want : Wanted) (from : List ℕ) (b : BlockId) → HandsOut b (answer s want from ∷ []) → want.block ≡ b
+answer_gives s want [] b g = ⊎_elim (λ h. h) (λ no_more. absurd no_more) g
+answer_gives s want (c ∷ cs) b g = ⊎_elim (λ h. h) (λ no_more. absurd no_more) g
 
 -- ---- the wants that wait
 
@@ -78,7 +78,7 @@ still_gone jobs block b sorted none =
 -- the wants that wait stand in order, and each names the block for which it waits
 pub record Waiting (jobs : List (BlockId × Job)) : Type 0 where
   pub sorted : IsSorted jobs
-  pub own : (b : BlockId) (job : Job) → job_at jobs b ≡ Some job → job.ask.block ≡ b
+  pub own : (b : BlockId) (job : Job) → job_at jobs b ≡ Some job → job.want.block ≡ b
 
 pub was_there : (t : Bool) (o : Option Job) (job : Job) → cond t None o ≡ Some job → o ≡ Some job
 was_there true o job h = absurd (cc)
@@ -90,29 +90,29 @@ waiting-removed jobs block w = record {
   own = λ b job is. w.own b job (was_there (eq_by_cmp block_cmp block b) (job_at jobs b) job (sym (after_removal jobs block b w.sorted) ∙ is));
 }
 
-pub waiting-put : (jobs : List (BlockId × Job)) (block : BlockId) (job : Job) → job.ask.block ≡ block → Waiting jobs → Waiting (insert_entry block_cmp jobs block job)
+pub waiting-put : (jobs : List (BlockId × Job)) (block : BlockId) (job : Job) → job.want.block ≡ block → Waiting jobs → Waiting (insert_entry block_cmp jobs block job)
 waiting-put jobs block job mine w = record {
   sorted = sorted_insert block_cmp block_cmp_total block job jobs w.sorted;
   own = λ b found is. put_own b found (eq_by_cmp block_cmp b block) refl (sym (lookup-insert_entry block_cmp_total b block job jobs) ∙ is);
 }
   where
-    put_own : (b : BlockId) (found : Job) (t : Bool) → eq_by_cmp block_cmp b block ≡ t → cond t (Some job) (job_at jobs b) ≡ Some found → found.ask.block ≡ b
-    put_own b found true same is = ap (λ (o : Option Job). (unwrap_or o job).ask.block) (sym is) ∙ mine ∙ sym (tells_apart block_cmp_exact b block same)
+    put_own : (b : BlockId) (found : Job) (t : Bool) → eq_by_cmp block_cmp b block ≡ t → cond t (Some job) (job_at jobs b) ≡ Some found → found.want.block ≡ b
+    put_own b found true same is = ap (λ (o : Option Job). (unwrap_or o job).want.block) (sym is) ∙ mine ∙ sym (tells_apart block_cmp_exact b block same)
     put_own b found false apart is = w.own b found is
 
 -- ---- the inputs
 
 -- what is given has no want that waits for it; no want comes to wait where none waited
 record Bars (s : SlotState) (r : Done) : Type 0 where
-  given : (b : BlockId) → Gives b r.outs → job_at r.state.jobs b ≡ None
+  given : (b : BlockId) → HandsOut b r.outs → job_at r.state.jobs b ≡ None
   waiting : Waiting r.state.jobs
   none_more : (b : BlockId) → job_at s.jobs b ≡ None → job_at r.state.jobs b ≡ None
 
 -- a want that waited is answered
-bars-answered : (s t : SlotState) (block : BlockId) (job : Job) → Waiting s.jobs → job_at s.jobs block ≡ Some job → t.jobs ≡ without_job s.jobs block → Bars s (finished t job.ask)
+bars-answered : (s t : SlotState) (block : BlockId) (job : Job) → Waiting s.jobs → job_at s.jobs block ≡ Some job → t.jobs ≡ without_job s.jobs block → Bars s (finished t job.want)
 bars-answered s t block job w is jobs = record {
   given = λ b g.
-      let one : job.ask.block ≡ b = answer_gives t job.ask (passers t job.ask) b g in
+      let one : job.want.block ≡ b = answer_gives t job.want (passers t job.want) b g in
       ap (λ js. job_at js b) jobs ∙ subst (λ x. job_at (without_job s.jobs block) x ≡ None) (sym (w.own block job is) ∙ one) (gone s.jobs block w.sorted);
   waiting = subst Waiting (sym jobs) (waiting-removed s.jobs block w);
   none_more = λ b none. ap (λ js. job_at js b) jobs ∙ still_gone s.jobs block b w.sorted none;
@@ -137,7 +137,7 @@ bars-steps s (b ∷ bs) w =
     }
 
 record Barred (r : Done) : Type 0 where
-  given : (b : BlockId) → Gives b r.outs → job_at r.state.jobs b ≡ None
+  given : (b : BlockId) → HandsOut b r.outs → job_at r.state.jobs b ≡ None
   waiting : Waiting r.state.jobs
 
 barred : (s : SlotState) (r : Done) → Bars s r → Barred r
@@ -148,44 +148,44 @@ not_waiting None x y h = refl
 not_waiting (Some job) true y h = absurd (cc)
 not_waiting (Some job) false y h = absurd (cc)
 
-barred-step : (s : SlotState) (input : In) → Waiting s.jobs → Barred (step s input)
-barred-step s (Want client inc req again block mode end) w =
-    let ask = ask_of client inc req again block mode in
-    by_want Barred s ask end (barred s (still s) (bars-same s w))
+barred-transition : (s : SlotState) (input : In) → Waiting s.jobs → Barred (transition s input)
+barred-transition s (Want client block inc req again mode end) w =
+    let want = want_of client block inc req again mode in
+    by_want Barred s want end (barred s (still s) (bars-same s w))
     (λ going _. record {
       given = λ b g.
           let none : job_at s.jobs block ≡ None = not_waiting (job_at s.jobs block) (is_nothing mode) (nat_lt (applied_of s.applied client) end) going in
-          subst (λ x. job_at s.jobs x ≡ None) (answer_gives s ask (passers s ask) b g) none;
+          subst (λ x. job_at s.jobs x ≡ None) (answer_gives s want (passers s want) b g) none;
       waiting = w;
     })
     (λ _. record {
-      given = λ b g. absurd (sent_gives b block (recalls s.epoch s.turn (not (is_own mode)) (recalled_from s ask)) g);
-      waiting = waiting-put s.jobs block (record { ask = ask; awaited = recalls s.epoch s.turn (not (is_own mode)) (recalled_from s ask) }) refl w;
+      given = λ b g. absurd (sent_gives b block (recalls s.epoch s.turn (not (is_own mode)) (recalled_from s want)) g);
+      waiting = waiting-put s.jobs block (record { want = want; awaited = recalls s.epoch s.turn (not (is_own mode)) (recalled_from s want) }) refl w;
     })
-barred-step s (Gave client block stamp end) w =
+barred-transition s (Gave client block stamp end) w =
     by_gave Barred s client block stamp end (barred s (still s) (bars-same s w))
-    (λ job is _. barred s (finished (all_given s client block job.ask) job.ask) (bars-answered s (all_given s client block job.ask) block job w is refl))
+    (λ job is _. barred s (finished (all_given s client block job.want) job.want) (bars-answered s (all_given s client block job.want) block job w is refl))
     (λ job is. record {
       given = λ b g. absurd g;
-      waiting = waiting-put s.jobs block (record { ask = job.ask; awaited = noted job.awaited client stamp end }) (w.own block job is) w;
+      waiting = waiting-put s.jobs block (record { want = job.want; awaited = noted job.awaited client stamp end }) (w.own block job is) w;
     })
-barred-step s (Deltas log first upto rows) w =
+barred-transition s (Deltas log first upto rows) w =
     by_deltas Barred s log first upto rows (barred s (still s) (bars-same s w)) (record { given = λ b g. absurd g; waiting = w })
     (λ _. let bars = bars-steps (with_deltas s log upto rows) (ready_blocks s.jobs (applied_upto s.applied log upto)) w in record { given = bars.given; waiting = bars.waiting })
-barred-step s (Check block place) w = record { given = λ b. gives_none (is_place (entry_at s block).place place) b; waiting = w }
+barred-transition s (Check block place) w = record { given = λ b. gives_none (is_place (entry_at s block).place place) b; waiting = w }
   where
-    gives_none : (t : Bool) (b : BlockId) → Gives b (cond t (Live (entry_at s block)) Dead ∷ []) → job_at s.jobs b ≡ None
+    gives_none : (t : Bool) (b : BlockId) → HandsOut b (cond t (Live (entry_at s block)) Dead ∷ []) → job_at s.jobs b ≡ None
     gives_none true b g = absurd g
     gives_none false b g = absurd g
-barred-step s Tick w = record { given = λ b g. absurd (all_sent_gives b s.jobs g); waiting = w }
+barred-transition s Tick w = record { given = λ b g. absurd (all_sent_gives b s.jobs g); waiting = w }
 
 pub nobody_waits : Waiting []
 unfolding IsStrictlySortedBy
 nobody_waits = record { sorted = tt; own = λ b job is. absurd (cc) }
 
-waiting-all : (s : SlotState) (inputs : List In) → Waiting s.jobs → Waiting (after_all s inputs).jobs
-waiting-all = steps_keep step (λ t. Waiting t.jobs) (λ t input w. (barred-step t input w).waiting)
+waiting-all : (s : SlotState) (inputs : List In) → Waiting s.jobs → Waiting (state_after s inputs).jobs
+waiting-all = steps_keep transition (λ t. Waiting t.jobs) (λ t input w. (barred-transition t input w).waiting)
 
 pub barred-all : (epoch : ℕ) (index : List (BlockId × Entry)) (beliefs : List (BlockId × ℕ × Mode)) (applied : List ℕ) (inputs : List In) (input : In) (b : BlockId)
-    → Gives b (step (after_all (started epoch index beliefs applied) inputs) input).outs → job_at (step (after_all (started epoch index beliefs applied) inputs) input).state.jobs b ≡ None
-barred-all epoch index beliefs applied inputs input = (barred-step (after_all (started epoch index beliefs applied) inputs) input (waiting-all (started epoch index beliefs applied) inputs nobody_waits)).given
+    → HandsOut b (transition (state_after (started epoch index beliefs applied) inputs) input).outs → job_at (transition (state_after (started epoch index beliefs applied) inputs) input).state.jobs b ≡ None
+barred-all epoch index beliefs applied inputs input = (barred-transition (state_after (started epoch index beliefs applied) inputs) input (waiting-all (started epoch index beliefs applied) inputs nobody_waits)).given

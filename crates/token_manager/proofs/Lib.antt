@@ -2,8 +2,8 @@ pub mod Counting
 pub mod Cases
 pub mod AppliedRises
 pub mod Turns
-pub mod OneOwner
 pub mod JobsBarGrants
-pub mod Ranks
+pub mod Shares
 pub mod Guarded
 pub mod AwaitsJust
+pub mod RecallTurns

@@ -2,23 +2,23 @@
 use Rattle.std.proofs.Common.{◌≡◌, ℕ, ◌+◌, Bool, true, false, cond, not, List, [], ◌∷◌, ◌++◌, length, refl, subst, ◌∙◌, arith}
 use Rattle.xfs_base.specs.Steps.{steps}
 use Rattle.xfs_base.specs.declared.block.BlockId.{BlockId}
-use Rattle.token_manager.specs.declared.job.Ask.{Ask}
-use Rattle.token_manager.specs.declared.told.Out.{Out}
-use Rattle.token_manager.specs.declared.told.Out.TheVariants.{Grant, Forward, Recall, Applied, Live, Dead}
-use Rattle.token_manager.specs.declared.told.In.{In}
-use Rattle.token_manager.specs.declared.told.In.TheVariants.{Want, Gave, Deltas, Check, Tick}
-use Rattle.token_manager.specs.Beliefs.{is_own}
+use Rattle.xfs_base.specs.Modes.{is_own}
+use Rattle.token_manager.specs.declared.job.Wanted.{Wanted}
+use Rattle.token_manager.specs.declared.output.Out.{Out}
+use Rattle.token_manager.specs.declared.output.Out.TheVariants.{Grant, Forward, Recall, Applied, Live, Dead}
+use Rattle.token_manager.specs.declared.input.In.{In}
+use Rattle.token_manager.specs.declared.input.In.TheVariants.{Want, Gave, Deltas, Check, Tick}
 use Rattle.token_manager.specs.Recalls.{recalls, sent, ready_blocks}
 use Rattle.token_manager.specs.SlotState.{SlotState}
-use Rattle.token_manager.specs.Transition.{Done, ask_of, passers, answer, applied_upto, with_deltas, finished_at, is_place, entry_at, step}
-use Rattle.token_manager.specs.Laws.{TakesTurns, IsNews}
+use Rattle.token_manager.specs.Transition.{Done, want_of, passers, answer, applied_upto, with_deltas, finished_at, is_place, entry_at, transition}
+use Rattle.token_manager.specs.Laws.{TakesTurns, IsNotTick}
 use Rattle.token_manager.proofs.Cases.{recalled_from, by_want, all_given, by_gave, by_deltas, let_go, by_finished_at}
 
 -- one list of outs after another
 takes_both : (epoch from at last : ℕ) (xs ys : List Out) → TakesTurns epoch from xs at → TakesTurns epoch at ys last → TakesTurns epoch from (xs ++ ys) last
 takes_both epoch from at last [] ys xs_take ys_take = subst (λ t. TakesTurns epoch t ys last) xs_take ys_take
 takes_both epoch from at last (Grant client block st inc req mode entry ∷ xs) ys xs_take ys_take = (xs_take.0, takes_both epoch (from + 1) at last xs ys xs_take.1 ys_take)
-takes_both epoch from at last (Forward passer client block st inc req ver ∷ xs) ys xs_take ys_take = (xs_take.0, takes_both epoch (from + 1) at last xs ys xs_take.1 ys_take)
+takes_both epoch from at last (Forward client block st to inc req ver ∷ xs) ys xs_take ys_take = (xs_take.0, takes_both epoch (from + 1) at last xs ys xs_take.1 ys_take)
 takes_both epoch from at last (Recall client block st keep ∷ xs) ys xs_take ys_take = (xs_take.0, takes_both epoch (from + 1) at last xs ys xs_take.1 ys_take)
 takes_both epoch from at last (Applied log upto ∷ xs) ys xs_take ys_take = takes_both epoch from at last xs ys xs_take ys_take
 takes_both epoch from at last (Live entry ∷ xs) ys xs_take ys_take = takes_both epoch from at last xs ys xs_take ys_take
@@ -34,12 +34,12 @@ takes-recalls epoch turn block keep (c ∷ cs) =
 abbrev Takes : SlotState → Done → Type 0
 Takes s r = (r.state.epoch ≡ s.epoch) × TakesTurns s.epoch s.turn r.outs r.state.turn
 
-takes-answer : (s : SlotState) (ask : Ask) (passers : List ℕ) → TakesTurns s.epoch s.turn (answer s ask passers ∷ []) (s.turn + 1)
-takes-answer s ask [] = (refl, refl)
-takes-answer s ask (c ∷ cs) = (refl, refl)
+takes-answer : (s : SlotState) (want : Wanted) (passers : List ℕ) → TakesTurns s.epoch s.turn (answer s want passers ∷ []) (s.turn + 1)
+takes-answer s want [] = (refl, refl)
+takes-answer s want (c ∷ cs) = (refl, refl)
 
 takes-finished_at : (s : SlotState) (block : BlockId) → Takes s (finished_at s block)
-takes-finished_at s block = by_finished_at (Takes s) s block (refl, refl) (λ job is. (refl, takes-answer (let_go s block) job.ask (passers (let_go s block) job.ask)))
+takes-finished_at s block = by_finished_at (Takes s) s block (refl, refl) (λ job is. (refl, takes-answer (let_go s block) job.want (passers (let_go s block) job.want)))
 
 takes-steps : (s : SlotState) (blocks : List BlockId) → Takes s (steps finished_at s blocks)
 takes-steps s [] = (refl, refl)
@@ -52,15 +52,15 @@ takes-steps s (b ∷ bs) =
           (subst (λ e. TakesTurns e next.turn (steps finished_at next bs).outs (steps finished_at next bs).state.turn) one.0 rest.1),
     )
 
-pub takes-step : (s : SlotState) (input : In) → IsNews input → Takes s (step s input)
-takes-step s (Want client inc req again block mode end) _ =
-    let ask = ask_of client inc req again block mode in
-    by_want (Takes s) s ask end (refl, refl) (λ _ _. (refl, takes-answer s ask (passers s ask))) (λ _. (refl, takes-recalls s.epoch s.turn block (not (is_own mode)) (recalled_from s ask)))
-takes-step s (Gave client block stamp end) _ = by_gave (Takes s) s client block stamp end (refl, refl) (λ job is ready. (refl, takes-answer (all_given s client block job.ask) job.ask (passers (all_given s client block job.ask) job.ask))) (λ _ _. (refl, refl))
-takes-step s (Deltas log first upto rows) _ = by_deltas (Takes s) s log first upto rows (refl, refl) (refl, refl) (λ _. takes-steps (with_deltas s log upto rows) (ready_blocks s.jobs (applied_upto s.applied log upto)))
-takes-step s (Check block place) _ = (refl, takes-check (is_place (entry_at s block).place place))
+pub takes-transition : (s : SlotState) (input : In) → IsNotTick input → Takes s (transition s input)
+takes-transition s (Want client block inc req again mode end) _ =
+    let want = want_of client block inc req again mode in
+    by_want (Takes s) s want end (refl, refl) (λ _ _. (refl, takes-answer s want (passers s want))) (λ _. (refl, takes-recalls s.epoch s.turn block (not (is_own mode)) (recalled_from s want)))
+takes-transition s (Gave client block stamp end) _ = by_gave (Takes s) s client block stamp end (refl, refl) (λ job is ready. (refl, takes-answer (all_given s client block job.want) job.want (passers (all_given s client block job.want) job.want))) (λ _ _. (refl, refl))
+takes-transition s (Deltas log first upto rows) _ = by_deltas (Takes s) s log first upto rows (refl, refl) (refl, refl) (λ _. takes-steps (with_deltas s log upto rows) (ready_blocks s.jobs (applied_upto s.applied log upto)))
+takes-transition s (Check block place) _ = (refl, takes-check (is_place (entry_at s block).place place))
   where
     takes-check : (b : Bool) → TakesTurns s.epoch s.turn (cond b (Live (entry_at s block)) Dead ∷ []) s.turn
     takes-check true = refl
     takes-check false = refl
-takes-step s Tick news = absurd news
+takes-transition s Tick news = absurd news

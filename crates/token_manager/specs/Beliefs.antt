@@ -8,9 +8,9 @@ use Rattle.std.specs.BTreeMap.{is_at, insert_entry}
 use Rattle.xfs_base.specs.Blocks.{block_cmp, same_block}
 use Rattle.xfs_base.specs.declared.block.BlockId.{BlockId}
 use Rattle.xfs_base.specs.declared.token.Mode.{Mode}
-use Rattle.xfs_base.specs.declared.token.Mode.TheVariants.{Nothing, Copy, Own}
+use Rattle.xfs_base.specs.Modes.{is_own, is_nothing}
 use Rattle.token_manager.specs.declared.job.Holder.{Holder}
-use Rattle.token_manager.specs.declared.job.Ask.{Ask}
+use Rattle.token_manager.specs.declared.job.Wanted.{Wanted}
 
 -- by block, then by client
 abbrev pub holder_cmp : Holder → Holder → Ordering
@@ -18,18 +18,6 @@ holder_cmp a b = ordering_then (block_cmp a.block b.block) (nat_cmp a.client b.c
 
 abbrev pub holder : BlockId → ℕ → Holder
 holder block client = record { block = block; client = client }
-
--- whether a mode says that a client may write
-abbrev pub is_own : Mode → Bool
-is_own Nothing = false
-is_own Copy = false
-is_own Own = true
-
--- whether a mode says that a client holds nothing
-abbrev pub is_nothing : Mode → Bool
-is_nothing Nothing = true
-is_nothing Copy = false
-is_nothing Own = false
 
 -- the other clients that are believed to hold the block, or just those that are believed to own it
 abbrev pub others : List (Holder × Bool) → BlockId → ℕ → Bool → List ℕ
@@ -52,8 +40,8 @@ abbrev pub held_by : List (Holder × Bool) → Holder → List (Holder × Bool)
 held_by beliefs h = if is_some (lookup (is_at (holder_cmp h)) beliefs) then beliefs else insert_entry holder_cmp beliefs h false
 
 -- the beliefs once the asker has what it wants
-abbrev pub after_ask : List (Holder × Bool) → Ask → List (Holder × Bool)
-after_ask beliefs ask = if is_own ask.mode then owned_by beliefs (holder ask.block ask.client) else held_by beliefs (holder ask.block ask.client)
+abbrev pub want_met : List (Holder × Bool) → Wanted → List (Holder × Bool)
+want_met beliefs want = if is_own want.mode then owned_by beliefs (holder want.block want.client) else held_by beliefs (holder want.block want.client)
 
 -- the client is believed to hold no more than a copy
 abbrev pub no_owner : List (Holder × Bool) → Holder → List (Holder × Bool)

@@ -5,8 +5,8 @@ use Rattle.xfs_base.specs.declared.block.BlockId.{BlockId}
 use Rattle.xfs_base.specs.declared.token.Stamp.{Stamp}
 use Rattle.token_manager.specs.declared.job.Job.{Job}
 use Rattle.token_manager.specs.declared.job.Awaited.{Awaited}
-use Rattle.token_manager.specs.declared.told.Out.{Out}
-use Rattle.token_manager.specs.declared.told.Out.TheVariants.{Recall}
+use Rattle.token_manager.specs.declared.output.Out.{Out}
+use Rattle.token_manager.specs.declared.output.Out.TheVariants.{Recall}
 
 abbrev pub stamp : ℕ → ℕ → Stamp
 stamp epoch turn = record { epoch = epoch; turn = turn }
@@ -30,13 +30,13 @@ all_sent [] = []
 all_sent (e ∷ es) = sent e.0 e.1.awaited ++ all_sent es
 
 -- whether this is the unanswered recall of a client under a stamp
-abbrev pub is_answered : ℕ → Stamp → Awaited → Bool
-is_answered client stamp a = (a.client == client) && (a.stamp.epoch == stamp.epoch) && (a.stamp.turn == stamp.turn) && not (is_some a.end)
+abbrev pub answers : ℕ → Stamp → Awaited → Bool
+answers client stamp a = (a.client == client) && (a.stamp.epoch == stamp.epoch) && (a.stamp.turn == stamp.turn) && not (is_some a.end)
 
 -- the recalls, with the end that an answer named
 abbrev pub noted : List Awaited → ℕ → Stamp → ℕ → List Awaited
 noted [] client stamp end = []
-noted (a ∷ rest) client stamp end = (if is_answered client stamp a then record a { end = Some end } else a) ∷ noted rest client stamp end
+noted (a ∷ rest) client stamp end = (if answers client stamp a then record a { end = Some end } else a) ∷ noted rest client stamp end
 
 -- what is applied of a log: nothing of a log that a slot does not follow
 abbrev pub applied_of : List ℕ → ℕ → ℕ

@@ -1,4 +1,4 @@
--- What a slot does on each input: one transition for each kind of input, and step, which is all of them.
+-- What a slot does on each input: one definition for each kind of input, and transition, which is all of them.
 use Rattle.std.specs.Prelude.{ℕ, ◌+◌, ◌-◌, ◌^◌, Bool, false, not, ◌&&◌, ◌||◌, ◌==◌, nat_lt, nat_le, List, [], ◌∷◌, length, slice_set, Option, Some, None, if◌then◌else◌, is_some}
 use Rattle.std.specs.List.{list_any}
 use Rattle.std.specs.Map.{lookup, remove_entry}
@@ -14,16 +14,17 @@ use Rattle.xfs_base.specs.declared.segment.LogId.{LogId}
 use Rattle.xfs_base.specs.declared.token.Mode.{Mode}
 use Rattle.xfs_base.specs.declared.token.Stamp.{Stamp}
 use Rattle.delta_index.specs.Index.{entry_of}
-use Rattle.token_manager.specs.declared.job.Ask.{Ask}
+use Rattle.xfs_base.specs.Modes.{is_own, is_nothing}
+use Rattle.token_manager.specs.declared.job.Wanted.{Wanted}
 use Rattle.token_manager.specs.declared.job.Awaited.{Awaited}
 use Rattle.token_manager.specs.declared.job.Job.{Job}
-use Rattle.token_manager.specs.declared.told.Out.{Out}
-use Rattle.token_manager.specs.declared.told.Out.TheVariants.{Grant, Forward, Applied, Live, Dead}
-use Rattle.token_manager.specs.declared.told.In.{In}
-use Rattle.token_manager.specs.declared.told.In.TheVariants.{Want, Gave, Deltas, Check, Tick}
-use Rattle.token_manager.specs.Beliefs.{holder, is_own, is_nothing, others, after_ask, given_up, all_believed}
+use Rattle.token_manager.specs.declared.output.Out.{Out}
+use Rattle.token_manager.specs.declared.output.Out.TheVariants.{Grant, Forward, Applied, Live, Dead}
+use Rattle.token_manager.specs.declared.input.In.{In}
+use Rattle.token_manager.specs.declared.input.In.TheVariants.{Want, Gave, Deltas, Check, Tick}
+use Rattle.token_manager.specs.Beliefs.{holder, others, want_met, given_up, all_believed}
 use Rattle.token_manager.specs.Index.{nothing_indexed, indexed_all, has_room}
-use Rattle.token_manager.specs.Recalls.{stamp, recalls, sent, all_sent, is_answered, noted, applied_of, is_ready, ready_blocks}
+use Rattle.token_manager.specs.Recalls.{stamp, recalls, sent, all_sent, answers, noted, applied_of, is_ready, ready_blocks}
 use Rattle.token_manager.specs.SlotState.{SlotState}
 
 -- a state of a slot, and what was sent on the way to it
@@ -61,84 +62,84 @@ next_stamp s = stamp s.epoch (s.turn + 1)
 -- ---- a want that waits no longer
 
 -- the clients that could pass a copy on: none to one that wants to write, or that asks again
-abbrev pub passers : SlotState → Ask → List ℕ
-passers s ask = if is_own ask.mode || not (ask.again == 0) then [] else others s.beliefs ask.block ask.client false
+abbrev pub passers : SlotState → Wanted → List ℕ
+passers s want = if is_own want.mode || not (want.again == 0) then [] else others s.beliefs want.block want.client false
 
 -- a word to the lowest client that can pass its copy on, else a grant of what the index holds now
-abbrev pub answer : SlotState → Ask → List ℕ → Out
-answer s ask [] = Grant ask.client ask.block (next_stamp s) ask.inc ask.req ask.mode (entry_at s ask.block)
-answer s ask (c ∷ cs) = Forward c ask.client ask.block (next_stamp s) ask.inc ask.req (entry_at s ask.block).ver
+abbrev pub answer : SlotState → Wanted → List ℕ → Out
+answer s want [] = Grant want.client want.block (next_stamp s) want.inc want.req want.mode (entry_at s want.block)
+answer s want (c ∷ cs) = Forward c want.block (next_stamp s) want.client want.inc want.req (entry_at s want.block).ver
 
 -- the want is answered under a new turn, and the asker is believed to have what it wants
-abbrev pub finished : SlotState → Ask → Done
-finished s ask = record {
-  state = record s { beliefs = after_ask s.beliefs ask; turn = s.turn + 1 };
-  outs = answer s ask (passers s ask) ∷ [];
+abbrev pub finished : SlotState → Wanted → Done
+finished s want = record {
+  state = record s { beliefs = want_met s.beliefs want; turn = s.turn + 1 };
+  outs = answer s want (passers s want) ∷ [];
 }
 
 -- where no turn is left, nothing
-abbrev pub finish : SlotState → Ask → Done
-finish s ask = if has_turns s.turn 1 then finished s ask else still s
+abbrev pub finish : SlotState → Wanted → Done
+finish s want = if has_turns s.turn 1 then finished s want else still s
 
 -- ---- want
 
 -- the want waits; each of these clients gets a recall under a turn of its own
-abbrev pub recalled : SlotState → Ask → List ℕ → Done
-recalled s ask clients = record {
-  state = record s { jobs = insert_entry block_cmp s.jobs ask.block (record { ask = ask; awaited = recalls s.epoch s.turn (not (is_own ask.mode)) clients }); turn = s.turn + length clients };
-  outs = sent ask.block (recalls s.epoch s.turn (not (is_own ask.mode)) clients);
+abbrev pub recalled : SlotState → Wanted → List ℕ → Done
+recalled s want clients = record {
+  state = record s { jobs = insert_entry block_cmp s.jobs want.block (record { want = want; awaited = recalls s.epoch s.turn (not (is_own want.mode)) clients }); turn = s.turn + length clients };
+  outs = sent want.block (recalls s.epoch s.turn (not (is_own want.mode)) clients);
 }
 
 -- where too few turns are left, nothing
-abbrev pub recall : SlotState → Ask → List ℕ → Done
-recall s ask clients = if has_turns s.turn (length clients) then recalled s ask clients else still s
+abbrev pub recall : SlotState → Wanted → List ℕ → Done
+recall s want clients = if has_turns s.turn (length clients) then recalled s want clients else still s
 
 -- the block is recalled from these clients; where there are none, the want need not wait
-abbrev pub recall_or_finish : SlotState → Ask → List ℕ → Done
-recall_or_finish s ask clients = if length clients == 0 then finish s ask else recall s ask clients
+abbrev pub recall_or_finish : SlotState → Wanted → List ℕ → Done
+recall_or_finish s want clients = if length clients == 0 then finish s want else recall s want clients
 
 -- whether a want is dropped: it wants nothing, another one waits for the block, or the asker's own log
 -- isn't applied up to the end that it names
-abbrev pub is_dropped : SlotState → Ask → ℕ → Bool
-is_dropped s ask end = is_nothing ask.mode || is_some (job_at s.jobs ask.block) || nat_lt (applied_of s.applied ask.client) end
+abbrev pub is_dropped : SlotState → Wanted → ℕ → Bool
+is_dropped s want end = is_nothing want.mode || is_some (job_at s.jobs want.block) || nat_lt (applied_of s.applied want.client) end
 
 -- a client wants a block (the 1996 paper, "Cache Consistency"): to read it, the other owner gives way and keeps
 -- a copy; to write it, all other holders give it up
-abbrev pub want : SlotState → Ask → ℕ → Done
-want s ask end = if is_dropped s ask end then still s else recall_or_finish s ask (others s.beliefs ask.block ask.client (not (is_own ask.mode)))
+abbrev pub on_want : SlotState → Wanted → ℕ → Done
+on_want s want end = if is_dropped s want end then still s else recall_or_finish s want (others s.beliefs want.block want.client (not (is_own want.mode)))
 
 -- ---- gave
 
 -- a client has given a block up
-abbrev pub given : SlotState → Ask → ℕ → BlockId → SlotState
-given s ask client block = record s { beliefs = given_up s.beliefs (holder block client) (not (is_own ask.mode)) }
+abbrev pub given : SlotState → Wanted → ℕ → BlockId → SlotState
+given s want client block = record s { beliefs = given_up s.beliefs (holder block client) (not (is_own want.mode)) }
 
 -- the want need wait no longer; where no turn is left, nothing, and the answer isn't noted either
-abbrev pub gave_last : SlotState → ℕ → BlockId → Ask → Done
-gave_last s client block ask = if has_turns s.turn 1 then finished (record (given s ask client block) { jobs = without_job s.jobs block }) ask else still s
+abbrev pub gave_last : SlotState → ℕ → BlockId → Wanted → Done
+gave_last s client block want = if has_turns s.turn 1 then finished (record (given s want client block) { jobs = without_job s.jobs block }) want else still s
 
 -- the recalls, with the answer noted; the want goes on waiting
-abbrev pub gave_one : SlotState → ℕ → BlockId → Ask → List Awaited → SlotState
-gave_one s client block ask awaited = record (given s ask client block) { jobs = insert_entry block_cmp s.jobs block (record { ask = ask; awaited = awaited }) }
+abbrev pub gave_one : SlotState → ℕ → BlockId → Wanted → List Awaited → SlotState
+gave_one s client block want awaited = record (given s want client block) { jobs = insert_entry block_cmp s.jobs block (record { want = want; awaited = awaited }) }
 
-unfoldable pub gave_noted : SlotState → ℕ → BlockId → Ask → List Awaited → Done
-gave_noted s client block ask awaited = if is_ready s.applied awaited then gave_last s client block ask else still (gave_one s client block ask awaited)
+unfoldable pub gave_noted : SlotState → ℕ → BlockId → Wanted → List Awaited → Done
+gave_noted s client block want awaited = if is_ready s.applied awaited then gave_last s client block want else still (gave_one s client block want awaited)
 
 -- only the answer to an unanswered recall of the want counts
 abbrev pub gave_job : SlotState → ℕ → BlockId → Stamp → ℕ → Option Job → Done
 gave_job s client block stamp end None = still s
 gave_job s client block stamp end (Some job) =
-    if list_any (is_answered client stamp) job.awaited then gave_noted s client block job.ask (noted job.awaited client stamp end) else still s
+    if list_any (answers client stamp) job.awaited then gave_noted s client block job.want (noted job.awaited client stamp end) else still s
 
 -- a client gave a block up, as it was asked to
-abbrev pub gave : SlotState → ℕ → BlockId → Stamp → ℕ → Done
-gave s client block stamp end = gave_job s client block stamp end (job_at s.jobs block)
+abbrev pub on_gave : SlotState → ℕ → BlockId → Stamp → ℕ → Done
+on_gave s client block stamp end = gave_job s client block stamp end (job_at s.jobs block)
 
 -- ---- deltas
 
 abbrev pub finished_job : SlotState → BlockId → Option Job → Done
 finished_job s block None = still s
-finished_job s block (Some job) = finished (record s { jobs = without_job s.jobs block }) job.ask
+finished_job s block (Some job) = finished (record s { jobs = without_job s.jobs block }) job.want
 
 -- the want that waits for this block is answered
 unfoldable pub finished_at : SlotState → BlockId → Done
@@ -183,8 +184,8 @@ abbrev pub deltas_of : SlotState → LogId → ℕ → ℕ → List (BlockId × 
 deltas_of s log first upto rows = if joins_on (applied_of s.applied log.0) first upto then apply_or_not s log upto rows else told_applied s log
 
 -- a log tells where blocks lie
-abbrev pub deltas : SlotState → LogId → ℕ → ℕ → List (BlockId × Entry) → Done
-deltas s log first upto rows = if is_followed log then deltas_of s log first upto rows else still s
+abbrev pub on_deltas : SlotState → LogId → ℕ → ℕ → List (BlockId × Entry) → Done
+on_deltas s log first upto rows = if is_followed log then deltas_of s log first upto rows else still s
 
 -- ---- check and tick
 
@@ -198,22 +199,22 @@ abbrev pub found : Entry → Place → Out
 found entry place = if is_place entry.place place then Live entry else Dead
 
 -- the cleaner asks whether a block lives at a place (the 1996 paper, "Cleaning")
-abbrev pub check : SlotState → BlockId → Place → Done
-check s block place = record { state = s; outs = found (entry_at s block) place ∷ [] }
+abbrev pub on_check : SlotState → BlockId → Place → Done
+on_check s block place = record { state = s; outs = found (entry_at s block) place ∷ [] }
 
 -- each recall that isn't answered is sent again, under its stamp
-abbrev pub tick : SlotState → Done
-tick s = record { state = s; outs = all_sent s.jobs }
+abbrev pub on_tick : SlotState → Done
+on_tick s = record { state = s; outs = all_sent s.jobs }
 
 -- ---- all
 
-abbrev pub ask_of : ℕ → ℕ → ℕ → ℕ → BlockId → Mode → Ask
-ask_of client inc req again block mode = record { client = client; inc = inc; req = req; again = again; block = block; mode = mode }
+abbrev pub want_of : ℕ → BlockId → ℕ → ℕ → ℕ → Mode → Wanted
+want_of client block inc req again mode = record { client = client; block = block; inc = inc; req = req; again = again; mode = mode }
 
 -- what a slot does on an input
-abbrev pub step : SlotState → In → Done
-step s (Want client inc req again block mode end) = want s (ask_of client inc req again block mode) end
-step s (Gave client block stamp end) = gave s client block stamp end
-step s (Deltas log first upto rows) = deltas s log first upto rows
-step s (Check block place) = check s block place
-step s Tick = tick s
+abbrev pub transition : SlotState → In → Done
+transition s (Want client block inc req again mode end) = on_want s (want_of client block inc req again mode) end
+transition s (Gave client block stamp end) = on_gave s client block stamp end
+transition s (Deltas log first upto rows) = on_deltas s log first upto rows
+transition s (Check block place) = on_check s block place
+transition s Tick = on_tick s

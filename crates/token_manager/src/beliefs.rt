@@ -1,31 +1,11 @@
 //! Who is believed to hold each block.
 ghost use Rattle.std.specs.Prelude.{◌≡◌, OnOk, IfOk, []};
-ghost use Rattle.token_manager.specs.Beliefs.{is_own, is_nothing, others, without_block, owned_by, held_by, after_ask, no_owner, given_up, believed, all_believed};
+ghost use Rattle.token_manager.specs.Beliefs.{others, without_block, owned_by, held_by, want_met, no_owner, given_up, believed, all_believed};
 
-use crate::job::{Ask, Holder};
+use crate::job::{Holder, Wanted};
 use std::alloc::Global;
 use std::collections::BTreeMap;
 use xfs_base::{BlockId, List, Mem, Mode};
-
-// Whether a mode says that a client may write.
-pub(crate) fn is_own(mode: Mode) -> bool
-    ensures { result ≡ is_own mode }
-{
-    match mode {
-        Mode::Own => true,
-        Mode::Copy | Mode::Nothing => false,
-    }
-}
-
-// Whether a mode says that a client holds nothing.
-pub(crate) fn is_nothing(mode: Mode) -> bool
-    ensures { result ≡ is_nothing mode }
-{
-    match mode {
-        Mode::Nothing => true,
-        Mode::Copy | Mode::Own => false,
-    }
-}
 
 // The other clients that are believed to hold a block, or just those that are believed to own it.
 pub(crate) fn others(
@@ -70,14 +50,14 @@ fn hold(beliefs: &mut BTreeMap<Holder, bool>, holder: Holder) -> Mem<()>
 }
 
 // Believes that the asker has what it wants.
-pub(crate) fn believe_asker(beliefs: &mut BTreeMap<Holder, bool>, ask: Ask) -> Mem<()>
-    ensures { OnOk result (beliefs.new.entries ≡ after_ask beliefs.old.entries ask) }
+pub(crate) fn meet_want(beliefs: &mut BTreeMap<Holder, bool>, want: Wanted) -> Mem<()>
+    ensures { OnOk result (beliefs.new.entries ≡ want_met beliefs.old.entries want) }
 {
     let holder = Holder {
-        block: ask.block,
-        client: ask.client,
+        block: want.block,
+        client: want.client,
     };
-    if is_own(ask.mode) {
+    if want.mode.is_own() {
         own(beliefs, holder)
     } else {
         hold(beliefs, holder)
@@ -108,10 +88,10 @@ fn believe(beliefs: &mut BTreeMap<Holder, bool>, belief: (BlockId, u8, Mode)) ->
     ensures { OnOk result (beliefs.new.entries ≡ believed beliefs.old.entries belief) }
 {
     let (block, client, mode) = belief;
-    if is_nothing(mode) {
+    if mode.is_nothing() {
         return Ok(());
     }
-    beliefs.insert(Holder { block, client }, is_own(mode))?;
+    beliefs.insert(Holder { block, client }, mode.is_own())?;
     Ok(())
 }
 

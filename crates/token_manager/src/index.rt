@@ -10,7 +10,7 @@ use delta_index::DeltaIndex;
 use std::alloc::Global;
 use std::marker::Model;
 use usage_table::Usage;
-use xfs_base::{BlockId, Entry, List, Mem, SegName};
+use xfs_base::{BlockId, Crosses, Entry, List, Mem, SegName};
 
 /// What is held of each block, and the live blocks of each segment. The counts are those that a count from
 /// scratch over the places gives.
@@ -29,6 +29,8 @@ impl Model for BlockIndex {
 
     ghost invariant = { λ i. IsCounted (record { rows = i.index; usage = i.usage }) };
 }
+
+impl Crosses for BlockIndex {}
 
 // The segment in which an entry's version lies.
 fn segment_of(entry: Entry) -> Option<SegName>

@@ -1,5 +1,5 @@
 //! What a slot keeps of its clients: who may hold which block, and what waits for recalls.
-use xfs_base::{BlockId, List, Mode, Stamp};
+use xfs_base::{BlockId, Crosses, List, Mode, Stamp};
 
 /// A client that may hold a block. The order is by block, then by client.
 #[derive(Clone, Copy, Debug, PartialEq, Eq, PartialOrd, Ord)]
@@ -12,18 +12,18 @@ pub struct Holder {
 
 /// What a client wants.
 #[derive(Clone, Copy, Debug, PartialEq, Eq)]
-pub struct Ask {
+pub struct Wanted {
     /// The number of the client.
     pub client: u8,
-    /// Its incarnation.
-    pub inc: u32,
-    /// The number of the want in that incarnation.
-    pub req: u32,
-    /// How often it was asked again; a want that was asked again is answered from the log alone.
-    pub again: u32,
     /// The block.
     pub block: BlockId,
-    /// What it wants to do with the block.
+    /// The incarnation of the client.
+    pub inc: u32,
+    /// The client's number of this want.
+    pub req: u32,
+    /// How often it was said before; a want that was said before is answered from the log alone.
+    pub again: u32,
+    /// The wanted mode.
     pub mode: Mode,
 }
 
@@ -44,7 +44,15 @@ pub struct Awaited {
 #[derive(Drop)]
 pub struct Job {
     /// What is wanted.
-    pub ask: Ask,
+    pub want: Wanted,
     /// The recalls for it, in order of clients.
     pub awaited: List<Awaited>,
 }
+
+impl Crosses for Holder {}
+
+impl Crosses for Wanted {}
+
+impl Crosses for Awaited {}
+
+impl Crosses for Job {}

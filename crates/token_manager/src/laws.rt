@@ -4,44 +4,39 @@ ghost use Rattle.std.specs.Prelude.{◌≡◌, ◌≤◌, ℕ, List, None};
 ghost use Rattle.xfs_base.specs.declared.block.BlockId.{BlockId};
 ghost use Rattle.xfs_base.specs.declared.entry.Entry.{Entry};
 ghost use Rattle.xfs_base.specs.declared.token.Mode.{Mode};
-ghost use Rattle.token_manager.specs.declared.told.In.{In};
+ghost use Rattle.token_manager.specs.declared.input.In.{In};
 ghost use Rattle.token_manager.specs.Index.{IsCounted};
 ghost use Rattle.token_manager.specs.Recalls.{applied_of};
 ghost use Rattle.token_manager.specs.SlotState.{SlotState};
-ghost use Rattle.token_manager.specs.Transition.{started, job_at, step};
-ghost use Rattle.token_manager.specs.Laws.{after_all, TakesTurns, IsNews, HasOneOwner, Gives, OwnsAlone, IsGuarded};
+ghost use Rattle.token_manager.specs.Transition.{started, job_at, transition};
+ghost use Rattle.token_manager.specs.Laws.{state_after, TakesTurns, IsNotTick, HandsOut, OwnsAlone, IsGuarded, RecallsAreGivenOut};
 
 /// Whatever a slot took, the live blocks that it counts in each segment are those that a count from
 /// scratch over the places of its index gives.
 pub fn counts_follow_the_index()
     ensures { (epoch : ℕ) (index : List (BlockId × Entry)) (beliefs : List (BlockId × ℕ × Mode)) (applied : List ℕ) (inputs : List In)
-        → IsCounted (after_all (started epoch index beliefs applied) inputs).index }
+        → IsCounted (state_after (started epoch index beliefs applied) inputs).index }
 {}
 
 /// What is applied of a log never falls.
 pub fn applied_never_falls()
-    ensures { (s : SlotState) (inputs : List In) (log : ℕ) → applied_of s.applied log ≤ applied_of (after_all s inputs).applied log }
+    ensures { (s : SlotState) (inputs : List In) (log : ℕ) → applied_of s.applied log ≤ applied_of (state_after s inputs).applied log }
 {}
 
 /// On each input other than a tick, the grants, forwards and recalls bear the turns after the last one
 /// that was given out, each the next, in the epoch of the slot, which stays; and the state keeps the last.
 /// So turns only rise, and no stamp is given out twice; a tick sends recalls again under their stamps.
 pub fn each_stamp_is_fresh()
-    ensures { (s : SlotState) (input : In) → IsNews input
-        → ((step s input).state.epoch ≡ s.epoch) × TakesTurns s.epoch s.turn (step s input).outs (step s input).state.turn }
-{}
-
-/// No list of inputs makes a second owner of a block.
-pub fn no_second_owner()
-    ensures { (s : SlotState) (inputs : List In) → HasOneOwner s.beliefs → HasOneOwner (after_all s inputs).beliefs }
+    ensures { (s : SlotState) (input : In) → IsNotTick input
+        → ((transition s input).state.epoch ≡ s.epoch) × TakesTurns s.epoch s.turn (transition s input).outs (transition s input).state.turn }
 {}
 
 /// While a want waits for a block, the block is not granted, and no copy of it is passed on: what an input
 /// grants or forwards has no want that waits for it in the state that follows.
 pub fn waiting_bars_grants()
     ensures { (epoch : ℕ) (index : List (BlockId × Entry)) (beliefs : List (BlockId × ℕ × Mode)) (applied : List ℕ) (inputs : List In) (input : In) (block : BlockId)
-        → Gives block (step (after_all (started epoch index beliefs applied) inputs) input).outs
-        → job_at (step (after_all (started epoch index beliefs applied) inputs) input).state.jobs block ≡ None }
+        → HandsOut block (transition (state_after (started epoch index beliefs applied) inputs) input).outs
+        → job_at (transition (state_after (started epoch index beliefs applied) inputs) input).state.jobs block ≡ None }
 {}
 
 /// Where owners are alone at the start, they are alone for ever: whoever is believed to own a block is the
@@ -50,5 +45,12 @@ pub fn waiting_bars_grants()
 /// who have anything of the block.
 pub fn owners_are_alone()
     ensures { (epoch : ℕ) (index : List (BlockId × Entry)) (beliefs : List (BlockId × ℕ × Mode)) (applied : List ℕ) (inputs : List In)
-        → OwnsAlone (started epoch index beliefs applied).beliefs → IsGuarded (after_all (started epoch index beliefs applied) inputs) }
+        → OwnsAlone (started epoch index beliefs applied).beliefs → IsGuarded (state_after (started epoch index beliefs applied) inputs) }
+{}
+
+/// Each recall of a want that waits bears the epoch of the slot, and a turn from 1 to the last that was
+/// given out; so a tick sends no stamp that the slot did not give out.
+pub fn recalls_are_given_out()
+    ensures { (epoch : ℕ) (index : List (BlockId × Entry)) (beliefs : List (BlockId × ℕ × Mode)) (applied : List ℕ) (inputs : List In)
+        → RecallsAreGivenOut (state_after (started epoch index beliefs applied) inputs) }
 {}

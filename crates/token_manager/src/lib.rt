@@ -6,16 +6,18 @@
 
 pub mod beliefs;
 pub mod index;
+pub mod input;
 pub mod job;
 pub mod laws;
+pub mod output;
 pub mod recalls;
 pub mod slot;
-pub mod told;
 
 pub use index::BlockIndex;
-pub use job::{Ask, Awaited, Holder, Job};
+pub use input::In;
+pub use job::{Awaited, Holder, Job, Wanted};
+pub use output::Out;
 pub use slot::Slot;
-pub use told::{In, Out};
 
 #[cfg(test)]
 mod tests;

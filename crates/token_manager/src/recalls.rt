@@ -1,10 +1,10 @@
 //! The recalls of the wants that wait.
 ghost use Rattle.std.specs.Prelude.{◌≡◌, ℕ, ◌+◌, ◌^◌, ◌<◌, length, OnOk, IfOk, ◌++◌};
 ghost use Rattle.std.specs.List.{list_any};
-ghost use Rattle.token_manager.specs.Recalls.{recalls, sent, all_sent, is_answered, noted, applied_of, is_applied, is_ready, ready_blocks};
+ghost use Rattle.token_manager.specs.Recalls.{recalls, sent, all_sent, answers, noted, applied_of, is_applied, is_ready, ready_blocks};
 
 use crate::job::{Awaited, Job};
-use crate::told::Out;
+use crate::output::Out;
 use std::alloc::Global;
 use std::collections::BTreeMap;
 use xfs_base::{BlockId, List, Mem, Stamp};
@@ -40,7 +40,12 @@ pub(crate) fn send_recalls(outs: &mut List<Out>, block: BlockId, awaited: &[Awai
 {
     for recall in awaited {
         if recall.end.is_none() {
-            outs.push(Out::Recall(recall.client, block, recall.stamp, recall.keep))?;
+            outs.push(Out::Recall {
+                client: recall.client,
+                block,
+                stamp: recall.stamp,
+                keep: recall.keep,
+            })?;
         }
     }
     Ok(())
@@ -56,19 +61,17 @@ pub(crate) fn send_all(outs: &mut List<Out>, jobs: &BTreeMap<BlockId, Job>) -> M
     Ok(())
 }
 
-fn is_answered(recall: &Awaited, client: u8, stamp: Stamp) -> bool
-    ensures { result ≡ is_answered client stamp recall.now }
+fn answers(recall: &Awaited, client: u8, stamp: Stamp) -> bool
+    ensures { result ≡ answers client stamp recall.now }
 {
     recall.client == client && recall.stamp == stamp && recall.end.is_none()
 }
 
 // Whether one of the recalls is the unanswered one of a client under a stamp.
 pub(crate) fn is_awaited(awaited: &[Awaited], client: u8, stamp: Stamp) -> bool
-    ensures { result ≡ list_any (is_answered client stamp) awaited.now }
+    ensures { result ≡ list_any (answers client stamp) awaited.now }
 {
-    awaited
-        .iter()
-        .any(|recall| is_answered(recall, client, stamp))
+    awaited.iter().any(|recall| answers(recall, client, stamp))
 }
 
 // The recalls, with the end that an answer named.
@@ -84,7 +87,7 @@ pub(crate) fn noted(
     let mut after = List::new(alloc);
     for recall in awaited {
         let mut recall = *recall;
-        if is_answered(&recall, client, stamp) {
+        if answers(&recall, client, stamp) {
             recall.end = Some(end);
         }
         after.push(recall)?;

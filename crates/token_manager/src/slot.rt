@@ -4,19 +4,20 @@ ghost use Rattle.xfs_base.specs.Steps.{steps};
 ghost use Rattle.xfs_base.specs.declared.segment.SegName.{SegName};
 ghost use Rattle.token_manager.specs.Index.{live_in, has_room};
 ghost use Rattle.token_manager.specs.Recalls.{applied_of, ready_blocks};
-ghost use Rattle.token_manager.specs.Transition.{started, has_turns, passers, finished, recall_or_finish, recall, want, gave_last, gave_noted, gave, finished_at, is_followed, apply, apply_or_not, deltas, is_place, found, check, tick, step};
+ghost use Rattle.token_manager.specs.Transition.{started, has_turns, passers, finished, recall_or_finish, recall, on_want, gave_last, gave_noted, on_gave, finished_at, is_followed, apply, apply_or_not, on_deltas, is_place, found, on_check, on_tick, transition};
 
-use crate::beliefs::{all_believed, believe_asker, give_up, is_nothing, is_own, others};
+use crate::beliefs::{all_believed, give_up, meet_want, others};
 use crate::index::BlockIndex;
-use crate::job::{Ask, Awaited, Holder, Job};
+use crate::input::In;
+use crate::job::{Awaited, Holder, Job, Wanted};
+use crate::output::Out;
 use crate::recalls::{
     applied_of, is_awaited, is_ready, noted, ready_blocks, recalls, send_all, send_recalls,
 };
-use crate::told::{In, Out};
 use std::alloc::Global;
 use std::collections::BTreeMap;
 use std::marker::Model;
-use xfs_base::{BlockId, Entry, List, LogId, Mem, Mode, Place, SegName, Stamp};
+use xfs_base::{BlockId, Crosses, Entry, List, LogId, Mem, Mode, Place, SegName, Stamp};
 
 /// The tokens of one slot of the manager map, in one epoch (the 1996 paper, "Cache Consistency"). Contracts see
 /// it as its state: the epoch, the index with the live blocks of each segment, who is believed to hold
@@ -38,6 +39,8 @@ impl Model for Slot {
 
     ghost view = { λ a. record { epoch = a.epoch; index = a.index; beliefs = a.beliefs.entries; jobs = a.jobs.entries; turn = a.turn; applied = a.applied } };
 }
+
+impl Crosses for Slot {}
 
 // Nine numbers as an array.
 fn nine(list: &[u32]) -> [u32; 9]
@@ -68,7 +71,7 @@ fn found(entry: Entry, place: Place) -> Out
     ensures { result ≡ found entry place }
 {
     if is_place(entry.place, place) {
-        Out::Live(entry)
+        Out::Live { entry }
     } else {
         Out::Dead
     }
@@ -145,123 +148,155 @@ impl Slot {
     ///
     /// Where a turn or a count of live blocks could not rise, nothing changes and nothing is sent.
     pub fn take(&mut self, alloc: Global, input: In) -> Mem<List<Out>>
-        ensures state { OnOk result (self.new ≡ (step self.old input).state) }
-        ensures outs { IfOk result (λ outs. outs ≡ (step self.old input).outs) }
+        ensures state { OnOk result (self.new ≡ (transition self.old input).state) }
+        ensures outs { IfOk result (λ outs. outs ≡ (transition self.old input).outs) }
     {
         let mut outs = List::new(alloc);
         match input {
-            In::Want(client, inc, req, again, block, mode, end) => {
-                let ask = Ask {
+            In::Want {
+                client,
+                block,
+                inc,
+                req,
+                again,
+                mode,
+                end,
+            } => {
+                let want = Wanted {
                     client,
+                    block,
                     inc,
                     req,
                     again,
-                    block,
                     mode,
                 };
-                self.want(alloc, &mut outs, ask, end)?
+                self.on_want(alloc, &mut outs, want, end)?
             }
-            In::Gave(client, block, stamp, end) => {
-                self.gave(alloc, &mut outs, client, block, stamp, end)?
-            }
-            In::Deltas(log, first, upto, rows) => {
-                self.deltas(alloc, &mut outs, log, first, upto, rows.as_slice())?
-            }
-            In::Check(block, place) => outs.push(found(self.index.get(block), place))?,
+            In::Gave {
+                client,
+                block,
+                stamp,
+                end,
+            } => self.on_gave(alloc, &mut outs, client, block, stamp, end)?,
+            In::Deltas {
+                log,
+                first,
+                upto,
+                rows,
+            } => self.on_deltas(alloc, &mut outs, log, first, upto, rows.as_slice())?,
+            In::Check { block, place } => outs.push(found(self.index.get(block), place))?,
             In::Tick => send_all(&mut outs, &self.jobs)?,
         }
         Ok(outs)
     }
 
-    fn passers(&self, alloc: Global, ask: Ask) -> Mem<List<u8>>
-        ensures { IfOk result (λ clients. clients ≡ passers self.now ask) }
+    fn passers(&self, alloc: Global, want: Wanted) -> Mem<List<u8>>
+        ensures { IfOk result (λ clients. clients ≡ passers self.now want) }
     {
-        if is_own(ask.mode) || ask.again != 0 {
+        if want.mode.is_own() || want.again != 0 {
             return Ok(List::new(alloc));
         }
-        others(alloc, &self.beliefs, ask.block, ask.client, false)
+        others(alloc, &self.beliefs, want.block, want.client, false)
     }
 
     // Answers a want under a new turn.
-    fn finish(&mut self, alloc: Global, outs: &mut List<Out>, ask: Ask) -> Mem<()>
+    fn finish(&mut self, alloc: Global, outs: &mut List<Out>, want: Wanted) -> Mem<()>
         requires { IsTrue (has_turns self.old.turn 1) }
-        ensures state { OnOk result (self.new ≡ (finished self.old ask).state) }
-        ensures outs { OnOk result (outs.new ≡ outs.old ++ (finished self.old ask).outs) }
+        ensures state { OnOk result (self.new ≡ (finished self.old want).state) }
+        ensures outs { OnOk result (outs.new ≡ outs.old ++ (finished self.old want).outs) }
     {
-        let passers = self.passers(alloc, ask)?;
-        let entry = self.index.get(ask.block);
+        let passers = self.passers(alloc, want)?;
+        let entry = self.index.get(want.block);
         self.turn += 1;
         let stamp = Stamp {
             epoch: self.epoch,
             turn: self.turn,
         };
         let out = match passers.as_slice().first() {
-            Some(passer) => Out::Forward(
-                *passer, ask.client, ask.block, stamp, ask.inc, ask.req, entry.ver,
-            ),
-            None => Out::Grant(
-                ask.client, ask.block, stamp, ask.inc, ask.req, ask.mode, entry,
-            ),
+            Some(passer) => Out::Forward {
+                client: *passer,
+                block: want.block,
+                stamp,
+                to: want.client,
+                inc: want.inc,
+                req: want.req,
+                ver: entry.ver,
+            },
+            None => Out::Grant {
+                client: want.client,
+                block: want.block,
+                stamp,
+                inc: want.inc,
+                req: want.req,
+                mode: want.mode,
+                entry,
+            },
         };
         outs.push(out)?;
-        believe_asker(&mut self.beliefs, ask)
+        meet_want(&mut self.beliefs, want)
     }
 
-    fn want(&mut self, alloc: Global, outs: &mut List<Out>, ask: Ask, end: u32) -> Mem<()>
-        ensures state { OnOk result (self.new ≡ (want self.old ask end).state) }
-        ensures outs { OnOk result (outs.new ≡ outs.old ++ (want self.old ask end).outs) }
+    fn on_want(&mut self, alloc: Global, outs: &mut List<Out>, want: Wanted, end: u32) -> Mem<()>
+        ensures state { OnOk result (self.new ≡ (on_want self.old want end).state) }
+        ensures outs { OnOk result (outs.new ≡ outs.old ++ (on_want self.old want end).outs) }
     {
-        if is_nothing(ask.mode)
-            || self.jobs.contains_key(&ask.block)
-            || applied_of(&self.applied, ask.client) < end
+        if want.mode.is_nothing()
+            || self.jobs.contains_key(&want.block)
+            || applied_of(&self.applied, want.client) < end
         {
             return Ok(());
         }
         let clients = others(
             alloc,
             &self.beliefs,
-            ask.block,
-            ask.client,
-            !is_own(ask.mode),
+            want.block,
+            want.client,
+            !want.mode.is_own(),
         )?;
-        self.recall_or_finish(alloc, outs, ask, clients.as_slice())
+        self.recall_or_finish(alloc, outs, want, clients.as_slice())
     }
 
     fn recall_or_finish(
         &mut self,
         alloc: Global,
         outs: &mut List<Out>,
-        ask: Ask,
+        want: Wanted,
         clients: &[u8],
     ) -> Mem<()>
-        ensures state { OnOk result (self.new ≡ (recall_or_finish self.old ask clients.now).state) }
-        ensures outs { OnOk result (outs.new ≡ outs.old ++ (recall_or_finish self.old ask clients.now).outs) }
+        ensures state { OnOk result (self.new ≡ (recall_or_finish self.old want clients.now).state) }
+        ensures outs { OnOk result (outs.new ≡ outs.old ++ (recall_or_finish self.old want clients.now).outs) }
     {
         if clients.len() == 0 {
             if self.turn == u64::MAX {
                 return Ok(());
             }
-            return self.finish(alloc, outs, ask);
+            return self.finish(alloc, outs, want);
         }
-        self.recall(alloc, outs, ask, clients)
+        self.recall(alloc, outs, want, clients)
     }
 
-    fn recall(&mut self, alloc: Global, outs: &mut List<Out>, ask: Ask, clients: &[u8]) -> Mem<()>
-        ensures state { OnOk result (self.new ≡ (recall self.old ask clients.now).state) }
-        ensures outs { OnOk result (outs.new ≡ outs.old ++ (recall self.old ask clients.now).outs) }
+    fn recall(
+        &mut self,
+        alloc: Global,
+        outs: &mut List<Out>,
+        want: Wanted,
+        clients: &[u8],
+    ) -> Mem<()>
+        ensures state { OnOk result (self.new ≡ (recall self.old want clients.now).state) }
+        ensures outs { OnOk result (outs.new ≡ outs.old ++ (recall self.old want clients.now).outs) }
     {
         let count = clients.len() as u64;
         if self.turn > u64::MAX - count {
             return Ok(());
         }
-        let awaited = recalls(alloc, self.epoch, self.turn, !is_own(ask.mode), clients)?;
-        send_recalls(outs, ask.block, awaited.as_slice())?;
+        let awaited = recalls(alloc, self.epoch, self.turn, !want.mode.is_own(), clients)?;
+        send_recalls(outs, want.block, awaited.as_slice())?;
         self.turn += count;
-        self.jobs.insert(ask.block, Job { ask, awaited })?;
+        self.jobs.insert(want.block, Job { want, awaited })?;
         Ok(())
     }
 
-    fn gave(
+    fn on_gave(
         &mut self,
         alloc: Global,
         outs: &mut List<Out>,
@@ -270,23 +305,23 @@ impl Slot {
         stamp: Stamp,
         end: u32,
     ) -> Mem<()>
-        ensures state { OnOk result (self.new ≡ (gave self.old client block stamp end).state) }
-        ensures outs { OnOk result (outs.new ≡ outs.old ++ (gave self.old client block stamp end).outs) }
+        ensures state { OnOk result (self.new ≡ (on_gave self.old client block stamp end).state) }
+        ensures outs { OnOk result (outs.new ≡ outs.old ++ (on_gave self.old client block stamp end).outs) }
     {
-        let (ask, awaited) = match self.jobs.get(&block) {
+        let (want, awaited) = match self.jobs.get(&block) {
             None => return Ok(()),
             Some(job) => {
                 if !is_awaited(job.awaited.as_slice(), client, stamp) {
                     return Ok(());
                 }
-                let ask = job.ask;
+                let want = job.want;
                 (
-                    ask,
+                    want,
                     noted(alloc, job.awaited.as_slice(), client, stamp, end)?,
                 )
             }
         };
-        self.gave_noted(alloc, outs, client, block, ask, awaited)
+        self.gave_noted(alloc, outs, client, block, want, awaited)
     }
 
     #[tactic(auto, unfolding(crate::specs::Transition::gave_noted))]
@@ -296,24 +331,24 @@ impl Slot {
         outs: &mut List<Out>,
         client: u8,
         block: BlockId,
-        ask: Ask,
+        want: Wanted,
         awaited: List<Awaited>,
     ) -> Mem<()>
-        ensures state { OnOk result (self.new ≡ (gave_noted self.old client block ask awaited).state) }
-        ensures outs { OnOk result (outs.new ≡ outs.old ++ (gave_noted self.old client block ask awaited).outs) }
+        ensures state { OnOk result (self.new ≡ (gave_noted self.old client block want awaited).state) }
+        ensures outs { OnOk result (outs.new ≡ outs.old ++ (gave_noted self.old client block want awaited).outs) }
     {
         let holder = Holder { block, client };
         if !is_ready(&self.applied, awaited.as_slice()) {
-            give_up(&mut self.beliefs, holder, !is_own(ask.mode));
-            self.jobs.insert(block, Job { ask, awaited })?;
+            give_up(&mut self.beliefs, holder, !want.mode.is_own());
+            self.jobs.insert(block, Job { want, awaited })?;
             return Ok(());
         }
         if self.turn == u64::MAX {
             return Ok(());
         }
-        give_up(&mut self.beliefs, holder, !is_own(ask.mode));
+        give_up(&mut self.beliefs, holder, !want.mode.is_own());
         self.jobs.remove(&block);
-        self.finish(alloc, outs, ask)
+        self.finish(alloc, outs, want)
     }
 
     // Answers the want that waits for a block.
@@ -325,7 +360,7 @@ impl Slot {
         ensures turn { OnOk result (self.new.turn ≤ self.old.turn + 1) }
     {
         match self.jobs.remove(&block) {
-            Some(job) => self.finish(alloc, outs, job.ask)?,
+            Some(job) => self.finish(alloc, outs, job.want)?,
             None => {}
         }
         Ok(())
@@ -343,7 +378,7 @@ impl Slot {
         Ok(())
     }
 
-    fn deltas(
+    fn on_deltas(
         &mut self,
         alloc: Global,
         outs: &mut List<Out>,
@@ -352,8 +387,8 @@ impl Slot {
         upto: u32,
         rows: &[(BlockId, Entry)],
     ) -> Mem<()>
-        ensures state { OnOk result (self.new ≡ (deltas self.old log first upto rows.now).state) }
-        ensures outs { OnOk result (outs.new ≡ outs.old ++ (deltas self.old log first upto rows.now).outs) }
+        ensures state { OnOk result (self.new ≡ (on_deltas self.old log first upto rows.now).state) }
+        ensures outs { OnOk result (outs.new ≡ outs.old ++ (on_deltas self.old log first upto rows.now).outs) }
     {
         if log.0 < 1 || 9 < log.0 {
             return Ok(());
@@ -362,7 +397,7 @@ impl Slot {
         if u64::from(first) <= u64::from(applied) + 1 && applied < upto {
             return self.apply(alloc, outs, log, upto, rows);
         }
-        outs.push(Out::Applied(log, applied))?;
+        outs.push(Out::Applied { log, applied })?;
         Ok(())
     }
 
@@ -384,7 +419,7 @@ impl Slot {
         if self.turn > u64::MAX - ready.len() as u64 || !self.index.has_room(rows) {
             return Ok(());
         }
-        outs.push(Out::Applied(log, upto))?;
+        outs.push(Out::Applied { log, applied: upto })?;
         self.index.merge_all(alloc, rows)?;
         self.applied = applied;
         self.finish_jobs(alloc, outs, ready.as_slice())

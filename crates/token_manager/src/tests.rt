@@ -3,7 +3,12 @@ use crate::{In, Out, Slot};
 use std::alloc::Global;
 use xfs_base::{BlockId, Entry, Ino, List, LogId, Mem, Mode, Pass, Place, SegName, SegRef, Stamp};
 
-fn at(turn: u64) -> Stamp {
+const BLOCK: BlockId = BlockId {
+    ino: Ino(128),
+    blk: 0,
+};
+
+fn turn(turn: u64) -> Stamp {
     Stamp { epoch: 1, turn }
 }
 
@@ -19,7 +24,65 @@ fn place(log: u8, seq: u32) -> Place {
     }
 }
 
-fn is_answered(slot: &mut Slot, alloc: Global, input: In, wanted: &[Out]) -> Mem<bool> {
+fn want(client: u8, mode: Mode) -> In {
+    In::Want {
+        client,
+        block: BLOCK,
+        inc: 1,
+        req: 1,
+        again: 0,
+        mode,
+        end: 0,
+    }
+}
+
+fn grant(client: u8, stamp: Stamp, mode: Mode, entry: Entry) -> Out {
+    Out::Grant {
+        client,
+        block: BLOCK,
+        stamp,
+        inc: 1,
+        req: 1,
+        mode,
+        entry,
+    }
+}
+
+fn recall(client: u8, stamp: Stamp, keep: bool) -> Out {
+    Out::Recall {
+        client,
+        block: BLOCK,
+        stamp,
+        keep,
+    }
+}
+
+fn gave(client: u8, stamp: Stamp, end: u32) -> In {
+    In::Gave {
+        client,
+        block: BLOCK,
+        stamp,
+        end,
+    }
+}
+
+fn deltas(log: LogId, upto: u32, rows: List<(BlockId, Entry)>) -> In {
+    In::Deltas {
+        log,
+        first: upto,
+        upto,
+        rows,
+    }
+}
+
+fn check(place: Place) -> In {
+    In::Check {
+        block: BLOCK,
+        place,
+    }
+}
+
+fn gives(slot: &mut Slot, alloc: Global, input: In, wanted: &[Out]) -> Mem<bool> {
     Ok(slot.take(alloc, input)?.as_slice() == wanted)
 }
 
@@ -28,10 +91,6 @@ fn tokens_go_from_writer_to_reader_to_writer(rt: HostRuntime) -> Mem<()> {
     let alloc = rt.alloc();
     let none = List::from_vec(vec![in alloc; 0_u32; 9]?);
     let mut slot = Slot::start(alloc, 1, List::new(alloc), List::new(alloc), none)?;
-    let block = BlockId {
-        ino: Ino(128),
-        blk: 0,
-    };
     let absent = Entry {
         ver: 0,
         hop: 0,
@@ -42,77 +101,53 @@ fn tokens_go_from_writer_to_reader_to_writer(rt: HostRuntime) -> Mem<()> {
         hop: 0,
         place: Some(place(1, 1)),
     };
-    let granted = [Out::Grant(1, block, at(1), 1, 1, Mode::Own, absent)];
-    assert!(rt;
-        is_answered(
-            &mut slot,
-            alloc,
-            In::Want(1, 1, 1, 0, block, Mode::Own, 0),
-            &granted
-        )?
-    );
-    let recalled = [Out::Recall(1, block, at(2), true)];
-    assert!(rt;
-        is_answered(
-            &mut slot,
-            alloc,
-            In::Want(2, 1, 1, 0, block, Mode::Copy, 0),
-            &recalled
-        )?
-    );
-    assert!(rt; is_answered(&mut slot, alloc, In::Gave(1, block, at(2), 1), &[])?);
+    let granted = [grant(1, turn(1), Mode::Own, absent)];
+    assert!(rt; gives(&mut slot, alloc, want(1, Mode::Own), &granted)?);
+    let recalled = [recall(1, turn(2), true)];
+    assert!(rt; gives(&mut slot, alloc, want(2, Mode::Copy), &recalled)?);
+    assert!(rt; gives(&mut slot, alloc, gave(1, turn(2), 1), &[])?);
     let mut rows = List::new(alloc);
-    rows.push((block, written))?;
+    rows.push((BLOCK, written))?;
     let forwarded = [
-        Out::Applied(LogId(1), 1),
-        Out::Forward(1, 2, block, at(3), 1, 1, 1),
+        Out::Applied {
+            log: LogId(1),
+            applied: 1,
+        },
+        Out::Forward {
+            client: 1,
+            block: BLOCK,
+            stamp: turn(3),
+            to: 2,
+            inc: 1,
+            req: 1,
+            ver: 1,
+        },
     ];
+    assert!(rt; gives(&mut slot, alloc, deltas(LogId(1), 1, rows), &forwarded)?);
+    let live = [Out::Live { entry: written }];
+    assert!(rt; gives(&mut slot, alloc, check(place(1, 1)), &live)?);
+    assert!(rt; gives(&mut slot, alloc, check(place(1, 2)), &[Out::Dead])?);
+    let both = [recall(1, turn(4), false), recall(2, turn(5), false)];
+    assert!(rt; gives(&mut slot, alloc, want(3, Mode::Own), &both)?);
+    assert!(rt; gives(&mut slot, alloc, In::Tick, &both)?);
+    assert!(rt; gives(&mut slot, alloc, gave(1, turn(5), 1), &[])?);
+    assert!(rt; gives(&mut slot, alloc, gave(1, turn(4), 1), &[])?);
+    let owned = [grant(3, turn(6), Mode::Own, written)];
+    assert!(rt; gives(&mut slot, alloc, gave(2, turn(5), 0), &owned)?);
+    let gap = [Out::Applied {
+        log: LogId(2),
+        applied: 0,
+    }];
     assert!(rt;
-        is_answered(
+        gives(
             &mut slot,
             alloc,
-            In::Deltas(LogId(1), 1, 1, rows),
-            &forwarded
-        )?
-    );
-    let live = [Out::Live(written)];
-    assert!(rt; is_answered(&mut slot, alloc, In::Check(block, place(1, 1)), &live)?);
-    assert!(rt;
-        is_answered(
-            &mut slot,
-            alloc,
-            In::Check(block, place(1, 2)),
-            &[Out::Dead]
-        )?
-    );
-    let both = [
-        Out::Recall(1, block, at(4), false),
-        Out::Recall(2, block, at(5), false),
-    ];
-    assert!(rt;
-        is_answered(
-            &mut slot,
-            alloc,
-            In::Want(3, 1, 1, 0, block, Mode::Own, 0),
-            &both
-        )?
-    );
-    assert!(rt; is_answered(&mut slot, alloc, In::Tick, &both)?);
-    assert!(rt; is_answered(&mut slot, alloc, In::Gave(1, block, at(5), 1), &[])?);
-    assert!(rt; is_answered(&mut slot, alloc, In::Gave(1, block, at(4), 1), &[])?);
-    let owned = [Out::Grant(3, block, at(6), 1, 1, Mode::Own, written)];
-    assert!(rt; is_answered(&mut slot, alloc, In::Gave(2, block, at(5), 0), &owned)?);
-    let gap = [Out::Applied(LogId(2), 0)];
-    assert!(rt;
-        is_answered(
-            &mut slot,
-            alloc,
-            In::Deltas(LogId(2), 2, 2, List::new(alloc)),
+            deltas(LogId(2), 2, List::new(alloc)),
             &gap
         )?
     );
     assert!(rt; slot.epoch() == 1 && slot.applied(LogId(1)) == 1 && slot.applied(LogId(2)) == 0);
-    assert!(rt; slot.rows(alloc)?.as_slice() == [(block, written)].as_slice());
+    assert!(rt; slot.rows(alloc)?.as_slice() == [(BLOCK, written)].as_slice());
     assert!(rt; slot.usage(alloc)?.as_slice() == [(place(1, 1).seg.name, 1_u32)].as_slice());
     Ok(())
 }
