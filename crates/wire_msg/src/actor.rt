@@ -12,12 +12,12 @@ pub trait Actor: Sized {
     ghost use Rattle.wire_msg.specs.NodeStep.{NodeStep, HaveNoClock};
 
     /// The node's transition: what an event makes of the node, and what the node sends and does.
-    ghost does: { Self → Do → NodeStep Self };
+    ghost transition: { Self → Do → NodeStep Self };
 
     /// One step: the node after the event, the packets that it sends and the acts that it does.
     fn step(self, alloc: Global, what: &Do) -> Mem<(Self, List<Packet>, List<Act>)>
-        ensures { IfOk result (λ stepped. record { node = stepped.0; packets = stepped.1; acts = stepped.2 } ≡ does self what.now) };
+        ensures { IfOk result (λ stepped. record { node = stepped.0; packets = stepped.1; acts = stepped.2 } ≡ transition self what.now) };
 
     /// A transition sends its packets with clock 0.
-    ghost no_clock: { (node : Self) (what : Do) → HaveNoClock (does node what).packets };
+    ghost no_clock: { (node : Self) (what : Do) → HaveNoClock (transition node what).packets };
 }

@@ -4,7 +4,7 @@ ghost use Rattle.std.specs.Prelude.{◌≡◌, IfOk};
 use crate::{
     Check, CkptAck, CkptDone, Dead, Delete, Deleted, DeltaAck, Deltas, Fence, Fenced, Fetch,
     Forward, Found, Gave, Gone, Grant, Hello, ListAsk, Listed, Live, Missing, News, Poll, Recall,
-    Report, Store, Stored, Supply, Usage, UsageAsk, VaultBody, Want, Welcome,
+    Report, Store, Stored, Supply, Usage, UsageAsk, Want, Welcome,
 };
 use std::alloc::Global;
 use xfs_base::{Copied, Crosses, Mem};
@@ -76,8 +76,6 @@ pub enum Body {
     CkptDone(CkptDone),
     /// The registry to a manager.
     CkptAck(CkptAck),
-    /// A client to the vault, or the vault to a client, until servers take the vault's place.
-    Vault(VaultBody),
 }
 
 impl Body {
@@ -118,7 +116,6 @@ impl Body {
             Body::MapNews(news) => Ok(Body::MapNews(news.copy(alloc)?)),
             Body::CkptDone(done) => Ok(Body::CkptDone(done.copy(alloc)?)),
             Body::CkptAck(ack) => Ok(Body::CkptAck(*ack)),
-            Body::Vault(body) => Ok(Body::Vault(body.copy(alloc)?)),
         }
     }
 }

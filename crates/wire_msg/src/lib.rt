@@ -11,7 +11,6 @@ pub mod packet;
 pub mod registry;
 pub mod storage;
 pub mod tokens;
-pub mod vault;
 
 pub use actor::Actor;
 pub use body::Body;
@@ -23,7 +22,6 @@ pub use storage::{
     Delete, Deleted, Fence, Fenced, Fetch, Found, ListAsk, Listed, Missing, Store, Stored,
 };
 pub use tokens::{Forward, Gave, Gone, Grant, Recall, Supply, Want};
-pub use vault::{KeptSeg, VaultBody};
 
 #[cfg(test)]
 mod tests;
