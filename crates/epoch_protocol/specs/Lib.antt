@@ -1,0 +1,15 @@
+pub mod Basics
+pub mod Manager
+pub mod Member
+pub mod Packets
+pub mod World
+pub mod Registry
+pub mod Managing
+pub mod Promising
+pub mod Opening
+pub mod Step
+pub mod Kind
+pub mod Kinds
+pub mod Laws
+pub mod Growth
+pub mod Example
