@@ -1,6 +1,6 @@
 -- The invariant of the token protocol, and the order in which it is proved. Read this file first.
 --
--- Six layers, each kept by every step given the layers before it alone. Within a layer the groups stand in the same order:
+-- Seven layers, each kept by every step given the layers before it alone. Within a layer the groups stand in the same order:
 -- the lemma `keeps` of a group takes the groups that it depends on, and no other.
 --   1. bookkeeping  Serving, Asking, Offering, Stamps, Awaiting, Promising
 --   2. tokens       Giving, Reporting, Believing
@@ -8,7 +8,8 @@
 --   4. logs         Rows, Flight, Behind
 --   5. filing       Joined, Index
 --   6. content      Versions, Writers, Values
--- Layers 1 to 3 ask no premise on logs, and hold where logs lose what they held. A takeover is a step like any other: what reports must say
+--   7. cleaner      Idle, Empty, Written
+-- Layers 1 to 3, and Idle of layer 7, ask no premise on logs, and hold where logs lose what they held. A takeover is a step like any other: what reports must say
 -- for it stands in the groups Promising, Reporting, Believing, Fallen and Behind. The cleaner's copies stand in Joined.
 -- Each group is one file of `layers/`: its facts, each with its meaning; the steps that want a hint, each a lemma `STEP_keeps_GROUP`; and `keeps`,
 -- a clause for each step.
@@ -28,23 +29,29 @@ use Rattle.token_protocol.proofs.layers.filing as filing
 use Rattle.token_protocol.proofs.layers.filing.{Filing}
 use Rattle.token_protocol.proofs.layers.content as content
 use Rattle.token_protocol.proofs.layers.content.{Content}
+use Rattle.token_protocol.proofs.layers.cleaner as cleaner
+use Rattle.token_protocol.proofs.layers.cleaner.{Cleaner}
+use Rattle.token_protocol.proofs.layers.cleaner.Idle as idle
+use Rattle.token_protocol.proofs.layers.cleaner.Idle.{Idle}
 
 -- The invariant of a run whose logs may lose what they held.
 pub record Owned (w : World) : Type 0 where
   pub book : Bookkeeping w
   pub tokens : Tokens w
   pub crash : Crash w
+  pub idle : Idle w
 
 owned_kept : (trusted : Bool) (w v : World) → Step trusted w v → Owned w → Owned v
 owned_kept trusted w v step i = record {
   book = bookkeeping.keeps trusted w v step i.book;
   tokens = tokens.keeps trusted w v step i.book i.tokens;
   crash = crash.keeps trusted w v step i.book i.tokens i.crash;
+  idle = idle.keeps trusted w v step i.idle;
 }
 
 -- It holds after every list of steps.
 pub owned : (trusted : Bool) (n : ℕ) (w : World) → Steps trusted (start n) w → Owned w
-owned trusted n w steps = go (start n) w steps (record { book = bookkeeping.begins n; tokens = tokens.begins n; crash = crash.begins n })
+owned trusted n w steps = go (start n) w steps (record { book = bookkeeping.begins n; tokens = tokens.begins n; crash = crash.begins n; idle = idle.begins n })
   where
     go : (v u : World) → Steps trusted v u → Owned v → Owned u
     go v u Done i = i
@@ -58,6 +65,7 @@ pub record Invariant (w : World) : Type 0 where
   pub logs : Logs w
   pub filing : Filing w
   pub content : Content w
+  pub cleaner : Cleaner w
 
 pub keeps : (w v : World) → Step true w v → Invariant w → Invariant v
 keeps w v step i = record {
@@ -67,6 +75,7 @@ keeps w v step i = record {
   logs = logs.keeps w v step i.book i.tokens i.crash i.logs;
   filing = filing.keeps w v step i.book i.tokens i.crash i.logs i.filing;
   content = content.keeps w v step i.book i.tokens i.crash i.logs i.filing i.content;
+  cleaner = cleaner.keeps w v step i.content i.cleaner;
 }
 
 pub begins : (n : ℕ) → Invariant (start n)
@@ -77,6 +86,7 @@ begins n = record {
   logs = logs.begins n;
   filing = filing.begins n;
   content = content.begins n;
+  cleaner = cleaner.begins n;
 }
 
 -- It holds after every list of steps.

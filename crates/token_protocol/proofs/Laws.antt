@@ -1,7 +1,8 @@
 -- Each law is read off the invariant.
-use Rattle.std.proofs.Common.{◌≡◌, ap, ◌∙◌, arith}
+use Rattle.std.proofs.Common.{◌≡◌, ◌<◌, ap, ◌∙◌, arith}
+use Rattle.std.proofs.lemmas.Bool.Decides.{nat_tests}
 use Rattle.token_protocol.specs.World.{World}
-use Rattle.token_protocol.specs.Laws.{SingleOwner, EpochPromised, BeliefsCover, AcceptableBelieved, HoldersNewest, ReadsLegal, JoinIsJoin, JoinNewest, DirtyLeads, NoHolderAfterFall, FallsLegal, ReturnsLegal}
+use Rattle.token_protocol.specs.Laws.{SingleOwner, EpochPromised, BeliefsCover, AcceptableBelieved, HoldersNewest, ReadsLegal, JoinIsJoin, JoinNewest, DirtyLeads, NoHolderAfterFall, FallsLegal, ReturnsLegal, OffersJoined, AcceptableJoins, PlacesFiled, IndexBounded, FlightsNew, FallsSettled, OwnersSettled, RowsKnown, CleanerIdle, CleanerEmpty}
 use Rattle.token_protocol.proofs.Invariant.{Owned, Invariant}
 
 -- Of tokens alone.
@@ -31,6 +32,21 @@ no_holder_after_fall w i c d fell = grind (
   i.tokens.believing.single c d,
   i.tokens.believing.covers d,
 )
+
+pub cleaner_idle : (w : World) → Owned w → CleanerIdle w
+cleaner_idle w i =
+    let c = i.idle in
+    record {
+      wants = c.want_client;
+      offers = c.offer_client;
+      reports = c.report_nothing;
+      held = c.nothing_held;
+      wanted = c.nothing_wanted;
+      fetched = c.nothing_fetched;
+      clean = c.nothing_dirty;
+      fallen = c.never_fallen;
+      believed = c.nothing_believed;
+    }
 
 -- Of the whole.
 
@@ -97,4 +113,57 @@ returns_legal w i c fell =
         i.crash.fallen.fallen_believed c fell,
         i.crash.fallen.fallen_believed w.last_writer,
       );
+    }
+
+-- Of offers, the index and logs.
+
+pub offers_joined : (w : World) → Invariant w → OffersJoined w
+offers_joined w i = i.filing.index.offer_join
+
+-- What may still be taken is the newest version, and what is offered is filed.
+pub acceptable_joins : (w : World) → Invariant w → AcceptableJoins w
+acceptable_joins w i g sent live =
+    let newest = i.content.versions.offer_newest g sent live in
+    let joined = i.filing.index.offer_join g sent in
+    let above = i.content.versions.join_newest in
+    omega arith
+
+pub places_filed : (w : World) → Invariant w → PlacesFiled w
+places_filed w i = record { indexed = i.filing.index.index_row; offered = i.filing.index.offer_row; fetched = i.filing.index.fetch_row }
+
+pub index_bounded : (w : World) → Invariant w → IndexBounded w
+index_bounded w i = record { rows = i.filing.index.index_rows; join = i.filing.index.index_join; applied = i.logs.rows.applied_end }
+
+-- What is in flight is above the settled version of an owner, or above what its client had settled when it fell; both are the join.
+pub flights_new : (w : World) → Invariant w → FlightsNew w
+flights_new w i c member = record {
+  above = λ some. grind (
+    arith,
+    i.logs.flight.flight_row c member some,
+    i.book.asking.dirty_owned c,
+    i.content.versions.own_settled c,
+    i.content.versions.fallen_low c,
+  );
+  held = λ serves. grind (arith, nat_tests, i.logs.flight.flight_row c member, i.crash.fallen.fallen_down c);
+}
+
+pub falls_settled : (w : World) → Invariant w → FallsSettled w
+falls_settled w i c fell = record { low = i.content.versions.fallen_low c fell; high = (i.content.versions.fallen_high c fell).0 }
+
+pub owners_settled : (w : World) → Invariant w → OwnersSettled w
+owners_settled w i = i.content.versions.own_settled
+
+pub rows_known : (w : World) → Invariant w → RowsKnown w
+rows_known w i = record { known = i.content.versions.rows_newest; value = i.content.values.rows_value; beyond = i.logs.rows.rows_end }
+
+pub cleaner_empty : (w : World) → 0 < w.members → Invariant w → CleanerEmpty w
+cleaner_empty w some i =
+    let filed = i.cleaner.empty.nothing_filed some in
+    let applied = i.logs.rows.applied_end 0 in
+    record {
+      end = filed;
+      flight = i.cleaner.empty.nothing_flying some;
+      rows = λ q. i.cleaner.empty.no_rows q some;
+      applied = omega arith;
+      written = i.cleaner.written.written;
     }

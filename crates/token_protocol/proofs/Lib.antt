@@ -7,3 +7,4 @@ pub mod StampsSeen
 pub mod Refining
 pub mod ExampleRun
 pub mod OtherExampleRun
+pub mod EveryKind

@@ -1,4 +1,5 @@
--- What a refinement needs of this machine beside its laws: what holds of each place after a change at one, and packets seen one way.
+-- What a refinement needs of this machine beside its laws: what holds of each place after a change at one, and packets seen one way,
+-- as the packet that they fix, or as some packet.
 -- `Growing` says what only grows, and `StampsSeen` how stamps of several epochs are seen.
 use Rattle.std.proofs.Common.{◌≡◌, ℕ, ◌==◌, inl, inr, true, false, Bool, if◌then◌else◌, List, ◌∷◌, refl, sym, subst, arith}
 use Rattle.std.proofs.lemmas.Bool.Decides.{nat_tests}
@@ -22,6 +23,7 @@ put_each_two P f g c x y here there d = go (d == c) (λ e. grind (arith, nat_tes
     go false same other = there d (other refl)
 
 -- Each sent packet that is seen as a packet here was sent here. One way only: here more may have been sent.
+-- So are Wants, Grants, Recalls, Gaves and Reports, which fix the packet that they are seen as.
 abbrev pub Included : {X Y : Type 0} → (X → Y → Type 0) → List X → List Y → Type 0
 Included {X = X} {Y = Y} sees sent here = (x : X) (y : Y) → In x sent → sees x y → In y here
 
@@ -35,3 +37,19 @@ pub included_sent : {X Y : Type 0} (sees : X → Y → Type 0) (sent : List X) (
     → Included sees (new ∷ sent) here
 included_sent {X = X} sees sent here new i also x y (inl is) seen = also y (subst (λ (z : X). sees z y) is seen)
 included_sent sees sent here new i also x y (inr is) seen = i x y is seen
+
+-- A Forward and a Supply bear the version alone of the entry that was offered, so the offer that they are seen as is not fixed by them, and `Included`
+-- would be false of them. Each sent packet that speaks of the block is seen as some packet that was sent here.
+abbrev pub Met : {X Y : Type 0} → (X → Type 0) → (X → Y → Type 0) → List X → List Y → Type 0
+Met {X = X} {Y = Y} speaks sees sent here = (x : X) → In x sent → speaks x → (y : Y) × In y here × sees x y
+
+-- It stays so where more is sent here.
+pub met_more : {X Y : Type 0} (speaks : X → Type 0) (sees : X → Y → Type 0) (sent : List X) (here more : List Y) → Met speaks sees sent here
+    → ((y : Y) → In y here → In y more) → Met speaks sees sent more
+met_more speaks sees sent here more i grows x is says = let m = i x is says in (m.0, grows m.0 m.1, m.2)
+
+-- It stays so where a packet is sent, if some packet that it is seen as was sent here.
+pub met_sent : {X Y : Type 0} (speaks : X → Type 0) (sees : X → Y → Type 0) (sent : List X) (here : List Y) (new : X) → Met speaks sees sent here
+    → (speaks new → (y : Y) × In y here × sees new y) → Met speaks sees (new ∷ sent) here
+met_sent {X = X} {Y = Y} speaks sees sent here new i also x (inl is) = subst (λ (z : X). speaks z → (y : Y) × In y here × sees z y) (sym is) also
+met_sent speaks sees sent here new i also x (inr is) = i x is

@@ -10,7 +10,7 @@ use Rattle.token_protocol.specs.Step.{Step, Steps}
 use Rattle.token_protocol.specs.Step.Step.{Asks, AsksAgain, DropsWant, DropsFetch, Offers, Recalls, WritesFirst, Declines, TakesAbsent, TakesSupply, TakesPlace, Fetches, Writes, Reads, Syncs, Evicts, Gives, GivesAgain, Notes, Applies, Turns, SealsWith, Seals, Settles, CrashesDirty, CrashesClean, RestartsAdopting, RestartsDiscarding, Promises, Reports, Activates, SealsCopy, SealsOther, SettlesCopy, DiscardsCopy, Loses}
 use Rattle.token_protocol.specs.Step.Steps.{Done, More}
 use Rattle.token_protocol.proofs.Invariant.{Invariant, keeps, begins}
-use Rattle.token_protocol.proofs.Laws.{falls_legal}
+use Rattle.token_protocol.proofs.Laws.{dirty_leads, falls_legal}
 
 -- The history that the acts made is the world's.
 record Agrees (h : History) (newest : ℕ) (value_at : ℕ → ℕ) (writer : ℕ → ℕ) (pinned : ℕ) (fallen : ℕ → ℕ) (low : ℕ → ℕ) (high : ℕ → ℕ) : Type 0 where
@@ -35,6 +35,7 @@ fall : (w : World) (who : ℕ) (acts : List Act) → Invariant w → Legal acts 
 fall w who acts i l may =
     let law = falls_legal w i who may in
     record {
+      some = grind (arith, (dirty_leads w i who may.dirty).ahead, l.matches.length);
       own = grind (arith, law.newest_mine, l.matches.writers w.newest, l.matches.length);
       pinned = grind (arith, nat_tests, law.cut.pinned, l.matches.pin);
       ordered = grind arith;
@@ -83,7 +84,7 @@ legal_step w v (Applies who upto e h k) acts i l = record { matches = l.matches;
 legal_step w v Turns acts i l = record { matches = l.matches; legal = l.legal }
 legal_step w v (SealsWith who h) acts i l = record { matches = l.matches; legal = l.legal }
 legal_step w v (Seals who h) acts i l = record { matches = l.matches; legal = l.legal }
-legal_step w v (Settles who h) acts i l = record { matches = l.matches; legal = l.legal }
+legal_step w v (Settles who h k) acts i l = record { matches = l.matches; legal = l.legal }
 legal_step w v (CrashesDirty who h) acts i l = record { matches = grind (arith, nat_tests); legal = (l.legal, fall w who acts i l h) }
 legal_step w v (CrashesClean who h) acts i l = record { matches = l.matches; legal = l.legal }
 legal_step w v (RestartsAdopting who incarnation promised h k) acts i l = record { matches = grind (arith, nat_tests); legal = (l.legal, tt) }

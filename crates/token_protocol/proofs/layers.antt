@@ -4,3 +4,4 @@ pub mod crash
 pub mod logs
 pub mod filing
 pub mod content
+pub mod cleaner

@@ -1,5 +1,5 @@
 -- What clients did to the block, told apart from the protocol: the history that acts make, and which lists of acts are legal.
-use Rattle.std.specs.Prelude.{◌≡◌, ℕ, suc, ◌≤◌, ◌==◌, Bool, if◌then◌else◌, List, [], ◌∷◌, max}
+use Rattle.std.specs.Prelude.{◌≡◌, ℕ, suc, ◌<◌, ◌≤◌, ◌==◌, Bool, if◌then◌else◌, List, [], ◌∷◌, max}
 use Rattle.token_protocol.specs.Basics.{put}
 
 pub data Act : Type 0 where
@@ -50,8 +50,9 @@ pub record LegalRead (h : History) (version : ℕ) (value : ℕ) : Type 0 where
   pub newest : version ≡ h.length
   pub text : value ≡ h.value_at h.length
 
--- A fall is legal where the newest version is the client's own, and it falls to versions at or above the pinned one.
+-- A fall is legal where there is a newest version and it is the client's own, and it falls to versions at or above the pinned one.
 pub record LegalFell (h : History) (c : ℕ) (low : ℕ) (high : ℕ) : Type 0 where
+  pub some : 0 < h.length
   pub own : h.writer h.length ≡ c
   pub pinned : h.pinned ≤ low
   pub ordered : low ≤ high

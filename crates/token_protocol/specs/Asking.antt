@@ -3,14 +3,14 @@ use Rattle.std.specs.Prelude.{◌≡◌, ℕ, ◌<◌, ◌≤◌, ◌∷◌}
 use Rattle.token_protocol.specs.Basics.{put}
 use Rattle.token_protocol.specs.World.{World}
 
--- A serving client that holds less than it needs, with no want open, asks under a request number that it has never used in this incarnation.
--- Shown by the client's transitions that begin or resume a block call.
+-- A serving client that holds less than it needs asks under a request number that it has never used in this incarnation; a want that was open is
+-- let go. Shown by the client's transitions that begin or resume a block call. The cleaner, which is member 0, asks for no block.
 pub record MayAsk (w : World) (c : ℕ) (mode : ℕ) (request : ℕ) : Type 0 where
+  pub client : 0 < c
   pub serving : (w.client c).serving ≡ 1
   pub some : 0 < mode
   pub rank : mode ≤ 2
   pub less : (w.client c).mode < mode
-  pub idle : (w.client c).want ≡ 0
   pub unused : (w.client c).request < request
 
 abbrev pub asks : World → ℕ → ℕ → ℕ → ℕ → World

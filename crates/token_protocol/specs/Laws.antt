@@ -1,8 +1,8 @@
 -- What is true of a block at every moment: each law is a property of one world.
-use Rattle.std.specs.Prelude.{◌≡◌, ℕ, ◌<◌, ◌≤◌}
+use Rattle.std.specs.Prelude.{◌≡◌, ℕ, ◌+◌, ◌<◌, ◌≤◌, max}
 use Rattle.token_protocol.specs.Basics.{In}
-use Rattle.token_protocol.specs.Packets.{Offer}
-use Rattle.token_protocol.specs.World.{World, Dirty, Clean, Live}
+use Rattle.token_protocol.specs.Packets.{Want, Offer, Report}
+use Rattle.token_protocol.specs.World.{World, Dirty, Clean, Live, Placed, flying_row}
 use Rattle.token_protocol.specs.Using.{MayRead}
 use Rattle.token_protocol.specs.Crashing.{MayCrashDirty, crashes_dirty}
 
@@ -90,3 +90,69 @@ FallsLegal w = (c : ℕ) → MayCrashDirty w c → LegalFall w c
 -- It stays so until the return: whichever of the two versions the return cuts to, nothing pinned and nobody else's version is lost.
 abbrev pub ReturnsLegal : World → Type 0
 ReturnsLegal w = (c : ℕ) → w.fallen c ≡ 1 → LegalCut w c (w.cut_low c) (w.cut_high c)
+
+-- Every offer of the reigning manager is of a version that is filed, so of one whose value never changes again.
+abbrev pub OffersJoined : World → Type 0
+OffersJoined w = (g : Offer) → In g w.offers → g.entry.version ≤ w.join_version
+
+-- What a client may still take is of the join's version.
+abbrev pub AcceptableJoins : World → Type 0
+AcceptableJoins w = (g : Offer) → In g w.offers → Live w g → g.entry.version ≡ w.join_version
+
+-- A place that the index has, that was offered, or that a client reads is a row of a filed segment, of the entry's version.
+pub record PlacesFiled (w : World) : Type 0 where
+  pub indexed : 0 < w.index.placed → Placed w w.index
+  pub offered : (g : Offer) → In g w.offers → 0 < g.entry.placed → Placed w g.entry
+  pub fetched : (c : ℕ) → (w.client c).fetching ≡ 1 → Placed w (w.client c).fetch
+
+-- The index is at least every row that is applied, and at most the join; and only what is filed is applied.
+pub record IndexBounded (w : World) : Type 0 where
+  pub rows : (c q : ℕ) → q ≤ w.applied c → (w.rows c q).version ≤ w.index.version
+  pub join : w.index.version ≤ w.join_version
+  pub applied : (c : ℕ) → w.applied c ≤ w.end c
+
+-- A row that a member has in flight is above all that is filed. While the member serves it is no newer than what it holds.
+pub record FlightNew (w : World) (c : ℕ) : Type 0 where
+  pub above : 0 < (flying_row w c).version → w.join_version < (flying_row w c).version
+  pub held : (w.client c).serving ≡ 1 → (flying_row w c).version ≤ (w.client c).version
+
+abbrev pub FlightsNew : World → Type 0
+FlightsNew w = (c : ℕ) → c < w.members → FlightNew w c
+
+-- Who fell with the block dirty had settled the join, and its return cuts to that, or to what it had in flight.
+pub record FellAt (w : World) (c : ℕ) : Type 0 where
+  pub low : w.cut_low c ≡ w.join_version
+  pub high : w.cut_high c ≡ max (w.cut_low c) (flying_row w c).version
+
+abbrev pub FallsSettled : World → Type 0
+FallsSettled w = (c : ℕ) → w.fallen c ≡ 1 → FellAt w c
+
+-- Who owns the block has settled the join.
+abbrev pub OwnersSettled : World → Type 0
+OwnersSettled w = (c : ℕ) → Owns w c → (w.client c).settled ≡ w.join_version
+
+-- Rows of logs are versions of the history, with their values; and beyond what is filed and in flight a log has no row.
+pub record RowsKnown (w : World) : Type 0 where
+  pub known : (c q : ℕ) → (w.rows c q).version ≤ w.newest
+  pub value : (c q : ℕ) → 0 < (w.rows c q).version → (w.rows c q).value ≡ w.value_at (w.rows c q).version
+  pub beyond : (c q : ℕ) → w.end c + w.flight c < q → (w.rows c q).version ≡ 0
+
+-- The cleaner, which is member 0, holds, wants and fetches nothing, and nothing is believed of it: it only promises and reports.
+pub record CleanerIdle (w : World) : Type 0 where
+  pub wants : (p : Want) → In p w.wants → 0 < p.client
+  pub offers : (g : Offer) → In g w.offers → 0 < g.client
+  pub reports : (y : Report) → In y w.reports → y.client ≡ 0 → y.mode ≡ 0
+  pub held : (w.client 0).mode ≡ 0
+  pub wanted : (w.client 0).want ≡ 0
+  pub fetched : (w.client 0).fetching ≡ 0
+  pub clean : Clean w 0
+  pub fallen : w.fallen 0 ≡ 0
+  pub believed : w.belief 0 ≡ 0
+
+-- Its log is empty: its copies stand in another one. And it wrote no version.
+pub record CleanerEmpty (w : World) : Type 0 where
+  pub end : w.end 0 ≡ 0
+  pub flight : w.flight 0 ≡ 0
+  pub rows : (q : ℕ) → (w.rows 0 q).version ≡ 0
+  pub applied : w.applied 0 ≡ 0
+  pub written : (v : ℕ) → 0 < v → v ≤ w.newest → 0 < w.writer v

@@ -14,6 +14,8 @@ pub mod Crashing
 pub mod Takeover
 pub mod Cleaning
 pub mod Step
+pub mod Kind
+pub mod Kinds
 pub mod Laws
 pub mod Growth
 pub mod Stamps

@@ -1,11 +1,10 @@
 -- A client's log: sealing a segment and settling it.
-use Rattle.std.specs.Prelude.{◌≡◌, ℕ, suc, nat_lt, if◌then◌else◌, max}
+use Rattle.std.specs.Prelude.{◌≡◌, ℕ, suc, ◌<◌, nat_lt, if◌then◌else◌, max}
 use Rattle.token_protocol.specs.Basics.{put}
 use Rattle.token_protocol.specs.World.{World, Dirty, flying_row}
 
--- A client with nothing in flight seals its dirty block into the next segment. Shown by the client's transition that seals.
+-- A client seals its dirty block into the next segment. Shown by the client's transition that seals.
 pub record MaySealWith (w : World) (c : ℕ) : Type 0 where
-  pub none : w.flight c ≡ 0
   pub dirty : Dirty w c
 
 abbrev pub seals_with : World → ℕ → World
@@ -15,6 +14,7 @@ seals_with w c =
 
 -- A client with nothing in flight seals a segment without this block. Shown by the client's transition that seals.
 pub record MaySeal (w : World) (c : ℕ) : Type 0 where
+  pub client : 0 < c
   pub serving : (w.client c).serving ≡ 1
   pub none : w.flight c ≡ 0
 
@@ -24,7 +24,6 @@ seals w c = record w { flight = put w.flight c 1 }
 -- The segment in flight is stored on its stripe and so is filed. Shown by the client's transition for the last fragment's Stored.
 pub record MaySettle (w : World) (c : ℕ) : Type 0 where
   pub serving : (w.client c).serving ≡ 1
-  pub flying : w.flight c ≡ 1
 
 abbrev pub settles : World → ℕ → World
 settles w c =

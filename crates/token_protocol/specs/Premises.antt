@@ -1,7 +1,7 @@
 -- What the steps assume of logs and of the ends that packets name: each premise has a name here, and is discharged on its own.
 use Rattle.std.specs.Prelude.{◌≡◌, ℕ, ◌<◌, ◌≤◌, Bool, true, false, ◌⊎◌}
 use Rattle.token_protocol.specs.Entry.{Entry}
-use Rattle.token_protocol.specs.Packets.{Want, Report}
+use Rattle.token_protocol.specs.Packets.{Want, Offer, Report}
 use Rattle.token_protocol.specs.World.{World, Filed}
 
 -- A premise is asked of a run whose logs keep their word (true). A run whose logs lose what they held (false) asks none:
@@ -14,6 +14,16 @@ Premise false p = Unit {0}
 -- Discharged by the log law: at a serving client `end` is the greatest filed segment of its own log.
 pub record SettledEnd (w : World) (c : ℕ) (end : ℕ) : Type 0 where
   pub last_filed : end ≡ w.end c
+
+-- A segment that is filed was in flight.
+-- Discharged by the client's transition for the last fragment's Stored, which is about the segment that its log has in flight.
+pub record SegmentFlying (w : World) (c : ℕ) : Type 0 where
+  pub in_flight : w.flight c ≡ 1
+
+-- The value that came with a Supply is the history's value of the offered version.
+-- Discharged at the server's transition for a Forward: it held the newest version; and values up to the join never change.
+pub record IsSupplied (w : World) (g : Offer) (value : ℕ) : Type 0 where
+  pub content : value ≡ w.value_at g.entry.version
 
 -- A place names one content: what a read of the fetched place brings is the value of the row that was filed there.
 -- Discharged by the log law (one name, one text) at the client's transition for a read that ends.

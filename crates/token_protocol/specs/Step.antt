@@ -4,10 +4,10 @@ use Rattle.std.specs.Prelude.{◌≡◌, ℕ, Bool, false}
 use Rattle.token_protocol.specs.Entry.{Entry}
 use Rattle.token_protocol.specs.Packets.{Want, Offer, Recall, Gave, Report}
 use Rattle.token_protocol.specs.World.{World}
-use Rattle.token_protocol.specs.Premises.{Premise, SettledEnd, PlaceRead, TailAdopted, EndsApplied, IndexCovers, IndexGathered, OriginalFiled}
+use Rattle.token_protocol.specs.Premises.{Premise, SettledEnd, SegmentFlying, IsSupplied, PlaceRead, TailAdopted, EndsApplied, IndexCovers, IndexGathered, OriginalFiled}
 use Rattle.token_protocol.specs.Asking.{MayAsk, MayAskAgain, asks, asks_again, drops_want, drops_fetch}
 use Rattle.token_protocol.specs.Managing.{MayOffer, MayRecall, MayNote, MayApply, offers, recalls, notes, applies, turns}
-use Rattle.token_protocol.specs.Taking.{MayTake, IsAbsent, IsSupplied, IsPlaced, MayFinish, writes_first, declines, takes_value, takes_place, fetches}
+use Rattle.token_protocol.specs.Taking.{MayTake, IsAbsent, IsPlaced, MayFinish, writes_first, declines, takes_value, takes_place, fetches}
 use Rattle.token_protocol.specs.Using.{MayWrite, MayRead, MaySync, MayEvict, writes, reads, syncs, evicts}
 use Rattle.token_protocol.specs.Giving.{MayGive, MayGiveAgain, gives, gives_again}
 use Rattle.token_protocol.specs.Logging.{MaySealWith, MaySeal, MaySettle, seals_with, seals, settles}
@@ -36,7 +36,7 @@ pub data Step (logs : Bool) : World → World → Type 0 where
   -- A client takes a copy of an absent block.
   TakesAbsent : {w : World} (g : Offer) → MayTake w g 1 → IsAbsent g → Step logs w (takes_value w g 0)
   -- A client takes a copy that another client supplied.
-  TakesSupply : {w : World} (g : Offer) (value : ℕ) → MayTake w g 1 → IsSupplied w g value → Step logs w (takes_value w g value)
+  TakesSupply : {w : World} (g : Offer) (value : ℕ) → MayTake w g 1 → Premise logs (IsSupplied w g value) → Step logs w (takes_value w g value)
   -- A client takes a place, and begins to read it.
   TakesPlace : {w : World} (g : Offer) → MayTake w g 1 → IsPlaced g → Step logs w (takes_place w g)
   -- A read of the place ends.
@@ -64,7 +64,7 @@ pub data Step (logs : Bool) : World → World → Type 0 where
   -- A client seals a segment without the block.
   Seals : {w : World} (c : ℕ) → MaySeal w c → Step logs w (seals w c)
   -- A client's segment is filed.
-  Settles : {w : World} (c : ℕ) → MaySettle w c → Step logs w (settles w c)
+  Settles : {w : World} (c : ℕ) → MaySettle w c → Premise logs (SegmentFlying w c) → Step logs w (settles w c)
   -- A client falls with the block dirty.
   CrashesDirty : {w : World} (c : ℕ) → MayCrashDirty w c → Step logs w (crashes_dirty w c)
   -- A client falls with the block clean.

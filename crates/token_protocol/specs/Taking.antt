@@ -56,10 +56,6 @@ takes_value w g value =
 pub record IsAbsent (g : Offer) : Type 0 where
   pub unplaced : g.entry.placed ≡ 0
 
--- The value came with a Supply. Shown at the server's transition for a Forward: it held the newest version, and values up to the join never change.
-pub record IsSupplied (w : World) (g : Offer) (value : ℕ) : Type 0 where
-  pub content : value ≡ w.value_at g.entry.version
-
 -- The entry has a place. Shown by the client's transition for a Grant with one.
 pub record IsPlaced (g : Offer) : Type 0 where
   pub placed : 0 < g.entry.placed

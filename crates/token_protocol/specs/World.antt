@@ -5,7 +5,8 @@ use Rattle.token_protocol.specs.Client.{Client, fresh}
 use Rattle.token_protocol.specs.Packets.{Want, Offer, Recall, Gave, Report}
 
 pub record World : Type 0 where
-  -- the clients are the numbers below `members`; any other number names the log of a cleaner
+  -- the members are the numbers below `members`: 0 is the cleaner, which promises epochs and has an empty log here, and each other one is a client;
+  -- any other number names the log in which the cleaner keeps its copies
   pub members : ℕ
   pub client : ℕ → Client
   -- logs: the last filed segment, 1 where the next one is in flight (or was when its client fell), and this block's row in each sealed segment
@@ -43,7 +44,7 @@ pub record World : Type 0 where
   pub gaves : List Gave
   pub reports : List Report
 
--- The block at the start, with n clients that all serve.
+-- The block at the start, with n members that all serve: the cleaner, and the clients from 1 on.
 abbrev pub start : ℕ → World
 start n = record {
   members = n;

@@ -3,13 +3,16 @@
 //! below has an empty body, and its contract is a law. `docs/PROTOCOL.md` says which file answers which question.
 #![tactic(auto)]
 
-ghost use Rattle.std.specs.Prelude.{◌≡◌, ℕ, Bool, true};
+ghost use Rattle.std.specs.Prelude.{◌≡◌, ℕ, suc, Bool, true, ◌⊎◌};
+ghost use Rattle.token_protocol.specs.Basics.{In};
 ghost use Rattle.token_protocol.specs.Acts.{LegalActs};
-ghost use Rattle.token_protocol.specs.Example.{moment35, example_acts};
+ghost use Rattle.token_protocol.specs.Example.{moment37, example_acts, example_kinds};
 ghost use Rattle.token_protocol.specs.Growth.{Grows};
-ghost use Rattle.token_protocol.specs.Laws.{SingleOwner, EpochPromised, BeliefsCover, AcceptableBelieved, NoHolderAfterFall, HoldersNewest, ReadsLegal, JoinIsJoin, JoinNewest, DirtyLeads, FallsLegal, ReturnsLegal};
+ghost use Rattle.token_protocol.specs.Kind.{Kind};
+ghost use Rattle.token_protocol.specs.Kinds.{kinds};
+ghost use Rattle.token_protocol.specs.Laws.{SingleOwner, EpochPromised, BeliefsCover, AcceptableBelieved, NoHolderAfterFall, HoldersNewest, ReadsLegal, JoinIsJoin, JoinNewest, DirtyLeads, FallsLegal, ReturnsLegal, OffersJoined, AcceptableJoins, PlacesFiled, IndexBounded, FlightsNew, FallsSettled, OwnersSettled, RowsKnown, CleanerIdle, CleanerEmpty};
 ghost use Rattle.token_protocol.specs.Stamps.{TakenSeen, EqualSeen, StampedSeen, ActivationSeen, PromiseSeen, Unheard};
-ghost use Rattle.token_protocol.specs.OtherExample.{other_moment36, other_acts};
+ghost use Rattle.token_protocol.specs.OtherExample.{other_moment36, other_acts, other_kinds};
 ghost use Rattle.token_protocol.specs.Step.{Steps};
 ghost use Rattle.token_protocol.specs.Told.{told};
 ghost use Rattle.token_protocol.specs.World.{World, start};
@@ -51,6 +54,42 @@ pub fn block()
     ensures acts_legal { (n : ℕ) (w : World) (steps : Steps true (start n) w) → LegalActs (told (start n) w steps) }
 {}
 
+/// The law of what is offered, for every list of steps whose logs keep their word.
+///
+/// - `joined`: every offer is of a version that is filed.
+/// - `acceptable`: what a client may still take is of the join's version.
+/// - `places`: the places that the index, offers and fetches name are filed rows.
+/// - `index`: the index is at least what is applied and at most the join, and what is applied is filed.
+pub fn offers()
+    ensures joined { (n : ℕ) (w : World) → Steps true (start n) w → OffersJoined w }
+    ensures acceptable { (n : ℕ) (w : World) → Steps true (start n) w → AcceptableJoins w }
+    ensures places { (n : ℕ) (w : World) → Steps true (start n) w → PlacesFiled w }
+    ensures index { (n : ℕ) (w : World) → Steps true (start n) w → IndexBounded w }
+{}
+
+/// The law of clients' logs, for every list of steps whose logs keep their word.
+///
+/// - `flights_new`: what a client has in flight is above all that is filed, and no newer than what it holds.
+/// - `falls_settled`: who fell had settled the join, and returns to that or to what it had in flight.
+/// - `owners_settled`: an owner's settled version is the join.
+/// - `rows_known`: rows are versions of the history, with their values, and stand where logs are filed or in flight.
+pub fn logs()
+    ensures flights_new { (n : ℕ) (w : World) → Steps true (start n) w → FlightsNew w }
+    ensures falls_settled { (n : ℕ) (w : World) → Steps true (start n) w → FallsSettled w }
+    ensures owners_settled { (n : ℕ) (w : World) → Steps true (start n) w → OwnersSettled w }
+    ensures rows_known { (n : ℕ) (w : World) → Steps true (start n) w → RowsKnown w }
+{}
+
+/// The cleaner as a member (the 1996 paper, on cleaning, gives it a log of its own): it is member 0 beside n clients, whose numbers begin at 1, so what is
+/// said of every member's promises is said of the cleaner's.
+///
+/// - `idle`: it asks for nothing, so it holds nothing, and whatever else happens it only promises and reports.
+/// - `empty`: where logs keep their word, its log here is empty, and each version was written by a client.
+pub fn cleaner()
+    ensures idle { (logs : Bool) (n : ℕ) (w : World) → Steps logs (start n) w → CleanerIdle w }
+    ensures empty { (n : ℕ) (w : World) → Steps true (start (suc n)) w → CleanerEmpty w }
+{}
+
 /// What only grows over any list of steps from any moment of a run whose logs keep their word: epochs, promises, incarnations, what is filed and its
 /// values, what is pinned, the packets sent and, under one manager, turns and what is applied.
 pub fn growth()
@@ -71,13 +110,16 @@ pub fn stamps()
     ensures unheard { (logs : Bool) (n : ℕ) (w : World) → Steps logs (start n) w → Unheard w }
 {}
 
-/// Every guard and premise can be met: two runs of two clients and a cleaner, with logs that keep their word, take each kind of step at least once, and
+/// Every guard and premise can be met: two runs of two clients and the cleaner, with logs that keep their word, take each kind of step at least once, and
 /// tell these acts.
 ///
 /// - `fault_run`: a client writes, is recalled and gives, another reads a place, the first falls with its tail in flight and returns with it adopted,
 ///   a later manager takes over, the cleaner copies, and the first falls again and returns with nothing adopted.
 /// - `calm_run`: what the first leaves out, as repetitions, an absent block, a refused write, a Supply, a sync, an eviction, a clean fall.
 pub fn example()
-    ensures fault_run { (steps : Steps true (start 2) moment35) × (told (start 2) moment35 steps ≡ example_acts) }
-    ensures calm_run { (steps : Steps true (start 2) other_moment36) × (told (start 2) other_moment36 steps ≡ other_acts) }
+    ensures fault_run { (steps : Steps true (start 3) moment37)
+        × ((told (start 3) moment37 steps ≡ example_acts) × (kinds steps ≡ example_kinds)) }
+    ensures calm_run { (steps : Steps true (start 3) other_moment36)
+        × ((told (start 3) other_moment36 steps ≡ other_acts) × (kinds steps ≡ other_kinds)) }
+    ensures every_kind { (k : Kind) → (k ≡ Kind.Loses → ⊥) → In k example_kinds ⊎ In k other_kinds }
 {}

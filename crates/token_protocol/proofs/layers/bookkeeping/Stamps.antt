@@ -5,7 +5,7 @@ use Rattle.token_protocol.specs.Basics.{In}
 use Rattle.token_protocol.specs.Packets.{Want, Offer, Recall, Gave}
 use Rattle.token_protocol.specs.World.{World, start}
 use Rattle.token_protocol.specs.Managing.{MayOffer, MayRecall, offers, recalls, turns}
-use Rattle.token_protocol.specs.Taking.{MayTake, IsAbsent, IsSupplied, IsPlaced, writes_first, declines, takes_value, takes_place}
+use Rattle.token_protocol.specs.Taking.{MayTake, IsAbsent, IsPlaced, writes_first, declines, takes_value, takes_place}
 use Rattle.token_protocol.specs.Giving.{MayGive, MayGiveAgain, gives, gives_again}
 use Rattle.token_protocol.specs.Step.{Step}
 use Rattle.token_protocol.specs.Step.Step.{Asks, AsksAgain, DropsWant, DropsFetch, Offers, Recalls, WritesFirst, Declines, TakesAbsent, TakesSupply, TakesPlace, Fetches, Writes, Reads, Syncs, Evicts, Gives, GivesAgain, Notes, Applies, Turns, SealsWith, Seals, Settles, CrashesDirty, CrashesClean, RestartsAdopting, RestartsDiscarding, Promises, Reports, Activates, SealsCopy, SealsOther, SettlesCopy, DiscardsCopy, Loses}
@@ -110,9 +110,9 @@ take_absent_keeps_stamps w taken h t serving stamps = record {
   awaited_turn = stamps.awaited_turn;
 }
 
-take_supply_keeps_stamps : (w : World) (taken : Offer) (value : ℕ) → MayTake w taken 1 → IsSupplied w taken value → Serving w → Stamps w
+take_supply_keeps_stamps : (w : World) (taken : Offer) (value : ℕ) → MayTake w taken 1 → Serving w → Stamps w
     → Stamps (takes_value w taken value)
-take_supply_keeps_stamps w taken value h t serving stamps = record {
+take_supply_keeps_stamps w taken value h serving stamps = record {
   offer_turn = stamps.offer_turn;
   recall_turn = stamps.recall_turn;
   recall_positive = stamps.recall_positive;
@@ -196,7 +196,7 @@ keeps logs w v (Recalls who keep h) serving stamps = recall_keeps_stamps w who k
 keeps logs w v (WritesFirst taken value h) serving stamps = write_first_keeps_stamps w taken value h serving stamps
 keeps logs w v (Declines taken h) serving stamps = decline_keeps_stamps w taken h serving stamps
 keeps logs w v (TakesAbsent taken h t) serving stamps = take_absent_keeps_stamps w taken h t serving stamps
-keeps logs w v (TakesSupply taken value h t) serving stamps = take_supply_keeps_stamps w taken value h t serving stamps
+keeps logs w v (TakesSupply taken value h t) serving stamps = take_supply_keeps_stamps w taken value h serving stamps
 keeps logs w v (TakesPlace taken h t) serving stamps = take_place_keeps_stamps w taken h t serving stamps
 keeps logs w v (Fetches who value h k) serving stamps = grind (arith, nat_tests)
 keeps logs w v (Writes who value h) serving stamps = grind (arith, nat_tests)
@@ -210,7 +210,7 @@ keeps logs w v (Applies who upto e h k) serving stamps = grind (arith, nat_tests
 keeps logs w v Turns serving stamps = turn_keeps_stamps w serving stamps
 keeps logs w v (SealsWith who h) serving stamps = grind (arith, nat_tests)
 keeps logs w v (Seals who h) serving stamps = grind (arith, nat_tests)
-keeps logs w v (Settles who h) serving stamps = grind (arith, nat_tests)
+keeps logs w v (Settles who h k) serving stamps = grind (arith, nat_tests)
 keeps logs w v (CrashesDirty who h) serving stamps = grind (arith, nat_tests)
 keeps logs w v (CrashesClean who h) serving stamps = grind (arith, nat_tests)
 keeps logs w v (RestartsAdopting who incarnation promised h k) serving stamps = grind (arith, nat_tests)

@@ -116,7 +116,7 @@ keeps w v (Applies who upto e h k) book tokens crash logs filing versions values
 keeps w v Turns book tokens crash logs filing versions values = grind (arith, nat_tests)
 keeps w v (SealsWith who h) book tokens crash logs filing versions values = seal_with_keeps_values w who h book tokens crash logs filing versions values
 keeps w v (Seals who h) book tokens crash logs filing versions values = grind (arith, nat_tests)
-keeps w v (Settles who h) book tokens crash logs filing versions values = grind (arith, nat_tests)
+keeps w v (Settles who h k) book tokens crash logs filing versions values = grind (arith, nat_tests)
 keeps w v (CrashesDirty who h) book tokens crash logs filing versions values = grind (arith, nat_tests)
 keeps w v (CrashesClean who h) book tokens crash logs filing versions values = grind (arith, nat_tests)
 keeps w v (RestartsAdopting who incarnation promised h k) book tokens crash logs filing versions values = grind (arith, nat_tests)

@@ -5,7 +5,7 @@ use Rattle.std.proofs.lemmas.Bool.{true≢false}
 use Rattle.token_protocol.specs.Basics.{In}
 use Rattle.token_protocol.specs.Packets.{Offer}
 use Rattle.token_protocol.specs.World.{World, start, Dirty, Live, flying_row}
-use Rattle.token_protocol.specs.Premises.{OriginalFiled}
+use Rattle.token_protocol.specs.Premises.{SegmentFlying, OriginalFiled}
 use Rattle.token_protocol.specs.Logging.{MaySealWith, MaySettle, seals_with, settles}
 use Rattle.token_protocol.specs.Crashing.{MayCrashDirty, MayRestart, crashes_dirty, restarts_discarding}
 use Rattle.token_protocol.specs.Cleaning.{MaySealCopy, MayDiscardCopy, seals_copy, discards_copy}
@@ -50,8 +50,8 @@ seal_with_keeps_versions w who h book tokens crash logs filing versions = record
   fallen_high = λ c k0. grind (arith, nat_tests, versions.fallen_high c);
 }
 
-settle_keeps_versions : (w : World) (who : ℕ) → MaySettle w who → Bookkeeping w → Tokens w → Crash w → Logs w → Filing w → Versions w → Versions (settles w who)
-settle_keeps_versions w who h book tokens crash logs filing versions = record {
+settle_keeps_versions : (w : World) (who : ℕ) → MaySettle w who → SegmentFlying w who → Bookkeeping w → Tokens w → Crash w → Logs w → Filing w → Versions w → Versions (settles w who)
+settle_keeps_versions w who h k book tokens crash logs filing versions = record {
   rows_newest = λ c q. grind (arith, nat_tests, versions.rows_newest c q);
   join_newest = grind (arith, nat_tests, versions.join_newest);
   last_dirty = λ k0. grind (arith, nat_tests, versions.last_dirty);
@@ -143,7 +143,7 @@ keeps w v (Applies who upto e h k) book tokens crash logs filing versions = grin
 keeps w v Turns book tokens crash logs filing versions = grind (arith, nat_tests)
 keeps w v (SealsWith who h) book tokens crash logs filing versions = seal_with_keeps_versions w who h book tokens crash logs filing versions
 keeps w v (Seals who h) book tokens crash logs filing versions = grind (arith, nat_tests)
-keeps w v (Settles who h) book tokens crash logs filing versions = settle_keeps_versions w who h book tokens crash logs filing versions
+keeps w v (Settles who h k) book tokens crash logs filing versions = settle_keeps_versions w who h k book tokens crash logs filing versions
 keeps w v (CrashesDirty who h) book tokens crash logs filing versions = crash_dirty_keeps_versions w who h book tokens crash logs filing versions
 keeps w v (CrashesClean who h) book tokens crash logs filing versions = grind (arith, nat_tests)
 keeps w v (RestartsAdopting who incarnation promised h k) book tokens crash logs filing versions = grind (arith, nat_tests)

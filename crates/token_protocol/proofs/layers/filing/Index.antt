@@ -6,7 +6,7 @@ use Rattle.token_protocol.specs.Basics.{In}
 use Rattle.token_protocol.specs.Entry.{Entry}
 use Rattle.token_protocol.specs.Packets.{Want, Offer, Report}
 use Rattle.token_protocol.specs.World.{World, start, Placed, Filed}
-use Rattle.token_protocol.specs.Premises.{TailAdopted, EndsApplied, IndexCovers, IndexGathered, OriginalFiled}
+use Rattle.token_protocol.specs.Premises.{SegmentFlying, TailAdopted, EndsApplied, IndexCovers, IndexGathered, OriginalFiled}
 use Rattle.token_protocol.specs.Managing.{MayOffer, MayApply, offers, applies}
 use Rattle.token_protocol.specs.Taking.{MayTake, IsPlaced, takes_place}
 use Rattle.token_protocol.specs.Logging.{MaySealWith, MaySettle, seals_with, settles}
@@ -99,8 +99,8 @@ seal_with_keeps_index w who h book logs joined index = record {
   fetch_row = λ c k0. grind (arith, nat_tests, index.fetch_row c);
 }
 
-settle_keeps_index : (w : World) (who : ℕ) → MaySettle w who → Bookkeeping w → Logs w → Joined w → Index w → Index (settles w who)
-settle_keeps_index w who h book logs joined index = record {
+settle_keeps_index : (w : World) (who : ℕ) → MaySettle w who → SegmentFlying w who → Bookkeeping w → Logs w → Joined w → Index w → Index (settles w who)
+settle_keeps_index w who h k book logs joined index = record {
   index_rows = λ c q k0. grind (arith, nat_tests, index.index_rows c q);
   index_join = grind (arith, nat_tests, index.index_join);
   index_row = λ k0. grind (arith, nat_tests, index.index_row);
@@ -190,7 +190,7 @@ keeps w v (Applies who upto e h k) book logs joined index = apply_keeps_index w 
 keeps w v Turns book logs joined index = grind (arith, nat_tests)
 keeps w v (SealsWith who h) book logs joined index = seal_with_keeps_index w who h book logs joined index
 keeps w v (Seals who h) book logs joined index = grind (arith, nat_tests)
-keeps w v (Settles who h) book logs joined index = settle_keeps_index w who h book logs joined index
+keeps w v (Settles who h k) book logs joined index = settle_keeps_index w who h k book logs joined index
 keeps w v (CrashesDirty who h) book logs joined index = grind (arith, nat_tests)
 keeps w v (CrashesClean who h) book logs joined index = grind (arith, nat_tests)
 keeps w v (RestartsAdopting who incarnation promised h k) book logs joined index = restart_adopting_keeps_index w who incarnation promised h k book logs joined index

@@ -5,7 +5,7 @@ use Rattle.token_protocol.specs.Basics.{In}
 use Rattle.token_protocol.specs.Packets.{Want, Offer, Recall, Gave}
 use Rattle.token_protocol.specs.World.{World, start, Live}
 use Rattle.token_protocol.specs.Managing.{MayOffer, MayRecall, offers, recalls}
-use Rattle.token_protocol.specs.Taking.{MayTake, IsAbsent, IsSupplied, IsPlaced, writes_first, declines, takes_value, takes_place}
+use Rattle.token_protocol.specs.Taking.{MayTake, IsAbsent, IsPlaced, writes_first, declines, takes_value, takes_place}
 use Rattle.token_protocol.specs.Giving.{MayGive, MayGiveAgain, gives, gives_again}
 use Rattle.token_protocol.specs.Step.{Step}
 use Rattle.token_protocol.specs.Step.Step.{Asks, AsksAgain, DropsWant, DropsFetch, Offers, Recalls, WritesFirst, Declines, TakesAbsent, TakesSupply, TakesPlace, Fetches, Writes, Reads, Syncs, Evicts, Gives, GivesAgain, Notes, Applies, Turns, SealsWith, Seals, Settles, CrashesDirty, CrashesClean, RestartsAdopting, RestartsDiscarding, Promises, Reports, Activates, SealsCopy, SealsOther, SettlesCopy, DiscardsCopy, Loses}
@@ -78,9 +78,9 @@ take_absent_keeps_giving w taken h t book giving = record {
   given_offer = λ x g k0 k1 k2 k3 k4. grind (arith, nat_tests, giving.given_offer x g);
 }
 
-take_supply_keeps_giving : (w : World) (taken : Offer) (value : ℕ) → MayTake w taken 1 → IsSupplied w taken value → Bookkeeping w → Giving w
+take_supply_keeps_giving : (w : World) (taken : Offer) (value : ℕ) → MayTake w taken 1 → Bookkeeping w → Giving w
     → Giving (takes_value w taken value)
-take_supply_keeps_giving w taken value h t book giving = record {
+take_supply_keeps_giving w taken value h book giving = record {
   recalled = λ r k0 k1. grind (arith, nat_tests, giving.recalled r, book.stamps.apart taken r h.sent k0);
   recalled_fetch = λ r k0 k1. grind (arith, nat_tests, giving.recalled_fetch r, book.stamps.apart taken r h.sent k0);
   given_mode = λ x k0 k1. grind (arith, nat_tests, giving.given_mode x);
@@ -125,7 +125,7 @@ keeps logs w v (Recalls who keep h) book giving = recall_keeps_giving w who keep
 keeps logs w v (WritesFirst taken value h) book giving = write_first_keeps_giving w taken value h book giving
 keeps logs w v (Declines taken h) book giving = decline_keeps_giving w taken h book giving
 keeps logs w v (TakesAbsent taken h t) book giving = take_absent_keeps_giving w taken h t book giving
-keeps logs w v (TakesSupply taken value h t) book giving = take_supply_keeps_giving w taken value h t book giving
+keeps logs w v (TakesSupply taken value h t) book giving = take_supply_keeps_giving w taken value h book giving
 keeps logs w v (TakesPlace taken h t) book giving = take_place_keeps_giving w taken h t book giving
 keeps logs w v (Fetches who value h k) book giving = grind (arith, nat_tests)
 keeps logs w v (Writes who value h) book giving = grind (arith, nat_tests)
@@ -139,7 +139,7 @@ keeps logs w v (Applies who upto e h k) book giving = grind (arith, nat_tests)
 keeps logs w v Turns book giving = grind (arith, nat_tests)
 keeps logs w v (SealsWith who h) book giving = grind (arith, nat_tests)
 keeps logs w v (Seals who h) book giving = grind (arith, nat_tests)
-keeps logs w v (Settles who h) book giving = grind (arith, nat_tests)
+keeps logs w v (Settles who h k) book giving = grind (arith, nat_tests)
 keeps logs w v (CrashesDirty who h) book giving = grind (arith, nat_tests)
 keeps logs w v (CrashesClean who h) book giving = grind (arith, nat_tests)
 keeps logs w v (RestartsAdopting who incarnation promised h k) book giving = grind (arith, nat_tests)

@@ -1,0 +1,50 @@
+-- Between them the two example runs take every kind of step, but that logs lose what they held.
+use Rattle.std.proofs.Common.{◌≡◌, ◌⊎◌, ℕ, zero, suc, List, [], ◌∷◌, drop, inl, inr, refl}
+use Rattle.token_protocol.specs.Basics.{In}
+use Rattle.token_protocol.specs.Kind.{Kind}
+use Rattle.token_protocol.specs.Example.{example_kinds}
+use Rattle.token_protocol.specs.OtherExample.{other_kinds}
+
+-- What stands after the first n kinds of a list stands in it.
+listed : (n : ℕ) (k : Kind) (ks : List Kind) → In k (drop n ks) → In k ks
+listed zero k ks is = is
+listed (suc n) k [] is = absurd is
+listed (suc n) k (first ∷ ks) is = inr (listed n k ks is)
+
+pub every_kind : (k : Kind) → (k ≡ Kind.Loses → ⊥) → In k example_kinds ⊎ In k other_kinds
+every_kind Kind.Asks apart = inl (listed 4 Kind.Asks example_kinds (inl refl))
+every_kind Kind.AsksAgain apart = inr (listed 34 Kind.AsksAgain other_kinds (inl refl))
+every_kind Kind.DropsWant apart = inr (listed 6 Kind.DropsWant other_kinds (inl refl))
+every_kind Kind.DropsFetch apart = inr (listed 5 Kind.DropsFetch other_kinds (inl refl))
+every_kind Kind.Offers apart = inl (listed 3 Kind.Offers example_kinds (inl refl))
+every_kind Kind.Recalls apart = inl (listed 21 Kind.Recalls example_kinds (inl refl))
+every_kind Kind.WritesFirst apart = inl (listed 2 Kind.WritesFirst example_kinds (inl refl))
+every_kind Kind.Declines apart = inr (listed 22 Kind.Declines other_kinds (inl refl))
+every_kind Kind.TakesAbsent apart = inr (listed 32 Kind.TakesAbsent other_kinds (inl refl))
+every_kind Kind.TakesSupply apart = inr (listed 8 Kind.TakesSupply other_kinds (inl refl))
+every_kind Kind.TakesPlace apart = inl (listed 25 Kind.TakesPlace example_kinds (inl refl))
+every_kind Kind.Fetches apart = inl (listed 24 Kind.Fetches example_kinds (inl refl))
+every_kind Kind.Writes apart = inr (listed 18 Kind.Writes other_kinds (inl refl))
+every_kind Kind.Reads apart = inl (listed 23 Kind.Reads example_kinds (inl refl))
+every_kind Kind.Syncs apart = inr (listed 15 Kind.Syncs other_kinds (inl refl))
+every_kind Kind.Evicts apart = inr (listed 30 Kind.Evicts other_kinds (inl refl))
+every_kind Kind.Gives apart = inl (listed 20 Kind.Gives example_kinds (inl refl))
+every_kind Kind.GivesAgain apart = inr (listed 26 Kind.GivesAgain other_kinds (inl refl))
+every_kind Kind.Notes apart = inl (listed 19 Kind.Notes example_kinds (inl refl))
+every_kind Kind.Applies apart = inl (listed 27 Kind.Applies example_kinds (inl refl))
+every_kind Kind.Turns apart = inr (listed 24 Kind.Turns other_kinds (inl refl))
+every_kind Kind.SealsWith apart = inl (listed 16 Kind.SealsWith example_kinds (inl refl))
+every_kind Kind.Seals apart = inr (listed 3 Kind.Seals other_kinds (inl refl))
+every_kind Kind.Settles apart = inl (listed 30 Kind.Settles example_kinds (inl refl))
+every_kind Kind.CrashesDirty apart = inl (listed 1 Kind.CrashesDirty example_kinds (inl refl))
+every_kind Kind.CrashesClean apart = inr (listed 4 Kind.CrashesClean other_kinds (inl refl))
+every_kind Kind.RestartsAdopting apart = inl (listed 14 Kind.RestartsAdopting example_kinds (inl refl))
+every_kind Kind.RestartsDiscarding apart = inl (listed 0 Kind.RestartsDiscarding example_kinds (inl refl))
+every_kind Kind.Promises apart = inl (listed 9 Kind.Promises example_kinds (inl refl))
+every_kind Kind.Reports apart = inl (listed 8 Kind.Reports example_kinds (inl refl))
+every_kind Kind.Activates apart = inl (listed 7 Kind.Activates example_kinds (inl refl))
+every_kind Kind.SealsCopy apart = inl (listed 6 Kind.SealsCopy example_kinds (inl refl))
+every_kind Kind.SealsOther apart = inr (listed 2 Kind.SealsOther other_kinds (inl refl))
+every_kind Kind.SettlesCopy apart = inl (listed 5 Kind.SettlesCopy example_kinds (inl refl))
+every_kind Kind.DiscardsCopy apart = inr (listed 0 Kind.DiscardsCopy other_kinds (inl refl))
+every_kind Kind.Loses apart = absurd (apart refl)
