@@ -3,14 +3,14 @@ use Rattle.std.proofs.Common.{◌≡◌, ℕ, true, refl, List, [], max, arith}
 use Rattle.std.proofs.lemmas.Bool.{true≢false}
 use Rattle.std.proofs.lemmas.Bool.Decides.{nat_tests}
 use Rattle.token_protocol.specs.World.{World, start, flying_row}
-use Rattle.token_protocol.specs.Acts.{Act, History, LegalActs, LegalFell, history}
+use Rattle.token_protocol.specs.Acts.{Act, History, LegalActs, LegalFell, LegalBack, history}
 use Rattle.token_protocol.specs.Crashing.{MayCrashDirty}
 use Rattle.token_protocol.specs.Told.{tells, told}
 use Rattle.token_protocol.specs.Step.{Step, Steps}
 use Rattle.token_protocol.specs.Step.Step.{Asks, AsksAgain, DropsWant, DropsFetch, Offers, Recalls, WritesFirst, Declines, TakesAbsent, TakesSupply, TakesPlace, Fetches, Writes, Reads, Syncs, Evicts, Gives, GivesAgain, Notes, Applies, Turns, SealsWith, Seals, Settles, CrashesDirty, CrashesClean, RestartsAdopting, RestartsDiscarding, Promises, Reports, Activates, SealsCopy, SealsOther, SettlesCopy, DiscardsCopy, Loses}
 use Rattle.token_protocol.specs.Step.Steps.{Done, More}
 use Rattle.token_protocol.proofs.Invariant.{Invariant, keeps, begins}
-use Rattle.token_protocol.proofs.Laws.{dirty_leads, falls_legal}
+use Rattle.token_protocol.proofs.Laws.{dirty_leads, falls_legal, returns_legal}
 
 -- The history that the acts made is the world's.
 record Agrees (h : History) (newest : ℕ) (value_at : ℕ → ℕ) (writer : ℕ → ℕ) (pinned : ℕ) (fallen : ℕ → ℕ) (low : ℕ → ℕ) (high : ℕ → ℕ) : Type 0 where
@@ -40,6 +40,15 @@ fall w who acts i l may =
       pinned = grind (arith, nat_tests, law.cut.pinned, l.matches.pin);
       ordered = grind arith;
       known = grind (arith, nat_tests, law.cut.known, l.matches.length);
+    }
+
+-- So is a return: while its client is fallen, what it fell to stays.
+back : (w : World) (who : ℕ) (acts : List Act) → Invariant w → Legal acts w → LegalBack (history acts) who
+back w who acts i l =
+    let law = returns_legal w i who in
+    record {
+      ordered = λ fell. grind (arith, law (grind (arith, l.matches.falls who)), l.matches.lows who, l.matches.highs who);
+      known = λ fell. grind (arith, law (grind (arith, l.matches.falls who)), l.matches.highs who, l.matches.length);
     }
 
 legal_step : (w v : World) (step : Step true w v) (acts : List Act) → Invariant w → Legal acts w → Legal (tells w v step acts) v
@@ -87,8 +96,8 @@ legal_step w v (Seals who h) acts i l = record { matches = l.matches; legal = l.
 legal_step w v (Settles who h k) acts i l = record { matches = l.matches; legal = l.legal }
 legal_step w v (CrashesDirty who h) acts i l = record { matches = grind (arith, nat_tests); legal = (l.legal, fall w who acts i l h) }
 legal_step w v (CrashesClean who h) acts i l = record { matches = l.matches; legal = l.legal }
-legal_step w v (RestartsAdopting who incarnation promised h k) acts i l = record { matches = grind (arith, nat_tests); legal = (l.legal, tt) }
-legal_step w v (RestartsDiscarding who incarnation promised h) acts i l = record { matches = grind (arith, nat_tests); legal = (l.legal, tt) }
+legal_step w v (RestartsAdopting who incarnation promised h k) acts i l = record { matches = grind (arith, nat_tests); legal = (l.legal, back w who acts i l) }
+legal_step w v (RestartsDiscarding who incarnation promised h) acts i l = record { matches = grind (arith, nat_tests); legal = (l.legal, back w who acts i l) }
 legal_step w v (Promises who epoch h) acts i l = record { matches = l.matches; legal = l.legal }
 legal_step w v (Reports who end h k) acts i l = record { matches = l.matches; legal = l.legal }
 legal_step w v (Activates epoch report applied e h k) acts i l = record { matches = l.matches; legal = l.legal }

@@ -58,10 +58,16 @@ pub record LegalFell (h : History) (c : ℕ) (low : ℕ) (high : ℕ) : Type 0 w
   pub ordered : low ≤ high
   pub known : high ≤ h.length
 
+-- A return is legal where the versions to which its client fell are still there.
+pub record LegalBack (h : History) (c : ℕ) : Type 0 where
+  pub ordered : h.fallen c ≡ 1 → h.low c ≤ h.high c
+  pub known : h.fallen c ≡ 1 → h.high c ≤ h.length
+
 -- Every other act is legal.
 abbrev pub LegalAct : History → Act → Type 0
 LegalAct h (Act.Read c version value) = LegalRead h version value
 LegalAct h (Act.Fell c low high) = LegalFell h c low high
+LegalAct h (Act.Back c adopted) = LegalBack h c
 LegalAct h act = Unit {0}
 
 -- The history that acts made, newest act first.
