@@ -1,0 +1,4 @@
+pub mod Injection
+pub mod Falling
+pub mod Acting
+pub mod Legality
