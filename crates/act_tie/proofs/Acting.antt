@@ -6,7 +6,10 @@ use Rattle.std.proofs.lemmas.List.{length-take-le}
 use Rattle.xfs_base.specs.declared.block.BlockId.{BlockId}
 use Rattle.xfs_base.specs.declared.segment.SegName.{SegName}
 use Rattle.version_model.specs.declared.act.Fall.{Fall}
-use Rattle.version_model.specs.History.{Content, Version, BlockHistory, FallTold, History, is_by_other}
+use Rattle.version_model.specs.declared.history.Version.{Version}
+use Rattle.version_model.specs.declared.history.BlockHistory.{BlockHistory}
+use Rattle.version_model.specs.declared.history.FallTold.{FallTold}
+use Rattle.version_model.specs.History.{Content, History, is_by_other}
 use Rattle.version_model.specs.Effects.{append, pin, cut_to, holds_flight, settle_falls, settle}
 use Rattle.version_model.specs.Legal.{NamesNoBlockTwice}
 use Rattle.token_protocol.specs.Acts as block

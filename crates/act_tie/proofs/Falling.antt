@@ -7,7 +7,8 @@ use Rattle.xfs_base.specs.Blocks.{same_block}
 use Rattle.xfs_base.proofs.BlockOrder.{same_block_exact, same_block_itself}
 use Rattle.xfs_base.proofs.Booleans.{contrary}
 use Rattle.version_model.specs.declared.act.Fall.{Fall}
-use Rattle.version_model.specs.History.{BlockHistory, History}
+use Rattle.version_model.specs.declared.history.BlockHistory.{BlockHistory}
+use Rattle.version_model.specs.History.{History}
 use Rattle.version_model.specs.Effects.{change, cut_to, settle_falls}
 use Rattle.version_model.specs.Legal.{NamesNoBlockTwice}
 use Rattle.act_tie.specs.BlockActs.{fall_of}

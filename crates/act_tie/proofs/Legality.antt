@@ -8,7 +8,10 @@ use Rattle.xfs_base.proofs.BlockOrder.{same_block_exact, same_block_itself}
 use Rattle.version_model.specs.declared.act.Act.{Act}
 use Rattle.version_model.specs.declared.act.Act.TheVariants.{Wrote, Read, Synced, Fell, Back, Lost, Filed, Dropped, Answered}
 use Rattle.version_model.specs.declared.act.Fall.{Fall}
-use Rattle.version_model.specs.History.{Content, Version, BlockHistory, FallTold, History, content_at, is_by_other, greatest_by, nothing_yet}
+use Rattle.version_model.specs.declared.history.Version.{Version}
+use Rattle.version_model.specs.declared.history.BlockHistory.{BlockHistory}
+use Rattle.version_model.specs.declared.history.FallTold.{FallTold}
+use Rattle.version_model.specs.History.{Content, History, content_at, is_by_other, greatest_by, nothing_yet}
 use Rattle.version_model.specs.Effects.{change, append, pin, after, history_after}
 use Rattle.version_model.specs.Legal.{IsNewestBy, MayFall, IsLegalIn, AreLegal, AreLegalFrom}
 use Rattle.token_protocol.specs.Acts as block

@@ -6,7 +6,8 @@ use Rattle.xfs_base.specs.declared.segment.SegName.{SegName}
 use Rattle.version_model.specs.declared.act.Act.{Act}
 use Rattle.version_model.specs.declared.act.Act.TheVariants.{Wrote, Read, Synced, Fell, Back, Lost, Filed, Dropped, Answered}
 use Rattle.version_model.specs.declared.act.Fall.{Fall}
-use Rattle.version_model.specs.History.{FallTold, History, greatest_by, nothing_yet}
+use Rattle.version_model.specs.declared.history.FallTold.{FallTold}
+use Rattle.version_model.specs.History.{History, greatest_by, nothing_yet}
 use Rattle.version_model.specs.Effects.{after, holds_flight}
 use Rattle.token_protocol.specs.Acts as block
 use Rattle.token_protocol.specs.Acts.Act.{Wrote as WroteBlock, Read as ReadBlock, Synced as SyncedBlock, Fell as FellBlock, Back as BackBlock}

@@ -4,7 +4,10 @@ use Rattle.xfs_base.specs.declared.block.BlockId.{BlockId}
 use Rattle.version_model.specs.declared.act.Act.{Act}
 use Rattle.version_model.specs.declared.act.Act.TheVariants.{Wrote, Read, Synced, Fell, Back, Lost, Filed, Dropped, Answered}
 use Rattle.version_model.specs.declared.act.Fall.{Fall}
-use Rattle.version_model.specs.History.{Version, BlockHistory, FallTold, History, nothing_yet}
+use Rattle.version_model.specs.declared.history.Version.{Version}
+use Rattle.version_model.specs.declared.history.BlockHistory.{BlockHistory}
+use Rattle.version_model.specs.declared.history.FallTold.{FallTold}
+use Rattle.version_model.specs.History.{History, nothing_yet}
 use Rattle.version_model.specs.Effects.{after}
 use Rattle.version_model.specs.Legal.{NamesNoBlockTwice}
 use Rattle.token_protocol.specs.Acts as block

@@ -5,7 +5,9 @@ use Rattle.std.proofs.lemmas.Option.{slice_get_cases}
 use Rattle.std.proofs.lemmas.Bool.Decides.{nat_tests}
 use Rattle.xfs_base.specs.declared.block.BlockId.{BlockId}
 use Rattle.xfs_base.specs.Blocks.{same_block}
-use Rattle.version_model.specs.History.{Content, Version, BlockHistory, History, nothing_yet, content_at, is_by_other}
+use Rattle.version_model.specs.declared.history.Version.{Version}
+use Rattle.version_model.specs.declared.history.BlockHistory.{BlockHistory}
+use Rattle.version_model.specs.History.{Content, History, nothing_yet, content_at, is_by_other}
 use Rattle.version_model.specs.Effects.{change, append, pin, after, history_after}
 use Rattle.version_model.specs.Legal.{IsLegalIn, AreLegalFrom, AreLegal}
 use Rattle.version_model.specs.declared.work.Work.{Work}
