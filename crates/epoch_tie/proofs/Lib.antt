@@ -1,0 +1,2 @@
+pub mod TokenTies
+pub mod IndexTies

@@ -1,0 +1,162 @@
+-- Each step of epochs against the steps of tokens.
+use Rattle.std.proofs.Common.{◌<◌, inl, inr, ⊎_elim, refl, arith}
+use Rattle.std.proofs.lemmas.Bool.Decides.{nat_tests}
+use Rattle.epoch_protocol.specs.Step.Step.{Bumps, Hears, Moves, Tells, Welcomes, Answers, Greets, EntersByNews, EntersByWelcome, LeavesByNews, LeavesByWelcome, Polls, Activates, Breaks, Falls, Rises, PromisesPoll, PromisesNews, PromisesWelcome, Reports, Crashes, Restarts, Calls, Takes, Serves}
+use Rattle.epoch_protocol.proofs.Invariant.{always}
+use Rattle.epoch_protocol.proofs.Laws.{activates_new, serves_above}
+use Rattle.epoch_tie.specs.TokenTie.{TokensStart, PollTied, NewsTied, WelcomeTied, ReportTied, CrashTied, RestartTied, ServeTied, ActivateTied, BumpTied, MoveTied, QuietTied}
+
+pub starts : TokensStart
+starts n first = record {
+  members = refl;
+  reigning = refl;
+  promised = λ c k. refl;
+  serving = λ c k j. grind (arith, nat_tests);
+  down = λ c k j. absurd (j refl);
+}
+
+pub poll : PollTied
+poll e t c p tied member h = (
+  record { serving = tied.serving c member h.serving; higher = grind (arith, tied.promised c member, h.higher) },
+  record {
+    members = tied.members;
+    reigning = tied.reigning;
+    promised = λ d k. grind (arith, nat_tests, tied.promised d k);
+    serving = λ d k j. grind (arith, nat_tests, tied.serving d k);
+    down = λ d k j. grind (arith, nat_tests, tied.down d k);
+  },
+)
+
+pub news : NewsTied
+news e t c n tied member h = (
+  record { serving = tied.serving c member h.serving; higher = grind (arith, tied.promised c member, h.higher) },
+  record {
+    members = tied.members;
+    reigning = tied.reigning;
+    promised = λ d k. grind (arith, nat_tests, tied.promised d k);
+    serving = λ d k j. grind (arith, nat_tests, tied.serving d k);
+    down = λ d k j. grind (arith, nat_tests, tied.down d k);
+  },
+)
+
+pub welcome : WelcomeTied
+welcome e t p tied member h = (
+  record { serving = tied.serving p.node member h.serving; higher = grind (arith, tied.promised p.node member, h.higher) },
+  record {
+    members = tied.members;
+    reigning = tied.reigning;
+    promised = λ d k. grind (arith, nat_tests, tied.promised d k);
+    serving = λ d k j. grind (arith, nat_tests, tied.serving d k);
+    down = λ d k j. grind (arith, nat_tests, tied.down d k);
+  },
+)
+
+pub report : ReportTied
+report e t c end tied member h = (
+  record { serving = tied.serving c member h.serving },
+  record { members = tied.members; reigning = tied.reigning; promised = tied.promised; serving = tied.serving; down = tied.down },
+)
+
+pub crash : CrashTied
+crash e t c tied = (
+  record {
+    members = tied.members;
+    reigning = tied.reigning;
+    promised = λ d k. grind (arith, nat_tests, tied.promised d k);
+    serving = λ d k j. grind (arith, nat_tests, tied.serving d k);
+    down = λ d k j. grind (arith, nat_tests, tied.down d k);
+  },
+  record {
+    members = tied.members;
+    reigning = tied.reigning;
+    promised = λ d k. grind (arith, nat_tests, tied.promised d k);
+    serving = λ d k j. grind (arith, nat_tests, tied.serving d k);
+    down = λ d k j. grind (arith, nat_tests, tied.down d k);
+  },
+)
+
+pub restart : RestartTied
+restart e t c tied h = record {
+  members = tied.members;
+  reigning = tied.reigning;
+  promised = λ d k. grind (arith, nat_tests, tied.promised d k);
+  serving = λ d k j. grind (arith, nat_tests, tied.serving d k);
+  down = λ d k j. grind (arith, nat_tests, tied.down d k, h.down);
+}
+
+pub serve : ServeTied
+serve n first e t c incarnation steps tied member h later = (
+  record {
+    member = grind (arith, tied.members);
+    down = tied.down c member (grind (arith, h.opening));
+    later = later;
+    promise = grind (arith, tied.promised c member, serves_above e (always n first e steps) c h);
+  },
+  record {
+    members = tied.members;
+    reigning = tied.reigning;
+    promised = λ d k. grind (arith, nat_tests, tied.promised d k);
+    serving = λ d k j. grind (arith, nat_tests, tied.serving d k);
+    down = λ d k j. grind (arith, nat_tests, tied.down d k);
+  },
+  record {
+    members = tied.members;
+    reigning = tied.reigning;
+    promised = λ d k. grind (arith, nat_tests, tied.promised d k);
+    serving = λ d k j. grind (arith, nat_tests, tied.serving d k);
+    down = λ d k j. grind (arith, nat_tests, tied.down d k);
+  },
+)
+
+pub activate : ActivateTied
+activate n first e t m steps tied h =
+    let reigning = tied.reigning in
+    ⊎_elim
+    (λ (below : (e.manager m).epoch < e.reigning). inl (
+      grind (arith, reigning, below),
+      record { members = tied.members; reigning = grind (arith, reigning, below); promised = tied.promised; serving = tied.serving; down = tied.down },
+    ))
+    (λ (above : e.reigning < (e.manager m).epoch). inr (
+      grind (arith, reigning, above),
+      λ report applied entry. record { members = tied.members; reigning = grind (arith, above); promised = tied.promised; serving = tied.serving; down = tied.down },
+    ))
+    (activates_new e (always n first e steps) m h).apart
+
+pub bump : BumpTied
+bump e t h tied = record { members = tied.members; reigning = tied.reigning; promised = tied.promised; serving = tied.serving; down = tied.down }
+
+pub move : MoveTied
+move e t m tied = record { members = tied.members; reigning = tied.reigning; promised = tied.promised; serving = tied.serving; down = tied.down }
+
+pub quiet : QuietTied
+quiet e v t (Bumps h may) none tied = absurd none
+quiet e v t (Hears h may) none tied = record { members = tied.members; reigning = tied.reigning; promised = tied.promised; serving = tied.serving; down = tied.down }
+quiet e v t (Moves m) none tied = absurd none
+quiet e v t Tells none tied = record { members = tied.members; reigning = tied.reigning; promised = tied.promised; serving = tied.serving; down = tied.down }
+quiet e v t (Welcomes h may) none tied = record { members = tied.members; reigning = tied.reigning; promised = tied.promised; serving = tied.serving; down = tied.down }
+quiet e v t (Answers h may) none tied = record { members = tied.members; reigning = tied.reigning; promised = tied.promised; serving = tied.serving; down = tied.down }
+quiet e v t (Greets m) none tied = record { members = tied.members; reigning = tied.reigning; promised = tied.promised; serving = tied.serving; down = tied.down }
+quiet e v t (EntersByNews m n may) none tied = record { members = tied.members; reigning = tied.reigning; promised = tied.promised; serving = tied.serving; down = tied.down }
+quiet e v t (EntersByWelcome p may) none tied = record { members = tied.members; reigning = tied.reigning; promised = tied.promised; serving = tied.serving; down = tied.down }
+quiet e v t (LeavesByNews m n may) none tied = record { members = tied.members; reigning = tied.reigning; promised = tied.promised; serving = tied.serving; down = tied.down }
+quiet e v t (LeavesByWelcome p may) none tied = record { members = tied.members; reigning = tied.reigning; promised = tied.promised; serving = tied.serving; down = tied.down }
+quiet e v t (Polls m may) none tied = record { members = tied.members; reigning = tied.reigning; promised = tied.promised; serving = tied.serving; down = tied.down }
+quiet e v t (Activates m may) none tied = absurd none
+quiet e v t (Breaks m may) none tied = record { members = tied.members; reigning = tied.reigning; promised = tied.promised; serving = tied.serving; down = tied.down }
+quiet e v t (Falls m) none tied = record { members = tied.members; reigning = tied.reigning; promised = tied.promised; serving = tied.serving; down = tied.down }
+quiet e v t (Rises m may) none tied = record { members = tied.members; reigning = tied.reigning; promised = tied.promised; serving = tied.serving; down = tied.down }
+quiet e v t (PromisesPoll c p may) none tied = absurd none
+quiet e v t (PromisesNews c n may) none tied = absurd none
+quiet e v t (PromisesWelcome p may) none tied = absurd none
+quiet e v t (Reports c may) none tied = absurd none
+quiet e v t (Crashes c) none tied = absurd none
+quiet e v t (Restarts c may) none tied = absurd none
+quiet e v t (Calls c) none tied = record { members = tied.members; reigning = tied.reigning; promised = tied.promised; serving = tied.serving; down = tied.down }
+quiet e v t (Takes p may) none tied = record {
+  members = tied.members;
+  reigning = tied.reigning;
+  promised = λ d k. grind (arith, nat_tests, tied.promised d k);
+  serving = λ d k j. grind (arith, nat_tests, tied.serving d k);
+  down = λ d k j. grind (arith, nat_tests, tied.down d k);
+}
+quiet e v t (Serves c may) none tied = absurd none

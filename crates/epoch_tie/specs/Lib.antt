@@ -1,0 +1,3 @@
+pub mod Quiet
+pub mod TokenTie
+pub mod IndexTie
