@@ -1,0 +1,60 @@
+-- What loops and undone changes need.
+use Rattle.std.proofs.Common.{◌≡◌, ℕ, ◌+◌, ◌<◌, List, [], ◌∷◌, ◌++◌, Option, cond, length, get_or, set, take, drop, map, None, Some, ◌-◌, refl, sym, ap, ◌∙◌, arith}
+use Rattle.std.specs.declared.cmp.Ordering.{Ordering}
+use Rattle.std.specs.declared.cmp.Ordering.TheVariants.{Less, Equal, Greater}
+use Rattle.std.specs.Ordering.{match_ordering, is_eq}
+use Rattle.std.specs.Cmp.{IsTotalOrder}
+use Rattle.std.specs.Map.{lookup, remove_entry}
+use Rattle.std.specs.BTreeMap.{is_at, insert_entry}
+use Rattle.std.proofs.lemmas.Cmp.{tied_itself}
+use Rattle.xfs_base.specs.declared.block.BlockId.{BlockId}
+use Rattle.xfs_base.specs.declared.entry.Entry.{Entry}
+use Rattle.xfs_base.specs.Blocks.{block_cmp}
+use Rattle.xfs_base.proofs.BlockOrder.{block_cmp_total}
+use Rattle.index_pages.specs.declared.layout.Page.{Page}
+use Rattle.index_pages.specs.Layout.{first_block}
+use Rattle.index_pages.specs.Pages.{PagesState, page_of, begun, row_of}
+use Rattle.std.proofs.lemmas.List.{length-take-le, length-map, get_or_at, set_at, drop_more, map_more, append_assoc, take_at, length_push}
+
+-- a list of which the items below a place are changed, with the one at that place changed too
+pub changed_more : {X : Type 0} (f : X → X) (old xs : List X) (i : ℕ) (d e : X) → i < length old → xs ≡ map f (take i old) ++ drop i old → e ≡ get_or xs i d → set xs i (f e) ≡ map f (take (i + 1) old) ++ drop (i + 1) old
+changed_more f old xs i d e here is read =
+    let rest : drop i old ≡ get_or old i d ∷ drop (i + 1) old = drop_more old i d here in
+    let long : length (map f (take i old)) ≡ i = length-map (take i old) f ∙ length-take-le i old (omega arith) in
+    let is2 : xs ≡ map f (take i old) ++ get_or old i d ∷ drop (i + 1) old = is ∙ ap (λ r. map f (take i old) ++ r) rest in
+    let here2 : e ≡ get_or old i d = read ∙ ap (λ r. get_or r i d) is2 ∙ get_or_at (map f (take i old)) (get_or old i d) (drop (i + 1) old) d i long in
+    ap (λ r. set r i (f e)) is2 ∙ set_at (map f (take i old)) (get_or old i d) (drop (i + 1) old) (f e) i long
+    ∙ ap (λ y. map f (take i old) ++ f y ∷ drop (i + 1) old) here2
+    ∙ sym (append_assoc (map f (take i old)) (f (get_or old i d) ∷ []) (drop (i + 1) old))
+    ∙ ap (λ r. r ++ drop (i + 1) old) (sym (map_more f old i d here))
+
+-- what is put at a new key and then removed leaves the entries as they were
+pub remove-insert : {K X : Type 0} {R : K → K → Ordering} (total : IsTotalOrder R) (k : K) (v : X) (es : List (K × X)) → lookup (is_at (R k)) es ≡ None → remove_entry (is_at (R k)) (insert_entry R es k v) ≡ es
+remove-insert {R = R} total k v [] absent = ap (λ o. cond (is_eq o) [] ((k, v) ∷ [])) (tied_itself total k)
+remove-insert {R = R} total k v (e ∷ es) absent =
+    elim (R k e.0) as (λ o. R k e.0 ≡ o → cond (is_eq o) (Some e.1) (lookup (is_at (R k)) es) ≡ None → remove_entry (is_at (R k)) (match_ordering o ((k, v) ∷ e ∷ es) ((e.0, v) ∷ es) (e ∷ insert_entry R es k v)) ≡ e ∷ es) [
+      | Less ↦ λ p h. ap (λ o. cond (is_eq o) (e ∷ es) ((k, v) ∷ remove_entry (is_at (R k)) (e ∷ es))) (tied_itself total k)
+      | Equal ↦ λ p h. cc
+      | Greater ↦ λ p h. ap (λ o. cond (is_eq o) (insert_entry R es k v) (e ∷ remove_entry (is_at (R k)) (insert_entry R es k v))) p ∙ ap (λ r. e ∷ r) (remove-insert total k v es h)
+    ] refl absent
+
+-- a list without the item that was appended
+take_push : {X : Type 0} (xs : List X) (y : X) → take (length (xs ++ y ∷ []) - 1) (xs ++ y ∷ []) ≡ xs
+take_push xs y =
+    let long : length (xs ++ y ∷ []) - 1 ≡ length xs = omega (arith, length_push xs y) in
+    ap (λ n. take n (xs ++ y ∷ [])) long ∙ take_at xs (y ∷ []) (length xs) refl
+
+-- a page that was begun and is taken back leaves all as it was
+pub undone : (old now : PagesState) (block : BlockId) (rows : List (BlockId × Entry)) (numbers : List (BlockId × ℕ)) (pages : List Page) → page_of old block ≡ None → now ≡ begun old block
+    → rows ≡ now.rows → numbers ≡ remove_entry (is_at (block_cmp (first_block block))) now.numbers → pages ≡ take (length now.pages - 1) now.pages → record { rows = rows; numbers = numbers; pages = pages } ≡ old
+undone old now block rows numbers pages absent is r n p =
+    let same_rows : rows ≡ old.rows = r ∙ ap (λ (s : PagesState). s.rows) is in
+    let same_numbers : numbers ≡ old.numbers = n ∙ ap (λ (s : PagesState). remove_entry (is_at (block_cmp (first_block block))) s.numbers) is
+    ∙ remove-insert block_cmp_total (first_block block) (length old.pages) old.numbers absent in
+    let same_pages : pages ≡ old.pages = p ∙ ap (λ (s : PagesState). take (length s.pages - 1) s.pages) is ∙ take_push old.pages _ in
+    λ i. record { rows = same_rows i; numbers = same_numbers i; pages = same_pages i }
+
+-- the rows so far and those to come, once a block is looked up
+pub row_more : (done now rest all : List (BlockId × Entry)) (block : BlockId) (found known : Option Entry) → found ≡ known → done ++ (row_of block found ++ rest) ≡ all → now ≡ done ++ row_of block known → now ++ rest ≡ all
+row_more done now rest all block found known same before is =
+    ap (λ n. n ++ rest) is ∙ append_assoc done (row_of block known) rest ∙ ap (λ o. done ++ (row_of block o ++ rest)) (sym same) ∙ before

@@ -1,0 +1,45 @@
+-- The rows of the pages are the plain table.
+use Rattle.std.proofs.Common.{◌≡◌, Bool, true, false, cond, List, [], ◌∷◌, Option, Some, None, refl, ap, ◌∙◌, unwrap_or}
+use Rattle.std.specs.List.{fold}
+use Rattle.std.specs.Map.{lookup}
+use Rattle.std.specs.BTreeMap.{is_at, insert_entry}
+use Rattle.std.specs.Ordering.{eq_by_cmp}
+use Rattle.xfs_base.specs.declared.block.BlockId.{BlockId}
+use Rattle.xfs_base.specs.declared.entry.Entry.{Entry}
+use Rattle.xfs_base.specs.Blocks.{block_cmp, same_block}
+use Rattle.xfs_base.proofs.BlockOrder.{block_cmp_total, lookup-insert_entry}
+use Rattle.delta_index.specs.Entries.{no_entry}
+use Rattle.delta_index.specs.Index.{entry_of}
+use Rattle.delta_index.proofs.JoinAlgebra.{same_block-eq}
+use Rattle.index_pages.specs.Pages.{PagesState, put, put_at, cleaned, page_of}
+use Rattle.index_pages.specs.Calls.{Call, after_call, after_calls, put_over}
+use Rattle.index_pages.specs.Calls.Call.{Put, Clean}
+
+unwrap_or-cond : (t : Bool) (x : Entry) (o : Option Entry) → unwrap_or (cond t (Some x) o) no_entry ≡ cond t x (unwrap_or o no_entry)
+unwrap_or-cond true x o = refl
+unwrap_or-cond false x o = refl
+
+-- what rows hold of a block once an entry is put
+pub entry_of-insert : (rows : List (BlockId × Entry)) (block : BlockId) (entry : Entry) (q : BlockId) → entry_of (insert_entry block_cmp rows block entry) q ≡ cond (same_block q block) entry (entry_of rows q)
+entry_of-insert rows block entry q =
+    ap (λ o. unwrap_or o no_entry) (lookup-insert_entry block_cmp_total q block entry rows)
+    ∙ unwrap_or-cond (eq_by_cmp block_cmp q block) entry (lookup (is_at (block_cmp q)) rows)
+    ∙ ap (λ t. cond t entry (entry_of rows q)) (same_block-eq q block)
+
+-- the rows of the pages once an entry is put
+pub rows-put : (s : PagesState) (block : BlockId) (entry : Entry) → (put s block entry).rows ≡ insert_entry block_cmp s.rows block entry
+unfolding put
+rows-put s block entry = at_page (page_of s block)
+  where
+    at_page : (o : Option _) → (put_at o s block entry).rows ≡ insert_entry block_cmp s.rows block entry
+    at_page (Some page) = refl
+    at_page None = refl
+
+one_call : (s : PagesState) (call : Call) (q : BlockId) → entry_of (after_call s call).rows q ≡ put_over q (entry_of s.rows q) call
+unfolding cleaned
+one_call s (Put block entry) q = ap (λ r. entry_of r q) (rows-put s block entry) ∙ entry_of-insert s.rows block entry q
+one_call s Clean q = refl
+
+pub entry_of-calls : (s : PagesState) (calls : List Call) (q : BlockId) → entry_of (after_calls s calls).rows q ≡ fold (put_over q) (entry_of s.rows q) calls
+entry_of-calls s [] q = refl
+entry_of-calls s (call ∷ calls) q = entry_of-calls (after_call s call) calls q ∙ ap (λ e. fold (put_over q) e calls) (one_call s call q)

@@ -1,0 +1,96 @@
+-- An index in pages.
+use Rattle.std.specs.Prelude.{ℕ, ◌+◌, true, false, List, [], ◌∷◌, ◌++◌, Option, Some, None, length, map, slice_get, slice_set, if◌then◌else◌}
+use Rattle.std.specs.Map.{lookup}
+use Rattle.std.specs.BTreeMap.{is_at, insert_entry}
+use Rattle.xfs_base.specs.declared.block.BlockId.{BlockId}
+use Rattle.xfs_base.specs.declared.entry.Entry.{Entry}
+use Rattle.xfs_base.specs.Blocks.{block_cmp}
+use Rattle.index_pages.specs.declared.layout.Page.{Page}
+use Rattle.index_pages.specs.Layout.{first_block, blocks_on}
+
+pub record PagesState : Type 0 where
+  -- what was put last at each block, by block: the plain table
+  pub rows : List (BlockId × Entry)
+  -- the number of each page, by its first block
+  pub numbers : List (BlockId × ℕ)
+  -- the pages, in order of number
+  pub pages : List Page
+
+abbrev pub no_pages : PagesState
+no_pages = record { rows = []; numbers = []; pages = [] }
+
+-- the number of a block's page; none where nothing of that page was put
+abbrev pub page_of : PagesState → BlockId → Option ℕ
+page_of s block = lookup (is_at (block_cmp (first_block block))) s.numbers
+
+-- the page of a block, with a change
+abbrev pub changed_page : BlockId → Page
+changed_page block = record { first = first_block block; changed = true }
+
+-- the entry is put on this page, which is there
+abbrev pub put_on : PagesState → ℕ → BlockId → Entry → PagesState
+put_on s page block entry = record {
+  rows = insert_entry block_cmp s.rows block entry;
+  numbers = s.numbers;
+  pages = slice_set s.pages page (changed_page block);
+}
+
+-- the page of a block comes to be, with the next number
+abbrev pub begun : PagesState → BlockId → PagesState
+begun s block = record {
+  rows = s.rows;
+  numbers = insert_entry block_cmp s.numbers (first_block block) (length s.pages);
+  pages = s.pages ++ changed_page block ∷ [];
+}
+
+-- the entry is the first of its page, which gets the next number
+abbrev pub put_anew : PagesState → BlockId → Entry → PagesState
+put_anew s block entry = record {
+  rows = insert_entry block_cmp s.rows block entry;
+  numbers = insert_entry block_cmp s.numbers (first_block block) (length s.pages);
+  pages = s.pages ++ changed_page block ∷ [];
+}
+
+-- the entry is put on this page, or on a new one
+abbrev pub put_at : Option ℕ → PagesState → BlockId → Entry → PagesState
+put_at (Some page) s block entry = put_on s page block entry
+put_at None s block entry = put_anew s block entry
+
+-- the entry is put at its block, and the block's page has changed
+unfoldable pub put : PagesState → BlockId → Entry → PagesState
+put s block entry = put_at (page_of s block) s block entry
+
+-- the page, without a change
+abbrev pub clean_page : Page → Page
+clean_page page = record { first = page.first; changed = false }
+
+-- no page has changed
+unfoldable pub cleaned : PagesState → PagesState
+cleaned s = record { rows = s.rows; numbers = s.numbers; pages = map clean_page s.pages }
+
+-- the numbers of the pages that changed, where the first of these has this number
+abbrev pub changed_from : ℕ → List Page → List ℕ
+changed_from number [] = []
+changed_from number (page ∷ pages) = if page.changed then number ∷ changed_from (number + 1) pages else changed_from (number + 1) pages
+
+-- the row of a block, where there is one
+abbrev pub row_of : BlockId → Option Entry → List (BlockId × Entry)
+row_of block None = []
+row_of block (Some entry) = (block, entry) ∷ []
+
+-- what rows have of these blocks, in their order
+abbrev pub held : List (BlockId × Entry) → List BlockId → List (BlockId × Entry)
+held rows [] = []
+held rows (block ∷ blocks) = row_of block (lookup (is_at (block_cmp block)) rows) ++ held rows blocks
+
+-- the first block of the page at a place
+abbrev pub first_at : Option Page → BlockId
+first_at None = record { ino = record { 0 = 0 }; blk = 0 }
+first_at (Some page) = page.first
+
+abbrev pub first_of : List Page → ℕ → BlockId
+first_of pages number = first_at (slice_get pages number)
+
+-- what was put on a page, by block
+unfoldable pub page_rows : PagesState → ℕ → List (BlockId × Entry)
+page_rows s page = held s.rows (blocks_on (first_of s.pages page))

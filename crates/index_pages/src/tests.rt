@@ -1,0 +1,43 @@
+//! The calls with ample memory, against values from outside.
+use crate::Pages;
+use xfs_base::{BlockId, Entry, Ino, Mem};
+
+fn block(ino: u32, blk: u32) -> BlockId {
+    BlockId { ino: Ino(ino), blk }
+}
+
+fn entry(ver: u64) -> Entry {
+    Entry {
+        ver,
+        hop: 0,
+        place: None,
+    }
+}
+
+#[test]
+fn pages_are_numbered_by_first_put_and_named_when_they_change(rt: HostRuntime) -> Mem<()> {
+    let alloc = rt.alloc();
+    let mut pages = Pages::new(alloc);
+    for (ino, blk, page, ver) in [
+        (5, 0, 0, 1u64),
+        (5, 20, 1, 2),
+        (5, u32::MAX, 0, 3),
+        (9, 0, 2, 4),
+    ] {
+        pages.put(alloc, block(ino, blk), entry(ver))?;
+        assert!(rt; pages.page_of(block(ino, blk)) == Some(page), "{ino} {blk}");
+    }
+    assert!(rt; pages.count() == 3 && pages.page_of(block(9, 16)).is_none());
+    assert!(rt; pages.changed(alloc)?.as_slice() == [0, 1, 2].as_slice());
+    pages.clean();
+    pages.put(alloc, block(5, 79), entry(5))?;
+    assert!(rt; pages.changed(alloc)?.as_slice() == [1].as_slice());
+    let rows = pages.rows(alloc, 0)?;
+    let wanted = [(block(5, 0), entry(1)), (block(5, u32::MAX), entry(3))];
+    assert!(rt; rows.as_slice() == wanted.as_slice());
+    let rows = pages.rows(alloc, 1)?;
+    let wanted = [(block(5, 20), entry(2)), (block(5, 79), entry(5))];
+    assert!(rt; rows.as_slice() == wanted.as_slice());
+    assert!(rt; pages.get(block(5, 79)).ver == 5 && pages.get(block(5, 80)).ver == 0);
+    Ok(())
+}
