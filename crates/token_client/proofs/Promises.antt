@@ -144,16 +144,16 @@ module _ (opens : BlockId → Type 0) (s : TokensState) (p : IsSound s) where
   }
 
 -- each of a list
-abbrev Each : {A : Type 0} → (A → Type 0) → List A → Type 0
+abbrev pub Each : {A : Type 0} → (A → Type 0) → List A → Type 0
 Each P [] = Unit {0}
 Each P (x ∷ xs) = P x × Each P xs
 
-Each-weaker : {A : Type 0} (P Q : A → Type 0) → ((x : A) → P x → Q x) → (xs : List A) → Each P xs → Each Q xs
+pub Each-weaker : {A : Type 0} (P Q : A → Type 0) → ((x : A) → P x → Q x) → (xs : List A) → Each P xs → Each Q xs
 Each-weaker P Q f [] h = tt
 Each-weaker P Q f (x ∷ xs) h = (f x h.0, Each-weaker P Q f xs h.1)
 
 -- the table answers at each block of these entries with the entry's value
-abbrev Agrees : List (BlockId × Held) → List (BlockId × Held) → Type 0
+abbrev pub Agrees : List (BlockId × Held) → List (BlockId × Held) → Type 0
 Agrees table es = Each (λ e. held_of table e.0 ≡ e.1) es
 
 agrees-more : (d : BlockId × Held) (table es : List (BlockId × Held)) → AllByRecursion (λ b. block_cmp d.0 b ≡ Less) (keys_of es) → Agrees table es → Agrees (d ∷ table) es
@@ -163,7 +163,7 @@ agrees-more d table (e ∷ es) below h =
     (ap (λ t. unwrap_or (cond t (Some d.1) (lookup (is_at (block_cmp e.0)) table)) unknown) apart ∙ h.0, agrees-more d table es below.1 h.1)
 
 -- a table in order answers with its own entries
-agrees-itself : (es : List (BlockId × Held)) → InOrder es → Agrees es es
+pub agrees-itself : (es : List (BlockId × Held)) → InOrder es → Agrees es es
 unfolding IsStrictlySortedBy
 agrees-itself [] s = tt
 agrees-itself (e ∷ es) s = (
@@ -172,10 +172,10 @@ agrees-itself (e ∷ es) s = (
 )
 
 -- what is found to be fetched is being fetched
-abbrev IsFetched : List (BlockId × Held) → ℕ → BlockId → Type 0
+abbrev pub IsFetched : List (BlockId × Held) → ℕ → BlockId → Type 0
 IsFetched table slot b = (is_in_slot slot b ≡ true) × (is_some (held_of table b).fetch ≡ true)
 
-fetched-facts : (table : List (BlockId × Held)) (slot : ℕ) (es : List (BlockId × Held)) → Agrees table es → Each (IsFetched table slot) (fetched_in slot es)
+pub fetched-facts : (table : List (BlockId × Held)) (slot : ℕ) (es : List (BlockId × Held)) → Agrees table es → Each (IsFetched table slot) (fetched_in slot es)
 fetched-facts table slot [] h = tt
 fetched-facts table slot (e ∷ es) h =
     by_test (λ (rows : List (BlockId × Held)). Each (IsFetched table slot) (keys_of rows)) (is_in_slot slot e.0 && is_some e.1.fetch) (e ∷ filter (λ e. is_in_slot slot e.0 && is_some e.1.fetch) es) (filter (λ e. is_in_slot slot e.0 && is_some e.1.fetch) es)

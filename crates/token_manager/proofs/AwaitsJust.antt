@@ -47,7 +47,7 @@ kept_put true x o apart = absurd (apart refl)
 kept_put false x o apart = omega arith
 
 -- of other blocks nobody has less than before
-more_elsewhere : (bs : List (Holder × Bool)) (want : Wanted) (q : Holder) → (q.block ≡ want.block → ⊥) → share (belief bs q) ≤ share (belief (want_met bs want) q)
+pub more_elsewhere : (bs : List (Holder × Bool)) (want : Wanted) (q : Holder) → (q.block ≡ want.block → ⊥) → share (belief bs q) ≤ share (belief (want_met bs want) q)
 more_elsewhere bs want q other =
     let h = holder want.block want.client in
     let apart : eq_by_cmp holder_cmp q h ≡ true → ⊥ = apart_test q h (λ p. other (ap (λ (x : Holder). x.block) p)) in
@@ -62,7 +62,7 @@ more_elsewhere bs want q other =
     ]
 
 -- nobody but the giver has less than before
-more_others : (bs : List (Holder × Bool)) (h q : Holder) (keep : Bool) → IsStrictlySortedBy holder_cmp (keys_of bs) → (q ≡ h → ⊥) → share (belief bs q) ≤ share (belief (given_up bs h keep) q)
+pub more_others : (bs : List (Holder × Bool)) (h q : Holder) (keep : Bool) → IsStrictlySortedBy holder_cmp (keys_of bs) → (q ≡ h → ⊥) → share (belief bs q) ≤ share (belief (given_up bs h keep) q)
 more_others bs h q true sorted apart =
     elim (is_some (belief bs h)) as (λ t. is_some (belief bs h) ≡ t → share (belief bs q) ≤ share (belief (cond t (set_value (is_at (holder_cmp h)) bs false) bs) q)) [
       | true ↦ λ some. subst (λ o. share (belief bs q) ≤ share o) (sym (disowned bs h q some)) (kept_put (is_at (holder_cmp h) q) (Some false) (belief bs q) (λ same. apart (sym (tells_apart holder_cmp_exact h q same))))
@@ -125,11 +125,11 @@ others_from (e ∷ es) block asking c owners sorted has =
     at false fails h rest = later (rest h)
 
 -- no client twice
-abbrev Once : List ℕ → Type 0
+abbrev pub Once : List ℕ → Type 0
 Once [] = Unit {0}
 Once (x ∷ xs) = (Contains xs x → ⊥) × Once xs
 
-others_once : (bs : List (Holder × Bool)) (block : BlockId) (asking : ℕ) (owners : Bool) → IsStrictlySortedBy holder_cmp (keys_of bs) → Once (others bs block asking owners)
+pub others_once : (bs : List (Holder × Bool)) (block : BlockId) (asking : ℕ) (owners : Bool) → IsStrictlySortedBy holder_cmp (keys_of bs) → Once (others bs block asking owners)
 unfolding IsStrictlySortedBy
 others_once [] block asking owners sorted = tt
 others_once (e ∷ es) block asking owners sorted =
@@ -160,7 +160,7 @@ noted_head : (t : Bool) (a : Awaited) (end c : ℕ) → ((cond t (record a { end
 noted_head true a end c h = absurd (let e : Some end ≡ None = h.1 in cc)
 noted_head false a end c h = (refl, h)
 
-noted-awaits : (awaited : List Awaited) (client : ℕ) (stamp : Stamp) (end c : ℕ) → Awaits (noted awaited client stamp end) c → Awaits awaited c
+pub noted-awaits : (awaited : List Awaited) (client : ℕ) (stamp : Stamp) (end c : ℕ) → Awaits (noted awaited client stamp end) c → Awaits awaited c
 noted-awaits [] client stamp end c waits = waits
 noted-awaits (a ∷ rest) client stamp end c waits = ⊎_elim (λ h. inl (noted_head (answers client stamp a) a end c h).1) (λ r. inr (noted-awaits rest client stamp end c r)) waits
 
@@ -173,14 +173,14 @@ noted-once (a ∷ rest) client stamp end once = (
 )
 
 -- an answer is to an unanswered recall of the client
-answered : (client : ℕ) (stamp : Stamp) (a : Awaited) → answers client stamp a ≡ true → (a.client ≡ client) × (a.end ≡ None)
+pub answered : (client : ℕ) (stamp : Stamp) (a : Awaited) → answers client stamp a ≡ true → (a.client ≡ client) × (a.end ≡ None)
 answered client stamp a h = (equal_numbers a.client client (grind (arith, nat_tests)), unnamed a.end (grind (arith, nat_tests)))
   where
     unnamed : (o : Option ℕ) → is_some o ≡ false → o ≡ None
     unnamed None none = refl
     unnamed (Some x) none = absurd (cc)
 
-any_awaits : (awaited : List Awaited) (client : ℕ) (stamp : Stamp) → list_any (answers client stamp) awaited ≡ true → Awaits awaited client
+pub any_awaits : (awaited : List Awaited) (client : ℕ) (stamp : Stamp) → list_any (answers client stamp) awaited ≡ true → Awaits awaited client
 any_awaits [] client stamp any = absurd (cc)
 any_awaits (a ∷ rest) client stamp any = at (answers client stamp a) refl any (any_awaits rest client stamp)
   where

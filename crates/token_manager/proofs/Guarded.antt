@@ -64,7 +64,7 @@ sorted-want_met bs want sorted =
       | false ↦ elim (is_some (belief bs h)) as (λ t. IsInOrder (cond t bs (insert_entry holder_cmp bs h false))) [ true ↦ sorted | false ↦ sorted-put bs h false sorted ]
     ]
 
-sorted-given_up : (bs : List (Holder × Bool)) (h : Holder) (keep : Bool) → IsInOrder bs → IsInOrder (given_up bs h keep)
+pub sorted-given_up : (bs : List (Holder × Bool)) (h : Holder) (keep : Bool) → IsInOrder bs → IsInOrder (given_up bs h keep)
 sorted-given_up bs h true sorted =
     elim (is_some (belief bs h)) as (λ t. IsInOrder (cond t (set_value (is_at (holder_cmp h)) bs false) bs)) [
       | true ↦ subst (IsStrictlySortedBy holder_cmp) (sym (keys-set_value (is_at (holder_cmp h)) bs false)) sorted
@@ -92,7 +92,7 @@ with_asker mine was other before want (inl a) b c d = omega arith
 with_asker mine was other before want (inr a) b c d = omega arith
 
 -- the others leave the asker what it wants
-abbrev LeavesRoom : List (Holder × Bool) → Wanted → Type 0
+abbrev pub LeavesRoom : List (Holder × Bool) → Wanted → Type 0
 LeavesRoom bs want = (c : ℕ) → (c ≡ want.client → ⊥) → share_of bs want.block c + wanted_share want.mode ≤ 2
 
 alone-asker : (bs : List (Holder × Bool)) (want : Wanted) (block : BlockId) (c d : ℕ) → OwnsAlone bs → LeavesRoom bs want → (c ≡ d → ⊥) → holder block c ≡ holder want.block want.client → share_of (want_met bs want) block c + share_of (want_met bs want) block d ≤ 2
@@ -136,7 +136,7 @@ pub equal_numbers : (c d : ℕ) → (c == d) ≡ true → c ≡ d
 equal_numbers c d same = grind (arith, nat_tests)
 
 -- an answer notes no recall of another client
-awaits-noted : (awaited : List Awaited) (client : ℕ) (stamp : Stamp) (end c : ℕ) → (c ≡ client → ⊥) → Awaits awaited c → Awaits (noted awaited client stamp end) c
+pub awaits-noted : (awaited : List Awaited) (client : ℕ) (stamp : Stamp) (end c : ℕ) → (c ≡ client → ⊥) → Awaits awaited c → Awaits (noted awaited client stamp end) c
 awaits-noted [] client stamp end c apart waits = waits
 awaits-noted (a ∷ rest) client stamp end c apart waits =
     ⊎_elim
@@ -151,7 +151,7 @@ awaits-noted (a ∷ rest) client stamp end c apart waits =
     of_client answered = grind (arith, nat_tests)
 
 -- nothing is awaited by a want that need wait no longer
-ready_none : (applied : List ℕ) (awaited : List Awaited) (c : ℕ) → is_ready applied awaited ≡ true → Awaits awaited c → ⊥
+pub ready_none : (applied : List ℕ) (awaited : List Awaited) (c : ℕ) → is_ready applied awaited ≡ true → Awaits awaited c → ⊥
 ready_none applied [] c ready waits = waits
 ready_none applied (a ∷ rest) c ready waits =
     ⊎_elim
@@ -159,10 +159,10 @@ ready_none applied (a ∷ rest) c ready waits =
     (ready_none applied rest c (and_second (is_applied applied a.client a.end) (is_ready applied rest) ready))
     waits
 
-not_more : (n : ℕ) → (2 < n → ⊥) → n ≤ 2
+pub not_more : (n : ℕ) → (2 < n → ⊥) → n ≤ 2
 not_more n most = elim (nat_lt 2 n) as (λ t. nat_lt 2 n ≡ t → n ≤ 2) [ true ↦ λ more. absurd (most (grind (arith, nat_tests))) | false ↦ λ _. grind (arith, nat_tests) ] refl
 
-no_first : (cs : List ℕ) (c : ℕ) → (length cs == 0) ≡ true → Contains cs c → ⊥
+pub no_first : (cs : List ℕ) (c : ℕ) → (length cs == 0) ≡ true → Contains cs c → ⊥
 no_first [] c none has = contains_nothing c has
 no_first (x ∷ xs) c none has = let zero_long : length (x ∷ xs) ≡ 0 = equal_numbers (length (x ∷ xs)) 0 none in absurd (omega arith)
 
@@ -208,7 +208,7 @@ sound-put s block job turn mine all sound = record {
     at false b found is = sound.awaits b found is
 
 -- a want no longer waits
-sound-let_go : (s : SlotState) (block : BlockId) → Sound s → Sound (let_go s block)
+pub sound-let_go : (s : SlotState) (block : BlockId) → Sound s → Sound (let_go s block)
 sound-let_go s block sound = record {
   sorted = sound.sorted;
   waiting = waiting-removed s.jobs block sound.waiting;
@@ -217,7 +217,7 @@ sound-let_go s block sound = record {
 }
 
 -- a client gave a block up
-sound-given : (s : SlotState) (want : Wanted) (client : ℕ) (block : BlockId) → Sound s → Sound (given s want client block)
+pub sound-given : (s : SlotState) (want : Wanted) (client : ℕ) (block : BlockId) → Sound s → Sound (given s want client block)
 sound-given s want client block sound =
     let h = holder block client in
     let keep = not (is_own want.mode) in
@@ -229,7 +229,7 @@ sound-given s want client block sound =
     }
 
 -- after the answer the others are still awaited
-awaits-given : (s : SlotState) (job : Job) (client : ℕ) (block : BlockId) (stamp : Stamp) (end : ℕ) → Sound s → job_at s.jobs block ≡ Some job
+pub awaits-given : (s : SlotState) (job : Job) (client : ℕ) (block : BlockId) (stamp : Stamp) (end : ℕ) → Sound s → job_at s.jobs block ≡ Some job
     → AwaitsAll (given s job.want client block).beliefs (record { want = job.want; awaited = noted job.awaited client stamp end })
 awaits-given s job client block stamp end sound is c apart more =
     let h = holder block client in
@@ -242,7 +242,7 @@ awaits-given s job client block stamp end sound is c apart more =
     clash n more most = omega arith
 
 -- who is not awaited leaves room
-leaves_room : (bs : List (Holder × Bool)) (applied : List ℕ) (job : Job) → AwaitsAll bs job → is_ready applied job.awaited ≡ true → LeavesRoom bs job.want
+pub leaves_room : (bs : List (Holder × Bool)) (applied : List ℕ) (job : Job) → AwaitsAll bs job → is_ready applied job.awaited ≡ true → LeavesRoom bs job.want
 leaves_room bs applied job all ready c apart = not_more _ (λ more. ready_none applied job.awaited c ready (all c apart more))
 
 -- ---- deltas
