@@ -1,0 +1,511 @@
+-- What each change of a block is by a step of the abstract protocol: one lemma for each change.
+use Rattle.std.proofs.Common.{◌≡◌, ℕ, ◌+◌, ◌==◌, ◌≤◌, ◌<◌, Bool, true, false, cond, ◌&&◌, List, [], ◌∷◌, Option, Some, None, is_none, refl, sym, ap, subst, ◌∙◌, inl, inr, arith, min}
+use Rattle.std.proofs.lemmas.Bool.Decides.{nat_tests}
+use Rattle.xfs_base.specs.declared.entry.Place.{Place}
+use Rattle.xfs_base.specs.declared.token.Mode.{Mode}
+use Rattle.xfs_base.specs.declared.token.Mode.TheVariants.{Nothing, Copy, Own}
+use Rattle.xfs_base.specs.declared.token.Stamp.{Stamp}
+use Rattle.token_client.specs.declared.held.Fetch.{Fetch}
+use Rattle.token_client.specs.declared.held.Held.{Held}
+use Rattle.token_client.specs.declared.held.Wanted.{Wanted}
+use Rattle.token_client.specs.declared.output.Out.{Out}
+use Rattle.token_client.specs.declared.output.Out.TheVariants.{Want, Gave}
+use Rattle.token_client.specs.Held.{gives_after, is_answer, is_wanted, is_dirty, asked, asked_again, owned, copied, fetched_from, fetch_ended, written, let_go, unfetched, promise_dropped, put_off, given_up}
+use Rattle.token_protocol.specs.Basics.{put}
+use Rattle.token_protocol.specs.Client.{Client}
+use Rattle.token_protocol.specs.Entry as abstract_entry
+use Rattle.token_protocol.specs.Premises.{Premise, SettledEnd, PlaceRead, IsSupplied}
+use Rattle.token_protocol.specs.Stamps.{Node, Seen, Exceeds}
+use Rattle.token_protocol.specs.Step.{Step}
+use Rattle.token_protocol.specs.Step.Step.{Asks, AsksAgain, DropsWant, DropsFetch, WritesFirst, Declines, TakesAbsent, TakesSupply, TakesPlace, Fetches, Writes, Evicts, Gives, GivesAgain, Promises}
+use Rattle.token_protocol.specs.World.{World}
+use Rattle.token_protocol.specs.Asking.{asks, asks_again, drops_want, drops_fetch}
+use Rattle.token_protocol.specs.Taking.{MayTake, writes_first, declines, takes_value, takes_place, fetches}
+use Rattle.token_protocol.specs.Using.{writes, evicts}
+use Rattle.token_protocol.specs.Giving.{gives, gives_again}
+use Rattle.token_protocol.specs.Takeover.{promises}
+use Rattle.token_protocol.proofs.StampsSeen.{taken, equal, stamped, promised}
+use Rattle.token_tie.specs.Seen.{WantShown, FetchShown, SentOffer, SentRecall, offer_seen, recall_seen, Setting, Local, Shows, rank, kept, located, stamp_seen, node_seen}
+use Rattle.token_tie.specs.Taken.{Goes, AllSaid}
+use Rattle.token_tie.proofs.Frames.{goes_by, goes_saying}
+use Rattle.xfs_base.specs.Modes.{is_held, is_own, same_mode}
+use Rattle.xfs_base.specs.Stamps.{is_later}
+use Rattle.xfs_base.proofs.Booleans.{and_first, and_second, by_test, contrary}
+
+-- ---- small facts
+
+put_back : (f : ℕ → Client) (c : ℕ) → put f c (f c) ≡ f
+put_back f c = λ i d. one d i
+  where
+    one : (d : ℕ) → put f c (f c) d ≡ f d
+    one d = grind (arith, nat_tests)
+
+some_rank : (mode : Mode) → is_held mode ≡ true → 0 < rank mode
+some_rank Nothing h = contrary h
+some_rank Copy h = omega arith
+some_rank Own h = omega arith
+
+most_rank : (mode : Mode) → rank mode ≤ 2
+most_rank Nothing = omega arith
+most_rank Copy = omega arith
+most_rank Own = omega arith
+
+own_rank : (mode : Mode) → is_own mode ≡ true → rank mode ≡ 2
+own_rank Nothing h = contrary h
+own_rank Copy h = contrary h
+own_rank Own h = refl
+
+same_rank : (a b : Mode) → same_mode a b ≡ true → rank a ≡ rank b
+same_rank Nothing Nothing h = refl
+same_rank Nothing Copy h = contrary h
+same_rank Nothing Own h = contrary h
+same_rank Copy Nothing h = contrary h
+same_rank Copy Copy h = refl
+same_rank Copy Own h = contrary h
+same_rank Own Nothing h = contrary h
+same_rank Own Copy h = contrary h
+same_rank Own Own h = refl
+
+pub equal_numbers : (n m : ℕ) → (n == m) ≡ true → n ≡ m
+equal_numbers n m h = grind (arith, nat_tests)
+
+-- a stamp that is later exceeds
+pub later_exceeds : (s t : Stamp) → is_later s t ≡ true → Exceeds (stamp_seen s) (stamp_seen t)
+later_exceeds s t h = grind (arith, nat_tests)
+
+-- an open want that an answer names
+wanted_rank : (o : Option Wanted) (req : ℕ) (mode : Mode) (want request : ℕ) → is_wanted o req mode ≡ true → WantShown o want request → (want ≡ rank mode) × (request ≡ req) × (0 < rank mode)
+wanted_rank None req mode want request named shown = contrary named
+wanted_rank (Some v) req mode want request named shown =
+    let same : rank v.mode ≡ rank mode = same_rank v.mode mode (and_second (v.req == req) (same_mode v.mode mode) named) in
+    let some : 0 < rank v.mode = some_rank v.mode shown.2 in
+    (shown.0 ∙ same, shown.1 ∙ equal_numbers v.req req (and_first (v.req == req) (same_mode v.mode mode) named), omega arith)
+
+-- the same stamp and promise are seen of a client that differs elsewhere
+pub restamped : (n : Node) (x y : Client) (e : ℕ) → y.promised ≡ x.promised → y.stamp ≡ x.stamp → Seen n x e → Seen n y e
+restamped n x y e p q s = record { promised = p ∙ s.promised; past = s.past; now = λ h. q ∙ s.now h; old = λ h. q ∙ s.old h }
+
+given_rank : (mode : Mode) (keep t : Bool) → (keep && is_held mode) ≡ t → min (rank mode) (kept keep) ≡ cond t 1 0
+given_rank mode keep true h = one mode keep h
+  where
+    one : (mode : Mode) (keep : Bool) → (keep && is_held mode) ≡ true → min (rank mode) (kept keep) ≡ 1
+    one Nothing true h = contrary h
+    one Copy true h = refl
+    one Own true h = refl
+    one mode false h = contrary h
+given_rank mode keep false h = none mode keep h
+  where
+    none : (mode : Mode) (keep : Bool) → (keep && is_held mode) ≡ false → min (rank mode) (kept keep) ≡ 0
+    none Nothing true h = refl
+    none Copy true h = contrary (sym h)
+    none Own true h = contrary (sym h)
+    none Nothing false h = refl
+    none Copy false h = refl
+    none Own false h = refl
+
+unfetching : (o : Option Fetch) (fetching : ℕ) (entry : abstract_entry.Entry) → is_none o ≡ true → FetchShown o fetching entry → FetchShown o 0 entry
+unfetching None fetching entry none shown = refl
+unfetching (Some f) fetching entry none shown = contrary none
+
+module _ (logs : Bool) (g : Setting) (end : ℕ) (w : World) where
+  abbrev here : Client
+  here = w.client g.client
+
+  abbrev To : Local → List Out → Type 0
+  To l outs = Goes logs g end w l outs
+
+  abbrev Shown : Local → Type 0
+  Shown l = Shows g w.epoch l here
+
+  pub drops_want-goes : (l : Local) → Shown l → To (record l { held = record l.held { want = None } }) []
+  drops_want-goes l s = goes_by logs g end w (drops_want w g.client) _ [] (record here { want = 0 }) (DropsWant g.client) refl refl (λ p is. is) (λ y is. is)
+      (record {
+        client = s.client;
+        serving = s.serving;
+        boot = s.boot;
+        incarnation = s.incarnation;
+        stamps = restamped _ here _ w.epoch refl refl s.stamps;
+        mode = s.mode;
+        counted = s.counted;
+        want = refl;
+        version = s.version;
+        settled = s.settled;
+        value = s.value;
+        fetch = s.fetch;
+      }) tt
+
+  pub drops_fetch-goes : (l : Local) → Shown l → To (record l { held = unfetched l.held }) []
+  drops_fetch-goes l s = goes_by logs g end w (drops_fetch w g.client) _ [] (record here { fetching = 0 }) (DropsFetch g.client) refl refl (λ p is. is) (λ y is. is)
+      (record {
+        client = s.client;
+        serving = s.serving;
+        boot = s.boot;
+        incarnation = s.incarnation;
+        stamps = restamped _ here _ w.epoch refl refl s.stamps;
+        mode = s.mode;
+        counted = s.counted;
+        want = s.want;
+        version = s.version;
+        settled = s.settled;
+        value = s.value;
+        fetch = refl;
+      }) tt
+
+  -- a fetch is let go with a recall that was put off
+  pub drops_promised-goes : (l : Local) → Shown l → To (record l { held = promise_dropped l.held }) []
+  drops_promised-goes l s =
+      goes_by logs g end w (drops_fetch w g.client) _ [] (record here { fetching = 0 }) (DropsFetch g.client) refl refl (λ p is. is) (λ y is. is)
+      (record {
+        client = s.client;
+        serving = s.serving;
+        boot = s.boot;
+        incarnation = s.incarnation;
+        stamps = restamped _ here _ w.epoch refl refl s.stamps;
+        mode = s.mode;
+        counted = s.counted;
+        want = s.want;
+        version = s.version;
+        settled = s.settled;
+        value = s.value;
+        fetch = refl;
+      })
+      tt
+
+  -- a want is opened, whether or not one was open
+  pub asks-goes : (l : Local) (mode : Mode) → Shown l → is_held mode ≡ true → rank l.held.mode < rank mode → Premise logs (SettledEnd w g.client end)
+      → To (record l { req = l.req + 1; held = asked l.held (l.req + 1) mode }) (Want g.block (l.req + 1) 0 mode ∷ [])
+  asks-goes l mode s some less settled =
+      let known = s.mode in let counted = s.counted in
+      goes_by logs g end w (asks w g.client (rank mode) (l.req + 1) end) _ _ (record here { want = rank mode; request = l.req + 1 })
+      (Asks g.client (rank mode) (l.req + 1) end
+      (record { client = s.client; serving = s.serving; some = some_rank mode some; rank = most_rank mode; less = omega arith; unused = omega arith }) settled)
+      refl refl (λ p is. inr is) (λ y is. is)
+      (record {
+        client = s.client;
+        serving = s.serving;
+        boot = s.boot;
+        incarnation = s.incarnation;
+        stamps = restamped _ here _ w.epoch refl refl s.stamps;
+        mode = s.mode;
+        counted = omega arith;
+        want = (refl, refl, some);
+        version = s.version;
+        settled = s.settled;
+        value = s.value;
+        fetch = s.fetch;
+      }) (λ is. inl (ap (λ i. record { client = g.client; incarnation = i; request = l.req + 1; mode = rank mode; end = end }) (sym s.incarnation)), tt)
+
+  -- an open want is sent again
+  pub asks_again-goes : (l : Local) (v : Wanted) → Shown l → l.held.want ≡ Some v → Premise logs (SettledEnd w g.client end) → To (record l { held = asked_again l.held v }) (Want g.block v.req (v.again + 1) v.mode ∷ [])
+  asks_again-goes l v s is settled =
+      let open_ : WantShown (Some v) here.want here.request = subst (λ o. WantShown o here.want here.request) is s.want in
+      let most = some_rank v.mode open_.2 in let named = open_.0 in
+      goes_by logs g end w (asks_again w g.client end) _ _ here (AsksAgain g.client end (record { open_want = omega arith }) settled)
+      (sym (put_back w.client g.client)) refl (λ p here. inr here) (λ y here. here)
+      (record {
+        client = s.client;
+        serving = s.serving;
+        boot = s.boot;
+        incarnation = s.incarnation;
+        stamps = s.stamps;
+        mode = s.mode;
+        counted = s.counted;
+        want = open_;
+        version = s.version;
+        settled = s.settled;
+        value = s.value;
+        fetch = s.fetch;
+      }) (λ same. inl (λ i. record { client = g.client; incarnation = sym s.incarnation i; request = sym open_.1 i; mode = sym open_.0 i; end = end }), tt)
+
+  -- ---- offers
+
+  -- the tests of a client on an answer to its want
+  abbrev pub meets : Local → Stamp → ℕ → ℕ → Mode → Bool
+  meets l stamp inc req mode = (l.promised == stamp.epoch) && (inc == l.inc) && is_answer l.held stamp req mode
+
+  -- they show that the offer may be taken, and is of the reigning epoch
+  pub taking : (l : Local) (stamp : Stamp) (inc req : ℕ) (mode : Mode) (entry : abstract_entry.Entry) → Shown l → w.epoch ≤ here.promised → SentOffer g.client w stamp inc req mode entry → meets l stamp inc req mode ≡ true
+      → (stamp.epoch ≡ w.epoch) × MayTake w (offer_seen g.client stamp inc req mode entry) (rank mode)
+  taking l stamp inc req mode entry s high sent t =
+      let two = and_first ((l.promised == stamp.epoch) && (inc == l.inc)) (is_answer l.held stamp req mode) t in
+      let answer = and_second ((l.promised == stamp.epoch) && (inc == l.inc)) (is_answer l.held stamp req mode) t in
+      let same : stamp.epoch ≡ l.promised = sym (equal_numbers l.promised stamp.epoch (and_first (l.promised == stamp.epoch) (inc == l.inc) two)) in
+      let boot : inc ≡ l.inc = equal_numbers inc l.inc (and_second (l.promised == stamp.epoch) (inc == l.inc) two) in
+      let named = and_first (is_wanted l.held.want req mode) (is_later stamp l.held.stamp) answer in
+      let above = later_exceeds stamp l.held.stamp (and_second (is_wanted l.held.want req mode) (is_later stamp l.held.stamp) answer) in
+      let seen = taken (node_seen l.promised l.held.stamp) here w.epoch (stamp_seen stamp) s.stamps high sent.low sent.some same above in
+      let want = wanted_rank l.held.want req mode here.want here.request named s.want in (
+        seen.1,
+        record {
+          sent = sent.offered seen.1;
+          live = record { heard = seen.0; newer = seen.2; wanted = want.0; incarnation = s.incarnation ∙ sym s.boot ∙ sym boot; request = want.1; some = want.2 };
+          rank = refl;
+        },
+      )
+
+  -- the stamp of what was taken is seen
+  stamping : (l : Local) (stamp : Stamp) (x : Client) → Shown l → stamp.epoch ≡ w.epoch → x.promised ≡ here.promised → x.stamp ≡ stamp.turn → Seen (node_seen l.promised stamp) x w.epoch
+  stamping l stamp x s reigns p q = restamped (node_seen l.promised stamp) (record here { stamp = stamp.turn }) x w.epoch p q (stamped (node_seen l.promised l.held.stamp) here w.epoch (stamp_seen stamp) s.stamps reigns)
+
+  -- ready to run on
+  abbrev Run : List Out → Type 0
+  Run outs = (v : World) → AllSaid g end v outs
+
+  module _ (l : Local) (stamp : Stamp) (inc req : ℕ) (outs : List Out) (s : Shown l) (run : Run outs) (reigns : stamp.epoch ≡ w.epoch) where
+    -- a copy of an absent version
+    pub absent-goes : (ver hop : ℕ) → MayTake w (offer_seen g.client stamp inc req Copy (located ver hop None)) 1 → To (record l { held = copied l.held stamp ver None }) outs
+    absent-goes ver hop may =
+        let p = offer_seen g.client stamp inc req Copy (located ver hop None) in
+        goes_by logs g end w (takes_value w p 0) _ outs _ (TakesAbsent p may (record { unplaced = refl })) refl refl (λ p is. is) (λ y is. is)
+        (record {
+          client = s.client;
+          serving = s.serving;
+          boot = s.boot;
+          incarnation = s.incarnation;
+          stamps = stamping l stamp _ s reigns refl refl;
+          mode = refl;
+          counted = s.counted;
+          want = refl;
+          version = refl;
+          settled = refl;
+          value = sym g.absent;
+          fetch = refl;
+        }) (run (takes_value w p 0))
+
+    -- a copy that another client supplied
+    pub supplied-goes : (ver hop : ℕ) (place : Option Place) (value : Option (List ℕ)) → MayTake w (offer_seen g.client stamp inc req Copy (located ver hop place)) 1 → Premise logs (IsSupplied w (offer_seen g.client stamp inc req Copy (located ver hop place)) (g.number value))
+        → To (record l { held = copied l.held stamp ver value }) outs
+    supplied-goes ver hop place value may is =
+        let p = offer_seen g.client stamp inc req Copy (located ver hop place) in
+        goes_by logs g end w (takes_value w p (g.number value)) _ outs _ (TakesSupply p (g.number value) may is) refl refl (λ p is. is) (λ y is. is)
+        (record {
+          client = s.client;
+          serving = s.serving;
+          boot = s.boot;
+          incarnation = s.incarnation;
+          stamps = stamping l stamp _ s reigns refl refl;
+          mode = refl;
+          counted = s.counted;
+          want = refl;
+          version = refl;
+          settled = refl;
+          value = refl;
+          fetch = refl;
+        }) (run (takes_value w p (g.number value)))
+
+    -- a place, which is read first
+    pub place-goes : (ver hop : ℕ) (place : Place) → MayTake w (offer_seen g.client stamp inc req Copy (located ver hop (Some place))) 1 → To (record l { held = fetched_from l.held stamp ver place }) outs
+    place-goes ver hop place may =
+        let p = offer_seen g.client stamp inc req Copy (located ver hop (Some place)) in
+        goes_by logs g end w (takes_place w p) _ outs _ (TakesPlace p may (record { placed = omega arith })) refl refl (λ p is. is) (λ y is. is)
+        (record {
+          client = s.client;
+          serving = s.serving;
+          boot = s.boot;
+          incarnation = s.incarnation;
+          stamps = stamping l stamp _ s reigns refl refl;
+          mode = refl;
+          counted = s.counted;
+          want = refl;
+          version = s.version;
+          settled = s.settled;
+          value = tt;
+          fetch = (refl, (hop, refl));
+        }) (run (takes_place w p))
+
+    -- owned, and written in the same event
+    pub first-goes : (ver hop : ℕ) (place : Option Place) (value : Option (List ℕ)) → MayTake w (offer_seen g.client stamp inc req Own (located ver hop place)) 2
+        → To (record l { held = written (owned l.held stamp ver) value }) outs
+    first-goes ver hop place value may =
+        let p = offer_seen g.client stamp inc req Own (located ver hop place) in
+        goes_by logs g end w (writes_first w p (g.number value)) _ outs _ (WritesFirst p (g.number value) may) refl refl (λ p is. is) (λ y is. is)
+        (record {
+          client = s.client;
+          serving = s.serving;
+          boot = s.boot;
+          incarnation = s.incarnation;
+          stamps = stamping l stamp _ s reigns refl refl;
+          mode = refl;
+          counted = s.counted;
+          want = refl;
+          version = omega arith;
+          settled = refl;
+          value = refl;
+          fetch = refl;
+        }) (run (writes_first w p (g.number value)))
+
+    -- owned, and let go unwritten
+    pub declines-goes : (ver hop : ℕ) (place : Option Place) → MayTake w (offer_seen g.client stamp inc req Own (located ver hop place)) 2 → To (record l { held = let_go (owned l.held stamp ver) }) outs
+    declines-goes ver hop place may =
+        let p = offer_seen g.client stamp inc req Own (located ver hop place) in
+        goes_by logs g end w (declines w p) _ outs _ (Declines p may) refl refl (λ p is. is) (λ y is. is)
+        (record {
+          client = s.client;
+          serving = s.serving;
+          boot = s.boot;
+          incarnation = s.incarnation;
+          stamps = stamping l stamp _ s reigns refl refl;
+          mode = refl;
+          counted = s.counted;
+          want = refl;
+          version = refl;
+          settled = refl;
+          value = tt;
+          fetch = refl;
+        }) (run (declines w p))
+
+  -- ---- what is held
+
+  -- a read of the place ends
+  pub fetches-goes : (l : Local) (f : Fetch) (value : Option (List ℕ)) (outs : List Out) → Shown l → l.held.fetch ≡ Some f → Run outs → Premise logs (PlaceRead w g.client (g.number value)) → To (record l { held = fetch_ended l.held (Some f) value }) outs
+  fetches-goes l f value outs s is run read =
+      let open_ : FetchShown (Some f) here.fetching here.fetch = subst (λ o. FetchShown o here.fetching here.fetch) is s.fetch in
+      let ver : here.fetch.version ≡ f.ver = ap (λ (e : abstract_entry.Entry). e.version) open_.1.1 in
+      goes_by logs g end w (fetches w g.client (g.number value)) _ outs _ (Fetches g.client (g.number value) (record { fetching = open_.0 }) read) refl refl (λ p is. is) (λ y is. is)
+      (record {
+        client = s.client;
+        serving = s.serving;
+        boot = s.boot;
+        incarnation = s.incarnation;
+        stamps = restamped _ here _ w.epoch refl refl s.stamps;
+        mode = refl;
+        counted = s.counted;
+        want = s.want;
+        version = ver;
+        settled = ver;
+        value = refl;
+        fetch = refl;
+      }) (run (fetches w g.client (g.number value)))
+
+  pub writes-goes : (l : Local) (value : Option (List ℕ)) → Shown l → is_own l.held.mode ≡ true → To (record l { held = written l.held value }) []
+  writes-goes l value s own =
+      let owns : here.mode ≡ 2 = s.mode ∙ own_rank l.held.mode own in
+      let known = s.version in
+      goes_by logs g end w (writes w g.client (g.number value)) _ [] _ (Writes g.client (g.number value) (record { owns = owns })) refl refl (λ p is. is) (λ y is. is)
+      (record {
+        client = s.client;
+        serving = s.serving;
+        boot = s.boot;
+        incarnation = s.incarnation;
+        stamps = restamped _ here _ w.epoch refl refl s.stamps;
+        mode = s.mode;
+        counted = s.counted;
+        want = s.want;
+        version = omega arith;
+        settled = s.settled;
+        value = refl;
+        fetch = s.fetch;
+      }) tt
+
+  cleaned : (l : Local) → Shown l → is_dirty l.held ≡ false → here.version ≤ here.settled
+  cleaned l s clean = let v = s.version in let q = s.settled in grind (arith, nat_tests)
+
+  pub evicts-goes : (l : Local) → Shown l → is_dirty l.held ≡ false → To (record l { held = let_go l.held }) []
+  evicts-goes l s clean =
+      goes_by logs g end w (evicts w g.client) _ [] _ (Evicts g.client (record { victim = cleaned l s clean })) refl refl (λ p is. is) (λ y is. is)
+      (record {
+        client = s.client;
+        serving = s.serving;
+        boot = s.boot;
+        incarnation = s.incarnation;
+        stamps = restamped _ here _ w.epoch refl refl s.stamps;
+        mode = refl;
+        counted = s.counted;
+        want = s.want;
+        version = s.version;
+        settled = s.settled;
+        value = tt;
+        fetch = s.fetch;
+      }) tt
+
+  -- ---- recalls
+
+  -- a recall of a dirty block is put off
+  pub put_off-goes : (l : Local) (stamp : Stamp) (keep : Bool) (outs : List Out) → Shown l → Run outs → To (record l { held = put_off l.held stamp keep }) outs
+  put_off-goes l stamp keep outs s run =
+      by_test (λ (h : Held). To (record l { held = h }) outs) (gives_after l.held.giving stamp) l.held (record l.held { giving = Some (record { stamp = stamp; keep = keep }) })
+      (λ t. goes_saying logs g end w l outs s (run w))
+      (λ t. goes_saying logs g end w _ outs
+      (record {
+        client = s.client;
+        serving = s.serving;
+        boot = s.boot;
+        incarnation = s.incarnation;
+        stamps = s.stamps;
+        mode = s.mode;
+        counted = s.counted;
+        want = s.want;
+        version = s.version;
+        settled = s.settled;
+        value = s.value;
+        fetch = s.fetch;
+      }) (run w))
+
+  pub gives-goes : (l : Local) (stamp : Stamp) (keep : Bool) → Shown l → w.epoch ≤ here.promised → SentRecall g.client w stamp keep → stamp.epoch ≡ l.promised → is_later stamp l.held.stamp ≡ true → is_dirty l.held ≡ false
+      → is_none l.held.fetch ≡ true → Premise logs (SettledEnd w g.client end) → To (record l { held = given_up l.held stamp keep }) (Gave g.block stamp ∷ [])
+  gives-goes l stamp keep s high sent same later clean unfetched_ settled =
+      let seen = taken (node_seen l.promised l.held.stamp) here w.epoch (stamp_seen stamp) s.stamps high sent.low sent.some same (later_exceeds stamp l.held.stamp later) in
+      let r = recall_seen g.client stamp keep in
+      let step : Step logs w (gives w r end) = Gives r end (record { sent = sent.recalled seen.1; serving = s.serving; heard = seen.0; newer = seen.2; clean = cleaned l s clean }) settled in
+      by_test (λ (h : Held). To (record l { held = h }) (Gave g.block stamp ∷ [])) (keep && is_held l.held.mode) (record l.held { mode = Copy; stamp = stamp; giving = None }) (record l.held { mode = Nothing; value = None; stamp = stamp; giving = None })
+      (λ t. goes_by logs g end w (gives w r end) _ _ _ step refl refl (λ p is. is) (λ y is. inr is)
+      (record {
+        client = s.client;
+        serving = s.serving;
+        boot = s.boot;
+        incarnation = s.incarnation;
+        stamps = stamping l stamp _ s seen.1 refl refl;
+        mode = ap (λ n. min n (kept keep)) s.mode ∙ given_rank l.held.mode keep true t;
+        counted = s.counted;
+        want = s.want;
+        version = s.version;
+        settled = s.settled;
+        value = s.value;
+        fetch = unfetching l.held.fetch here.fetching here.fetch unfetched_ s.fetch;
+      }) (λ is. (sent.low, inl refl), tt))
+      (λ t. goes_by logs g end w (gives w r end) _ _ _ step refl refl (λ p is. is) (λ y is. inr is)
+      (record {
+        client = s.client;
+        serving = s.serving;
+        boot = s.boot;
+        incarnation = s.incarnation;
+        stamps = stamping l stamp _ s seen.1 refl refl;
+        mode = ap (λ n. min n (kept keep)) s.mode ∙ given_rank l.held.mode keep false t;
+        counted = s.counted;
+        want = s.want;
+        version = s.version;
+        settled = s.settled;
+        value = tt;
+        fetch = unfetching l.held.fetch here.fetching here.fetch unfetched_ s.fetch;
+      }) (λ is. (sent.low, inl refl), tt))
+
+  pub gives_again-goes : (l : Local) (stamp : Stamp) (keep : Bool) → Shown l → w.epoch ≤ here.promised → SentRecall g.client w stamp keep → stamp.epoch ≡ l.promised → stamp_seen l.held.stamp ≡ stamp_seen stamp
+      → Premise logs (SettledEnd w g.client end) → To l (Gave g.block stamp ∷ [])
+  gives_again-goes l stamp keep s high sent same is settled =
+      let p = s.stamps.promised in let low = sent.low in
+      let reigns : stamp.epoch ≡ w.epoch = omega arith in
+      let r = recall_seen g.client stamp keep in
+      goes_by logs g end w (gives_again w r end) _ _ here
+      (GivesAgain r end (record { sent = sent.recalled reigns; serving = s.serving; heard = omega arith; equal = equal (node_seen l.promised l.held.stamp) here w.epoch (stamp_seen stamp) s.stamps high sent.low same is }) settled)
+      (sym (put_back w.client g.client)) refl (λ p is. is) (λ y is. inr is) s (λ is. (sent.low, inl refl), tt)
+
+  -- ---- promises
+
+  pub promises-goes : (l : Local) (epoch : ℕ) → Shown l → l.promised ≤ epoch → To (record l { promised = epoch; held = promise_dropped l.held }) []
+  promises-goes l epoch s rises =
+      let p = s.stamps.promised in
+      goes_by logs g end w (promises w g.client epoch) _ [] _ (Promises g.client epoch (record { serving = s.serving; higher = omega arith })) refl refl (λ p is. is) (λ y is. is)
+      (record {
+        client = s.client;
+        serving = s.serving;
+        boot = s.boot;
+        incarnation = s.incarnation;
+        stamps = promised (node_seen l.promised l.held.stamp) here w.epoch epoch s.stamps;
+        mode = s.mode;
+        counted = s.counted;
+        want = s.want;
+        version = s.version;
+        settled = s.settled;
+        value = s.value;
+        fetch = refl;
+      }) tt

@@ -1,0 +1,12 @@
+pub mod Applying
+pub mod ClientLaws
+pub mod Elsewhere
+pub mod Frames
+pub mod Gaving
+pub mod Leaves
+pub mod Managing
+pub mod Promising
+pub mod Recalling
+pub mod Takes
+pub mod TakingOver
+pub mod Wanting
