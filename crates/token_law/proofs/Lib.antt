@@ -1,0 +1,7 @@
+pub mod Views
+pub mod Falls
+pub mod SlotViews
+pub mod Takeovers
+pub mod Standing
+pub mod Events
+pub mod Start

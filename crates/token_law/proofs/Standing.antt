@@ -1,0 +1,91 @@
+-- Every slot that a manager ever had came from a start by inputs. So, deposed or not, its wants stand in order, and each recall that is out bears its
+-- epoch and a turn above 0: what its tick sends again is of no later epoch.
+use Rattle.std.proofs.Common.{◌≡◌, ◌<◌, ℕ, true, false, cond, not, List, [], ◌∷◌, ◌++◌, All, is_some, refl, sym, ap, subst, ◌∙◌, arith}
+use Rattle.std.proofs.lemmas.List.Elements.{All-head, All-tail}
+use Rattle.xfs_base.specs.declared.block.BlockId.{BlockId}
+use Rattle.xfs_base.specs.declared.entry.Entry.{Entry}
+use Rattle.xfs_base.specs.declared.token.Mode.{Mode}
+use Rattle.xfs_base.specs.Modes.{is_own}
+use Rattle.xfs_base.proofs.StepLoops.{steps_keep}
+use Rattle.token_manager.specs.declared.input.In.{In}
+use Rattle.token_manager.specs.declared.input.In.TheVariants.{Want, Gave, Deltas, Check, Tick}
+use Rattle.token_manager.specs.declared.job.Awaited.{Awaited}
+use Rattle.token_manager.specs.Laws.{IsGivenOut, RecallsAreGivenOut, state_after}
+use Rattle.token_manager.specs.Recalls.{recalls, recall_of, sent, all_sent, noted, ready_blocks}
+use Rattle.token_manager.specs.SlotState.{SlotState}
+use Rattle.token_manager.specs.Transition.{started, want_of, applied_upto, with_deltas, finished_at, transition}
+use Rattle.token_manager.proofs.Cases.{recalled_from, by_want, by_gave, by_deltas, by_finished_at}
+use Rattle.token_manager.proofs.JobsBarGrants.{Waiting, waiting-removed, waiting-put, nobody_waits}
+use Rattle.token_manager.proofs.RecallTurns.{given-all}
+use Rattle.token_protocol.specs.World.{World}
+use Rattle.token_tie.specs.Managed.{AllTold}
+use Rattle.token_tie.proofs.Applying.{all_sent-told}
+
+-- It came from a start by these inputs.
+pub record Ran (s : SlotState) : Type 0 where
+  pub epoch : ℕ
+  pub index : List (BlockId × Entry)
+  pub beliefs : List (BlockId × ℕ × Mode)
+  pub applied : List ℕ
+  pub taken : List In
+  pub is : s ≡ state_after (started epoch index beliefs applied) taken
+
+pub begun : (epoch : ℕ) (index : List (BlockId × Entry)) (beliefs : List (BlockId × ℕ × Mode)) (applied : List ℕ) → Ran (started epoch index beliefs applied)
+begun epoch index beliefs applied = record { epoch = epoch; index = index; beliefs = beliefs; applied = applied; taken = []; is = refl }
+
+one_more : (s : SlotState) (taken : List In) (x : In) → state_after s (taken ++ x ∷ []) ≡ (transition (state_after s taken) x).state
+one_more s [] x = refl
+one_more s (y ∷ taken) x = one_more (transition s y).state taken x
+
+pub on : (s : SlotState) (x : In) → Ran s → Ran (transition s x).state
+on s x r = record {
+  epoch = r.epoch;
+  index = r.index;
+  beliefs = r.beliefs;
+  applied = r.applied;
+  taken = r.taken ++ x ∷ [];
+  is = ap (λ (z : SlotState). (transition z x).state) r.is ∙ sym (one_more (started r.epoch r.index r.beliefs r.applied) r.taken x);
+}
+
+-- ---- its wants stand in order
+
+waiting-transition : (s : SlotState) (x : In) → Waiting s.jobs → Waiting (transition s x).state.jobs
+waiting-transition s (Want client block inc req again mode end) w =
+    let want = want_of client block inc req again mode in
+    by_want (λ r. Waiting r.state.jobs) s want end w (λ _ _. w)
+    (λ _. waiting-put s.jobs block (record { want = want; awaited = recalls s.epoch s.turn (not (is_own mode)) (recalled_from s want) }) refl w)
+waiting-transition s (Gave client block stamp end) w =
+    by_gave (λ r. Waiting r.state.jobs) s client block stamp end w (λ job is _. waiting-removed s.jobs block w)
+    (λ job is. waiting-put s.jobs block (record { want = job.want; awaited = noted job.awaited client stamp end }) (w.own block job is) w)
+waiting-transition s (Deltas log first upto rows) w =
+    by_deltas (λ r. Waiting r.state.jobs) s log first upto rows w w
+    (λ _. steps_keep finished_at (λ (z : SlotState). Waiting z.jobs) (λ z block v. by_finished_at (λ r. Waiting r.state.jobs) z block v (λ job is. waiting-removed z.jobs block v))
+    (with_deltas s log upto rows) (ready_blocks s.jobs (applied_upto s.applied log upto)) w)
+waiting-transition s (Check block place) w = w
+waiting-transition s Tick w = w
+
+waiting : (s : SlotState) → Ran s → Waiting s.jobs
+waiting s r =
+    subst (λ (z : SlotState). Waiting z.jobs) (sym r.is)
+    (steps_keep transition (λ (z : SlotState). Waiting z.jobs) waiting-transition (started r.epoch r.index r.beliefs r.applied) r.taken nobody_waits)
+
+given : (s : SlotState) → Ran s → RecallsAreGivenOut s
+given s r = subst RecallsAreGivenOut (sym r.is) (given-all r.epoch r.index r.beliefs r.applied r.taken)
+
+-- ---- what its tick sends again
+
+-- recalls of an epoch before the reigning one ask nothing
+sent-stale : (b : BlockId) (w : World) (epoch turn : ℕ) (rows : List Awaited) → epoch < w.epoch → All (IsGivenOut epoch turn) rows → AllTold b w (sent b rows)
+sent-stale b w epoch turn [] old all = tt
+sent-stale b w epoch turn (a ∷ rows) old all =
+    let here : IsGivenOut epoch turn a = All-head (IsGivenOut epoch turn) a rows all in
+    let of_epoch = here.of_epoch in
+    let from_1 = here.from_1 in
+    let rest = sent-stale b w epoch turn rows old (All-tail (IsGivenOut epoch turn) a rows all) in
+    elim (is_some a.end) as (λ t. AllTold b w (cond t (sent b rows) (recall_of b a ∷ sent b rows))) [
+      | true ↦ rest
+      | false ↦ (λ same. record { low = omega arith; some = omega arith; recalled = λ reigns. absurd (omega arith) }, rest)
+    ]
+
+pub tick_stale : (b : BlockId) (w : World) (s : SlotState) → Ran s → s.epoch < w.epoch → AllTold b w (all_sent s.jobs)
+tick_stale b w s r old = all_sent-told false b w s.jobs (waiting s r).sorted (λ job is. sent-stale b w s.epoch s.turn job.awaited old (given s r b job is))

@@ -1,0 +1,230 @@
+-- A later manager starts: the world is seen under its epoch.
+use Rattle.xfs_base.proofs.Members.{contains_first, contains_rest}
+use Rattle.std.specs.List.Sorted.{IsStrictlySortedBy}
+use Rattle.std.proofs.Common.{◌≡◌, ℕ, zero, suc, ◌+◌, ◌≤◌, ◌<◌, Bool, true, false, cond, nat_lt, List, [], ◌++◌, ◌⊎◌, inl, inr, ⊎_elim, Some, None, refl, sym, ap, subst, ◌∙◌, arith}
+use Rattle.std.proofs.lemmas.Bool.Decides.{nat_tests}
+use Rattle.xfs_base.specs.declared.block.BlockId.{BlockId}
+use Rattle.xfs_base.specs.declared.entry.Entry.{Entry}
+use Rattle.xfs_base.specs.declared.token.Mode.{Mode}
+use Rattle.xfs_base.specs.declared.token.Mode.TheVariants.{Nothing, Copy, Own}
+use Rattle.token_client.specs.State.{held_of}
+use Rattle.token_manager.specs.Laws.{share_of}
+use Rattle.token_manager.specs.Recalls.{applied_of}
+use Rattle.token_manager.specs.SlotState.{SlotState}
+use Rattle.token_manager.specs.Transition as slot
+use Rattle.token_manager.proofs.Guarded.{Sound}
+use Rattle.token_protocol.specs.Basics.{put, In}
+use Rattle.token_protocol.specs.Client.{Client}
+use Rattle.token_protocol.specs.Packets as packets
+use Rattle.token_protocol.specs.Step.{Steps}
+use Rattle.token_protocol.specs.Step.Steps.{More}
+use Rattle.token_protocol.specs.World.{World, start}
+use Rattle.token_protocol.proofs.Invariant.{owned}
+use Rattle.token_tie.specs.Seen.{rank, local_of, entry_seen}
+use Rattle.token_law.specs.Net.{Packet, Net}
+use Rattle.token_law.specs.Net.Packet.{WantSent, GrantSent, RecallSent, GaveSent, ForwardSent, SupplySent, ReportSent}
+use Rattle.token_protocol.specs.Entry as abstract_entry
+use Rattle.token_tie.specs.Epochs.{reported}
+use Rattle.token_client.specs.declared.held.Held.{Held}
+use Rattle.token_client.specs.State.{held_in, is_in_slot}
+use Rattle.token_manager.specs.Beliefs.{all_believed}
+use Rattle.token_manager.specs.Index.{nothing_indexed, indexed_all}
+use Rattle.delta_index.specs.Index.{entry_of}
+use Rattle.token_protocol.specs.Takeover as takeover
+use Rattle.token_protocol.specs.Entry.{Row}
+use Rattle.token_protocol.specs.Step.Step.{Reports as ReportsStep, Activates as ActivatesStep, Promises as PromisesStep}
+use Rattle.token_protocol.proofs.Laws.{beliefs_cover}
+use Rattle.token_protocol.proofs.Refining.{put_each}
+use Rattle.token_tie.specs.Epochs.{all_reported}
+use Rattle.token_law.specs.Net.{upto}
+use Rattle.token_tie.proofs.Frames.{put_here, put_there}
+use Rattle.token_tie.proofs.TakingOver.{one_numbers, activation_shows, activation_manages, reports_believed, reports_most}
+use Rattle.token_client.proofs.Tables.{InOrder}
+use Rattle.std.specs.Prelude.{Contains}
+use Rattle.token_law.proofs.Views.{setting, ClientShown, some_one, Carried, View, carried_on}
+
+pub carried_rise : (part : ℕ) (b : BlockId) (w : World) (epoch : ℕ) (report : ℕ → packets.Report) (applied : ℕ → ℕ) (e : abstract_entry.Entry) (p : Packet) → w.epoch < epoch → Carried part b w p → Carried part b (takeover.activates w epoch report applied e) p
+carried_rise part b w epoch report applied e (WantSent c inc req again block mode end) later h = h
+carried_rise part b w epoch report applied e (GrantSent c block at inc req mode entry) later h = λ is. let k = h is in let low = k.low in record { low = omega arith; some = k.some; offered = λ reigns. absurd (omega arith) }
+carried_rise part b w epoch report applied e (RecallSent c block at keep) later h = λ is. let k = h is in let low = k.low in record { low = omega arith; some = k.some; recalled = λ reigns. absurd (omega arith) }
+carried_rise part b w epoch report applied e (GaveSent c block stamp end) later h = (h.0, λ is. let low = (h.1 is).0 in (omega arith, λ reigns. absurd (omega arith)))
+carried_rise part b w epoch report applied e (ForwardSent passer c block at inc req ver) later h = λ is. let k = h is in let low = k.2.low in (k.0, k.1, record { low = omega arith; some = k.2.some; offered = λ reigns. absurd (omega arith) })
+carried_rise part b w epoch report applied e (SupplySent c block at inc req ver value) later h = λ is. let k = h is in let low = k.2.low in (k.0, k.1, record { low = omega arith; some = k.2.some; offered = λ reigns. absurd (omega arith) })
+carried_rise part b w epoch report applied e (ReportSent c at rows) later h = h
+
+pub nothing_in_order : InOrder []
+unfolding IsStrictlySortedBy
+nothing_in_order = tt
+
+pub upto_has : (n c : ℕ) → 0 < c → c < n → Contains (upto n) c
+upto_has zero c pos less = absurd (omega arith)
+upto_has (suc zero) c pos less = absurd (omega arith)
+upto_has (suc (suc n)) c pos less = ⊎_elim (λ same. subst (Contains (upto (suc (suc n)))) (sym same) (contains_first (suc n) (upto (suc n)))) (λ other. contains_rest (suc n) c (upto (suc n)) (upto_has (suc n) c pos (below c (suc n) less other))) (one_numbers c (suc n))
+  where
+    below : (c n : ℕ) → c < suc n → (c ≡ n → ⊥) → c < n
+    below c n less other = elim (nat_lt c n) as (λ t. nat_lt c n ≡ t → c < n) [ true ↦ λ h. grind (arith, nat_tests) | false ↦ λ h. absurd (other (grind (arith, nat_tests))) ] refl
+
+-- the rows of those who report
+pub rows_same : (rows more : ℕ → List (BlockId × Mode)) (n k : ℕ) → k ≤ n → ((c : ℕ) → 0 < c → c < n → rows c ≡ more c) → all_reported rows (upto k) ≡ all_reported more (upto k)
+rows_same rows more n zero less same = refl
+rows_same rows more n (suc zero) less same = refl
+rows_same rows more n (suc (suc k)) less same = λ i. reported (suc k) (same (suc k) (omega arith) (omega arith) i) ++ rows_same rows more n (suc k) (omega arith) same i
+
+pub most_rank : (mode : Mode) → rank mode ≤ 2
+most_rank Nothing = omega arith
+most_rank Copy = omega arith
+most_rank Own = omega arith
+
+pub two_ranks : (m k : ℕ) → m ≤ 2 → k ≤ 2 → (m ≡ 2 → 0 < k → ⊥) → (k ≡ 2 → 0 < m → ⊥) → m + k ≤ 2
+two_ranks m k p q f g =
+    elim (nat_lt 2 (m + k)) as (λ t. nat_lt 2 (m + k) ≡ t → m + k ≤ 2) [
+      | true ↦ λ h. absurd (clash (nat_lt 1 m) refl h)
+      | false ↦ λ h. grind (arith, nat_tests)
+    ] refl
+  where
+    clash : (t : Bool) → nat_lt 1 m ≡ t → nat_lt 2 (m + k) ≡ true → ⊥
+    clash true h more = f (grind (arith, nat_tests)) (grind (arith, nat_tests))
+    clash false h more = g (grind (arith, nat_tests)) (grind (arith, nat_tests))
+
+-- what the reports of all clients say of a block
+pub record Told (members part : ℕ) (b : BlockId) (w : World) (epoch : ℕ) (rows : ℕ → List (BlockId × Mode)) (c : ℕ) : Type 0 where
+  pub blocks : List (BlockId × Held)
+  pub report : packets.Report
+  pub sorted : InOrder blocks
+  pub same : 0 < c → c < members → rows c ≡ held_in part blocks
+  pub sent : c < members → In report w.reports
+  pub sender : c < members → report.client ≡ c
+  pub asked : c < members → report.epoch ≡ epoch
+  pub mode : c < members → report.mode ≡ rank (held_of blocks b).mode
+  pub nothing : (c < members → ⊥) → rank (held_of blocks b).mode ≡ 0
+
+module _ (members part : ℕ) (b : BlockId) (n : Net) (v : View members part b n) (epoch : ℕ) (index : List (BlockId × Entry)) (applied : List ℕ) (rows : ℕ → List (BlockId × Mode)) (none : n.slots epoch ≡ None)
+    (reports_sent : (c : ℕ) → 0 < c → c < members → In (ReportSent c epoch (rows c)) n.sent) where
+  abbrev pub old : World
+  old = v.world
+
+  -- nobody promises and reports too
+  abbrev pub promised_ : World
+  promised_ = takeover.promises old 0 epoch
+
+  abbrev pub now : World
+  now = takeover.reports promised_ 0 0
+
+  pub now_steps : old.epoch < epoch → Steps false (start members) now
+  now_steps later = More (More v.steps (PromisesStep 0 epoch (record { serving = v.nobody.serving; higher = let p = v.nobody.promised in omega arith }))) (ReportsStep 0 0 (record { serving = v.nobody.serving }) tt)
+
+  pub hears : (c : ℕ) → Told members part b now epoch rows c
+  hears zero = record {
+    blocks = [];
+    report = record { client = 0; epoch = epoch; mode = old_mode; end = 0 };
+    sorted = nothing_in_order;
+    same = λ pos l. absurd (omega arith);
+    sent = λ _. inl refl;
+    sender = λ _. refl;
+    asked = λ _. refl;
+    mode = λ _. v.nobody.mode;
+    nothing = λ _. refl;
+  }
+    where
+      old_mode : ℕ
+      old_mode = (old.client 0).mode
+  hears (suc k) = at (suc k) (omega arith)
+    where
+      less : (c n : ℕ) → nat_lt c n ≡ true → c < n
+      less c n h = grind (arith, nat_tests)
+
+      no_less : (c n : ℕ) → nat_lt c n ≡ false → c < n → ⊥
+      no_less c n h l = grind (arith, nat_tests)
+
+      at : (c : ℕ) → 0 < c → Told members part b now epoch rows c
+      at c pos =
+          elim (nat_lt c members) as (λ t. nat_lt c members ≡ t → Told members part b now epoch rows c) [
+            | true ↦ λ is.
+                let h = v.sent _ (reports_sent c pos (less c members is)) in
+                record { blocks = h.0; report = record { client = c; epoch = epoch; mode = rank (held_of h.0 b).mode; end = h.1 }; sorted = h.2; same = λ _ _. h.3; sent = λ _. inr h.4; sender = λ _. refl; asked = λ _. refl; mode = λ _. refl; nothing = λ no. absurd (no (less c members is)) }
+            | false ↦ λ is. record { blocks = []; report = record { client = c; epoch = epoch; mode = 0; end = 0 }; sorted = nothing_in_order; same = λ _ l. absurd (no_less c members is l); sent = λ l. absurd (no_less c members is l); sender = λ _. refl; asked = λ _. refl; mode = λ _. refl; nothing = λ _. refl }
+          ] refl
+
+  abbrev pub blocks : ℕ → List (BlockId × Held)
+  blocks c = (hears c).blocks
+
+  abbrev pub report : ℕ → packets.Report
+  report c = (hears c).report
+
+  abbrev pub beliefs : List (BlockId × ℕ × Mode)
+  beliefs = all_reported rows (upto members)
+
+  pub beliefs_are : beliefs ≡ all_reported (λ d. held_in part (blocks d)) (upto members)
+  beliefs_are = rows_same rows (λ d. held_in part (blocks d)) members members (omega arith) (λ c pos less. (hears c).same pos less)
+
+  -- one that doesn't reign begins unheard; one of a later epoch reigns
+  abbrev pub begun : SlotState
+  begun = slot.started epoch index beliefs applied
+
+  abbrev pub next : World
+  next = takeover.activates now epoch report (applied_of applied) (entry_seen (entry_of (indexed_all nothing_indexed index).rows b))
+
+  pub activates_steps : old.epoch < epoch → Steps false (start members) next
+  activates_steps later =
+      More (now_steps later) (ActivatesStep epoch report (applied_of applied) (entry_seen (entry_of (indexed_all nothing_indexed index).rows b))
+      (record { later = later; sent = λ c less. (hears c).sent (within c less); sender = λ c less. (hears c).sender (within c less); asked = λ c less. (hears c).asked (within c less) }) tt)
+    where
+      within : (c : ℕ) → c < now.members → c < members
+      within c less = let m = v.many in omega arith
+
+  pub later_view : old.epoch < epoch → is_in_slot part b ≡ true → Sound begun → View members part b (record n { slots = put n.slots epoch (Some begun) })
+  unfolding hears
+  later_view later inside sound = record {
+    world = next;
+    steps = activates_steps later;
+    many = v.many;
+    nobody = record { serving = v.nobody.serving; mode = v.nobody.mode; promised = omega arith };
+    positive = omega arith;
+    clients = λ c pos less. subst (λ (x : Client). ClientShown (n.up c) b c (n.tokens c) epoch (record x { stamp = 0 })) (sym (put_there old.client 0 (record (old.client 0) { promised = epoch; fetching = 0 }) c (λ same. absurd (omega arith))))
+        (risen c (n.up c) (v.clients c pos less));
+    slot = begun;
+    sound = sound;
+    reigns = put_here n.slots epoch (Some begun);
+    manages = activation_manages b now epoch index beliefs applied report (applied_of applied)
+        (λ c less. let within : c < members = let m = v.many in omega arith in covered c within (one_numbers c 0)) (λ c some. refl);
+    past = put_each (λ e o. (s : SlotState) → o ≡ Some s → (e ≤ epoch) × (s.epoch ≡ e)) n.slots epoch (Some begun)
+        (λ s is. (omega arith, ap (λ (x : SlotState). x.epoch) (sym (some_one begun s is)))) (λ e other s is. (let p = (v.past e s is).0 in omega arith, (v.past e s is).1));
+    sent = λ p is. carried_rise part b now epoch report (applied_of applied) (entry_seen (entry_of (indexed_all nothing_indexed index).rows b)) p later
+        (carried_on part b old now p (record { epoch = refl; wants = λ x h. h; gaves = λ x h. h; offers = λ x h. h; recalls = λ x h. h; reports = λ x h. inr h }) (v.sent p is));
+  }
+    where
+      risen : (c : ℕ) (t : Bool) → ClientShown t b c (n.tokens c) old.epoch (old.client c) → ClientShown t b c (n.tokens c) epoch (record (old.client c) { stamp = 0 })
+      risen c true h = activation_shows (setting b c (n.tokens c).inc) old.epoch epoch (local_of (n.tokens c) b) (old.client c) later h
+      risen c false h = record { serving = h.serving; incarnation = h.incarnation; promised = h.promised; mode = h.mode; stamp = refl; want = h.want; version = h.version; settled = h.settled; fetching = h.fetching }
+
+      covered : (c : ℕ) → c < members → (c ≡ 0) ⊎ (c ≡ 0 → ⊥) → (report c).mode ≤ share_of (all_believed [] beliefs) b c
+      covered c within (inl none) = let mode = (hears c).mode within in let z : rank (held_of (blocks c) b).mode ≡ 0 = ap (λ k. rank (held_of (blocks k) b).mode) none in omega arith
+      covered c within (inr some) =
+          let mode = (hears c).mode within in
+          let most = reports_believed part blocks (upto members) b c (λ d. (hears d).sorted) inside (upto_has members c (positive c some) within) in
+          subst (λ xs. (report c).mode ≤ share_of (all_believed [] xs) b c) (sym beliefs_are) (omega arith)
+        where
+          positive : (c : ℕ) → (c ≡ 0 → ⊥) → 0 < c
+          positive zero h = absurd (h refl)
+          positive (suc k) h = omega arith
+
+  -- the reports of a later epoch leave owners alone
+  pub alone_here : old.epoch < epoch → (c d : ℕ) → (c ≡ d → ⊥) → share_of (all_believed [] beliefs) b c + share_of (all_believed [] beliefs) b d ≤ 2
+  alone_here later c d apart =
+      let cover = beliefs_cover next (owned false members next (activates_steps later)) in
+      let mode : (k : ℕ) → next.belief k ≡ rank (held_of (blocks k) b).mode = λ k. belief_is k (nat_lt k now.members) refl in
+      let mc = mode c in let md = mode d in
+      let sum = two_ranks (rank (held_of (blocks c) b).mode) (rank (held_of (blocks d) b).mode) (most_rank _) (most_rank _) (λ two some. apart (cover.single c d (mc ∙ two) (omega arith))) (λ two some. apart (sym (cover.single d c (md ∙ two) (omega arith)))) in
+      let a = reports_most part b c blocks (upto members) (λ k. (hears k).sorted) in
+      let e = reports_most part b d blocks (upto members) (λ k. (hears k).sorted) in
+      subst (λ xs. share_of (all_believed [] xs) b c + share_of (all_believed [] xs) b d ≤ 2) (sym beliefs_are) (omega arith)
+    where
+      less : (c n : ℕ) → nat_lt c n ≡ true → c < n
+      less c n h = grind (arith, nat_tests)
+
+      no_less : (c n : ℕ) → nat_lt c n ≡ false → c < n → ⊥
+      no_less c n h l = grind (arith, nat_tests)
+
+      belief_is : (k : ℕ) (t : Bool) → nat_lt k now.members ≡ t → cond t (report k).mode 0 ≡ rank (held_of (blocks k) b).mode
+      belief_is k true is = (hears k).mode (let m = v.many in let l = less k now.members is in omega arith)
+      belief_is k false is = sym ((hears k).nothing (λ l. no_less k now.members is (let m = v.many in omega arith)))

@@ -1,0 +1,218 @@
+-- How the small world is seen, block by block: what its clients, its latest manager and its packets are there; and what a step of a client leaves of that.
+use Rattle.std.proofs.Common.{◌≡◌, ℕ, ◌≤◌, ◌<◌, Bool, true, false, List, [], ◌∷◌, ◌++◌, ◌⊎◌, inl, inr, ⊎_elim, Option, Some, None, refl, sym, ap, subst, ◌∙◌, arith}
+use Rattle.xfs_base.specs.declared.block.BlockId.{BlockId}
+use Rattle.xfs_base.specs.declared.entry.Entry.{Entry}
+use Rattle.xfs_base.specs.declared.token.Mode.TheVariants.{Copy}
+use Rattle.xfs_base.specs.Blocks.{slot_of}
+use Rattle.token_client.specs.declared.output.Out as outputs
+use Rattle.token_client.specs.declared.output.Out.TheVariants as output
+use Rattle.token_client.specs.Laws.{IsSound}
+use Rattle.token_client.specs.State.{held_of}
+use Rattle.token_client.specs.Transition as client
+use Rattle.token_manager.specs.declared.job.Job.{Job}
+use Rattle.token_manager.specs.Laws.{share_of}
+use Rattle.token_manager.specs.SlotState.{SlotState}
+use Rattle.token_manager.specs.Transition as slot
+use Rattle.token_manager.proofs.Guarded.{Sound}
+use Rattle.token_protocol.specs.Basics.{put, In}
+use Rattle.token_protocol.specs.Client.{Client}
+use Rattle.token_protocol.specs.Packets as packets
+use Rattle.token_protocol.specs.Step.{Steps}
+use Rattle.token_protocol.specs.Step.Steps.{More}
+use Rattle.token_protocol.specs.World.{World, start}
+use Rattle.token_tie.specs.Seen.{Setting, Shows, SentOffer, SentRecall, rank, local_of, entry_seen}
+use Rattle.token_tie.specs.Taken.{ByClient, AllSaid, Took}
+use Rattle.token_tie.specs.Managed.{want_seen, JobShown, Manages}
+use Rattle.token_law.specs.Net.{Packet, Net, client_packets, after_client}
+use Rattle.token_law.specs.Net.Packet.{WantSent, GrantSent, RecallSent, GaveSent, ForwardSent, SupplySent, ReportSent}
+use Rattle.std.proofs.Common.{unwrap_or}
+use Rattle.token_tie.proofs.Leaves.{equal_numbers}
+use Rattle.token_client.specs.declared.held.Held.{Held}
+use Rattle.token_client.specs.State.{held_in, is_in_slot, epoch_of}
+use Rattle.token_protocol.specs.Takeover as takeover
+use Rattle.xfs_base.specs.Steps.{still}
+use Rattle.token_client.specs.Held.{is_settled_by, version_settled}
+use Rattle.token_client.specs.State.{with_held}
+use Rattle.token_client.specs.State.{TokensState}
+use Rattle.token_protocol.specs.Step.Step.{Reports as ReportsStep}
+use Rattle.token_protocol.proofs.Refining.{put_each}
+use Rattle.token_tie.proofs.Frames.{put_here, put_there}
+use Rattle.token_tie.proofs.TakingOver.{one_numbers}
+use Rattle.token_tie.proofs.Frames.{steps_through, shown_on, epoch_on}
+use Rattle.token_tie.proofs.Managing.{offer_on, recall_on}
+use Rattle.token_client.proofs.Tables.{InOrder}
+use Rattle.xfs_base.proofs.Booleans.{by_test}
+
+pub either_in : {X : Type 0} (p : X) (xs ys : List X) → In p (xs ++ ys) → In p xs ⊎ In p ys
+either_in p [] ys is = inr is
+either_in p (x ∷ xs) ys is = ⊎_elim (λ e. inl (inl e)) (λ r. ⊎_elim (λ h. inl (inr h)) inr (either_in p xs ys r)) is
+
+-- client c at block b; for one owner values are no matter
+abbrev pub setting : BlockId → ℕ → ℕ → Setting
+setting b c i = record { number = λ v. 0; absent = refl; block = b; client = c; incarnation = i }
+
+-- what is left of a client that fell
+pub record IsDown (b : BlockId) (s : TokensState) (x : Client) : Type 0 where
+  pub serving : x.serving ≡ 0
+  pub incarnation : x.incarnation ≡ s.inc
+  pub promised : x.promised ≡ epoch_of s.epochs (slot_of b.ino.0)
+  pub mode : x.mode ≡ 0
+  pub stamp : x.stamp ≡ 0
+  pub want : x.want ≡ 0
+  pub version : x.version ≡ 0
+  pub settled : x.settled ≡ 0
+  pub fetching : x.fetching ≡ 0
+
+abbrev pub ClientShown : Bool → BlockId → ℕ → TokensState → ℕ → Client → Type 0
+ClientShown true b c s epoch x = Shows (setting b c s.inc) epoch (local_of s b) x
+ClientShown false b c s epoch x = IsDown b s x
+
+pub put_each_three : {X Y Z : Type 0} (P : ℕ → X → Y → Z → Type 0) (f : ℕ → X) (g : ℕ → Y) (h : ℕ → Z) (c : ℕ) (x : X) (y : Y) (z : Z) → P c x y z → ((d : ℕ) → (d ≡ c → ⊥) → P d (f d) (g d) (h d)) → (d : ℕ) → P d (put f c x d) (put g c y d) (put h c z d)
+put_each_three {X = X} {Y = Y} {Z = Z} P f g h c x y z here there d =
+    ⊎_elim
+    (λ same. subst (λ k. P k (put f c x k) (put g c y k) (put h c z k)) (sym same) (subst (λ (q : X × Y × Z). P c q.0 q.1 q.2) (λ i. (sym (put_here f c x) i, sym (put_here g c y) i, sym (put_here h c z) i)) here))
+    (λ other. subst (λ (q : X × Y × Z). P d q.0 q.1 q.2) (λ i. (sym (put_there f c x d other) i, sym (put_there g c y d other) i, sym (put_there h c z d other) i)) (there d other))
+    (one_numbers d c)
+
+pub some_one : {A : Type 0} (x y : A) → Some x ≡ Some y → x ≡ y
+some_one {A = A} x y is = ap (λ (o : Option A). unwrap_or o x) is
+
+-- a sent packet was sent there, where it speaks of the block; a report says what a client held
+abbrev pub Carried : ℕ → BlockId → World → Packet → Type 0
+Carried part b w (WantSent c inc req again block mode end) = (0 < c) × (block ≡ b → In (want_seen (slot.want_of c block inc req again mode) end) w.wants)
+Carried part b w (GrantSent c block at inc req mode entry) = block ≡ b → SentOffer c w at inc req mode (entry_seen entry)
+Carried part b w (RecallSent c block at keep) = block ≡ b → SentRecall c w at keep
+Carried part b w (GaveSent c block stamp end) = (0 < c) × (block ≡ b → (stamp.epoch ≤ w.epoch) × (stamp.epoch ≡ w.epoch → In (record { client = c; stamp = stamp.turn; end = end }) w.gaves))
+Carried part b w (ForwardSent passer c block at inc req ver) = block ≡ b → (entry : Entry) × (entry.ver ≡ ver) × SentOffer c w at inc req Copy (entry_seen entry)
+Carried part b w (SupplySent c block at inc req ver value) = block ≡ b → (entry : Entry) × (entry.ver ≡ ver) × SentOffer c w at inc req Copy (entry_seen entry)
+Carried part b w (ReportSent c epoch rows) = (blocks : List (BlockId × Held)) × (end : ℕ) × InOrder blocks × (rows ≡ held_in part blocks) × In (record { client = c; epoch = epoch; mode = rank (held_of blocks b).mode; end = end }) w.reports
+
+-- number 0 is nobody's: a client that holds nothing and promises only when all have
+pub record IsNobody (x : Client) (epoch : ℕ) : Type 0 where
+  pub serving : x.serving ≡ 1
+  pub mode : x.mode ≡ 0
+  pub promised : x.promised ≤ epoch
+
+pub record View (members part : ℕ) (b : BlockId) (n : Net) : Type 0 where
+  pub world : World
+  pub steps : Steps false (start members) world
+  pub many : world.members ≡ members
+  pub nobody : IsNobody (world.client 0) world.epoch
+  pub positive : 0 < world.epoch
+  pub clients : (c : ℕ) → 0 < c → c < members → ClientShown (n.up c) b c (n.tokens c) world.epoch (world.client c)
+  pub slot : SlotState
+  pub sound : Sound slot
+  pub reigns : n.slots world.epoch ≡ Some slot
+  pub manages : Manages b slot world
+  pub past : (e : ℕ) (s : SlotState) → n.slots e ≡ Some s → (e ≤ world.epoch) × (s.epoch ≡ e)
+  pub sent : (p : Packet) → In p n.sent → Carried part b world p
+
+-- ---- what a step of one side leaves of the other
+
+pub record Grows (w v : World) : Type 0 where
+  pub epoch : v.epoch ≡ w.epoch
+  pub wants : (x : packets.Want) → In x w.wants → In x v.wants
+  pub gaves : (x : packets.Gave) → In x w.gaves → In x v.gaves
+  pub offers : (x : packets.Offer) → In x w.offers → In x v.offers
+  pub recalls : (x : packets.Recall) → In x w.recalls → In x v.recalls
+  pub reports : (x : packets.Report) → In x w.reports → In x v.reports
+
+pub carried_on : (part : ℕ) (b : BlockId) (w v : World) (p : Packet) → Grows w v → Carried part b w p → Carried part b v p
+carried_on part b w v (WantSent c inc req again block mode end) g h = (h.0, λ is. g.wants _ (h.1 is))
+carried_on part b w v (GrantSent c block at inc req mode entry) g h = λ is. offer_on c w v at inc req mode (entry_seen entry) g.epoch g.offers (h is)
+carried_on part b w v (RecallSent c block at keep) g h = λ is. recall_on c w v at keep g.epoch g.recalls (h is)
+carried_on part b w v (GaveSent c block stamp end) g h = (h.0, λ is. let k = h.1 is in let e = g.epoch in let low = k.0 in (omega arith, λ of_epoch. g.gaves _ (k.1 (of_epoch ∙ e))))
+carried_on part b w v (ForwardSent passer c block at inc req ver) g h = λ is. let k = h is in (k.0, k.1, offer_on c w v at inc req Copy (entry_seen k.0) g.epoch g.offers k.2)
+carried_on part b w v (SupplySent c block at inc req ver value) g h = λ is. let k = h is in (k.0, k.1, offer_on c w v at inc req Copy (entry_seen k.0) g.epoch g.offers k.2)
+carried_on part b w v (ReportSent c epoch rows) g h = (h.0, h.1, h.2, h.3, g.reports _ h.4)
+
+pub job_wants : (o : Option Job) (epoch : ℕ) (awaited keep owed applied : ℕ → ℕ) (wants more : List packets.Want) (recalls : List packets.Recall) → ((x : packets.Want) → In x wants → In x more) → JobShown o epoch awaited keep owed applied wants recalls → JobShown o epoch awaited keep owed applied more recalls
+job_wants None epoch awaited keep owed applied wants more recalls grows j = j
+job_wants (Some job) epoch awaited keep owed applied wants more recalls grows j = record { end = j.end; asked = grows _ j.asked; asker = j.asker; something = j.something; only = j.only; each = j.each; paid = j.paid }
+
+pub managed_on : (b : BlockId) (s : SlotState) (c : ℕ) (w v : World) → ByClient c w v → Manages b s w → Manages b s v
+managed_on b s c w v by m = record {
+  epoch = m.epoch ∙ sym (ap (λ (u : World). u.epoch) by.others);
+  turn = m.turn ∙ sym (ap (λ (u : World). u.turn) by.others);
+  belief = λ d. subst (λ n. n ≤ share_of s.beliefs b d) (sym (ap (λ (u : World). u.belief d) by.others)) (m.belief d);
+  applied = λ d some. ap (λ (u : World). u.applied d) by.others ∙ m.applied d some;
+  index = ap (λ (u : World). u.index) by.others ∙ m.index;
+  job = job_wants (slot.job_at s.jobs b) s.epoch v.awaited v.keep v.owed v.applied w.wants v.wants v.recalls by.wants
+      (subst (λ (u : World). JobShown (slot.job_at s.jobs b) s.epoch u.awaited u.keep u.owed u.applied w.wants u.recalls) (sym by.others) m.job);
+}
+
+-- that a version is settled is told to nobody
+pub safe_quiet : (s : TokensState) (block : BlockId) (ver : ℕ) → (client.on_settled s block ver).outs ≡ []
+unfolding client.on_settled
+safe_quiet s block ver = by_test (λ (d : client.Done). d.outs ≡ []) (is_settled_by (held_of s.blocks block) ver) (still (with_held s block (version_settled (held_of s.blocks block) ver))) (still s) (λ t. refl) (λ t. refl)
+
+-- ---- a client's step
+
+pub said_carried : (part : ℕ) (b : BlockId) (c i inc end : ℕ) (v : World) (outs : List outputs.Out) → 0 < c → i ≡ inc → AllSaid (setting b c i) end v outs → (p : Packet) → In p (client_packets c inc end outs) → Carried part b v p
+said_carried part b c i inc end v [] some one said p is = absurd is
+said_carried part b c i inc end v (output.Want block req again mode ∷ os) some one said p is =
+    ⊎_elim (λ e. subst (Carried part b v) (sym e) (some, λ same. subst (λ k. In (record { client = c; incarnation = k; request = req; mode = rank mode; end = end }) v.wants) one (said.0 same))) (λ r. said_carried part b c i inc end v os some one said.1 p r) is
+said_carried part b c i inc end v (output.Gave block stamp ∷ os) some one said p is = ⊎_elim (λ e. subst (Carried part b v) (sym e) (some, λ same. ((said.0 same).0, λ _. (said.0 same).1))) (λ r. said_carried part b c i inc end v os some one said.1 p r) is
+said_carried part b c i inc end v (output.Supply block ver value ∷ os) some one said p is = said_carried part b c i inc end v os some one said.1 p is
+said_carried part b c i inc end v (output.Flush block ∷ os) some one said p is = said_carried part b c i inc end v os some one said.1 p is
+said_carried part b c i inc end v (output.Read block place ∷ os) some one said p is = said_carried part b c i inc end v os some one said.1 p is
+said_carried part b c i inc end v (output.Ready block ∷ os) some one said p is = said_carried part b c i inc end v os some one said.1 p is
+
+pub by_client_grows : (c : ℕ) (w v : World) → ByClient c w v → Grows w v
+by_client_grows c w v by = record {
+  epoch = ap (λ (u : World). u.epoch) by.others;
+  wants = by.wants;
+  gaves = by.gaves;
+  offers = λ x h. subst (In x) (sym (ap (λ (u : World). u.offers) by.others)) h;
+  recalls = λ x h. subst (In x) (sym (ap (λ (u : World). u.recalls) by.others)) h;
+  reports = λ x h. subst (In x) (sym (ap (λ (u : World). u.reports) by.others)) h;
+}
+
+module _ (members part : ℕ) (b : BlockId) (n : Net) (v : View members part b n) where
+  abbrev pub w : World
+  w = v.world
+
+  pub client_view : (c end : ℕ) (d : client.Done) → 0 < c → n.up c ≡ true → Took false (setting b c (n.tokens c).inc) end w d → View members part b (after_client n c end d)
+  client_view c end d some up t =
+      let epoch = epoch_on false (setting b c (n.tokens c).inc) end w t.world t.frame in
+      record {
+        world = t.world;
+        steps = steps_through (start members) w t.world v.steps t.steps;
+        many = ap (λ (u : World). u.members) t.frame.others ∙ v.many;
+        nobody = subst (λ e. IsNobody (t.world.client 0) e) (sym epoch) (subst (λ x. IsNobody x w.epoch) (sym (t.frame.client 0 (λ same. absurd (omega arith)))) v.nobody);
+        positive = let p = v.positive in omega arith;
+        clients = put_each (λ k x. 0 < k → k < members → ClientShown (n.up k) b k x t.world.epoch (t.world.client k)) n.tokens c d.state
+            (λ _ _. subst (λ u. ClientShown u b c d.state t.world.epoch (t.world.client c)) (sym up) (subst (λ k. Shows (setting b c k) t.world.epoch (local_of d.state b) (t.world.client c)) (sym t.shows.boot) (shown_on false (setting b c (n.tokens c).inc) end w (local_of d.state b) d.outs t)))
+            (λ k other pos less. subst (λ e. ClientShown (n.up k) b k (n.tokens k) e (t.world.client k)) (sym epoch) (subst (λ x. ClientShown (n.up k) b k (n.tokens k) w.epoch x) (sym (t.frame.client k other)) (v.clients k pos less)));
+        slot = v.slot;
+        sound = v.sound;
+        reigns = ap n.slots epoch ∙ v.reigns;
+        manages = managed_on b v.slot c w t.world t.frame v.manages;
+        past = λ e s is. (let p = (v.past e s is).0 in omega arith, (v.past e s is).1);
+        sent = λ p is. ⊎_elim (λ new. said_carried part b c (n.tokens c).inc d.state.inc end t.world d.outs some (sym t.shows.boot) t.said p new)
+            (λ old. carried_on part b w t.world p (by_client_grows c w t.world t.frame) (v.sent p old))
+            (either_in p (client_packets c d.state.inc end d.outs) n.sent is);
+      }
+
+  -- a client reports: nothing but its report is new
+  pub report_view : (c : ℕ) → 0 < c → c < members → n.up c ≡ true → IsSound (n.tokens c) → is_in_slot part b ≡ true → View members part b (record n { sent = ReportSent c (epoch_of (n.tokens c).epochs part) (held_in part (n.tokens c).blocks) ∷ n.sent })
+  report_view c pos less up sound inside =
+      let shown : Shows (setting b c (n.tokens c).inc) w.epoch (local_of (n.tokens c) b) (w.client c) = subst (λ u. ClientShown u b c (n.tokens c) w.epoch (w.client c)) up (v.clients c pos less) in
+      let u = takeover.reports w c 0 in
+      let same : slot_of b.ino.0 ≡ part = equal_numbers (slot_of b.ino.0) part inside in
+      record {
+        world = u;
+        steps = More v.steps (ReportsStep c 0 (record { serving = shown.serving }) tt);
+        many = v.many;
+        nobody = v.nobody;
+        positive = v.positive;
+        clients = v.clients;
+        slot = v.slot;
+        sound = v.sound;
+        reigns = v.reigns;
+        past = v.past;
+        manages = record { epoch = v.manages.epoch; turn = v.manages.turn; belief = v.manages.belief; applied = v.manages.applied; index = v.manages.index; job = v.manages.job };
+        sent = λ p is. ⊎_elim
+            (λ e. subst (Carried part b u) (sym e) ((n.tokens c).blocks, 0, sound.sorted, refl, inl (λ i. record { client = c; epoch = (ap (λ k. epoch_of (n.tokens c).epochs k) (sym same) ∙ sym shown.stamps.promised) i; mode = sym shown.mode i; end = 0 })))
+            (λ old. carried_on part b w u p (record { epoch = refl; wants = λ x h. h; gaves = λ x h. h; offers = λ x h. h; recalls = λ x h. h; reports = λ x h. inr h }) (v.sent p old)) is;
+      }
