@@ -1,0 +1,6 @@
+pub mod Courses
+pub mod Given
+pub mod Pieces
+pub mod Recovery
+pub mod Rounds
+pub mod Xor

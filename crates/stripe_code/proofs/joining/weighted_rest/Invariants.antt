@@ -1,0 +1,10 @@
+use Rattle.std.proofs.Common.{◌≡◌, length, drop}
+use Rattle.stripe_code.specs.Stripe.{weighted}
+use Rattle.stripe_code.specs.Joined.{rest_onto}
+use Rattle.stripe_code.proofs.joining.weighted_rest.Given as goal
+
+abbrev pub invariant-loop-place : goal.invariant-loop-place
+invariant-loop-place l = record {
+  rest : rest_onto weighted l.place l.sum (drop l.place l.known) ≡ rest_onto weighted 0 l.initial.sum l.known;
+  long : length l.sum ≡ l.part;
+}

@@ -1,0 +1,327 @@
+//! The text of a stripe, from those of its fragments that are there.
+ghost use Rattle.std.specs.Prelude.{◌≡◌, ◌⊎◌, ◌-◌, ◌≤◌, ◌<◌, ℕ, List as Seq, Some, None, IfOk, IfErr, OnOk, IfSome, length, take};
+ghost use Rattle.std.specs.List.{concat};
+ghost use Rattle.parity_kernel.specs.Bytewise.{times};
+ghost use Rattle.stripe_code.specs.declared.joining.JoinError.TheVariants.{Memory};
+ghost use Rattle.stripe_code.specs.Joined.{HasLengths, AreOf, AreRising, missing_from, excess, part_at, rest_onto, one_gone, lower_of, two_gone, recovered_at, filled, joined};
+ghost use Rattle.stripe_code.specs.Stripe.{IsCut, IsBytes, part_of, plain, weighted, stripe_of};
+
+use crate::cutting::{added, part_len, xored, zeros_of};
+use parity_kernel::inverse;
+use std::alloc::{AllocError, Global};
+use thiserror::Error;
+use xfs_base::{List, Mem};
+
+/// Why fragments give no text.
+#[derive(Debug, Drop, Error)]
+pub enum JoinError {
+    /// At least two are missing of a stripe with one parity fragment; the numbers of the first two.
+    #[error("fragments {0} and {1} are gone")]
+    TwoGone(usize, usize),
+    /// At least three are missing of a stripe with two parity fragments; the numbers of the first three.
+    #[error("fragments {0}, {1} and {2} are gone")]
+    ThreeGone(usize, usize, usize),
+    /// Want of memory.
+    #[error("out of memory")]
+    Memory,
+}
+
+impl From<AllocError> for JoinError {
+    ghost from_gives = { λ _ e. e ≡ Memory };
+
+    fn from(_: AllocError) -> JoinError {
+        JoinError::Memory
+    }
+}
+
+/// The text of `len` bytes whose stripe has these fragments, of which some may be missing: any that are
+/// as many as the pieces of the text suffice. `TwoGone` and `ThreeGone` come exactly where more are
+/// missing than the parity makes good, with the first of them.
+pub fn join(
+    alloc: Global,
+    parts: &[Option<List<u8>>],
+    parity: u8,
+    len: usize,
+) -> Result<List<u8>, JoinError>
+    requires size { IsCut (length parts.now) parity }
+    requires lengths { HasLengths (part_of len (length parts.now - parity)) parts.now }
+    // Whatever is missing, the text that was cut comes back.
+    ensures gives_back { IfOk result (λ found. (text : Seq ℕ) → IsBytes text → length text ≡ len → AreOf parts.now (stripe_of text (length parts.now) parity) → found ≡ text) }
+    ensures exact { IfOk result (λ found. found ≡ joined parts.now parity len) }
+    // Which refusal it is, and that it comes where too many are missing and not else, but for memory.
+    ensures enough { OnOk result (excess parity (missing_from 0 parts.now) ≡ None) }
+    ensures gone { IfErr result (λ e. (e ≡ Memory) ⊎ (excess parity (missing_from 0 parts.now) ≡ Some e)) }
+{
+    let gone = missing(alloc, parts)?;
+    match too_many(gone.as_slice(), parity) {
+        Some(error) => Err(error),
+        None => {
+            let found = join_enough(alloc, parts, parity, len)?;
+            Ok(found)
+        }
+    }
+}
+
+/// The text, where enough is there.
+#[tactic(auto, unfolding(crate::specs::Joined::joined))]
+fn join_enough(alloc: Global, parts: &[Option<List<u8>>], parity: u8, len: usize) -> Mem<List<u8>>
+    requires size { IsCut (length parts.now) parity }
+    requires lengths { HasLengths (part_of len (length parts.now - parity)) parts.now }
+    ensures { IfOk result (λ found. found ≡ joined parts.now parity len) }
+{
+    let count = parts.len() - usize::from(parity);
+    let part = part_len(len, count);
+    let none = None;
+    let first = part_or(parts, count, &none);
+    let second = part_or(parts, count + 1, &none);
+    let known = &parts[..count];
+    let found = recover(alloc, known, first, second, part)?;
+    fill(alloc, known, found.as_slice(), len)
+}
+
+/// The places at which nothing is.
+fn missing(alloc: Global, parts: &[Option<List<u8>>]) -> Mem<List<usize>>
+    ensures { IfOk result (λ places. places ≡ missing_from 0 parts.now) }
+{
+    let mut places = List::new(alloc);
+    for (place, part) in parts.iter().enumerate() {
+        if part.is_none() {
+            places.push(place)?;
+        }
+    }
+    Ok(places)
+}
+
+/// What is said where more is gone than the parity makes good.
+fn too_many(gone: &[usize], parity: u8) -> Option<JoinError>
+    ensures { result ≡ excess parity gone.now }
+{
+    let (a, rest) = gone.split_first()?;
+    let (b, rest) = rest.split_first()?;
+    if parity == 1 {
+        return Some(JoinError::TwoGone(*a, *b));
+    }
+    let (c, _) = rest.split_first()?;
+    Some(JoinError::ThreeGone(*a, *b, *c))
+}
+
+/// The part at a place, or past the end of the list nothing.
+fn part_or<'a>(
+    parts: &'a [Option<List<u8>>],
+    place: usize,
+    none: &'a Option<List<u8>>,
+) -> &'a Option<List<u8>>
+    requires { none.now ≡ None }
+    ensures { result.now ≡ part_at parts.now place }
+{
+    match parts.get(place) {
+        Some(part) => part,
+        None => none,
+    }
+}
+
+/// The pieces that are missing, in order.
+fn recover(
+    alloc: Global,
+    known: &[Option<List<u8>>],
+    first: &Option<List<u8>>,
+    second: &Option<List<u8>>,
+    part: usize,
+) -> Mem<List<List<u8>>>
+    requires few { length known.now ≤ 8 }
+    requires known { HasLengths part known.now }
+    requires first { IfSome first.now (λ f. length f ≡ part) }
+    requires second { IfSome second.now (λ f. length f ≡ part) }
+    ensures { IfOk result (λ found. found ≡ recovered_at (missing_from 0 known.now) known.now first.now second.now) }
+{
+    let gone = missing(alloc, known)?;
+    recover_at(alloc, gone.as_slice(), known, first, second, part)
+}
+
+/// The pieces at these places.
+fn recover_at(
+    alloc: Global,
+    gone: &[usize],
+    known: &[Option<List<u8>>],
+    first: &Option<List<u8>>,
+    second: &Option<List<u8>>,
+    part: usize,
+) -> Mem<List<List<u8>>>
+    requires gone { AreRising 0 8 gone.now }
+    requires few { length known.now ≤ 8 }
+    requires known { HasLengths part known.now }
+    requires first { IfSome first.now (λ f. length f ≡ part) }
+    requires second { IfSome second.now (λ f. length f ≡ part) }
+    ensures { IfOk result (λ found. found ≡ recovered_at gone.now known.now first.now second.now) }
+{
+    let Some((a, rest)) = gone.split_first() else {
+        return Ok(List::new(alloc));
+    };
+    let Some((b, rest)) = rest.split_first() else {
+        let mut found = List::new(alloc);
+        found.push(recover_one(alloc, known, *a, first, second, part)?)?;
+        return Ok(found);
+    };
+    if !rest.is_empty() {
+        return Ok(List::new(alloc));
+    }
+    recover_two(alloc, known, *a, *b, first, second, part)
+}
+
+/// The piece that alone is missing: from the first parity fragment, or else from the second.
+fn recover_one(
+    alloc: Global,
+    known: &[Option<List<u8>>],
+    a: usize,
+    first: &Option<List<u8>>,
+    second: &Option<List<u8>>,
+    part: usize,
+) -> Mem<List<u8>>
+    requires place { a < 8 }
+    requires few { length known.now ≤ 8 }
+    requires known { HasLengths part known.now }
+    requires first { IfSome first.now (λ f. length f ≡ part) }
+    requires second { IfSome second.now (λ f. length f ≡ part) }
+    ensures { IfOk result (λ found. found ≡ one_gone known.now a first.now second.now) }
+{
+    match first {
+        Some(first) => plain_rest(alloc, first, known, part),
+        None => match second {
+            Some(second) => {
+                let rest = weighted_rest(alloc, second, known, part)?;
+                multiple(alloc, part, inverse(1 << a), rest.as_slice())
+            }
+            None => Ok(List::new(alloc)),
+        },
+    }
+}
+
+/// The two pieces that are missing, from both parity fragments.
+fn recover_two(
+    alloc: Global,
+    known: &[Option<List<u8>>],
+    a: usize,
+    b: usize,
+    first: &Option<List<u8>>,
+    second: &Option<List<u8>>,
+    part: usize,
+) -> Mem<List<List<u8>>>
+    requires order { a < b }
+    requires places { b < 8 }
+    requires few { length known.now ≤ 8 }
+    requires known { HasLengths part known.now }
+    requires first { IfSome first.now (λ f. length f ≡ part) }
+    requires second { IfSome second.now (λ f. length f ≡ part) }
+    ensures { IfOk result (λ found. found ≡ two_gone known.now a b first.now second.now) }
+{
+    let mut found = List::new(alloc);
+    match (first, second) {
+        (Some(first), Some(second)) => {
+            let sum = plain_rest(alloc, first, known, part)?;
+            let weighted = weighted_rest(alloc, second, known, part)?;
+            let lower = lower_of_two(alloc, a, b, sum.as_slice(), weighted, part)?;
+            let upper = xored(sum, lower.as_slice());
+            found.push(lower)?;
+            found.push(upper)?;
+        }
+        _ => {
+            found.push(List::new(alloc))?;
+            found.push(List::new(alloc))?;
+        }
+    }
+    Ok(found)
+}
+
+/// Of the two pieces that are missing the lower, from what they add to both parity fragments.
+fn lower_of_two(
+    alloc: Global,
+    a: usize,
+    b: usize,
+    sum: &[u8],
+    weighted: List<u8>,
+    part: usize,
+) -> Mem<List<u8>>
+    requires order { a < b }
+    requires places { b < 8 }
+    requires sum { length sum.now ≡ part }
+    requires weighted { length weighted ≡ part }
+    ensures lower { IfOk result (λ lower. lower ≡ lower_of a b sum.now weighted) }
+    ensures long { IfOk result (λ lower. length lower ≡ part) }
+{
+    let rest = added(weighted, sum, 1 << b);
+    multiple(alloc, part, inverse((1 << a) ^ (1 << b)), rest.as_slice())
+}
+
+/// The exclusive or of a fragment and of those that are there.
+fn plain_rest(
+    alloc: Global,
+    start: &List<u8>,
+    known: &[Option<List<u8>>],
+    part: usize,
+) -> Mem<List<u8>>
+    requires start { length start.now ≡ part }
+    requires known { HasLengths part known.now }
+    ensures rest { IfOk result (λ sum. sum ≡ rest_onto plain 0 start.now known.now) }
+    ensures long { IfOk result (λ sum. length sum ≡ part) }
+{
+    let mut sum = start.copy(alloc)?;
+    for fragment in known {
+        if let Some(fragment) = fragment {
+            sum = xored(sum, fragment.as_slice());
+        }
+    }
+    Ok(sum)
+}
+
+/// The exclusive or of a fragment and of the products of those that are there by 1, 2, 4 and so on.
+fn weighted_rest(
+    alloc: Global,
+    start: &List<u8>,
+    known: &[Option<List<u8>>],
+    part: usize,
+) -> Mem<List<u8>>
+    requires few { length known.now ≤ 8 }
+    requires start { length start.now ≡ part }
+    requires known { HasLengths part known.now }
+    ensures rest { IfOk result (λ sum. sum ≡ rest_onto weighted 0 start.now known.now) }
+    ensures long { IfOk result (λ sum. length sum ≡ part) }
+{
+    let mut sum = start.copy(alloc)?;
+    for (place, fragment) in known.iter().enumerate() {
+        if let Some(fragment) = fragment {
+            sum = added(sum, fragment.as_slice(), 1 << place);
+        }
+    }
+    Ok(sum)
+}
+
+/// The products of bytes by one.
+fn multiple(alloc: Global, part: usize, by: u8, of: &[u8]) -> Mem<List<u8>>
+    requires { length of.now ≡ part }
+    ensures times { IfOk result (λ product. product ≡ times by of.now) }
+    ensures long { IfOk result (λ product. length product ≡ part) }
+{
+    let start = zeros_of(alloc, part)?;
+    Ok(added(start, of, by))
+}
+
+/// The first `len` bytes of the pieces, of which those that are missing stand in `found`, in order.
+fn fill(alloc: Global, known: &[Option<List<u8>>], found: &[List<u8>], len: usize) -> Mem<List<u8>>
+    ensures { IfOk result (λ text. text ≡ take len (concat (filled known.now found.now))) }
+{
+    let mut text = Vec::new(alloc);
+    let mut rest = found;
+    for fragment in known {
+        match fragment {
+            Some(fragment) => text.extend_from_slice(fragment.as_slice())?,
+            None => {
+                if let Some((piece, others)) = rest.split_first() {
+                    text.extend_from_slice(piece.as_slice())?;
+                    rest = others;
+                }
+            }
+        }
+    }
+    text.truncate(len);
+    Ok(List::from_vec(text))
+}

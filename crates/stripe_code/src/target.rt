@@ -1,0 +1,57 @@
+//! What a reader looks for.
+ghost use Rattle.std.specs.Prelude.{◌≡◌, slice_get};
+ghost use Rattle.stripe_code.specs.Reading.{is_target, is_known, is_block};
+
+use group_map::GroupMap;
+use segment_format::{Item, Segment};
+use xfs_base::{BlockId, Prior, SegName, SegRef};
+
+/// An item of a segment that is to be a Block of one block.
+#[derive(Clone, Copy, Debug, PartialEq, Eq)]
+pub struct BlockAt {
+    /// The number of the item in the segment, from 0.
+    pub item: u16,
+    /// The block.
+    pub block: BlockId,
+}
+
+/// What a reader looks for.
+#[derive(Clone, Copy, Debug, PartialEq, Eq)]
+pub struct Target {
+    /// The segment, and the group over which it lies.
+    pub seg: SegRef,
+    /// For a client's read the item that it is after; none for a reader of the whole segment.
+    pub block: Option<BlockAt>,
+}
+
+impl Target {
+    /// Whether the segment is the one that is looked for: it has the name, its prior, where it has one, is
+    /// in a group that is known, and the item, where one is looked for, is a Block of the block.
+    pub fn is(&self, segment: &Segment, groups: &GroupMap) -> bool
+        ensures { result ≡ is_target self.now groups.now segment.now }
+    {
+        let Some(at) = self.block else {
+            return self.seg.name.is(segment.name) && is_known(segment.prior, groups);
+        };
+        self.seg.name.is(segment.name) && is_known(segment.prior, groups) && is_block(segment, at)
+    }
+}
+
+/// Whether there is no prior, or one in a group that is known.
+fn is_known(prior: Prior, groups: &GroupMap) -> bool
+    ensures { result ≡ is_known groups.now prior }
+{
+    if prior.pass.inc == 0 && prior.pass.att == 0 && prior.group == 0 {
+        return true;
+    }
+    groups.lookup(prior.group).is_ok()
+}
+
+fn is_block(segment: &Segment, at: BlockAt) -> bool
+    ensures { result ≡ is_block at.block (slice_get segment.now.items at.item) }
+{
+    match segment.items.get(usize::from(at.item)) {
+        Some(Item::Block { block, value: _ }) => *block == at.block,
+        _ => false,
+    }
+}
