@@ -1,0 +1,150 @@
+-- What a log took, newest first, and what is claimed of it whatever it took.
+use Rattle.std.specs.Prelude.{◌≡◌, ◌+◌, ◌⊎◌, IfSome, List, [], ◌∷◌, Option, Some, None, if◌then◌else◌}
+use Rattle.std.specs.List.{AllByRecursion}
+use Rattle.xfs_base.specs.declared.block.BlockId.{BlockId}
+use Rattle.xfs_base.specs.declared.entry.Entry.{Entry}
+use Rattle.xfs_base.specs.declared.segment.End.{End}
+use Rattle.xfs_base.specs.Blocks.{same_block}
+use Rattle.segment_format.specs.declared.segment.Item.{Item}
+use Rattle.group_map.specs.GroupMapState.{GroupMapState}
+use Rattle.client_log.specs.declared.dirty.Change.{Change}
+use Rattle.client_log.specs.declared.flight.Fate.TheVariants.{Settle}
+use Rattle.client_log.specs.declared.input.In.{In}
+use Rattle.client_log.specs.declared.input.In.TheVariants.{Put, Parts, Seal, Acked, Maps, Tick}
+use Rattle.client_log.specs.declared.output.Out.{Out}
+use Rattle.client_log.specs.declared.output.Out.TheVariants.{Send, Settled}
+use Rattle.client_log.specs.Fate.{fate_of}
+use Rattle.client_log.specs.Items.{items_of, rows_of}
+use Rattle.client_log.specs.LogState.{FlightState, LogState}
+use Rattle.client_log.specs.Transition.{Done, transition, prior_from, end_from, next_attempt, noting, waits, can_go_on}
+
+-- a log that began so and took these inputs
+abbrev pub state_after : LogState → List In → LogState
+state_after start [] = start
+state_after start (input ∷ earlier) = (transition (state_after start earlier) input).state
+
+-- ---- the line of segments
+
+-- a segment in flight has the number after the end, is of its owner's incarnation, and names the end as the one before
+pub record IsNext (s : LogState) (f : FlightState) : Type 0 where
+  pub log : f.segment.name.log ≡ s.log
+  pub seq : f.segment.name.seq ≡ s.end.seq + 1
+  pub inc : f.segment.name.pass.inc ≡ s.inc
+  pub prior : f.segment.prior ≡ prior_from s.end
+
+abbrev pub IsInLine : LogState → Type 0
+IsInLine s = IfSome s.flight (IsNext s)
+
+-- the segments that are settled
+abbrev pub settled_ends : List Out → List End
+settled_ends [] = []
+settled_ends (Send fragment member ∷ outs) = settled_ends outs
+settled_ends (Settled end rows ∷ outs) = end ∷ settled_ends outs
+
+-- nothing is settled and the end stays, or one segment is settled, of the next number, and is the end
+abbrev pub EndRisesByOne : LogState → Done → Type 0
+EndRisesByOne s d = ((settled_ends d.outs ≡ []) × (d.state.end ≡ s.end)) ⊎ ((settled_ends d.outs ≡ d.state.end ∷ []) × (d.state.end.seq ≡ s.end.seq + 1))
+
+-- ---- what is settled
+
+-- the groups that an input leaves, and what it notes of a flight
+abbrev pub groups_with : GroupMapState → In → GroupMapState
+groups_with groups (Put block entry value) = groups
+groups_with groups (Parts items) = groups
+groups_with groups Seal = groups
+groups_with groups (Acked name index generation) = groups
+groups_with groups (Maps new) = new
+groups_with groups Tick = groups
+
+abbrev pub noted_by : FlightState → In → FlightState
+noted_by f (Put block entry value) = f
+noted_by f (Parts items) = f
+noted_by f Seal = f
+noted_by f (Acked name index generation) = noting f index
+noted_by f (Maps new) = f
+noted_by f Tick = f
+
+-- What is told as settled is the segment that was in flight, with what its Deltas say; and it is due: no more of its members
+-- are lost than its group has parity, and each is noted or lost.
+pub record IsDue (s : LogState) (input : In) (end : End) (rows : List (BlockId × Entry)) : Type 0 where
+  pub flight : FlightState
+  pub was : s.flight ≡ Some flight
+  pub is_end : end ≡ end_from flight.segment
+  pub are_rows : rows ≡ rows_of flight.segment
+  pub due : fate_of (groups_with s.groups input) (noted_by flight input) ≡ Settle
+
+abbrev pub TellsWhatIsDue : LogState → In → Out → Type 0
+TellsWhatIsDue s input (Send fragment member) = Unit {0}
+TellsWhatIsDue s input (Settled end rows) = IsDue s input end rows
+
+-- ---- attempts
+
+-- the same segment, perhaps with more noted
+pub record IsSameFlight (s : LogState) (g : FlightState) : Type 0 where
+  pub flight : FlightState
+  pub was : s.flight ≡ Some flight
+  pub segment : g.segment ≡ flight.segment
+  pub group : g.group ≡ flight.group
+
+-- the same content by the next attempt, whose number is one higher
+pub record IsNextAttempt (s : LogState) (g : FlightState) : Type 0 where
+  pub flight : FlightState
+  pub was : s.flight ≡ Some flight
+  pub name : g.segment.name ≡ next_attempt flight.segment.name
+  pub items : g.segment.items ≡ flight.segment.items
+  pub prior : g.segment.prior ≡ flight.segment.prior
+
+-- a new segment, by its first attempt, behind the end
+pub record IsBegun (after : LogState) (g : FlightState) : Type 0 where
+  pub seq : g.segment.name.seq ≡ after.end.seq + 1
+  pub att : g.segment.name.pass.att ≡ 1
+  pub prior : g.segment.prior ≡ prior_from after.end
+
+-- what a flight is to the state before: it goes on, is the next attempt of what flew, or has begun
+abbrev pub Follows : LogState → LogState → FlightState → Type 0
+Follows s after g = IsSameFlight s g ⊎ (IsNextAttempt s g ⊎ IsBegun after g)
+
+-- ---- what is written
+
+-- what was put last of a block, among the puts that had an effect
+abbrev pub last_put : LogState → List In → BlockId → Option Change
+last_put start [] block = None
+last_put start (Put b entry value ∷ earlier) block =
+    if can_go_on (waits (state_after start earlier) b (record { entry = entry; value = value }))
+    then (if same_block b block then Some (record { entry = entry; value = value }) else last_put start earlier block)
+    else last_put start earlier block
+last_put start (Parts items ∷ earlier) block = last_put start earlier block
+last_put start (Seal ∷ earlier) block = last_put start earlier block
+last_put start (Acked name index generation ∷ earlier) block = last_put start earlier block
+last_put start (Maps groups ∷ earlier) block = last_put start earlier block
+last_put start (Tick ∷ earlier) block = last_put start earlier block
+
+-- each of these changes is what was put last of its block
+abbrev pub AreLastPuts : LogState → List In → List (BlockId × Change) → Type 0
+AreLastPuts start history changes = AllByRecursion (λ c. last_put start history c.0 ≡ Some c.1) changes
+
+-- the items that an input gives to be written as they are
+abbrev pub IsGiven : In → List Item → Type 0
+IsGiven (Put block entry value) items = ⊥
+IsGiven (Parts given) items = items ≡ given
+IsGiven Seal items = ⊥
+IsGiven (Acked name index generation) items = ⊥
+IsGiven (Maps groups) items = ⊥
+IsGiven Tick items = ⊥
+
+-- these are the items of changes that were put last
+pub record AreOfLastPuts (start : LogState) (history : List In) (items : List Item) : Type 0 where
+  pub changes : List (BlockId × Change)
+  pub last : AreLastPuts start history changes
+  pub written : items ≡ items_of 0 changes
+
+-- these items were in flight
+pub record WereFlying (s : LogState) (items : List Item) : Type 0 where
+  pub flight : FlightState
+  pub was : s.flight ≡ Some flight
+  pub same : items ≡ flight.segment.items
+
+-- what a flight holds after an input: what flew before, what was given, or what was put last
+abbrev pub HoldsLastPuts : LogState → List In → In → List Item → Type 0
+HoldsLastPuts start history input items =
+    WereFlying (state_after start history) items ⊎ (IsGiven input items ⊎ AreOfLastPuts start (input ∷ history) items)

@@ -1,0 +1,50 @@
+//! The fragments of a segment over a group.
+ghost use Rattle.std.specs.Prelude.{◌≡◌, ◌≤◌, length, IfOk};
+ghost use Rattle.segment_format.specs.Text.{KeepsLimits, text_of};
+ghost use Rattle.stripe_code.specs.Stripe.{IsCut};
+ghost use Rattle.client_log.specs.Fragments.{pieces_from, pieces_over};
+
+use group_map::Group;
+use segment_format::{Segment, encode};
+use std::alloc::Global;
+use stripe_code::cut;
+use xfs_base::{Bytes, FragMeta, Fragment, List, Mem};
+
+/// The fragments of a segment over a group, by place: the stripe of its text, each with what it is a part
+/// of.
+pub(crate) fn fragments_over(alloc: Global, segment: &Segment, group: &Group) -> Mem<List<Fragment>>
+    requires limits { KeepsLimits segment.now }
+    requires cut { IsCut (length group.now.members) group.now.parity }
+    ensures { IfOk result (λ fragments. fragments ≡ pieces_over segment.now group.now) }
+{
+    let text = encode(alloc, segment)?;
+    let stripe = cut(alloc, text.as_slice(), group.members.len(), group.parity)?;
+    let len = text.len() as u32;
+    fragments_with(alloc, segment, len, stripe)
+}
+
+fn fragments_with(
+    alloc: Global,
+    segment: &Segment,
+    len: u32,
+    stripe: List<List<u8>>,
+) -> Mem<List<Fragment>>
+    requires len { len ≡ length (text_of segment.now) }
+    requires few { length stripe ≤ 8 }
+    ensures { IfOk result (λ fragments. fragments ≡ pieces_from segment.now 0 stripe) }
+{
+    let mut fragments = List::new(alloc);
+    for bytes in stripe.into_vec() {
+        let index = fragments.len() as u8;
+        let meta = FragMeta {
+            name: segment.name,
+            group: segment.group,
+            prior: segment.prior,
+            index,
+            len,
+        };
+        let bytes = Bytes::from_list(bytes)?;
+        fragments.push(Fragment { meta, bytes })?;
+    }
+    Ok(fragments)
+}

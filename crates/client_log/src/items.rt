@@ -1,0 +1,104 @@
+//! The items that are written of changes, and what they tell once they are settled.
+ghost use Rattle.std.specs.Prelude.{◌≡◌, ◌≤◌, ◌<◌, ◌^◌, ◌++◌, length, OnOk, IfOk};
+ghost use Rattle.std.specs.List.{AllByRecursion};
+ghost use Rattle.segment_format.specs.declared.segment.Item.TheVariants.{Delta};
+ghost use Rattle.segment_format.specs.Format.{second_version};
+ghost use Rattle.segment_format.specs.Text.{IsItem};
+ghost use Rattle.xfs_base.specs.Limits.{segment_blocks};
+ghost use Rattle.client_log.specs.Items.{change_items, items_of, place_of, row_of, rows_of};
+ghost use Rattle.client_log.specs.Texts.{HasText};
+
+use crate::Change;
+use segment_format::format::NO_ITEM;
+use segment_format::{Item, Segment};
+use std::alloc::Global;
+use xfs_base::{BlockId, Entry, List, Mem, Place, SegRef};
+
+/// The items of changes, in their order: of each a Block and its Delta, or a Delta alone where the version
+/// is absent.
+pub(crate) fn items_of(alloc: Global, changes: List<(BlockId, Change)>) -> Mem<List<Item>>
+    requires { length changes ≤ segment_blocks }
+    ensures items { IfOk result (λ items. items ≡ items_of 0 changes) }
+    ensures text { IfOk result HasText }
+{
+    let mut items = List::new(alloc);
+    for (block, change) in changes.into_vec() {
+        add_items(&mut items, block, change)?;
+    }
+    Ok(items)
+}
+
+fn add_items(items: &mut List<Item>, block: BlockId, change: Change) -> Mem<()>
+    requires { length items.old < 2 ^ 16 }
+    ensures added { OnOk result (items.new ≡ items.old ++ change_items (length items.old) block change) }
+    ensures each { OnOk result (AllByRecursion (IsItem second_version) (change_items (length items.old) block change)) }
+{
+    let before = items.len() as u16;
+    let Change { entry, value } = change;
+    let is_absent = value.bytes().is_none();
+    if is_absent {
+        items.push(delta(block, entry, NO_ITEM))?;
+    } else {
+        items.push(Item::Block { block, value })?;
+        items.push(delta(block, entry, before))?;
+    }
+    Ok(())
+}
+
+fn delta(block: BlockId, entry: Entry, item: u16) -> Item
+    ensures { result ≡ Delta block entry.ver entry.hop item }
+{
+    Item::Delta {
+        block,
+        ver: entry.ver,
+        hop: entry.hop,
+        item,
+    }
+}
+
+/// What a settled segment says of blocks.
+pub(crate) fn rows_of(alloc: Global, segment: &Segment) -> Mem<List<(BlockId, Entry)>>
+    ensures { IfOk result (λ rows. rows ≡ rows_of segment.now) }
+{
+    let mut rows = List::new(alloc);
+    for item in segment.items.as_slice() {
+        if let Some(row) = row_of(segment, item) {
+            rows.push(row)?;
+        }
+    }
+    Ok(rows)
+}
+
+fn row_of(segment: &Segment, item: &Item) -> Option<(BlockId, Entry)>
+    ensures { result ≡ row_of segment.now item.now }
+{
+    match item {
+        Item::Delta {
+            block,
+            ver,
+            hop,
+            item,
+        } => Some((
+            *block,
+            Entry {
+                ver: *ver,
+                hop: *hop,
+                place: place_of(segment, *item),
+            },
+        )),
+        Item::Block { .. } | Item::Part { .. } => None,
+    }
+}
+
+fn place_of(segment: &Segment, item: u16) -> Option<Place>
+    ensures { result ≡ place_of segment.now item }
+{
+    if item == NO_ITEM {
+        return None;
+    }
+    let seg = SegRef {
+        name: segment.name,
+        group: segment.group,
+    };
+    Some(Place { seg, item })
+}
