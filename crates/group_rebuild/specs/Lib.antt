@@ -1,0 +1,5 @@
+pub mod Counted
+pub mod Reads
+pub mod RebuildState
+pub mod Transition
+pub mod Wanted
