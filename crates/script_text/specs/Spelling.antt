@@ -1,62 +1,104 @@
--- How a line spells what it means. Each form that is built has one case here.
-use Rattle.std.specs.Prelude.{◌≡◌, ℕ, ◌-◌, ◌^◌, ◌≤◌, ◌<◌, Bool, true, false, not, ◌&&◌, nat_le, ◌==◌, List, [], ◌∷◌, ◌++◌, length, slice_get, codes, Option, Some, None}
-use Rattle.std.specs.List.{list_all}
+-- What a part of a line spells, and when it is at fault: its form is looked at first, and then its limit.
+use Rattle.std.specs.Prelude.{◌≡◌, ◌≢◌, ◌⊎◌, ℕ, ◌<◌, ◌≤◌, ◌^◌, min, List, [], ◌∷◌, ◌++◌, length, ⊤}
+use Rattle.std.specs.List.{AllByRecursion}
 use Rattle.std.specs.Fmt.{decimal}
 use Rattle.xfs_base.specs.Blocks.{IsRaw}
-use Rattle.xfs_base.specs.declared.block.BlockId.{BlockId}
 use Rattle.xfs_base.specs.declared.setup.Setup.{Setup}
-use Rattle.version_model.specs.declared.work.Work.{Work}
-use Rattle.version_model.specs.declared.work.Work.TheVariants.{Bput, Bget}
+use Rattle.script_text.specs.declared.form.Part.{Part}
+use Rattle.script_text.specs.declared.form.Part.TheVariants as part
+use Rattle.script_text.specs.declared.refusal.Kind.{Kind}
+use Rattle.script_text.specs.declared.refusal.Kind.TheVariants.{BadNumber, BadText, TooLong, NoNode}
+use Rattle.script_text.specs.Words.{Lacks}
+use Rattle.script_text.specs.Text.{SpellsText}
+use Rattle.script_text.specs.Forms.{Meaning, Meanings, piece_of, behind_part}
 
--- the five lines of the setup
-abbrev pub setup_lines : List (List ℕ)
-setup_lines = codes "xfs 1" ∷ codes "clients 2" ∷ codes "managers 1" ∷ codes "servers 3" ∷ codes "group 1 2 3" ∷ []
+-- a number of 32 bits in decimal digits, without a sign or a leading zero
+abbrev pub IsNumber : List ℕ → ℕ → Type 0
+IsNumber word n = (n < 2 ^ 32) × (word ≡ decimal n)
 
--- the line is the one of this number in the setup, counted from 1
-abbrev pub IsSetupLine : ℕ → List ℕ → Type 0
-IsSetupLine n l = slice_get setup_lines (n - 1) ≡ Some l
+-- a letter and such a number
+abbrev pub IsNode : ℕ → List ℕ → ℕ → Type 0
+IsNode letter word n = (n < 2 ^ 32) × (word ≡ letter ∷ decimal n)
 
--- what these lines state; a client caches 64 clean blocks where no line says another number
-abbrev pub first_setup : Setup
-first_setup = record { clients = 2; managers = 1; servers = 3; groups = (1 ∷ 2 ∷ 3 ∷ []) ∷ []; cache = 64; acts = false }
+-- each name behind a slash
+abbrev pub slashed : List (List ℕ) → List ℕ
+slashed [] = []
+slashed (name ∷ names) = 47 ∷ (name ++ slashed names)
 
--- a byte that stands for itself in a text: a printed one that is neither a quote nor a backslash
-abbrev pub is_plain : ℕ → Bool
-is_plain b = nat_le 0x20 b && nat_le b 0x7e && not (b == 0x22) && not (b == 0x5c)
+-- a path of these names: a slash alone is the root, which has none, and else each name stands behind a slash
+abbrev pub IsPath : List ℕ → List (List ℕ) → Type 0
+IsPath word [] = word ≡ 47 ∷ []
+IsPath word (name ∷ names) = (word ≢ 47 ∷ []) × AllByRecursion (Lacks 47) (name ∷ names) × (word ≡ slashed (name ∷ names))
 
--- each byte of the text stands for itself
-abbrev pub IsPlainText : List ℕ → Type 0
-IsPlainText text = list_all is_plain text ≡ true
+-- what is known where a line is read: the setup, and how many bytes of texts are still free
+pub record Context : Type 0 where
+  pub setup : Setup
+  pub room : ℕ
 
--- a raw index number, of 32 bits
-abbrev pub IsRawNumber : ℕ → Type 0
-IsRawNumber ino = IsRaw ino × (ino < 2 ^ 32)
+-- the word has the form of this part, and spells this
+abbrev pub Spells : (p : Part) → List ℕ → Meaning p → Type 0
+Spells part.Client word n = IsNode 99 word n
+Spells part.Manager word n = IsNode 109 word n
+Spells part.Server word n = IsNode 115 word n
+Spells part.Board word n = IsNode 98 word n
+Spells (part.Number least most) word n = IsNumber word n × (least ≤ n) × (n ≤ most)
+Spells part.Raw word n = IsNumber word n × IsRaw n
+Spells part.Path word names = IsPath word names
+Spells part.BlockText word text = SpellsText word text × (0 < length text)
+Spells part.FileText word text = SpellsText word text
+Spells p word v = ⊤
 
--- a line `c1 bput INO BLK "TEXT"`, of a raw file and at least one byte
-pub record IsBput (line : List ℕ) (block : BlockId) (text : List ℕ) : Type 0 where
-  pub raw : IsRawNumber block.ino.0
-  pub blk : block.blk < 2 ^ 32
-  pub plain : IsPlainText text
-  pub some : 0 < length text
-  pub spelled : line ≡ codes "c1 bput " ++ (decimal block.ino.0 ++ 32 ∷ (decimal block.blk ++ 32 ∷ (34 ∷ (text ++ 34 ∷ []))))
+-- there is a node of this number, of so many
+abbrev pub IsOneOf : ℕ → ℕ → Type 0
+IsOneOf count n = (0 < n) × (n ≤ count)
 
--- a line `c1 bget INO BLK`
-pub record IsBget (line : List ℕ) (block : BlockId) : Type 0 where
-  pub ino : block.ino.0 < 2 ^ 32
-  pub blk : block.blk < 2 ^ 32
-  pub spelled : line ≡ codes "c1 bget " ++ (decimal block.ino.0 ++ 32 ∷ decimal block.blk)
+-- what it spells is within the limit of this part
+abbrev pub IsWithin : Context → (p : Part) → Meaning p → Type 0
+IsWithin c part.Client n = IsOneOf c.setup.clients n
+IsWithin c part.Manager n = IsOneOf c.setup.managers n
+IsWithin c part.Server n = IsOneOf c.setup.servers n
+IsWithin c part.Board n = IsOneOf 3 n
+IsWithin c part.Path names = length names ≤ 16
+IsWithin c part.BlockText text = length text ≤ min 8192 c.room
+IsWithin c part.FileText text = length text ≤ min 65536 c.room
+IsWithin c p v = ⊤
 
--- the value has just these bytes
-abbrev pub HasBytes : List ℕ → Option (List ℕ) → Type 0
-HasBytes text None = ⊥
-HasBytes text (Some bytes) = bytes ≡ text
+-- the kind of a malformed part
+abbrev pub form_fault : Part → Kind
+form_fault part.Path = BadText
+form_fault part.BlockText = BadText
+form_fault part.FileText = BadText
+form_fault p = BadNumber
 
--- the line means this work
-abbrev pub Spells : List ℕ → Work → Type 0
-Spells line (Bput client block value) = (client ≡ 1) × (text : List ℕ) × IsBput line block text × (length text ≤ 4096) × HasBytes text value
-Spells line (Bget client block) = (client ≡ 1) × IsBget line block
-Spells line w = ⊥
+-- the kind of a part past its limit
+abbrev pub limit_fault : Part → Kind
+limit_fault part.Path = TooLong
+limit_fault part.BlockText = TooLong
+limit_fault part.FileText = TooLong
+limit_fault part.Client = NoNode
+limit_fault part.Manager = NoNode
+limit_fault part.Server = NoNode
+limit_fault part.Board = NoNode
+limit_fault p = BadNumber
 
--- the line is a bput whose text no block holds
-abbrev pub IsLong : List ℕ → Type 0
-IsLong line = (block : BlockId) × (text : List ℕ) × IsBput line block text × (4096 < length text)
+-- the word is good for this part, and spells this
+abbrev pub Means : Context → (p : Part) → List ℕ → Meaning p → Type 0
+Means c p word v = Spells p word v × IsWithin c p v
+
+-- the word is at fault: it has not the form of this part, or what it spells is past the limit
+abbrev pub IsFault : Context → Part → List ℕ → Kind → Type 0
+IsFault c p word k =
+    (((v : Meaning p) → Spells p word v → ⊥) × (k ≡ form_fault p))
+    ⊎ ((v : Meaning p) × Spells p word v × (IsWithin c p v → ⊥) × (k ≡ limit_fault p))
+
+-- the words are good for these parts, from left to right, and spell these
+abbrev pub Mean : Context → (ps : List Part) → List (List ℕ) → Meanings ps → Type 0
+Mean c [] ws v = ⊤
+Mean c (p ∷ ps) ws v = Means c p (piece_of p ws) v.0 × Mean c ps (behind_part p ws) v.1
+
+-- the first part at fault, from left to right, is at fault for this reason
+abbrev pub FirstFault : Context → List Part → List (List ℕ) → Kind → Type 0
+FirstFault c [] ws k = ⊥
+FirstFault c (p ∷ ps) ws k =
+    IsFault c p (piece_of p ws) k
+    ⊎ ((v : Meaning p) × Means c p (piece_of p ws) v × FirstFault c ps (behind_part p ws) k)

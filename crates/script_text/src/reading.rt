@@ -1,23 +1,23 @@
 //! Reading a script.
-ghost use Rattle.std.specs.Prelude.{◌≡◌, ℕ, ◌<◌, ◌≤◌, ◌+◌, ◌∷◌, ◌↔◌, List, length, IsTrue, IfOk, OnOk, IfErr, MatchResult};
-ghost use Rattle.script_text.specs.declared.script.Script.{Script as ScriptRecord};
+ghost use Rattle.std.specs.Prelude.{◌≡◌, ◌⊎◌, ◌<◌, ◌≤◌, ◌+◌, ◌∷◌, length, IfOk, OnOk, IfErr, MatchResult};
 ghost use Rattle.script_text.specs.Lines.{lines};
-ghost use Rattle.script_text.specs.Script.{IsScriptOf, IsFirstBad, HasCause, IsPast};
-ghost use Rattle.script_text.specs.Reading.{Adds, AddsNothing, Extends, Accepted};
+ghost use Rattle.script_text.specs.Words.{words};
+ghost use Rattle.script_text.specs.Script.{IsScriptOf, IsFirstBad, HasCause, start, is_silent, text_size, is_whole};
+ghost use Rattle.script_text.specs.Reading.{LeadsTo, AnswersScript, is_past, behind_said, behind_item, read_other, read_words, read_at, refused, script_at, read_script};
 
-use crate::block_line::{LineError, work_of};
-use crate::setup_lines::{first_setup, is_setup_line};
+use crate::item::{Item, read_item};
+use crate::setup_lines::{Said, begins_setup, said_at};
+use crate::stage::{Place, Stage};
+use crate::unclosed::open_crash;
 use crate::word::cut_at;
-use crate::{Kind, Line, Script, ScriptError};
+use crate::{Kind, Line, LineError, Script, ScriptError};
 use std::alloc::Global;
-use version_model::Work;
-use xfs_base::List;
+use version_model::{FileCall, Work};
+use xfs_base::limits::{MAX_BYTES, MAX_LINES};
+use xfs_base::{List, Setup};
 
-/// The most lines that a script may have.
-const MAX_LINES: u32 = 20_000;
-
-/// The most bytes that a script may have.
-const MAX_BYTES: usize = 1_048_576;
+/// The most bytes of all texts together, 64 MiB.
+const MAX_TEXTS: usize = 67_108_864;
 
 /// The first line, and what stands behind its line feed.
 fn first_line(bytes: &[u8]) -> (&[u8], &[u8])
@@ -35,123 +35,212 @@ fn first_line(bytes: &[u8]) -> (&[u8], &[u8])
 
 /// Whether the line of this number, which ends at this place, is past a limit.
 fn is_past(total: usize, number: u32, end: usize) -> bool
-    ensures { IsTrue result ↔ IsPast total number end }
+    ensures { result ≡ is_past total number end }
 {
-    if number > MAX_LINES {
-        return true;
-    }
-    total > MAX_BYTES && end > MAX_BYTES
+    number > MAX_LINES || total > MAX_BYTES && end > MAX_BYTES
 }
 
-/// Whether the line of this number is one of the setup.
-fn is_in_setup(number: u32) -> bool
-    ensures { IsTrue result ↔ (number ≤ 5) }
+/// The place before the first line.
+fn start(alloc: Global) -> Place
+    ensures { result ≡ start }
 {
-    number <= 5
-}
-
-/// What the line of this number adds: nothing in the setup, and then a work.
-fn work_at(
-    alloc: Global,
-    total: usize,
-    number: u32,
-    end: usize,
-    line: &[u8],
-) -> Result<Option<Work>, ScriptError>
-    requires { 1 ≤ number }
-    ensures { MatchResult result (λ work. Adds total number end line.now work) (λ error. AddsNothing total number end line.now error) }
-{
-    if is_past(total, number, end) {
-        return Err(ScriptError::Bad(number, Kind::TooLong));
-    }
-    if is_in_setup(number) {
-        return if is_setup_line(number, line) {
-            Ok(None)
-        } else {
-            Err(ScriptError::Bad(number, Kind::Unbuilt))
-        };
-    }
-    match work_of(alloc, line) {
-        Ok(work) => Ok(Some(work)),
-        Err(LineError::Long) => Err(ScriptError::Bad(number, Kind::TooLong)),
-        Err(LineError::Unknown) => Err(ScriptError::Bad(number, Kind::Unbuilt)),
-        Err(LineError::Memory) => Err(ScriptError::Memory),
+    Place {
+        stage: Stage::Version,
+        setup: Setup {
+            clients: 0,
+            managers: 0,
+            servers: 0,
+            groups: List::new(alloc),
+            cache: 64,
+            acts: false,
+        },
+        room: MAX_TEXTS,
+        items: List::new(alloc),
     }
 }
 
-/// Adds what the line of this number adds to the items so far.
+/// Whether a setup has all its lines but the optional ones.
+fn is_whole(stage: Stage) -> bool
+    ensures { result ≡ is_whole stage }
+{
+    matches!(stage, Stage::Groups | Stage::Cached | Stage::Items)
+}
+
+/// Whether a line says nothing.
+fn is_silent(line: &[u8]) -> bool
+    ensures { result ≡ is_silent line.now }
+{
+    match line {
+        [] => true,
+        [b, ..] => *b == b'#',
+    }
+}
+
+/// How many bytes of texts an item takes.
+fn text_size(work: &Work) -> usize
+    ensures { result ≡ text_size work.now }
+{
+    match work {
+        Work::Bput { value, .. } => match value.bytes() {
+            None => 0,
+            Some(bytes) => bytes.len(),
+        },
+        Work::File { call, .. } => match call {
+            FileCall::Put { bytes, .. } => bytes.len(),
+            _ => 0,
+        },
+        _ => 0,
+    }
+}
+
+/// Notes what a line of the setup says.
+fn note_said(place: &mut Place, said: Said) -> Result<(), LineError>
+    ensures ok { OnOk result (place.new ≡ behind_said place.old said) }
+    ensures err { IfErr result (λ error. error ≡ LineError.Memory) }
+{
+    match said {
+        Said::Version => place.stage = Stage::Clients,
+        Said::Clients(number) => {
+            place.stage = Stage::Managers;
+            place.setup.clients = number;
+        }
+        Said::Managers(number) => {
+            place.stage = Stage::Servers;
+            place.setup.managers = number;
+        }
+        Said::Servers(number) => {
+            place.stage = Stage::FirstGroup;
+            place.setup.servers = number;
+        }
+        Said::Group(group) => {
+            place.stage = Stage::Groups;
+            place.setup.groups.push(group)?;
+        }
+        Said::Cache(number) => {
+            place.stage = Stage::Cached;
+            place.setup.cache = number;
+        }
+        Said::Acts => {
+            place.stage = Stage::Items;
+            place.setup.acts = true;
+        }
+    }
+    Ok(())
+}
+
+/// Notes an item.
+fn note_item(place: &mut Place, number: u32, item: Item) -> Result<(), LineError>
+    ensures ok { OnOk result (place.new ≡ behind_item number place.old item) }
+    ensures err { IfErr result (λ error. error ≡ LineError.Memory) }
+{
+    place.stage = Stage::Items;
+    place.room = place.room.saturating_sub(text_size(&item.work));
+    place.items.push(Line {
+        number,
+        after: item.after,
+        work: item.work,
+    })?;
+    Ok(())
+}
+
+/// Notes what a line says that is none of the setup.
+fn take_other(alloc: Global, place: &mut Place, number: u32, line: &[u8]) -> Result<(), LineError>
+    ensures { LeadsTo result place.new (read_other number place.old (words line.now)) }
+{
+    if !is_whole(place.stage) || begins_setup(line) {
+        return Err(LineError::Bad(Kind::BadSetup));
+    }
+    let item = read_item(alloc, &place.setup, place.room, line)?;
+    note_item(place, number, item)
+}
+
+/// Notes what a line says.
+fn take_words(alloc: Global, place: &mut Place, number: u32, line: &[u8]) -> Result<(), LineError>
+    ensures { LeadsTo result place.new (read_words number place.old (words line.now)) }
+{
+    match said_at(alloc, place.stage, &place.setup, line)? {
+        Some(said) => note_said(place, said),
+        None => take_other(alloc, place, number, line),
+    }
+}
+
+/// Notes what a line says, which ends at this place of an input of so many bytes.
 fn take_line(
     alloc: Global,
+    place: &mut Place,
     total: usize,
     number: u32,
     end: usize,
     line: &[u8],
-    items: &mut List<Line>,
-) -> Result<(), ScriptError>
-    requires { 1 ≤ number }
-    ensures ok { OnOk result (Extends total number end line.now items.old items.new) }
-    ensures err { IfErr result (λ error. AddsNothing total number end line.now error) }
+) -> Result<(), LineError>
+    ensures { LeadsTo result place.new (read_at total number end line.now place.old) }
 {
-    match work_at(alloc, total, number, end, line) {
-        Ok(None) => Ok(()),
-        Ok(Some(work)) => match items.push(Line {
-            number,
-            after: 0,
-            work,
-        }) {
-            Ok(()) => Ok(()),
-            Err(_) => Err(ScriptError::Memory),
-        },
-        Err(error) => Err(error),
+    if is_past(total, number, end) {
+        return Err(LineError::Bad(Kind::TooLong));
+    }
+    if is_silent(line) {
+        return Ok(());
+    }
+    take_words(alloc, place, number, line)
+}
+
+/// The script of a place behind the last line, where the next would have this number.
+fn script_at(alloc: Global, live: bool, number: u32, place: Place) -> Result<Script, ScriptError>
+    ensures { AnswersScript result (script_at live number place) }
+{
+    if !is_whole(place.stage) {
+        return Err(ScriptError::Bad(number, Kind::BadSetup));
+    }
+    match open_crash(alloc, live, place.items.as_slice()) {
+        Ok(None) => Ok(Script {
+            setup: place.setup,
+            lines: place.items,
+        }),
+        Ok(Some(line)) => Err(ScriptError::Bad(line, Kind::Unclosed)),
+        Err(_) => Err(ScriptError::Memory),
     }
 }
 
-/// The items of the lines.
-fn items_of(alloc: Global, bytes: &[u8]) -> Result<List<Line>, ScriptError>
-    ensures { MatchResult result (λ items. Accepted (length bytes.now) 1 0 (lines bytes.now) items) (λ error. HasCause bytes.now error) }
+/// Why a script is refused whose line of this number is not taken.
+fn refused(number: u32, error: LineError) -> ScriptError
+    ensures { result ≡ refused number error }
+{
+    match error {
+        LineError::Bad(kind) => ScriptError::Bad(number, kind),
+        LineError::Memory => ScriptError::Memory,
+    }
+}
+
+/// The script of the bytes, or the first bad line.
+fn read_script(alloc: Global, bytes: &[u8], live: bool) -> Result<Script, ScriptError>
+    ensures { AnswersScript result (read_script live bytes.now) }
 {
     let total = bytes.len();
-    let mut items = List::new(alloc);
+    let mut place = start(alloc);
     let mut rest = bytes;
     let mut number = 1;
     let mut end = 0;
     while !rest.is_empty() {
         let (line, after) = first_line(rest);
         end += line.len() + 1;
-        match take_line(alloc, total, number, end, line, &mut items) {
+        match take_line(alloc, &mut place, total, number, end, line) {
             Ok(()) => {}
-            Err(error) => return Err(error),
+            Err(error) => return Err(refused(number, error)),
         }
         number += 1;
         rest = after;
     }
-    if number <= 5 {
-        return Err(ScriptError::Bad(number, Kind::BadSetup));
-    }
-    Ok(items)
+    script_at(alloc, live, number, place)
 }
 
 /// The script that the bytes spell. `Bad` names the first bad line and its kind, exactly where the bytes
-/// spell no script. Runs with threads, `live`, have no further refusal yet.
-pub fn parse(alloc: Global, bytes: &[u8], _live: bool) -> Result<Script, ScriptError>
-    ensures found { IfOk result (λ script. IsScriptOf bytes.now script) }
+/// spell no script. `live` refuses a script in which a node crashes for good.
+pub fn parse(alloc: Global, bytes: &[u8], live: bool) -> Result<Script, ScriptError>
+    ensures found { IfOk result (λ script. IsScriptOf live bytes.now script) }
     ensures few { IfOk result (λ script. length script.lines ≤ 20000) }
-    ensures bad { IfErr result (λ error. HasCause bytes.now error) }
-    ensures found_if_any { (script : _) → IsScriptOf bytes.now script → IfErr result (λ error. error ≡ ScriptError.Memory) }
-    ensures refused_if_bad { (number : _) (kind : _) → IsFirstBad bytes.now number kind → IfOk result (λ script. ⊥) }
+    ensures cause { IfErr result (λ error. HasCause live bytes.now error) }
+    ensures found_if_any { (script : _) → IsScriptOf live bytes.now script → MatchResult result (λ found. found ≡ script) (λ error. error ≡ ScriptError.Memory) }
+    ensures refused_if_bad { (number : _) (kind : _) → IsFirstBad live bytes.now number kind → MatchResult result (λ found. ⊥) (λ error. (error ≡ ScriptError.Bad number kind) ⊎ (error ≡ ScriptError.Memory)) }
 {
-    match items_of(alloc, bytes) {
-        Ok(lines) => match first_setup(alloc) {
-            Ok(setup) => Ok(Script { setup, lines }),
-            Err(_) => Err(ScriptError::Memory),
-        },
-        Err(error) => Err(error),
-    }
+    read_script(alloc, bytes, live)
 }
-
-/// The law that bytes spell at most one script, that a first bad line and its kind are the only ones,
-/// and that no bytes have both.
-pub fn one_script()
-    ensures one { (bytes : List ℕ) (s : ScriptRecord) (t : ScriptRecord) → IsScriptOf bytes s → IsScriptOf bytes t → s ≡ t }
-    ensures not_both { (bytes : List ℕ) (s : ScriptRecord) (number : ℕ) (kind : _) → IsScriptOf bytes s → IsFirstBad bytes number kind → ⊥ }
-{}

@@ -1,4 +1,7 @@
 //! Why bytes are no script.
+ghost use Rattle.std.specs.Prelude.{◌≡◌};
+
+use std::alloc::{AllocError, AllocFailed};
 use xfs_base::Crosses;
 
 /// Why the first bad line is bad. `docs/LANGUAGE.md` says when each kind comes.
@@ -18,8 +21,27 @@ pub enum Kind {
     NoNode,
     /// A crash has no later restart, in a run with threads.
     Unclosed,
-    /// The form is not built yet.
+    /// The form is not built. No line is refused so.
     Unbuilt,
+}
+
+/// Why a line is not taken.
+#[derive(Clone, Copy, Debug, PartialEq, Eq)]
+pub enum LineError {
+    /// It is bad, of this kind.
+    Bad(Kind),
+    /// Want of memory.
+    Memory,
+}
+
+impl From<AllocError> for LineError {
+    ghost use Rattle.script_text.specs.declared.refusal.LineError.TheVariants.{Memory};
+
+    ghost from_gives = { λ _ e. e ≡ Memory };
+
+    fn from(_error: AllocError) -> LineError {
+        LineError::Memory
+    }
 }
 
 /// Why `parse` gives no script.

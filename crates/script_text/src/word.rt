@@ -1,14 +1,24 @@
-//! Words of a line: numbers, and cutting at a byte.
-ghost use Rattle.std.specs.Prelude.{◌≡◌, ◌≢◌, ◌<◌, ◌^◌, ◌++◌, ◌∷◌, MatchOption, ◌==◌};
+//! The words of a line, numbers, and cutting at a byte.
+ghost use Rattle.std.specs.Prelude.{◌≡◌, ◌≢◌, ◌<◌, ◌^◌, ◌++◌, ◌∷◌, [], MatchOption, ◌==◌};
 ghost use Rattle.std.specs.List.{position};
+ghost use Rattle.std.specs.Str.{bytes_eq};
 ghost use Rattle.std.specs.Fmt.{decimal};
-ghost use Rattle.script_text.specs.Words.{Lacks};
+ghost use Rattle.script_text.specs.Words.{Lacks, words, joined, first, behind, is_end, or_empty};
+ghost use Rattle.script_text.specs.Reading.{number_of};
 
+use std::marker::Model;
 use std::str;
+
+/// Whether two rows of bytes are the same.
+pub fn is(word: &[u8], text: &[u8]) -> bool
+    ensures { result ≡ bytes_eq word.now text.now }
+{
+    word == text
+}
 
 /// The number that a word writes in decimal digits, without a sign or a leading zero; none where it
 /// writes no number below 2^32.
-pub fn number_of(word: &[u8]) -> Option<u32>
+fn decimal_of(word: &[u8]) -> Option<u32>
     ensures { MatchOption result ((n : _) → n < 2 ^ 32 → word.now ≢ decimal n) (λ n. word.now ≡ decimal n) }
 {
     if word.is_empty() {
@@ -26,6 +36,17 @@ pub fn number_of(word: &[u8]) -> Option<u32>
             Err(_) => None,
         },
         Err(_) => None,
+    }
+}
+
+/// The number that a word writes in decimal digits, without a sign or a leading zero; none where it
+/// writes no number below 2^32.
+pub fn number_of(word: &[u8]) -> Option<u32>
+    ensures { result ≡ number_of word.now }
+{
+    match decimal_of(word) {
+        None => None,
+        Some(number) => Some(number),
     }
 }
 
@@ -49,23 +70,68 @@ pub fn cut_at(bytes: &[u8], mark: u8) -> Option<(&[u8], &[u8])>
     }
 }
 
-/// What stands behind these bytes; none where others stand in front.
-pub fn behind<'a>(bytes: &'a [u8], front: &[u8]) -> Option<&'a [u8]>
-    ensures { MatchOption result ((rest : _) → bytes.now ≢ front.now ++ rest) (λ rest. bytes.now ≡ front.now ++ rest.now) }
-{
-    bytes.strip_prefix(front)
+/// The words of a line that are left, from left to right. Contracts see the list of them.
+#[derive(Drop)]
+pub struct Words<'a> {
+    rest: Option<&'a [u8]>,
 }
 
-/// The number in front of the first space, and what stands behind that space; none where no number
-/// stands there.
-pub fn number_then(bytes: &[u8]) -> Option<(u32, &[u8])>
-    ensures { MatchOption result ((n : _) (rest : _) → n < 2 ^ 32 → bytes.now ≢ decimal n ++ 32 ∷ rest) (λ p. (p.0 < 2 ^ 32) × (bytes.now ≡ decimal p.0 ++ 32 ∷ p.1.now)) }
-{
-    match cut_at(bytes, b' ') {
-        None => None,
-        Some((word, rest)) => match number_of(word) {
-            None => None,
-            Some(number) => Some((number, rest)),
-        },
+impl<'a> Model for Words<'a> {
+    ghost use Rattle.std.specs.Prelude.{List as Seq, ℕ};
+    ghost use Rattle.script_text.specs.Reading.{left_of};
+
+    ghost Value = { Seq (Seq ℕ) };
+
+    ghost view = { λ w. left_of w.rest };
+}
+
+impl<'a> Words<'a> {
+    /// All words of a line.
+    pub fn of(line: &'a [u8]) -> Words<'a>
+        ensures { result ≡ words line.now }
+    {
+        Words { rest: Some(line) }
+    }
+
+    /// Whether none is left.
+    pub fn is_end(&self) -> bool
+        ensures { result ≡ is_end self.now }
+    {
+        self.rest.is_none()
+    }
+
+    /// Takes the next word; the empty one where none is left.
+    pub fn next(&mut self) -> &'a [u8]
+        ensures word { result.now ≡ first self.old }
+        ensures left { self.new ≡ behind self.old }
+    {
+        match self.rest {
+            None => &[],
+            Some(bytes) => match cut_at(bytes, b' ') {
+                None => {
+                    self.rest = None;
+                    bytes
+                }
+                Some((word, rest)) => {
+                    self.rest = Some(rest);
+                    word
+                }
+            },
+        }
+    }
+
+    /// Takes all that is left of the line, with the spaces.
+    pub fn rest(&mut self) -> &'a [u8]
+        ensures rest { result.now ≡ joined 32 self.old }
+        ensures words { words result.now ≡ or_empty self.old }
+        ensures left { self.new ≡ [] }
+    {
+        match self.rest {
+            None => &[],
+            Some(bytes) => {
+                self.rest = None;
+                bytes
+            }
+        }
     }
 }

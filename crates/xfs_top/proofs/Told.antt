@@ -4,7 +4,7 @@ use Rattle.script_text.specs.declared.refusal.Kind.{Kind}
 use Rattle.script_text.specs.declared.script.Script.{Script}
 use Rattle.script_text.specs.declared.refusal.ScriptError.{ScriptError}
 use Rattle.script_text.specs.declared.refusal.ScriptError.TheVariants.{Bad, Memory}
-use Rattle.script_text.specs.Script.{IsScriptOf, IsFirstBad}
+use Rattle.first_scripts.specs.Script.{IsScriptOf, IsFirstBad}
 use Rattle.xfs_top.specs.Input.{ReadWhole}
 use Rattle.xfs_top.specs.Outcome.{IfTold}
 

@@ -1,7 +1,7 @@
 //! The top call on one thread.
 ghost use Rattle.std.specs.Prelude.{ℕ, ◌≡◌, ◌⊎◌, ◌↔◌, ◌<◌, ◌≤◌, [], ◌∷◌, length, IfSome, IsSome, IsTrue, None};
 ghost use Rattle.std.specs.Io.KnownBytes.{Appends};
-ghost use Rattle.script_text.specs.Script.{IsScriptOf, IsFirstBad};
+ghost use Rattle.first_scripts.specs.Script.{IsScriptOf, IsFirstBad};
 ghost use Rattle.xfs_top.specs.Causes.{Rose};
 ghost use Rattle.xfs_top.specs.Output.{AppendsFront};
 ghost use Rattle.xfs_top.specs.Run.{IsRunOf};
@@ -14,7 +14,8 @@ use crate::output::write_output;
 use crate::outside::{Sink, Source};
 use crate::play::play;
 use crate::transcript;
-use script_text::{Kind, Script, ScriptError, parse};
+use first_scripts::parse;
+use script_text::{Kind, Script, ScriptError};
 use std::alloc::Global;
 
 /// What the program answers.

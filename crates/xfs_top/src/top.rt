@@ -1,7 +1,7 @@
 //! The top call.
 ghost use Rattle.std.specs.Prelude.{ℕ, ◌≡◌, ◌<◌, ◌≤◌, [], ◌∷◌, IfSome, IsSome, None};
 ghost use Rattle.std.specs.Io.KnownBytes.{Appends};
-ghost use Rattle.script_text.specs.Script.{IsScriptOf, IsFirstBad};
+ghost use Rattle.first_scripts.specs.Script.{IsScriptOf, IsFirstBad};
 ghost use Rattle.xfs_top.specs.Causes.{Rose};
 ghost use Rattle.xfs_top.specs.Output.{AppendsFront};
 ghost use Rattle.xfs_top.specs.Run.{IsRunOf};

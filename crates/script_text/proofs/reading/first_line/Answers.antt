@@ -1,4 +1,4 @@
-use Rattle.script_text.proofs.LineLemmas.{lines_cut, lines_whole}
+use Rattle.script_text.proofs.Lines.{lines_cut, lines_whole}
 use Rattle.script_text.proofs.reading.first_line.Goals as goal
 
 pub returns-in-Some-clause-line : goal.returns-in-Some-clause-line

@@ -1,20 +1,18 @@
-use Rattle.script_text.proofs.Grammar.{script_of, few_items}
-use Rattle.script_text.proofs.OneScript.{only_memory, not_refused}
+use Rattle.script_text.proofs.Bounds.{few_found}
+use Rattle.script_text.proofs.Parsing.{found, cause, found_if_any, refused_if_bad}
 use Rattle.script_text.proofs.reading.parse.Goals as goal
 
-pub returns-in-Ok-first_setup-clause-found : goal.returns-in-Ok-first_setup-clause-found
-returns-in-Ok-first_setup-clause-found c =
-    script_of c.args.bytes.now (record { setup = c.in-Ok-first_setup.setup; lines = c.in-Ok.lines }) c.in-Ok-first_setup.ensures c.in-Ok.ensures
+pub returns-clause-found : goal.returns-clause-found
+returns-clause-found c = found c.args.live c.args.bytes.now c.read_script.result c.read_script.ensures
 
-pub returns-in-Ok-first_setup-clause-few : goal.returns-in-Ok-first_setup-clause-few
-returns-in-Ok-first_setup-clause-few c =
-    let script = script_of c.args.bytes.now (record { setup = c.in-Ok-first_setup.setup; lines = c.in-Ok.lines }) c.in-Ok-first_setup.ensures c.in-Ok.ensures in
-    few_items c.args.bytes.now (record { setup = c.in-Ok-first_setup.setup; lines = c.in-Ok.lines }) script
+pub returns-clause-cause : goal.returns-clause-cause
+returns-clause-cause c = cause c.args.live c.args.bytes.now c.read_script.result c.read_script.ensures
 
-pub returns-in-Ok-first_setup-clause-refused_if_bad : goal.returns-in-Ok-first_setup-clause-refused_if_bad
-returns-in-Ok-first_setup-clause-refused_if_bad c number kind bad =
-    let script = script_of c.args.bytes.now (record { setup = c.in-Ok-first_setup.setup; lines = c.in-Ok.lines }) c.in-Ok-first_setup.ensures c.in-Ok.ensures in
-    not_refused c.args.bytes.now (record { setup = c.in-Ok-first_setup.setup; lines = c.in-Ok.lines }) number kind script bad
+pub returns-clause-found_if_any : goal.returns-clause-found_if_any
+returns-clause-found_if_any c = found_if_any c.args.live c.args.bytes.now c.read_script.result c.read_script.ensures
 
-pub returns-in-Err-clause-found_if_any : goal.returns-in-Err-clause-found_if_any
-returns-in-Err-clause-found_if_any c s h = only_memory c.args.bytes.now s c.in-Err.error c.in-Err.ensures h
+pub returns-clause-refused_if_bad : goal.returns-clause-refused_if_bad
+returns-clause-refused_if_bad c = refused_if_bad c.args.live c.args.bytes.now c.read_script.result c.read_script.ensures
+
+pub returns-clause-few : goal.returns-clause-few
+returns-clause-few c = few_found c.args.live c.args.bytes.now c.read_script.result (found c.args.live c.args.bytes.now c.read_script.result c.read_script.ensures)

@@ -1,0 +1,5 @@
+pub mod Lines
+pub mod Reading
+pub mod Script
+pub mod Spelling
+pub mod Words
