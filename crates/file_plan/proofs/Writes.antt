@@ -1,0 +1,656 @@
+-- The order of writes: a removal takes the entry out first, and a move puts one in, settles, and takes the other out.
+use Rattle.std.proofs.Common.{inl, inr, ◌≡◌, ℕ, zero, suc, ◌+◌, Bool, true, false, cond, List, [], ◌∷◌, ◌++◌, Option, Some, None, refl, sym, ap, subst, ◌∙◌, append_assoc}
+use Rattle.std.specs.Prelude.{◌⊎◌, ◌==◌}
+use Rattle.std.specs.Map.{remove_entry}
+use Rattle.std.specs.BTreeMap.{is_at, insert_entry}
+use Rattle.std.proofs.lemmas.List.{append-nil}
+use Rattle.xfs_base.specs.declared.block.BlockId.{BlockId}
+use Rattle.xfs_base.specs.declared.block.Ino.{Ino}
+use Rattle.version_model.specs.declared.answer.Answer.TheVariants.{Done, File}
+use Rattle.version_model.specs.declared.answer.FileFault.{FileFault}
+use Rattle.version_model.specs.declared.answer.FileFault.TheVariants.{IsDir, NotDir, Exists, DirFull, BadName}
+use Rattle.version_model.specs.declared.file_call.FileCall.TheVariants as call
+use Rattle.version_model.specs.History.{Content}
+use Rattle.file_plan.specs.declared.block_call.BlockAnswer.{BlockAnswer}
+use Rattle.file_plan.specs.declared.block_call.BlockAnswer.TheVariants.{Got, Changed, Synced}
+use Rattle.file_plan.specs.declared.block_call.BlockAnswer.TheVariants.{Put as Written}
+use Rattle.file_plan.specs.declared.block_call.BlockCall.TheVariants.{Put, PutAt, Sync}
+use Rattle.file_plan.specs.declared.block_call.Next.{Next}
+use Rattle.file_plan.specs.declared.block_call.Next.TheVariants.{Step}
+use Rattle.file_plan.specs.declared.node.Node.{Node}
+use Rattle.file_plan.specs.declared.state.Job.{Job}
+use Rattle.file_plan.specs.declared.state.Job.TheVariants.{Makes, Puts, Gets, Sizes, Lists, Removes, Moves, Links, Unlinks}
+use Rattle.file_plan.specs.declared.state.PlanState.{PlanState}
+use Rattle.file_plan.specs.declared.state.PlanState.TheVariants.{Ends, Walks, Looks, Enters, Syncs, Measures, Fetches, Fills, Takes, Patches, Grows, Empties, Closes, Gathers}
+use Rattle.file_plan.specs.declared.state.Task.{Task}
+use Rattle.file_plan.specs.declared.state.Task.TheVariants.{Tells, Cuts, Raises, Clears}
+use Rattle.file_plan.specs.Calls.{block_at, root}
+use Rattle.file_plan.specs.Names.{Name, Row, name_cmp, bucket_number, same_node, is_directory, named, names_are_good}
+use Rattle.file_plan.specs.Format.{content_of, rows_text, read_bucket, read_size}
+use Rattle.file_plan.specs.Plan.{walking, walking_path, walked_to, walked, emptying, blocks_of, measured, fits, leaving, unfound, looked_at, looked, entered, on_got, on_written, on_changed, on_synced, after, next, start_named, start, after_all, made_by}
+use Rattle.file_plan.specs.WriteOrder.{TakesOut, PutsIn, HasWritten, HasSettled, RemovesEntryFirst, AddsBeforeItRemoves}
+
+-- a fact that holds of the states to which each of two outcomes leads
+either : (P : PlanState → Type 0) (b : Bool) (x y : PlanState) → P x → P y → P (cond b x y)
+either P true x y f g = f
+either P false x y f g = g
+
+last : (answers : List BlockAnswer) (a : BlockAnswer) (s : PlanState) → after_all s (answers ++ a ∷ []) ≡ after (after_all s answers) a
+last [] a s = refl
+last (b ∷ answers) a s = last answers a (after s b)
+
+-- ---- what was written stays written
+
+module _ (s0 : PlanState) where
+  abbrev from_here : List BlockAnswer → Next
+  from_here answers = next (after_all s0 answers)
+
+  written_more : (IsSuch : BlockId → Content → Type 0) (answers : List BlockAnswer) (a : BlockAnswer) → HasWritten from_here answers IsSuch → HasWritten from_here (answers ++ a ∷ []) IsSuch
+  written_more IsSuch answers a w = record {
+    before = w.before;
+    later = w.later ++ a ∷ [];
+    block = w.block;
+    over = w.over;
+    value = w.value;
+    made = w.made;
+    split = ap (λ (as' : List BlockAnswer). as' ++ a ∷ []) w.split ∙ append_assoc w.before (Written w.made ∷ w.later) (a ∷ []);
+    step = w.step;
+    such = w.such;
+  }
+
+  settled_more : (answers : List BlockAnswer) (a : BlockAnswer) → HasSettled from_here answers → HasSettled from_here (answers ++ a ∷ [])
+  settled_more answers a w = record {
+    before = w.before;
+    later = w.later ++ a ∷ [];
+    split = ap (λ (as' : List BlockAnswer). as' ++ a ∷ []) w.split ∙ append_assoc w.before (Synced ∷ w.later) (a ∷ []);
+    step = w.step;
+    entered = w.entered;
+  }
+
+-- ---- a removal
+
+abbrev IsRemoval : Job → Type 0
+IsRemoval (Makes made) = ⊥
+IsRemoval (Puts offset bytes) = ⊥
+IsRemoval (Gets offset len) = ⊥
+IsRemoval Sizes = ⊥
+IsRemoval Lists = ⊥
+IsRemoval Removes = Unit {0}
+IsRemoval (Moves to) = ⊥
+IsRemoval (Links linked from old) = ⊥
+IsRemoval (Unlinks old) = ⊥
+
+abbrev IsClearing : Task → Type 0
+IsClearing Tells = ⊥
+IsClearing (Cuts offset len) = ⊥
+IsClearing (Raises end) = ⊥
+IsClearing Clears = Unit {0}
+
+-- where a removal may stand; H says that the entry was taken out
+abbrev InRemoval : Type 0 → PlanState → Type 0
+InRemoval H (Ends answer) = Unit {0}
+InRemoval H (Walks dir name onto rest job) = IsRemoval job
+InRemoval H (Looks dir name job) = IsRemoval job
+InRemoval H (Enters dir name ver rows ino job) = IsRemoval job × ((old : List Row) × (rows ≡ remove_entry (is_at (name_cmp name)) old))
+InRemoval H (Syncs dir name node) = ⊥
+InRemoval H (Measures ino task) = H × IsClearing task
+InRemoval H (Fetches ino blk low left got) = ⊥
+InRemoval H (Fills ino blk bytes end) = ⊥
+InRemoval H (Takes ino blk low bytes end) = ⊥
+InRemoval H (Patches ino blk low bytes end ver old) = ⊥
+InRemoval H (Grows ino end ver) = ⊥
+InRemoval H (Empties ino blk left ver) = H
+InRemoval H (Closes ino ver) = H
+InRemoval H (Gathers dir blk left rows) = ⊥
+
+by_removal : (P : Job → Type 0) → P Removes → (job : Job) → IsRemoval job → P job
+by_removal P p (Makes made) h = absurd h
+by_removal P p (Puts offset bytes) h = absurd h
+by_removal P p (Gets offset len) h = absurd h
+by_removal P p Sizes h = absurd h
+by_removal P p Lists h = absurd h
+by_removal P p Removes h = p
+by_removal P p (Moves to) h = absurd h
+by_removal P p (Links linked from old) h = absurd h
+by_removal P p (Unlinks old) h = absurd h
+
+by_clearing : (P : Task → Type 0) → P Clears → (task : Task) → IsClearing task → P task
+by_clearing P p Tells h = absurd h
+by_clearing P p (Cuts offset len) h = absurd h
+by_clearing P p (Raises end) h = absurd h
+by_clearing P p Clears h = p
+
+module _ (H : Type 0) where
+  removal_walking : (dir : Ino) (name : Name) (rest : List Name) (job : Job) → IsRemoval job → InRemoval H (walking dir name rest job)
+  removal_walking dir name [] job h = h
+  removal_walking dir name (onto ∷ rest) job h = h
+
+  removal_walked : (name onto : Name) (rest : List Name) (job : Job) → IsRemoval job → (o : Option (List Row)) → InRemoval H (walked name onto rest job o)
+  removal_walked name onto rest job h None = tt
+  removal_walked name onto rest job h (Some rows) = by (named name rows)
+    where
+      by : (p : Option Node) → InRemoval H (walked_to onto rest job p)
+      by None = tt
+      by (Some node) = either (InRemoval H) (is_directory node) (walking node.ino onto rest job) (Ends (File NotDir)) (removal_walking node.ino onto rest job h) tt
+
+  removal_looked : (dir : Ino) (name : Name) (ver : ℕ) (o : Option (List Row)) → InRemoval H (looked dir name ver Removes o)
+  removal_looked dir name ver None = tt
+  removal_looked dir name ver (Some rows) = by (named name rows)
+    where
+      by : (p : Option Node) → InRemoval H (looked_at dir name ver rows Removes p)
+      by None = tt
+      by (Some node) = either (InRemoval H) (is_directory node) (Ends (File IsDir)) (leaving dir name ver rows node.ino Removes) tt (tt, (rows, refl))
+
+  removal_emptying : H → (ino : Ino) (blk left ver : ℕ) → InRemoval H (emptying ino blk left ver)
+  removal_emptying h ino blk zero ver = h
+  removal_emptying h ino blk (suc left) ver = h
+
+  removal_measured : H → (ino : Ino) (ver : ℕ) (o : Option ℕ) → InRemoval H (measured ino Clears ver o)
+  removal_measured h ino ver None = tt
+  removal_measured h ino ver (Some size) = either (InRemoval H) (size == 0) (Ends Done) (emptying ino 0 (blocks_of size) ver) tt (removal_emptying h ino 0 (blocks_of size) ver)
+
+module _ (H K : Type 0) (kept : H → K) where
+  removal_got : (s : PlanState) (ver : ℕ) (value : Content) → InRemoval H s → InRemoval K (on_got s ver value)
+  removal_got (Ends answer) ver value h = tt
+  removal_got (Walks dir name onto rest job) ver value h = removal_walked K name onto rest job h (read_bucket value)
+  removal_got (Looks dir name job) ver value h = by_removal (λ j. InRemoval K (looked dir name ver j (read_bucket value))) (removal_looked K dir name ver (read_bucket value)) job h
+  removal_got (Enters dir name v rows ino job) ver value h = h
+  removal_got (Syncs dir name node) ver value h = absurd h
+  removal_got (Measures ino task) ver value h = by_clearing (λ t. InRemoval K (measured ino t ver (read_size value))) (removal_measured K (kept h.0) ino ver (read_size value)) task h.1
+  removal_got (Fetches ino blk low left got) ver value h = absurd h
+  removal_got (Fills ino blk bytes end) ver value h = absurd h
+  removal_got (Takes ino blk low bytes end) ver value h = absurd h
+  removal_got (Patches ino blk low bytes end v old) ver value h = absurd h
+  removal_got (Grows ino end v) ver value h = absurd h
+  removal_got (Empties ino blk left v) ver value h = kept h
+  removal_got (Closes ino v) ver value h = kept h
+  removal_got (Gathers dir blk left rows) ver value h = absurd h
+
+  removal_written : (s : PlanState) → ((block : BlockId) (ver : ℕ) (value : Content) → next s ≡ Step (PutAt block ver value) → TakesOut block value → K) → InRemoval H s → InRemoval K (on_written s)
+  removal_written (Ends answer) new h = tt
+  removal_written (Walks dir name onto rest job) new h = h
+  removal_written (Looks dir name job) new h = h
+  removal_written (Enters dir name v rows ino job) new h =
+      by_removal (λ j. InRemoval K (entered j ino)) (new _ v _ refl (record { dir = dir; name = name; rows = h.1.0; at = refl; text = ap (λ (rs : List Row). content_of (rows_text rs)) h.1.1 }), tt) job h.0
+  removal_written (Syncs dir name node) new h = absurd h
+  removal_written (Measures ino task) new h = (kept h.0, h.1)
+  removal_written (Fetches ino blk low left got) new h = absurd h
+  removal_written (Fills ino blk bytes end) new h = absurd h
+  removal_written (Takes ino blk low bytes end) new h = absurd h
+  removal_written (Patches ino blk low bytes end v old) new h = absurd h
+  removal_written (Grows ino end v) new h = absurd h
+  removal_written (Empties ino blk left v) new h = removal_emptying K (kept h) ino (blk + 1) left v
+  removal_written (Closes ino v) new h = tt
+  removal_written (Gathers dir blk left rows) new h = absurd h
+
+  removal_still : (s : PlanState) → InRemoval H s → InRemoval K s
+  removal_still (Ends answer) h = tt
+  removal_still (Walks dir name onto rest job) h = h
+  removal_still (Looks dir name job) h = h
+  removal_still (Enters dir name v rows ino job) h = h
+  removal_still (Syncs dir name node) h = absurd h
+  removal_still (Measures ino task) h = (kept h.0, h.1)
+  removal_still (Fetches ino blk low left got) h = absurd h
+  removal_still (Fills ino blk bytes end) h = absurd h
+  removal_still (Takes ino blk low bytes end) h = absurd h
+  removal_still (Patches ino blk low bytes end v old) h = absurd h
+  removal_still (Grows ino end v) h = absurd h
+  removal_still (Empties ino blk left v) h = kept h
+  removal_still (Closes ino v) h = kept h
+  removal_still (Gathers dir blk left rows) h = absurd h
+
+  removal_changed : (s : PlanState) → InRemoval H s → InRemoval K (on_changed s)
+  removal_changed (Ends answer) h = tt
+  removal_changed (Walks dir name onto rest job) h = h
+  removal_changed (Looks dir name job) h = h
+  removal_changed (Enters dir name v rows ino job) h = h.0
+  removal_changed (Syncs dir name node) h = absurd h
+  removal_changed (Measures ino task) h = (kept h.0, h.1)
+  removal_changed (Fetches ino blk low left got) h = absurd h
+  removal_changed (Fills ino blk bytes end) h = absurd h
+  removal_changed (Takes ino blk low bytes end) h = absurd h
+  removal_changed (Patches ino blk low bytes end v old) h = absurd h
+  removal_changed (Grows ino end v) h = absurd h
+  removal_changed (Empties ino blk left v) h = kept h
+  removal_changed (Closes ino v) h = (kept h, tt)
+  removal_changed (Gathers dir blk left rows) h = absurd h
+
+  removal_synced : (s : PlanState) → InRemoval H s → InRemoval K (on_synced s)
+  removal_synced (Ends answer) h = tt
+  removal_synced (Walks dir name onto rest job) h = h
+  removal_synced (Looks dir name job) h = h
+  removal_synced (Enters dir name v rows ino job) h = h
+  removal_synced (Syncs dir name node) h = absurd h
+  removal_synced (Measures ino task) h = (kept h.0, h.1)
+  removal_synced (Fetches ino blk low left got) h = absurd h
+  removal_synced (Fills ino blk bytes end) h = absurd h
+  removal_synced (Takes ino blk low bytes end) h = absurd h
+  removal_synced (Patches ino blk low bytes end v old) h = absurd h
+  removal_synced (Grows ino end v) h = absurd h
+  removal_synced (Empties ino blk left v) h = kept h
+  removal_synced (Closes ino v) h = kept h
+  removal_synced (Gathers dir blk left rows) h = absurd h
+
+  removal_after : (s : PlanState) (a : BlockAnswer) → ((made : ℕ) (block : BlockId) (ver : ℕ) (value : Content) → a ≡ Written made → next s ≡ Step (PutAt block ver value) → TakesOut block value → K)
+      → InRemoval H s → InRemoval K (after s a)
+  removal_after s (Got ver value) new h = removal_got s ver value h
+  removal_after s (Written made) new h = removal_written s (λ block ver value e t. new made block ver value refl e t) h
+  removal_after s Changed new h = removal_changed s h
+  removal_after s Synced new h = removal_synced s h
+
+module _ (s0 : PlanState) where
+  abbrev TakenOut : List BlockAnswer → Type 0
+  TakenOut answers = HasWritten (from_here s0) answers TakesOut
+
+  removal_more : (answers : List BlockAnswer) (a : BlockAnswer) → InRemoval (TakenOut answers) (after_all s0 answers) → InRemoval (TakenOut (answers ++ a ∷ [])) (after_all s0 (answers ++ a ∷ []))
+  removal_more answers a h =
+      subst (InRemoval (TakenOut (answers ++ a ∷ []))) (sym (last answers a s0))
+      (removal_after (TakenOut answers) (TakenOut (answers ++ a ∷ [])) (written_more s0 TakesOut answers a) (after_all s0 answers) a
+      (λ made block ver value e f t. record { before = answers; later = []; block = block; over = ver; value = value; made = made; split = ap (λ (b : BlockAnswer). answers ++ b ∷ []) e; step = f; such = t }) h)
+
+  removal_all : (rest front : List BlockAnswer) → InRemoval (TakenOut front) (after_all s0 front) → InRemoval (TakenOut (front ++ rest)) (after_all s0 (front ++ rest))
+  removal_all [] front h = subst (λ (as' : List BlockAnswer). InRemoval (TakenOut as') (after_all s0 as')) (sym (append-nil front)) h
+  removal_all (a ∷ rest) front h =
+      subst (λ (as' : List BlockAnswer). InRemoval (TakenOut as') (after_all s0 as')) (append_assoc front (a ∷ []) rest) (removal_all rest (front ++ a ∷ []) (removal_more front a h))
+
+-- a whole block that a removal writes
+removal_put : (H : Type 0) (s : PlanState) (block : BlockId) (value : Content) → next s ≡ Step (Put block value) → InRemoval H s → H × (value ≡ None)
+removal_put H (Ends answer) block value e h = let no' : ⊥ = cc in absurd no'
+removal_put H (Walks dir name onto rest job) block value e h = let no' : ⊥ = cc in absurd no'
+removal_put H (Looks dir name job) block value e h = let no' : ⊥ = cc in absurd no'
+removal_put H (Enters dir name v rows ino job) block value e h = let no' : ⊥ = cc in absurd no'
+removal_put H (Syncs dir name node) block value e h = absurd h
+removal_put H (Measures ino task) block value e h = let no' : ⊥ = cc in absurd no'
+removal_put H (Fetches ino blk low left got) block value e h = absurd h
+removal_put H (Fills ino blk bytes end) block value e h = absurd h
+removal_put H (Takes ino blk low bytes end) block value e h = absurd h
+removal_put H (Patches ino blk low bytes end v old) block value e h = absurd h
+removal_put H (Grows ino end v) block value e h = absurd h
+removal_put H (Empties ino blk left v) block value e h = let none : None ≡ value = cc in (h, sym none)
+removal_put H (Closes ino v) block value e h = let no' : ⊥ = cc in absurd no'
+removal_put H (Gathers dir blk left rows) block value e h = absurd h
+
+-- a write of a removal over a version
+removal_put_at : (H : Type 0) (s : PlanState) (block : BlockId) (ver : ℕ) (value : Content) → next s ≡ Step (PutAt block ver value) → InRemoval H s → TakesOut block value ⊎ (H × (value ≡ None))
+removal_put_at H (Ends answer) block ver value e h = let no' : ⊥ = cc in absurd no'
+removal_put_at H (Walks dir name onto rest job) block ver value e h = let no' : ⊥ = cc in absurd no'
+removal_put_at H (Looks dir name job) block ver value e h = let no' : ⊥ = cc in absurd no'
+removal_put_at H (Enters dir name v rows ino job) block ver value e h =
+    let at : block_at dir (bucket_number name) ≡ block = cc in
+    let text : content_of (rows_text rows) ≡ value = cc in
+    inl (record { dir = dir; name = name; rows = h.1.0; at = sym at; text = sym text ∙ ap (λ (rs : List Row). content_of (rows_text rs)) h.1.1 })
+removal_put_at H (Syncs dir name node) block ver value e h = absurd h
+removal_put_at H (Measures ino task) block ver value e h = let no' : ⊥ = cc in absurd no'
+removal_put_at H (Fetches ino blk low left got) block ver value e h = absurd h
+removal_put_at H (Fills ino blk bytes end) block ver value e h = absurd h
+removal_put_at H (Takes ino blk low bytes end) block ver value e h = absurd h
+removal_put_at H (Patches ino blk low bytes end v old) block ver value e h = absurd h
+removal_put_at H (Grows ino end v) block ver value e h = absurd h
+removal_put_at H (Empties ino blk left v) block ver value e h = let no' : ⊥ = cc in absurd no'
+removal_put_at H (Closes ino v) block ver value e h = let none : None ≡ value = cc in inr (h, sym none)
+removal_put_at H (Gathers dir blk left rows) block ver value e h = absurd h
+
+removal_path : (H : Type 0) (path : List Name) (fault : FileFault) → InRemoval H (walking_path path fault Removes)
+removal_path H [] fault = tt
+removal_path H (name ∷ rest) fault = removal_walking H root name rest Removes tt
+
+pub removes_entry_first : RemovesEntryFirst
+removes_entry_first path number client answers block value =
+    let s0 = start (call.Rm path) (made_by number client) in
+    let P = InRemoval (TakenOut s0 []) in
+    let begun = either P (names_are_good (call.Rm path)) (start_named (call.Rm path) (made_by number client)) (Ends (File BadName)) (removal_path (TakenOut s0 []) path IsDir) tt in
+    let now = removal_all s0 answers [] begun in (
+      λ e. removal_put (TakenOut s0 answers) (after_all s0 answers) block value e now,
+      λ ver e. removal_put_at (TakenOut s0 answers) (after_all s0 answers) block ver value e now,
+    )
+
+-- ---- a move
+
+-- what a move does on the way to its entries
+abbrev IsWay : Job → Type 0
+IsWay (Makes made) = ⊥
+IsWay (Puts offset bytes) = ⊥
+IsWay (Gets offset len) = ⊥
+IsWay Sizes = ⊥
+IsWay Lists = ⊥
+IsWay Removes = ⊥
+IsWay (Moves to) = Unit {0}
+IsWay (Links linked from old) = Unit {0}
+IsWay (Unlinks old) = ⊥
+
+-- what it does at them; S says that the second entry was put in and then all was settled
+abbrev IsAtEntry : Type 0 → Job → Type 0
+IsAtEntry S (Makes made) = ⊥
+IsAtEntry S (Puts offset bytes) = ⊥
+IsAtEntry S (Gets offset len) = ⊥
+IsAtEntry S Sizes = ⊥
+IsAtEntry S Lists = ⊥
+IsAtEntry S Removes = ⊥
+IsAtEntry S (Moves to) = Unit {0}
+IsAtEntry S (Links linked from old) = Unit {0}
+IsAtEntry S (Unlinks old) = S
+
+-- and what it writes there
+abbrev IsWriting : Type 0 → Name → List Row → Job → Type 0
+IsWriting S name rows (Makes made) = ⊥
+IsWriting S name rows (Puts offset bytes) = ⊥
+IsWriting S name rows (Gets offset len) = ⊥
+IsWriting S name rows Sizes = ⊥
+IsWriting S name rows Lists = ⊥
+IsWriting S name rows Removes = ⊥
+IsWriting S name rows (Moves to) = ⊥
+IsWriting S name rows (Links linked from old) = (before : List Row) × (rows ≡ insert_entry name_cmp before name linked)
+IsWriting S name rows (Unlinks old) = S × ((before : List Row) × (rows ≡ remove_entry (is_at (name_cmp name)) before))
+
+-- where a move may stand; A says that the second entry was put in
+abbrev InMove : Type 0 → Type 0 → PlanState → Type 0
+InMove A S (Ends answer) = Unit {0}
+InMove A S (Walks dir name onto rest job) = IsWay job
+InMove A S (Looks dir name job) = IsAtEntry S job
+InMove A S (Enters dir name ver rows ino job) = IsWriting S name rows job
+InMove A S (Syncs dir name node) = A
+InMove A S (Measures ino task) = ⊥
+InMove A S (Fetches ino blk low left got) = ⊥
+InMove A S (Fills ino blk bytes end) = ⊥
+InMove A S (Takes ino blk low bytes end) = ⊥
+InMove A S (Patches ino blk low bytes end ver old) = ⊥
+InMove A S (Grows ino end ver) = ⊥
+InMove A S (Empties ino blk left ver) = ⊥
+InMove A S (Closes ino ver) = ⊥
+InMove A S (Gathers dir blk left rows) = ⊥
+
+at_entry_of : (S : Type 0) (job : Job) → IsWay job → IsAtEntry S job
+at_entry_of S (Makes made) h = absurd h
+at_entry_of S (Puts offset bytes) h = absurd h
+at_entry_of S (Gets offset len) h = absurd h
+at_entry_of S Sizes h = absurd h
+at_entry_of S Lists h = absurd h
+at_entry_of S Removes h = absurd h
+at_entry_of S (Moves to) h = tt
+at_entry_of S (Links linked from old) h = tt
+at_entry_of S (Unlinks old) h = absurd h
+
+module _ (A S : Type 0) where
+  move_walking : (dir : Ino) (name : Name) (rest : List Name) (job : Job) → IsWay job → InMove A S (walking dir name rest job)
+  move_walking dir name [] job h = at_entry_of S job h
+  move_walking dir name (onto ∷ rest) job h = h
+
+  move_path : (path : List Name) (fault : FileFault) (job : Job) → IsWay job → InMove A S (walking_path path fault job)
+  move_path [] fault job h = tt
+  move_path (name ∷ rest) fault job h = move_walking root name rest job h
+
+  move_walked : (name onto : Name) (rest : List Name) (job : Job) → IsWay job → (o : Option (List Row)) → InMove A S (walked name onto rest job o)
+  move_walked name onto rest job h None = tt
+  move_walked name onto rest job h (Some rows) = by (named name rows)
+    where
+      by : (p : Option Node) → InMove A S (walked_to onto rest job p)
+      by None = tt
+      by (Some node) = either (InMove A S) (is_directory node) (walking node.ino onto rest job) (Ends (File NotDir)) (move_walking node.ino onto rest job h) tt
+
+  move_unfound : (dir : Ino) (name : Name) (ver : ℕ) (rows : List Row) (job : Job) → IsAtEntry S job → InMove A S (unfound dir name ver rows job)
+  move_unfound dir name ver rows (Makes made) h = absurd h
+  move_unfound dir name ver rows (Puts offset bytes) h = absurd h
+  move_unfound dir name ver rows (Gets offset len) h = absurd h
+  move_unfound dir name ver rows Sizes h = absurd h
+  move_unfound dir name ver rows Lists h = absurd h
+  move_unfound dir name ver rows Removes h = absurd h
+  move_unfound dir name ver rows (Moves to) h = tt
+  move_unfound dir name ver rows (Links linked from old) h =
+      either (InMove A S) (fits (insert_entry name_cmp rows name linked)) (Enters dir name ver (insert_entry name_cmp rows name linked) linked.ino (Links linked from old)) (Ends (File DirFull)) (rows, refl) tt
+  move_unfound dir name ver rows (Unlinks old) h = tt
+
+  move_found : (dir : Ino) (name : Name) (ver : ℕ) (rows : List Row) (job : Job) (node : Node) → IsAtEntry S job → InMove A S (looked_at dir name ver rows job (Some node))
+  move_found dir name ver rows (Makes made) node h = absurd h
+  move_found dir name ver rows (Puts offset bytes) node h = absurd h
+  move_found dir name ver rows (Gets offset len) node h = absurd h
+  move_found dir name ver rows Sizes node h = absurd h
+  move_found dir name ver rows Lists node h = absurd h
+  move_found dir name ver rows Removes node h = absurd h
+  move_found dir name ver rows (Moves to) node h =
+      either (InMove A S) (is_directory node) (Ends (File IsDir)) (walking_path to Exists (Links node dir name)) tt (move_path to Exists (Links node dir name) tt)
+  move_found dir name ver rows (Links linked from old) node h = tt
+  move_found dir name ver rows (Unlinks old) node h =
+      either (InMove A S) (same_node old node) (leaving dir name ver rows node.ino (Unlinks old)) (Ends Done) (h, (rows, refl)) tt
+
+  move_looked : (dir : Ino) (name : Name) (ver : ℕ) (job : Job) → IsAtEntry S job → (o : Option (List Row)) → InMove A S (looked dir name ver job o)
+  move_looked dir name ver job h None = tt
+  move_looked dir name ver job h (Some rows) = by (named name rows)
+    where
+      by : (p : Option Node) → InMove A S (looked_at dir name ver rows job p)
+      by None = move_unfound dir name ver rows job h
+      by (Some node) = move_found dir name ver rows job node h
+
+still_at_entry : (S T : Type 0) → (S → T) → (job : Job) → IsAtEntry S job → IsAtEntry T job
+still_at_entry S T f (Makes made) h = h
+still_at_entry S T f (Puts offset bytes) h = h
+still_at_entry S T f (Gets offset len) h = h
+still_at_entry S T f Sizes h = h
+still_at_entry S T f Lists h = h
+still_at_entry S T f Removes h = h
+still_at_entry S T f (Moves to) h = h
+still_at_entry S T f (Links linked from old) h = h
+still_at_entry S T f (Unlinks old) h = f h
+
+still_writing : (S T : Type 0) → (S → T) → (name : Name) (rows : List Row) (job : Job) → IsWriting S name rows job → IsWriting T name rows job
+still_writing S T f name rows (Makes made) h = h
+still_writing S T f name rows (Puts offset bytes) h = h
+still_writing S T f name rows (Gets offset len) h = h
+still_writing S T f name rows Sizes h = h
+still_writing S T f name rows Lists h = h
+still_writing S T f name rows Removes h = h
+still_writing S T f name rows (Moves to) h = h
+still_writing S T f name rows (Links linked from old) h = h
+still_writing S T f name rows (Unlinks old) h = (f h.0, h.1)
+
+-- a refused write looks again
+looks_again : (S T : Type 0) → (S → T) → (name : Name) (rows : List Row) (job : Job) → IsWriting S name rows job → IsAtEntry T job
+looks_again S T f name rows (Makes made) h = h
+looks_again S T f name rows (Puts offset bytes) h = h
+looks_again S T f name rows (Gets offset len) h = h
+looks_again S T f name rows Sizes h = h
+looks_again S T f name rows Lists h = h
+looks_again S T f name rows Removes h = h
+looks_again S T f name rows (Moves to) h = absurd h
+looks_again S T f name rows (Links linked from old) h = tt
+looks_again S T f name rows (Unlinks old) h = f h.0
+
+module _ (A S B T : Type 0) (f : A → B) (g : S → T) where
+  move_still : (s : PlanState) → InMove A S s → InMove B T s
+  move_still (Ends answer) h = tt
+  move_still (Walks dir name onto rest job) h = h
+  move_still (Looks dir name job) h = still_at_entry S T g job h
+  move_still (Enters dir name v rows ino job) h = still_writing S T g name rows job h
+  move_still (Syncs dir name node) h = f h
+  move_still (Measures ino task) h = absurd h
+  move_still (Fetches ino blk low left got) h = absurd h
+  move_still (Fills ino blk bytes end) h = absurd h
+  move_still (Takes ino blk low bytes end) h = absurd h
+  move_still (Patches ino blk low bytes end v old) h = absurd h
+  move_still (Grows ino end v) h = absurd h
+  move_still (Empties ino blk left v) h = absurd h
+  move_still (Closes ino v) h = absurd h
+  move_still (Gathers dir blk left rows) h = absurd h
+
+  move_got : (s : PlanState) (ver : ℕ) (value : Content) → InMove A S s → InMove B T (on_got s ver value)
+  move_got (Ends answer) ver value h = tt
+  move_got (Walks dir name onto rest job) ver value h = move_walked B T name onto rest job h (read_bucket value)
+  move_got (Looks dir name job) ver value h = move_looked B T dir name ver job (still_at_entry S T g job h) (read_bucket value)
+  move_got (Enters dir name v rows ino job) ver value h = still_writing S T g name rows job h
+  move_got (Syncs dir name node) ver value h = f h
+  move_got (Measures ino task) ver value h = absurd h
+  move_got (Fetches ino blk low left got) ver value h = absurd h
+  move_got (Fills ino blk bytes end) ver value h = absurd h
+  move_got (Takes ino blk low bytes end) ver value h = absurd h
+  move_got (Patches ino blk low bytes end v old) ver value h = absurd h
+  move_got (Grows ino end v) ver value h = absurd h
+  move_got (Empties ino blk left v) ver value h = absurd h
+  move_got (Closes ino v) ver value h = absurd h
+  move_got (Gathers dir blk left rows) ver value h = absurd h
+
+  -- the bucket was written
+  move_entered : (dir : Ino) (name : Name) (rows : List Row) (ino : Ino) (job : Job)
+      → (PutsIn (block_at dir (bucket_number name)) (content_of (rows_text rows)) → B) → IsWriting S name rows job → InMove B T (entered job ino)
+  move_entered dir name rows ino (Makes made) new h = absurd h
+  move_entered dir name rows ino (Puts offset bytes) new h = absurd h
+  move_entered dir name rows ino (Gets offset len) new h = absurd h
+  move_entered dir name rows ino Sizes new h = absurd h
+  move_entered dir name rows ino Lists new h = absurd h
+  move_entered dir name rows ino Removes new h = absurd h
+  move_entered dir name rows ino (Moves to) new h = absurd h
+  move_entered dir name rows ino (Links linked from old) new h =
+      new (record { dir = dir; name = name; node = linked; rows = h.0; at = refl; text = ap (λ (rs : List Row). content_of (rows_text rs)) h.1 })
+  move_entered dir name rows ino (Unlinks old) new h = tt
+
+  move_written : (s : PlanState) → ((block : BlockId) (ver : ℕ) (value : Content) → next s ≡ Step (PutAt block ver value) → PutsIn block value → B) → InMove A S s → InMove B T (on_written s)
+  move_written (Ends answer) new h = tt
+  move_written (Walks dir name onto rest job) new h = h
+  move_written (Looks dir name job) new h = still_at_entry S T g job h
+  move_written (Enters dir name v rows ino job) new h = move_entered dir name rows ino job (λ p. new _ v _ refl p) h
+  move_written (Syncs dir name node) new h = f h
+  move_written (Measures ino task) new h = absurd h
+  move_written (Fetches ino blk low left got) new h = absurd h
+  move_written (Fills ino blk bytes end) new h = absurd h
+  move_written (Takes ino blk low bytes end) new h = absurd h
+  move_written (Patches ino blk low bytes end v old) new h = absurd h
+  move_written (Grows ino end v) new h = absurd h
+  move_written (Empties ino blk left v) new h = absurd h
+  move_written (Closes ino v) new h = absurd h
+  move_written (Gathers dir blk left rows) new h = absurd h
+
+  move_changed : (s : PlanState) → InMove A S s → InMove B T (on_changed s)
+  move_changed (Ends answer) h = tt
+  move_changed (Walks dir name onto rest job) h = h
+  move_changed (Looks dir name job) h = still_at_entry S T g job h
+  move_changed (Enters dir name v rows ino job) h = looks_again S T g name rows job h
+  move_changed (Syncs dir name node) h = f h
+  move_changed (Measures ino task) h = absurd h
+  move_changed (Fetches ino blk low left got) h = absurd h
+  move_changed (Fills ino blk bytes end) h = absurd h
+  move_changed (Takes ino blk low bytes end) h = absurd h
+  move_changed (Patches ino blk low bytes end v old) h = absurd h
+  move_changed (Grows ino end v) h = absurd h
+  move_changed (Empties ino blk left v) h = absurd h
+  move_changed (Closes ino v) h = absurd h
+  move_changed (Gathers dir blk left rows) h = absurd h
+
+  move_synced : (s : PlanState) → (next s ≡ Step Sync → A → T) → InMove A S s → InMove B T (on_synced s)
+  move_synced (Ends answer) new h = tt
+  move_synced (Walks dir name onto rest job) new h = h
+  move_synced (Looks dir name job) new h = still_at_entry S T g job h
+  move_synced (Enters dir name v rows ino job) new h = still_writing S T g name rows job h
+  move_synced (Syncs dir name node) new h = new refl h
+  move_synced (Measures ino task) new h = absurd h
+  move_synced (Fetches ino blk low left got) new h = absurd h
+  move_synced (Fills ino blk bytes end) new h = absurd h
+  move_synced (Takes ino blk low bytes end) new h = absurd h
+  move_synced (Patches ino blk low bytes end v old) new h = absurd h
+  move_synced (Grows ino end v) new h = absurd h
+  move_synced (Empties ino blk left v) new h = absurd h
+  move_synced (Closes ino v) new h = absurd h
+  move_synced (Gathers dir blk left rows) new h = absurd h
+
+  move_after : (s : PlanState) (a : BlockAnswer) → ((made : ℕ) (block : BlockId) (ver : ℕ) (value : Content) → a ≡ Written made → next s ≡ Step (PutAt block ver value) → PutsIn block value → B)
+      → (a ≡ Synced → next s ≡ Step Sync → A → T) → InMove A S s → InMove B T (after s a)
+  move_after s (Got ver value) new settled h = move_got s ver value h
+  move_after s (Written made) new settled h = move_written s (λ block ver value e t. new made block ver value refl e t) h
+  move_after s Changed new settled h = move_changed s h
+  move_after s Synced new settled h = move_synced s (λ e a. settled refl e a) h
+
+module _ (s0 : PlanState) where
+  abbrev Added : List BlockAnswer → Type 0
+  Added answers = HasWritten (from_here s0) answers PutsIn
+
+  abbrev Settled : List BlockAnswer → Type 0
+  Settled answers = HasSettled (from_here s0) answers
+
+  abbrev Stands : List BlockAnswer → Type 0
+  Stands answers = InMove (Added answers) (Settled answers) (after_all s0 answers)
+
+  move_more : (answers : List BlockAnswer) (a : BlockAnswer) → Stands answers → Stands (answers ++ a ∷ [])
+  move_more answers a h =
+      subst (InMove (Added (answers ++ a ∷ [])) (Settled (answers ++ a ∷ []))) (sym (last answers a s0))
+      (move_after (Added answers) (Settled answers) (Added (answers ++ a ∷ [])) (Settled (answers ++ a ∷ [])) (written_more s0 PutsIn answers a) (settled_more s0 answers a) (after_all s0 answers) a
+      (λ made block ver value e f t. record { before = answers; later = []; block = block; over = ver; value = value; made = made; split = ap (λ (b : BlockAnswer). answers ++ b ∷ []) e; step = f; such = t })
+      (λ e f added. record { before = answers; later = []; split = ap (λ (b : BlockAnswer). answers ++ b ∷ []) e; step = f; entered = added }) h)
+
+  move_all : (rest front : List BlockAnswer) → Stands front → Stands (front ++ rest)
+  move_all [] front h = subst Stands (sym (append-nil front)) h
+  move_all (a ∷ rest) front h = subst Stands (append_assoc front (a ∷ []) rest) (move_all rest (front ++ a ∷ []) (move_more front a h))
+
+-- a move writes no whole block
+move_put : (A S : Type 0) (s : PlanState) (block : BlockId) (value : Content) → next s ≡ Step (Put block value) → InMove A S s → ⊥
+move_put A S (Ends answer) block value e h = cc
+move_put A S (Walks dir name onto rest job) block value e h = cc
+move_put A S (Looks dir name job) block value e h = cc
+move_put A S (Enters dir name v rows ino job) block value e h = cc
+move_put A S (Syncs dir name node) block value e h = cc
+move_put A S (Measures ino task) block value e h = h
+move_put A S (Fetches ino blk low left got) block value e h = h
+move_put A S (Fills ino blk bytes end) block value e h = h
+move_put A S (Takes ino blk low bytes end) block value e h = h
+move_put A S (Patches ino blk low bytes end v old) block value e h = h
+move_put A S (Grows ino end v) block value e h = h
+move_put A S (Empties ino blk left v) block value e h = h
+move_put A S (Closes ino v) block value e h = h
+move_put A S (Gathers dir blk left rows) block value e h = h
+
+-- the writes of a bucket
+move_write : (S : Type 0) (dir : Ino) (name : Name) (rows : List Row) (job : Job) → IsWriting S name rows job
+    → PutsIn (block_at dir (bucket_number name)) (content_of (rows_text rows)) ⊎ (TakesOut (block_at dir (bucket_number name)) (content_of (rows_text rows)) × S)
+move_write S dir name rows (Makes made) h = absurd h
+move_write S dir name rows (Puts offset bytes) h = absurd h
+move_write S dir name rows (Gets offset len) h = absurd h
+move_write S dir name rows Sizes h = absurd h
+move_write S dir name rows Lists h = absurd h
+move_write S dir name rows Removes h = absurd h
+move_write S dir name rows (Moves to) h = absurd h
+move_write S dir name rows (Links linked from old) h =
+    inl (record { dir = dir; name = name; node = linked; rows = h.0; at = refl; text = ap (λ (rs : List Row). content_of (rows_text rs)) h.1 })
+move_write S dir name rows (Unlinks old) h =
+    inr (record { dir = dir; name = name; rows = h.1.0; at = refl; text = ap (λ (rs : List Row). content_of (rows_text rs)) h.1.1 }, h.0)
+
+move_put_at : (A S : Type 0) (s : PlanState) (block : BlockId) (ver : ℕ) (value : Content) → next s ≡ Step (PutAt block ver value) → InMove A S s → PutsIn block value ⊎ (TakesOut block value × S)
+move_put_at A S (Ends answer) block ver value e h = let no' : ⊥ = cc in absurd no'
+move_put_at A S (Walks dir name onto rest job) block ver value e h = let no' : ⊥ = cc in absurd no'
+move_put_at A S (Looks dir name job) block ver value e h = let no' : ⊥ = cc in absurd no'
+move_put_at A S (Enters dir name v rows ino job) block ver value e h =
+    let at : block_at dir (bucket_number name) ≡ block = cc in
+    let text : content_of (rows_text rows) ≡ value = cc in
+    subst (λ (b : BlockId). PutsIn b value ⊎ (TakesOut b value × S)) at (subst (λ (v : Content). PutsIn (block_at dir (bucket_number name)) v ⊎ (TakesOut (block_at dir (bucket_number name)) v × S)) text (move_write S dir name rows job h))
+move_put_at A S (Syncs dir name node) block ver value e h = let no' : ⊥ = cc in absurd no'
+move_put_at A S (Measures ino task) block ver value e h = absurd h
+move_put_at A S (Fetches ino blk low left got) block ver value e h = absurd h
+move_put_at A S (Fills ino blk bytes end) block ver value e h = absurd h
+move_put_at A S (Takes ino blk low bytes end) block ver value e h = absurd h
+move_put_at A S (Patches ino blk low bytes end v old) block ver value e h = absurd h
+move_put_at A S (Grows ino end v) block ver value e h = absurd h
+move_put_at A S (Empties ino blk left v) block ver value e h = absurd h
+move_put_at A S (Closes ino v) block ver value e h = absurd h
+move_put_at A S (Gathers dir blk left rows) block ver value e h = absurd h
+
+move_sync : (A S : Type 0) (s : PlanState) → next s ≡ Step Sync → InMove A S s → A
+move_sync A S (Ends answer) e h = let no' : ⊥ = cc in absurd no'
+move_sync A S (Walks dir name onto rest job) e h = let no' : ⊥ = cc in absurd no'
+move_sync A S (Looks dir name job) e h = let no' : ⊥ = cc in absurd no'
+move_sync A S (Enters dir name v rows ino job) e h = let no' : ⊥ = cc in absurd no'
+move_sync A S (Syncs dir name node) e h = h
+move_sync A S (Measures ino task) e h = absurd h
+move_sync A S (Fetches ino blk low left got) e h = absurd h
+move_sync A S (Fills ino blk bytes end) e h = absurd h
+move_sync A S (Takes ino blk low bytes end) e h = absurd h
+move_sync A S (Patches ino blk low bytes end v old) e h = absurd h
+move_sync A S (Grows ino end v) e h = absurd h
+move_sync A S (Empties ino blk left v) e h = absurd h
+move_sync A S (Closes ino v) e h = absurd h
+move_sync A S (Gathers dir blk left rows) e h = absurd h
+
+pub adds_before_it_removes : AddsBeforeItRemoves
+adds_before_it_removes from to number client answers block value =
+    let s0 = start (call.Mv from to) (made_by number client) in
+    let P = InMove (Added s0 []) (Settled s0 []) in
+    let begun = either P (names_are_good (call.Mv from to)) (start_named (call.Mv from to) (made_by number client)) (Ends (File BadName)) (move_path (Added s0 []) (Settled s0 []) from IsDir (Moves to) tt) tt in
+    let now = move_all s0 answers [] begun in (
+      λ e. move_put (Added s0 answers) (Settled s0 answers) (after_all s0 answers) block value e now,
+      λ ver e. move_put_at (Added s0 answers) (Settled s0 answers) (after_all s0 answers) block ver value e now,
+      λ e. move_sync (Added s0 answers) (Settled s0 answers) (after_all s0 answers) e now,
+    )

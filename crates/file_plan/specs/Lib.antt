@@ -1,0 +1,10 @@
+pub mod Calls
+pub mod Driving
+pub mod Example
+pub mod Format
+pub mod Formats
+pub mod Names
+pub mod Plan
+pub mod Ranges
+pub mod Tree
+pub mod WriteOrder
