@@ -60,56 +60,6 @@ fn behind_setup(alloc: Global, input: &[u8]) -> Mem<Vec<u8>> {
 }
 
 #[test]
-fn scripts_are_answered_and_others_refused(rt: HostRuntime) -> Mem<()> {
-    let alloc = rt.alloc();
-    let rows: [(&[u8], &[u8], u8); 5] = [
-        (b"", b"end 0 0\n", 0),
-        (b"c1 bget 1 0\n", b"6 v0 absent\nend 1 0\n", 0),
-        (
-            b"c1 bput 1 0 \"hello\"\nc1 bget 1 0",
-            b"6 v1\n7 v1 \"hello\"\nend 2 0\n",
-            0,
-        ),
-        (
-            b"c1 bput 1 0 \"a\"\nc1 bput 1 0 \"b\"\nc1 bget 1 1\nc1 bget 1 0\n",
-            b"6 v1\n7 v2\n8 v0 absent\n9 v2 \"b\"\nend 4 0\n",
-            0,
-        ),
-        (b"c2 bget 1 0\n", b"refused line 6 Unbuilt\n", 3),
-    ];
-    for (input, text, status) in rows {
-        assert!(rt;
-            answers(
-                alloc,
-                CALM,
-                "run",
-                &behind_setup(alloc, input)?,
-                text,
-                status
-            )?
-        );
-    }
-    assert!(rt; answers(alloc, CALM, "run", b"", b"refused line 1 BadSetup\n", 3)?);
-    assert!(rt;
-        answers(
-            alloc,
-            CALM,
-            "run",
-            b"xfs 1",
-            b"refused line 2 BadSetup\n",
-            3
-        )?
-    );
-    let long = vec![in alloc; b'#'; 1_048_577]?;
-    assert!(rt; answers(alloc, CALM, "run", &long, b"refused line 1 TooLong\n", 3)?);
-    let usage = b"usage: xfs run | live W | gen NUMBER N | big NUMBER N | audit\n";
-    for word in ["", "audit", "run now"] {
-        assert!(rt; answers(alloc, CALM, word, b"", usage, 2)?);
-    }
-    Ok(())
-}
-
-#[test]
 fn each_fault_of_reading_and_writing_is_told(rt: HostRuntime) -> Mem<()> {
     let alloc = rt.alloc();
     let input = behind_setup(alloc, b"c1 bget 1 0\n")?;
