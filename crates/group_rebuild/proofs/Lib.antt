@@ -1,4 +1,5 @@
 pub mod Counting
 pub mod Filling
 pub mod Loops
+pub mod Queues
 pub mod TestGroup
