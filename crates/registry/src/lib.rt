@@ -1,0 +1,20 @@
+//! The registry of the maps: which manager has each slot and under which epoch, the newest checkpoint of
+//! each slot, the stripe groups, and the version that rises with each change (the 1996 paper, "Metadata
+//! and Data Distribution"). The laws say that nothing that it keeps is ever taken back. This crate knows
+//! nothing of packets, and not to whom the maps are sent.
+#![tactic(auto)]
+
+pub mod board;
+pub mod checkpoint;
+pub mod input;
+pub mod laws;
+pub mod output;
+pub mod slots;
+
+pub use board::Board;
+pub use checkpoint::Checkpoint;
+pub use input::In;
+pub use output::Out;
+
+#[cfg(test)]
+mod tests;
