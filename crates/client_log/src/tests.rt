@@ -5,6 +5,7 @@ ghost use Rattle.group_map.specs.Groups.{started, lost};
 use crate::{In, Log, Out};
 use group_map::{GroupError, GroupMap};
 use std::alloc::Global;
+use std::process::Abort;
 use std::test::Fail;
 use xfs_base::{BlockId, End, Entry, GroupSetup, Ino, List, LogId, Mem, Pass, SegName, Value};
 
@@ -76,6 +77,62 @@ fn lose_2(alloc: Global, map: &mut GroupMap) -> Mem<()>
     map.after_loss(alloc, 2, 2)
 }
 
+/// One call, and what it tells.
+fn step(
+    rt: &impl Abort,
+    alloc: Global,
+    log: &mut Log,
+    input: In,
+    expected: (usize, u32),
+) -> Result<(), Fail> {
+    let outs = log.take(alloc, input)?;
+    assert_eq!(rt; told(&outs), expected);
+    Ok(())
+}
+
+/// A version is sealed, sent again where it is not noted, and settled; a version that is put meanwhile waits.
+fn first_segment(rt: &impl Abort, alloc: Global, log: &mut Log) -> Result<(), Fail> {
+    step(rt, alloc, log, In::Seal, (0, 0))?;
+    step(rt, alloc, log, put(alloc, 0, 1)?, (0, 0))?;
+    step(rt, alloc, log, In::Seal, (3, 0))?;
+    step(rt, alloc, log, put(alloc, 0, 2)?, (0, 0))?;
+    step(rt, alloc, log, acked(1, 1, 0, 2), (0, 0))?;
+    step(rt, alloc, log, acked(1, 1, 0, 1), (0, 0))?;
+    step(rt, alloc, log, acked(1, 2, 1, 1), (0, 0))?;
+    step(rt, alloc, log, acked(1, 1, 1, 1), (0, 0))?;
+    step(rt, alloc, log, In::Tick, (1, 0))?;
+    step(rt, alloc, log, acked(1, 1, 2, 1), (0, 1))?;
+    step(rt, alloc, log, acked(1, 1, 2, 1), (0, 0))
+}
+
+/// One lost member is made good for; of two the next attempt is sent anew, and the old one is not noted.
+fn second_segment(
+    rt: &impl Abort,
+    alloc: Global,
+    log: &mut Log,
+    one_lost: GroupMap,
+    two_lost: GroupMap,
+) -> Result<(), Fail> {
+    step(rt, alloc, log, In::Seal, (3, 0))?;
+    step(rt, alloc, log, In::Maps(one_lost), (0, 0))?;
+    step(rt, alloc, log, In::Maps(two_lost), (3, 0))?;
+    step(rt, alloc, log, acked(2, 1, 0, 1), (0, 0))?;
+    step(rt, alloc, log, acked(2, 2, 0, 2), (0, 0))?;
+    step(rt, alloc, log, acked(2, 2, 1, 2), (0, 0))?;
+    step(rt, alloc, log, acked(2, 2, 2, 1), (0, 2))
+}
+
+/// A segment of no items, and behind it at once one of the first 24 of 30 blocks.
+fn full_segment(rt: &impl Abort, alloc: Global, log: &mut Log) -> Result<(), Fail> {
+    step(rt, alloc, log, In::Parts(List::new(alloc)), (3, 0))?;
+    for blk in 0..30 {
+        step(rt, alloc, log, put(alloc, blk, 1)?, (0, 0))?;
+    }
+    step(rt, alloc, log, acked(3, 1, 0, 2), (0, 0))?;
+    step(rt, alloc, log, acked(3, 1, 1, 2), (0, 0))?;
+    step(rt, alloc, log, acked(3, 1, 2, 1), (3, 3))
+}
+
 #[test]
 fn segments_are_sent_settled_and_striped_anew(rt: HostRuntime) -> Result<(), Fail> {
     let alloc = rt.alloc();
@@ -91,42 +148,9 @@ fn segments_are_sent_settled_and_striped_anew(rt: HostRuntime) -> Result<(), Fai
     let second = changed.copy(alloc)?;
     lose_2(alloc, &mut changed)?;
     let mut log = Log::start(alloc, LogId(1), 1, end, first)?;
-    let table = [
-        (In::Seal, (0, 0)),
-        (put(alloc, 0, 1)?, (0, 0)),
-        (In::Seal, (3, 0)),
-        (put(alloc, 0, 2)?, (0, 0)),
-        (In::Parts(List::new(alloc)), (0, 0)),
-        (acked(1, 1, 0, 2), (0, 0)),
-        (acked(1, 1, 0, 1), (0, 0)),
-        (acked(1, 2, 1, 1), (0, 0)),
-        (acked(1, 1, 1, 1), (0, 0)),
-        (In::Tick, (1, 0)),
-        (acked(1, 1, 2, 1), (0, 1)),
-        (acked(1, 1, 2, 1), (0, 0)),
-        (In::Seal, (3, 0)),
-        (In::Maps(second), (0, 0)),
-        (In::Maps(changed), (3, 0)),
-        (acked(2, 1, 0, 1), (0, 0)),
-        (acked(2, 2, 0, 2), (0, 0)),
-        (acked(2, 2, 1, 2), (0, 0)),
-        (acked(2, 2, 2, 1), (0, 2)),
-        (In::Parts(List::new(alloc)), (3, 0)),
-    ];
-    for (input, expected) in table {
-        assert_eq!(rt; told(&log.take(alloc, input)?), expected);
-    }
-    for blk in 0..30 {
-        assert_eq!(rt; told(&log.take(alloc, put(alloc, blk, 1)?)?), (0, 0));
-    }
-    let settled = [(0, 2), (1, 2), (2, 1)];
-    for (index, generation) in settled {
-        let expected = if index == 2 { (3, 3) } else { (0, 0) };
-        assert_eq!(rt;
-            told(&log.take(alloc, acked(3, 1, index, generation))?),
-            expected
-        );
-    }
+    first_segment(&rt, alloc, &mut log)?;
+    second_segment(&rt, alloc, &mut log, second, changed)?;
+    full_segment(&rt, alloc, &mut log)?;
     assert!(rt; !log.is_settled() && log.end().seq == 3);
     match log.flight() {
         Some(segment) => assert_eq!(rt; (segment.name.seq, segment.items.len()), (4, 48)),
