@@ -15,6 +15,3 @@ pub use board::Board;
 pub use checkpoint::Checkpoint;
 pub use input::In;
 pub use output::Out;
-
-#[cfg(test)]
-mod tests;
