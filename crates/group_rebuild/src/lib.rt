@@ -12,6 +12,3 @@ mod wanted;
 pub use events::{In, Out};
 pub use laws::{each_name_is_counted, fills_are_cut};
 pub use rebuild::Rebuild;
-
-#[cfg(test)]
-mod tests;
