@@ -18,7 +18,8 @@ use Rattle.client_log.specs.declared.output.Out.{Out}
 use Rattle.client_log.specs.declared.output.Out.TheVariants.{Send}
 use Rattle.client_log.specs.Fate.{fate_of}
 use Rattle.client_log.specs.Fragments.{piece}
-use Rattle.client_log.specs.Items.{items_of, rows_of}
+use Rattle.client_log.specs.Items.{items_of}
+use Rattle.segment_format.specs.Rows.{rows_of}
 use Rattle.client_log.specs.LogState.{FlightState, LogState, is_noted}
 use Rattle.client_log.specs.Texts.{has_text}
 use Rattle.client_log.specs.Transition.{Done, sends, all_sends, group_for, flown, launched, next_name, prior_from, writes, has_next, is_idle, is_full, can_go_on, sealed, if_full, waits, on_put, on_seal, on_parts, next_attempt, restriped, end_from, landed, settled, can_follow, followed, looked_at, is_of, noting, on_acked, on_maps, on_tick, transition}

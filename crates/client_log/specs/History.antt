@@ -14,7 +14,8 @@ use Rattle.client_log.specs.declared.input.In.TheVariants.{Put, Parts, Seal, Ack
 use Rattle.client_log.specs.declared.output.Out.{Out}
 use Rattle.client_log.specs.declared.output.Out.TheVariants.{Send, Settled}
 use Rattle.client_log.specs.Fate.{fate_of}
-use Rattle.client_log.specs.Items.{items_of, rows_of}
+use Rattle.client_log.specs.Items.{items_of}
+use Rattle.segment_format.specs.Rows.{rows_of}
 use Rattle.client_log.specs.LogState.{FlightState, LogState}
 use Rattle.client_log.specs.Transition.{Done, transition, prior_from, end_from, next_attempt, noting, waits, can_go_on}
 

@@ -1,12 +1,8 @@
--- What a segment says of blocks: the items that are written of changes, and what they tell once they are settled.
-use Rattle.std.specs.Prelude.{ℕ, ◌+◌, ◌==◌, List, [], ◌∷◌, ◌++◌, length, Option, Some, None, if◌then◌else◌}
-use Rattle.std.specs.List.{filter_map}
+-- The items that are written of changes.
+use Rattle.std.specs.Prelude.{ℕ, ◌+◌, List, [], ◌∷◌, ◌++◌, length, Some, None}
 use Rattle.xfs_base.specs.declared.block.BlockId.{BlockId}
-use Rattle.xfs_base.specs.declared.entry.Entry.{Entry}
-use Rattle.xfs_base.specs.declared.entry.Place.{Place}
 use Rattle.segment_format.specs.declared.segment.Item.{Item}
-use Rattle.segment_format.specs.declared.segment.Item.TheVariants.{Block, Delta, Part}
-use Rattle.segment_format.specs.declared.segment.Segment.{Segment}
+use Rattle.segment_format.specs.declared.segment.Item.TheVariants.{Block, Delta}
 use Rattle.segment_format.specs.Rule.{no_item}
 use Rattle.client_log.specs.declared.dirty.Change.{Change}
 
@@ -21,17 +17,3 @@ change_items before block change = elim change.value [
 abbrev pub items_of : ℕ → List (BlockId × Change) → List Item
 items_of before [] = []
 items_of before (c ∷ cs) = change_items before c.0 c.1 ++ items_of (before + length (change_items before c.0 c.1)) cs
-
--- where the version of a Delta of the segment lies; nowhere where it is absent
-abbrev pub place_of : Segment → ℕ → Option Place
-place_of s item = if item == no_item then None else Some (record { seg = record { name = s.name; group = s.group }; item = item })
-
--- what an item of a settled segment tells of a block
-abbrev pub row_of : Segment → Item → Option (BlockId × Entry)
-row_of s (Block block value) = None
-row_of s (Delta block ver hop item) = Some (block, record { ver = ver; hop = hop; place = place_of s item })
-row_of s (Part slot rows) = None
-
--- what a settled segment tells of blocks: its Deltas
-abbrev pub rows_of : Segment → List (BlockId × Entry)
-rows_of s = filter_map (row_of s) s.items

@@ -24,7 +24,8 @@ use Rattle.client_log.specs.declared.output.Out.{Out}
 use Rattle.client_log.specs.declared.output.Out.TheVariants.{Send, Settled}
 use Rattle.client_log.specs.Fate.{fate_of}
 use Rattle.client_log.specs.Fragments.{piece}
-use Rattle.client_log.specs.Items.{items_of, rows_of}
+use Rattle.client_log.specs.Items.{items_of}
+use Rattle.segment_format.specs.Rows.{rows_of}
 use Rattle.client_log.specs.Texts.{has_text}
 use Rattle.client_log.specs.LogState.{FlightState, LogState, none_noted, is_noted}
 

@@ -1,18 +1,18 @@
-//! The items that are written of changes, and what they tell once they are settled.
+//! The items that are written of changes.
 ghost use Rattle.std.specs.Prelude.{◌≡◌, ◌≤◌, ◌<◌, ◌^◌, ◌++◌, length, OnOk, IfOk};
 ghost use Rattle.std.specs.List.{AllByRecursion};
 ghost use Rattle.segment_format.specs.declared.segment.Item.TheVariants.{Delta};
 ghost use Rattle.segment_format.specs.Format.{second_version};
 ghost use Rattle.segment_format.specs.Text.{IsItem};
 ghost use Rattle.xfs_base.specs.Limits.{segment_blocks};
-ghost use Rattle.client_log.specs.Items.{change_items, items_of, place_of, row_of, rows_of};
+ghost use Rattle.client_log.specs.Items.{change_items, items_of};
 ghost use Rattle.client_log.specs.Texts.{HasText};
 
 use crate::Change;
+use segment_format::Item;
 use segment_format::format::NO_ITEM;
-use segment_format::{Item, Segment};
 use std::alloc::Global;
-use xfs_base::{BlockId, Entry, List, Mem, Place, SegRef};
+use xfs_base::{BlockId, Entry, List, Mem};
 
 /// The items of changes, in their order: of each a Block and its Delta, or a Delta alone where the version
 /// is absent.
@@ -54,51 +54,4 @@ fn delta(block: BlockId, entry: Entry, item: u16) -> Item
         hop: entry.hop,
         item,
     }
-}
-
-/// What a settled segment says of blocks.
-pub(crate) fn rows_of(alloc: Global, segment: &Segment) -> Mem<List<(BlockId, Entry)>>
-    ensures { IfOk result (λ rows. rows ≡ rows_of segment.now) }
-{
-    let mut rows = List::new(alloc);
-    for item in segment.items.as_slice() {
-        if let Some(row) = row_of(segment, item) {
-            rows.push(row)?;
-        }
-    }
-    Ok(rows)
-}
-
-fn row_of(segment: &Segment, item: &Item) -> Option<(BlockId, Entry)>
-    ensures { result ≡ row_of segment.now item.now }
-{
-    match item {
-        Item::Delta {
-            block,
-            ver,
-            hop,
-            item,
-        } => Some((
-            *block,
-            Entry {
-                ver: *ver,
-                hop: *hop,
-                place: place_of(segment, *item),
-            },
-        )),
-        Item::Block { .. } | Item::Part { .. } => None,
-    }
-}
-
-fn place_of(segment: &Segment, item: u16) -> Option<Place>
-    ensures { result ≡ place_of segment.now item }
-{
-    if item == NO_ITEM {
-        return None;
-    }
-    let seg = SegRef {
-        name: segment.name,
-        group: segment.group,
-    };
-    Some(Place { seg, item })
 }

@@ -19,3 +19,6 @@ pub use dirty::Change;
 pub use input::In;
 pub use log::Log;
 pub use output::Out;
+
+#[cfg(test)]
+mod tests;

@@ -7,11 +7,11 @@ ghost use Rattle.client_log.specs.Texts.{HasText};
 ghost use Rattle.client_log.specs.Transition.{group_for, launched, writes, sealed, if_full, can_go_on, landed_at, can_follow, followed, settled, restriped, next_attempt, end_from, on_put, on_seal, on_parts, on_acked, on_maps, on_tick};
 
 use crate::flight::{Fate, Flight};
-use crate::items::{items_of, rows_of};
+use crate::items::items_of;
 use crate::texts::has_text;
 use crate::{Change, Log, Out};
 use group_map::{Group, GroupMap};
-use segment_format::{Item, Segment};
+use segment_format::{Item, Segment, rows_of};
 use std::alloc::Global;
 use xfs_base::limits::SEGMENT_BLOCKS;
 use xfs_base::{BlockId, End, List, LogId, Mem, Pass, Prior, SegName};

@@ -1,4 +1,4 @@
-//! A run of calls with ample memory, against ranges that were worked out by hand.
+//! A few calls with ample memory, against a range that was worked out by hand.
 use crate::{Feed, In, Out};
 use xfs_base::{BlockId, Entry, Ino, List, LogId, Mem, Pass, Place, SegName, SegRef};
 
@@ -37,52 +37,19 @@ fn is_one(outs: &List<Out>, slot: u8, first: u32, upto: u32, rows: &[(BlockId, E
 }
 
 #[test]
-fn ranges_go_over_gaps_epochs_and_nothing_new(rt: HostRuntime) -> Mem<()> {
+fn a_range_is_pushed_until_it_is_acknowledged(rt: HostRuntime) -> Mem<()> {
     let alloc = rt.alloc();
     let mut feed = Feed::start(alloc, 4)?;
-    for (seq, ino) in [(4, 1), (5, 1), (5, 9), (8, 2), (9, 9)] {
-        let mut rows = List::new(alloc);
-        rows.push(row(ino, seq))?;
-        assert!(rt; feed.take(alloc, In::Settled { seq, rows })?.is_empty());
-    }
-    let both = [row(1, 5), row(9, 9)];
-    assert!(rt; is_one(&feed.take(alloc, In::Push { slot: 1 })?, 1, 5, 9, &both));
-    assert!(rt; is_one(&feed.take(alloc, In::Push { slot: 3 })?, 3, 5, 9, &[]));
-    assert!(rt;
-        feed.take(
-            alloc,
-            In::Ack {
-                slot: 1,
-                applied: 8
-            }
-        )?
-        .is_empty()
-            && feed.acked(1) == 8
-    );
-    assert!(rt;
-        is_one(
-            &feed.take(alloc, In::Push { slot: 1 })?,
-            1,
-            9,
-            9,
-            &[row(9, 9)]
-        )
-    );
-    for slot in 0..8_u8 {
-        let applied = if slot == 2 { 7 } else { 9 };
-        feed.take(alloc, In::Ack { slot, applied })?;
-    }
-    feed.take(
-        alloc,
-        In::Ack {
-            slot: 1,
-            applied: 6,
-        },
-    )?;
-    assert!(rt; feed.acked(1) == 9 && feed.take(alloc, In::Push { slot: 1 })?.is_empty());
-    assert!(rt; is_one(&feed.take(alloc, In::Tick)?, 2, 8, 9, &[row(2, 8)]));
-    feed.take(alloc, In::NewEpoch { slot: 1 })?;
-    assert!(rt; feed.acked(1) == 4);
-    assert!(rt; is_one(&feed.take(alloc, In::Push { slot: 1 })?, 1, 5, 9, &both));
+    let mut rows = List::new(alloc);
+    rows.push(row(1, 5))?;
+    assert!(rt; feed.take(alloc, In::Settled { seq: 5, rows })?.is_empty());
+    let pushed = feed.take(alloc, In::Push { slot: 1 })?;
+    assert!(rt; is_one(&pushed, 1, 5, 5, &[row(1, 5)]));
+    let acknowledged = In::Ack {
+        slot: 1,
+        applied: 5,
+    };
+    assert!(rt; feed.take(alloc, acknowledged)?.is_empty() && feed.acked(1) == 5);
+    assert!(rt; feed.take(alloc, In::Push { slot: 1 })?.is_empty());
     Ok(())
 }

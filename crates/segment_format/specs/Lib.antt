@@ -4,5 +4,6 @@ pub mod Ranges
 pub mod Reading
 pub mod ReadingFields
 pub mod ReadingItems
+pub mod Rows
 pub mod Rule
 pub mod Text

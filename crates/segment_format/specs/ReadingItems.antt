@@ -71,6 +71,6 @@ abbrev pub ended : Result (Segment × Fields) SegError → Result Segment SegErr
 ended (Ok x) = if length x.1.left == 0 then Ok x.0 else Err (Trailing x.1.at)
 ended (Err e) = Err e
 
--- what reading these bytes answers: a segment, or the first place at which no text can go on
+-- what reading these bytes answers: a segment, or the first place at which no text can go on, or a version that no Block needs
 unfoldable pub answer_of : List ℕ → Result Segment SegError
 answer_of bytes = ended (segment_at (record { left = bytes; at = 0 }))

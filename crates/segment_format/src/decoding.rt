@@ -181,7 +181,8 @@ pub fn decode(alloc: Global, bytes: &[u8]) -> Result<Segment, SegError>
     ensures only { ReadsEachText bytes.now result }
     // Which refusal it is.
     ensures refused { Gives (λ s. s) result (answer_of bytes.now) }
-    // It stands at the first place, from the left, at which no text can go on.
+    // It stands at the first place, from the left, at which no text can go on, or at a second version that
+    // no Block needs.
     ensures first { IfErr result (λ e. (e ≡ Memory) ⊎ IsFirst bytes.now e) }
 {
     answer(alloc, bytes)

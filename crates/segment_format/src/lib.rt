@@ -7,6 +7,7 @@ mod encoding;
 pub mod format;
 mod head;
 pub mod laws;
+mod rows;
 mod seen;
 pub mod seg_error;
 pub mod segment;
@@ -15,6 +16,7 @@ mod threads;
 pub use decoding::decode;
 pub use encoding::encode;
 pub use laws::{attempts_have_one_content, texts_are_apart};
+pub use rows::rows_of;
 pub use seg_error::SegError;
 pub use segment::{Item, Segment};
 

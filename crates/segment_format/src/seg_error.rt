@@ -5,8 +5,9 @@ ghost use Rattle.segment_format.specs.declared.seg_error.SegError.TheVariants.{M
 use std::alloc::AllocError;
 use thiserror::Error;
 
-/// Why bytes are no segment: the first place, from the left, at which no segment's text can go on, with
-/// its offset in bytes from 0. `docs/FORMATS.md` says when each comes.
+/// Why bytes are no segment: the first place, from the left, at which no segment's text can go on, or a
+/// second version that no Block needs, with its offset in bytes from 0. `docs/FORMATS.md` says when each
+/// comes.
 #[derive(Debug, Drop, Error)]
 pub enum SegError {
     /// The bytes end within the field that begins here.

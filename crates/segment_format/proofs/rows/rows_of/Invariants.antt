@@ -1,7 +1,7 @@
 use Rattle.std.proofs.Common.{◌≡◌, ◌++◌, drop}
 use Rattle.std.specs.List.{filter_map}
-use Rattle.client_log.specs.Items.{row_of}
-use Rattle.client_log.proofs.items.rows_of.Given as goal
+use Rattle.segment_format.specs.Rows.{row_of}
+use Rattle.segment_format.proofs.rows.rows_of.Given as goal
 
 -- the rows so far and those of the items to come are all
 abbrev pub invariant-loop-item : goal.invariant-loop-item
