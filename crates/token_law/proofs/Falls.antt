@@ -4,11 +4,13 @@ use Rattle.std.proofs.lemmas.Bool.Decides.{nat_tests}
 use Rattle.xfs_base.specs.declared.block.BlockId.{BlockId}
 use Rattle.xfs_base.specs.declared.token.Stamp.{Stamp}
 use Rattle.xfs_base.specs.Blocks.{slot_of}
+use Rattle.token_client.specs.Held.{is_dirty}
 use Rattle.token_client.specs.Laws.{IsSound}
 use Rattle.token_client.specs.State.{held_of}
 use Rattle.token_client.specs.Transition as client
 use Rattle.token_manager.specs.Transition as slot
 use Rattle.token_protocol.specs.Basics.{put, In}
+use Rattle.xfs_base.proofs.Booleans.{contrary}
 use Rattle.token_protocol.specs.Step.{Step, Steps}
 use Rattle.token_protocol.specs.Step.Steps.{More}
 use Rattle.token_protocol.specs.World.{World, start}
@@ -29,7 +31,7 @@ use Rattle.token_protocol.proofs.Refining.{put_each_two}
 use Rattle.token_protocol.specs.Step.Step.{CrashesDirty, CrashesClean, RestartsDiscarding, Loses}
 use Rattle.token_protocol.proofs.Refining.{put_each}
 use Rattle.token_tie.proofs.Frames.{put_here, put_there}
-use Rattle.token_law.proofs.Views.{either_in, setting, IsDown, ClientShown, put_each_three, Carried, IsNobody, View, Grows, carried_on, safe_quiet}
+use Rattle.token_law.proofs.Views.{either_in, setting, IsDown, ClientShown, FellDirty, put_each_three, Carried, IsNobody, View, Grows, carried_on, safe_quiet}
 
 module _ (members part : ℕ) (b : BlockId) (n : Net) (v : View members part b n) where
   abbrev pub w : World
@@ -38,8 +40,9 @@ module _ (members part : ℕ) (b : BlockId) (n : Net) (v : View members part b n
   pub shown_up : (c : ℕ) → 0 < c → c < members → n.up c ≡ true → Shows (setting b c (n.tokens c).inc) w.epoch (local_of (n.tokens c) b) (w.client c)
   shown_up c pos less up = subst (λ u. ClientShown u b c (n.tokens c) w.epoch (w.client c)) up (v.clients c pos less)
 
-  pub fall : (c : ℕ) (u : World) → 0 < c → c < members → n.up c ≡ true → Step false w u → u.client ≡ put w.client c (down (w.client c)) → u.epoch ≡ w.epoch → u.members ≡ w.members → Manages b v.slot u → Grows w u → View members part b (record n { up = put n.up c false })
-  fall c u pos less up step clients epoch many manages grows = record {
+  pub fall : (c : ℕ) (u : World) → 0 < c → c < members → n.up c ≡ true → Step false w u → u.client ≡ put w.client c (down (w.client c)) → u.epoch ≡ w.epoch → u.members ≡ w.members → Manages b v.slot u → Grows w u
+      → ((k : ℕ) → (k ≡ c → ⊥) → u.fallen k ≡ w.fallen k) → (is_dirty (held_of (n.tokens c).blocks b) ≡ true → u.fallen c ≡ 1) → View members part b (record n { up = put n.up c false })
+  fall c u pos less up step clients epoch many manages grows others falls = record {
     world = u;
     steps = More v.steps step;
     many = many ∙ v.many;
@@ -49,6 +52,8 @@ module _ (members part : ℕ) (b : BlockId) (n : Net) (v : View members part b n
         (put_each_two (λ k t x. 0 < k → k < members → ClientShown t b k (n.tokens k) u.epoch x) n.up w.client c false (down (w.client c))
         (λ _ _. let shown = shown_up c pos less up in record { serving = refl; incarnation = shown.incarnation; promised = shown.stamps.promised; mode = refl; stamp = refl; want = refl; version = refl; settled = refl; fetching = refl })
         (λ k other pos less. subst (λ e. ClientShown (n.up k) b k (n.tokens k) e (w.client k)) (sym epoch) (v.clients k pos less)) k);
+    fell = put_each (λ k t. 0 < k → k < members → FellDirty t (held_of (n.tokens k).blocks b) (u.fallen k)) n.up c false (λ _ _ _ dirty. falls dirty)
+        (λ k other pos less down dirty. others k other ∙ v.fell k pos less down dirty);
     slot = v.slot;
     sound = v.sound;
     reigns = ap n.slots epoch ∙ v.reigns;
@@ -81,9 +86,14 @@ module _ (members part : ℕ) (b : BlockId) (n : Net) (v : View members part b n
   crash_view c pos less up =
       elim (nat_lt (w.client c).settled (w.client c).version) as (λ t. nat_lt (w.client c).settled (w.client c).version ≡ t → View members part b (record n { up = put n.up c false })) [
         | true ↦ λ is. fall c (crashes_dirty w c) pos less up (CrashesDirty c (record { dirty = below _ _ is })) refl refl refl (same_manager (crashes_dirty w c) refl refl (λ d. refl) (λ d. refl) refl v.manages.job) (all_same (crashes_dirty w c) refl refl refl refl refl refl)
+            (λ k other. put_there w.fallen c 1 k other) (λ _. put_here w.fallen c 1)
         | false ↦ λ is. fall c (crashes_clean w c) pos less up (CrashesClean c (record { clean = above _ _ is })) refl refl refl (same_manager (crashes_clean w c) refl refl (λ d. refl) (λ d. refl) refl v.manages.job) (all_same (crashes_clean w c) refl refl refl refl refl refl)
+            (λ k other. refl) (λ dirty. contrary (sym is ∙ (shown_dirty (shown_up c pos less up) ∙ dirty)))
       ] refl
     where
+      shown_dirty : Shows (setting b c (n.tokens c).inc) w.epoch (local_of (n.tokens c) b) (w.client c) → nat_lt (w.client c).settled (w.client c).version ≡ is_dirty (held_of (n.tokens c).blocks b)
+      shown_dirty shown = ap (λ k. nat_lt k (w.client c).version) shown.settled ∙ ap (λ k. nat_lt (held_of (n.tokens c).blocks b).settled k) shown.version
+
       below : (m k : ℕ) → nat_lt m k ≡ true → m < k
       below m k h = grind (arith, nat_tests)
 
@@ -122,6 +132,8 @@ module _ (members part : ℕ) (b : BlockId) (n : Net) (v : View members part b n
               fetch = gone.fetching;
             })
             (λ k other pos less. v.clients k pos less);
+        fell = put_each_three (λ k t s f. 0 < k → k < members → FellDirty t (held_of s.blocks b) f) n.up n.tokens w.fallen c true (fresh_tokens inc epochs) 0
+            (λ _ _ down _. contrary (sym down)) (λ k other. v.fell k);
         slot = v.slot;
         sound = v.sound;
         reigns = v.reigns;
@@ -157,6 +169,8 @@ module _ (members part : ℕ) (b : BlockId) (n : Net) (v : View members part b n
         steps = More lost both.0;
         many = v.many;
         positive = v.positive;
+        fell = put_each (λ k x. 0 < k → k < members → FellDirty (n.up k) (held_of x.blocks b) (u.fallen k)) n.tokens c d.state
+            (λ _ _ down _. contrary (sym down ∙ up)) (λ k other. v.fell k);
         slot = v.slot;
         sound = v.sound;
         reigns = v.reigns;
@@ -178,6 +192,7 @@ module _ (members part : ℕ) (b : BlockId) (n : Net) (v : View members part b n
     nobody = v.nobody;
     positive = v.positive;
     clients = v.clients;
+    fell = v.fell;
     slot = v.slot;
     sound = v.sound;
     reigns = v.reigns;

@@ -5,3 +5,4 @@ pub mod Takeovers
 pub mod Standing
 pub mod Events
 pub mod Start
+pub mod Laws

@@ -43,6 +43,7 @@ module _ (members part : ℕ) (b : BlockId) (n : Net) (v : View members part b n
         nobody = subst (λ (u : World). IsNobody (u.client 0) u.epoch) (sym same) v.nobody;
         positive = let p = v.positive in omega arith;
         clients = λ k pos less. subst (λ (u : World). ClientShown (n.up k) b k (n.tokens k) u.epoch (u.client k)) (sym same) (v.clients k pos less);
+        fell = λ k pos less down dirty. ap (λ (u : World). u.fallen k) same ∙ v.fell k pos less down dirty;
         slot = d.state;
         sound = sound;
         reigns = ap (put n.slots w.epoch (Some d.state)) epoch ∙ put_here n.slots w.epoch (Some d.state);
@@ -87,6 +88,7 @@ module _ (members part : ℕ) (b : BlockId) (n : Net) (v : View members part b n
     nobody = v.nobody;
     positive = v.positive;
     clients = v.clients;
+    fell = v.fell;
     slot = v.slot;
     sound = v.sound;
     manages = v.manages;

@@ -1,26 +1,18 @@
--- The small world is seen at its start, so it is always; and what that says of owners.
+-- The small world is seen at its start, so it is always.
 use Rattle.std.proofs.Common.{◌≡◌, ℕ, zero, suc, ◌-◌, ◌%◌, ◌≤◌, ◌<◌, Bool, true, false, cond, nat_lt, get_or, List, [], ◌∷◌, Some, None, refl, sym, ap, ◌∙◌, arith}
 use Rattle.std.proofs.lemmas.Bool.Decides.{nat_tests}
-use Rattle.xfs_base.specs.declared.token.Mode.{Mode}
-use Rattle.xfs_base.specs.declared.token.Mode.TheVariants.{Nothing, Copy, Own}
 use Rattle.xfs_base.specs.Blocks.{slot_of}
-use Rattle.token_client.specs.State.{held_of}
 use Rattle.token_client.proofs.AllInputs.{started-sound}
 use Rattle.token_manager.specs.SlotState.{SlotState}
 use Rattle.token_manager.specs.Transition as slot
 use Rattle.token_manager.proofs.Guarded.{sound-start}
 use Rattle.token_protocol.specs.Step.Steps.{Done as Ended}
 use Rattle.token_protocol.specs.World.{start}
-use Rattle.token_protocol.proofs.Invariant.{owned}
-use Rattle.token_protocol.proofs.Laws.{single_owner}
-use Rattle.token_tie.specs.Seen.{rank}
-use Rattle.token_law.specs.Net.{Net, Runs, opening, OneOwner}
+use Rattle.token_law.specs.Net.{Net, Runs, opening}
 use Rattle.token_law.specs.Net.Runs.{Begun, On}
 use Rattle.token_protocol.proofs.Refining.{put_each}
-use Rattle.xfs_base.specs.Modes.{is_held, is_own}
 use Rattle.xfs_base.proofs.Booleans.{contrary}
 use Rattle.token_law.proofs.Views.{some_one}
-use Rattle.token_law.proofs.Falls.{shown_up}
 use Rattle.token_law.proofs.Events.{ran_put, Good, keeps}
 use Rattle.token_law.proofs.Standing.{begun}
 
@@ -84,6 +76,7 @@ begins members part some = record {
       value = tt;
       fetch = refl;
     };
+    fell = λ c pos less down _. contrary (sym down);
     slot = slot.started 1 [] [] zeros;
     sound = sound-start 1 [] [] zeros (λ block c d apart. omega arith);
     reigns = refl;
@@ -110,20 +103,3 @@ always members part n some r = go opening n r (begins members part some)
     go : (a m : Net) → Runs members part a m → Good members part a → Good members part m
     go a m Begun i = i
     go a m (On {m = k} rs h) i = keeps members part k m h (go a k rs i)
-
-pub owns_two : (mode : Mode) → is_own mode ≡ true → rank mode ≡ 2
-owns_two Nothing h = contrary h
-owns_two Copy h = contrary h
-owns_two Own h = refl
-
-pub holds_some : (mode : Mode) → is_held mode ≡ true → 0 < rank mode
-holds_some Nothing h = contrary h
-holds_some Copy h = omega arith
-holds_some Own h = omega arith
-
-pub one_owner : OneOwner
-one_owner members part n r b c d inside pos less pos2 less2 up up2 own held =
-    let v = (always members part n (omega arith) r).views b inside in
-    let m = (shown_up members part b n v d pos2 less2 up2).mode in
-    let some = holds_some (held_of (n.tokens d).blocks b).mode held in
-    single_owner v.world (owned false members v.world v.steps) c d ((shown_up members part b n v c pos less up).mode ∙ owns_two (held_of (n.tokens c).blocks b).mode own) (omega arith)

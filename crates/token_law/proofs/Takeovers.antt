@@ -182,6 +182,7 @@ module _ (members part : ℕ) (b : BlockId) (n : Net) (v : View members part b n
     positive = omega arith;
     clients = λ c pos less. subst (λ (x : Client). ClientShown (n.up c) b c (n.tokens c) epoch (record x { stamp = 0 })) (sym (put_there old.client 0 (record (old.client 0) { promised = epoch; fetching = 0 }) c (λ same. absurd (omega arith))))
         (risen c (n.up c) (v.clients c pos less));
+    fell = v.fell;
     slot = begun;
     sound = sound;
     reigns = put_here n.slots epoch (Some begun);

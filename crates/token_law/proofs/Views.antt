@@ -31,7 +31,7 @@ use Rattle.token_client.specs.declared.held.Held.{Held}
 use Rattle.token_client.specs.State.{held_in, is_in_slot, epoch_of}
 use Rattle.token_protocol.specs.Takeover as takeover
 use Rattle.xfs_base.specs.Steps.{still}
-use Rattle.token_client.specs.Held.{is_settled_by, version_settled}
+use Rattle.token_client.specs.Held.{is_dirty, is_settled_by, version_settled}
 use Rattle.token_client.specs.State.{with_held}
 use Rattle.token_client.specs.State.{TokensState}
 use Rattle.token_protocol.specs.Step.Step.{Reports as ReportsStep}
@@ -41,7 +41,7 @@ use Rattle.token_tie.proofs.TakingOver.{one_numbers}
 use Rattle.token_tie.proofs.Frames.{steps_through, shown_on, epoch_on}
 use Rattle.token_tie.proofs.Managing.{offer_on, recall_on}
 use Rattle.token_client.proofs.Tables.{InOrder}
-use Rattle.xfs_base.proofs.Booleans.{by_test}
+use Rattle.xfs_base.proofs.Booleans.{by_test, contrary}
 
 pub either_in : {X : Type 0} (p : X) (xs ys : List X) → In p (xs ++ ys) → In p xs ⊎ In p ys
 either_in p [] ys is = inr is
@@ -87,6 +87,10 @@ Carried part b w (ForwardSent passer c block at inc req ver) = block ≡ b → (
 Carried part b w (SupplySent c block at inc req ver value) = block ≡ b → (entry : Entry) × (entry.ver ≡ ver) × SentOffer c w at inc req Copy (entry_seen entry)
 Carried part b w (ReportSent c epoch rows) = (blocks : List (BlockId × Held)) × (end : ℕ) × InOrder blocks × (rows ≡ held_in part blocks) × In (record { client = c; epoch = epoch; mode = rank (held_of blocks b).mode; end = end }) w.reports
 
+-- a client that fell with the block dirty is known as fallen there
+abbrev pub FellDirty : Bool → Held → ℕ → Type 0
+FellDirty up h fallen = up ≡ false → is_dirty h ≡ true → fallen ≡ 1
+
 -- number 0 is nobody's: a client that holds nothing and promises only when all have
 pub record IsNobody (x : Client) (epoch : ℕ) : Type 0 where
   pub serving : x.serving ≡ 1
@@ -100,6 +104,7 @@ pub record View (members part : ℕ) (b : BlockId) (n : Net) : Type 0 where
   pub nobody : IsNobody (world.client 0) world.epoch
   pub positive : 0 < world.epoch
   pub clients : (c : ℕ) → 0 < c → c < members → ClientShown (n.up c) b c (n.tokens c) world.epoch (world.client c)
+  pub fell : (c : ℕ) → 0 < c → c < members → FellDirty (n.up c) (held_of (n.tokens c).blocks b) (world.fallen c)
   pub slot : SlotState
   pub sound : Sound slot
   pub reigns : n.slots world.epoch ≡ Some slot
@@ -184,6 +189,9 @@ module _ (members part : ℕ) (b : BlockId) (n : Net) (v : View members part b n
         clients = put_each (λ k x. 0 < k → k < members → ClientShown (n.up k) b k x t.world.epoch (t.world.client k)) n.tokens c d.state
             (λ _ _. subst (λ u. ClientShown u b c d.state t.world.epoch (t.world.client c)) (sym up) (subst (λ k. Shows (setting b c k) t.world.epoch (local_of d.state b) (t.world.client c)) (sym t.shows.boot) (shown_on false (setting b c (n.tokens c).inc) end w (local_of d.state b) d.outs t)))
             (λ k other pos less. subst (λ e. ClientShown (n.up k) b k (n.tokens k) e (t.world.client k)) (sym epoch) (subst (λ x. ClientShown (n.up k) b k (n.tokens k) w.epoch x) (sym (t.frame.client k other)) (v.clients k pos less)));
+        fell = put_each (λ k x. 0 < k → k < members → FellDirty (n.up k) (held_of x.blocks b) (t.world.fallen k)) n.tokens c d.state
+            (λ _ _ down _. contrary (sym down ∙ up))
+            (λ k other pos less down dirty. ap (λ (u : World). u.fallen k) t.frame.others ∙ v.fell k pos less down dirty);
         slot = v.slot;
         sound = v.sound;
         reigns = ap n.slots epoch ∙ v.reigns;
@@ -207,6 +215,7 @@ module _ (members part : ℕ) (b : BlockId) (n : Net) (v : View members part b n
         nobody = v.nobody;
         positive = v.positive;
         clients = v.clients;
+        fell = v.fell;
         slot = v.slot;
         sound = v.sound;
         reigns = v.reigns;

@@ -146,9 +146,3 @@ opening = record {
   slots = put (λ e. None) 1 (Some (slot.started 1 [] [] (0 ∷ 0 ∷ 0 ∷ 0 ∷ 0 ∷ 0 ∷ 0 ∷ 0 ∷ 0 ∷ [])));
   sent = [];
 }
-
--- In every run, whichever managers follow each other, where one client's tokens own a block, no other client's tokens hold it.
-abbrev pub OneOwner : Type 0
-OneOwner =
-    (members part : ℕ) (n : Net) → Runs members part opening n → (b : BlockId) (c d : ℕ) → is_in_slot part b ≡ true → 0 < c → c < members → 0 < d → d < members → n.up c ≡ true → n.up d ≡ true
-    → is_own (held_of (n.tokens c).blocks b).mode ≡ true → is_held (held_of (n.tokens d).blocks b).mode ≡ true → c ≡ d

@@ -1,0 +1,60 @@
+-- A name that is booked: its page is that of the segment that is launched, and the others stay.
+use Rattle.std.proofs.Common.{◌≡◌, ℕ, suc, ◌-◌, ◌<◌, ◌==◌, Bool, true, false, cond, if◌then◌else◌, length, refl, sym, ap, subst, ◌∙◌}
+use Rattle.log_protocol.specs.State.{State}
+use Rattle.log_protocol.specs.OwnerSteps.{Group, books}
+use Rattle.segment_format.specs.declared.segment.Segment.{Segment}
+use Rattle.segment_format.specs.Text.{text_of}
+use Rattle.group_map.specs.declared.group.Group as groups
+use Rattle.group_map.specs.GroupMapState.{GroupMapState}
+use Rattle.log_tie.specs.Setting.{Setting, Stripe, stripe_of_group, server_of, generation_of, present_at, name_of, point, IsStripe}
+use Rattle.log_tie.specs.Seen.{Page, Book}
+use Rattle.xfs_base.proofs.Booleans.{contrary}
+use Rattle.log_tie.proofs.Names.{equal, itself}
+
+-- the book with a segment at a name
+abbrev pub with_page : (ℕ → Segment) → ℕ → Segment → ℕ → Segment
+with_page book x s y = if y == x then s else book y
+
+pub page_here : (book : ℕ → Segment) (x : ℕ) (s : Segment) → with_page book x s x ≡ s
+page_here book x s = by (x == x) (itself x)
+  where
+    by : (t : Bool) → t ≡ true → cond t s (book x) ≡ s
+    by true e = refl
+    by false e = contrary e
+
+pub page_there : (w : State) (book : ℕ → Segment) (x : ℕ) (s : Segment) → (w.booked x ≡ 1 → ⊥) → (y : ℕ) → w.booked y ≡ 1 → with_page book x s y ≡ book y
+page_there w book x s new y booked = by (y == x) refl
+  where
+    by : (t : Bool) → (y == x) ≡ t → cond t s (book y) ≡ book y
+    by true e = absurd (new (subst (λ z. w.booked z ≡ 1) (equal y x e) booked))
+    by false e = refl
+
+module _ (g : Setting) (w : State) (book : ℕ → Segment) (x : ℕ) (s : Segment) (group : groups.Group) (m : GroupMapState) (prior content : ℕ) where
+  abbrev pub booked_state : State
+  booked_state = books w x (g.number (text_of s)) (length group.members) (server_of group.members) prior content
+
+  -- the group of the map is a group there
+  pub stripe_group : w.servers ≡ suc g.servers → IsStripe g m group → Group w (length group.members) (server_of group.members)
+  stripe_group servers is = record { some = is.some; known = λ j below. subst (λ n. server_of group.members j < n) (sym servers) (is.exist j below); distinct = is.differ }
+
+  -- the book of what is booked
+  pub booked_pages : s.name ≡ name_of g x → 0 < s.name.pass.inc → s.group ≡ group.id → prior ≡ point g (s.name.seq - 1) s.prior.pass → content ≡ g.content s.items → IsStripe g m group → ((v : ℕ) → w.owner_generation v ≡ present_at m v) → Book g w book
+      → Book g booked_state (with_page book x s)
+  booked_pages named boot of after tells is known paged y booked = by (y == x) refl booked
+    where
+      stripe : g.stripe s.group ≡ stripe_of_group group
+      stripe = ap g.stripe of ∙ is.named
+
+      by : (t : Bool) → (y == x) ≡ t → cond t 1 (w.booked y) ≡ 1 → Page g y (cond t s (book y)) (cond t (g.number (text_of s)) (w.text_of y)) (cond t (length group.members) (w.member_count y))
+          (λ i. cond t (server_of group.members i) (w.member_server y i)) (λ i. cond t (w.owner_generation (server_of group.members i)) (w.member_generation y i)) (cond t prior (w.prior_of y)) (cond t content (w.content_of y))
+      by true e h = record {
+        named = named ∙ ap (name_of g) (sym (equal y x e));
+        boot = boot;
+        spelled = refl;
+        counted = ap (λ (z : Stripe). length z.members) (sym stripe);
+        at_server = λ j. ap (λ (z : Stripe). server_of z.members j) (sym stripe);
+        at_generation = λ j below. known (server_of group.members j) ∙ (sym (is.present j (subst (λ (z : Stripe). j < length z.members) stripe below)) ∙ ap (λ (z : Stripe). generation_of z.members j) (sym stripe));
+        after = after;
+        tells = tells;
+      }
+      by false e h = paged y h

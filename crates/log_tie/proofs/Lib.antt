@@ -1,0 +1,9 @@
+pub mod Names
+pub mod Frames
+pub mod Sending
+pub mod Booking
+pub mod Sealing
+pub mod Settling
+pub mod Serving
+pub mod Shelves
+pub mod ShelfSteps

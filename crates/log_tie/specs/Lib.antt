@@ -1,0 +1,4 @@
+pub mod Setting
+pub mod Seen
+pub mod Inputs
+pub mod Shelves

@@ -1,0 +1,19 @@
+//! How the machines of logs are seen in the abstract log protocol. It has no code: each function below has an empty body, and its contract is a law.
+#![tactic(auto)]
+
+ghost use Rattle.log_tie.specs.Inputs.{TakesInputs};
+ghost use Rattle.log_tie.specs.Shelves.{TakesDeeds};
+
+/// What a log that its owner writes does on an input is a list of steps of the log protocol that meet their guards: a segment is sealed, striped anew, noted,
+/// settled, and its Stores are sent. Asked of the world are that Stored packets were sent, and that maps of groups are the registry's (the 1996 paper, on
+/// writes and on RAID).
+pub fn log_inputs()
+    ensures { TakesInputs }
+{}
+
+/// Whatever is done to a server's shelf is done by steps of that server: a Store is kept or found held, a Fetch is answered with a fragment of the booked
+/// segment, a Fence with what is held, a name is deleted, a rebuild fills in, a disk is lost. Asked of the world are that Stores and what a rebuild read were
+/// sent, that what is deleted was dropped, that a Fence is of a boot that began, and that generations don't end. No guard asks for the fences that a shelf keeps.
+pub fn shelf_deeds()
+    ensures { TakesDeeds }
+{}
