@@ -7,3 +7,4 @@ pub mod Settling
 pub mod Serving
 pub mod Shelves
 pub mod ShelfSteps
+pub mod Openings

@@ -168,7 +168,7 @@ module _ (g : Setting) where
   noted_set (b ∷ bs) (suc index) zero h = inr h
   noted_set (b ∷ bs) (suc index) (suc i) h = ⊎_elim (λ same. inl (ap suc same)) inr (noted_set bs index i h)
 
-  noted_still : (noted : List Bool) (table : ℕ → ℕ) (index : ℕ) → ((i : ℕ) → is_noted noted i ≡ true → table i ≡ 1) → (i : ℕ) → is_noted noted i ≡ true → put table index 1 i ≡ 1
+  pub noted_still : (noted : List Bool) (table : ℕ → ℕ) (index : ℕ) → ((i : ℕ) → is_noted noted i ≡ true → table i ≡ 1) → (i : ℕ) → is_noted noted i ≡ true → put table index 1 i ≡ 1
   noted_still noted table index old i h = let was = old i h in grind (arith, nat_tests)
 
   -- some steps of the owner before

@@ -1,4 +1,5 @@
 pub mod Setting
 pub mod Seen
 pub mod Inputs
+pub mod Openings
 pub mod Shelves

@@ -2,6 +2,7 @@
 #![tactic(auto)]
 
 ghost use Rattle.log_tie.specs.Inputs.{TakesInputs};
+ghost use Rattle.log_tie.specs.Openings.{OpensByStep, OpeningTakes};
 ghost use Rattle.log_tie.specs.Shelves.{TakesDeeds};
 
 /// What a log that its owner writes does on an input is a list of steps of the log protocol that meet their guards: a segment is sealed, striped anew, noted,
@@ -9,6 +10,14 @@ ghost use Rattle.log_tie.specs.Shelves.{TakesDeeds};
 /// writes and on RAID).
 pub fn log_inputs()
     ensures { TakesInputs }
+{}
+
+/// A log that is opened again, once all of it is read back: its opening segment is written by a step of the opening, and each input that it then takes is a list
+/// of steps, until the segment has settled, the owner serves and all that was read back is filed. Where no restart is doubtful the premise on losses is asked
+/// for (the 1996 paper, on recovery).
+pub fn opening_inputs()
+    ensures opens { OpensByStep }
+    ensures takes { OpeningTakes }
 {}
 
 /// Whatever is done to a server's shelf is done by steps of that server: a Store is kept or found held, a Fetch is answered with a fragment of the booked
