@@ -1,0 +1,6 @@
+pub mod Chains
+pub mod Loops
+pub mod Readings
+pub mod Standing
+pub mod Starting
+pub mod TestGroups

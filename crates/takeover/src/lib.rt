@@ -1,0 +1,20 @@
+//! Taking a slot over (the 1996 paper, "Recovery and Reconfiguration"): its new manager polls the clients and the
+//! cleaner, reads the slot's newest checkpoint and the logs behind it, and hands out the index that is the
+//! join of all that they tell of the slot's blocks. This crate knows nothing of packets: it is told what
+//! the nodes report and the servers answer, and says what to ask.
+#![tactic(auto)]
+
+pub mod events;
+pub mod laws;
+mod reads;
+mod report;
+mod rows;
+mod source;
+pub mod take;
+
+pub use events::{In, Out};
+pub use laws::index_is_the_join;
+pub use take::Take;
+
+#[cfg(test)]
+mod tests;
