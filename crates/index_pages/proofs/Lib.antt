@@ -1,3 +1,4 @@
 pub mod Lists
 pub mod Numbering
 pub mod PlainTable
+pub mod Sizes

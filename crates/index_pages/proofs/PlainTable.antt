@@ -8,10 +8,10 @@ use Rattle.xfs_base.specs.declared.block.BlockId.{BlockId}
 use Rattle.xfs_base.specs.declared.entry.Entry.{Entry}
 use Rattle.xfs_base.specs.Blocks.{block_cmp, same_block}
 use Rattle.xfs_base.proofs.BlockOrder.{block_cmp_total, lookup-insert_entry}
-use Rattle.delta_index.specs.Entries.{no_entry}
-use Rattle.delta_index.specs.Index.{entry_of}
+use Rattle.delta_index.specs.Entries.{no_entry, is_newer}
+use Rattle.delta_index.specs.Index.{entry_of, merged}
 use Rattle.delta_index.proofs.JoinAlgebra.{same_block-eq}
-use Rattle.index_pages.specs.Pages.{PagesState, put, put_at, cleaned, page_of}
+use Rattle.index_pages.specs.Pages.{PagesState, put, put_newer, put_at, cleaned, page_of}
 use Rattle.index_pages.specs.Calls.{Call, after_call, after_calls, put_over}
 use Rattle.index_pages.specs.Calls.Call.{Put, Clean}
 
@@ -34,6 +34,15 @@ rows-put s block entry = at_page (page_of s block)
     at_page : (o : Option _) → (put_at o s block entry).rows ≡ insert_entry block_cmp s.rows block entry
     at_page (Some page) = refl
     at_page None = refl
+
+-- the rows of the pages once an entry is merged
+pub rows-put_newer : (s : PagesState) (block : BlockId) (entry : Entry) → (put_newer s block entry).rows ≡ merged s.rows block entry
+unfolding put_newer merged
+rows-put_newer s block entry = at_test (is_newer entry (entry_of s.rows block))
+  where
+    at_test : (t : Bool) → (cond t (put s block entry) s).rows ≡ cond t (insert_entry block_cmp s.rows block entry) s.rows
+    at_test true = rows-put s block entry
+    at_test false = refl
 
 one_call : (s : PagesState) (call : Call) (q : BlockId) → entry_of (after_call s call).rows q ≡ put_over q (entry_of s.rows q) call
 unfolding cleaned

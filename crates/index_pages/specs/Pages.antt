@@ -1,10 +1,12 @@
 -- An index in pages.
-use Rattle.std.specs.Prelude.{ℕ, ◌+◌, true, false, List, [], ◌∷◌, ◌++◌, Option, Some, None, length, map, slice_get, slice_set, if◌then◌else◌}
+use Rattle.std.specs.Prelude.{ℕ, ◌+◌, true, false, List, [], ◌∷◌, ◌++◌, Bool, Option, Some, None, filter, length, map, nat_lt, slice_get, slice_set, if◌then◌else◌}
 use Rattle.std.specs.Map.{lookup}
 use Rattle.std.specs.BTreeMap.{is_at, insert_entry}
 use Rattle.xfs_base.specs.declared.block.BlockId.{BlockId}
 use Rattle.xfs_base.specs.declared.entry.Entry.{Entry}
 use Rattle.xfs_base.specs.Blocks.{block_cmp}
+use Rattle.delta_index.specs.Entries.{is_newer}
+use Rattle.delta_index.specs.Index.{entry_of}
 use Rattle.index_pages.specs.declared.layout.Page.{Page}
 use Rattle.index_pages.specs.Layout.{first_block, blocks_on}
 
@@ -60,6 +62,18 @@ put_at None s block entry = put_anew s block entry
 unfoldable pub put : PagesState → BlockId → Entry → PagesState
 put s block entry = put_at (page_of s block) s block entry
 
+-- the entry is put at its block where it is above what was put there last
+unfoldable pub put_newer : PagesState → BlockId → Entry → PagesState
+put_newer s block entry = if is_newer entry (entry_of s.rows block) then put s block entry else s
+
+abbrev pub room_for : Option ℕ → ℕ → Bool
+room_for (Some page) count = true
+room_for None count = nat_lt count 4294967295
+
+-- whether the page of a block is there, or can be begun
+abbrev pub has_room : PagesState → BlockId → Bool
+has_room s block = room_for (page_of s block) (length s.pages)
+
 -- the page, without a change
 abbrev pub clean_page : Page → Page
 clean_page page = record { first = page.first; changed = false }
@@ -82,6 +96,18 @@ row_of block (Some entry) = (block, entry) ∷ []
 abbrev pub held : List (BlockId × Entry) → List BlockId → List (BlockId × Entry)
 held rows [] = []
 held rows (block ∷ blocks) = row_of block (lookup (is_at (block_cmp block)) rows) ++ held rows blocks
+
+-- what rows have of the blocks that share a page, in their order
+abbrev pub rows_on : List (BlockId × Entry) → Page → List (BlockId × Entry)
+rows_on rows page = held rows (blocks_on page.first)
+
+-- what was put on each page, in order of number
+abbrev pub all_rows : PagesState → List (List (BlockId × Entry))
+all_rows s = map (rows_on s.rows) s.pages
+
+-- what was put on each page that changed, in order of number
+abbrev pub changed_rows : PagesState → List (List (BlockId × Entry))
+changed_rows s = map (rows_on s.rows) (filter (λ page. page.changed) s.pages)
 
 -- the first block of the page at a place
 abbrev pub first_at : Option Page → BlockId

@@ -1,10 +1,12 @@
 //! What is true after any calls. Each function stands for the law that its contract states; a call of it
 //! does nothing.
-ghost use Rattle.std.specs.Prelude.{◌≡◌, List, map};
+ghost use Rattle.std.specs.Prelude.{◌≡◌, ◌≤◌, List, length, map};
 ghost use Rattle.delta_index.specs.Index.{entry_of};
 ghost use Rattle.xfs_base.specs.declared.block.BlockId.{BlockId};
+ghost use Rattle.xfs_base.specs.declared.entry.Entry.{Entry};
+ghost use Rattle.index_pages.specs.declared.layout.Page.{Page};
 ghost use Rattle.index_pages.specs.Layout.{first_block};
-ghost use Rattle.index_pages.specs.Pages.{no_pages, page_of};
+ghost use Rattle.index_pages.specs.Pages.{no_pages, page_of, rows_on};
 ghost use Rattle.index_pages.specs.Calls.{Call, after_calls, last_put, pages_begun, puts_since_clean, place_from, page_with};
 
 /// Pages answer as the plain table: at each block what was put last.
@@ -17,4 +19,9 @@ pub fn pages_answer_as_the_plain_table()
 pub fn pages_change_where_something_is_put()
     ensures pages { (calls : List Call) → (after_calls no_pages calls).pages ≡ map (page_with (puts_since_clean calls)) (pages_begun calls) }
     ensures numbers { (calls : List Call) (block : BlockId) → page_of (after_calls no_pages calls) block ≡ place_from 0 (first_block block) (pages_begun calls) }
+{}
+
+/// A page has at most 64 rows, whatever is put.
+pub fn pages_have_few_rows()
+    ensures { (rows : List (BlockId × Entry)) (page : Page) → length (rows_on rows page) ≤ 64 }
 {}

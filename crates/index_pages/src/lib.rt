@@ -10,3 +10,6 @@ pub mod pages;
 
 pub use layout::{Page, first_block};
 pub use pages::Pages;
+
+#[cfg(test)]
+mod tests;

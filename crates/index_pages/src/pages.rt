@@ -1,8 +1,9 @@
 //! The index in pages.
 ghost use Rattle.std.specs.Prelude.{◌≡◌, ◌<◌, length, IfOk, OnOk, OnErr, None};
+ghost use Rattle.delta_index.specs.Entries.{is_newer};
 ghost use Rattle.delta_index.specs.Index.{entry_of};
 ghost use Rattle.index_pages.specs.Layout.{first_block};
-ghost use Rattle.index_pages.specs.Pages.{no_pages, page_of, put_on, begun, put_anew, put, cleaned, changed_from, held, first_of, page_rows};
+ghost use Rattle.index_pages.specs.Pages.{no_pages, page_of, put_on, begun, put_anew, put, put_newer, has_room, cleaned, changed_from, held, rows_on, all_rows, changed_rows, first_of, page_rows};
 
 use crate::layout::{Page, blocks_on, first_block};
 use std::alloc::{AllocError, Global};
@@ -32,6 +33,12 @@ impl Model for Pages {
 }
 
 impl Crosses for Pages {}
+
+fn is_newer_entry(entry: Entry, held: Entry) -> bool
+    ensures { result ≡ is_newer entry held }
+{
+    entry.ver > held.ver || entry.ver == held.ver && entry.hop > held.hop
+}
 
 // What a table holds of these blocks, in their order.
 fn held(
@@ -171,6 +178,35 @@ impl Pages {
         }
     }
 
+    // Whether the page of a block is there, or can be begun.
+    fn has_room(&self, block: BlockId) -> bool
+        ensures { result ≡ has_room self.now block }
+    {
+        match self.page_of(block) {
+            Some(_) => true,
+            None => self.count() < u32::MAX,
+        }
+    }
+
+    /// Puts an entry at a block where its version, or at one version its hop, is greater than that of
+    /// what `get` gives, and answers whether it did: of equal ones the earlier stays. Where memory is
+    /// wanting nothing changes, and so it is where a page more than 4,294,967,295 would be needed.
+    #[tactic(auto, unfolding(crate::specs::Pages::put_newer))]
+    pub fn merge(&mut self, alloc: Global, block: BlockId, entry: Entry) -> Mem<bool>
+        ensures taken { IfOk result (λ taken. taken ≡ is_newer entry (entry_of self.old.rows block)) }
+        ensures ok { OnOk result (self.new ≡ put_newer self.old block entry) }
+        ensures err { OnErr result (self.new ≡ self.old) }
+    {
+        if !is_newer_entry(entry, self.get(block)) {
+            return Ok(false);
+        }
+        if !self.has_room(block) {
+            return Err(AllocError);
+        }
+        self.put(alloc, block, entry)?;
+        Ok(true)
+    }
+
     /// The numbers of the pages on which something was put since `clean`, rising.
     pub fn changed(&self, alloc: Global) -> Mem<List<u32>>
         ensures { IfOk result (λ pages. pages ≡ changed_from 0 self.now.pages) }
@@ -204,6 +240,38 @@ impl Pages {
         ensures { IfOk result (λ rows. rows ≡ page_rows self.now page) }
     {
         let blocks = blocks_on(alloc, first_of(&self.pages, page))?;
+        held(alloc, &self.rows, blocks.as_slice())
+    }
+
+    /// What was put on each page, by number of the page, and on each by block.
+    pub fn all_rows(&self, alloc: Global) -> Mem<List<List<(BlockId, Entry)>>>
+        ensures { IfOk result (λ pages. pages ≡ all_rows self.now) }
+    {
+        let mut pages = List::new(alloc);
+        for page in self.pages.iter() {
+            pages.push(self.rows_on(alloc, *page)?)?;
+        }
+        Ok(pages)
+    }
+
+    /// What was put on each page on which something was put since `clean`, by number of the page, and on
+    /// each by block.
+    pub fn changed_rows(&self, alloc: Global) -> Mem<List<List<(BlockId, Entry)>>>
+        ensures { IfOk result (λ pages. pages ≡ changed_rows self.now) }
+    {
+        let mut pages = List::new(alloc);
+        for page in self.pages.iter() {
+            if page.changed {
+                pages.push(self.rows_on(alloc, *page)?)?;
+            }
+        }
+        Ok(pages)
+    }
+
+    fn rows_on(&self, alloc: Global, page: Page) -> Mem<List<(BlockId, Entry)>>
+        ensures { IfOk result (λ rows. rows ≡ rows_on self.now.rows page) }
+    {
+        let blocks = blocks_on(alloc, page.first)?;
         held(alloc, &self.rows, blocks.as_slice())
     }
 }
