@@ -20,11 +20,13 @@ use Rattle.xfs_base.specs.Segments.{seg_cmp}
 use Rattle.xfs_base.proofs.BlockOrder.{block_cmp_total}
 use Rattle.delta_index.specs.Entries.{no_entry, is_newer}
 use Rattle.delta_index.specs.Index.{entry_of, merged}
-use Rattle.usage_table.specs.Counts.{count_of, blocks_at, after_shift}
+use Rattle.usage_table.specs.Counts.{IsTable, count_of, blocks_at, after_shift}
 use Rattle.xfs_base.proofs.Orders.{seg_cmp_total, seg_cmp_exact}
 use Rattle.xfs_base.proofs.Sorted.{sorted_insert}
 use Rattle.usage_table.proofs.Table.{table_after_shift, count_of-after_shift}
-use Rattle.token_manager.specs.Index.{Indexed, nothing_indexed, IsCounted, segment_of, live_in, moved, indexed, indexed_all, can_rise, has_room, Fits}
+use Rattle.index_pages.specs.Pages.{PagesState, put_newer, cleaned}
+use Rattle.index_pages.proofs.PlainTable.{rows-put_newer}
+use Rattle.token_manager.specs.Index.{Indexed, nothing_indexed, pages_of, cleaned_index, IsCounted, segment_of, live_in, moved, indexed, indexed_all, can_rise, has_room, Fits}
 
 -- an end that is the segment moves one block at it
 one_at : (seg : SegName) → blocks_at (Some seg) seg ≡ 1
@@ -86,7 +88,8 @@ unfolding indexed merged
 keeps-counted i m counted =
     let held = segment_of (entry_of i.rows m.0) in
     let to = segment_of m.1 in
-    elim (is_newer m.1 (entry_of i.rows m.0)) as (λ b. IsCounted (record { rows = cond b (insert_entry block_cmp i.rows m.0 m.1) i.rows; usage = moved b i.usage held to })) [
+    let paged = put_newer (pages_of i) m.0 m.1 in
+    elim (is_newer m.1 (entry_of i.rows m.0)) as (λ b. IsCounted (record { rows = cond b (insert_entry block_cmp i.rows m.0 m.1) i.rows; usage = moved b i.usage held to; numbers = paged.numbers; pages = paged.pages })) [
       | true ↦ record {
         sorted = sorted_insert block_cmp block_cmp_total m.0 m.1 i.rows counted.sorted;
         table = table_after_shift i.usage held to counted.table;
@@ -175,24 +178,47 @@ keeps-counted-all i (m ∷ ms) counted = keeps-counted-all (indexed i m) ms (kee
 
 -- ---- the two ways of the code
 
-abbrev both_of : List (BlockId × Entry) → List (SegName × ℕ) → Indexed
-both_of rows usage = record { rows = rows; usage = usage }
+-- the index that has these pages and counts
+abbrev pub shown : PagesState → List (SegName × ℕ) → Indexed
+shown p usage = record { rows = p.rows; usage = usage; numbers = p.numbers; pages = p.pages }
 
-pub kept_row : (i : Indexed) (m : BlockId × Entry) (rows : List (BlockId × Entry)) → IsCounted i → is_newer m.1 (entry_of i.rows m.0) ≡ false → rows ≡ merged i.rows m.0 m.1
-    → IsCounted (record { rows = rows; usage = i.usage })
-unfolding indexed
-kept_row i m rows counted old same =
-    let from = segment_of (entry_of i.rows m.0) in
-    let left : Bool → Indexed = λ b. both_of (merged i.rows m.0 m.1) (moved b i.usage from (segment_of m.1)) in
-    subst IsCounted (ap left old ∙ ap (λ r. both_of r i.usage) (sym same)) (keeps-counted i m counted)
+-- counts are right for the rows, whatever the pages are
+same_rows : (i j : Indexed) → j.rows ≡ i.rows → j.usage ≡ i.usage → IsCounted i → IsCounted j
+same_rows i j rows usage counted = record {
+  sorted = subst (λ r. IsStrictlySortedBy block_cmp (keys_of r)) (sym rows) counted.sorted;
+  table = subst IsTable (sym usage) counted.table;
+  counted = λ seg. ap (λ u. count_of u seg) usage ∙ counted.counted seg ∙ ap (live_in seg) (sym rows);
+}
 
-pub put_row : (i : Indexed) (m : BlockId × Entry) (rows : List (BlockId × Entry)) (usage : List (SegName × ℕ)) → IsCounted i → is_newer m.1 (entry_of i.rows m.0) ≡ true → rows ≡ merged i.rows m.0 m.1
-    → usage ≡ after_shift i.usage (segment_of (entry_of i.rows m.0)) (segment_of m.1) → IsCounted (record { rows = rows; usage = usage })
+-- the pages with an entry merged, and the counts that follow, are the index with it
+is_indexed : (i : Indexed) (m : BlockId × Entry) (p : PagesState) (usage : List (SegName × ℕ)) → p ≡ put_newer (pages_of i) m.0 m.1
+    → usage ≡ moved (is_newer m.1 (entry_of i.rows m.0)) i.usage (segment_of (entry_of i.rows m.0)) (segment_of m.1) → shown p usage ≡ indexed i m
 unfolding indexed
-put_row i m rows usage counted newer same follows =
-    let from = segment_of (entry_of i.rows m.0) in
-    let left : Bool → Indexed = λ b. both_of (merged i.rows m.0 m.1) (moved b i.usage from (segment_of m.1)) in
-    subst IsCounted (ap left newer ∙ ap (λ r. both_of r (after_shift i.usage from (segment_of m.1))) (sym same) ∙ ap (λ u. both_of rows u) (sym follows)) (keeps-counted i m counted)
+is_indexed i m p usage same follows =
+    let rows : p.rows ≡ merged i.rows m.0 m.1 = ap (λ (q : PagesState). q.rows) same ∙ rows-put_newer (pages_of i) m.0 m.1 in
+    λ k. record { rows = rows k; usage = follows k; numbers = (same k).numbers; pages = (same k).pages }
+
+pub kept_indexed : (i : Indexed) (m : BlockId × Entry) (p : PagesState) → is_newer m.1 (entry_of i.rows m.0) ≡ false → p ≡ put_newer (pages_of i) m.0 m.1 → shown p i.usage ≡ indexed i m
+kept_indexed i m p old same =
+    is_indexed i m p i.usage same (sym (ap (λ b. moved b i.usage (segment_of (entry_of i.rows m.0)) (segment_of m.1)) old))
+
+pub put_indexed : (i : Indexed) (m : BlockId × Entry) (p : PagesState) (usage : List (SegName × ℕ)) → is_newer m.1 (entry_of i.rows m.0) ≡ true → p ≡ put_newer (pages_of i) m.0 m.1
+    → usage ≡ after_shift i.usage (segment_of (entry_of i.rows m.0)) (segment_of m.1) → shown p usage ≡ indexed i m
+put_indexed i m p usage newer same follows =
+    is_indexed i m p usage same (follows ∙ sym (ap (λ b. moved b i.usage (segment_of (entry_of i.rows m.0)) (segment_of m.1)) newer))
+
+pub counted_as : (i : Indexed) (m : BlockId × Entry) (p : PagesState) (usage : List (SegName × ℕ)) → IsCounted i → shown p usage ≡ indexed i m → IsCounted (shown p usage)
+counted_as i m p usage counted same = subst IsCounted (sym same) (keeps-counted i m counted)
+
+-- the pages, cleaned, and the counts are the index, cleaned
+pub cleaned_indexed : (i : Indexed) (p : PagesState) → p ≡ cleaned (pages_of i) → shown p i.usage ≡ cleaned_index i
+unfolding cleaned
+cleaned_indexed i p same = λ k. record { rows = (same k).rows; usage = i.usage; numbers = (same k).numbers; pages = (same k).pages }
+
+-- cleaned pages have the same rows
+pub counted_clean : (i : Indexed) (p : PagesState) → p ≡ cleaned (pages_of i) → IsCounted i → IsCounted (shown p i.usage)
+unfolding cleaned
+counted_clean i p same = same_rows i (shown p i.usage) (ap (λ (q : PagesState). q.rows) same) refl
 
 pub fits_next : (i j : Indexed) (rows : List (BlockId × Entry)) (k : ℕ) (d : BlockId × Entry) → IsCounted i → j ≡ indexed i (get_or rows k d) → k < length rows → Fits i.usage (drop k rows) → Fits j.usage (drop (k + 1) rows)
 fits_next i j rows k d counted next here fits =

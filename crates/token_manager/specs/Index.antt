@@ -11,15 +11,30 @@ use Rattle.xfs_base.specs.declared.segment.SegName.{SegName}
 use Rattle.delta_index.specs.Entries.{is_newer}
 use Rattle.delta_index.specs.Index.{entry_of, merged}
 use Rattle.usage_table.specs.Counts.{IsTable, count_of, blocks_at, after_shift}
+use Rattle.index_pages.specs.declared.layout.Page.{Page}
+use Rattle.index_pages.specs.Pages.{PagesState, put_newer, cleaned}
 
--- what the index holds of each block, by block, and the live blocks of each segment, by segment
 pub record Indexed : Type 0 where
+  -- what the index holds of each block, by block
   pub rows : List (BlockId × Entry)
+  -- the live blocks of each segment, by segment
   pub usage : List (SegName × ℕ)
+  -- the number of each page, by its first block
+  pub numbers : List (BlockId × ℕ)
+  -- the pages, in order of number
+  pub pages : List Page
 
 -- the index of nothing
 abbrev pub nothing_indexed : Indexed
-nothing_indexed = record { rows = []; usage = [] }
+nothing_indexed = record { rows = []; usage = []; numbers = []; pages = [] }
+
+-- the pages of an index
+abbrev pub pages_of : Indexed → PagesState
+pages_of i = record { rows = i.rows; numbers = i.numbers; pages = i.pages }
+
+-- from here on no page of the index has changed
+abbrev pub cleaned_index : Indexed → Indexed
+cleaned_index i = record i { pages = (cleaned (pages_of i)).pages }
 
 -- the segment of a place
 abbrev pub segment_at : Option Place → Option SegName
@@ -39,11 +54,13 @@ live_in seg (m ∷ ms) = blocks_at (segment_of m.1) seg + live_in seg ms
 abbrev pub moved : Bool → List (SegName × ℕ) → Option SegName → Option SegName → List (SegName × ℕ)
 moved taken usage from to = if taken then after_shift usage from to else usage
 
--- one entry is merged, and the counts follow
+-- one entry is merged, the counts follow, and the page of an entry that is taken has changed
 unfoldable pub indexed : Indexed → BlockId × Entry → Indexed
 indexed i m = record {
   rows = merged i.rows m.0 m.1;
   usage = moved (is_newer m.1 (entry_of i.rows m.0)) i.usage (segment_of (entry_of i.rows m.0)) (segment_of m.1);
+  numbers = (put_newer (pages_of i) m.0 m.1).numbers;
+  pages = (put_newer (pages_of i) m.0 m.1).pages;
 }
 
 -- all of these are merged, in their order

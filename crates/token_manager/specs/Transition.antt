@@ -23,7 +23,7 @@ use Rattle.token_manager.specs.declared.output.Out.TheVariants.{Grant, Forward, 
 use Rattle.token_manager.specs.declared.input.In.{In}
 use Rattle.token_manager.specs.declared.input.In.TheVariants.{Want, Gave, Deltas, Check, Tick}
 use Rattle.token_manager.specs.Beliefs.{holder, others, want_met, given_up, all_believed}
-use Rattle.token_manager.specs.Index.{nothing_indexed, indexed_all, has_room}
+use Rattle.token_manager.specs.Index.{nothing_indexed, cleaned_index, indexed_all, has_room}
 use Rattle.token_manager.specs.Recalls.{stamp, recalls, sent, all_sent, answers, noted, applied_of, is_ready, ready_blocks}
 use Rattle.token_manager.specs.SlotState.{SlotState}
 
@@ -41,6 +41,10 @@ started epoch index beliefs applied = record {
   turn = 0;
   applied = applied;
 }
+
+-- from here on no page of the index has changed
+abbrev pub cleaned : SlotState → SlotState
+cleaned s = record s { index = cleaned_index s.index }
 
 -- whether so many more turns can be given out
 abbrev pub has_turns : ℕ → ℕ → Bool

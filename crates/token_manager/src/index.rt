@@ -1,12 +1,12 @@
-//! Where the blocks of a slot lie, and how many of them live in each segment. All that a slot does with its
-//! index is here, so another table can take the index's place.
+//! Where the blocks of a slot lie, in pages, and how many of them live in each segment. All that a slot does
+//! with its index is here.
 ghost use Rattle.std.specs.Prelude.{◌≡◌, ◌<◌, ◌-◌, ◌^◌, OnOk, IfOk, length};
 ghost use Rattle.std.specs.Option.{ForSome};
 ghost use Rattle.usage_table.specs.Counts.{count_of};
 ghost use Rattle.delta_index.specs.Index.{entry_of};
-ghost use Rattle.token_manager.specs.Index.{Indexed, nothing_indexed, segment_of, indexed, indexed_all, can_rise, has_room, Fits, IsCounted};
+ghost use Rattle.token_manager.specs.Index.{Indexed, nothing_indexed, pages_of, cleaned_index, segment_of, indexed, indexed_all, can_rise, has_room, Fits, IsCounted};
 
-use delta_index::DeltaIndex;
+use index_pages::Pages;
 use std::alloc::Global;
 use std::marker::Model;
 use usage_table::Usage;
@@ -16,7 +16,7 @@ use xfs_base::{BlockId, Crosses, Entry, List, Mem, SegName};
 /// scratch over the places gives.
 #[derive(Drop)]
 pub struct BlockIndex {
-    index: DeltaIndex,
+    pages: Pages,
     usage: Usage,
 }
 
@@ -25,9 +25,9 @@ impl Model for BlockIndex {
 
     ghost Value = { Indexed };
 
-    ghost view = { λ i. record { rows = i.index; usage = i.usage } };
+    ghost view = { λ i. record { rows = i.pages.rows; usage = i.usage; numbers = i.pages.numbers; pages = i.pages.pages } };
 
-    ghost invariant = { λ i. IsCounted (record { rows = i.index; usage = i.usage }) };
+    ghost invariant = { λ i. IsCounted (record { rows = i.pages.rows; usage = i.usage; numbers = i.pages.numbers; pages = i.pages.pages }) };
 }
 
 impl Crosses for BlockIndex {}
@@ -57,7 +57,7 @@ impl BlockIndex {
         ensures { result ≡ nothing_indexed }
     {
         BlockIndex {
-            index: DeltaIndex::new(alloc),
+            pages: Pages::new(alloc),
             usage: Usage::new(alloc),
         }
     }
@@ -66,14 +66,21 @@ impl BlockIndex {
     pub fn get(&self, block: BlockId) -> Entry
         ensures { result ≡ entry_of self.now.rows block }
     {
-        self.index.get(block)
+        self.pages.get(block)
     }
 
-    /// All that is held, by block.
-    pub fn rows(&self, alloc: Global) -> Mem<List<(BlockId, Entry)>>
-        ensures { IfOk result (λ rows. rows ≡ self.now.rows) }
+    /// The index in pages.
+    pub fn pages(&self) -> &Pages
+        ensures { result.now ≡ pages_of self.now }
     {
-        self.index.rows(alloc)
+        &self.pages
+    }
+
+    /// From here on no page of the index has changed.
+    pub fn clean(&mut self)
+        ensures { self.new ≡ cleaned_index self.old }
+    {
+        self.pages.clean();
     }
 
     /// The live blocks of each segment that has one, by segment.
@@ -100,8 +107,8 @@ impl BlockIndex {
         ensures counted { OnOk result (IsCounted self.old × IsCounted self.new) }
     {
         let (block, entry) = row;
-        let held = self.index.get(block);
-        if !self.index.merge(alloc, block, entry)? {
+        let held = self.pages.get(block);
+        if !self.pages.merge(alloc, block, entry)? {
             return Ok(());
         }
         let shifted = self.usage.shift(alloc, segment_of(held), segment_of(entry));

@@ -2,9 +2,9 @@
 ghost use Rattle.std.specs.Prelude.{◌≡◌, ℕ, ◌+◌, ◌^◌, ◌<◌, ◌≤◌, length, OnOk, IfOk, IsTrue, ◌++◌, []};
 ghost use Rattle.xfs_base.specs.Steps.{steps};
 ghost use Rattle.xfs_base.specs.declared.segment.SegName.{SegName};
-ghost use Rattle.token_manager.specs.Index.{live_in, has_room};
+ghost use Rattle.token_manager.specs.Index.{pages_of, live_in, has_room};
 ghost use Rattle.token_manager.specs.Recalls.{applied_of, ready_blocks};
-ghost use Rattle.token_manager.specs.Transition.{started, has_turns, passers, finished, recall_or_finish, recall, on_want, gave_last, gave_noted, on_gave, finished_at, is_followed, apply, apply_or_not, on_deltas, is_place, found, on_check, on_tick, transition};
+ghost use Rattle.token_manager.specs.Transition.{started, cleaned, has_turns, passers, finished, recall_or_finish, recall, on_want, gave_last, gave_noted, on_gave, finished_at, is_followed, apply, apply_or_not, on_deltas, is_place, found, on_check, on_tick, transition};
 
 use crate::beliefs::{all_believed, give_up, meet_want, others};
 use crate::index::BlockIndex;
@@ -14,6 +14,7 @@ use crate::output::Out;
 use crate::recalls::{
     applied_of, is_awaited, is_ready, noted, ready_blocks, recalls, send_all, send_recalls,
 };
+use index_pages::Pages;
 use std::alloc::Global;
 use std::collections::BTreeMap;
 use std::marker::Model;
@@ -119,11 +120,18 @@ impl Slot {
         applied_of(&self.applied, log.0)
     }
 
-    /// What the index holds of each block, by block.
-    pub fn rows(&self, alloc: Global) -> Mem<List<(BlockId, Entry)>>
-        ensures { IfOk result (λ rows. rows ≡ self.now.index.rows) }
+    /// The index in pages. Takes no memory.
+    pub fn pages(&self) -> &Pages
+        ensures { result.now ≡ pages_of self.now.index }
     {
-        self.index.rows(alloc)
+        self.index.pages()
+    }
+
+    /// From here on no page of the index has changed; nothing else changes. Takes no memory.
+    pub fn clean(&mut self)
+        ensures { self.new ≡ cleaned self.old }
+    {
+        self.index.clean();
     }
 
     /// The live blocks of each segment that has one, by segment.
@@ -146,7 +154,8 @@ impl Slot {
     /// - A check is answered `Live` exactly where the index has the block at the place.
     /// - A tick sends the unanswered recalls again.
     ///
-    /// Where a turn or a count of live blocks could not rise, nothing changes and nothing is sent.
+    /// Where a turn or a count of live blocks could not rise, nothing changes and nothing is sent. A slot
+    /// that would need more than 4,294,967,295 pages is in want of memory.
     pub fn take(&mut self, alloc: Global, input: In) -> Mem<List<Out>>
         ensures state { OnOk result (self.new ≡ (transition self.old input).state) }
         ensures outs { IfOk result (λ outs. outs ≡ (transition self.old input).outs) }

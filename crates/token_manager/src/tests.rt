@@ -127,7 +127,7 @@ fn a_token_goes_from_writer_to_reader(rt: HostRuntime) -> Mem<()> {
     let live = [Out::Live { entry: written }];
     assert!(rt; gives(&mut slot, alloc, check(place(1, 1)), &live)?);
     assert!(rt; slot.epoch() == 1 && slot.applied(LogId(1)) == 1);
-    assert!(rt; slot.rows(alloc)?.as_slice() == [(BLOCK, written)].as_slice());
+    assert!(rt; slot.pages().get(BLOCK) == written);
     assert!(rt; slot.usage(alloc)?.as_slice() == [(place(1, 1).seg.name, 1_u32)].as_slice());
     Ok(())
 }
