@@ -1,0 +1,74 @@
+-- A reading keeps what it looks for, and what it reads has that name.
+use Rattle.std.proofs.Common.{◌≡◌, ℕ, Bool, true, false, cond, ◌&&◌, List, [], ◌∷◌, Option, Some, None, refl, sym, ap, ◌∙◌, subst, arith}
+use Rattle.std.specs.Prelude.{◌==◌, Result, Ok, Err, ⊤}
+use Rattle.std.proofs.lemmas.Bool.Decides.{nat_tests}
+use Rattle.group_map.specs.GroupMapState.{GroupMapState}
+use Rattle.segment_format.specs.declared.seg_error.SegError.{SegError}
+use Rattle.segment_format.specs.declared.segment.Segment.{Segment}
+use Rattle.segment_format.specs.ReadingItems.{answer_of}
+use Rattle.stripe_code.specs.declared.reading.Next.{Next}
+use Rattle.stripe_code.specs.declared.reading.Next.TheVariants.{Wait, Ask, Again, Read, Lost}
+use Rattle.stripe_code.specs.declared.reading.Stage.{Stage}
+use Rattle.stripe_code.specs.declared.reading.Stage.TheVariants.{Asking, Between, Doubted, Over}
+use Rattle.stripe_code.specs.declared.round.RoundState.{RoundState}
+use Rattle.stripe_code.specs.declared.round.RoundState.TheVariants as round
+use Rattle.stripe_code.specs.declared.round.Told.{Told}
+use Rattle.stripe_code.specs.declared.target.Target.{Target}
+use Rattle.stripe_code.specs.Fragments.{same_name, same_pass}
+use Rattle.stripe_code.specs.Reading.{ReadingState, Step, is_target, is_known, has_block, segment_found, counts, ends, read_as, judged, on_answer, goes_on, on_confirmed}
+use Rattle.stripe_code.specs.Round.{taken, state_of}
+use Rattle.xfs_base.specs.declared.segment.SegName.{SegName}
+use Rattle.xfs_base.proofs.Booleans.{by_test, and_first, and_second, contrary}
+
+-- names that pass the test are one
+one_name : (a b : SegName) → same_name a b ≡ true → b ≡ a
+one_name a b h =
+    let log : b.log.0 ≡ a.log.0 = grind (arith, nat_tests) in
+    let seq : b.seq ≡ a.seq = grind (arith, nat_tests) in
+    let inc : b.pass.inc ≡ a.pass.inc = grind (arith, nat_tests) in
+    let att : b.pass.att ≡ a.pass.att = grind (arith, nat_tests) in
+    λ i. record { log = record { 0 = log i }; seq = seq i; pass = record { inc = inc i; att = att i } }
+
+-- a segment that is read has this name
+abbrev pub ReadsName : SegName → Next → Type 0
+ReadsName name Wait = ⊤
+ReadsName name Ask = ⊤
+ReadsName name Again = ⊤
+ReadsName name (Read s) = s.name ≡ name
+ReadsName name Lost = ⊤
+
+pub record KeepsTarget (r : ReadingState) (step : Step) : Type 0 where
+  pub same : step.state.target ≡ r.target
+  pub name : ReadsName r.target.seg.name step.next
+
+as_found : (r : ReadingState) (groups : GroupMapState) (s : Segment) → KeepsTarget r (read_as r (cond (is_target r.target groups s) (Some s) None))
+as_found r groups s =
+    by_test (λ (o : Option Segment). KeepsTarget r (read_as r o)) (is_target r.target groups s) (Some s) None
+    (λ t. record { same = refl; name = one_name r.target.seg.name s.name (and_first (same_name r.target.seg.name s.name) (is_known groups s.prior && has_block r.target.block s) t) })
+    (λ t. record { same = refl; name = tt })
+
+as_answered : (r : ReadingState) (groups : GroupMapState) (a : Result Segment SegError) → KeepsTarget r (read_as r (segment_found r.target groups a))
+as_answered r groups (Ok s) = as_found r groups s
+as_answered r groups (Err e) = record { same = refl; name = tt }
+
+as_judged : (r : ReadingState) (groups : GroupMapState) (st : RoundState) → KeepsTarget r (judged r groups st)
+as_judged r groups (round.Read bytes) = as_answered r groups (answer_of bytes)
+as_judged r groups (round.Short pairs) = record { same = refl; name = tt }
+as_judged r groups round.Waiting = record { same = refl; name = tt }
+
+pub answered_keeps : (r : ReadingState) (groups : GroupMapState) (ask server : ℕ) (told : Told) → KeepsTarget r (on_answer r groups ask server told)
+unfolding on_answer
+answered_keeps r groups ask server told =
+    by_test (λ (step : Step). KeepsTarget r step) (counts r ask server told) (judged (record r { round = taken r.round server told }) groups (state_of (taken r.round server told))) (record { state = r; next = Wait })
+    (λ t. (let k = as_judged (record r { round = taken r.round server told }) groups (state_of (taken r.round server told)) in record { same = k.same; name = k.name }))
+    (λ t. record { same = refl; name = tt })
+
+confirmed_by : (r : ReadingState) (ask : ℕ) (stage : Stage) → KeepsTarget r (goes_on r ask stage)
+confirmed_by r ask Asking = record { same = refl; name = tt }
+confirmed_by r ask Between = record { same = refl; name = tt }
+confirmed_by r ask Doubted = record { same = refl; name = tt }
+confirmed_by r ask Over = record { same = refl; name = tt }
+
+pub confirmed_keeps : (r : ReadingState) (ask : ℕ) → KeepsTarget r (on_confirmed r ask)
+unfolding on_confirmed
+confirmed_keeps r ask = confirmed_by r ask r.stage

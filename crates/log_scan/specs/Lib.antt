@@ -1,0 +1,4 @@
+pub mod Linked
+pub mod Pick
+pub mod ScanState
+pub mod Transition

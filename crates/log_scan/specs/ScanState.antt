@@ -1,0 +1,18 @@
+-- What an opening keeps.
+use Rattle.std.specs.Prelude.{ℕ, Option, None}
+use Rattle.xfs_base.specs.declared.segment.LogId.{LogId}
+use Rattle.log_scan.specs.declared.opening.Opening.{Opening}
+use Rattle.log_scan.specs.declared.stage.Stage.{Stage}
+use Rattle.log_scan.specs.declared.stage.Stage.TheVariants.{Hails}
+
+-- what it keeps wherever it stands, and where it stands
+pub record ScanState : Type 0 where
+  pub opening : Opening
+  pub stage : Stage
+
+-- the registry is to be asked, by the question of number 1; nothing is known of groups and horizons
+abbrev pub begun : LogId → ℕ → Opening
+begun log inc = record { log = log; inc = inc; ask = 1; low = 1; groups = None }
+
+abbrev pub started : LogId → ℕ → ScanState
+started log inc = record { opening = begun log inc; stage = Hails }

@@ -1,0 +1,112 @@
+//! What an opening keeps wherever it stands.
+ghost use Rattle.std.specs.Prelude.{◌≡◌, ◌++◌, ◌∷◌, [], ◌<◌, IfOk, IfSome, OnOk, MatchOption, Some, None, length, max};
+ghost use Rattle.stripe_code.specs.Stripe.{IsCut};
+ghost use Rattle.xfs_base.specs.Limits.{u32_end};
+ghost use Rattle.log_scan.specs.declared.output.Out.TheVariants.{Hello};
+ghost use Rattle.log_scan.specs.Pick.{known_group};
+ghost use Rattle.log_scan.specs.ScanState.{begun};
+ghost use Rattle.log_scan.specs.Transition.{can_ask, drawn, rises, server_count, awaits, awaited};
+
+use crate::Out;
+use crate::listing::{Listing, has_list};
+use group_map::{Group, GroupMap};
+use std::alloc::Global;
+use xfs_base::{List, LogId, Mem};
+
+/// What an opening keeps wherever it stands.
+#[derive(Drop)]
+pub struct Opening {
+    /// The log.
+    pub log: LogId,
+    /// The incarnation in which its owner opens it.
+    pub inc: u32,
+    /// The number of the last question.
+    pub ask: u32,
+    /// The horizon: nothing of the log with a lower number is needed.
+    pub low: u32,
+    /// The stripe groups, once they are known.
+    pub groups: Option<GroupMap>,
+}
+
+impl Opening {
+    /// Before anything is known, with a question of number 1 to be asked.
+    pub fn begin(log: LogId, inc: u32) -> Opening
+        ensures { result ≡ begun log inc }
+    {
+        Opening {
+            log,
+            inc,
+            ask: 1,
+            low: 1,
+            groups: None,
+        }
+    }
+
+    /// Whether a question can have a number after the last one.
+    pub fn can_ask(&self) -> bool
+        ensures { result ≡ can_ask self.now }
+    {
+        self.ask < u32::MAX
+    }
+
+    /// Asks the registry by a further question.
+    pub fn ask_anew(&mut self, outs: &mut List<Out>) -> Mem<()>
+        requires { self.old.ask < u32_end }
+        ensures opening { OnOk result (self.new ≡ drawn self.old) }
+        ensures outs { OnOk result (outs.new ≡ outs.old ++ Hello self.new.ask ∷ []) }
+    {
+        self.ask += 1;
+        outs.push(Out::Hello { ask: self.ask })?;
+        Ok(())
+    }
+
+    /// Takes a horizon, where it is greater.
+    pub fn rise(&mut self, least: u32)
+        ensures { self.new ≡ rises self.old least }
+    {
+        self.low = self.low.max(least);
+    }
+
+    /// Whether this is a server whose list is not in.
+    pub fn awaits(&self, lists: &[Listing], server: u8) -> bool
+        ensures { result ≡ awaits self.now.groups lists.now server }
+    {
+        1 <= server && server <= server_count(&self.groups) && !has_list(server, lists)
+    }
+
+    /// The servers whose lists are not in, in order.
+    pub fn awaited(&self, alloc: Global, lists: &[Listing]) -> Mem<List<u8>>
+        ensures { IfOk result (λ servers. servers ≡ awaited self.now.groups lists.now) }
+    {
+        let mut servers = List::new(alloc);
+        for before in 0..server_count(&self.groups) {
+            if self.awaits(lists, before + 1) {
+                servers.push(before + 1)?;
+            }
+        }
+        Ok(servers)
+    }
+}
+
+fn server_count(groups: &Option<GroupMap>) -> u8
+    ensures { result ≡ server_count groups.now }
+{
+    match groups {
+        None => 0,
+        Some(groups) => groups.servers(),
+    }
+}
+
+/// The group of this id, where groups are known and it is among them.
+pub fn known_group(groups: &Option<GroupMap>, id: u32) -> Option<&Group>
+    ensures group { MatchOption result (known_group groups.now id ≡ None) (λ group. known_group groups.now id ≡ Some group.now) }
+    ensures cut { IfSome result (λ group. IsCut (length group.now.members) group.now.parity) }
+{
+    match groups {
+        None => None,
+        Some(groups) => match groups.lookup(id) {
+            Ok(group) => Some(group),
+            Err(_) => None,
+        },
+    }
+}
