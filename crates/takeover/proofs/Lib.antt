@@ -1,4 +1,5 @@
 pub mod Chains
+pub mod Ending
 pub mod Loops
 pub mod Readings
 pub mod Standing

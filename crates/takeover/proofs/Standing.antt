@@ -32,7 +32,7 @@ use Rattle.takeover.specs.declared.events.Out.TheVariants.{Poll, Fetch, Active, 
 use Rattle.takeover.specs.declared.report.Report.{Report}
 use Rattle.takeover.specs.declared.source.Present.{Present}
 use Rattle.takeover.specs.declared.source.Source.{Source}
-use Rattle.takeover.specs.Course.{Course, IsTakenOver, segment_of, and_of, read_in, read_at, read_by, read_after, after_input, after_inputs, course_of}
+use Rattle.takeover.specs.Course.{Course, IsTakenOver, IsOver, segment_of, and_of, read_in, read_at, read_by, read_after, after_input, after_inputs, course_of}
 use Rattle.takeover.specs.ReadBack.{IsReadBack, AreReadBack, Read, nothing_read, and_read, told_by_all}
 use Rattle.takeover.specs.Reports.{same_node, applied_of, beliefs_of}
 use Rattle.takeover.specs.Rows.{told_of}
@@ -40,6 +40,7 @@ use Rattle.takeover.specs.Sources.{sources_of, prior_of, goes_back, back_from}
 use Rattle.takeover.specs.TakeState.{TakeState, started}
 use Rattle.takeover.specs.Transition.{Done, awaited, awaits, can_ask, fetches, polls, reads, asks, target_of, sought_over, sought, is_index, handed, next_of, go_on, with_chain, goes_on_from, has_read, lost, confirmed_as, again, judged_as, told_in, told_at, on_told, begun_if_all, on_report, waits_in, waiting, sought_again, on_maps, unanswered, repeated, transition}
 use Rattle.takeover.proofs.Chains.{all_merged, one_more_whole}
+use Rattle.takeover.proofs.Ending.{nobody}
 use Rattle.takeover.proofs.Readings.{IsNamed, target-on_answer, target-on_confirmed, named-on_answer}
 
 -- ---- how a takeover stands
@@ -89,8 +90,8 @@ record Stands (news : SlotNews) (s : TakeState) (r : Read) : Type 0 where
 abbrev Claims : SlotNews → TakeState → Read → Out → Type 0
 Claims news s r (Poll to) = Unit {0}
 Claims news s r (Fetch server name ask) = Unit {0}
-Claims news s r (Active epoch index beliefs applied) = IsTakenOver news (record { state = s; read = r }) epoch index beliefs applied
-Claims news s r (Lost name) = Unit {0}
+Claims news s r (Active epoch index beliefs applied) = IsTakenOver news (record { state = s; read = r }) epoch index beliefs applied × IsOver s
+Claims news s r (Lost name) = IsOver s
 
 -- a step by which this was read
 record Goes (news : SlotNews) (d : Done) (r : Read) : Type 0 where
@@ -167,7 +168,7 @@ module _ (news : SlotNews) where
       claims : All (Claims news over r) (handed s)
       claims =
           by_test (λ (outs : List Out). All (Claims news over r) outs) (is_index s.index) (out ∷ []) []
-          (λ t. All-cons (Claims news over r) out [] taken (claims_nothing over r))
+          (λ t. All-cons (Claims news over r) out [] (taken, record { reported = b.reported; nothing_read = refl }) (claims_nothing over r))
           (λ t. claims_nothing over r)
 
   next_goes : (sources : List Source) (s : TakeState) (r : Read) → s.sources ≡ sources → s.news ≡ news → IsBetween news s r → Goes news (next_of sources s) r
@@ -238,7 +239,7 @@ module _ (news : SlotNews) where
   lost_goes : (s : TakeState) (r : Read) (source : Source) → s.news ≡ news → IsReading news s r source → Goes news (lost s source.seg.name) r
   lost_goes s r source of h = record {
     stands = record { of = of; by = inr h.reported };
-    claims = All-cons (Claims news (lost s source.seg.name).state r) (Lost source.seg.name) [] tt (claims_nothing (lost s source.seg.name).state r);
+    claims = All-cons (Claims news (lost s source.seg.name).state r) (Lost source.seg.name) [] (record { reported = h.reported; nothing_read = refl }) (claims_nothing (lost s source.seg.name).state r);
   }
 
   confirmed_goes : (s : TakeState) (r : Read) (source : Source) (reading : ReadingState) (n : Next) → s.news ≡ news → IsReading news s r source → reading.target ≡ target_of source → Goes news (confirmed_as s source reading n) r
@@ -286,9 +287,6 @@ module _ (news : SlotNews) where
       ]
 
   -- ---- reports
-
-  nobody : (s : TakeState) (node : NodeId) → awaited s ≡ [] → awaits s node ≡ true → ⊥
-  nobody s node none some = contrary (sym (ap (λ nodes. list_any (λ n. same_node n node) nodes) none) ∙ some)
 
   empty : {X : Type 0} (xs : List X) → length xs ≡ 0 → xs ≡ []
   empty [] e = refl
@@ -368,10 +366,23 @@ module _ (news : SlotNews) where
   at_first : (groups : GroupMapState) (clients : ℕ) → Stands news (started news groups clients) nothing_read
   at_first groups clients = record { of = refl; by = inl (record { whole = refl; present = refl; index = refl; chain = refl }) }
 
-pub taken_over : (news : SlotNews) (groups : GroupMapState) (clients : ℕ) (inputs : List In) (i : In) (epoch : ℕ) (index : List (BlockId × Entry)) (beliefs : List (BlockId × ℕ × Mode)) (applied : List ℕ)
-    → Contains (transition (course_of news groups clients inputs).state i).outs (Active epoch index beliefs applied) → IsTakenOver news (after_input (course_of news groups clients inputs) i) epoch index beliefs applied
-taken_over news groups clients inputs i epoch index beliefs applied contains =
+-- what is said of each thing that is told
+claims_of : (news : SlotNews) (groups : GroupMapState) (clients : ℕ) (inputs : List In) (i : In) (out : Out) → Contains (transition (course_of news groups clients inputs).state i).outs out
+    → Claims news (after_input (course_of news groups clients inputs) i).state (after_input (course_of news groups clients inputs) i).read out
+claims_of news groups clients inputs i out contains =
     let c = course_of news groups clients inputs in
     let stands = stands_after news (record { state = started news groups clients; read = nothing_read }) inputs (at_first news groups clients) in
     let goes = input_goes news c.state c.read i stands in
-    All-contains (Claims news (transition c.state i).state (read_after c.state c.read i)) (transition c.state i).outs (Active epoch index beliefs applied) goes.claims contains
+    All-contains (Claims news (transition c.state i).state (read_after c.state c.read i)) (transition c.state i).outs out goes.claims contains
+
+pub taken_over : (news : SlotNews) (groups : GroupMapState) (clients : ℕ) (inputs : List In) (i : In) (epoch : ℕ) (index : List (BlockId × Entry)) (beliefs : List (BlockId × ℕ × Mode)) (applied : List ℕ)
+    → Contains (transition (course_of news groups clients inputs).state i).outs (Active epoch index beliefs applied) → IsTakenOver news (after_input (course_of news groups clients inputs) i) epoch index beliefs applied
+taken_over news groups clients inputs i epoch index beliefs applied contains = (claims_of news groups clients inputs i (Active epoch index beliefs applied) contains).0
+
+pub over_once_handed : (news : SlotNews) (groups : GroupMapState) (clients : ℕ) (inputs : List In) (i : In) (epoch : ℕ) (index : List (BlockId × Entry)) (beliefs : List (BlockId × ℕ × Mode)) (applied : List ℕ)
+    → Contains (transition (course_of news groups clients inputs).state i).outs (Active epoch index beliefs applied) → IsOver (transition (course_of news groups clients inputs).state i).state
+over_once_handed news groups clients inputs i epoch index beliefs applied contains = (claims_of news groups clients inputs i (Active epoch index beliefs applied) contains).1
+
+pub over_once_lost : (news : SlotNews) (groups : GroupMapState) (clients : ℕ) (inputs : List In) (i : In) (name : SegName)
+    → Contains (transition (course_of news groups clients inputs).state i).outs (Lost name) → IsOver (transition (course_of news groups clients inputs).state i).state
+over_once_lost news groups clients inputs i name contains = claims_of news groups clients inputs i (Lost name) contains

@@ -93,6 +93,13 @@ pub record IsTakenOver (news : SlotNews) (c : Course) (epoch : ℕ) (index : Lis
   pub believed : beliefs ≡ beliefs_of c.state.reports
   pub of_epoch : epoch ≡ news.epoch
 
+-- ---- the end
+
+-- all have reported, and nothing is read at present
+pub record IsOver (s : TakeState) : Type 0 where
+  pub reported : awaited s ≡ []
+  pub nothing_read : s.present ≡ None
+
 -- ---- what a slot may start with
 
 -- nine numbers, and no more rows than a slot's index may have pages

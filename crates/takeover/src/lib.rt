@@ -13,7 +13,7 @@ mod source;
 pub mod take;
 
 pub use events::{In, Out};
-pub use laws::index_is_the_join;
+pub use laws::{index_is_the_join, nothing_comes_after_the_end};
 pub use take::Take;
 
 #[cfg(test)]

@@ -1,6 +1,5 @@
 //! The takeover.
-ghost use Rattle.std.specs.Prelude.{◌≡◌, ◌++◌, ◌<◌, ◌≤◌, ◌==◌, IfOk, OnOk, All, IsTrue, is_some, length, Some, None};
-ghost use Rattle.group_map.specs.Groups.{group_of};
+ghost use Rattle.std.specs.Prelude.{◌≡◌, ◌++◌, IfOk, OnOk, All, IsTrue, Some, None};
 ghost use Rattle.takeover.specs.Course.{StartsSlot};
 ghost use Rattle.takeover.specs.TakeState.{started};
 ghost use Rattle.takeover.specs.Transition.{can_ask, awaited, awaits, begun_if_all, on_report, on_told, waiting, on_maps, polls, on_tick, transition};
@@ -46,15 +45,9 @@ impl Crosses for Take {}
 
 impl Take {
     /// A takeover of the slot of these news, of which nothing is known yet. The slot is 0 to 7, its horizon has
-    /// nine numbers from 1 on, its parts lie over groups that are known, and there are 1 to 8 clients. Its
-    /// first Tick polls the clients and the cleaner.
+    /// nine numbers from 1 on, and there are 1 to 8 clients; of other news nothing more is said than what the
+    /// takeover does. Its first Tick polls the clients and the cleaner.
     pub fn start(alloc: Global, news: SlotNews, groups: GroupMap, clients: u8) -> Mem<Take>
-        requires slot { news.slot < 8 }
-        requires nine { length news.horizon ≡ 9 }
-        requires from_one { All (λ seq. 1 ≤ seq) news.horizon }
-        requires known { All (λ part. IsTrue (is_some (group_of groups part.group))) news.parts }
-        requires some { 1 ≤ clients }
-        requires few { clients ≤ 8 }
         ensures { IfOk result (λ take. take ≡ started news groups clients) }
     {
         Ok(Take {
