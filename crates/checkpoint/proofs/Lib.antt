@@ -1,0 +1,4 @@
+pub mod Queue
+pub mod Holding
+pub mod PageRows
+pub mod Covering

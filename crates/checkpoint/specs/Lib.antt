@@ -1,0 +1,4 @@
+pub mod Plan
+pub mod WriterState
+pub mod Transition
+pub mod Laws
