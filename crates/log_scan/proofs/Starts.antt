@@ -1,7 +1,8 @@
 -- The log goes on behind the start that was picked: what is read and told at each input has that start.
-use Rattle.std.proofs.Common.{◌≡◌, ℕ, ◌+◌, Bool, true, false, cond, ◌&&◌, List, [], ◌∷◌, ◌++◌, map, max, Option, Some, None, refl, sym, ap, ◌∙◌}
+use Rattle.std.proofs.Common.{◌≡◌, ℕ, ◌+◌, Bool, true, false, cond, ◌&&◌, List, [], ◌∷◌, ◌++◌, map, max, Option, Some, None, inl, inr, ◌⊎◌, refl, sym, ap, ◌∙◌, arith}
 use Rattle.std.specs.Prelude.{◌==◌, ⊤, length}
 use Rattle.std.specs.List.{AllByRecursion}
+use Rattle.std.proofs.lemmas.Bool.{eqb-true}
 use Rattle.group_map.specs.declared.group.Group.{Group}
 use Rattle.group_map.specs.GroupMapState.{GroupMapState}
 use Rattle.segment_format.specs.declared.segment.Segment.{Segment}
@@ -28,12 +29,16 @@ use Rattle.log_scan.specs.Pick.{known_group, start_of}
 use Rattle.log_scan.specs.ScanState.{ScanState}
 use Rattle.log_scan.specs.Transition.{Done, goes, stays, can_ask, asks_anew, least_horizon, rises, target_at, is_bottom, read_from, with_segment, chain_of, fetches, begins_in, begins_round, follows, goes_on, awaits_welcome, awaits, awaited, fences, picks_at, picks, confirms_by, confirms, welcomed, on_welcome, with_list, listed, on_fenced, heard_with, heard, on_told, asked_again, on_tick, takes, transition}
 
--- of whatever starts are meant
-module _ (Q : End → Type 0) where
+none_left : (xs : List ℕ) → (length xs == 0) ≡ true → xs ≡ []
+none_left [] h = refl
+none_left (x ∷ xs) h = absurd (let e : length (x ∷ xs) ≡ 0 = eqb-true (length (x ∷ xs)) 0 h in omega arith)
+
+-- of whatever starts and lists are meant
+module _ (Q : End → Type 0) (A : List Listing → Type 0) where
   abbrev Stands : Stage → Type 0
   Stands Hails = ⊤
   Stands (Gathers lists) = ⊤
-  Stands (Asks lists) = ⊤
+  Stands (Asks lists) = A lists
   Stands (Reads b r) = Q b.start
   Stands Over = ⊤
 
@@ -96,31 +101,31 @@ module _ (Q : End → Type 0) where
   unfolding confirms
   from_confirms o b r q = by_test From (is_bottom o.low b.next) (goes o Over (chain_of b ∷ [])) (confirms_by o b r) (λ t. from_chain o b q) (λ t. from_confirms_by o b r q)
 
-  from_picks_at : (o : Opening) (lists : List Listing) (start : Option End) → ((e : End) → start ≡ Some e → Q e) → From (picks_at o lists start)
-  from_picks_at o lists None q = from_anew o (Asks lists) tt
-  from_picks_at o lists (Some e) q = from_follows o (read_from e) (q e refl)
+  from_picks_at : (o : Opening) (lists : List Listing) (start : Option End) → A lists → ((e : End) → start ≡ Some e → Q e) → From (picks_at o lists start)
+  from_picks_at o lists None a q = from_anew o (Asks lists) a
+  from_picks_at o lists (Some e) a q = from_follows o (read_from e) (q e refl)
 
-  from_picks : (o : Opening) (lists : List Listing) → ((e : End) → start_of o.groups lists o.low ≡ Some e → Q e) → From (picks o lists)
+  from_picks : (o : Opening) (lists : List Listing) → A lists → ((e : End) → start_of o.groups lists o.low ≡ Some e → Q e) → From (picks o lists)
   unfolding picks
-  from_picks o lists q = from_picks_at o lists (start_of o.groups lists o.low) q
+  from_picks o lists a q = from_picks_at o lists (start_of o.groups lists o.low) a q
 
-  from_with_list : (o : Opening) (lists : List Listing) → From (with_list o lists)
+  from_with_list : (o : Opening) (lists : List Listing) → (awaited o.groups lists ≡ [] → A lists) → From (with_list o lists)
   unfolding with_list
-  from_with_list o lists =
+  from_with_list o lists a =
       by_test From (length (awaited o.groups lists) == 0) (asks_anew o (Asks lists)) (stays o (Gathers lists))
-      (λ t. from_anew o (Asks lists) tt)
+      (λ t. from_anew o (Asks lists) (a (none_left (awaited o.groups lists) t)))
       (λ t. from_stays o (Gathers lists) tt)
 
-  from_fenced : (o : Opening) (stage : Stage) (l : Listing) → Stands stage → From (on_fenced o stage l)
+  from_fenced : (o : Opening) (stage : Stage) (l : Listing) → ((lists : List Listing) → awaited o.groups lists ≡ [] → A lists) → Stands stage → From (on_fenced o stage l)
   unfolding on_fenced
-  from_fenced o Hails l q = from_stays o Hails tt
-  from_fenced o (Gathers lists) l q =
+  from_fenced o Hails l a q = from_stays o Hails tt
+  from_fenced o (Gathers lists) l a q =
       by_test From (can_ask o && awaits o.groups lists l.server) (with_list o (lists ++ l ∷ [])) (stays o (Gathers lists))
-      (λ t. from_with_list o (lists ++ l ∷ []))
+      (λ t. from_with_list o (lists ++ l ∷ []) (a (lists ++ l ∷ [])))
       (λ t. from_stays o (Gathers lists) tt)
-  from_fenced o (Asks lists) l q = from_stays o (Asks lists) tt
-  from_fenced o (Reads b r) l q = from_stays o (Reads b r) q
-  from_fenced o Over l q = from_stays o Over tt
+  from_fenced o (Asks lists) l a q = from_stays o (Asks lists) q
+  from_fenced o (Reads b r) l a q = from_stays o (Reads b r) q
+  from_fenced o Over l a q = from_stays o Over tt
 
   from_heard_with : (o : Opening) (b : Backward) (r : ReadingState) (groups : Option GroupMapState) (ask server : ℕ) (t : Told) → Q b.start → From (heard_with o b r groups ask server t)
   from_heard_with o b r None ask server t q = from_stays o (Reads b (Some r)) q
@@ -137,7 +142,7 @@ module _ (Q : End → Type 0) where
   unfolding on_told
   from_told o Hails ask server t q = from_stays o Hails tt
   from_told o (Gathers lists) ask server t q = from_stays o (Gathers lists) tt
-  from_told o (Asks lists) ask server t q = from_stays o (Asks lists) tt
+  from_told o (Asks lists) ask server t q = from_stays o (Asks lists) q
   from_told o (Reads b r) ask server t q = from_heard o b r ask server t q
   from_told o Over ask server t q = from_stays o Over tt
 
@@ -153,55 +158,59 @@ module _ (Q : End → Type 0) where
   tick_says o (Reads b r) = again_says o r
   tick_says o Over = tt
 
+-- the lists before, or those with which all are in
+abbrev AreIn : Opening → Stage → List Listing → Type 0
+AreIn o stage lists = (stage ≡ Asks lists) ⊎ (awaited o.groups lists ≡ [])
+
 -- what stands before an input starts as is meant
-stands : (o : Opening) (stage : Stage) (input : In) → Stands (IsStartFrom o stage input) stage
+stands : (o : Opening) (stage : Stage) (input : In) → Stands (IsStartFrom o stage input) (AreIn o stage) stage
 stands o Hails input = tt
 stands o (Gathers lists) input = tt
-stands o (Asks lists) input = tt
+stands o (Asks lists) input = inl refl
 stands o (Reads b r) input = refl
 stands o Over input = tt
 
 module _ (o : Opening) (ask : ℕ) (news : List SlotNews) (groups : GroupMapState) where
-  from_welcomed : (stage : Stage) → From (IsStartFrom o stage (Welcome ask news groups)) (welcomed (record o { groups = Some groups }) stage (least_horizon o.log.0 news))
-  from_welcomed Hails = record { stage = tt; outs = fences_say (IsStartFrom o Hails (Welcome ask news groups)) (awaited (Some groups) []) }
+  from_welcomed : (stage : Stage) → From (IsStartFrom o stage (Welcome ask news groups)) (AreIn o stage) (welcomed (record o { groups = Some groups }) stage (least_horizon o.log.0 news))
+  from_welcomed Hails = record { stage = tt; outs = fences_say (IsStartFrom o Hails (Welcome ask news groups)) (AreIn o Hails) (awaited (Some groups) []) }
   from_welcomed (Gathers lists) = record { stage = tt; outs = tt }
-  from_welcomed (Asks lists) = from_picks (IsStartFrom o (Asks lists) (Welcome ask news groups)) (rises (record o { groups = Some groups }) (least_horizon o.log.0 news)) lists (λ e h. h)
-  from_welcomed (Reads b r) = from_confirms (IsStartFrom o (Reads b r) (Welcome ask news groups)) (rises (record o { groups = Some groups }) (least_horizon o.log.0 news)) b r refl
+  from_welcomed (Asks lists) = from_picks (IsStartFrom o (Asks lists) (Welcome ask news groups)) (AreIn o (Asks lists)) (rises (record o { groups = Some groups }) (least_horizon o.log.0 news)) lists (inl refl) (λ e h. h)
+  from_welcomed (Reads b r) = from_confirms (IsStartFrom o (Reads b r) (Welcome ask news groups)) (AreIn o (Reads b r)) (rises (record o { groups = Some groups }) (least_horizon o.log.0 news)) b r refl
   from_welcomed Over = record { stage = tt; outs = tt }
 
-  from_welcome : (stage : Stage) → From (IsStartFrom o stage (Welcome ask news groups)) (on_welcome o stage ask news groups)
+  from_welcome : (stage : Stage) → From (IsStartFrom o stage (Welcome ask news groups)) (AreIn o stage) (on_welcome o stage ask news groups)
   unfolding on_welcome
   from_welcome stage =
-      by_test (From (IsStartFrom o stage (Welcome ask news groups))) ((ask == o.ask) && (can_ask o && awaits_welcome stage)) (welcomed (record o { groups = Some groups }) stage (least_horizon o.log.0 news)) (stays o stage)
+      by_test (From (IsStartFrom o stage (Welcome ask news groups)) (AreIn o stage)) ((ask == o.ask) && (can_ask o && awaits_welcome stage)) (welcomed (record o { groups = Some groups }) stage (least_horizon o.log.0 news)) (stays o stage)
       (λ t. from_welcomed stage)
-      (λ t. from_stays (IsStartFrom o stage (Welcome ask news groups)) o stage (stands o stage (Welcome ask news groups)))
+      (λ t. from_stays (IsStartFrom o stage (Welcome ask news groups)) (AreIn o stage) o stage (stands o stage (Welcome ask news groups)))
 
-from_takes : (o : Opening) (stage : Stage) (input : In) → From (IsStartFrom o stage input) (takes o stage input)
+from_takes : (o : Opening) (stage : Stage) (input : In) → From (IsStartFrom o stage input) (AreIn o stage) (takes o stage input)
 from_takes o stage (Welcome ask news groups) = from_welcome o ask news groups stage
 from_takes o stage (Fenced server generation held) =
-    from_fenced (IsStartFrom o stage (Fenced server generation held)) o stage (record { server = server; generation = generation; held = held }) (stands o stage (Fenced server generation held))
-from_takes o stage (Got ask server generation fragment) = from_told (IsStartFrom o stage (Got ask server generation fragment)) o stage ask server _ (stands o stage (Got ask server generation fragment))
-from_takes o stage (Missing ask server generation) = from_told (IsStartFrom o stage (Missing ask server generation)) o stage ask server _ (stands o stage (Missing ask server generation))
+    from_fenced (IsStartFrom o stage (Fenced server generation held)) (AreIn o stage) o stage (record { server = server; generation = generation; held = held }) (λ lists e. inr e) (stands o stage (Fenced server generation held))
+from_takes o stage (Got ask server generation fragment) = from_told (IsStartFrom o stage (Got ask server generation fragment)) (AreIn o stage) o stage ask server _ (stands o stage (Got ask server generation fragment))
+from_takes o stage (Missing ask server generation) = from_told (IsStartFrom o stage (Missing ask server generation)) (AreIn o stage) o stage ask server _ (stands o stage (Missing ask server generation))
 from_takes o stage (Maps groups) = record { stage = stands o stage (Maps groups); outs = tt }
-from_takes o stage Tick = record { stage = stands o stage Tick; outs = tick_says (IsStartFrom o stage Tick) o stage }
+from_takes o stage Tick = record { stage = stands o stage Tick; outs = tick_says (IsStartFrom o stage Tick) (AreIn o stage) o stage }
 
 -- ---- the laws
 
-as_kept : (s : ScanState) (input : In) (stage : Stage) → Stands (IsStartFrom s.opening s.stage input) stage → KeepsStart s input stage
+as_kept : (s : ScanState) (input : In) (stage : Stage) → Stands (IsStartFrom s.opening s.stage input) (AreIn s.opening s.stage) stage → KeepsStart s input stage
 as_kept s input Hails q = tt
 as_kept s input (Gathers lists) q = tt
-as_kept s input (Asks lists) q = tt
+as_kept s input (Asks lists) q = q
 as_kept s input (Reads b r) q = q
 as_kept s input Over q = tt
 
-as_told : (s : ScanState) (input : In) (out : Out) → Says (IsStartFrom s.opening s.stage input) out → TellsStart s input out
+as_told : (s : ScanState) (input : In) (out : Out) → Says (IsStartFrom s.opening s.stage input) (AreIn s.opening s.stage) out → TellsStart s input out
 as_told s input (Hello ask) q = tt
 as_told s input (Fence server) q = tt
 as_told s input (Fetch server name ask) q = tt
 as_told s input (Chain segments end prior) q = q
 as_told s input (Lost name) q = tt
 
-all_told : (s : ScanState) (input : In) (outs : List Out) → AllByRecursion (Says (IsStartFrom s.opening s.stage input)) outs → AllByRecursion (TellsStart s input) outs
+all_told : (s : ScanState) (input : In) (outs : List Out) → AllByRecursion (Says (IsStartFrom s.opening s.stage input) (AreIn s.opening s.stage)) outs → AllByRecursion (TellsStart s input) outs
 all_told s input [] q = tt
 all_told s input (out ∷ outs) q = (as_told s input out q.0, all_told s input outs q.1)
 

@@ -1,5 +1,5 @@
 -- What is claimed of every opening: what is picked, from where it is read back, and how the chain hangs together.
-use Rattle.std.specs.Prelude.{◌≡◌, ℕ, ◌≤◌, ◌-◌, ⊤, Contains, List, [], ◌∷◌, Option, Some, max, reverse}
+use Rattle.std.specs.Prelude.{◌≡◌, ℕ, ◌≤◌, ◌-◌, ◌⊎◌, ⊤, Contains, List, [], ◌∷◌, Option, Some, max, reverse}
 use Rattle.std.specs.List.{AllByRecursion}
 use Rattle.group_map.specs.GroupMapState.{GroupMapState}
 use Rattle.segment_format.specs.declared.segment.Segment.{Segment}
@@ -19,7 +19,7 @@ use Rattle.log_scan.specs.declared.stage.Stage.{Stage}
 use Rattle.log_scan.specs.declared.stage.Stage.TheVariants.{Hails, Gathers, Asks, Reads, Over}
 use Rattle.log_scan.specs.Pick.{counting, newest, start_of}
 use Rattle.log_scan.specs.ScanState.{ScanState}
-use Rattle.log_scan.specs.Transition.{least_horizon, name_at, end_below, prior_at, transition}
+use Rattle.log_scan.specs.Transition.{least_horizon, name_at, end_below, prior_at, awaited, transition}
 
 -- ---- the pick
 
@@ -79,11 +79,12 @@ IsStartFrom o (Asks lists) input end = IsStartBy o lists input end
 IsStartFrom o (Reads b r) input end = end ≡ b.start
 IsStartFrom o Over input end = ⊥
 
--- while the chain is read its start is the one that was picked
+-- the lists of all servers are in when the registry is asked for the Welcome by which it is picked, and stay as they are until
+-- then; while the chain is read its start is the one that was picked
 abbrev pub KeepsStart : ScanState → In → Stage → Type 0
 KeepsStart s input Hails = ⊤
 KeepsStart s input (Gathers lists) = ⊤
-KeepsStart s input (Asks lists) = ⊤
+KeepsStart s input (Asks lists) = (s.stage ≡ Asks lists) ⊎ (awaited s.opening.groups lists ≡ [])
 KeepsStart s input (Reads b r) = IsStartFrom s.opening s.stage input b.start
 KeepsStart s input Over = ⊤
 

@@ -15,7 +15,7 @@ use xfs_base::{End, List, LogId, Mem, Prior, SegName, SegRef};
 
 impl Backward {
     /// Before the segment at which the chain starts.
-    pub fn from(alloc: Global, start: End) -> Backward
+    pub(crate) fn from(alloc: Global, start: End) -> Backward
         ensures { result ≡ read_from start }
     {
         Backward {
@@ -26,7 +26,7 @@ impl Backward {
     }
 
     /// With the next segment, which was read.
-    pub fn with(self, segment: Segment) -> Mem<Backward>
+    pub(crate) fn with(self, segment: Segment) -> Mem<Backward>
         ensures { IfOk result (λ backward. backward ≡ with_segment self segment) }
     {
         let Backward {
@@ -40,7 +40,7 @@ impl Backward {
     }
 
     /// The whole chain, to be told.
-    pub fn told(self) -> Out
+    pub(crate) fn told(self) -> Out
         ensures { result ≡ chain_of self }
     {
         let mut segments = self.chain.into_vec();
@@ -59,7 +59,12 @@ impl Backward {
 impl Opening {
     /// The next segment is read, or all are.
     #[tactic(auto, unfolding(crate::specs::Transition::follows))]
-    pub fn follow(&mut self, alloc: Global, outs: &mut List<Out>, backward: Backward) -> Mem<Stage>
+    pub(crate) fn follow(
+        &mut self,
+        alloc: Global,
+        outs: &mut List<Out>,
+        backward: Backward,
+    ) -> Mem<Stage>
         requires { self.old.ask < u32_end }
         ensures opening { OnOk result (self.new ≡ (follows self.old backward).state.opening) }
         ensures stage { IfOk result (λ stage. stage ≡ (follows self.old backward).state.stage) }
@@ -74,7 +79,7 @@ impl Opening {
 
     /// The registry confirms what the reader asked between two rounds, or ends the chain by its horizon.
     #[tactic(auto, unfolding(crate::specs::Transition::confirms))]
-    pub fn confirm(
+    pub(crate) fn confirm(
         &mut self,
         alloc: Global,
         outs: &mut List<Out>,
@@ -100,7 +105,7 @@ impl Opening {
     }
 
     /// Takes what a server told in answer to a question.
-    pub fn hear(
+    pub(crate) fn hear(
         &mut self,
         alloc: Global,
         outs: &mut List<Out>,

@@ -24,8 +24,9 @@ pub fn chain_is_linked()
     ensures { (log : LogId) (inc : ℕ) (history : List In) (input : In) → AllByRecursion (TellsLinked log) (transition (state_after (started log inc) history) input).outs }
 {}
 
-/// The log goes on behind the start that was picked: while the chain is read its start stays, and it is
-/// picked from the lists only by a Welcome that comes once all lists are in.
+/// The registry is asked for the Welcome by which it is picked when the lists of all servers are in, and it
+/// is picked from these; while the chain is read its start stays as it was picked, and what is told in the
+/// end is that the log goes on behind it.
 pub fn start_is_kept()
     ensures stage { (s : ScanState) (input : In) → KeepsStart s input (transition s input).state.stage }
     ensures told { (s : ScanState) (input : In) → AllByRecursion (TellsStart s input) (transition s input).outs }

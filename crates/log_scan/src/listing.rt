@@ -19,7 +19,7 @@ pub struct Listing {
 
 impl Listing {
     /// Whether this is the list of the member's server, at the member's generation, and lacks the segment.
-    pub fn lacks(&self, name: SegName, member: Member) -> bool
+    pub(crate) fn lacks(&self, name: SegName, member: Member) -> bool
         ensures { result ≡ lacks name member self.now }
     {
         self.server == member.server
@@ -35,7 +35,7 @@ fn has_name(name: SegName, metas: &[FragMeta]) -> bool
 }
 
 /// Whether the list of this server is among these.
-pub fn has_list(server: u8, lists: &[Listing]) -> bool
+pub(crate) fn has_list(server: u8, lists: &[Listing]) -> bool
     ensures { result ≡ has_list server lists.now }
 {
     lists.iter().any(|list| list.server == server)

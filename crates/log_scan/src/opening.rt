@@ -30,7 +30,7 @@ pub struct Opening {
 
 impl Opening {
     /// Before anything is known, with a question of number 1 to be asked.
-    pub fn begin(log: LogId, inc: u32) -> Opening
+    pub(crate) fn begin(log: LogId, inc: u32) -> Opening
         ensures { result ≡ begun log inc }
     {
         Opening {
@@ -43,14 +43,14 @@ impl Opening {
     }
 
     /// Whether a question can have a number after the last one.
-    pub fn can_ask(&self) -> bool
+    pub(crate) fn can_ask(&self) -> bool
         ensures { result ≡ can_ask self.now }
     {
         self.ask < u32::MAX
     }
 
     /// Asks the registry by a further question.
-    pub fn ask_anew(&mut self, outs: &mut List<Out>) -> Mem<()>
+    pub(crate) fn ask_anew(&mut self, outs: &mut List<Out>) -> Mem<()>
         requires { self.old.ask < u32_end }
         ensures opening { OnOk result (self.new ≡ drawn self.old) }
         ensures outs { OnOk result (outs.new ≡ outs.old ++ Hello self.new.ask ∷ []) }
@@ -61,21 +61,21 @@ impl Opening {
     }
 
     /// Takes a horizon, where it is greater.
-    pub fn rise(&mut self, least: u32)
+    pub(crate) fn rise(&mut self, least: u32)
         ensures { self.new ≡ rises self.old least }
     {
         self.low = self.low.max(least);
     }
 
     /// Whether this is a server whose list is not in.
-    pub fn awaits(&self, lists: &[Listing], server: u8) -> bool
+    pub(crate) fn awaits(&self, lists: &[Listing], server: u8) -> bool
         ensures { result ≡ awaits self.now.groups lists.now server }
     {
         1 <= server && server <= server_count(&self.groups) && !has_list(server, lists)
     }
 
     /// The servers whose lists are not in, in order.
-    pub fn awaited(&self, alloc: Global, lists: &[Listing]) -> Mem<List<u8>>
+    pub(crate) fn awaited(&self, alloc: Global, lists: &[Listing]) -> Mem<List<u8>>
         ensures { IfOk result (λ servers. servers ≡ awaited self.now.groups lists.now) }
     {
         let mut servers = List::new(alloc);
@@ -98,7 +98,7 @@ fn server_count(groups: &Option<GroupMap>) -> u8
 }
 
 /// The group of this id, where groups are known and it is among them.
-pub fn known_group(groups: &Option<GroupMap>, id: u32) -> Option<&Group>
+pub(crate) fn known_group(groups: &Option<GroupMap>, id: u32) -> Option<&Group>
     ensures group { MatchOption result (known_group groups.now id ≡ None) (λ group. known_group groups.now id ≡ Some group.now) }
     ensures cut { IfSome result (λ group. IsCut (length group.now.members) group.now.parity) }
 {

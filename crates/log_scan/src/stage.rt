@@ -40,7 +40,7 @@ pub enum Stage {
 
 impl Stage {
     /// Whether the registry's answer to the last question is awaited.
-    pub fn awaits_welcome(&self) -> bool
+    pub(crate) fn awaits_welcome(&self) -> bool
         ensures { result ≡ awaits_welcome self.now }
     {
         match self {

@@ -18,7 +18,7 @@ use xfs_base::{List, Mem, SlotNews};
 
 impl Opening {
     /// What an input makes of an opening that stands here, and what it then says.
-    pub fn take(
+    pub(crate) fn take(
         &mut self,
         alloc: Global,
         outs: &mut List<Out>,
