@@ -198,6 +198,18 @@ is_indexed i m p usage same follows =
     let rows : p.rows ≡ merged i.rows m.0 m.1 = ap (λ (q : PagesState). q.rows) same ∙ rows-put_newer (pages_of i) m.0 m.1 in
     λ k. record { rows = rows k; usage = follows k; numbers = (same k).numbers; pages = (same k).pages }
 
+-- the pages, cleaned, and the counts are the index, cleaned
+pub cleaned_indexed : (i : Indexed) (p : PagesState) → p ≡ cleaned (pages_of i) → shown p i.usage ≡ cleaned_index i
+unfolding cleaned
+cleaned_indexed i p same = λ k. record { rows = (same k).rows; usage = i.usage; numbers = (same k).numbers; pages = (same k).pages }
+
+-- the pages of an index follow it
+pub pages-indexed : (i : Indexed) (m : BlockId × Entry) → pages_of (indexed i m) ≡ put_newer (pages_of i) m.0 m.1
+pages-indexed i m = sym (ap pages_of (is_indexed i m (put_newer (pages_of i) m.0 m.1) (moved (is_newer m.1 (entry_of i.rows m.0)) i.usage (segment_of (entry_of i.rows m.0)) (segment_of m.1)) refl refl))
+
+pub pages-cleaned : (i : Indexed) → pages_of (cleaned_index i) ≡ cleaned (pages_of i)
+pages-cleaned i = sym (ap pages_of (cleaned_indexed i (cleaned (pages_of i)) refl))
+
 pub kept_indexed : (i : Indexed) (m : BlockId × Entry) (p : PagesState) → is_newer m.1 (entry_of i.rows m.0) ≡ false → p ≡ put_newer (pages_of i) m.0 m.1 → shown p i.usage ≡ indexed i m
 kept_indexed i m p old same =
     is_indexed i m p i.usage same (sym (ap (λ b. moved b i.usage (segment_of (entry_of i.rows m.0)) (segment_of m.1)) old))
@@ -209,11 +221,6 @@ put_indexed i m p usage newer same follows =
 
 pub counted_as : (i : Indexed) (m : BlockId × Entry) (p : PagesState) (usage : List (SegName × ℕ)) → IsCounted i → shown p usage ≡ indexed i m → IsCounted (shown p usage)
 counted_as i m p usage counted same = subst IsCounted (sym same) (keeps-counted i m counted)
-
--- the pages, cleaned, and the counts are the index, cleaned
-pub cleaned_indexed : (i : Indexed) (p : PagesState) → p ≡ cleaned (pages_of i) → shown p i.usage ≡ cleaned_index i
-unfolding cleaned
-cleaned_indexed i p same = λ k. record { rows = (same k).rows; usage = i.usage; numbers = (same k).numbers; pages = (same k).pages }
 
 -- cleaned pages have the same rows
 pub counted_clean : (i : Indexed) (p : PagesState) → p ≡ cleaned (pages_of i) → IsCounted i → IsCounted (shown p i.usage)

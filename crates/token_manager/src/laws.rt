@@ -5,7 +5,8 @@ ghost use Rattle.xfs_base.specs.declared.block.BlockId.{BlockId};
 ghost use Rattle.xfs_base.specs.declared.entry.Entry.{Entry};
 ghost use Rattle.xfs_base.specs.declared.token.Mode.{Mode};
 ghost use Rattle.token_manager.specs.declared.input.In.{In};
-ghost use Rattle.token_manager.specs.Index.{IsCounted};
+ghost use Rattle.index_pages.specs.Pages.{put_newer, cleaned};
+ghost use Rattle.token_manager.specs.Index.{Indexed, indexed, pages_of, cleaned_index, IsCounted};
 ghost use Rattle.token_manager.specs.Recalls.{applied_of};
 ghost use Rattle.token_manager.specs.SlotState.{SlotState};
 ghost use Rattle.token_manager.specs.Transition.{started, job_at, transition};
@@ -53,4 +54,11 @@ pub fn owners_are_alone()
 pub fn recalls_are_given_out()
     ensures { (epoch : ℕ) (index : List (BlockId × Entry)) (beliefs : List (BlockId × ℕ × Mode)) (applied : List ℕ) (inputs : List In)
         → RecallsAreGivenOut (state_after (started epoch index beliefs applied) inputs) }
+{}
+
+/// The pages of a slot's index are what the entries that are merged make of them, and cleaning makes them
+/// clean: so what is known of pages into which entries are merged is known of a slot's.
+pub fn pages_follow_the_index()
+    ensures merged { (i : Indexed) (m : BlockId × Entry) → pages_of (indexed i m) ≡ put_newer (pages_of i) m.0 m.1 }
+    ensures cleaned { (i : Indexed) → pages_of (cleaned_index i) ≡ cleaned (pages_of i) }
 {}

@@ -1,0 +1,8 @@
+use Rattle.token_manager.proofs.Counting.{pages-indexed, pages-cleaned}
+use Rattle.token_manager.proofs.laws.pages_follow_the_index.Goals as goal
+
+pub returns-clause-merged : goal.returns-clause-merged
+returns-clause-merged c = pages-indexed
+
+pub returns-clause-cleaned : goal.returns-clause-cleaned
+returns-clause-cleaned c = pages-cleaned
