@@ -1,6 +1,5 @@
 -- A reading looks for one segment from its beginning to its end, and what it gives has that segment's name.
-use Rattle.std.proofs.Common.{◌≡◌, ℕ, Bool, true, false, List, Option, Some, None, refl, sym, ap, arith}
-use Rattle.std.specs.Prelude.{if◌then◌else◌}
+use Rattle.std.proofs.Common.{◌≡◌, ℕ, true, Option, Some, None, refl, arith}
 use Rattle.std.proofs.lemmas.Bool.Decides.{nat_tests}
 use Rattle.group_map.specs.GroupMapState.{GroupMapState}
 use Rattle.segment_format.specs.declared.segment.Segment.{Segment}
@@ -8,10 +7,10 @@ use Rattle.segment_format.specs.declared.seg_error.SegError.{SegError}
 use Rattle.segment_format.specs.ReadingItems.{answer_of}
 use Rattle.std.specs.Prelude.{Result, Ok, Err}
 use Rattle.xfs_base.specs.declared.segment.SegName.{SegName}
-use Rattle.xfs_base.proofs.Booleans.{contrary, by_test, and_first}
+use Rattle.xfs_base.proofs.Booleans.{by_test, and_first}
 use Rattle.stripe_code.specs.Fragments.{same_name}
-use Rattle.stripe_code.specs.Reading.{ReadingState, Step, on_answer, on_confirmed, counts, judged, read_as, ends, goes_on, segment_found, is_target, is_known, has_block}
-use Rattle.stripe_code.specs.Round.{RoundSoFar, taken, state_of}
+use Rattle.stripe_code.specs.Reading.{ReadingState, Step, on_answer, on_confirmed, counts, judged, read_as, goes_on, segment_found, is_target}
+use Rattle.stripe_code.specs.Round.{taken, state_of}
 use Rattle.stripe_code.specs.declared.reading.Next.{Next}
 use Rattle.stripe_code.specs.declared.reading.Next.TheVariants.{Wait, Ask, Again, Read, Lost}
 use Rattle.stripe_code.specs.declared.reading.Stage.{Stage}

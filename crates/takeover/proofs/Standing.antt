@@ -1,16 +1,14 @@
 -- At each moment a takeover's index and chain are what it has read tells, and what it has read is where its sources led.
 use Rattle.std.proofs.Common.{inl, inr, ◌≡◌, ℕ, ◌+◌, ◌⊎◌, Bool, true, false, List, [], ◌∷◌, ◌++◌, Option, Some, None, length, map, refl, sym, ap, subst, ◌∙◌, append_assoc, append-nil, arith}
 use Rattle.std.specs.Prelude.{All, Contains, ◌&&◌, ◌==◌, if◌then◌else◌}
-use Rattle.std.specs.List.{list_any}
 use Rattle.std.proofs.lemmas.Bool.{eqb-true}
 use Rattle.std.proofs.lemmas.List.Elements.{All-nil, All-cons, All-append, All-contains}
 use Rattle.group_map.specs.GroupMapState.{GroupMapState}
 use Rattle.group_map.specs.Groups.{group_of}
-use Rattle.group_map.specs.declared.group.Group.{Group}
 use Rattle.delta_index.specs.Index.{entry_of, merged_all}
 use Rattle.delta_index.proofs.IndexJoin.{index_join}
 use Rattle.segment_format.specs.declared.segment.Segment.{Segment}
-use Rattle.stripe_code.specs.Reading.{ReadingState, Step, begun, to_ask, on_answer, on_confirmed}
+use Rattle.stripe_code.specs.Reading.{ReadingState, begun, to_ask, on_answer, on_confirmed}
 use Rattle.stripe_code.specs.declared.reading.Next.{Next}
 use Rattle.stripe_code.specs.declared.reading.Next.TheVariants as next
 use Rattle.stripe_code.specs.declared.round.Told.{Told}
@@ -24,7 +22,7 @@ use Rattle.xfs_base.specs.declared.node.NodeId.{NodeId}
 use Rattle.xfs_base.specs.declared.segment.SegName.{SegName}
 use Rattle.xfs_base.specs.declared.token.Mode.{Mode}
 use Rattle.xfs_base.specs.Steps.{still}
-use Rattle.xfs_base.proofs.Booleans.{contrary, by_test, and_second}
+use Rattle.xfs_base.proofs.Booleans.{by_test, and_second}
 use Rattle.takeover.specs.declared.events.In.{In}
 use Rattle.takeover.specs.declared.events.In.TheVariants as input
 use Rattle.takeover.specs.declared.events.Out.{Out}
@@ -34,9 +32,9 @@ use Rattle.takeover.specs.declared.source.Present.{Present}
 use Rattle.takeover.specs.declared.source.Source.{Source}
 use Rattle.takeover.specs.Course.{Course, IsTakenOver, IsOver, segment_of, and_of, read_in, read_at, read_by, read_after, after_input, after_inputs, course_of}
 use Rattle.takeover.specs.ReadBack.{IsReadBack, AreReadBack, Read, nothing_read, and_read, told_by_all}
-use Rattle.takeover.specs.Reports.{same_node, applied_of, beliefs_of}
+use Rattle.takeover.specs.Reports.{applied_of, beliefs_of}
 use Rattle.takeover.specs.Rows.{told_of}
-use Rattle.takeover.specs.Sources.{sources_of, prior_of, goes_back, back_from}
+use Rattle.takeover.specs.Sources.{sources_of, prior_of, goes_back}
 use Rattle.takeover.specs.TakeState.{TakeState, started}
 use Rattle.takeover.specs.Transition.{Done, awaited, awaits, can_ask, fetches, polls, reads, asks, target_of, sought_over, sought, is_index, handed, next_of, go_on, with_chain, goes_on_from, has_read, lost, confirmed_as, again, judged_as, told_in, told_at, on_told, begun_if_all, on_report, waits_in, waiting, sought_again, on_maps, unanswered, repeated, transition}
 use Rattle.takeover.proofs.Chains.{all_merged, one_more_whole}

@@ -1,14 +1,12 @@
 -- Whatever a takeover says: where it hands a slot out, the slot may start with it.
-use Rattle.std.proofs.Common.{◌≡◌, ℕ, ◌+◌, ◌≤◌, Bool, true, false, List, [], ◌∷◌, ◌++◌, Option, Some, None, length, map, refl, sym, subst, arith}
-use Rattle.std.specs.Prelude.{All, IfOk, Result, Ok, Err, nat_le, ◌&&◌, ◌==◌, if◌then◌else◌}
-use Rattle.std.specs.List.{range_with_len}
+use Rattle.std.proofs.Common.{◌≡◌, ℕ, ◌+◌, List, [], ◌∷◌, ◌++◌, Option, Some, None, length, refl, sym, subst}
+use Rattle.std.specs.Prelude.{All, IfOk, Result, Ok, Err, ◌&&◌, ◌==◌}
 use Rattle.std.proofs.lemmas.Bool.{leb-true}
 use Rattle.std.proofs.lemmas.List.Elements.{All-nil, All-cons, All-append}
 use Rattle.group_map.specs.GroupMapState.{GroupMapState}
 use Rattle.group_map.specs.Groups.{group_of}
-use Rattle.group_map.specs.declared.group.Group.{Group}
 use Rattle.segment_format.specs.declared.segment.Segment.{Segment}
-use Rattle.stripe_code.specs.Reading.{ReadingState, Step, begun, to_ask, on_answer, on_confirmed}
+use Rattle.stripe_code.specs.Reading.{ReadingState, begun, to_ask, on_answer, on_confirmed}
 use Rattle.stripe_code.specs.declared.reading.Next.{Next}
 use Rattle.stripe_code.specs.declared.reading.Next.TheVariants as next
 use Rattle.stripe_code.specs.declared.round.Told.{Told}
@@ -17,7 +15,7 @@ use Rattle.stripe_code.specs.declared.round.Told.TheVariants as told
 use Rattle.xfs_base.specs.declared.node.NodeId.{NodeId}
 use Rattle.xfs_base.specs.declared.segment.SegName.{SegName}
 use Rattle.xfs_base.specs.Limits.{u32_end}
-use Rattle.xfs_base.specs.Steps.{Stepped, still}
+use Rattle.xfs_base.specs.Steps.{still}
 use Rattle.xfs_base.proofs.Booleans.{by_test}
 use Rattle.takeover.specs.declared.events.In.{In}
 use Rattle.takeover.specs.declared.events.In.TheVariants as input
@@ -31,7 +29,7 @@ use Rattle.takeover.specs.Reports.{applied_of, beliefs_of}
 use Rattle.takeover.specs.Rows.{told_of}
 use Rattle.takeover.specs.Sources.{sources_of, back_from}
 use Rattle.takeover.specs.TakeState.{TakeState}
-use Rattle.takeover.specs.Transition.{Done, awaited, awaits, can_ask, fetches, polls, reads, asks, target_of, sought_over, sought, is_index, handed, next_of, go_on, with_chain, goes_on_from, has_read, lost, confirmed_as, again, judged_as, told_in, told_at, on_told, begun_if_all, on_report, waiting, sought_again, on_maps, unanswered, repeated, transition}
+use Rattle.takeover.specs.Transition.{Done, awaited, awaits, can_ask, fetches, polls, target_of, sought_over, sought, is_index, handed, next_of, go_on, with_chain, goes_on_from, has_read, lost, confirmed_as, again, judged_as, told_in, told_at, on_told, begun_if_all, on_report, waiting, sought_again, on_maps, unanswered, repeated, transition}
 
 -- what is said may start a slot, where it hands one out
 abbrev Start : Done → Type 0

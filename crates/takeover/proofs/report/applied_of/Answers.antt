@@ -1,4 +1,4 @@
-use Rattle.std.proofs.Common.{◌≡◌, ◌++◌, [], ◌∷◌, ap, ◌∙◌}
+use Rattle.std.proofs.Common.{◌++◌, [], ◌∷◌, ap, ◌∙◌}
 use Rattle.takeover.specs.Reports.{applied_at, applied_of}
 use Rattle.takeover.proofs.Loops.{map_step}
 use Rattle.takeover.proofs.report.applied_of.Goals as goal

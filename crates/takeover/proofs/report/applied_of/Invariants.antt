@@ -1,5 +1,5 @@
-use Rattle.std.proofs.Common.{◌≡◌, ◌++◌, ◌-◌, map, filter, drop}
-use Rattle.std.specs.List.{flat_map, range_with_len}
+use Rattle.std.proofs.Common.{◌≡◌, ◌++◌, ◌-◌, map}
+use Rattle.std.specs.List.{range_with_len}
 use Rattle.takeover.specs.Reports.{applied_at, applied_of}
 use Rattle.takeover.proofs.report.applied_of.Given as goal
 

@@ -1,4 +1,4 @@
-use Rattle.std.proofs.Common.{◌≡◌, ◌++◌, ◌-◌, map, filter, drop}
+use Rattle.std.proofs.Common.{◌≡◌, ◌++◌, drop}
 use Rattle.takeover.specs.Reports.{beliefs_of}
 use Rattle.takeover.proofs.report.beliefs_of.Given as goal
 

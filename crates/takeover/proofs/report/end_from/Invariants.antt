@@ -1,4 +1,4 @@
-use Rattle.std.proofs.Common.{◌≡◌, ◌++◌, ◌-◌, map, filter, drop}
+use Rattle.std.proofs.Common.{◌≡◌, drop}
 use Rattle.takeover.specs.Reports.{end_from}
 use Rattle.takeover.proofs.report.end_from.Given as goal
 

@@ -1,4 +1,4 @@
-use Rattle.std.proofs.Common.{◌≡◌, ◌++◌, ◌-◌, map, filter, drop}
+use Rattle.std.proofs.Common.{◌≡◌, ◌++◌, filter, drop}
 use Rattle.takeover.specs.Rows.{is_of}
 use Rattle.takeover.proofs.rows.add_those_of.Given as goal
 

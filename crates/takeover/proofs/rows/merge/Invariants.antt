@@ -1,4 +1,4 @@
-use Rattle.std.proofs.Common.{◌≡◌, ◌++◌, ◌-◌, map, filter, drop}
+use Rattle.std.proofs.Common.{◌≡◌, drop}
 use Rattle.delta_index.specs.Index.{merged_all}
 use Rattle.takeover.proofs.rows.merge.Given as goal
 

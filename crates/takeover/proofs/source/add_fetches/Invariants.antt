@@ -1,4 +1,4 @@
-use Rattle.std.proofs.Common.{◌≡◌, ◌++◌, ◌-◌, map, filter, drop}
+use Rattle.std.proofs.Common.{◌≡◌, ◌++◌, drop}
 use Rattle.takeover.specs.Transition.{fetches}
 use Rattle.takeover.proofs.source.add_fetches.Given as goal
 

@@ -1,4 +1,4 @@
-use Rattle.std.proofs.Common.{◌≡◌, ◌++◌, ◌-◌, map, filter, drop}
+use Rattle.std.proofs.Common.{◌≡◌, ◌++◌, map, drop}
 use Rattle.takeover.specs.Sources.{part_source}
 use Rattle.takeover.proofs.source.add_parts.Given as goal
 

@@ -1,4 +1,4 @@
-use Rattle.std.proofs.Common.{◌≡◌, ◌++◌, ◌-◌, map, filter, drop}
+use Rattle.std.proofs.Common.{◌≡◌, ◌++◌, drop}
 use Rattle.takeover.specs.Transition.{polls}
 use Rattle.takeover.proofs.take.add_polls.Given as goal
 
