@@ -7,4 +7,8 @@ pub mod Settling
 pub mod Serving
 pub mod Shelves
 pub mod ShelfSteps
+pub mod Listings
+pub mod Picks
+pub mod Reading
+pub mod Scans
 pub mod Openings

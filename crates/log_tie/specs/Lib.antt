@@ -3,3 +3,4 @@ pub mod Seen
 pub mod Inputs
 pub mod Openings
 pub mod Shelves
+pub mod Scans

@@ -3,6 +3,7 @@
 
 ghost use Rattle.log_tie.specs.Inputs.{TakesInputs};
 ghost use Rattle.log_tie.specs.Openings.{OpensByStep, OpeningTakes};
+ghost use Rattle.log_tie.specs.Scans.{ScanStarts, ScanTakes};
 ghost use Rattle.log_tie.specs.Shelves.{TakesDeeds};
 
 /// What a log that its owner writes does on an input is a list of steps of the log protocol that meet their guards: a segment is sealed, striped anew, noted,
@@ -25,4 +26,13 @@ pub fn opening_inputs()
 /// sent, that what is deleted was dropped, that a Fence is of a boot that began, and that generations don't end. No guard asks for the fences that a shelf keeps.
 pub fn shelf_deeds()
     ensures { TakesDeeds }
+{}
+
+/// A log that is opened again, from the restart until all of it is read back: each input of its opening is a list of steps: maps are learned, what the lists name
+/// is picked, kept or passed over, reading back is cut at later horizons; and where the opening tells its chain, all is read back. Asked of the world are that
+/// lists and answers of the registry were sent, that maps of groups are the registry's and whole, and that a segment which is read is a booked one (the 1996
+/// paper, on recovery).
+pub fn scan_inputs()
+    ensures starts { ScanStarts }
+    ensures takes { ScanTakes }
 {}

@@ -1,0 +1,286 @@
+-- Reading back: what an opening does between the pick and its chain keeps what is seen of it.
+use Rattle.std.proofs.Common.{◌≡◌, ℕ, zero, suc, ◌+◌, ◌-◌, ◌<◌, ◌≤◌, ◌⊎◌, ◌==◌, ◌&&◌, ◌||◌, Bool, true, false, cond, nat_lt, List, [], ◌∷◌, ◌++◌, map, Option, Some, None, length, refl, sym, ap, subst, ◌∙◌, inl, inr, arith}
+use Rattle.std.specs.Prelude.{reverse}
+use Rattle.std.specs.List.{AllByRecursion}
+use Rattle.std.proofs.lemmas.Bool.{or_parts}
+use Rattle.std.proofs.lemmas.Bool.Decides.{nat_tests}
+use Rattle.std.proofs.lemmas.List.{reverse-append}
+use Rattle.xfs_base.specs.declared.segment.End.{End}
+use Rattle.xfs_base.specs.declared.segment.LogId.{LogId}
+use Rattle.xfs_base.specs.declared.segment.SegName.{SegName}
+use Rattle.xfs_base.proofs.Booleans.{contrary, by_test}
+use Rattle.segment_format.specs.declared.segment.Segment.{Segment}
+use Rattle.segment_format.specs.ReadingItems.{answer_of}
+use Rattle.group_map.specs.declared.group.Group.{Group}
+use Rattle.group_map.specs.GroupMapState.{GroupMapState}
+use Rattle.stripe_code.specs.declared.reading.Next.{Next}
+use Rattle.stripe_code.specs.declared.reading.Next.TheVariants as next
+use Rattle.stripe_code.specs.declared.reading.Stage as rounds
+use Rattle.stripe_code.specs.declared.reading.Stage.TheVariants.{Asking, Between, Doubted}
+use Rattle.stripe_code.specs.declared.reading.Stage.TheVariants as done
+use Rattle.stripe_code.specs.declared.round.RoundState.{RoundState}
+use Rattle.stripe_code.specs.declared.round.RoundState.TheVariants as round
+use Rattle.stripe_code.specs.declared.round.Told.{Told}
+use Rattle.stripe_code.specs.declared.target.Target.{Target}
+use Rattle.stripe_code.specs.Reading.{ReadingState, Step, to_ask}
+use Rattle.stripe_code.specs.Reading as reading
+use Rattle.stripe_code.specs.Round.{taken, state_of}
+use Rattle.log_scan.specs.declared.opening.Opening.{Opening}
+use Rattle.log_scan.specs.declared.listing.Listing.{Listing}
+use Rattle.log_scan.specs.declared.output.Out.{Out}
+use Rattle.log_scan.specs.declared.output.Out.TheVariants.{Hello, Fence, Fetch, Chain, Lost}
+use Rattle.log_scan.specs.declared.stage.Backward.{Backward}
+use Rattle.log_scan.specs.declared.stage.Stage.{Stage}
+use Rattle.log_scan.specs.declared.stage.Stage.TheVariants.{Hails, Gathers, Asks, Reads, Over}
+use Rattle.log_scan.specs.Pick.{has_list, known_group}
+use Rattle.log_scan.specs.Transition.{Done, goes, stays, drawn, asks_anew, name_at, target_at, is_bottom, end_below, with_segment, chain_of, fetches, begins_in, begins_round, follows, goes_on, fences}
+use Rattle.log_scan.proofs.Targets.{ReadsName, answered_keeps, confirmed_keeps}
+use Rattle.log_protocol.specs.LogLaws.{Reached}
+use Rattle.log_protocol.specs.State.{State}
+use Rattle.log_protocol.specs.Tables.{In}
+use Rattle.log_protocol.proofs.Induction.{always}
+use Rattle.log_tie.specs.Setting.{Setting, name_of, point}
+use Rattle.log_tie.specs.Seen.{Page, Book, Fixed}
+use Rattle.log_tie.specs.Openings.{Chained, AllFrom}
+use Rattle.log_tie.specs.Scans.{Asked, asked_by, Gathering, LooksFor, ReadingShown, StageShown, ScanShown, Gives, Scanned}
+use Rattle.log_tie.proofs.Names.{coded, point_some}
+
+-- ---- a step of the reading
+
+-- where it asks the servers anew, its question is no older than this one
+abbrev AsksLater : ℕ → ℕ → Next → Type 0
+AsksLater ask drawn_ask next.Wait = Unit {0}
+AsksLater ask drawn_ask next.Ask = ask ≤ drawn_ask
+AsksLater ask drawn_ask next.Again = Unit {0}
+AsksLater ask drawn_ask (next.Read s) = Unit {0}
+AsksLater ask drawn_ask next.Lost = Unit {0}
+
+-- it looks for the same segment, and reads that
+pub record StepFits (r : ReadingState) (ask : ℕ) (step : Step) : Type 0 where
+  pub same : step.state.target ≡ r.target
+  pub name : ReadsName r.target.seg.name step.next
+  pub later : AsksLater ask step.state.ask step.next
+
+read_later : (r : ReadingState) (ask : ℕ) (found : Option Segment) → AsksLater ask (reading.read_as r found).state.ask (reading.read_as r found).next
+read_later r ask None = tt
+read_later r ask (Some s) = tt
+
+judged_later : (r : ReadingState) (groups : GroupMapState) (ask : ℕ) (st : RoundState) → AsksLater ask (reading.judged r groups st).state.ask (reading.judged r groups st).next
+judged_later r groups ask (round.Read bytes) = read_later r ask (reading.segment_found r.target groups (answer_of bytes))
+judged_later r groups ask (round.Short pairs) = tt
+judged_later r groups ask round.Waiting = tt
+
+answered_later : (r : ReadingState) (groups : GroupMapState) (mine ask server : ℕ) (t : Told) → AsksLater mine (reading.on_answer r groups ask server t).state.ask (reading.on_answer r groups ask server t).next
+unfolding reading.on_answer
+answered_later r groups mine ask server t =
+    by_test (λ (step : Step). AsksLater mine step.state.ask step.next) (reading.counts r ask server t) (reading.judged (record r { round = taken r.round server t }) groups (state_of (taken r.round server t))) (record { state = r; next = next.Wait })
+    (λ e. judged_later (record r { round = taken r.round server t }) groups mine (state_of (taken r.round server t))) (λ e. tt)
+
+pub answered_fits : (r : ReadingState) (groups : GroupMapState) (mine ask server : ℕ) (t : Told) → StepFits r mine (reading.on_answer r groups ask server t)
+answered_fits r groups mine ask server t = let k = answered_keeps r groups ask server t in record { same = k.same; name = k.name; later = answered_later r groups mine ask server t }
+
+confirmed_later : (r : ReadingState) (ask : ℕ) (stage : rounds.Stage) → AsksLater ask (reading.goes_on r (ask + 1) stage).state.ask (reading.goes_on r (ask + 1) stage).next
+confirmed_later r ask Asking = tt
+confirmed_later r ask Between = omega arith
+confirmed_later r ask Doubted = tt
+confirmed_later r ask done.Over = tt
+
+pub confirmed_fits : (r : ReadingState) (ask : ℕ) → StepFits r ask (reading.on_confirmed r (ask + 1))
+unfolding reading.on_confirmed
+confirmed_fits r ask = let k = confirmed_keeps r (ask + 1) in record { same = k.same; name = k.name; later = confirmed_later r ask r.stage }
+
+-- the reader's own question reads nothing
+confirmed_none : (r : ReadingState) (ask : ℕ) (stage : rounds.Stage) (t : Segment) → (reading.goes_on r ask stage).next ≡ next.Read t → ⊥
+confirmed_none r ask Asking t e = cc
+confirmed_none r ask Between t e = cc
+confirmed_none r ask Doubted t e = cc
+confirmed_none r ask done.Over t e = cc
+
+pub confirmed_reads_none : (r : ReadingState) (ask : ℕ) (t : Segment) → (reading.on_confirmed r ask).next ≡ next.Read t → ⊥
+unfolding reading.on_confirmed
+confirmed_reads_none r ask t e = confirmed_none r ask r.stage t e
+
+module _ (g : Setting) (v : State) (book : ℕ → Segment) (hellos : List Asked) where
+  abbrev pub Sees : Done → Type 0
+  Sees d = Scanned g v book hellos d.state d.outs
+
+  -- what holds of an opening wherever it stands
+  pub record Framed (o : Opening) : Type 0 where
+    pub log : o.log ≡ g.log
+    pub inc : o.inc ≡ v.incarnation
+    pub horizon : o.low ≤ v.low
+    pub asked : (a : Asked) → In a hellos → a.inc ≡ v.incarnation → a.ask ≤ o.ask
+
+  -- ---- what is said
+
+  -- nothing that asks the registry or tells a chain
+  pub sees_quiet : (o : Opening) (stage : Stage) (outs : List Out) → Framed o → asked_by v.incarnation v.low outs hellos ≡ hellos → AllByRecursion (Gives g v book o.groups) outs → StageShown g v book hellos o stage → Sees (goes o stage outs)
+  sees_quiet o stage outs f same gives h = record {
+    shown = subst (λ hs. ScanShown g v book hs (record { opening = o; stage = stage })) (sym same) (record { log = f.log; inc = f.inc; horizon = f.horizon; asked = f.asked; stage = h });
+    gives = gives;
+  }
+
+  pub sees_still : (o : Opening) (stage : Stage) → Framed o → StageShown g v book hellos o stage → Sees (stays o stage)
+  sees_still o stage f h = record { shown = record { log = f.log; inc = f.inc; horizon = f.horizon; asked = f.asked; stage = h }; gives = tt }
+
+  asked_fetches : (name : SegName) (ask : ℕ) (servers : List ℕ) → asked_by v.incarnation v.low (map (λ server. Fetch server name ask) servers) hellos ≡ hellos
+  asked_fetches name ask [] = refl
+  asked_fetches name ask (s ∷ ss) = asked_fetches name ask ss
+
+  gives_fetches : (o : Opening) (name : SegName) (ask : ℕ) (servers : List ℕ) → AllByRecursion (Gives g v book o.groups) (map (λ server. Fetch server name ask) servers)
+  gives_fetches o name ask [] = tt
+  gives_fetches o name ask (s ∷ ss) = (tt, gives_fetches o name ask ss)
+
+  asked_fences : (servers : List ℕ) → asked_by v.incarnation v.low (fences servers) hellos ≡ hellos
+  asked_fences [] = refl
+  asked_fences (s ∷ ss) = asked_fences ss
+
+  gives_fences : (o : Opening) (servers : List ℕ) → AllByRecursion (Gives g v book o.groups) (fences servers)
+  gives_fences o [] = tt
+  gives_fences o (s ∷ ss) = (tt, gives_fences o ss)
+
+  pub sees_fences : (o : Opening) (stage : Stage) (servers : List ℕ) → Framed o → StageShown g v book hellos o stage → Sees (goes o stage (fences servers))
+  sees_fences o stage servers f h = sees_quiet o stage (fences servers) f (asked_fences servers) (gives_fences o servers) h
+
+  pub sees_fetches : (o : Opening) (b : Backward) (r : ReadingState) → Framed o → StageShown g v book hellos o (Reads b (Some r)) → Sees (goes o (Reads b (Some r)) (fetches r))
+  sees_fetches o b r f h = sees_quiet o (Reads b (Some r)) (fetches r) f (asked_fetches r.target.seg.name r.ask (to_ask r)) (gives_fetches o r.target.seg.name r.ask (to_ask r)) h
+
+  -- a question to the registry, of this number
+  abbrev pub question : ℕ → Asked
+  question ask = record { inc = v.incarnation; ask = ask; low = v.low }
+
+  pub sees_anew : (o : Opening) (stage : Stage) → Framed o → StageShown g v book (question (o.ask + 1) ∷ hellos) (drawn o) stage → Sees (asks_anew o stage)
+  sees_anew o stage f h = record { shown = record { log = f.log; inc = f.inc; horizon = f.horizon; asked = asked; stage = h }; gives = (tt, tt) }
+    where
+      asked : (a : Asked) → In a (question (o.ask + 1) ∷ hellos) → a.inc ≡ v.incarnation → a.ask ≤ o.ask + 1
+      asked a (inl e) boot = let k = ap (λ (z : Asked). z.ask) e in omega arith
+      asked a (inr is) boot = let k = f.asked a is boot in omega arith
+
+  pub sees_again : (o : Opening) (stage : Stage) → Framed o → StageShown g v book (question o.ask ∷ hellos) o stage → Sees (goes o stage (Hello o.ask ∷ []))
+  sees_again o stage f h = record { shown = record { log = f.log; inc = f.inc; horizon = f.horizon; asked = asked; stage = h }; gives = (tt, tt) }
+    where
+      asked : (a : Asked) → In a (question o.ask ∷ hellos) → a.inc ≡ v.incarnation → a.ask ≤ o.ask
+      asked a (inl e) boot = let k = ap (λ (z : Asked). z.ask) e in omega arith
+      asked a (inr is) boot = f.asked a is boot
+
+  framed_drawn : (o : Opening) (ask : ℕ) → o.ask ≤ ask → Framed o → Framed (record o { ask = ask })
+  framed_drawn o ask more f = record { log = f.log; inc = f.inc; horizon = f.horizon; asked = λ a is boot. (let k = f.asked a is boot in omega arith) }
+
+  -- a reading is seen alike after a question
+  asked_reading : (o : Opening) (ask : ℕ) (b : Backward) → ReadingShown g v book o b → ReadingShown g v book (record o { ask = ask }) b
+  asked_reading o ask b h = record { phase = h.phase; mapped = record { map = h.mapped.map; is = h.mapped.is; whole = h.mapped.whole; known = h.mapped.known }; base = h.base; opening = h.opening; low = h.low; past = h.past; from = h.from; chained = h.chained; seq = h.seq }
+
+  -- all lists are in: the registry is asked
+  pub asks_new : (o : Opening) (lists : List Listing) (bound : ℕ) → Framed o → Gathering g v book o bound lists → ((u : ℕ) → 0 < u → u < suc g.servers → has_list u lists ≡ true) → bound ≤ v.low → v.begin_low ≤ bound → Sees (asks_anew o (Asks lists))
+  asks_new o lists bound f k every past begun = sees_anew o (Asks lists) f (record {
+    bound = bound;
+    gathering = record { phase = k.phase; phantom = k.phantom; mapped = record { map = k.mapped.map; is = k.mapped.is; whole = k.mapped.whole; known = k.mapped.known }; kept = k.kept };
+    every = every;
+    past = past;
+    begun = begun;
+    after = after;
+  })
+    where
+      after : (a : Asked) → In a (question (o.ask + 1) ∷ hellos) → a.inc ≡ v.incarnation → a.ask ≡ o.ask + 1 → bound ≤ a.low
+      after a (inl e) boot same = let k = ap (λ (z : Asked). z.low) e in omega arith
+      after a (inr is) boot same = let k = f.asked a is boot in omega arith
+
+  -- ---- reading back
+
+  pub chain_told : (o : Opening) (b : Backward) → Framed o → ReadingShown g v book o b → Sees (goes o Over (chain_of b ∷ []))
+  chain_told o b f h = record {
+    shown = record { log = f.log; inc = f.inc; horizon = f.horizon; asked = f.asked; stage = tt };
+    gives = (
+      (
+        h.mapped.map,
+        h.mapped.is,
+        record {
+          phase = h.phase;
+          map = h.mapped.whole.seen.whole;
+          known = h.mapped.known;
+          base = h.base;
+          read = record { opening = h.opening; lowest = v.pick_low; picked = omega arith; cut = h.past; from = h.from; next = point g b.next.seq b.next.pass; chained = h.chained };
+        },
+      ),
+      tt,
+    );
+  }
+
+  begins_shown : (o : Opening) (b : Backward) (group : Option Group) → Framed o → ReadingShown g v book o b → is_bottom o.low b.next ≡ false → Sees (begins_in o b group)
+  begins_shown o b None f h more = sees_anew o (Reads b None) f (asked_reading o (o.ask + 1) b h, more, tt)
+  begins_shown o b (Some group) f h more =
+      sees_fetches (drawn o) b (reading.begun (target_at o.log b.next) group (o.ask + 1)) (framed_drawn o (o.ask + 1) (omega arith) f) (asked_reading o (o.ask + 1) b h, more, ap (λ (l : LogId). name_at l b.next) f.log)
+
+  pub round_shown : (o : Opening) (b : Backward) → Framed o → ReadingShown g v book o b → is_bottom o.low b.next ≡ false → Sees (begins_round o b)
+  unfolding begins_round
+  round_shown o b f h more = begins_shown o b (known_group o.groups b.next.group) f h more
+
+  pub follows_shown : (o : Opening) (b : Backward) → Framed o → ReadingShown g v book o b → Sees (follows o b)
+  unfolding follows
+  follows_shown o b f h = by_test Sees (is_bottom o.low b.next) (goes o Over (chain_of b ∷ [])) (begins_round o b) (λ t. chain_told o b f h) (λ t. round_shown o b f h t)
+
+  module _ (fixed : Fixed g v) (paged : Book g v book) (reached : Reached v) where
+    -- one more segment is read: it is the booked one that the end names
+    segment_read : (o : Opening) (b : Backward) (s : Segment) (y : ℕ) → ReadingShown g v book o b → is_bottom o.low b.next ≡ false → s.name ≡ name_at g.log b.next → v.booked y ≡ 1 → s ≡ book y → ReadingShown g v book o (with_segment b s)
+    segment_read o b s y h more named booked is = record {
+      phase = h.phase;
+      mapped = h.mapped;
+      base = h.base;
+      opening = h.opening;
+      low = h.low;
+      past = h.past;
+      from = subst (AllFrom v.pick_low) (sym turned) (above, h.from);
+      chained = subst (Chained g v book b.start.seq (point g (s.name.seq - 1) s.prior.pass)) (sym turned) (y, booked, is, after, there, subst (λ z. Chained g v book b.start.seq z (reverse b.chain)) at_y h.chained);
+      seq = (let a = h.seq in let c = seq in let d = some_seq in let e : length (reverse (b.chain ++ s ∷ [])) ≡ suc (length (reverse b.chain)) = ap length turned in omega arith);
+    }
+      where
+        turned : reverse (b.chain ++ s ∷ []) ≡ s ∷ reverse b.chain
+        turned = reverse-append b.chain (s ∷ [])
+
+        page : Page g y (book y) (v.text_of y) (v.member_count y) (v.member_server y) (v.member_generation y) (v.prior_of y) (v.content_of y)
+        page = paged y booked
+
+        its_name : s.name ≡ name_of g y
+        its_name = ap (λ (z : Segment). z.name) is ∙ page.named
+
+        seq : s.name.seq ≡ b.next.seq
+        seq = ap (λ (n : SegName). n.seq) named
+
+        seq_there : g.seq_of y ≡ b.next.seq
+        seq_there = sym (ap (λ (n : SegName). n.seq) its_name) ∙ seq
+
+        some_seq : 0 < b.next.seq
+        some_seq = let a = (always v reached).shelf.priors.seq_some y booked in let c : v.seq_of y ≡ g.seq_of y = ap (λ k. k y) fixed.seq_of in let d = seq_there in omega arith
+
+        some_inc : 0 < b.next.pass.inc
+        some_inc = subst (λ (n : SegName). 0 < n.pass.inc) (ap (λ (z : Segment). z.name) (sym is) ∙ named) page.boot
+
+        at_y : point g b.next.seq b.next.pass ≡ y
+        at_y = point_some g b.next.seq b.next.pass some_inc ∙ (ap (λ (n : SegName). g.code n.seq n.pass.inc n.pass.att) (sym named ∙ its_name) ∙ coded g y)
+
+        after : v.prior_of y ≡ point g (s.name.seq - 1) s.prior.pass
+        after = page.after ∙ ap (λ (z : Segment). point g (z.name.seq - 1) z.prior.pass) (sym is)
+
+        there : g.seq_of y + length (reverse b.chain) ≡ b.start.seq
+        there = let a = h.seq in let c = seq_there in omega arith
+
+        above : v.pick_low ≤ s.name.seq
+        above = let a = h.low in let c = h.past in let d = seq in let e = not_below b.next.seq o.low (or_parts (nat_lt b.next.seq o.low) _ more).0 in omega arith
+          where
+            not_below : (n m : ℕ) → nat_lt n m ≡ false → m ≤ n
+            not_below n m e = grind (arith, nat_tests)
+
+    goes_shown : (o : Opening) (b : Backward) (r : ReadingState) (n : Next) → Framed o → ReadingShown g v book o b → is_bottom o.low b.next ≡ false → r.target.seg.name ≡ name_at g.log b.next → ReadsName r.target.seg.name n → AsksLater o.ask r.ask n
+        → ((t : Segment) → n ≡ next.Read t → (y : ℕ) × (v.booked y ≡ 1) × (t ≡ book y)) → Sees (goes_on o b r n)
+    unfolding goes_on
+    goes_shown o b r next.Wait f h more looks name later owed = sees_still o (Reads b (Some r)) f (h, more, looks)
+    goes_shown o b r next.Ask f h more looks name later owed = sees_fetches (record o { ask = r.ask }) b r (framed_drawn o r.ask later f) (asked_reading o r.ask b h, more, looks)
+    goes_shown o b r next.Again f h more looks name later owed = sees_anew o (Reads b (Some r)) f (asked_reading o (o.ask + 1) b h, more, looks)
+    goes_shown o b r (next.Read s) f h more looks name later owed = let y = owed s refl in follows_shown o (with_segment b s) f (segment_read o b s y.0 h more (name ∙ looks) y.1 y.2)
+    goes_shown o b r next.Lost f h more looks name later owed = sees_quiet o Over (Lost r.target.seg.name ∷ []) f refl (tt, tt) tt
+
+    -- a step of the reading, of which what is read is booked
+    pub step_shown : (o : Opening) (b : Backward) (r : ReadingState) (step : Step) → StepFits r o.ask step → Framed o → ReadingShown g v book o b → is_bottom o.low b.next ≡ false → r.target.seg.name ≡ name_at g.log b.next
+        → ((t : Segment) → step.next ≡ next.Read t → (y : ℕ) × (v.booked y ≡ 1) × (t ≡ book y)) → Sees (goes_on o b step.state step.next)
+    step_shown o b r step fits f h more looks owed =
+        goes_shown o b step.state step.next f h more (ap (λ (t : Target). t.seg.name) fits.same ∙ looks) (subst (λ (t : Target). ReadsName t.seg.name step.next) (sym fits.same) fits.name) fits.later owed
