@@ -1,0 +1,438 @@
+-- What is deleted is emptied.
+use Rattle.std.proofs.Common.{◌≡◌, ℕ, ◌+◌, Bool, true, false, cond, List, [], ◌∷◌, ◌++◌, Option, Some, None, map, length, refl, sym, ap, subst, ◌∙◌}
+use Rattle.std.specs.Prelude.{◌==◌, ◌&&◌, not}
+use Rattle.std.specs.List.{AllByRecursion, cons_option}
+use Rattle.std.proofs.lemmas.Map.Views.{tells_apart}
+use Rattle.group_map.specs.GroupMapState.{GroupMapState}
+use Rattle.segment_format.specs.declared.segment.Item.{Item}
+use Rattle.segment_format.specs.declared.segment.Item.TheVariants.{Block, Delta, Part}
+use Rattle.segment_format.specs.declared.segment.Segment.{Segment}
+use Rattle.xfs_base.specs.declared.block.BlockId.{BlockId}
+use Rattle.xfs_base.specs.declared.entry.Entry.{Entry}
+use Rattle.xfs_base.specs.declared.fragment.FragMeta.{FragMeta}
+use Rattle.xfs_base.specs.declared.news.SlotNews.{SlotNews}
+use Rattle.xfs_base.specs.declared.segment.SegName.{SegName}
+use Rattle.xfs_base.specs.declared.segment.SegRef.{SegRef}
+use Rattle.xfs_base.specs.Blocks.{same_block}
+use Rattle.xfs_base.specs.Steps.{still}
+use Rattle.xfs_base.proofs.Booleans.{by_test, and_first, and_second}
+use Rattle.xfs_base.proofs.Orders.{seg_cmp_exact}
+use Rattle.stripe_cleaner.specs.declared.checks.Check.{Check}
+use Rattle.stripe_cleaner.specs.declared.checks.Fate.{Fate}
+use Rattle.stripe_cleaner.specs.declared.checks.Fate.TheVariants as fate
+use Rattle.stripe_cleaner.specs.declared.input.In.{In}
+use Rattle.stripe_cleaner.specs.declared.input.In.TheVariants as input
+use Rattle.stripe_cleaner.specs.declared.output.Out.{Out}
+use Rattle.stripe_cleaner.specs.declared.output.Out.TheVariants as out
+use Rattle.stripe_cleaner.specs.declared.phase.Phase.{Phase}
+use Rattle.stripe_cleaner.specs.declared.phase.Phase.TheVariants.{Greeting, Listing, Counting, Reading, Checking, Deleting, Over}
+use Rattle.stripe_cleaner.specs.Checks.{checks_from, after_live, after_dead, after_moved, live_at, dead_at, moved_at, is_dead, is_awaited, any_asked, all_dead, place_in, questions, moves}
+use Rattle.stripe_cleaner.specs.CleaningState.{CleaningState, started}
+use Rattle.stripe_cleaner.specs.Counting.{CountingState, has_usage, is_counted, awaited_slots, all_slots, chosen}
+use Rattle.stripe_cleaner.specs.Histories.{state_after, Stage, stage_at_live, stage_at_dead, stage_at_moved, awaits_moved, stage_with, stage_after, blocks_of, reads, IsEmptied, DeletesEmptied}
+use Rattle.stripe_cleaner.specs.Histories.Stage.{Asked, Live, Moved, Dead}
+use Rattle.stripe_cleaner.specs.Job.{Turn, next_of, next, deletes, servers_of, deleting, counted, left_to_delete, same_name, on_deleted, checking, looked_at, is_moving}
+use Rattle.stripe_cleaner.specs.JobState.{JobState}
+use Rattle.stripe_cleaner.specs.Listing.{ListingState, begun, is_among, without}
+use Rattle.stripe_cleaner.specs.Promises.{promised_with, is_above, is_promised}
+use Rattle.stripe_cleaner.specs.Transition as step
+use Rattle.stripe_cleaner.specs.Transition.{Done, turned, is_greeting, lists, usage_asks, welcomed, on_welcome, forgotten, forgetting, on_promise, mapped, listed, heard, on_list, usage_with, on_counts, listed_in, counted_in, read_in, answered_in, moved_in, deleted_in, awaits, on_usage, is_heard, may_move, on_live, on_dead, transition}
+
+-- ---- stages
+
+-- how far the fate of a check is
+abbrev stage_of : Fate → Stage
+stage_of (fate.Asked value) = Asked
+stage_of (fate.Live entry value) = Live
+stage_of fate.Moved = Moved
+stage_of fate.Dead = Dead
+
+stage-after_live : (entry : Entry) (f : Fate) → stage_of (after_live entry f) ≡ stage_at_live (stage_of f)
+stage-after_live entry (fate.Asked value) = refl
+stage-after_live entry (fate.Live e value) = refl
+stage-after_live entry fate.Moved = refl
+stage-after_live entry fate.Dead = refl
+
+stage-after_dead : (f : Fate) → stage_of (after_dead f) ≡ stage_at_dead (stage_of f)
+stage-after_dead (fate.Asked value) = refl
+stage-after_dead (fate.Live e value) = refl
+stage-after_dead fate.Moved = refl
+stage-after_dead fate.Dead = refl
+
+stage-after_moved : (f : Fate) → stage_of (after_moved f) ≡ stage_at_moved (stage_of f)
+stage-after_moved (fate.Asked value) = refl
+stage-after_moved (fate.Live e value) = refl
+stage-after_moved fate.Moved = refl
+stage-after_moved fate.Dead = refl
+
+dead-stage : (f : Fate) → is_dead f ≡ true → stage_of f ≡ Dead
+dead-stage (fate.Asked value) h = cc
+dead-stage (fate.Live e value) h = cc
+dead-stage fate.Moved h = cc
+dead-stage fate.Dead h = refl
+
+-- what is dead stays so
+dead_stays : (s : CleaningState) (i : In) (b : BlockId) → stage_with s i b Dead ≡ Dead
+dead_stays s (input.Live block epoch entry) b =
+    by_test (λ (x : Stage). x ≡ Dead) (is_heard s.promised block epoch && may_move entry) (cond (same_block b block) Dead Dead) Dead
+    (λ t. by_test (λ (x : Stage). x ≡ Dead) (same_block b block) Dead Dead (λ u. refl) (λ u. refl))
+    (λ t. refl)
+dead_stays s (input.Dead block epoch) b =
+    by_test (λ (x : Stage). x ≡ Dead) (is_heard s.promised block epoch) (cond (same_block b block) Dead Dead) Dead
+    (λ t. by_test (λ (x : Stage). x ≡ Dead) (same_block b block) Dead Dead (λ u. refl) (λ u. refl))
+    (λ t. refl)
+dead_stays s input.Moved b = by_test (λ (x : Stage). x ≡ Dead) (awaits_moved s.phase) Dead Dead (λ t. refl) (λ t. refl)
+dead_stays s i b = refl
+
+-- ---- blocks
+
+blocks-checks : (n : ℕ) (items : List Item) → map (λ (c : Check). c.block) (checks_from n items) ≡ blocks_of items
+blocks-checks n [] = refl
+blocks-checks n (Block block value ∷ items) = ap (λ bs. block ∷ bs) (blocks-checks (n + 1) items)
+blocks-checks n (Delta block ver hop item ∷ items) = blocks-checks (n + 1) items
+blocks-checks n (Part slot rows ∷ items) = blocks-checks (n + 1) items
+
+blocks-map : (f : Check → Check) → ((c : Check) → (f c).block ≡ c.block) → (checks : List Check) → map (λ (c : Check). c.block) (map f checks) ≡ map (λ (c : Check). c.block) checks
+blocks-map f same [] = refl
+blocks-map f same (c ∷ cs) = λ k. same c k ∷ blocks-map f same cs k
+
+joined : (start : CleaningState) (later before : List In) → state_after start (later ++ before) ≡ state_after (state_after start before) later
+joined start [] before = refl
+joined start (i ∷ later) before = ap (λ (s : CleaningState). (transition s i).state) (joined start later before)
+
+module _ (start : CleaningState) where
+  -- the segment was read, and each of these checks is as far as its block is
+  record IsChecked (history : List In) (name : SegName) (checks : List Check) : Type 0 where
+    pub segment : Segment
+    pub later : List In
+    pub before : List In
+    pub split : history ≡ later ++ input.Read (Some segment) ∷ before
+    pub awaited : reads name (state_after start before).phase
+    pub named : segment.name ≡ name
+    pub blocks : map (λ (c : Check). c.block) checks ≡ blocks_of segment.items
+    pub stages : AllByRecursion (λ (c : Check). stage_of c.fate ≡ stage_after (state_after start (input.Read (Some segment) ∷ before)) later c.block) checks
+
+  emptied_later : (history : List In) (i : In) (name : SegName) → IsEmptied start history name → IsEmptied start (i ∷ history) name
+  emptied_later history i name e = record {
+    segment = e.segment;
+    later = i ∷ e.later;
+    before = e.before;
+    split = ap (λ h. i ∷ h) e.split;
+    awaited = e.awaited;
+    named = e.named;
+    dead = go (blocks_of e.segment.items) e.dead;
+  }
+    where
+      from : CleaningState
+      from = state_after start (input.Read (Some e.segment) ∷ e.before)
+
+      go : (bs : List BlockId) → AllByRecursion (λ b. stage_after from e.later b ≡ Dead) bs → AllByRecursion (λ b. stage_after from (i ∷ e.later) b ≡ Dead) bs
+      go [] all = tt
+      go (b ∷ bs) all = (ap (stage_with (state_after from e.later) i b) all.0 ∙ dead_stays (state_after from e.later) i b, go bs all.1)
+
+  -- an input that changes the checks as it changes the stages
+  checked_with : (history : List In) (i : In) (name : SegName) (checks : List Check) (f : Check → Check) → ((c : Check) → (f c).block ≡ c.block)
+      → ((c : Check) → stage_of (f c).fate ≡ stage_with (state_after start history) i c.block (stage_of c.fate)) → IsChecked history name checks → IsChecked (i ∷ history) name (map f checks)
+  checked_with history i name checks f same moves k = record {
+    segment = k.segment;
+    later = i ∷ k.later;
+    before = k.before;
+    split = ap (λ h. i ∷ h) k.split;
+    awaited = k.awaited;
+    named = k.named;
+    blocks = blocks-map f same checks ∙ k.blocks;
+    stages = go checks k.stages;
+  }
+    where
+      from : CleaningState
+      from = state_after start (input.Read (Some k.segment) ∷ k.before)
+
+      here : state_after start history ≡ state_after from k.later
+      here = ap (state_after start) k.split ∙ joined start k.later (input.Read (Some k.segment) ∷ k.before)
+
+      go : (cs : List Check) → AllByRecursion (λ (c : Check). stage_of c.fate ≡ stage_after from k.later c.block) cs → AllByRecursion (λ (c : Check). stage_of c.fate ≡ stage_after from (i ∷ k.later) c.block) (map f cs)
+      go [] all = tt
+      go (c ∷ cs) all = (
+        moves c ∙ ap (λ (s : CleaningState). stage_with s i c.block (stage_of c.fate)) here ∙ ap (stage_with (state_after from k.later) i c.block) all.0
+            ∙ ap (λ b. stage_after from (i ∷ k.later) b) (sym (same c)),
+        go cs all.1,
+      )
+
+  -- an input that changes neither
+  checked_later : (history : List In) (i : In) (name : SegName) (checks : List Check) → ((b : BlockId) (x : Stage) → stage_with (state_after start history) i b x ≡ x) → IsChecked history name checks → IsChecked (i ∷ history) name checks
+  checked_later history i name checks stays k = record {
+    segment = k.segment;
+    later = i ∷ k.later;
+    before = k.before;
+    split = ap (λ h. i ∷ h) k.split;
+    awaited = k.awaited;
+    named = k.named;
+    blocks = k.blocks;
+    stages = go checks k.stages;
+  }
+    where
+      from : CleaningState
+      from = state_after start (input.Read (Some k.segment) ∷ k.before)
+
+      here : state_after start history ≡ state_after from k.later
+      here = ap (state_after start) k.split ∙ joined start k.later (input.Read (Some k.segment) ∷ k.before)
+
+      go : (cs : List Check) → AllByRecursion (λ (c : Check). stage_of c.fate ≡ stage_after from k.later c.block) cs → AllByRecursion (λ (c : Check). stage_of c.fate ≡ stage_after from (i ∷ k.later) c.block) cs
+      go [] all = tt
+      go (c ∷ cs) all = (
+        sym (stays c.block (stage_of c.fate)) ∙ ap (λ (s : CleaningState). stage_with s i c.block (stage_of c.fate)) here ∙ ap (stage_with (state_after from k.later) i c.block) all.0,
+        go cs all.1,
+      )
+
+  -- a segment of which each check is dead is emptied
+  emptied_from : (history : List In) (name : SegName) (checks : List Check) → all_dead checks ≡ true → IsChecked history name checks → IsEmptied start history name
+  emptied_from history name checks dead k = record {
+    segment = k.segment;
+    later = k.later;
+    before = k.before;
+    split = k.split;
+    awaited = k.awaited;
+    named = k.named;
+    dead = subst (AllByRecursion (λ b. stage_after from k.later b ≡ Dead)) k.blocks (go checks dead k.stages);
+  }
+    where
+      from : CleaningState
+      from = state_after start (input.Read (Some k.segment) ∷ k.before)
+
+      go : (cs : List Check) → all_dead cs ≡ true → AllByRecursion (λ (c : Check). stage_of c.fate ≡ stage_after from k.later c.block) cs → AllByRecursion (λ b. stage_after from k.later b ≡ Dead) (map (λ (c : Check). c.block) cs)
+      go [] d all = tt
+      go (c ∷ cs) d all = (sym all.0 ∙ dead-stage c.fate (and_first (is_dead c.fate) (all_dead cs) d), go cs (and_second (is_dead c.fate) (all_dead cs) d) all.1)
+
+  -- a segment that is read is checked
+  checked_first : (history : List In) (segment : Segment) (name : SegName) → reads name (state_after start history).phase → segment.name ≡ name → IsChecked (input.Read (Some segment) ∷ history) name (checks_from 0 segment.items)
+  checked_first history segment name awaited named = record {
+    segment = segment;
+    later = [];
+    before = history;
+    split = refl;
+    awaited = awaited;
+    named = named;
+    blocks = blocks-checks 0 segment.items;
+    stages = go 0 segment.items;
+  }
+    where
+      go : (n : ℕ) (items : List Item) → AllByRecursion (λ (c : Check). stage_of c.fate ≡ Asked) (checks_from n items)
+      go n [] = tt
+      go n (Block block value ∷ items) = (refl, go (n + 1) items)
+      go n (Delta block ver hop item ∷ items) = go (n + 1) items
+      go n (Part slot rows ∷ items) = go (n + 1) items
+
+  module _ (history : List In) where
+    -- how far the present segment is, in each phase
+    abbrev KnownIn : Phase → Type 0
+    KnownIn (Checking j segment checks) = IsChecked history segment.name checks
+    KnownIn (Deleting j segment servers) = IsEmptied start history segment.name
+    KnownIn p = Unit {0}
+
+    abbrev Says : List Out → Type 0
+    Says outs = AllByRecursion (DeletesEmptied start history) outs
+
+    abbrev Fine : Turn → Type 0
+    Fine turn = KnownIn turn.state × Says turn.outs
+
+    says_deletes : (name : SegName) (servers : List ℕ) → IsEmptied start history name → Says (deletes name servers)
+    says_deletes name [] e = tt
+    says_deletes name (s ∷ ss) e = (e, says_deletes name ss e)
+
+    says_lists : (servers : List ℕ) → Says (lists servers)
+    says_lists [] = tt
+    says_lists (s ∷ ss) = (tt, says_lists ss)
+
+    says_usage_asks : (slots : List ℕ) → Says (usage_asks slots)
+    says_usage_asks [] = tt
+    says_usage_asks (s ∷ ss) = (tt, says_usage_asks ss)
+
+    says_questions : (segment : SegRef) (checks : List Check) → Says (questions segment checks)
+    says_questions segment [] = tt
+    says_questions segment (c ∷ cs) =
+        by_test (λ (o : Option Out). Says (cons_option o (questions segment cs))) (is_awaited c.fate) (Some (out.Check c.block (place_in segment c.item))) None
+        (λ t. (tt, says_questions segment cs))
+        (λ t. says_questions segment cs)
+
+    next_fine : (left : List SegRef) (j : JobState) → Fine (next_of left j)
+    next_fine [] j = (tt, (tt, tt))
+    next_fine (s ∷ left) j = (tt, (tt, tt))
+
+    deleting_fine : (j : JobState) (segment : SegRef) → IsEmptied start history segment.name → Fine (deleting j segment)
+    deleting_fine j segment e = (e, says_deletes segment.name (servers_of j.groups segment) e)
+
+    deleted_fine : (server : ℕ) (name : SegName) (j : JobState) (segment : SegRef) (servers : List ℕ) → IsEmptied start history segment.name → Fine (on_deleted server name j segment servers)
+    deleted_fine server name j segment servers e =
+        by_test Fine (same_name name segment.name && is_among servers server) (left_to_delete j segment (without servers server)) (still (Deleting j segment servers))
+        (λ t. by_test Fine (length (without servers server) == 0) (next (counted j)) (still (Deleting j segment (without servers server))) (λ u. next_fine j.left (counted j)) (λ u. (e, tt)))
+        (λ t. (e, tt))
+
+    checking_fine : (j : JobState) (segment : SegRef) (checks : List Check) → IsChecked history segment.name checks → Fine (checking j segment checks)
+    unfolding checking
+    checking_fine j segment checks k =
+        by_test Fine (all_dead checks) (deleting j segment) (record { state = Checking j segment checks; outs = questions segment checks })
+        (λ t. deleting_fine j segment (emptied_from history segment.name checks t k))
+        (λ t. (k, says_questions segment checks))
+
+    looked_fine : (j : JobState) (segment : SegRef) (was_asked : Bool) (checks : List Check) → IsChecked history segment.name checks → Fine (looked_at j segment was_asked checks)
+    unfolding looked_at
+    looked_fine j segment was_asked checks k =
+        by_test Fine (all_dead checks) (deleting j segment) (cond (was_asked && not (any_asked checks)) (record { state = Checking j segment checks; outs = out.Move (moves checks) ∷ [] }) (still (Checking j segment checks)))
+        (λ t. deleting_fine j segment (emptied_from history segment.name checks t k))
+        (λ t. by_test Fine (was_asked && not (any_asked checks)) (record { state = Checking j segment checks; outs = out.Move (moves checks) ∷ [] }) (still (Checking j segment checks)) (λ u. (k, (tt, tt))) (λ u. (k, tt)))
+
+    -- ---- inputs that are no answers
+
+    listed_fine : (l : ListingState) → Fine (listed l)
+    listed_fine l =
+        by_test Fine (length l.awaited == 0) (record { state = Counting (record { groups = l.groups; candidates = l.candidates; usages = [] }); outs = usage_asks all_slots }) (still (Listing l))
+        (λ t. (tt, says_usage_asks all_slots))
+        (λ t. (tt, tt))
+
+    listed_in_fine : (server : ℕ) (held : List FragMeta) (p : Phase) → KnownIn p → Fine (listed_in server held p)
+    listed_in_fine server held (Listing l) k = by_test Fine (is_among l.awaited server) (listed (heard l server held)) (still (Listing l)) (λ t. listed_fine (heard l server held)) (λ t. (tt, tt))
+    listed_in_fine server held p k = (k, tt)
+
+    counted_fine : (count : ℕ) (c : CountingState) → Fine (step.counted count c)
+    counted_fine count c =
+        by_test Fine (is_counted c.usages) (next (record { groups = c.groups; left = chosen count c; deleted = 0 })) (still (Counting c))
+        (λ t. next_fine (chosen count c) (record { groups = c.groups; left = chosen count c; deleted = 0 }))
+        (λ t. (tt, tt))
+
+    counted_in_fine : (count slot : ℕ) (counts : _) (p : Phase) → KnownIn p → Fine (counted_in count slot counts p)
+    counted_in_fine count slot counts (Counting c) k =
+        by_test Fine (has_usage c.usages slot) (still (Counting c)) (step.counted count (usage_with slot counts c)) (λ t. (tt, tt)) (λ t. counted_fine count (usage_with slot counts c))
+    counted_in_fine count slot counts p k = (k, tt)
+
+    forgetting_fine : (slot : ℕ) (p : Phase) → KnownIn p → Fine (forgetting slot p)
+    forgetting_fine slot (Counting c) k =
+        by_test Fine (has_usage c.usages slot) (record { state = Counting (forgotten slot c); outs = out.UsageAsk slot ∷ [] }) (still (Counting c)) (λ t. (tt, (tt, tt))) (λ t. (tt, tt))
+    forgetting_fine slot p k = (k, tt)
+
+    mapped_fine : (groups : GroupMapState) (p : Phase) → KnownIn p → KnownIn (mapped groups p)
+    mapped_fine groups (Listing l) k = k
+    mapped_fine groups p k = k
+
+    deleted_in_fine : (server : ℕ) (name : SegName) (p : Phase) → KnownIn p → Fine (deleted_in server name p)
+    deleted_in_fine server name (Deleting j segment servers) k = deleted_fine server name j segment servers k
+    deleted_in_fine server name p k = (k, tt)
+
+    awaits_fine : (p : Phase) → KnownIn p → Says (awaits p)
+    awaits_fine Greeting k = (tt, tt)
+    awaits_fine (Listing l) k = says_lists l.awaited
+    awaits_fine (Counting c) k = says_usage_asks (awaited_slots c.usages)
+    awaits_fine (Reading j segment) k = (tt, tt)
+    awaits_fine (Checking j segment checks) k = says_questions segment checks
+    awaits_fine (Deleting j segment servers) k = says_deletes segment.name servers k
+    awaits_fine Over k = tt
+
+  abbrev FineDone : List In → Done → Type 0
+  FineDone history d = KnownIn history d.state.phase × Says history d.outs
+
+  -- where an input changes no stage, the segment is as far as before
+  stays_known : (history : List In) (i : In) (p : Phase) → ((b : BlockId) (x : Stage) → stage_with (state_after start history) i b x ≡ x) → KnownIn history p → KnownIn (i ∷ history) p
+  stays_known history i (Checking j segment checks) stays k = checked_later history i segment.name checks stays k
+  stays_known history i (Deleting j segment servers) stays k = emptied_later history i segment.name k
+  stays_known history i p stays k = tt
+
+  -- ---- answers
+
+  -- a read of the segment that is awaited
+  read_fine : (history : List In) (read : Option Segment) (p : Phase) → (state_after start history).phase ≡ p → KnownIn history p → Fine (input.Read read ∷ history) (read_in read p)
+  read_fine history None (Reading j segment) e k = next_fine (input.Read None ∷ history) j.left j
+  read_fine history (Some read) (Reading j segment) e k =
+      by_test (Fine (input.Read (Some read) ∷ history)) (same_name read.name segment.name) (checking j segment (checks_from 0 read.items)) (still (Reading j segment))
+      (λ t. checking_fine (input.Read (Some read) ∷ history) j segment (checks_from 0 read.items) (checked_first history read segment.name (subst (reads segment.name) (sym e) refl) (tells_apart seg_cmp_exact read.name segment.name t)))
+      (λ t. (tt, tt))
+  read_fine history read (Checking j segment checks) e k = (checked_later history (input.Read read) segment.name checks (λ b x. refl) k, tt)
+  read_fine history read (Deleting j segment servers) e k = (emptied_later history (input.Read read) segment.name k, tt)
+  read_fine history read p e k = (tt, tt)
+
+  -- an answer that changes the checks as it changes the stages
+  answered_fine : (history : List In) (i : In) (answer : Check → Check) (p : Phase) → ((c : Check) → (answer c).block ≡ c.block)
+      → ((c : Check) → stage_of (answer c).fate ≡ stage_with (state_after start history) i c.block (stage_of c.fate)) → KnownIn history p → Fine (i ∷ history) (answered_in answer p)
+  answered_fine history i answer (Checking j segment checks) same moves k = looked_fine (i ∷ history) j segment (any_asked checks) (map answer checks) (checked_with history i segment.name checks answer same moves k)
+  answered_fine history i answer (Deleting j segment servers) same moves k = (emptied_later history i segment.name k, tt)
+  answered_fine history i answer p same moves k = (tt, tt)
+
+  live_block : (block : BlockId) (entry : Entry) (c : Check) → (live_at block entry c).block ≡ c.block
+  live_block block entry c = by_test (λ (d : Check). d.block ≡ c.block) (same_block c.block block) (record c { fate = after_live entry c.fate }) c (λ t. refl) (λ t. refl)
+
+  dead_block : (block : BlockId) (c : Check) → (dead_at block c).block ≡ c.block
+  dead_block block c = by_test (λ (d : Check). d.block ≡ c.block) (same_block c.block block) (record c { fate = after_dead c.fate }) c (λ t. refl) (λ t. refl)
+
+  live_stage : (block : BlockId) (entry : Entry) (c : Check) (x : Bool) → same_block c.block block ≡ x → stage_of (cond x (record c { fate = after_live entry c.fate }) c).fate ≡ cond x (stage_at_live (stage_of c.fate)) (stage_of c.fate)
+  live_stage block entry c true e = stage-after_live entry c.fate
+  live_stage block entry c false e = refl
+
+  dead_stage : (block : BlockId) (c : Check) (x : Bool) → same_block c.block block ≡ x → stage_of (cond x (record c { fate = after_dead c.fate }) c).fate ≡ cond x (stage_at_dead (stage_of c.fate)) (stage_of c.fate)
+  dead_stage block c true e = stage-after_dead c.fate
+  dead_stage block c false e = refl
+
+  live_fine : (history : List In) (block : BlockId) (epoch : ℕ) (entry : Entry) → KnownIn history (state_after start history).phase → FineDone (input.Live block epoch entry ∷ history) (on_live (state_after start history) block epoch entry)
+  unfolding on_live
+  live_fine history block epoch entry k =
+      let s : CleaningState = state_after start history in
+      by_test (FineDone (input.Live block epoch entry ∷ history)) (is_heard s.promised block epoch && may_move entry) (turned s (answered_in (live_at block entry) s.phase)) (still s)
+      (λ t. answered_fine history (input.Live block epoch entry) (live_at block entry) s.phase (live_block block entry)
+      (λ c. live_stage block entry c (same_block c.block block) refl ∙ ap (λ y. cond y (cond (same_block c.block block) (stage_at_live (stage_of c.fate)) (stage_of c.fate)) (stage_of c.fate)) (sym t))
+      k)
+      (λ t. (stays_known history (input.Live block epoch entry) s.phase (λ b x. ap (λ y. cond y (cond (same_block b block) (stage_at_live x) x) x) t) k, tt))
+
+  dead_fine : (history : List In) (block : BlockId) (epoch : ℕ) → KnownIn history (state_after start history).phase → FineDone (input.Dead block epoch ∷ history) (on_dead (state_after start history) block epoch)
+  unfolding on_dead
+  dead_fine history block epoch k =
+      let s : CleaningState = state_after start history in
+      by_test (FineDone (input.Dead block epoch ∷ history)) (is_heard s.promised block epoch) (turned s (answered_in (dead_at block) s.phase)) (still s)
+      (λ t. answered_fine history (input.Dead block epoch) (dead_at block) s.phase (dead_block block)
+      (λ c. dead_stage block c (same_block c.block block) refl ∙ ap (λ y. cond y (cond (same_block c.block block) (stage_at_dead (stage_of c.fate)) (stage_of c.fate)) (stage_of c.fate)) (sym t))
+      k)
+      (λ t. (stays_known history (input.Dead block epoch) s.phase (λ b x. ap (λ y. cond y (cond (same_block b block) (stage_at_dead x) x) x) t) k, tt))
+
+  moved_fine : (history : List In) (p : Phase) → (state_after start history).phase ≡ p → KnownIn history p → Fine (input.Moved ∷ history) (moved_in p)
+  moved_fine history (Checking j segment checks) e k =
+      by_test (Fine (input.Moved ∷ history)) (is_moving checks) (record { state = Checking j segment (map moved_at checks); outs = questions segment (map moved_at checks) }) (still (Checking j segment checks))
+      (λ t. (checked_with history input.Moved segment.name checks moved_at (λ c. refl) (λ c. stage-after_moved c.fate ∙ ap (λ y. cond y (stage_at_moved (stage_of c.fate)) (stage_of c.fate)) (sym (ap awaits_moved e ∙ t))) k, says_questions (input.Moved ∷ history) segment (map moved_at checks)))
+      (λ t. (checked_later history input.Moved segment.name checks (λ b x. ap (λ y. cond y (stage_at_moved x) x) (ap awaits_moved e ∙ t)) k, tt))
+  moved_fine history (Deleting j segment servers) e k = (emptied_later history input.Moved segment.name k, tt)
+  moved_fine history p e k = (tt, tt)
+
+  -- ---- all inputs
+
+  welcome_fine : (h : List In) (s : CleaningState) (slots : List SlotNews) (groups : GroupMapState) → KnownIn h s.phase → FineDone h (on_welcome s slots groups)
+  unfolding on_welcome
+  welcome_fine h s slots groups k =
+      by_test (FineDone h) (is_greeting s.phase && (length slots == 8)) (welcomed s slots groups) (still s) (λ t. (tt, says_lists h (begun slots groups).awaited)) (λ t. (k, tt))
+
+  promise_fine : (h : List In) (s : CleaningState) (slot epoch : ℕ) → KnownIn h s.phase → FineDone h (on_promise s slot epoch)
+  unfolding on_promise
+  promise_fine h s slot epoch k =
+      by_test (FineDone h) (is_above s.promised slot epoch) (turned (record s { promised = promised_with s.promised slot epoch }) (forgetting slot s.phase)) (still s) (λ t. forgetting_fine h slot s.phase k) (λ t. (k, tt))
+
+  usage_fine : (h : List In) (s : CleaningState) (slot epoch : ℕ) (counts : _) → KnownIn h s.phase → FineDone h (on_usage s slot epoch counts)
+  unfolding on_usage
+  usage_fine h s slot epoch counts k =
+      by_test (FineDone h) (is_promised s.promised slot epoch) (turned s (counted_in s.count slot counts s.phase)) (still s) (λ t. counted_in_fine h s.count slot counts s.phase k) (λ t. (k, tt))
+
+  abbrev now : List In → CleaningState
+  now history = state_after start history
+
+  turn_fine : (history : List In) (i : In) → KnownIn history (now history).phase → FineDone (i ∷ history) (transition (now history) i)
+  turn_fine history (input.Welcome slots groups) k = welcome_fine (input.Welcome slots groups ∷ history) (now history) slots groups (stays_known history (input.Welcome slots groups) (now history).phase (λ b x. refl) k)
+  turn_fine history (input.Promise slot epoch) k = promise_fine (input.Promise slot epoch ∷ history) (now history) slot epoch (stays_known history (input.Promise slot epoch) (now history).phase (λ b x. refl) k)
+  turn_fine history (input.Maps groups) k = (mapped_fine (input.Maps groups ∷ history) groups (now history).phase (stays_known history (input.Maps groups) (now history).phase (λ b x. refl) k), tt)
+  turn_fine history (input.Listed server held) k = listed_in_fine (input.Listed server held ∷ history) server held (now history).phase (stays_known history (input.Listed server held) (now history).phase (λ b x. refl) k)
+  turn_fine history (input.Usage slot epoch counts) k = usage_fine (input.Usage slot epoch counts ∷ history) (now history) slot epoch counts (stays_known history (input.Usage slot epoch counts) (now history).phase (λ b x. refl) k)
+  turn_fine history (input.Read read) k = read_fine history read (now history).phase refl k
+  turn_fine history (input.Live block epoch entry) k = live_fine history block epoch entry k
+  turn_fine history (input.Dead block epoch) k = dead_fine history block epoch k
+  turn_fine history input.Moved k = moved_fine history (now history).phase refl k
+  turn_fine history (input.Deleted server name) k = deleted_in_fine (input.Deleted server name ∷ history) server name (now history).phase (stays_known history (input.Deleted server name) (now history).phase (λ b x. refl) k)
+  turn_fine history input.Tick k = (stays_known history input.Tick (now history).phase (λ b x. refl) k, awaits_fine (input.Tick ∷ history) (now history).phase (stays_known history input.Tick (now history).phase (λ b x. refl) k))
+
+  known_always : KnownIn [] start.phase → (history : List In) → KnownIn history (now history).phase
+  known_always k [] = k
+  known_always k (i ∷ history) = (turn_fine history i (known_always k history)).0
+
+pub all_deletes_emptied : (count : ℕ) (history : List In) (i : In) → AllByRecursion (DeletesEmptied (started count) (i ∷ history)) (transition (state_after (started count) history) i).outs
+all_deletes_emptied count history i = (turn_fine (started count) history i (known_always (started count) tt history)).1

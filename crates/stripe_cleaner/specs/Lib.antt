@@ -1,0 +1,10 @@
+pub mod Candidates
+pub mod Checks
+pub mod CleaningState
+pub mod Counting
+pub mod Histories
+pub mod Job
+pub mod JobState
+pub mod Listing
+pub mod Promises
+pub mod Transition

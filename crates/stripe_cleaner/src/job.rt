@@ -1,0 +1,307 @@
+//! The emptying of the chosen segments, one after the other.
+ghost use Rattle.std.specs.Prelude.{◌≡◌, ◌++◌, ◌<◌, IfOk, OnOk};
+ghost use Rattle.xfs_base.specs.Limits.{u32_end};
+ghost use Rattle.stripe_cleaner.specs.Checks.{live_at, dead_at};
+ghost use Rattle.stripe_cleaner.specs.Job.{next, servers_in, servers_of, deletes, deleting, counted, left_to_delete, same_name, on_deleted, checking, on_read, looked_at, on_answer, is_moving, on_moved};
+
+use crate::checks::{
+    Check, add_questions, all_dead, all_dead_at, all_live_at, all_moved, any_asked, any_live,
+    checks_of, moves_of,
+};
+use crate::listing::{is_among, without};
+use crate::output::Out;
+use crate::phase::Phase;
+use group_map::{Group, GroupMap};
+use segment_format::Segment;
+use std::alloc::Global;
+use std::collections::VecDeque;
+use std::marker::Model;
+use xfs_base::{BlockId, Crosses, Entry, List, Mem, SegName, SegRef};
+
+/// What a job keeps while it empties segments. Contracts see it as a record.
+#[derive(Drop)]
+pub struct Job {
+    groups: GroupMap,
+    left: VecDeque<SegRef>,
+    deleted: u32,
+}
+
+impl Model for Job {
+    ghost use Rattle.stripe_cleaner.specs.JobState.{JobState};
+
+    ghost Value = { JobState };
+
+    ghost view = { λ j. record { groups = j.groups; left = j.left.items; deleted = j.deleted } };
+}
+
+impl Crosses for Job {}
+
+impl Job {
+    /// The same with these groups.
+    pub(crate) fn with_groups(mut self, groups: GroupMap) -> Job
+        ensures { result ≡ record self { groups = groups } }
+    {
+        self.groups = groups;
+        self
+    }
+
+    /// These segments are to be emptied.
+    pub(crate) fn begin(groups: GroupMap, left: VecDeque<SegRef>) -> Job
+        ensures { result ≡ record { groups = groups; left = left.items; deleted = 0 } }
+    {
+        Job {
+            groups,
+            left,
+            deleted: 0,
+        }
+    }
+
+    /// The next segment is read; where none is left, the job is over.
+    pub(crate) fn next(mut self, outs: &mut List<Out>) -> Mem<Phase>
+        ensures phase { IfOk result (λ phase. phase ≡ (next self).state) }
+        ensures outs { OnOk result (outs.new ≡ outs.old ++ (next self).outs) }
+    {
+        match self.left.pop_front() {
+            None => {
+                outs.push(Out::Finished(self.deleted))?;
+                Ok(Phase::Over)
+            }
+            Some(segment) => {
+                outs.push(Out::Fetch(segment))?;
+                Ok(Phase::Reading { job: self, segment })
+            }
+        }
+    }
+
+    /// The present segment was read; one that is lost is passed over.
+    pub(crate) fn on_read(
+        self,
+        alloc: Global,
+        outs: &mut List<Out>,
+        segment: SegRef,
+        read: Option<Segment>,
+    ) -> Mem<Phase>
+        ensures phase { IfOk result (λ phase. phase ≡ (on_read read self segment).state) }
+        ensures outs { OnOk result (outs.new ≡ outs.old ++ (on_read read self segment).outs) }
+    {
+        let Some(read) = read else {
+            return self.next(outs);
+        };
+        if !is_name(read.name, segment.name) {
+            return Ok(Phase::Reading { job: self, segment });
+        }
+        let checks = checks_of(alloc, read.items)?;
+        self.check(alloc, outs, segment, checks)
+    }
+
+    // Each of these is asked for; without any the segment is deleted.
+    #[tactic(auto, unfolding(crate::specs::Job::checking))]
+    fn check(
+        self,
+        alloc: Global,
+        outs: &mut List<Out>,
+        segment: SegRef,
+        checks: List<Check>,
+    ) -> Mem<Phase>
+        ensures phase { IfOk result (λ phase. phase ≡ (checking self segment checks).state) }
+        ensures outs { OnOk result (outs.new ≡ outs.old ++ (checking self segment checks).outs) }
+    {
+        if all_dead(checks.as_slice()) {
+            return self.delete(alloc, outs, segment);
+        }
+        add_questions(outs, segment, checks.as_slice())?;
+        Ok(Phase::Checking {
+            job: self,
+            segment,
+            checks,
+        })
+    }
+
+    /// A block of the present segment is live.
+    pub(crate) fn on_live(
+        self,
+        alloc: Global,
+        outs: &mut List<Out>,
+        segment: SegRef,
+        checks: List<Check>,
+        block: BlockId,
+        entry: Entry,
+    ) -> Mem<Phase>
+        requires { entry.hop < u32_end }
+        ensures phase { IfOk result (λ phase. phase ≡ (on_answer (live_at block entry) self segment checks).state) }
+        ensures outs { OnOk result (outs.new ≡ outs.old ++ (on_answer (live_at block entry) self segment checks).outs) }
+    {
+        let was_asked = any_asked(checks.as_slice());
+        let checks = all_live_at(alloc, checks, block, entry)?;
+        self.look(alloc, outs, segment, was_asked, checks)
+    }
+
+    /// A block of the present segment is dead.
+    pub(crate) fn on_dead(
+        self,
+        alloc: Global,
+        outs: &mut List<Out>,
+        segment: SegRef,
+        checks: List<Check>,
+        block: BlockId,
+    ) -> Mem<Phase>
+        ensures phase { IfOk result (λ phase. phase ≡ (on_answer (dead_at block) self segment checks).state) }
+        ensures outs { OnOk result (outs.new ≡ outs.old ++ (on_answer (dead_at block) self segment checks).outs) }
+    {
+        let was_asked = any_asked(checks.as_slice());
+        let checks = all_dead_at(alloc, checks, block)?;
+        self.look(alloc, outs, segment, was_asked, checks)
+    }
+
+    // Once the last is answered, what is live is moved; a segment of which each block is dead is deleted.
+    #[tactic(auto, unfolding(crate::specs::Job::looked_at))]
+    fn look(
+        self,
+        alloc: Global,
+        outs: &mut List<Out>,
+        segment: SegRef,
+        was_asked: bool,
+        checks: List<Check>,
+    ) -> Mem<Phase>
+        ensures phase { IfOk result (λ phase. phase ≡ (looked_at self segment was_asked checks).state) }
+        ensures outs { OnOk result (outs.new ≡ outs.old ++ (looked_at self segment was_asked checks).outs) }
+    {
+        if all_dead(checks.as_slice()) {
+            return self.delete(alloc, outs, segment);
+        }
+        if was_asked && !any_asked(checks.as_slice()) {
+            outs.push(Out::Move(moves_of(alloc, checks.as_slice())?))?;
+        }
+        Ok(Phase::Checking {
+            job: self,
+            segment,
+            checks,
+        })
+    }
+
+    /// What was live in the present segment is moved, and is asked for again.
+    pub(crate) fn on_moved(
+        self,
+        alloc: Global,
+        outs: &mut List<Out>,
+        segment: SegRef,
+        checks: List<Check>,
+    ) -> Mem<Phase>
+        ensures phase { IfOk result (λ phase. phase ≡ (on_moved self segment checks).state) }
+        ensures outs { OnOk result (outs.new ≡ outs.old ++ (on_moved self segment checks).outs) }
+    {
+        if !is_moving(checks.as_slice()) {
+            return Ok(Phase::Checking {
+                job: self,
+                segment,
+                checks,
+            });
+        }
+        let checks = all_moved(alloc, checks)?;
+        add_questions(outs, segment, checks.as_slice())?;
+        Ok(Phase::Checking {
+            job: self,
+            segment,
+            checks,
+        })
+    }
+
+    // Each of its members' servers is to delete the segment.
+    fn delete(self, alloc: Global, outs: &mut List<Out>, segment: SegRef) -> Mem<Phase>
+        ensures phase { IfOk result (λ phase. phase ≡ (deleting self segment).state) }
+        ensures outs { OnOk result (outs.new ≡ outs.old ++ (deleting self segment).outs) }
+    {
+        let servers = servers_of(alloc, &self.groups, segment)?;
+        add_deletes(outs, segment.name, servers.as_slice())?;
+        Ok(Phase::Deleting {
+            job: self,
+            segment,
+            servers,
+        })
+    }
+
+    /// A server has deleted the present segment. Where all have, it is counted, and the next is read.
+    pub(crate) fn on_deleted(
+        self,
+        alloc: Global,
+        outs: &mut List<Out>,
+        segment: SegRef,
+        servers: List<u8>,
+        server: u8,
+        name: SegName,
+    ) -> Mem<Phase>
+        ensures phase { IfOk result (λ phase. phase ≡ (on_deleted server name self segment servers).state) }
+        ensures outs { OnOk result (outs.new ≡ outs.old ++ (on_deleted server name self segment servers).outs) }
+    {
+        if !is_name(name, segment.name) || !is_among(servers.as_slice(), server) {
+            return Ok(Phase::Deleting {
+                job: self,
+                segment,
+                servers,
+            });
+        }
+        let servers = without(alloc, servers.as_slice(), server)?;
+        self.go_on(outs, segment, servers)
+    }
+
+    fn go_on(mut self, outs: &mut List<Out>, segment: SegRef, servers: List<u8>) -> Mem<Phase>
+        ensures phase { IfOk result (λ phase. phase ≡ (left_to_delete self segment servers).state) }
+        ensures outs { OnOk result (outs.new ≡ outs.old ++ (left_to_delete self segment servers).outs) }
+    {
+        if !servers.is_empty() {
+            return Ok(Phase::Deleting {
+                job: self,
+                segment,
+                servers,
+            });
+        }
+        self.deleted = self.deleted.saturating_add(1);
+        self.next(outs)
+    }
+}
+
+// Whether a move is awaited.
+fn is_moving(checks: &[Check]) -> bool
+    ensures { result ≡ is_moving checks.now }
+{
+    !any_asked(checks) && any_live(checks)
+}
+
+fn is_name(a: SegName, b: SegName) -> bool
+    ensures { result ≡ same_name a b }
+{
+    a.order(b).is_eq()
+}
+
+// The servers of the segment's members, in order.
+fn servers_of(alloc: Global, groups: &GroupMap, segment: SegRef) -> Mem<List<u8>>
+    ensures { IfOk result (λ servers. servers ≡ servers_of groups.now segment) }
+{
+    match groups.lookup(segment.group) {
+        Ok(group) => servers_in(alloc, group),
+        Err(_) => Ok(List::new(alloc)),
+    }
+}
+
+fn servers_in(alloc: Global, group: &Group) -> Mem<List<u8>>
+    ensures { IfOk result (λ servers. servers ≡ servers_in (Some group.now)) }
+{
+    let mut servers = List::new(alloc);
+    for member in group.members.as_slice() {
+        servers.push(member.server)?;
+    }
+    Ok(servers)
+}
+
+/// Has these servers delete the segment.
+pub(crate) fn add_deletes(outs: &mut List<Out>, name: SegName, servers: &[u8]) -> Mem<()>
+    ensures { OnOk result (outs.new ≡ outs.old ++ deletes name servers.now) }
+{
+    for server in servers {
+        outs.push(Out::Delete {
+            server: *server,
+            name,
+        })?;
+    }
+    Ok(())
+}
