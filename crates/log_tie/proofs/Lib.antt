@@ -10,5 +10,6 @@ pub mod ShelfSteps
 pub mod Listings
 pub mod Picks
 pub mod Reading
+pub mod Rounds
 pub mod Scans
 pub mod Openings

@@ -13,6 +13,7 @@ use Rattle.segment_format.specs.declared.segment.Segment.{Segment}
 use Rattle.segment_format.specs.ReadingItems.{answer_of}
 use Rattle.group_map.specs.declared.group.Group.{Group}
 use Rattle.group_map.specs.GroupMapState.{GroupMapState}
+use Rattle.group_map.specs.Groups.{group_of}
 use Rattle.stripe_code.specs.declared.reading.Next.{Next}
 use Rattle.stripe_code.specs.declared.reading.Next.TheVariants as next
 use Rattle.stripe_code.specs.declared.reading.Stage as rounds
@@ -39,11 +40,13 @@ use Rattle.log_protocol.specs.LogLaws.{Reached}
 use Rattle.log_protocol.specs.State.{State}
 use Rattle.log_protocol.specs.Tables.{In}
 use Rattle.log_protocol.proofs.Induction.{always}
-use Rattle.log_tie.specs.Setting.{Setting, name_of, point}
+use Rattle.log_tie.specs.Setting.{Setting, Stripe, name_of, point}
 use Rattle.log_tie.specs.Seen.{Page, Book, Fixed}
 use Rattle.log_tie.specs.Openings.{Chained, AllFrom}
 use Rattle.log_tie.specs.Scans.{Asked, asked_by, Gathering, LooksFor, ReadingShown, StageShown, ScanShown, Gives, Scanned}
+use Rattle.log_tie.specs.Rounds.{IsSpelled, IsGrouped, RoundShown}
 use Rattle.log_tie.proofs.Names.{coded, point_some}
+use Rattle.log_tie.proofs.Rounds.{ToldSeen, answered_shown, new_shown}
 
 -- ---- a step of the reading
 
@@ -56,7 +59,7 @@ AsksLater ask drawn_ask (next.Read s) = Unit {0}
 AsksLater ask drawn_ask next.Lost = Unit {0}
 
 -- it looks for the same segment, and reads that
-pub record StepFits (r : ReadingState) (ask : ℕ) (step : Step) : Type 0 where
+record StepFits (r : ReadingState) (ask : ℕ) (step : Step) : Type 0 where
   pub same : step.state.target ≡ r.target
   pub name : ReadsName r.target.seg.name step.next
   pub later : AsksLater ask step.state.ask step.next
@@ -76,7 +79,7 @@ answered_later r groups mine ask server t =
     by_test (λ (step : Step). AsksLater mine step.state.ask step.next) (reading.counts r ask server t) (reading.judged (record r { round = taken r.round server t }) groups (state_of (taken r.round server t))) (record { state = r; next = next.Wait })
     (λ e. judged_later (record r { round = taken r.round server t }) groups mine (state_of (taken r.round server t))) (λ e. tt)
 
-pub answered_fits : (r : ReadingState) (groups : GroupMapState) (mine ask server : ℕ) (t : Told) → StepFits r mine (reading.on_answer r groups ask server t)
+answered_fits : (r : ReadingState) (groups : GroupMapState) (mine ask server : ℕ) (t : Told) → StepFits r mine (reading.on_answer r groups ask server t)
 answered_fits r groups mine ask server t = let k = answered_keeps r groups ask server t in record { same = k.same; name = k.name; later = answered_later r groups mine ask server t }
 
 confirmed_later : (r : ReadingState) (ask : ℕ) (stage : rounds.Stage) → AsksLater ask (reading.goes_on r (ask + 1) stage).state.ask (reading.goes_on r (ask + 1) stage).next
@@ -85,7 +88,7 @@ confirmed_later r ask Between = omega arith
 confirmed_later r ask Doubted = tt
 confirmed_later r ask done.Over = tt
 
-pub confirmed_fits : (r : ReadingState) (ask : ℕ) → StepFits r ask (reading.on_confirmed r (ask + 1))
+confirmed_fits : (r : ReadingState) (ask : ℕ) → StepFits r ask (reading.on_confirmed r (ask + 1))
 unfolding reading.on_confirmed
 confirmed_fits r ask = let k = confirmed_keeps r (ask + 1) in record { same = k.same; name = k.name; later = confirmed_later r ask r.stage }
 
@@ -96,7 +99,7 @@ confirmed_none r ask Between t e = cc
 confirmed_none r ask Doubted t e = cc
 confirmed_none r ask done.Over t e = cc
 
-pub confirmed_reads_none : (r : ReadingState) (ask : ℕ) (t : Segment) → (reading.on_confirmed r ask).next ≡ next.Read t → ⊥
+confirmed_reads_none : (r : ReadingState) (ask : ℕ) (t : Segment) → (reading.on_confirmed r ask).next ≡ next.Read t → ⊥
 unfolding reading.on_confirmed
 confirmed_reads_none r ask t e = confirmed_none r ask r.stage t e
 
@@ -168,7 +171,7 @@ module _ (g : Setting) (v : State) (book : ℕ → Segment) (hellos : List Asked
 
   -- a reading is seen alike after a question
   asked_reading : (o : Opening) (ask : ℕ) (b : Backward) → ReadingShown g v book o b → ReadingShown g v book (record o { ask = ask }) b
-  asked_reading o ask b h = record { phase = h.phase; mapped = record { map = h.mapped.map; is = h.mapped.is; whole = h.mapped.whole; known = h.mapped.known }; base = h.base; opening = h.opening; low = h.low; past = h.past; from = h.from; chained = h.chained; seq = h.seq }
+  asked_reading o ask b h = record { phase = h.phase; mapped = record { map = h.mapped.map; is = h.mapped.is; whole = h.mapped.whole; known = h.mapped.known }; base = h.base; opening = h.opening; low = h.low; past = h.past; from = h.from; chained = h.chained; seq = h.seq; grouped = h.grouped }
 
   -- all lists are in: the registry is asked
   pub asks_new : (o : Opening) (lists : List Listing) (bound : ℕ) → Framed o → Gathering g v book o bound lists → ((u : ℕ) → 0 < u → u < suc g.servers → has_list u lists ≡ true) → bound ≤ v.low → v.begin_low ≤ bound → Sees (asks_anew o (Asks lists))
@@ -206,20 +209,29 @@ module _ (g : Setting) (v : State) (book : ℕ → Segment) (hellos : List Asked
     );
   }
 
-  begins_shown : (o : Opening) (b : Backward) (group : Option Group) → Framed o → ReadingShown g v book o b → is_bottom o.low b.next ≡ false → Sees (begins_in o b group)
-  begins_shown o b None f h more = sees_anew o (Reads b None) f (asked_reading o (o.ask + 1) b h, more, tt)
-  begins_shown o b (Some group) f h more =
-      sees_fetches (drawn o) b (reading.begun (target_at o.log b.next) group (o.ask + 1)) (framed_drawn o (o.ask + 1) (omega arith) f) (asked_reading o (o.ask + 1) b h, more, ap (λ (l : LogId). name_at l b.next) f.log)
+  begins_shown : (o : Opening) (b : Backward) (group : Option Group) → known_group o.groups b.next.group ≡ group → Framed o → ReadingShown g v book o b → is_bottom o.low b.next ≡ false → Sees (begins_in o b group)
+  begins_shown o b None of f h more = sees_anew o (Reads b None) f (asked_reading o (o.ask + 1) b h, more, tt)
+  begins_shown o b (Some group) of f h more =
+      let known : group_of h.mapped.map b.next.group ≡ Some group = ap (λ (gs : Option GroupMapState). known_group gs b.next.group) (sym h.mapped.is) ∙ of in
+      let named = h.mapped.whole.named b.next.group group known in
+      sees_fetches (drawn o) b (reading.begun (target_at o.log b.next) group (o.ask + 1)) (framed_drawn o (o.ask + 1) (omega arith) f) (
+        asked_reading o (o.ask + 1) b h,
+        more,
+        (
+          ap (λ (l : LogId). name_at l b.next) f.log,
+          new_shown g book v.booked b.next (length group.members) group.parity (reading.servers_of group) (h.mapped.whole.cut b.next.group group known) (ap (λ (z : Stripe). length z.members) (sym named)) (ap (λ (z : Stripe). z.parity) (sym named)),
+        ),
+      )
 
   pub round_shown : (o : Opening) (b : Backward) → Framed o → ReadingShown g v book o b → is_bottom o.low b.next ≡ false → Sees (begins_round o b)
   unfolding begins_round
-  round_shown o b f h more = begins_shown o b (known_group o.groups b.next.group) f h more
+  round_shown o b f h more = begins_shown o b (known_group o.groups b.next.group) refl f h more
 
   pub follows_shown : (o : Opening) (b : Backward) → Framed o → ReadingShown g v book o b → Sees (follows o b)
   unfolding follows
   follows_shown o b f h = by_test Sees (is_bottom o.low b.next) (goes o Over (chain_of b ∷ [])) (begins_round o b) (λ t. chain_told o b f h) (λ t. round_shown o b f h t)
 
-  module _ (fixed : Fixed g v) (paged : Book g v book) (reached : Reached v) where
+  module _ (fixed : Fixed g v) (paged : Book g v book) (reached : Reached v) (spelled : IsSpelled g book v.booked) where
     -- one more segment is read: it is the booked one that the end names
     segment_read : (o : Opening) (b : Backward) (s : Segment) (y : ℕ) → ReadingShown g v book o b → is_bottom o.low b.next ≡ false → s.name ≡ name_at g.log b.next → v.booked y ≡ 1 → s ≡ book y → ReadingShown g v book o (with_segment b s)
     segment_read o b s y h more named booked is = record {
@@ -232,6 +244,7 @@ module _ (g : Setting) (v : State) (book : ℕ → Segment) (hellos : List Asked
       from = subst (AllFrom v.pick_low) (sym turned) (above, h.from);
       chained = subst (Chained g v book b.start.seq (point g (s.name.seq - 1) s.prior.pass)) (sym turned) (y, booked, is, after, there, subst (λ z. Chained g v book b.start.seq z (reverse b.chain)) at_y h.chained);
       seq = (let a = h.seq in let c = seq in let d = some_seq in let e : length (reverse (b.chain ++ s ∷ [])) ≡ suc (length (reverse b.chain)) = ap length turned in omega arith);
+      grouped = λ z of named. (spelled.grouped y z booked of (named ∙ ap (λ (t : Segment). name_at g.log (end_below t)) is) ∙ ap (λ (t : Segment). t.prior.group) (sym is));
     }
       where
         turned : reverse (b.chain ++ s ∷ []) ≡ s ∷ reverse b.chain
@@ -270,17 +283,40 @@ module _ (g : Setting) (v : State) (book : ℕ → Segment) (hellos : List Asked
             not_below : (n m : ℕ) → nat_lt n m ≡ false → m ≤ n
             not_below n m e = grind (arith, nat_tests)
 
-    goes_shown : (o : Opening) (b : Backward) (r : ReadingState) (n : Next) → Framed o → ReadingShown g v book o b → is_bottom o.low b.next ≡ false → r.target.seg.name ≡ name_at g.log b.next → ReadsName r.target.seg.name n → AsksLater o.ask r.ask n
+    goes_shown : (o : Opening) (b : Backward) (r : ReadingState) (n : Next) → Framed o → ReadingShown g v book o b → is_bottom o.low b.next ≡ false → r.target.seg.name ≡ name_at g.log b.next → RoundShown g book v.booked b.next r.round → ReadsName r.target.seg.name n → AsksLater o.ask r.ask n
         → ((t : Segment) → n ≡ next.Read t → (y : ℕ) × (v.booked y ≡ 1) × (t ≡ book y)) → Sees (goes_on o b r n)
     unfolding goes_on
-    goes_shown o b r next.Wait f h more looks name later owed = sees_still o (Reads b (Some r)) f (h, more, looks)
-    goes_shown o b r next.Ask f h more looks name later owed = sees_fetches (record o { ask = r.ask }) b r (framed_drawn o r.ask later f) (asked_reading o r.ask b h, more, looks)
-    goes_shown o b r next.Again f h more looks name later owed = sees_anew o (Reads b (Some r)) f (asked_reading o (o.ask + 1) b h, more, looks)
-    goes_shown o b r (next.Read s) f h more looks name later owed = let y = owed s refl in follows_shown o (with_segment b s) f (segment_read o b s y.0 h more (name ∙ looks) y.1 y.2)
-    goes_shown o b r next.Lost f h more looks name later owed = sees_quiet o Over (Lost r.target.seg.name ∷ []) f refl (tt, tt) tt
+    goes_shown o b r next.Wait f h more looks shown name later owed = sees_still o (Reads b (Some r)) f (h, more, (looks, shown))
+    goes_shown o b r next.Ask f h more looks shown name later owed = sees_fetches (record o { ask = r.ask }) b r (framed_drawn o r.ask later f) (asked_reading o r.ask b h, more, (looks, shown))
+    goes_shown o b r next.Again f h more looks shown name later owed = sees_anew o (Reads b (Some r)) f (asked_reading o (o.ask + 1) b h, more, (looks, shown))
+    goes_shown o b r (next.Read s) f h more looks shown name later owed = let y = owed s refl in follows_shown o (with_segment b s) f (segment_read o b s y.0 h more (name ∙ looks) y.1 y.2)
+    goes_shown o b r next.Lost f h more looks shown name later owed = sees_quiet o Over (Lost r.target.seg.name ∷ []) f refl (tt, tt) tt
 
     -- a step of the reading, of which what is read is booked
-    pub step_shown : (o : Opening) (b : Backward) (r : ReadingState) (step : Step) → StepFits r o.ask step → Framed o → ReadingShown g v book o b → is_bottom o.low b.next ≡ false → r.target.seg.name ≡ name_at g.log b.next
+    step_shown : (o : Opening) (b : Backward) (r : ReadingState) (step : Step) → StepFits r o.ask step → Framed o → ReadingShown g v book o b → is_bottom o.low b.next ≡ false → r.target.seg.name ≡ name_at g.log b.next → RoundShown g book v.booked b.next step.state.round
         → ((t : Segment) → step.next ≡ next.Read t → (y : ℕ) × (v.booked y ≡ 1) × (t ≡ book y)) → Sees (goes_on o b step.state step.next)
-    step_shown o b r step fits f h more looks owed =
-        goes_shown o b step.state step.next f h more (ap (λ (t : Target). t.seg.name) fits.same ∙ looks) (subst (λ (t : Target). ReadsName t.seg.name step.next) (sym fits.same) fits.name) fits.later owed
+    step_shown o b r step fits f h more looks shown owed =
+        goes_shown o b step.state step.next f h more (ap (λ (t : Target). t.seg.name) fits.same ∙ looks) shown (subst (λ (t : Target). ReadsName t.seg.name step.next) (sym fits.same) fits.name) fits.later owed
+
+    -- a server answers
+    pub answer_seen : (o : Opening) (b : Backward) (r : ReadingState) (groups : GroupMapState) (ask server : ℕ) (t : Told) → Framed o → ReadingShown g v book o b → is_bottom o.low b.next ≡ false → LooksFor g book v.booked b.next (Some r) → ToldSeen g v book paged spelled b.next t
+        → Sees (goes_on o b (reading.on_answer r groups ask server t).state (reading.on_answer r groups ask server t).next)
+    answer_seen o b r groups ask server t f h more looks seen =
+        let a = answered_shown g v book paged spelled b.next r groups ask server t looks.1 h.grouped looks.0 seen in
+        step_shown o b r (reading.on_answer r groups ask server t) (answered_fits r groups o.ask ask server t) f h more looks.0 a.shown a.reads
+
+    confirmed_round : (e : End) (r : ReadingState) (ask : ℕ) (stage : rounds.Stage) → RoundShown g book v.booked e r.round → RoundShown g book v.booked e (reading.goes_on r ask stage).state.round
+    confirmed_round e r ask Asking shown = shown
+    confirmed_round e r ask Between shown = new_shown g book v.booked e r.round.n r.round.parity r.round.servers shown.is_round.cut shown.count shown.parity
+    confirmed_round e r ask Doubted shown = shown
+    confirmed_round e r ask done.Over shown = shown
+
+    confirmed_shown : (e : End) (r : ReadingState) (ask : ℕ) → RoundShown g book v.booked e r.round → RoundShown g book v.booked e (reading.on_confirmed r ask).state.round
+    unfolding reading.on_confirmed
+    confirmed_shown e r ask shown = confirmed_round e r ask r.stage shown
+
+    -- the reader's own question is answered
+    pub confirm_seen : (o : Opening) (b : Backward) (r : ReadingState) → Framed o → ReadingShown g v book o b → is_bottom o.low b.next ≡ false → LooksFor g book v.booked b.next (Some r)
+        → Sees (goes_on o b (reading.on_confirmed r (o.ask + 1)).state (reading.on_confirmed r (o.ask + 1)).next)
+    confirm_seen o b r f h more looks =
+        step_shown o b r (reading.on_confirmed r (o.ask + 1)) (confirmed_fits r o.ask) f h more looks.0 (confirmed_shown b.next r (o.ask + 1) looks.1) (λ t e. absurd (confirmed_reads_none r (o.ask + 1) t e))

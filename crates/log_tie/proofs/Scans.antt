@@ -14,7 +14,7 @@ use Rattle.group_map.specs.GroupMapState.{GroupMapState}
 use Rattle.group_map.specs.Groups.{group_of}
 use Rattle.stripe_code.specs.declared.round.Told.{Told}
 use Rattle.stripe_code.specs.declared.round.Told.TheVariants as told
-use Rattle.stripe_code.specs.Reading.{ReadingState, is_asking, on_answer, on_confirmed}
+use Rattle.stripe_code.specs.Reading.{ReadingState, is_asking}
 use Rattle.log_scan.specs.declared.input.In as inputs
 use Rattle.log_scan.specs.declared.input.In.TheVariants.{Welcome, Fenced, Got, Missing, Maps, Tick}
 use Rattle.log_scan.specs.declared.listing.Listing.{Listing}
@@ -25,7 +25,7 @@ use Rattle.log_scan.specs.declared.stage.Stage.{Stage}
 use Rattle.log_scan.specs.declared.stage.Stage.TheVariants.{Hails, Gathers, Asks, Reads, Over}
 use Rattle.log_scan.specs.Pick.{counting, newest, is_torn, has_list, start_in, start_from, start_of, end_at, end_before, end_of_none}
 use Rattle.log_scan.specs.ScanState.{ScanState}
-use Rattle.log_scan.specs.Transition.{Done, goes, stays, can_ask, asks_anew, least_horizon, rises, is_bottom, read_from, chain_of, fetches, begins_round, follows, goes_on, awaits_welcome, server_count, awaits, awaited, gathers, picks_at, picks, confirms_by, confirms, welcomed, on_welcome, with_list, listed, on_fenced, heard_with, heard, on_told, asked_again, on_tick, transition}
+use Rattle.log_scan.specs.Transition.{Done, goes, stays, can_ask, asks_anew, least_horizon, rises, name_at, is_bottom, read_from, chain_of, fetches, begins_round, follows, goes_on, awaits_welcome, server_count, awaits, awaited, gathers, picks_at, picks, confirms_by, confirms, welcomed, on_welcome, with_list, listed, on_fenced, heard_with, heard, on_told, asked_again, on_tick, transition}
 use Rattle.log_protocol.specs.LogLaws.{Reached}
 use Rattle.log_protocol.specs.OpeningSteps.{begins, picks_none, picks_kept, picks_prior, cuts}
 use Rattle.log_protocol.specs.Packets.{FencedPacket}
@@ -39,11 +39,13 @@ use Rattle.log_protocol.proofs.Induction.{always}
 use Rattle.log_tie.specs.Setting.{Setting, present_at, point}
 use Rattle.log_tie.specs.Seen.{Page, Book, Fixed, ByOwner, Goes}
 use Rattle.log_tie.specs.Openings.{Chained}
-use Rattle.log_tie.specs.Scans.{Asked, WholeMap, Answered, FencedSeen, ListKept, AllListed, Phantom, Mapped, Gathering, Asking, LooksFor, ReadingShown, StageShown, ScanShown, ReadIsBooked, Scanned, ScanTakes, ScanStarts}
-use Rattle.log_tie.proofs.Names.{equal, itself, coded, point_some}
+use Rattle.log_tie.specs.Rounds.{IsSpelled, IsGrouped}
+use Rattle.log_tie.specs.Scans.{Asked, WholeMap, Answered, FencedSeen, ListKept, AllListed, Phantom, Mapped, Gathering, Asking, LooksFor, ReadingShown, StageShown, ScanShown, Scanned, ScanTakes, ScanStarts}
+use Rattle.log_tie.proofs.Names.{equal, itself, one_number, coded, point_some}
 use Rattle.log_tie.proofs.Listings.{range_has, none_filtered, has_more, has_in, torn_lacks, le_test, test_le}
 use Rattle.log_tie.proofs.Picks.{list_of, picks_nothing, Best, the_best, keeps_it, discards_it, nothing_newest}
-use Rattle.log_tie.proofs.Reading.{Sees, Framed, sees_quiet, sees_still, sees_fences, sees_fetches, sees_anew, sees_again, asks_new, chain_told, round_shown, follows_shown, step_shown, answered_fits, confirmed_fits, confirmed_reads_none}
+use Rattle.log_tie.proofs.Reading.{Sees, Framed, sees_quiet, sees_still, sees_fences, sees_fetches, sees_anew, sees_again, asks_new, chain_told, round_shown, follows_shown, answer_seen, confirm_seen}
+use Rattle.log_tie.proofs.Rounds.{ToldSeen}
 
 -- a list more
 all_more : (g : Setting) (w : State) (book : ℕ → Segment) (bound : ℕ) (ls : List Listing) (l : Listing) → AllListed g w book bound ls → ListKept g w book bound l [] → has_list l.server ls ≡ false → AllListed g w book bound (ls ++ l ∷ [])
@@ -61,7 +63,7 @@ all_more g w book bound (x ∷ xs) l all k fresh = (record { seen = all.0.seen; 
     other : l.server ≡ x.server → ⊥
     other e = contrary (sym (first (x.server == l.server) fresh) ∙ (ap (λ z. x.server == z) e ∙ itself x.server))
 
-module _ (g : Setting) (w : State) (book : ℕ → Segment) (hellos : List Asked) (fixed : Fixed g w) (reached : Reached w) (paged : Book g w book) where
+module _ (g : Setting) (w : State) (book : ℕ → Segment) (hellos : List Asked) (fixed : Fixed g w) (reached : Reached w) (paged : Book g w book) (spelled : IsSpelled g book w.booked) where
   abbrev To : Done → Type 0
   To d = Goes g w book (λ v later. Scanned g v later hellos d.state d.outs) []
 
@@ -109,7 +111,7 @@ module _ (g : Setting) (w : State) (book : ℕ → Segment) (hellos : List Asked
     chained_there top x (t ∷ ts) h = (h.0, h.1, h.2, h.3, h.4, chained_there top h.0 ts h.5)
 
     reading_there : (o : Opening) (b : Backward) → ReadingShown g w book o b → ReadingShown g learned book (record o { groups = Some m }) b
-    reading_there o b h = record { phase = h.phase; mapped = mapped_there; base = h.base; opening = h.opening; low = h.low; past = h.past; from = h.from; chained = chained_there _ _ _ h.chained; seq = h.seq }
+    reading_there o b h = record { phase = h.phase; mapped = mapped_there; base = h.base; opening = h.opening; low = h.low; past = h.past; from = h.from; chained = chained_there _ _ _ h.chained; seq = h.seq; grouped = h.grouped }
 
     framed_there : (o : Opening) → Framed g w book hellos o → Framed g learned book hellos (record o { groups = Some m })
     framed_there o f = record { log = f.log; inc = f.inc; horizon = f.horizon; asked = f.asked }
@@ -155,6 +157,7 @@ module _ (g : Setting) (w : State) (book : ℕ → Segment) (hellos : List Asked
           from = h.from;
           chained = chained_cut _ _ _ h.chained;
           seq = h.seq;
+          grouped = h.grouped;
         }
           where
             chained_cut : (top x : ℕ) (ts : List Segment) → Chained g w book top x ts → Chained g cut book top x ts
@@ -174,12 +177,11 @@ module _ (g : Setting) (w : State) (book : ℕ → Segment) (hellos : List Asked
         cut_reached : Reached cut
         cut_reached = record { names = reached.names; run = More (More reached.run (Learns (present_at m) (record { known = whole.seen.past }))) (Cuts (max o.low least) (record { rises = (let a = h.low in omega arith); known = risen_known })) }
 
-        confirms_shown : (r : Option ReadingState) → is_bottom risen.low b.next ≡ false → LooksFor g.log b.next r → Sees g cut book hellos (confirms_by risen b r)
+        confirms_shown : (r : Option ReadingState) → is_bottom risen.low b.next ≡ false → LooksFor g book w.booked b.next r → Sees g cut book hellos (confirms_by risen b r)
         confirms_shown None more looks = round_shown g cut book hellos risen b cut_framed cut_reading more
-        confirms_shown (Some r) more looks = step_shown g cut book hellos cut_fixed paged cut_reached risen b r (on_confirmed r (o.ask + 1)) (confirmed_fits r o.ask) cut_framed cut_reading more looks
-            (λ t e. absurd (confirmed_reads_none r (o.ask + 1) t e))
+        confirms_shown (Some r) more looks = confirm_seen g cut book hellos cut_fixed paged cut_reached spelled risen b r cut_framed cut_reading more looks
 
-        confirms_goes : (r : Option ReadingState) → LooksFor g.log b.next r → To (confirms risen b r)
+        confirms_goes : (r : Option ReadingState) → LooksFor g book w.booked b.next r → To (confirms risen b r)
         unfolding confirms
         confirms_goes r looks = by_test To (is_bottom risen.low b.next) (goes risen Over (chain_of b ∷ [])) (confirms_by risen b r)
             (λ t. goes_cut (goes risen Over (chain_of b ∷ [])) (chain_told g cut book hellos risen b cut_framed cut_reading))
@@ -210,16 +212,19 @@ module _ (g : Setting) (w : State) (book : ℕ → Segment) (hellos : List Asked
 
         -- from a start
         from_start : (v : State) (start : End) → Steps w v → ByOwner g w v book book → Book g v book → v.end ≡ w.end → v.phase ≡ 2 → Mapped g v (Some m) → v.base ≡ point g start.seq start.pass → v.opening_seq ≡ start.seq + 1 → v.read_low ≡ max o.low least → v.pick_low ≡ v.read_low
-            → v.incarnation ≡ w.incarnation → v.low ≡ w.low → To (follows risen (read_from start))
-        from_start v start steps by pages end phase mapped base opening low picked inc horizon = goes_by v (follows risen (read_from start)) steps by pages end
+            → v.incarnation ≡ w.incarnation → v.low ≡ w.low → IsGrouped g book v.booked start → To (follows risen (read_from start))
+        from_start v start steps by pages end phase mapped base opening low picked inc horizon grouped = goes_by v (follows risen (read_from start)) steps by pages end
             (follows_shown g v book hellos risen (read_from start)
             (record { log = f.log; inc = f.inc ∙ sym inc; horizon = (let a = risen_known in omega arith); asked = λ a is boot. f.asked a is (boot ∙ inc) })
-            (record { phase = phase; mapped = mapped; base = base; opening = opening; low = low; past = omega arith; from = tt; chained = sym base; seq = omega arith }))
+            (record { phase = phase; mapped = mapped; base = base; opening = opening; low = low; past = omega arith; from = tt; chained = sym base; seq = omega arith; grouped = grouped }))
 
         none_goes : counting (max o.low least) lists ≡ [] → To (follows risen (read_from (end_of_none (max o.low least - 1))))
         none_goes none = from_start (picks_none learned (max o.low least)) (end_of_none (max o.low least - 1))
             (More learning (Picks_none lists_of (max o.low least) (picks_nothing g learned book learned_fixed paged learned_reached m whole k.bound (max o.low least) lists gathering.kept gathering.phantom k.every k.begun later risen_known gathering.phase none)))
-            (record { others = refl; booked = λ x is. is; segment = λ x is. refl; stores = λ p is. is; filed = λ x is. is; calm = λ none c. c }) paged refl refl (record { map = m; is = refl; whole = whole; known = λ u. refl }) refl (let a = low_some in omega arith) refl refl refl refl
+            (record { others = refl; booked = λ x is. is; segment = λ x is. refl; stores = λ p is. is; filed = λ x is. is; calm = λ none c. c }) paged refl refl (record { map = m; is = refl; whole = whole; known = λ u. refl }) refl (let a = low_some in omega arith) refl refl refl refl none_named
+          where
+            none_named : IsGrouped g book w.booked (end_of_none (max o.low least - 1))
+            none_named y is named = let a = (paged y is).boot in let b = ap (λ (n : SegName). n.pass.inc) named in absurd (omega arith)
 
         module _ (b : FragMeta) (one : BestOne b) (group : Group) (of : group_of m b.group ≡ Some group) where
           page : Page g one.number (book one.number) (w.text_of one.number) (w.member_count one.number) (w.member_server one.number) (w.member_generation one.number) (w.prior_of one.number) (w.content_of one.number)
@@ -231,18 +236,26 @@ module _ (g : Setting) (w : State) (book : ℕ → Segment) (hellos : List Asked
           seq : w.seq_of one.number ≡ b.name.seq
           seq = ap (λ t. t one.number) fixed.seq_of ∙ sym (ap (λ (z : SegName). z.seq) one.named)
 
+          kept_grouped : IsGrouped g book w.booked (end_at b)
+          kept_grouped y is named =
+              let same : y ≡ one.number = one_number g y one.number (sym (paged y is).named ∙ (named ∙ ap (λ (n : SegName). name_at g.log (record { seq = n.seq; pass = n.pass; group = b.group })) one.named)) in
+              ap (λ z. (book z).group) same ∙ ap (λ (z : FragMeta). z.group) (sym one.is)
+
+          prior_grouped : IsGrouped g book w.booked (end_before b)
+          prior_grouped y is named = spelled.grouped one.number y one.booked is (named ∙ ap (λ (z : FragMeta). name_at g.log (end_before z)) one.is) ∙ ap (λ (z : FragMeta). z.prior.group) (sym one.is)
+
           kept_goes : is_torn lists b.name group.members ≡ false → To (follows risen (read_from (end_at b)))
           kept_goes none = from_start (picks_kept learned (max o.low least) one.number) (end_at b)
               (More learning (Picks_kept lists_of (max o.low least) one.number (keeps_it g learned book learned_fixed paged learned_reached m whole k.bound (max o.low least) lists gathering.kept gathering.phantom k.every k.begun later risen_known b one group of gathering.phase none)))
               (record { others = refl; booked = λ x is. is; segment = λ x is. refl; stores = λ p is. is; filed = λ x is. is; calm = λ none c. c }) paged refl refl (record { map = m; is = refl; whole = whole; known = λ u. refl })
-              (sym (point_some g b.name.seq b.name.pass some_inc ∙ (ap (λ (z : SegName). g.code z.seq z.pass.inc z.pass.att) one.named ∙ coded g one.number))) (let a = seq in omega arith) refl refl refl refl
+              (sym (point_some g b.name.seq b.name.pass some_inc ∙ (ap (λ (z : SegName). g.code z.seq z.pass.inc z.pass.att) one.named ∙ coded g one.number))) (let a = seq in omega arith) refl refl refl refl kept_grouped
 
           prior_goes : is_torn lists b.name group.members ≡ true → To (follows risen (read_from (end_before b)))
           prior_goes torn = let l = torn_lacks lists b.name group.members torn in
               from_start (picks_prior learned (max o.low least) one.number) (end_before b)
               (More learning (Picks_prior lists_of (max o.low least) one.number l.place (discards_it g learned book learned_fixed paged learned_reached m whole k.bound (max o.low least) lists gathering.kept gathering.phantom k.every k.begun later risen_known b one group of gathering.phase l)))
               (record { others = refl; booked = λ x is. is; segment = λ x is. refl; stores = λ p is. is; filed = λ x is. is; calm = λ none c. c }) paged refl refl (record { map = m; is = refl; whole = whole; known = λ u. refl })
-              (page.after ∙ ap (λ (z : FragMeta). point g (z.name.seq - 1) z.prior.pass) (sym one.is)) (let a = (always w reached).shelf.priors.seq_some one.number one.booked in let q = seq in omega arith) refl refl refl refl
+              (page.after ∙ ap (λ (z : FragMeta). point g (z.name.seq - 1) z.prior.pass) (sym one.is)) (let a = (always w reached).shelf.priors.seq_some one.number one.booked in let q = seq in omega arith) refl refl refl refl prior_grouped
 
           start_goes : To (follows risen (read_from (start_in lists b group)))
           start_goes = by_test (λ (e : End). To (follows risen (read_from e))) (is_torn lists b.name group.members) (end_before b) (end_at b) prior_goes kept_goes
@@ -338,23 +351,22 @@ module _ (g : Setting) (w : State) (book : ℕ → Segment) (hellos : List Asked
 
   -- ---- a server answers
 
-  module _ (o : Opening) (b : Backward) (r : ReadingState) (ask server : ℕ) (t : Told) (h : ScanShown g w book hellos (record { opening = o; stage = Reads b (Some r) })) (owed : ReadIsBooked w book (record { opening = o; stage = Reads b (Some r) }) ask server t) where
-    answered_goes : (groups : Option GroupMapState) → o.groups ≡ groups → To (heard_with o b r groups ask server t)
-    answered_goes None e = rests_goes o (Reads b (Some r)) h
-    answered_goes (Some m) e = goes_still (heard_with o b r (Some m) ask server t)
-        (step_shown g w book hellos fixed paged reached o b r (on_answer r m ask server t) (answered_fits r m o.ask ask server t) (framed_of o (Reads b (Some r)) h) h.stage.0 h.stage.1 h.stage.2 (λ s is. owed b r m s refl e is))
+  module _ (o : Opening) (b : Backward) (r : ReadingState) (ask server : ℕ) (t : Told) (h : ScanShown g w book hellos (record { opening = o; stage = Reads b (Some r) })) (seen : ToldSeen g w book paged spelled b.next t) where
+    answered_goes : (groups : Option GroupMapState) → To (heard_with o b r groups ask server t)
+    answered_goes None = rests_goes o (Reads b (Some r)) h
+    answered_goes (Some m) = goes_still (heard_with o b r (Some m) ask server t) (answer_seen g w book hellos fixed paged reached spelled o b r m ask server t (framed_of o (Reads b (Some r)) h) h.stage.0 h.stage.1 h.stage.2 seen)
 
     heard_goes : To (heard o b (Some r) ask server t)
-    heard_goes = by_test To (can_ask o) (heard_with o b r o.groups ask server t) (stays o (Reads b (Some r))) (λ e. answered_goes o.groups refl) (λ e. rests_goes o (Reads b (Some r)) h)
+    heard_goes = by_test To (can_ask o) (heard_with o b r o.groups ask server t) (stays o (Reads b (Some r))) (λ e. answered_goes o.groups) (λ e. rests_goes o (Reads b (Some r)) h)
 
-  told_goes : (o : Opening) (stage : Stage) (ask server : ℕ) (t : Told) → ScanShown g w book hellos (record { opening = o; stage = stage }) → ReadIsBooked w book (record { opening = o; stage = stage }) ask server t → To (on_told o stage ask server t)
+  told_goes : (o : Opening) (stage : Stage) (ask server : ℕ) (t : Told) → ScanShown g w book hellos (record { opening = o; stage = stage }) → ((e : End) → ToldSeen g w book paged spelled e t) → To (on_told o stage ask server t)
   unfolding on_told
-  told_goes o Hails ask server t h owed = rests_goes o Hails h
-  told_goes o (Gathers lists) ask server t h owed = rests_goes o (Gathers lists) h
-  told_goes o (Asks lists) ask server t h owed = rests_goes o (Asks lists) h
-  told_goes o (Reads b None) ask server t h owed = rests_goes o (Reads b None) h
-  told_goes o (Reads b (Some r)) ask server t h owed = heard_goes o b r ask server t h owed
-  told_goes o Over ask server t h owed = rests_goes o Over h
+  told_goes o Hails ask server t h seen = rests_goes o Hails h
+  told_goes o (Gathers lists) ask server t h seen = rests_goes o (Gathers lists) h
+  told_goes o (Asks lists) ask server t h seen = rests_goes o (Asks lists) h
+  told_goes o (Reads b None) ask server t h seen = rests_goes o (Reads b None) h
+  told_goes o (Reads b (Some r)) ask server t h seen = heard_goes o b r ask server t h (seen b.next)
+  told_goes o Over ask server t h seen = rests_goes o Over h
 
   -- ---- time
 
@@ -381,12 +393,12 @@ module _ (g : Setting) (w : State) (book : ℕ → Segment) (hellos : List Asked
   tick_goes o Over h = rests_goes o Over h
 
 pub scan_takes : ScanTakes
-scan_takes g w book hellos s (Welcome ask news groups) fixed reached paged h brings = welcome_goes g w book hellos fixed reached paged groups brings.1 s.opening s.stage ask news h brings.0
-scan_takes g w book hellos s (Fenced server generation held) fixed reached paged h brings = fenced_goes g w book hellos fixed reached paged s.opening s.stage (record { server = server; generation = generation; held = held }) h brings
-scan_takes g w book hellos s (Got ask server generation fragment) fixed reached paged h brings = told_goes g w book hellos fixed reached paged s.opening s.stage ask server (told.Held fragment) h brings
-scan_takes g w book hellos s (Missing ask server generation) fixed reached paged h brings = told_goes g w book hellos fixed reached paged s.opening s.stage ask server (told.Missing generation) h brings
-scan_takes g w book hellos s (Maps groups) fixed reached paged h brings = maps_goes g w book hellos fixed reached paged groups brings s.opening s.stage h
-scan_takes g w book hellos s Tick fixed reached paged h brings = tick_goes g w book hellos fixed reached paged s.opening s.stage h
+scan_takes g w book hellos s (Welcome ask news groups) fixed reached paged spelled h brings = welcome_goes g w book hellos fixed reached paged spelled groups brings.1 s.opening s.stage ask news h brings.0
+scan_takes g w book hellos s (Fenced server generation held) fixed reached paged spelled h brings = fenced_goes g w book hellos fixed reached paged spelled s.opening s.stage (record { server = server; generation = generation; held = held }) h brings
+scan_takes g w book hellos s (Got ask server generation fragment) fixed reached paged spelled h brings = told_goes g w book hellos fixed reached paged spelled s.opening s.stage ask server (told.Held fragment) h (λ e. brings)
+scan_takes g w book hellos s (Missing ask server generation) fixed reached paged spelled h brings = told_goes g w book hellos fixed reached paged spelled s.opening s.stage ask server (told.Missing generation) h (λ e. tt)
+scan_takes g w book hellos s (Maps groups) fixed reached paged spelled h brings = maps_goes g w book hellos fixed reached paged spelled groups brings s.opening s.stage h
+scan_takes g w book hellos s Tick fixed reached paged spelled h brings = tick_goes g w book hellos fixed reached paged spelled s.opening s.stage h
 
 pub scan_starts : ScanStarts
 scan_starts g w book hellos fixed reached paged down nobody old = record {

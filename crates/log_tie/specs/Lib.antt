@@ -3,4 +3,5 @@ pub mod Seen
 pub mod Inputs
 pub mod Openings
 pub mod Shelves
+pub mod Rounds
 pub mod Scans

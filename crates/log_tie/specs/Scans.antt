@@ -4,16 +4,13 @@ use Rattle.std.specs.List.{AllByRecursion}
 use Rattle.xfs_base.specs.declared.fragment.FragMeta.{FragMeta}
 use Rattle.xfs_base.specs.declared.news.SlotNews.{SlotNews}
 use Rattle.xfs_base.specs.declared.segment.End.{End}
-use Rattle.xfs_base.specs.declared.segment.LogId.{LogId}
 use Rattle.segment_format.specs.declared.segment.Segment.{Segment}
 use Rattle.group_map.specs.declared.group.Group.{Group}
 use Rattle.group_map.specs.GroupMapState.{GroupMapState}
 use Rattle.group_map.specs.Groups.{group_of}
-use Rattle.stripe_code.specs.declared.reading.Next.TheVariants as next
-use Rattle.stripe_code.specs.declared.round.Told.{Told}
-use Rattle.stripe_code.specs.declared.round.Told.TheVariants as told
 use Rattle.stripe_code.specs.Fragments.{meta_of}
-use Rattle.stripe_code.specs.Reading.{ReadingState, on_answer}
+use Rattle.stripe_code.specs.Reading.{ReadingState}
+use Rattle.stripe_code.specs.Stripe.{IsCut}
 use Rattle.log_scan.specs.declared.input.In as inputs
 use Rattle.log_scan.specs.declared.input.In.TheVariants.{Welcome, Fenced, Got, Missing, Maps, Tick}
 use Rattle.log_scan.specs.declared.listing.Listing.{Listing}
@@ -33,8 +30,9 @@ use Rattle.log_protocol.specs.Tables.{In}
 use Rattle.log_tie.specs.Setting.{Setting, server_of, stripe_of_group, present_at, name_of, point}
 use Rattle.log_tie.specs.Seen.{Book, Fixed, Goes}
 use Rattle.log_tie.specs.Inputs.{MapSeen}
-use Rattle.log_tie.specs.Shelves.{flag}
+use Rattle.log_tie.specs.Shelves.{flag, is_of_log, IsPiece}
 use Rattle.log_tie.specs.Openings.{Chained, AllFrom, ReadShown}
+use Rattle.log_tie.specs.Rounds.{IsSpelled, IsGrouped, RoundShown}
 
 -- ---- what the world tells an opening
 
@@ -59,6 +57,7 @@ pub record WholeMap (g : Setting) (registry : ℕ → ℕ) (m : GroupMapState) :
   pub size : m.servers ≡ g.servers
   pub named : (id : ℕ) (group : Group) → group_of m id ≡ Some group → g.stripe id ≡ stripe_of_group group
   pub some : (id : ℕ) (group : Group) → group_of m id ≡ Some group → (j : ℕ) → j < length group.members → 0 < server_of group.members j
+  pub cut : (id : ℕ) (group : Group) → group_of m id ≡ Some group → IsCut (length group.members) group.parity
 
 -- the registry's answer to a question that was asked: its horizon is no older than the question
 pub record Answered (g : Setting) (w : State) (hellos : List Asked) (ask : ℕ) (news : List SlotNews) : Type 0 where
@@ -125,9 +124,9 @@ pub record Asking (g : Setting) (w : State) (book : ℕ → Segment) (hellos : L
   pub after : (a : Asked) → In a hellos → a.inc ≡ w.incarnation → a.ask ≡ o.ask → bound ≤ a.low
 
 -- the reading, where there is one, looks for the segment that an end names
-abbrev pub LooksFor : LogId → End → Option ReadingState → Type 0
-LooksFor log e None = Unit {0}
-LooksFor log e (Some r) = r.target.seg.name ≡ name_at log e
+abbrev pub LooksFor : Setting → (ℕ → Segment) → (ℕ → ℕ) → End → Option ReadingState → Type 0
+LooksFor g book booked e None = Unit {0}
+LooksFor g book booked e (Some r) = (r.target.seg.name ≡ name_at g.log e) × RoundShown g book booked e r.round
 
 -- The chain is read as far as it is kept, from the number that the pick allowed, and the next segment is the one before it.
 pub record ReadingShown (g : Setting) (w : State) (book : ℕ → Segment) (o : Opening) (b : Backward) : Type 0 where
@@ -140,12 +139,13 @@ pub record ReadingShown (g : Setting) (w : State) (book : ℕ → Segment) (o : 
   pub from : AllFrom w.pick_low (reverse b.chain)
   pub chained : Chained g w book b.start.seq (point g b.next.seq b.next.pass) (reverse b.chain)
   pub seq : b.next.seq + length (reverse b.chain) ≡ b.start.seq
+  pub grouped : IsGrouped g book w.booked b.next
 
 abbrev pub StageShown : Setting → State → (ℕ → Segment) → List Asked → Opening → Stage → Type 0
 StageShown g w book hellos o Hails = (w.phase ≡ 1) × Phantom w
 StageShown g w book hellos o (Gathers lists) = Gathering g w book o w.low lists
 StageShown g w book hellos o (Asks lists) = Asking g w book hellos o lists
-StageShown g w book hellos o (Reads b r) = ReadingShown g w book o b × (is_bottom o.low b.next ≡ false) × LooksFor g.log b.next r
+StageShown g w book hellos o (Reads b r) = ReadingShown g w book o b × (is_bottom o.low b.next ≡ false) × LooksFor g book w.booked b.next r
 StageShown g w book hellos o Over = Unit {0}
 
 -- An opening of the log in the owner's boot: no question of that boot has a number above its last one's.
@@ -166,18 +166,12 @@ Gives g w book groups (Lost name) = Unit {0}
 
 -- ---- the laws
 
--- a segment that is read by an answer is a booked one
-abbrev pub ReadIsBooked : State → (ℕ → Segment) → ScanState → ℕ → ℕ → Told → Type 0
-ReadIsBooked w book s ask server answer =
-    (b : Backward) (r : ReadingState) (m : GroupMapState) (t : Segment) → s.stage ≡ Reads b (Some r) → s.opening.groups ≡ Some m → (on_answer r m ask server answer).next ≡ next.Read t
-    → (y : ℕ) × (w.booked y ≡ 1) × (t ≡ book y)
-
--- what the world owes each input; that a segment which is read is a booked one is owed too, since what fragments a round has taken is not kept here
+-- what the world owes each input
 abbrev pub BringsScan : Setting → State → (ℕ → Segment) → List Asked → ScanState → inputs.In → Type 0
 BringsScan g w book hellos s (Welcome ask news groups) = Answered g w hellos ask news × WholeMap g w.registry_generation groups
 BringsScan g w book hellos s (Fenced server generation held) = FencedSeen g w book server w.incarnation generation held
-BringsScan g w book hellos s (Got ask server generation fragment) = ReadIsBooked w book s ask server (told.Held fragment)
-BringsScan g w book hellos s (Missing ask server generation) = ReadIsBooked w book s ask server (told.Missing generation)
+BringsScan g w book hellos s (Got ask server generation fragment) = is_of_log g fragment.meta.name ≡ true → IsPiece g book w.booked fragment
+BringsScan g w book hellos s (Missing ask server generation) = Unit {0}
 BringsScan g w book hellos s (Maps groups) = WholeMap g w.registry_generation groups
 BringsScan g w book hellos s Tick = Unit {0}
 
@@ -186,10 +180,10 @@ pub record Scanned (g : Setting) (w : State) (book : ℕ → Segment) (hellos : 
   pub shown : ScanShown g w book (asked_by w.incarnation w.low outs hellos) s
   pub gives : AllByRecursion (Gives g w book s.opening.groups) outs
 
--- Each input of an opening is taken by steps of the owner.
+-- Each input of an opening is taken by steps of the owner, where what is booked can be read back.
 abbrev pub ScanTakes : Type 0
 ScanTakes =
-    (g : Setting) (w : State) (book : ℕ → Segment) (hellos : List Asked) (s : ScanState) (input : inputs.In) → Fixed g w → Reached w → Book g w book → ScanShown g w book hellos s → BringsScan g w book hellos s input
+    (g : Setting) (w : State) (book : ℕ → Segment) (hellos : List Asked) (s : ScanState) (input : inputs.In) → Fixed g w → Reached w → Book g w book → IsSpelled g book w.booked → ScanShown g w book hellos s → BringsScan g w book hellos s input
     → Goes g w book (λ v later. Scanned g v later hellos (transition s input).state (transition s input).outs) []
 
 -- A restart: the owner's next boot, in which server 0 is asked at once; all else is as it was.

@@ -30,8 +30,8 @@ pub fn shelf_deeds()
 
 /// A log that is opened again, from the restart until all of it is read back: each input of its opening is a list of steps: maps are learned, what the lists name
 /// is picked, kept or passed over, reading back is cut at later horizons; and where the opening tells its chain, all is read back. Asked of the world are that
-/// lists and answers of the registry were sent, that maps of groups are the registry's and whole, and that a segment which is read is a booked one (the 1996
-/// paper, on recovery).
+/// lists, fragments and answers of the registry were sent, that maps of groups are the registry's and whole, and that each booked segment has a text and names
+/// the group of the segment before it: then a segment that is read is the booked one (the 1996 paper, on recovery).
 pub fn scan_inputs()
     ensures starts { ScanStarts }
     ensures takes { ScanTakes }
