@@ -12,4 +12,5 @@ pub mod Picks
 pub mod Reading
 pub mod Rounds
 pub mod Scans
+pub mod Staying
 pub mod Openings

@@ -299,7 +299,7 @@ module _ (g : Setting) (w : State) (book : ℕ → Segment) (hellos : List Asked
 
   module _ (o : Opening) (lists : List Listing) (l : Listing) (h : ScanShown g w book hellos (record { opening = o; stage = Gathers lists })) (seen : FencedSeen g w book l.server w.incarnation l.generation l.held) where
     count : server_count o.groups ≡ g.servers
-    count = ap server_count h.stage.mapped.is ∙ h.stage.mapped.whole.size
+    count = let a : server_count o.groups ≡ h.stage.mapped.map.servers = ap server_count h.stage.mapped.is in let b = h.stage.mapped.whole.size in omega arith
 
     listed_then : (a b c : Bool) → a ≡ true → b ≡ true → (a && (b && not c)) ≡ false → c ≡ true
     listed_then a b true p q e = refl

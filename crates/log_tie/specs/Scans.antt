@@ -24,6 +24,7 @@ use Rattle.log_scan.specs.Pick.{has_name, has_list}
 use Rattle.log_scan.specs.ScanState.{ScanState, started}
 use Rattle.log_scan.specs.Transition.{name_at, is_bottom, least_horizon, transition}
 use Rattle.log_protocol.specs.LogLaws.{Reached}
+use Rattle.log_protocol.specs.Packets.{FencedPacket}
 use Rattle.log_protocol.specs.State.{State}
 use Rattle.log_protocol.specs.Step.{Steps}
 use Rattle.log_protocol.specs.Tables.{In}
@@ -200,3 +201,41 @@ abbrev pub ScanStarts : Type 0
 ScanStarts =
     (g : Setting) (w : State) (book : ℕ → Segment) (hellos : List Asked) → Fixed g w → Reached w → Book g w book → w.phase ≡ 0 → ((x : ℕ) → w.holds 0 x ≡ 0) → ((a : Asked) → In a hellos → a.inc ≤ w.incarnation)
     → Restarted g w book hellos
+
+-- what others leave as it was while a log is opened
+pub record Opener : Type 0 where
+  pub incarnation : ℕ
+  pub phase : ℕ
+  pub begin_low : ℕ
+  pub base : ℕ
+  pub opening_seq : ℕ
+  pub read_low : ℕ
+  pub pick_low : ℕ
+  pub owner_generation : ℕ → ℕ
+  pub booked : ℕ → ℕ
+  pub prior_of : ℕ → ℕ
+
+abbrev pub opener_of : State → Opener
+opener_of w = record {
+  incarnation = w.incarnation;
+  phase = w.phase;
+  begin_low = w.begin_low;
+  base = w.base;
+  opening_seq = w.opening_seq;
+  read_low = w.read_low;
+  pick_low = w.pick_low;
+  owner_generation = w.owner_generation;
+  booked = w.booked;
+  prior_of = w.prior_of;
+}
+
+-- Servers, the registry or the cleaner stepped: what was sent stays so, generations and the least horizon rise.
+pub record ByOthers (w u : State) : Type 0 where
+  pub opener : opener_of u ≡ opener_of w
+  pub fenceds : (p : FencedPacket) → In p w.fenceds → In p u.fenceds
+  pub registry : (v : ℕ) → w.registry_generation v ≤ u.registry_generation v
+  pub low : w.low ≤ u.low
+
+-- What others do leaves an opening as it is seen.
+abbrev pub ScanStays : Type 0
+ScanStays = (g : Setting) (w u : State) (book : ℕ → Segment) (hellos : List Asked) (s : ScanState) → ByOthers w u → ScanShown g w book hellos s → ScanShown g u book hellos s

@@ -3,7 +3,7 @@
 
 ghost use Rattle.log_tie.specs.Inputs.{TakesInputs};
 ghost use Rattle.log_tie.specs.Openings.{OpensByStep, OpeningTakes};
-ghost use Rattle.log_tie.specs.Scans.{ScanStarts, ScanTakes};
+ghost use Rattle.log_tie.specs.Scans.{ScanStarts, ScanStays, ScanTakes};
 ghost use Rattle.log_tie.specs.Shelves.{TakesDeeds};
 
 /// What a log that its owner writes does on an input is a list of steps of the log protocol that meet their guards: a segment is sealed, striped anew, noted,
@@ -29,10 +29,12 @@ pub fn shelf_deeds()
 {}
 
 /// A log that is opened again, from the restart until all of it is read back: each input of its opening is a list of steps: maps are learned, what the lists name
-/// is picked, kept or passed over, reading back is cut at later horizons; and where the opening tells its chain, all is read back. Asked of the world are that
+/// is picked, kept or passed over, reading back is cut at later horizons; and where the opening tells its chain, all is read back. What others do meanwhile
+/// leaves it as it is seen. Asked of the world are that
 /// lists, fragments and answers of the registry were sent, that maps of groups are the registry's and whole, and that each booked segment has a text and names
 /// the group of the segment before it: then a segment that is read is the booked one (the 1996 paper, on recovery).
 pub fn scan_inputs()
     ensures starts { ScanStarts }
     ensures takes { ScanTakes }
+    ensures stays { ScanStays }
 {}
