@@ -5,7 +5,7 @@ use Rattle.std.specs.List.{list_any, range_with_len}
 use Rattle.std.proofs.lemmas.Bool.Decides.{nat_tests}
 use Rattle.xfs_base.specs.declared.fragment.FragMeta.{FragMeta}
 use Rattle.xfs_base.specs.declared.segment.SegName.{SegName}
-use Rattle.xfs_base.proofs.Booleans.{contrary, by_test, and_first, and_second, not_true, or_first, or_second}
+use Rattle.xfs_base.proofs.Booleans.{contrary, and_first, and_second, not_true, or_first, or_second}
 use Rattle.xfs_base.proofs.Members.{contains_nothing, contains_first, contains_rest, contains_cases}
 use Rattle.group_map.specs.declared.group.Member.{Member}
 use Rattle.stripe_code.specs.Fragments.{same_name}

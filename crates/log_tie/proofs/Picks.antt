@@ -1,12 +1,10 @@
 -- The pick: the lists that an opening kept, and the Welcome that counts, are what the abstract pick asks.
-use Rattle.std.proofs.Common.{◌≡◌, ℕ, zero, suc, ◌<◌, ◌≤◌, ◌⊎◌, ◌==◌, Bool, true, false, cond, List, [], ◌∷◌, ◌++◌, Option, Some, None, length, refl, sym, ap, subst, ◌∙◌, inl, inr, arith}
-use Rattle.std.proofs.lemmas.Bool.Decides.{nat_tests}
+use Rattle.std.proofs.Common.{◌≡◌, ℕ, zero, suc, ◌<◌, ◌≤◌, ◌⊎◌, ◌==◌, Bool, true, false, cond, List, [], ◌∷◌, Some, None, length, refl, sym, ap, subst, ◌∙◌, inl, inr, arith}
 use Rattle.xfs_base.specs.declared.fragment.FragMeta.{FragMeta}
 use Rattle.xfs_base.specs.declared.segment.SegName.{SegName}
-use Rattle.xfs_base.proofs.Booleans.{contrary, or_second}
+use Rattle.xfs_base.proofs.Booleans.{contrary}
 use Rattle.segment_format.specs.declared.segment.Segment.{Segment}
 use Rattle.group_map.specs.declared.group.Group.{Group}
-use Rattle.group_map.specs.declared.group.Member.{Member}
 use Rattle.group_map.specs.GroupMapState.{GroupMapState}
 use Rattle.group_map.specs.Groups.{group_of}
 use Rattle.stripe_code.specs.Fragments.{meta_of}
@@ -22,9 +20,9 @@ use Rattle.log_scan.specs.Pick.{counting, newest, has_name, has_list, is_torn}
 use Rattle.log_scan.proofs.Newest.{search_is}
 use Rattle.log_scan.proofs.Picked.{picked_is}
 use Rattle.log_tie.specs.Setting.{Setting, Stripe, server_of, generation_of, name_of}
-use Rattle.log_tie.specs.Seen.{Page, Book, Fixed, members_of}
+use Rattle.log_tie.specs.Seen.{Book, Fixed, members_of}
 use Rattle.log_tie.specs.Shelves.{flag}
-use Rattle.log_tie.specs.Scans.{WholeMap, AllMetas, FencedSeen, ListKept, AllListed, Phantom}
+use Rattle.log_tie.specs.Scans.{WholeMap, AllMetas, FencedSeen, AllListed, Phantom}
 use Rattle.log_tie.proofs.Names.{equal, itself}
 use Rattle.log_tie.proofs.Listings.{in_contained, contained_in, counted_listed, listed_counted, named_in, in_named, listing_of, its_list, no_list, has_in, Lacks, whole_lists}
 

@@ -1,5 +1,5 @@
 -- Reading back: what an opening does between the pick and its chain keeps what is seen of it.
-use Rattle.std.proofs.Common.{◌≡◌, ℕ, zero, suc, ◌+◌, ◌-◌, ◌<◌, ◌≤◌, ◌⊎◌, ◌==◌, ◌&&◌, ◌||◌, Bool, true, false, cond, nat_lt, List, [], ◌∷◌, ◌++◌, map, Option, Some, None, length, refl, sym, ap, subst, ◌∙◌, inl, inr, arith}
+use Rattle.std.proofs.Common.{◌≡◌, ℕ, suc, ◌+◌, ◌-◌, ◌<◌, ◌≤◌, true, false, nat_lt, List, [], ◌∷◌, ◌++◌, map, Option, Some, None, length, refl, sym, ap, subst, ◌∙◌, inl, inr, arith}
 use Rattle.std.specs.Prelude.{reverse}
 use Rattle.std.specs.List.{AllByRecursion}
 use Rattle.std.proofs.lemmas.Bool.{or_parts}
@@ -8,7 +8,7 @@ use Rattle.std.proofs.lemmas.List.{reverse-append}
 use Rattle.xfs_base.specs.declared.segment.End.{End}
 use Rattle.xfs_base.specs.declared.segment.LogId.{LogId}
 use Rattle.xfs_base.specs.declared.segment.SegName.{SegName}
-use Rattle.xfs_base.proofs.Booleans.{contrary, by_test}
+use Rattle.xfs_base.proofs.Booleans.{by_test}
 use Rattle.segment_format.specs.declared.segment.Segment.{Segment}
 use Rattle.segment_format.specs.ReadingItems.{answer_of}
 use Rattle.group_map.specs.declared.group.Group.{Group}
@@ -29,10 +29,10 @@ use Rattle.stripe_code.specs.Round.{taken, state_of}
 use Rattle.log_scan.specs.declared.opening.Opening.{Opening}
 use Rattle.log_scan.specs.declared.listing.Listing.{Listing}
 use Rattle.log_scan.specs.declared.output.Out.{Out}
-use Rattle.log_scan.specs.declared.output.Out.TheVariants.{Hello, Fence, Fetch, Chain, Lost}
+use Rattle.log_scan.specs.declared.output.Out.TheVariants.{Hello, Fetch, Lost}
 use Rattle.log_scan.specs.declared.stage.Backward.{Backward}
 use Rattle.log_scan.specs.declared.stage.Stage.{Stage}
-use Rattle.log_scan.specs.declared.stage.Stage.TheVariants.{Hails, Gathers, Asks, Reads, Over}
+use Rattle.log_scan.specs.declared.stage.Stage.TheVariants.{Asks, Reads, Over}
 use Rattle.log_scan.specs.Pick.{has_list, known_group}
 use Rattle.log_scan.specs.Transition.{Done, goes, stays, drawn, asks_anew, name_at, target_at, is_bottom, end_below, with_segment, chain_of, fetches, begins_in, begins_round, follows, goes_on, fences}
 use Rattle.log_scan.proofs.Targets.{ReadsName, answered_keeps, confirmed_keeps}
@@ -44,7 +44,7 @@ use Rattle.log_tie.specs.Setting.{Setting, Stripe, name_of, point}
 use Rattle.log_tie.specs.Seen.{Page, Book, Fixed}
 use Rattle.log_tie.specs.Openings.{Chained, AllFrom}
 use Rattle.log_tie.specs.Scans.{Asked, asked_by, Gathering, LooksFor, ReadingShown, StageShown, ScanShown, Gives, Scanned}
-use Rattle.log_tie.specs.Rounds.{IsSpelled, IsGrouped, RoundShown}
+use Rattle.log_tie.specs.Rounds.{IsSpelled, RoundShown}
 use Rattle.log_tie.proofs.Names.{coded, point_some}
 use Rattle.log_tie.proofs.Rounds.{ToldSeen, answered_shown, new_shown}
 

@@ -1,8 +1,7 @@
 -- Rounds of reading: what enough fragments of a booked segment join to is its text, and is read as it.
-use Rattle.std.proofs.Common.{◌≡◌, ℕ, zero, suc, ◌+◌, ◌-◌, ◌<◌, ◌≤◌, ◌⊎◌, ◌==◌, ◌&&◌, Bool, true, false, cond, nat_le, is_some, unwrap_or, List, [], ◌∷◌, ◌++◌, map, Option, Some, None, length, refl, sym, ap, subst, ◌∙◌, inl, inr, arith}
-use Rattle.std.specs.Prelude.{All, IfSome, Ok, Result, count_by}
+use Rattle.std.proofs.Common.{◌≡◌, ℕ, zero, suc, ◌+◌, ◌-◌, ◌⊎◌, ◌==◌, ◌&&◌, Bool, true, false, cond, is_some, unwrap_or, List, [], ◌∷◌, ◌++◌, map, Option, Some, None, length, refl, sym, ap, subst, ◌∙◌, inl, inr, arith}
+use Rattle.std.specs.Prelude.{IfSome, Ok, Result, count_by}
 use Rattle.std.specs.List.{range_with_len}
-use Rattle.std.proofs.lemmas.Bool.Decides.{nat_tests}
 use Rattle.std.proofs.lemmas.List.{length-append}
 use Rattle.std.proofs.lemmas.List.Elements.{All-nil}
 use Rattle.std.proofs.lemmas.List.FromFn.{length-map-range_with_len}
@@ -21,11 +20,11 @@ use Rattle.stripe_code.specs.declared.round.RoundState.{RoundState}
 use Rattle.stripe_code.specs.declared.round.RoundState.TheVariants as round
 use Rattle.stripe_code.specs.declared.round.Told.{Told}
 use Rattle.stripe_code.specs.declared.round.Told.TheVariants.{Held, Missing}
-use Rattle.stripe_code.specs.Fragments.{fragment_at, same_name}
+use Rattle.stripe_code.specs.Fragments.{fragment_at}
 use Rattle.stripe_code.specs.Joined.{AreOf, missing_from, joined}
 use Rattle.stripe_code.specs.Reading.{ReadingState, Step, is_target, segment_found, name_fits, counts, read_as, judged, on_answer}
 use Rattle.stripe_code.specs.Reading as reading
-use Rattle.stripe_code.specs.Round.{RoundSoFar, count_of, asks, has_answered, len_in, bytes_in, parts_in, is_enough, have_answered, missing_in, taken, state_of, told_fits, new_round, IsRound, TellsPart}
+use Rattle.stripe_code.specs.Round.{RoundSoFar, count_of, asks, has_answered, len_in, bytes_in, parts_in, is_enough, have_answered, missing_in, taken, state_of, told_fits, new_round, TellsPart}
 use Rattle.stripe_code.specs.Stripe.{IsCut, part_of, pieces, stripe_of}
 use Rattle.stripe_code.proofs.Given.{gives_back}
 use Rattle.stripe_code.proofs.Pieces.{length-pieces}

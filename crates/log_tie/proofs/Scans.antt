@@ -1,5 +1,5 @@
 -- Each input of an opening is a list of steps of the owner, from the restart until all is read back.
-use Rattle.std.proofs.Common.{◌≡◌, ℕ, zero, suc, ◌+◌, ◌-◌, ◌<◌, ◌≤◌, ◌⊎◌, ◌==◌, ◌&&◌, ◌||◌, Bool, true, false, cond, not, nat_le, max, List, [], ◌∷◌, ◌++◌, Option, Some, None, length, refl, sym, ap, subst, ◌∙◌, inl, inr, arith}
+use Rattle.std.proofs.Common.{◌≡◌, ℕ, suc, ◌+◌, ◌-◌, ◌<◌, ◌≤◌, ◌==◌, ◌&&◌, ◌||◌, Bool, true, false, not, nat_le, max, List, [], ◌∷◌, ◌++◌, Option, Some, None, length, refl, sym, ap, subst, ◌∙◌, inl, inr, arith}
 use Rattle.std.specs.List.{range_with_len}
 use Rattle.std.specs.Option.{option_map}
 use Rattle.xfs_base.specs.declared.fragment.FragMeta.{FragMeta}
@@ -15,17 +15,15 @@ use Rattle.group_map.specs.Groups.{group_of}
 use Rattle.stripe_code.specs.declared.round.Told.{Told}
 use Rattle.stripe_code.specs.declared.round.Told.TheVariants as told
 use Rattle.stripe_code.specs.Reading.{ReadingState, is_asking}
-use Rattle.log_scan.specs.declared.input.In as inputs
 use Rattle.log_scan.specs.declared.input.In.TheVariants.{Welcome, Fenced, Got, Missing, Maps, Tick}
 use Rattle.log_scan.specs.declared.listing.Listing.{Listing}
 use Rattle.log_scan.specs.declared.opening.Opening.{Opening}
-use Rattle.log_scan.specs.declared.output.Out.TheVariants.{Hello, Chain}
+use Rattle.log_scan.specs.declared.output.Out.TheVariants.{Hello}
 use Rattle.log_scan.specs.declared.stage.Backward.{Backward}
 use Rattle.log_scan.specs.declared.stage.Stage.{Stage}
 use Rattle.log_scan.specs.declared.stage.Stage.TheVariants.{Hails, Gathers, Asks, Reads, Over}
-use Rattle.log_scan.specs.Pick.{counting, newest, is_torn, has_list, start_in, start_from, start_of, end_at, end_before, end_of_none}
-use Rattle.log_scan.specs.ScanState.{ScanState}
-use Rattle.log_scan.specs.Transition.{Done, goes, stays, can_ask, asks_anew, least_horizon, rises, name_at, is_bottom, read_from, chain_of, fetches, begins_round, follows, goes_on, awaits_welcome, server_count, awaits, awaited, gathers, picks_at, picks, confirms_by, confirms, welcomed, on_welcome, with_list, listed, on_fenced, heard_with, heard, on_told, asked_again, on_tick, transition}
+use Rattle.log_scan.specs.Pick.{counting, newest, is_torn, has_list, start_in, start_from, end_at, end_before, end_of_none}
+use Rattle.log_scan.specs.Transition.{Done, goes, stays, can_ask, asks_anew, least_horizon, rises, name_at, is_bottom, read_from, chain_of, fetches, follows, awaits_welcome, server_count, awaits, awaited, gathers, picks_at, picks, confirms_by, confirms, welcomed, on_welcome, with_list, listed, on_fenced, heard_with, heard, on_told, on_tick}
 use Rattle.log_protocol.specs.LogLaws.{Reached}
 use Rattle.log_protocol.specs.OpeningSteps.{begins, picks_none, picks_kept, picks_prior, cuts}
 use Rattle.log_protocol.specs.Packets.{FencedPacket}
@@ -42,9 +40,9 @@ use Rattle.log_tie.specs.Openings.{Chained}
 use Rattle.log_tie.specs.Rounds.{IsSpelled, IsGrouped}
 use Rattle.log_tie.specs.Scans.{Asked, WholeMap, Answered, FencedSeen, ListKept, AllListed, Phantom, Mapped, Gathering, Asking, LooksFor, ReadingShown, StageShown, ScanShown, Scanned, ScanTakes, ScanStarts}
 use Rattle.log_tie.proofs.Names.{equal, itself, one_number, coded, point_some}
-use Rattle.log_tie.proofs.Listings.{range_has, none_filtered, has_more, has_in, torn_lacks, le_test, test_le}
+use Rattle.log_tie.proofs.Listings.{range_has, none_filtered, has_more, torn_lacks, le_test, test_le}
 use Rattle.log_tie.proofs.Picks.{list_of, picks_nothing, Best, the_best, keeps_it, discards_it, nothing_newest}
-use Rattle.log_tie.proofs.Reading.{Sees, Framed, sees_quiet, sees_still, sees_fences, sees_fetches, sees_anew, sees_again, asks_new, chain_told, round_shown, follows_shown, answer_seen, confirm_seen}
+use Rattle.log_tie.proofs.Reading.{Sees, Framed, sees_still, sees_fences, sees_fetches, sees_again, asks_new, chain_told, round_shown, follows_shown, answer_seen, confirm_seen}
 use Rattle.log_tie.proofs.Rounds.{ToldSeen}
 
 -- a list more

@@ -1,8 +1,7 @@
 -- What others do leaves an opening as it is seen.
-use Rattle.std.proofs.Common.{◌≡◌, ℕ, ◌+◌, ◌≤◌, List, [], ◌∷◌, Option, Some, None, refl, sym, ap, subst, ◌∙◌, arith}
+use Rattle.std.proofs.Common.{◌≡◌, ℕ, ◌+◌, ◌≤◌, List, [], ◌∷◌, sym, subst, arith}
 use Rattle.std.specs.Prelude.{reverse}
 use Rattle.segment_format.specs.declared.segment.Segment.{Segment}
-use Rattle.stripe_code.specs.Reading.{ReadingState}
 use Rattle.log_scan.specs.declared.listing.Listing.{Listing}
 use Rattle.log_scan.specs.declared.opening.Opening.{Opening}
 use Rattle.log_scan.specs.declared.stage.Backward.{Backward}
@@ -13,8 +12,7 @@ use Rattle.log_protocol.specs.Tables.{In}
 use Rattle.log_tie.specs.Setting.{Setting, point, present_at}
 use Rattle.log_tie.specs.Openings.{Chained, AllFrom}
 use Rattle.log_tie.specs.Rounds.{IsGrouped}
-use Rattle.log_tie.specs.Scans.{Asked, WholeMap, AllMetas, ListKept, AllListed, Phantom, Mapped, Gathering, Asking, LooksFor, ReadingShown, StageShown, ScanShown, Opener, opener_of, ByOthers, ScanStays}
-use Rattle.log_tie.specs.Inputs.{MapSeen}
+use Rattle.log_tie.specs.Scans.{Asked, AllMetas, AllListed, Phantom, Mapped, Gathering, Asking, LooksFor, ReadingShown, StageShown, Opener, opener_of, ByOthers, ScanStays}
 
 module _ (g : Setting) (w u : State) (book : ℕ → Segment) (hellos : List Asked) (by : ByOthers w u) where
   -- what holds of the opener there holds here
