@@ -1,5 +1,5 @@
 -- The chain hangs together: what an opening that reads it back keeps true, at each input.
-use Rattle.std.proofs.Common.{◌≡◌, ℕ, ◌+◌, ◌-◌, ◌≤◌, Bool, true, false, cond, ◌&&◌, ◌||◌, List, [], ◌∷◌, ◌++◌, map, max, Option, Some, None, refl, sym, ap, ◌∙◌, subst, arith}
+use Rattle.std.proofs.Common.{◌≡◌, ℕ, ◌+◌, ◌≤◌, ◌&&◌, List, [], ◌∷◌, ◌++◌, map, Option, Some, None, refl, sym, ap, ◌∙◌, subst, arith}
 use Rattle.std.specs.Prelude.{◌==◌, ⊤, reverse, nat_lt, length}
 use Rattle.std.specs.List.{AllByRecursion}
 use Rattle.std.proofs.lemmas.Bool.{or_parts, ltb-false}
@@ -21,15 +21,14 @@ use Rattle.log_scan.specs.declared.input.In.{In}
 use Rattle.log_scan.specs.declared.input.In.TheVariants.{Welcome, Fenced, Got, Missing, Maps, Tick}
 use Rattle.log_scan.specs.declared.listing.Listing.{Listing}
 use Rattle.log_scan.specs.declared.opening.Opening.{Opening}
-use Rattle.log_scan.specs.declared.output.Out.{Out}
-use Rattle.log_scan.specs.declared.output.Out.TheVariants.{Hello, Fence, Fetch, Chain, Lost}
+use Rattle.log_scan.specs.declared.output.Out.TheVariants.{Hello, Fetch}
 use Rattle.log_scan.specs.declared.stage.Backward.{Backward}
 use Rattle.log_scan.specs.declared.stage.Stage.{Stage}
 use Rattle.log_scan.specs.declared.stage.Stage.TheVariants.{Hails, Gathers, Asks, Reads, Over}
-use Rattle.log_scan.specs.Linked.{AreLinked, IsLinked, TellsLinked, state_after}
+use Rattle.log_scan.specs.Linked.{AreLinked, TellsLinked, state_after}
 use Rattle.log_scan.specs.Pick.{known_group, start_of}
 use Rattle.log_scan.specs.ScanState.{ScanState, started}
-use Rattle.log_scan.specs.Transition.{Done, goes, stays, can_ask, drawn, asks_anew, least_horizon, rises, name_at, target_at, names_none, is_bottom, read_from, end_below, with_segment, prior_at, chain_of, fetches, begins, begins_in, begins_round, follows, goes_on, awaits_welcome, awaits, awaited, fences, gathers, picks_at, picks, confirms_by, confirms, welcomed, on_welcome, with_list, listed, on_fenced, heard_with, heard, on_told, asked_again, on_tick, takes, transition}
+use Rattle.log_scan.specs.Transition.{Done, goes, stays, can_ask, asks_anew, least_horizon, rises, name_at, target_at, names_none, is_bottom, read_from, end_below, with_segment, chain_of, fetches, begins_in, begins_round, follows, goes_on, awaits_welcome, awaits, awaited, fences, picks_at, picks, confirms_by, confirms, welcomed, on_welcome, with_list, on_fenced, heard_with, heard, on_told, asked_again, on_tick, takes, transition}
 use Rattle.log_scan.proofs.Targets.{ReadsName, KeepsTarget, answered_keeps, confirmed_keeps}
 
 -- ---- links

@@ -1,5 +1,5 @@
 -- The newest of what is listed counts, and of all that counts, in any list, none is newer.
-use Rattle.std.proofs.Common.{◌≡◌, ℕ, ◌≤◌, Bool, true, false, cond, ◌||◌, not, List, [], ◌∷◌, ◌++◌, Option, Some, None, inl, inr, refl, sym, ap, subst, ◌∙◌}
+use Rattle.std.proofs.Common.{◌≡◌, ℕ, Bool, true, false, cond, ◌||◌, not, List, [], ◌∷◌, ◌++◌, Some, inl, inr, refl, sym, ap, subst, ◌∙◌}
 use Rattle.std.specs.Prelude.{Contains, filter, nat_le}
 use Rattle.std.specs.List.{list_any, find}
 use Rattle.std.specs.Ordering.{nat_cmp, is_gt, ordering_then}
@@ -9,11 +9,11 @@ use Rattle.std.proofs.lemmas.Bool.{or_parts, not-true, le-leb, cond-true}
 use Rattle.std.proofs.lemmas.Cmp.{nat_cmp_total, tied_itself}
 use Rattle.std.proofs.lemmas.Map.Keys.{le_from_not_gt}
 use Rattle.xfs_base.specs.declared.fragment.FragMeta.{FragMeta}
-use Rattle.xfs_base.proofs.Booleans.{by_test, contrary}
+use Rattle.xfs_base.proofs.Booleans.{contrary}
 use Rattle.xfs_base.proofs.Members.{contains_nothing, contains_first, contains_rest, contains_cases}
 use Rattle.log_scan.specs.declared.listing.Listing.{Listing}
 use Rattle.log_scan.specs.Linked.{IsNoNewer, IsPicked}
-use Rattle.log_scan.specs.Pick.{above, counting, age_cmp, is_newer, newest}
+use Rattle.log_scan.specs.Pick.{above, counting, is_newer, newest}
 
 -- ---- what a search finds, and what no item passes
 

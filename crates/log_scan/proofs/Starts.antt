@@ -1,11 +1,10 @@
 -- The log goes on behind the start that was picked: what is read and told at each input has that start.
-use Rattle.std.proofs.Common.{◌≡◌, ℕ, ◌+◌, Bool, true, false, cond, ◌&&◌, List, [], ◌∷◌, ◌++◌, map, max, Option, Some, None, inl, inr, ◌⊎◌, refl, sym, ap, ◌∙◌, arith}
+use Rattle.std.proofs.Common.{◌≡◌, ℕ, ◌+◌, true, ◌&&◌, List, [], ◌∷◌, ◌++◌, map, Option, Some, None, inl, inr, ◌⊎◌, refl, arith}
 use Rattle.std.specs.Prelude.{◌==◌, ⊤, length}
 use Rattle.std.specs.List.{AllByRecursion}
 use Rattle.std.proofs.lemmas.Bool.{eqb-true}
 use Rattle.group_map.specs.declared.group.Group.{Group}
 use Rattle.group_map.specs.GroupMapState.{GroupMapState}
-use Rattle.segment_format.specs.declared.segment.Segment.{Segment}
 use Rattle.stripe_code.specs.declared.reading.Next.{Next}
 use Rattle.stripe_code.specs.declared.reading.Next.TheVariants as next
 use Rattle.stripe_code.specs.declared.round.Told.{Told}
@@ -27,7 +26,7 @@ use Rattle.log_scan.specs.declared.stage.Stage.TheVariants.{Hails, Gathers, Asks
 use Rattle.log_scan.specs.Linked.{IsStartFrom, KeepsStart, TellsStart}
 use Rattle.log_scan.specs.Pick.{known_group, start_of}
 use Rattle.log_scan.specs.ScanState.{ScanState}
-use Rattle.log_scan.specs.Transition.{Done, goes, stays, can_ask, asks_anew, least_horizon, rises, target_at, is_bottom, read_from, with_segment, chain_of, fetches, begins_in, begins_round, follows, goes_on, awaits_welcome, awaits, awaited, fences, picks_at, picks, confirms_by, confirms, welcomed, on_welcome, with_list, listed, on_fenced, heard_with, heard, on_told, asked_again, on_tick, takes, transition}
+use Rattle.log_scan.specs.Transition.{Done, goes, stays, can_ask, asks_anew, least_horizon, rises, target_at, is_bottom, read_from, with_segment, chain_of, fetches, begins_in, begins_round, follows, goes_on, awaits_welcome, awaits, awaited, fences, picks_at, picks, confirms_by, confirms, welcomed, on_welcome, with_list, on_fenced, heard_with, heard, on_told, asked_again, on_tick, takes, transition}
 
 none_left : (xs : List ℕ) → (length xs == 0) ≡ true → xs ≡ []
 none_left [] h = refl

@@ -1,6 +1,6 @@
 -- A reading keeps what it looks for, and what it reads has that name.
-use Rattle.std.proofs.Common.{◌≡◌, ℕ, Bool, true, false, cond, ◌&&◌, List, [], ◌∷◌, Option, Some, None, refl, sym, ap, ◌∙◌, subst, arith}
-use Rattle.std.specs.Prelude.{◌==◌, Result, Ok, Err, ⊤}
+use Rattle.std.proofs.Common.{◌≡◌, ℕ, true, cond, ◌&&◌, Option, Some, None, refl, arith}
+use Rattle.std.specs.Prelude.{Result, Ok, Err, ⊤}
 use Rattle.std.proofs.lemmas.Bool.Decides.{nat_tests}
 use Rattle.group_map.specs.GroupMapState.{GroupMapState}
 use Rattle.segment_format.specs.declared.seg_error.SegError.{SegError}
@@ -13,12 +13,11 @@ use Rattle.stripe_code.specs.declared.reading.Stage.TheVariants.{Asking, Between
 use Rattle.stripe_code.specs.declared.round.RoundState.{RoundState}
 use Rattle.stripe_code.specs.declared.round.RoundState.TheVariants as round
 use Rattle.stripe_code.specs.declared.round.Told.{Told}
-use Rattle.stripe_code.specs.declared.target.Target.{Target}
-use Rattle.stripe_code.specs.Fragments.{same_name, same_pass}
-use Rattle.stripe_code.specs.Reading.{ReadingState, Step, is_target, is_known, has_block, segment_found, counts, ends, read_as, judged, on_answer, goes_on, on_confirmed}
+use Rattle.stripe_code.specs.Fragments.{same_name}
+use Rattle.stripe_code.specs.Reading.{ReadingState, Step, is_target, is_known, has_block, segment_found, counts, read_as, judged, on_answer, goes_on, on_confirmed}
 use Rattle.stripe_code.specs.Round.{taken, state_of}
 use Rattle.xfs_base.specs.declared.segment.SegName.{SegName}
-use Rattle.xfs_base.proofs.Booleans.{by_test, and_first, and_second, contrary}
+use Rattle.xfs_base.proofs.Booleans.{by_test, and_first}
 
 -- names that pass the test are one
 one_name : (a b : SegName) → same_name a b ≡ true → b ≡ a

@@ -1,5 +1,5 @@
 -- Where the log goes on: behind the newest segment that the servers list, or behind the one before it where that was not settled.
-use Rattle.std.specs.Prelude.{ℕ, ◌-◌, Bool, ◌==◌, ◌&&◌, not, nat_le, if◌then◌else◌, List, [], Option, Some, None, filter}
+use Rattle.std.specs.Prelude.{ℕ, ◌-◌, Bool, ◌==◌, ◌&&◌, not, nat_le, if◌then◌else◌, List, Option, Some, None, filter}
 use Rattle.std.specs.List.{list_any, find, flat_map}
 use Rattle.std.specs.Option.{option_map}
 use Rattle.std.specs.Ordering.{nat_cmp, ordering_then, is_gt}

@@ -1,5 +1,5 @@
 -- What an opening keeps.
-use Rattle.std.specs.Prelude.{ℕ, Option, None}
+use Rattle.std.specs.Prelude.{ℕ, None}
 use Rattle.xfs_base.specs.declared.segment.LogId.{LogId}
 use Rattle.log_scan.specs.declared.opening.Opening.{Opening}
 use Rattle.log_scan.specs.declared.stage.Stage.{Stage}

@@ -27,7 +27,7 @@ use Rattle.log_scan.specs.declared.output.Out.TheVariants.{Hello, Fence, Fetch, 
 use Rattle.log_scan.specs.declared.stage.Backward.{Backward}
 use Rattle.log_scan.specs.declared.stage.Stage.{Stage}
 use Rattle.log_scan.specs.declared.stage.Stage.TheVariants.{Hails, Gathers, Asks, Reads, Over}
-use Rattle.log_scan.specs.Pick.{has_list, known_group, start_of, end_of_none}
+use Rattle.log_scan.specs.Pick.{has_list, known_group, start_of}
 use Rattle.log_scan.specs.ScanState.{ScanState}
 
 abbrev pub Done : Type 0

@@ -1,5 +1,4 @@
-use Rattle.std.proofs.Common.{◌≡◌, ◌≤◌, arith}
-use Rattle.log_scan.specs.Transition.{least_horizon}
+use Rattle.std.proofs.Common.{arith}
 use Rattle.log_scan.proofs.Loops.{least_bound}
 use Rattle.log_scan.proofs.horizon.least_horizon.Goals as goal
 

@@ -1,4 +1,4 @@
-use Rattle.std.proofs.Common.{◌≡◌, ◌+◌, ◌++◌, drop, ap, ◌∙◌}
+use Rattle.std.proofs.Common.{◌+◌, ◌++◌, drop, ap, ◌∙◌}
 use Rattle.std.specs.Prelude.{option_to_list}
 use Rattle.std.proofs.lemmas.Bool.{le-leb, lt-leb}
 use Rattle.log_scan.specs.Pick.{above, newest}

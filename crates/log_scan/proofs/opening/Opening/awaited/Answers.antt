@@ -1,4 +1,4 @@
-use Rattle.std.proofs.Common.{◌≡◌, ◌+◌, ◌-◌, true, false, cond, List, [], ◌∷◌, ◌++◌, sym, ap, ◌∙◌, append-nil}
+use Rattle.std.proofs.Common.{◌≡◌, ◌+◌, ◌-◌, cond, [], ◌∷◌, ◌++◌, sym, ap, ◌∙◌, append-nil}
 use Rattle.std.specs.Prelude.{filter}
 use Rattle.std.specs.List.{range_with_len}
 use Rattle.log_scan.specs.Transition.{awaits}
