@@ -14,3 +14,4 @@ pub mod Rounds
 pub mod Scans
 pub mod Staying
 pub mod Openings
+pub mod Exist

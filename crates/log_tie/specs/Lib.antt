@@ -5,3 +5,4 @@ pub mod Openings
 pub mod Shelves
 pub mod Rounds
 pub mod Scans
+pub mod Exist

@@ -1,6 +1,7 @@
 //! How the machines of logs are seen in the abstract log protocol. It has no code: each function below has an empty body, and its contract is a law.
 #![tactic(auto)]
 
+ghost use Rattle.log_tie.specs.Exist.{SomeSetting};
 ghost use Rattle.log_tie.specs.Inputs.{TakesInputs};
 ghost use Rattle.log_tie.specs.Openings.{OpensByStep, OpeningTakes};
 ghost use Rattle.log_tie.specs.Scans.{ScanStarts, ScanStays, ScanTakes};
@@ -37,4 +38,9 @@ pub fn scan_inputs()
     ensures starts { ScanStarts }
     ensures takes { ScanTakes }
     ensures stays { ScanStays }
+{}
+
+/// The laws above speak of something: there is a setting, with names as numbers, and a map of groups that is as the world owes it.
+pub fn settings_exist()
+    ensures { SomeSetting }
 {}
