@@ -7,7 +7,7 @@ mod draws;
 pub mod generating;
 pub mod printing;
 mod setup_text;
-mod spelling;
+pub mod spelling;
 mod work_text;
 
 pub use generating::generate;

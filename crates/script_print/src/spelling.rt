@@ -78,14 +78,22 @@ fn add_body(out: &mut Text, bytes: &[u8]) -> Mem<()>
     Ok(())
 }
 
+/// Appends a text between quotes.
+pub fn add_quoted(out: &mut Text, bytes: &[u8]) -> Mem<()>
+    ensures { OnOk result (out.new ≡ out.old ++ quoted (text_body bytes.now)) }
+{
+    out.add(b"\"")?;
+    add_body(out, bytes)?;
+    out.add(b"\"")?;
+    Ok(())
+}
+
 /// Appends a space and a text between quotes.
 pub fn add_text(out: &mut Text, bytes: &[u8]) -> Mem<()>
     ensures { OnOk result (out.new ≡ out.old ++ 32 ∷ quoted (text_body bytes.now)) }
 {
-    out.add(b" \"")?;
-    add_body(out, bytes)?;
-    out.add(b"\"")?;
-    Ok(())
+    out.add(b" ")?;
+    add_quoted(out, bytes)
 }
 
 /// Appends each name behind a slash.

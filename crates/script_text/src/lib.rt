@@ -16,7 +16,7 @@ pub mod refusal;
 pub mod script;
 mod setup_lines;
 mod stage;
-mod text;
+pub mod text;
 mod unclosed;
 pub mod word;
 mod work;

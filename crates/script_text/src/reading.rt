@@ -20,7 +20,7 @@ use xfs_base::{List, Setup};
 const MAX_TEXTS: usize = 67_108_864;
 
 /// The first line, and what stands behind its line feed.
-fn first_line(bytes: &[u8]) -> (&[u8], &[u8])
+pub fn first_line(bytes: &[u8]) -> (&[u8], &[u8])
     requires { 0 < length bytes.now }
     ensures line { lines bytes.now ≡ result.0.now ∷ lines result.1.now }
     ensures shorter { length result.1.now < length bytes.now }
@@ -202,7 +202,7 @@ fn script_at(alloc: Global, live: bool, number: u32, place: Place) -> Result<Scr
 }
 
 /// Why a script is refused whose line of this number is not taken.
-fn refused(number: u32, error: LineError) -> ScriptError
+pub fn refused(number: u32, error: LineError) -> ScriptError
     ensures { result ≡ refused number error }
 {
     match error {

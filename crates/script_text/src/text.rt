@@ -131,7 +131,7 @@ fn text_from(alloc: Global, bytes: &[u8]) -> Mem<Option<Text>>
 }
 
 /// The text between quotes.
-fn quoted_text(alloc: Global, word: &[u8]) -> Mem<Option<Text>>
+pub fn quoted_text(alloc: Global, word: &[u8]) -> Mem<Option<Text>>
     ensures { IfOk result (λ text. text ≡ quoted_text word.now) }
 {
     match word {

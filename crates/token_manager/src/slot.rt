@@ -113,6 +113,13 @@ impl Slot {
         self.epoch
     }
 
+    /// The last turn that was given out. Takes no memory.
+    pub fn turn(&self) -> u64
+        ensures { result ≡ self.now.turn }
+    {
+        self.turn
+    }
+
     /// The last segment number of a log whose deltas are applied. Takes no memory.
     pub fn applied(&self, log: LogId) -> u32
         ensures { result ≡ applied_of self.now.applied log.0 }
