@@ -15,6 +15,3 @@ pub use output::Out;
 pub use plan::{Plan, plan_of};
 pub use work::Work;
 pub use writer::Writer;
-
-#[cfg(test)]
-mod tests;

@@ -6,4 +6,3 @@ pub mod Lengths
 pub mod Lines
 pub mod Looks
 pub mod Settlings
-pub mod TestGroups

@@ -19,6 +19,3 @@ pub use dirty::Change;
 pub use input::In;
 pub use log::Log;
 pub use output::Out;
-
-#[cfg(test)]
-mod tests;

@@ -12,6 +12,3 @@ pub mod output;
 pub use cache::Cache;
 pub use input::In;
 pub use output::Out;
-
-#[cfg(test)]
-mod tests;

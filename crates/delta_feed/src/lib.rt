@@ -12,6 +12,3 @@ pub mod output;
 pub use feed::{Feed, FiledDeltas};
 pub use input::In;
 pub use output::Out;
-
-#[cfg(test)]
-mod tests;

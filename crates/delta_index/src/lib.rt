@@ -7,6 +7,3 @@ pub mod index;
 pub mod laws;
 
 pub use index::DeltaIndex;
-
-#[cfg(test)]
-mod tests;

@@ -4,5 +4,4 @@ pub mod KeptGroups
 pub mod Numbers
 pub mod Presence
 pub mod Stripes
-pub mod TestGroups
 pub mod WellFormedMaps

@@ -13,6 +13,3 @@ mod starting;
 pub use error::{GroupError, NoGroup};
 pub use group::{Group, Member};
 pub use group_map::GroupMap;
-
-#[cfg(test)]
-mod tests;

@@ -2,4 +2,3 @@ pub mod Counting
 pub mod Filling
 pub mod Loops
 pub mod Queues
-pub mod TestGroup

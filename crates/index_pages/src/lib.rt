@@ -10,6 +10,3 @@ pub mod pages;
 
 pub use layout::{Page, first_block};
 pub use pages::Pages;
-
-#[cfg(test)]
-mod tests;

@@ -19,6 +19,3 @@ pub use input::In;
 pub use laws::{chain_is_linked, none_is_newer, start_is_kept};
 pub use output::Out;
 pub use scan::Scan;
-
-#[cfg(test)]
-mod tests;

@@ -9,6 +9,3 @@ pub mod slots;
 pub use entry::SlotEntry;
 pub use laws::epochs_only_rise;
 pub use slots::{BadSlot, ManagerMap};
-
-#[cfg(test)]
-mod tests;

@@ -16,6 +16,3 @@ pub use joining::{JoinError, join};
 pub use reading::{Next, Reading, Stage};
 pub use round::{Answer, Round, RoundState, Told};
 pub use target::{BlockAt, Target};
-
-#[cfg(test)]
-mod tests;

@@ -4,4 +4,3 @@ pub mod Loops
 pub mod Readings
 pub mod Standing
 pub mod Starting
-pub mod TestGroups

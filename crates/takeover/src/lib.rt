@@ -15,6 +15,3 @@ pub mod take;
 pub use events::{In, Out};
 pub use laws::{index_is_the_join, nothing_comes_after_the_end};
 pub use take::Take;
-
-#[cfg(test)]
-mod tests;

@@ -18,6 +18,3 @@ pub use held::{Fetch, Giving, Held, Wanted};
 pub use input::In;
 pub use output::Out;
 pub use tokens::Tokens;
-
-#[cfg(test)]
-mod tests;

@@ -18,6 +18,3 @@ pub use input::In;
 pub use job::{Awaited, Holder, Job, Wanted};
 pub use output::Out;
 pub use slot::Slot;
-
-#[cfg(test)]
-mod tests;

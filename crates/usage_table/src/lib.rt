@@ -7,6 +7,3 @@ pub mod usage;
 
 pub use laws::counts_from_scratch;
 pub use usage::Usage;
-
-#[cfg(test)]
-mod tests;

@@ -22,6 +22,3 @@ pub use storage::{
     Delete, Deleted, Fence, Fenced, Fetch, Found, ListAsk, Listed, Missing, Store, Stored,
 };
 pub use tokens::{Forward, Gave, Gone, Grant, Recall, Supply, Want};
-
-#[cfg(test)]
-mod tests;
