@@ -1,0 +1,5 @@
+pub mod Behaves
+pub mod Opened
+pub mod Opening
+pub mod Promised
+pub mod Sending

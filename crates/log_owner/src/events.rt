@@ -1,0 +1,292 @@
+//! What a packet makes of an opening.
+ghost use Rattle.std.specs.Prelude.{◌≡◌, ◌++◌, IfOk, OnOk};
+ghost use Rattle.log_owner.specs.Opening.{scans, own_in, on_welcome, on_news, regrouped, on_fenced, fenced_by, is_fenced, on_found, found_by, on_missing, missing_by, on_stored};
+ghost use Rattle.log_owner.specs.Sending.{server_in};
+
+use crate::known::Known;
+use crate::opening::Stage;
+use crate::{Opening, Progress};
+use client_log::In as LogIn;
+use group_map::GroupMap;
+use log_scan::In;
+use node_base::{Effects, Questions};
+use std::alloc::Global;
+use wire_msg::{Fenced, Found, Missing, News, Stored, Welcome};
+use xfs_base::{Mem, NodeId};
+
+impl Opening {
+    /// The answer to a question.
+    #[tactic(auto, unfolding(crate::specs::Opening::on_welcome))]
+    pub(crate) fn on_welcome(
+        self,
+        alloc: Global,
+        effects: &mut Effects,
+        questions: &mut Questions,
+        welcome: &Welcome,
+    ) -> Mem<Progress>
+        ensures progress { IfOk result (λ progress. progress ≡ (on_welcome self questions.old welcome.now).progress) }
+        ensures questions { OnOk result (questions.new ≡ (on_welcome self questions.old welcome.now).questions) }
+        ensures effects { OnOk result (effects.new ≡ effects.old ++ (on_welcome self questions.old welcome.now).effects) }
+    {
+        let Opening { known, stage } = self;
+        match stage {
+            Stage::Scanning(scanning) => {
+                known.on_welcome(alloc, effects, questions, scanning, welcome)
+            }
+            Stage::Settling(settling) => Ok(known.settling(settling)),
+        }
+    }
+
+    /// Newer maps: their groups alone are taken.
+    #[tactic(auto, unfolding(crate::specs::Opening::on_news))]
+    pub(crate) fn on_news(
+        self,
+        alloc: Global,
+        effects: &mut Effects,
+        questions: &mut Questions,
+        news: &News,
+    ) -> Mem<Progress>
+        ensures progress { IfOk result (λ progress. progress ≡ (on_news self questions.old news.now).progress) }
+        ensures questions { OnOk result (questions.new ≡ (on_news self questions.old news.now).questions) }
+        ensures effects { OnOk result (effects.new ≡ effects.old ++ (on_news self questions.old news.now).effects) }
+    {
+        if !self.known.maps.fits(news) || !self.known.maps.is_older(news) {
+            return Ok(Progress::Opening(self));
+        }
+        let Opening { mut known, stage } = self;
+        let _newer = known.maps.take(alloc, news)?;
+        let groups = news.groups.copy(alloc)?;
+        known.regroup(alloc, effects, questions, stage, groups)
+    }
+
+    /// What a server holds of the log, in answer to the fence of this incarnation.
+    #[tactic(auto, unfolding(crate::specs::Opening::on_fenced))]
+    pub(crate) fn on_fenced(
+        self,
+        alloc: Global,
+        effects: &mut Effects,
+        questions: &mut Questions,
+        from: NodeId,
+        fenced: &Fenced,
+    ) -> Mem<Progress>
+        ensures progress { IfOk result (λ progress. progress ≡ (on_fenced self questions.old from fenced.now).progress) }
+        ensures questions { OnOk result (questions.new ≡ (on_fenced self questions.old from fenced.now).questions) }
+        ensures effects { OnOk result (effects.new ≡ effects.old ++ (on_fenced self questions.old from fenced.now).effects) }
+    {
+        match server_in(from) {
+            None => Ok(Progress::Opening(self)),
+            Some(server) => self.fenced_by(alloc, effects, questions, server, fenced),
+        }
+    }
+
+    fn fenced_by(
+        self,
+        alloc: Global,
+        effects: &mut Effects,
+        questions: &mut Questions,
+        server: u8,
+        fenced: &Fenced,
+    ) -> Mem<Progress>
+        ensures progress { IfOk result (λ progress. progress ≡ (fenced_by self questions.old fenced.now server).progress) }
+        ensures questions { OnOk result (questions.new ≡ (fenced_by self questions.old fenced.now server).questions) }
+        ensures effects { OnOk result (effects.new ≡ effects.old ++ (fenced_by self questions.old fenced.now server).effects) }
+    {
+        if !self.is_fenced(fenced) {
+            return Ok(Progress::Opening(self));
+        }
+        let input = In::Fenced {
+            server,
+            generation: fenced.generation,
+            held: fenced.held.copy(alloc)?,
+        };
+        self.scan(alloc, effects, questions, input)
+    }
+
+    fn is_fenced(&self, fenced: &Fenced) -> bool
+        ensures { result ≡ is_fenced self.now fenced.now }
+    {
+        fenced.log == self.known.owner.log && fenced.pass == self.known.owner.fence()
+    }
+
+    /// A fragment, in answer to a fetch.
+    #[tactic(auto, unfolding(crate::specs::Opening::on_found))]
+    pub(crate) fn on_found(
+        self,
+        alloc: Global,
+        effects: &mut Effects,
+        questions: &mut Questions,
+        from: NodeId,
+        found: &Found,
+    ) -> Mem<Progress>
+        ensures progress { IfOk result (λ progress. progress ≡ (on_found self questions.old from found.now).progress) }
+        ensures questions { OnOk result (questions.new ≡ (on_found self questions.old from found.now).questions) }
+        ensures effects { OnOk result (effects.new ≡ effects.old ++ (on_found self questions.old from found.now).effects) }
+    {
+        match server_in(from) {
+            None => Ok(Progress::Opening(self)),
+            Some(server) => self.found_by(alloc, effects, questions, server, found),
+        }
+    }
+
+    fn found_by(
+        self,
+        alloc: Global,
+        effects: &mut Effects,
+        questions: &mut Questions,
+        server: u8,
+        found: &Found,
+    ) -> Mem<Progress>
+        ensures progress { IfOk result (λ progress. progress ≡ (found_by self questions.old found.now server).progress) }
+        ensures questions { OnOk result (questions.new ≡ (found_by self questions.old found.now server).questions) }
+        ensures effects { OnOk result (effects.new ≡ effects.old ++ (found_by self questions.old found.now server).effects) }
+    {
+        match self.own(found.ask) {
+            None => Ok(Progress::Opening(self)),
+            Some(ask) => {
+                let input = In::Got {
+                    ask,
+                    server,
+                    generation: found.generation,
+                    fragment: found.fragment.copy(alloc)?,
+                };
+                self.scan(alloc, effects, questions, input)
+            }
+        }
+    }
+
+    /// A server lacks a segment, in answer to a fetch.
+    #[tactic(auto, unfolding(crate::specs::Opening::on_missing))]
+    pub(crate) fn on_missing(
+        self,
+        alloc: Global,
+        effects: &mut Effects,
+        questions: &mut Questions,
+        from: NodeId,
+        missing: &Missing,
+    ) -> Mem<Progress>
+        ensures progress { IfOk result (λ progress. progress ≡ (on_missing self questions.old from missing.now).progress) }
+        ensures questions { OnOk result (questions.new ≡ (on_missing self questions.old from missing.now).questions) }
+        ensures effects { OnOk result (effects.new ≡ effects.old ++ (on_missing self questions.old from missing.now).effects) }
+    {
+        match server_in(from) {
+            None => Ok(Progress::Opening(self)),
+            Some(server) => self.missing_by(alloc, effects, questions, server, missing),
+        }
+    }
+
+    fn missing_by(
+        self,
+        alloc: Global,
+        effects: &mut Effects,
+        questions: &mut Questions,
+        server: u8,
+        missing: &Missing,
+    ) -> Mem<Progress>
+        ensures progress { IfOk result (λ progress. progress ≡ (missing_by self questions.old missing.now server).progress) }
+        ensures questions { OnOk result (questions.new ≡ (missing_by self questions.old missing.now server).questions) }
+        ensures effects { OnOk result (effects.new ≡ effects.old ++ (missing_by self questions.old missing.now server).effects) }
+    {
+        match self.own(missing.ask) {
+            None => Ok(Progress::Opening(self)),
+            Some(ask) => {
+                let input = In::Missing {
+                    ask,
+                    server,
+                    generation: missing.generation,
+                };
+                self.scan(alloc, effects, questions, input)
+            }
+        }
+    }
+
+    /// A server holds a fragment of the first segment.
+    #[tactic(auto, unfolding(crate::specs::Opening::on_stored))]
+    pub(crate) fn on_stored(
+        self,
+        alloc: Global,
+        effects: &mut Effects,
+        questions: &mut Questions,
+        stored: &Stored,
+    ) -> Mem<Progress>
+        ensures progress { IfOk result (λ progress. progress ≡ (on_stored self questions.old stored.now).progress) }
+        ensures questions { OnOk result (questions.new ≡ (on_stored self questions.old stored.now).questions) }
+        ensures effects { OnOk result (effects.new ≡ effects.old ++ (on_stored self questions.old stored.now).effects) }
+    {
+        let Opening { known, stage } = self;
+        match stage {
+            Stage::Scanning(scanning) => Ok(known.scanning(scanning)),
+            Stage::Settling(settling) => {
+                let input = LogIn::Acked {
+                    name: stored.name,
+                    index: stored.index,
+                    generation: stored.generation,
+                };
+                known.write(alloc, effects, settling, input)
+            }
+        }
+    }
+
+    // The scan's number of a question of the node; none where it isn't awaited.
+    fn own(&self, ask: u32) -> Option<u32>
+        ensures { result ≡ own_in self.now.stage ask }
+    {
+        match &self.stage {
+            Stage::Scanning(scanning) => scanning.asked.own(ask),
+            Stage::Settling(_) => None,
+        }
+    }
+
+    // The scan takes an input. Once the first segment is in flight it is over.
+    fn scan(
+        self,
+        alloc: Global,
+        effects: &mut Effects,
+        questions: &mut Questions,
+        input: In,
+    ) -> Mem<Progress>
+        ensures progress { IfOk result (λ progress. progress ≡ (scans self questions.old input).progress) }
+        ensures questions { OnOk result (questions.new ≡ (scans self questions.old input).questions) }
+        ensures effects { OnOk result (effects.new ≡ effects.old ++ (scans self questions.old input).effects) }
+    {
+        let Opening { known, stage } = self;
+        match stage {
+            Stage::Scanning(scanning) => known.scan(alloc, effects, questions, scanning, input),
+            Stage::Settling(settling) => Ok(known.settling(settling)),
+        }
+    }
+}
+
+impl Known {
+    // The scan, or the log, takes newer groups.
+    fn regroup(
+        self,
+        alloc: Global,
+        effects: &mut Effects,
+        questions: &mut Questions,
+        stage: Stage,
+        groups: GroupMap,
+    ) -> Mem<Progress>
+        ensures progress { IfOk result (λ progress. progress ≡ (regrouped self questions.old groups stage).progress) }
+        ensures questions { OnOk result (questions.new ≡ (regrouped self questions.old groups stage).questions) }
+        ensures effects { OnOk result (effects.new ≡ effects.old ++ (regrouped self questions.old groups stage).effects) }
+    {
+        match stage {
+            Stage::Scanning(scanning) => {
+                self.scan(alloc, effects, questions, scanning, In::Maps(groups))
+            }
+            Stage::Settling(settling) => {
+                self.write(alloc, effects, settling, LogIn::Maps(groups))
+            }
+        }
+    }
+}
+
+// The number of a server.
+fn server_in(node: NodeId) -> Option<u8>
+    ensures { result ≡ server_in node }
+{
+    match node {
+        NodeId::Server(number) => Some(number),
+        NodeId::Client(_) | NodeId::Manager(_) | NodeId::Cleaner | NodeId::Registry => None,
+    }
+}

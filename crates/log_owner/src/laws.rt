@@ -1,0 +1,19 @@
+//! What holds of every opening. Each function stands for the law that its contract states; a call of it
+//! does nothing.
+ghost use Rattle.std.specs.Prelude.{ℕ};
+ghost use Rattle.log_owner.specs.Behaves.{Behaves};
+ghost use Rattle.log_owner.specs.declared.ended.Owner.{Owner};
+ghost use Rattle.log_owner.specs.declared.opening.Opening.{Opening};
+ghost use Rattle.log_owner.specs.Opening.{on_start, on_packet, on_tick};
+ghost use Rattle.node_base.specs.declared.questions.Questions.{Questions};
+ghost use Rattle.wire_msg.specs.declared.packet.Packet.{Packet};
+
+/// Whatever an opening is told, it says nothing to managers and clients: it asks the registry in its
+/// incarnation, asks servers for fragments, tells them to store some, and fences them, its own log alone,
+/// below its incarnation. It answers nothing, and acts only that segments are filed. As long as it goes on it
+/// is the same owner's.
+pub fn opening_only_reads_and_stores()
+    ensures start { (owner : Owner) (servers : ℕ) (q : Questions) → Behaves owner (on_start owner servers q) }
+    ensures packet { (o : Opening) (q : Questions) (p : Packet) → Behaves o.known.owner (on_packet o q p) }
+    ensures tick { (o : Opening) (q : Questions) → Behaves o.known.owner (on_tick o q) }
+{}

@@ -1,0 +1,3 @@
+pub mod GroupWalks
+pub mod Ranges
+pub mod SetupTests

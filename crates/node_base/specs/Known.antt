@@ -1,0 +1,55 @@
+-- The groups that a packet names.
+use Rattle.std.specs.Prelude.{Bool, true, ◌==◌, ◌&&◌, ◌||◌, Option, Some, None}
+use Rattle.std.specs.List.{list_all}
+use Rattle.wire_msg.specs.declared.body.Body.{Body}
+use Rattle.wire_msg.specs.declared.body.Body.TheVariants as body
+use Rattle.xfs_base.specs.declared.entry.Place.{Place}
+use Rattle.xfs_base.specs.declared.fragment.FragMeta.{FragMeta}
+use Rattle.xfs_base.specs.declared.segment.End.{End}
+use Rattle.node_base.specs.declared.maps.Maps.{Maps}
+use Rattle.node_base.specs.Maps.{knows, knows_prior}
+
+abbrev pub knows_place : Maps → Option Place → Bool
+knows_place maps None = true
+knows_place maps (Some place) = knows maps place.seg.group
+
+abbrev pub knows_meta : Maps → FragMeta → Bool
+knows_meta maps meta = knows maps meta.group && knows_prior maps meta.prior
+
+abbrev pub knows_end : Maps → End → Bool
+knows_end maps end = (end.seq == 0) || knows maps end.group
+
+-- each group that a packet names is known; maps are looked at by themselves
+abbrev pub names_known : Maps → Body → Bool
+names_known maps (body.Grant grant) = knows_place maps grant.entry.place
+names_known maps (body.Live live) = knows_place maps live.entry.place
+names_known maps (body.Check check) = knows maps check.place.seg.group
+names_known maps (body.Deltas deltas) = list_all (λ row. knows_place maps row.1.place) deltas.rows
+names_known maps (body.Report report) = knows_end maps report.end
+names_known maps (body.Store store) = knows_meta maps store.fragment.meta
+names_known maps (body.Fragment found) = knows_meta maps found.fragment.meta
+names_known maps (body.Fenced fenced) = list_all (knows_meta maps) fenced.held
+names_known maps (body.Listed listed) = list_all (knows_meta maps) listed.held
+names_known maps (body.CkptDone done) = list_all (λ part. knows maps part.group) done.parts
+names_known maps (body.Want want) = true
+names_known maps (body.Forward forward) = true
+names_known maps (body.Supply supply) = true
+names_known maps (body.Recall recall) = true
+names_known maps (body.Gave gave) = true
+names_known maps (body.Gone gone) = true
+names_known maps (body.DeltaAck ack) = true
+names_known maps (body.Poll poll) = true
+names_known maps (body.Stored stored) = true
+names_known maps (body.Fetch fetch) = true
+names_known maps (body.Missing missing) = true
+names_known maps (body.Fence fence) = true
+names_known maps (body.List ask) = true
+names_known maps (body.Delete delete) = true
+names_known maps (body.Deleted deleted) = true
+names_known maps (body.Dead dead) = true
+names_known maps (body.UsageAsk ask) = true
+names_known maps (body.Usage usage) = true
+names_known maps (body.Hello hello) = true
+names_known maps (body.Welcome welcome) = true
+names_known maps (body.MapNews news) = true
+names_known maps (body.CkptAck ack) = true

@@ -1,0 +1,10 @@
+pub mod Asking
+pub mod Beginning
+pub mod Clocks
+pub mod Effects
+pub mod Known
+pub mod Maps
+pub mod Nodes
+pub mod Room
+pub mod Setups
+pub mod Shape

@@ -1,0 +1,126 @@
+-- Packets that a node looks at.
+use Rattle.std.specs.Prelude.{ℕ, ◌+◌, Bool, true, ◌==◌, ◌&&◌, nat_le, nat_lt, List, [], ◌∷◌, Option, Some, None, length}
+use Rattle.std.specs.List.{list_all}
+use Rattle.wire_msg.specs.declared.body.Body.{Body}
+use Rattle.wire_msg.specs.declared.body.Body.TheVariants as body
+use Rattle.wire_msg.specs.declared.packet.Packet.{Packet}
+use Rattle.wire_msg.specs.declared.registry.News.{News}
+use Rattle.xfs_base.specs.declared.entry.Place.{Place}
+use Rattle.xfs_base.specs.declared.fragment.FragMeta.{FragMeta}
+use Rattle.xfs_base.specs.declared.news.SlotNews.{SlotNews}
+use Rattle.xfs_base.specs.declared.segment.SegName.{SegName}
+use Rattle.xfs_base.specs.declared.segment.SegRef.{SegRef}
+use Rattle.node_base.specs.declared.peers.Peers.{Peers}
+use Rattle.node_base.specs.Nodes.{has_node}
+
+abbrev pub is_log : ℕ → Bool
+is_log log = nat_le 1 log && nat_le log 13
+
+abbrev pub is_slot : ℕ → Bool
+is_slot slot = nat_lt slot 8
+
+abbrev pub is_name : SegName → Bool
+is_name name = is_log name.log.0
+
+abbrev pub is_place : Option Place → Bool
+is_place None = true
+is_place (Some place) = is_name place.seg.name
+
+abbrev pub is_meta : FragMeta → Bool
+is_meta meta = is_name meta.name
+
+abbrev pub is_part : SegRef → Bool
+is_part part = is_name part.name
+
+abbrev pub is_from_one : ℕ → Bool
+is_from_one seq = nat_le 1 seq
+
+-- nine numbers from 1 on
+abbrev pub is_horizon : List ℕ → Bool
+is_horizon horizon = (length horizon == 9) && list_all is_from_one horizon
+
+abbrev pub is_slot_news : SlotNews → Bool
+is_slot_news news = list_all is_part news.parts && is_horizon news.horizon
+
+-- these slots are numbered from a number on
+abbrev pub are_from : ℕ → List SlotNews → Bool
+are_from number [] = true
+are_from number (slot ∷ slots) = (slot.slot == number) && are_from (number + 1) slots
+
+-- the slots are 0 to 7, in order
+abbrev pub is_news : News → Bool
+is_news news = (length news.slots == 8) && (are_from 0 news.slots && list_all is_slot_news news.slots)
+
+-- the logs that a body names are 1 to 13, and its horizons have nine numbers from 1 on
+abbrev pub has_logs : Body → Bool
+has_logs (body.Grant grant) = is_place grant.entry.place
+has_logs (body.Gone gone) = is_name gone.seg
+has_logs (body.Deltas deltas) = list_all (λ row. is_place row.1.place) deltas.rows
+has_logs (body.Store store) = is_meta store.fragment.meta
+has_logs (body.Stored stored) = is_name stored.name
+has_logs (body.Fetch fetch) = is_name fetch.name
+has_logs (body.Fragment found) = is_meta found.fragment.meta
+has_logs (body.Missing missing) = is_name missing.name
+has_logs (body.Fence fence) = is_log fence.log.0
+has_logs (body.Fenced fenced) = is_log fenced.log.0 && list_all is_meta fenced.held
+has_logs (body.Listed listed) = list_all is_meta listed.held
+has_logs (body.Delete delete) = is_name delete.name
+has_logs (body.Deleted deleted) = is_name deleted.name
+has_logs (body.Check check) = is_name check.place.seg.name
+has_logs (body.Live live) = is_place live.entry.place
+has_logs (body.Usage usage) = list_all (λ count. is_name count.0) usage.counts
+has_logs (body.Welcome welcome) = is_news welcome.news
+has_logs (body.MapNews news) = is_news news
+has_logs (body.CkptDone done) = list_all is_part done.parts && is_horizon done.horizon
+has_logs (body.Want want) = true
+has_logs (body.Forward forward) = true
+has_logs (body.Supply supply) = true
+has_logs (body.Recall recall) = true
+has_logs (body.Gave gave) = true
+has_logs (body.DeltaAck ack) = true
+has_logs (body.Poll poll) = true
+has_logs (body.Report report) = true
+has_logs (body.List ask) = true
+has_logs (body.Dead dead) = true
+has_logs (body.UsageAsk ask) = true
+has_logs (body.Hello hello) = true
+has_logs (body.CkptAck ack) = true
+
+-- the slot that a body names is 0 to 7
+abbrev pub has_slot : Body → Bool
+has_slot (body.Deltas deltas) = is_slot deltas.slot
+has_slot (body.DeltaAck ack) = is_slot ack.slot
+has_slot (body.Poll poll) = is_slot poll.slot
+has_slot (body.Report report) = is_slot report.slot
+has_slot (body.UsageAsk ask) = is_slot ask.slot
+has_slot (body.Usage usage) = is_slot usage.slot
+has_slot (body.CkptDone done) = is_slot done.slot
+has_slot (body.CkptAck ack) = is_slot ack.slot
+has_slot (body.Want want) = true
+has_slot (body.Grant grant) = true
+has_slot (body.Forward forward) = true
+has_slot (body.Supply supply) = true
+has_slot (body.Recall recall) = true
+has_slot (body.Gave gave) = true
+has_slot (body.Gone gone) = true
+has_slot (body.Store store) = true
+has_slot (body.Stored stored) = true
+has_slot (body.Fetch fetch) = true
+has_slot (body.Fragment found) = true
+has_slot (body.Missing missing) = true
+has_slot (body.Fence fence) = true
+has_slot (body.Fenced fenced) = true
+has_slot (body.List ask) = true
+has_slot (body.Listed listed) = true
+has_slot (body.Delete delete) = true
+has_slot (body.Deleted deleted) = true
+has_slot (body.Check check) = true
+has_slot (body.Live live) = true
+has_slot (body.Dead dead) = true
+has_slot (body.Hello hello) = true
+has_slot (body.Welcome welcome) = true
+has_slot (body.MapNews news) = true
+
+-- whether a node looks at a packet: its sender is a node, and its numbers are in range
+abbrev pub is_well_formed : Peers → Packet → Bool
+is_well_formed peers packet = has_node peers packet.from && (has_logs packet.body && has_slot packet.body)

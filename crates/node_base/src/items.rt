@@ -1,0 +1,90 @@
+//! The items of a node.
+ghost use Rattle.std.specs.Prelude.{◌≡◌, ◌++◌, OnOk, MatchOption, None, Some, length};
+ghost use Rattle.node_base.specs.Beginning.{started, next_item, begun, work_at, waiting, answered, answers_unanswered};
+
+use crate::Effects;
+use version_model::{Answer, Work};
+use xfs_base::{List, Mem};
+
+/// What a node is to do, in order. It outlives a crash. Items are numbered from 1.
+#[derive(Drop)]
+pub struct Items {
+    works: List<Work>,
+    begun: u32,
+    unanswered: Option<u32>,
+}
+
+impl Items {
+    /// Nothing is begun.
+    pub fn start(works: List<Work>) -> Items
+        ensures { result ≡ started works }
+    {
+        Items {
+            works,
+            begun: 0,
+            unanswered: None,
+        }
+    }
+
+    /// Begins the next item: its number. None where none is left.
+    pub fn begin(&mut self) -> Option<u32>
+        ensures number { result ≡ next_item self.old }
+        ensures items { self.new ≡ begun self.old }
+    {
+        if (self.begun as usize) < self.works.len() && self.begun < u32::MAX {
+            self.begun += 1;
+            Some(self.begun)
+        } else {
+            None
+        }
+    }
+
+    /// What the item of this number asks for.
+    pub fn work(&self, number: u32) -> Option<&Work>
+        ensures { MatchOption result (work_at self.now number ≡ None) (λ work. work_at self.now number ≡ Some work.now) }
+    {
+        match number.checked_sub(1) {
+            Some(place) => self.works.get(place as usize),
+            None => None,
+        }
+    }
+
+    /// How many items there are.
+    pub fn len(&self) -> usize
+        ensures { result ≡ length self.now.works }
+    {
+        self.works.len()
+    }
+
+    /// How many items were begun.
+    pub fn begun(&self) -> u32
+        ensures { result ≡ self.now.begun }
+    {
+        self.begun
+    }
+
+    /// The number of the item that is begun and not answered; none where each is answered.
+    pub fn open(&self) -> Option<u32>
+        ensures { result ≡ self.now.unanswered }
+    {
+        self.unanswered
+    }
+
+    /// The item of this number is not answered at its begin.
+    pub fn wait(&mut self, number: u32)
+        ensures { self.new ≡ waiting self.old number }
+    {
+        self.unanswered = Some(number);
+    }
+
+    /// Answers the open item.
+    pub fn answer(&mut self, effects: &mut Effects, answer: Answer) -> Mem<()>
+        ensures items { self.new ≡ answered self.old }
+        ensures effects { OnOk result (effects.new ≡ effects.old ++ answers_unanswered self.old.unanswered answer) }
+    {
+        match self.unanswered.take() {
+            Some(number) => effects.answer(number, answer),
+            None => Ok(()),
+        }
+    }
+}

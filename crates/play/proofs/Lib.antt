@@ -1,0 +1,4 @@
+pub mod EachBegun
+pub mod Happening
+pub mod Left
+pub mod RunOf

@@ -1,0 +1,22 @@
+use Rattle.std.proofs.Common.{◌+◌, ◌-◌, sym, ap, ◌∙◌, fold, map, arith}
+use Rattle.std.specs.List.{range_with_len}
+use Rattle.world_base.specs.declared.event.Event.TheVariants.{Tick}
+use Rattle.world_base.specs.Cluster.{node_at}
+use Rattle.world_base.proofs.Ranges.{range_step}
+use Rattle.play.specs.Plays.{happens, ticks}
+use Rattle.play.proofs.Happening.{ticks_is}
+use Rattle.play.proofs.player.Player.round.Goals as goal
+
+pub loop-place-preserved : goal.loop-place-preserved
+loop-place-preserved g c =
+    let step = g.N.Actor.transition in
+    let p = c.loop-place.player in
+    let cluster = c.args.self.world.cluster in
+    let i = c.loop-place.place in
+    let end = c.count-place-end.result in
+    let ticked = c.in_ok-player.ensures.is ∙ ap (λ node. happens step p (Tick node)) c.node_at.ensures ∙ ticks_is step p (node_at cluster i) in (
+      ap (λ q. fold (ticks step) q (map (node_at cluster) (range_with_len (i + 1) (end - (i + 1))))) ticked
+          ∙ ap (λ places. fold (ticks step) p (map (node_at cluster) places)) (sym (range_step i end c.loop-place-test.true))
+          ∙ c.loop-place.invariant.0,
+      omega (arith, c.in_ok-player.ensures.no_more, c.loop-place.invariant.1),
+    )

@@ -1,0 +1,138 @@
+-- The play of a script on one thread: a function of the script. Each item is begun at its line, and the schedule says what
+-- happens after it. How a node takes an event is its transition.
+use Rattle.std.specs.Prelude.{ℕ, zero, suc, ◌+◌, ◌-◌, Bool, true, false, List, [], ◌∷◌, ◌++◌, length, drop, slice_get, Option, Some, None}
+use Rattle.std.specs.List.{count_by, filter_map, fold, range_with_len}
+use Rattle.script_text.specs.declared.script.Line.{Line}
+use Rattle.script_text.specs.declared.script.Script.{Script}
+use Rattle.version_model.specs.declared.act.Act.{Act}
+use Rattle.version_model.specs.declared.act.Act.TheVariants as acts
+use Rattle.version_model.specs.declared.work.Work.{Work}
+use Rattle.wire_msg.specs.declared.packet.Do.{Do}
+use Rattle.wire_msg.specs.declared.packet.Packet.{Packet}
+use Rattle.wire_msg.specs.NodeStep.{NodeStep}
+use Rattle.xfs_base.specs.declared.node.NodeId.{NodeId}
+use Rattle.xfs_base.specs.declared.setup.Setup.{Setup}
+use Rattle.world_base.specs.declared.estate.Estate.{Estate}
+use Rattle.world_base.specs.declared.event.Event.{Event}
+use Rattle.world_base.specs.declared.event.Event.TheVariants.{Begin, Deliver, Tick}
+use Rattle.world_base.specs.declared.schedule.Next.{Next}
+use Rattle.world_base.specs.declared.schedule.Next.TheVariants as next
+use Rattle.world_base.specs.declared.world.World.{World}
+use Rattle.world_base.specs.Cluster.{nodes_of}
+use Rattle.world_base.specs.Items.{actor_of}
+use Rattle.world_base.specs.NextWorld.{next_world, start_world}
+use Rattle.world_base.specs.Schedule.{Going, ScheduleState, goes, item_begun, left, repeated, sent, started, told}
+use Rattle.play.specs.declared.player.Player.{Player}
+
+abbrev pub is_answer : Act → Bool
+is_answer (acts.Answered node item answer) = true
+is_answer act = false
+
+-- how many of these acts answer an item
+abbrev pub answers : List Act → ℕ
+answers acts = count_by is_answer acts
+
+-- the packets that were sent since there were so many are handed to the schedule, by their numbers
+unfoldable pub sent_since : ScheduleState → ℕ → ℕ → ScheduleState
+sent_since schedule before now = fold sent schedule (range_with_len before (now - before))
+
+-- the play after an event that made this world: the schedule has what was sent, and what was answered is no longer unanswered
+abbrev pub with_event : {N : Type 0} → Player N → Event → World N → Player N
+with_event p event world = record {
+  world = world;
+  events = p.events ++ event ∷ [];
+  schedule = sent_since p.schedule (length p.world.sent) (length world.sent);
+  unanswered = p.unanswered - answers (drop (length p.world.acts) world.acts);
+}
+
+abbrev pub with_schedule : {N : Type 0} → Player N → ScheduleState → Player N
+with_schedule p schedule = record { world = p.world; events = p.events; schedule = schedule; unanswered = p.unanswered }
+
+abbrev pub with_one_more : {N : Type 0} → Player N → Player N
+with_one_more p = record { world = p.world; events = p.events; schedule = p.schedule; unanswered = p.unanswered + 1 }
+
+-- a line that is no item is told to the schedule
+abbrev pub told_of : {N : Type 0} → Player N → Work → Player N
+told_of p work = with_schedule p (told work p.unanswered p.schedule)
+
+-- the schedule knows that an item was begun
+abbrev pub item_told : {N : Type 0} → Player N → Player N
+item_told p = with_schedule p (item_begun p.unanswered p.schedule)
+
+-- the packet of this number was delivered
+abbrev pub delivery_told : {N : Type 0} → ℕ → Player N → Player N
+delivery_told number p = with_schedule p (repeated p.schedule number)
+
+module _ {N : Type 0} (step : N → Do → NodeStep N) where
+  -- an event happens: it makes the next world
+  unfoldable pub happens : Player N → Event → Player N
+  happens p event = with_event p event (next_world step p.world event)
+
+  -- a node begins its next item
+  unfoldable pub begins : Player N → NodeId → Player N
+  begins p node = item_told (happens (with_one_more p) (Begin node))
+
+  -- a packet that was sent is delivered
+  abbrev pub delivers : Player N → ℕ → Option Packet → Player N
+  delivers p number None = p
+  delivers p number (Some packet) = delivery_told number (happens p (Deliver packet))
+
+  unfoldable pub delivered : Player N → ℕ → Player N
+  delivered p number = delivers p number (slice_get p.world.sent number)
+
+  -- time passes at a node
+  unfoldable pub ticks : Player N → NodeId → Player N
+  ticks p node = happens p (Tick node)
+
+  -- time passes at every node, in their order
+  unfoldable pub rounded : Player N → Player N
+  rounded p = fold ticks p (nodes_of p.world.cluster)
+
+  -- what comes next happens
+  abbrev pub comes : Player N → Next → Player N
+  comes p (next.Deliver number) = delivered p number
+  comes p next.Round = rounded p
+  comes p next.Done = p
+
+  abbrev pub goes_by : Player N → Going → Player N
+  goes_by p going = comes (with_schedule p going.state) going.next
+
+  -- what the schedule says comes next happens, so many times; once the line is done nothing more does
+  unfoldable pub goes_on : ℕ → Player N → Player N
+  goes_on zero p = p
+  goes_on (suc count) p = goes_on count (goes_by p (goes p.unanswered p.schedule))
+
+  -- all that the schedule says happens for the line in hand
+  unfoldable pub goes_out : Player N → Player N
+  goes_out p = goes_on (left p.schedule) p
+
+  abbrev pub opens_for : Player N → Work → Option NodeId → Player N
+  opens_for p work None = told_of p work
+  opens_for p work (Some node) = begins p node
+
+  -- an item is begun at its line; any other line is told to the schedule
+  unfoldable pub opens : Player N → Work → Player N
+  opens p work = opens_for p work (actor_of work)
+
+  unfoldable pub plays_line : Player N → Line → Player N
+  plays_line p line = goes_out (opens p line.work)
+
+-- the play before the first line
+abbrev pub starts : {N : Type 0} → (NodeId → Setup → List Work → N) → Script → Player N
+starts first script = record { world = start_world first script; events = []; schedule = started; unanswered = 0 }
+
+-- the play of a script, line by line
+unfoldable pub played : {N : Type 0} → (N → Do → NodeStep N) → (NodeId → Setup → List Work → N) → Script → Player N
+played step first script = fold (plays_line step) (starts first script) script.lines
+
+-- the nodes whose items the lines of a script are, in order
+abbrev pub actors_of : List Line → List NodeId
+actors_of lines = filter_map (λ line. actor_of line.work) lines
+
+-- the estate that a play leaves
+abbrev pub left_by : {N : Type 0} → Script → Player N → Estate N
+left_by script p = record { script = script; events = p.events; world = p.world }
+
+-- the run that a script determines, and the world in which it ends
+abbrev pub estate_of : {N : Type 0} → (N → Do → NodeStep N) → (NodeId → Setup → List Work → N) → Script → Estate N
+estate_of step first script = left_by script (played step first script)

@@ -1,0 +1,4 @@
+pub mod Clocks
+pub mod RegistryEvents
+pub mod Rebuilds
+pub mod ServerEvents

@@ -1,0 +1,3 @@
+pub mod PutBack
+pub mod Ranges
+pub mod Standing

@@ -1,0 +1,6 @@
+pub mod Cluster
+pub mod Events
+pub mod Items
+pub mod NextWorld
+pub mod Runs
+pub mod Schedule

@@ -1,0 +1,120 @@
+-- The schedule by which one thread plays a script: which packet comes next, and when time passes. Packets are known by numbers.
+use Rattle.std.specs.Prelude.{ℕ, ◌+◌, ◌-◌, ◌*◌, ◌/◌, ◌%◌, Bool, true, false, List, [], ◌∷◌, ◌++◌, drop, length, slice_index, nat_lt, ◌==◌, ◌||◌, Option, Some, None, if◌then◌else◌}
+use Rattle.std.specs.List.{remove}
+use Rattle.version_model.specs.declared.work.Work.{Work}
+use Rattle.version_model.specs.declared.work.Work.TheVariants as works
+use Rattle.world_base.specs.declared.schedule.Next.{Next}
+use Rattle.world_base.specs.declared.schedule.Next.TheVariants.{Deliver, Round, Done}
+
+-- the packets on their way, the oldest first; how many of the next are lost, and how many deliveries repeated; the number of
+-- which the order is drawn, where it is; whether the packets are held back; and how many deliveries and rounds are left for the
+-- line in hand
+pub record ScheduleState : Type 0 where
+  pub queue : List ℕ
+  pub lose : ℕ
+  pub again : ℕ
+  pub mixer : Option ℕ
+  pub holding : Bool
+  pub deliveries : ℕ
+  pub rounds : ℕ
+
+-- before the first line nothing is on its way
+abbrev pub started : ScheduleState
+started = record { queue = []; lose = 0; again = 0; mixer = None; holding = false; deliveries = 0; rounds = 0 }
+
+-- a packet is sent: it is on its way, or one of those that are lost
+unfoldable pub sent : ScheduleState → ℕ → ScheduleState
+sent s number =
+    if nat_lt 0 s.lose
+    then record s { lose = s.lose - 1 }
+    else record s { queue = s.queue ++ number ∷ [] }
+
+-- a packet was delivered: it is on its way once more, where deliveries are repeated
+unfoldable pub repeated : ScheduleState → ℕ → ScheduleState
+repeated s number =
+    if nat_lt 0 s.again
+    then record s { again = s.again - 1; queue = s.queue ++ number ∷ [] }
+    else s
+
+-- so many deliveries may be made for the line in hand, and so many rounds
+abbrev pub with_room : ℕ → ℕ → ScheduleState → ScheduleState
+with_room deliveries rounds s = record s { deliveries = deliveries; rounds = rounds }
+
+-- the queue is drained: 20,000 deliveries, and rounds by what is lost and unanswered
+abbrev pub drained : ℕ → ScheduleState → ScheduleState
+drained unanswered s = with_room 20000 (16 + s.lose + 4 * unanswered) s
+
+-- an item was begun: the queue is drained, unless the packets are held back
+unfoldable pub item_begun : ℕ → ScheduleState → ScheduleState
+item_begun unanswered s = if s.holding then with_room 0 0 s else drained unanswered s
+
+-- the number of which the order is drawn: 0 ends it
+abbrev pub mixer_of : ℕ → Option ℕ
+mixer_of number = if number == 0 then None else Some number
+
+-- a line that is no item
+unfoldable pub told : Work → ℕ → ScheduleState → ScheduleState
+told (works.NetLose count) unanswered s = record (with_room 0 0 s) { lose = count }
+told (works.NetAgain count) unanswered s = record (with_room 0 0 s) { again = count }
+told (works.NetMix number) unanswered s = record (with_room 0 0 s) { mixer = mixer_of number }
+told works.NetHold unanswered s = record (with_room 0 0 s) { holding = true }
+told works.NetGo unanswered s = drained unanswered (record s { holding = false })
+told (works.NetStep count) unanswered s = with_room count 0 s
+told work unanswered s = with_room 0 0 s
+
+-- the number that follows one of which is drawn, and what is drawn of it
+abbrev pub next_number : ℕ → ℕ
+next_number x = (x * 1103515245 + 12345) % 2147483648
+
+abbrev pub drawn : ℕ → ℕ
+drawn x = x / 65536
+
+abbrev pub is_done : Next → Bool
+is_done (Deliver number) = false
+is_done Round = false
+is_done Done = true
+
+-- what comes next, and the schedule then
+pub record Going : Type 0 where
+  pub next : Next
+  pub state : ScheduleState
+
+-- a delivery is made
+abbrev pub delivery_made : ScheduleState → ScheduleState
+delivery_made s = record s { deliveries = s.deliveries - 1 }
+
+-- the place of a packet that is drawn, among so many, with the number of the last draw
+abbrev pub drawn_place : ℕ → ℕ → ℕ
+drawn_place x count = drawn (next_number x) % count
+
+-- the oldest packet comes next, or, with a mixer, one that is drawn
+abbrev pub delivers : Option ℕ → ScheduleState → Going
+delivers None s = record {
+  next = Deliver (slice_index s.queue 0);
+  state = delivery_made (record s { queue = drop 1 s.queue });
+}
+delivers (Some x) s = record {
+  next = Deliver (slice_index s.queue (drawn_place x (length s.queue)));
+  state = delivery_made (record s { queue = remove s.queue (drawn_place x (length s.queue)); mixer = Some (next_number x) });
+}
+
+-- the line is done
+abbrev pub done : ScheduleState → Going
+done s = record { next = Done; state = s }
+
+-- nothing is on its way: time passes where an item is unanswered, as often as it may
+abbrev pub passes : ℕ → ScheduleState → Going
+passes unanswered s =
+    if (unanswered == 0) || (s.rounds == 0) then done s
+    else record { next = Round; state = record s { rounds = s.rounds - 1 } }
+
+-- what comes next for the line in hand
+unfoldable pub goes : ℕ → ScheduleState → Going
+goes unanswered s =
+    if length s.queue == 0 then passes unanswered s
+    else if s.deliveries == 0 then done s
+    else delivers s.mixer s
+
+-- how much may still happen for the line in hand: it falls by one with each thing that does
+abbrev pub left : ScheduleState → ℕ
+left s = s.deliveries + s.rounds

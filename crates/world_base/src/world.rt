@@ -1,0 +1,136 @@
+//! All nodes of a run, what they sent and what they did.
+ghost use Rattle.std.specs.Prelude.{◌≡◌, ◌<◌, length, Some, IfOk, IfSome};
+ghost use Rattle.world_base.specs.Cluster.{HasNode, cluster_of};
+ghost use Rattle.world_base.specs.NextWorld.{after_turn, clock_at, first_node, first_nodes, happened, happened_at, next_world, start_world, turn_of};
+ghost use Rattle.node_base.specs.Setups.{IsSetup};
+
+use crate::turn::{clock_after, note_all, send_all, set_clock, turn_of};
+use crate::{Cluster, Event, Member, items_of};
+use script_text::Script;
+use std::alloc::Global;
+use version_model::Act;
+use wire_msg::{Do, Packet};
+use xfs_base::{List, Mem, NodeId};
+
+/// A world of nodes of a kind. What was sent stays in it: the network may bring a packet late, or once
+/// more.
+#[derive(Drop)]
+pub struct World<N> {
+    /// Which nodes there are.
+    pub cluster: Cluster,
+    /// The nodes, in their order.
+    pub nodes: List<N>,
+    /// The clock of each node: greater than that of each packet that it took.
+    pub clocks: List<u64>,
+    /// All packets that were sent, in order, each with the clock of the event that sent it.
+    pub sent: List<Packet>,
+    /// All that was done, in order.
+    pub acts: List<Act>,
+}
+
+/// The nodes before the first event of a script, in their order.
+fn first_nodes<N: Member>(alloc: Global, cluster: Cluster, script: &Script) -> Mem<List<N>>
+    requires setup { IsSetup script.now.setup }
+    requires cluster { cluster ≡ cluster_of script.now.setup }
+    ensures { IfOk result (λ nodes. nodes ≡ first_nodes N.first script.now cluster) }
+{
+    let mut nodes = List::new(alloc);
+    for place in 0..cluster.count() {
+        let node = first_node(alloc, script, cluster.node_at(place))?;
+        nodes.push(node)?;
+    }
+    Ok(nodes)
+}
+
+/// A node before the first event of a script, with its items.
+fn first_node<N: Member>(alloc: Global, script: &Script, node: NodeId) -> Mem<N>
+    requires setup { IsSetup script.now.setup }
+    requires node { HasNode script.now.setup node }
+    ensures { IfOk result (λ started. started ≡ first_node N.first script.now node) }
+{
+    let items = items_of(alloc, script.lines.as_slice(), node)?;
+    N::start(alloc, node, &script.setup, items)
+}
+
+impl<N: Member> World<N> {
+    /// The world before the first event of a script.
+    #[tactic(auto, unfolding(crate::specs::NextWorld::start_world))]
+    pub fn start(alloc: Global, script: &Script) -> Mem<World<N>>
+        requires { IsSetup script.now.setup }
+        ensures { IfOk result (λ world. world ≡ start_world N.first script.now) }
+    {
+        let cluster = Cluster::of(&script.setup);
+        let nodes = first_nodes(alloc, cluster, script)?;
+        let clocks = List::from_vec(vec![in alloc; 0; cluster.count()]?);
+        Ok(World {
+            cluster,
+            nodes,
+            clocks,
+            sent: List::new(alloc),
+            acts: List::new(alloc),
+        })
+    }
+
+    /// The world after the node at a place had its turn at this clock.
+    fn turned(self, alloc: Global, place: usize, clock: u64, what: &Do) -> Mem<World<N>>
+        requires node { place < length self.nodes }
+        requires clock { place < length self.clocks }
+        ensures { IfOk result (λ world. world ≡ after_turn N.transition self place clock (turn_of N.transition self.nodes place what.now)) }
+    {
+        let turn = turn_of(alloc, self.nodes, place, what)?;
+        let mut sent = self.sent;
+        send_all(&mut sent, clock, turn.packets)?;
+        let mut acts = self.acts;
+        note_all(&mut acts, turn.acts)?;
+        Ok(World {
+            cluster: self.cluster,
+            nodes: turn.nodes,
+            clocks: set_clock(self.clocks, place, clock),
+            sent,
+            acts,
+        })
+    }
+
+    /// The clock of an event of the node at a place; none where there is no such node.
+    fn clock_at(&self, place: usize, what: &Do) -> Option<u64>
+        ensures is { result ≡ clock_at self.now place what.now }
+        ensures within { IfSome result (λ clock. (place < length self.now.nodes) × (place < length self.now.clocks)) }
+    {
+        if place < self.nodes.len() && place < self.clocks.len() {
+            clock_after(self.clocks.as_slice()[place], what)
+        } else {
+            None
+        }
+    }
+
+    /// The world after this happened to the node at a place; nothing does where there is none.
+    #[tactic(auto, unfolding(crate::specs::NextWorld::happened_at))]
+    fn happen_at(self, alloc: Global, place: usize, what: &Do) -> Mem<World<N>>
+        ensures { IfOk result (λ world. world ≡ happened_at N.transition self place what.now) }
+    {
+        match self.clock_at(place, what) {
+            None => Ok(self),
+            Some(clock) => self.turned(alloc, place, clock, what),
+        }
+    }
+
+    /// The world after this happened to a node. Nothing changes where the run has no such node, or where
+    /// the clock of the event would pass its end.
+    #[tactic(auto, unfolding(crate::specs::NextWorld::happened))]
+    pub fn happen(self, alloc: Global, node: NodeId, what: &Do) -> Mem<World<N>>
+        ensures { IfOk result (λ world. world ≡ happened N.transition self node what.now) }
+    {
+        match self.cluster.place(node) {
+            None => Ok(self),
+            Some(place) => self.happen_at(alloc, place, what),
+        }
+    }
+
+    /// The world after an event: the next world.
+    pub fn apply(self, alloc: Global, event: &Event) -> Mem<World<N>>
+        ensures { IfOk result (λ world. world ≡ next_world N.transition self event.now) }
+    {
+        let what = event.what(alloc)?;
+        self.happen(alloc, event.node(), &what)
+    }
+}
