@@ -1,0 +1,4 @@
+mod Lent
+mod Loops
+mod Starting
+mod Turns

@@ -1,0 +1,126 @@
+-- Where a manager stands, and what its next item makes of it.
+use Rattle.std.specs.Prelude.{ℕ, Bool, List, [], ◌∷◌, ◌++◌, Option, Some, None}
+use Rattle.log_owner.specs.Sending.{hello}
+use Rattle.node_base.specs.Asking.{next_ask, drawn}
+use Rattle.node_base.specs.Beginning.{next_item, begun, work_at, answers_unanswered}
+use Rattle.node_base.specs.declared.effects.Effect.{Effect}
+use Rattle.node_base.specs.declared.effects.Effect.TheVariants.{Answer as Answers}
+use Rattle.version_model.specs.declared.answer.Answer.{Answer}
+use Rattle.version_model.specs.declared.answer.Answer.TheVariants as answer
+use Rattle.version_model.specs.declared.work.Work.{Work}
+use Rattle.version_model.specs.declared.work.Work.TheVariants as work
+use Rattle.xfs_base.specs.Steps.{Stepped, still, after}
+use Rattle.manager_node.specs.Checkpoints.{Done, on_checkpoint}
+use Rattle.manager_node.specs.declared.beginning.Wish.{Wish}
+use Rattle.manager_node.specs.declared.beginning.Wish.TheVariants.{Crash, Restart, Checkpoint}
+use Rattle.manager_node.specs.declared.lasting.Lasting.{Lasting as Kept}
+use Rattle.manager_node.specs.declared.phase.Phase.{Phase}
+use Rattle.manager_node.specs.declared.phase.Phase.TheVariants.{Down, Waiting, Serving as Serves}
+use Rattle.manager_node.specs.declared.serving.Serving.{Serving}
+use Rattle.manager_node.specs.Lasting.{kept_has_room, with_answer}
+use Rattle.manager_node.specs.Numbers.{risen}
+use Rattle.manager_node.specs.Serving.{serving_room}
+
+-- the phase of a manager after an event, and what the event has it do
+abbrev pub Went_to : Type 0
+Went_to = Stepped Phase Effect
+
+-- what outlives a crash
+abbrev pub lasting_of : Phase → Kept
+lasting_of (Down kept) = kept
+lasting_of (Waiting kept hello) = kept
+lasting_of (Serves s) = s.lasting
+
+-- no event can raise a counter past its end
+abbrev pub phase_has_room : Phase → Bool
+phase_has_room (Down kept) = kept_has_room kept
+phase_has_room (Waiting kept hello) = kept_has_room kept
+phase_has_room (Serves s) = serving_room s
+
+-- it serves, and this is what was done
+abbrev pub serves : Done → Went_to
+serves d = record { state = Serves d.state; outs = d.outs }
+
+-- ---- crash and restart
+
+-- all is lost but what outlives a crash; the item that is open is cut
+unfoldable pub crashes : Kept → ℕ → Went_to
+crashes kept number = record {
+  state = Down (with_answer kept);
+  outs = answers_unanswered kept.items.unanswered answer.Cut ++ Answers number answer.Done ∷ [];
+}
+
+abbrev pub next_life : Kept → Kept
+next_life kept = record kept { inc = risen kept.inc; questions = drawn kept.questions }
+
+-- the next incarnation begins: it asks for the maps
+unfoldable pub restarts : Kept → ℕ → Went_to
+restarts kept number = record {
+  state = Waiting (next_life kept) (next_ask kept.questions);
+  outs = Answers number answer.Done ∷ hello (risen kept.inc) (next_ask kept.questions) ∷ [];
+}
+
+-- ---- the next item
+
+abbrev pub wish_in : Work → Wish
+wish_in (work.Crash node) = Crash
+wish_in (work.Restart node) = Restart
+wish_in _ = Checkpoint
+
+abbrev pub wish_at : Option Work → Wish
+wish_at None = Checkpoint
+wish_at (Some asked) = wish_in asked
+
+-- what the item of this number asks for
+abbrev pub wish_of : Kept → ℕ → Wish
+wish_of kept number = wish_at (work_at kept.items number)
+
+abbrev pub answers : Phase → ℕ → Answer → Went_to
+answers p number a = record { state = p; outs = Answers number a ∷ [] }
+
+-- while it is down, all but a restart is refused
+abbrev pub down_wish : Kept → ℕ → Wish → Went_to
+down_wish kept number Restart = restarts kept number
+down_wish kept number Crash = answers (Down kept) number answer.Down
+down_wish kept number Checkpoint = answers (Down kept) number answer.Down
+
+-- while it awaits its Welcome it manages no slot
+abbrev pub waiting_wish : Kept → ℕ → ℕ → Wish → Went_to
+waiting_wish kept hello number Crash = crashes kept number
+waiting_wish kept hello number Restart = answers (Waiting kept hello) number answer.Up
+waiting_wish kept hello number Checkpoint = answers (Waiting kept hello) number (answer.Count 0)
+
+abbrev pub serving_wish : Serving → ℕ → Wish → Went_to
+serving_wish s number Crash = crashes s.lasting number
+serving_wish s number Restart = answers (Serves s) number answer.Up
+serving_wish s number Checkpoint = serves (on_checkpoint s number)
+
+abbrev pub with_begun : Kept → Kept
+with_begun kept = record kept { items = begun kept.items }
+
+abbrev pub down_item : Kept → Option ℕ → Went_to
+down_item kept None = still (Down kept)
+down_item kept (Some number) = down_wish kept number (wish_of kept number)
+
+abbrev pub waiting_item : Kept → ℕ → Option ℕ → Went_to
+waiting_item kept hello None = still (Waiting kept hello)
+waiting_item kept hello (Some number) = waiting_wish kept hello number (wish_of kept number)
+
+abbrev pub serving_item : Serving → Option ℕ → Went_to
+serving_item s None = still (Serves s)
+serving_item s (Some number) = serving_wish s number (wish_of s.lasting number)
+
+unfoldable pub begin_down : Kept → Went_to
+begin_down kept = down_item (with_begun kept) (next_item kept.items)
+
+unfoldable pub begin_waiting : Kept → ℕ → Went_to
+begin_waiting kept hello = waiting_item (with_begun kept) hello (next_item kept.items)
+
+unfoldable pub begin_serving : Serving → Went_to
+begin_serving s = serving_item (record s { lasting = with_begun s.lasting }) (next_item s.lasting.items)
+
+-- Begin
+abbrev pub on_begin : Phase → Went_to
+on_begin (Down kept) = begin_down kept
+on_begin (Waiting kept hello) = begin_waiting kept hello
+on_begin (Serves s) = begin_serving s

@@ -1,0 +1,25 @@
+//! The manager as what it does at each event.
+use crate::Manager;
+use node_base::Effects;
+use std::alloc::Global;
+use version_model::Act;
+use wire_msg::{Actor, Do, Packet};
+use xfs_base::{List, Mem, NodeId};
+
+impl Actor for Manager {
+    ghost use Rattle.manager_node.specs.Events.{manager_step};
+    ghost use Rattle.manager_node.specs.Clocks.{manager_sends_clock_0};
+
+    ghost transition = { manager_step };
+
+    fn step(self, alloc: Global, what: &Do) -> Mem<(Manager, List<Packet>, List<Act>)> {
+        let node = NodeId::Manager(self.phase.lasting().number);
+        let mut effects = Effects::new(alloc);
+        let peers = self.peers;
+        let phase = self.happens(alloc, &mut effects, what)?;
+        let (packets, acts) = effects.into_parts(alloc, node)?;
+        Ok((Manager { peers, phase }, packets, acts))
+    }
+
+    ghost no_clock = { manager_sends_clock_0 };
+}

@@ -1,0 +1,163 @@
+//! The next item of a manager begins.
+ghost use Rattle.std.specs.Prelude.{◌≡◌, ◌++◌, IfOk, OnOk};
+ghost use Rattle.manager_node.specs.Phases.{wish_of, crashes, restarts, down_wish, waiting_wish, serving_wish, begin_down, begin_waiting, begin_serving};
+
+use crate::lasting::Lasting;
+use crate::phase::Phase;
+use crate::serving::Serving;
+use log_owner::sending::send_hello;
+use node_base::Effects;
+use std::alloc::Global;
+use version_model::{Answer, Work};
+use xfs_base::Mem;
+
+/// What an item asks for.
+#[derive(Clone, Copy)]
+pub(crate) enum Wish {
+    /// That the manager crashes.
+    Crash,
+    /// That it starts again.
+    Restart,
+    /// A checkpoint of its slots.
+    Checkpoint,
+}
+
+fn wish_of(lasting: &Lasting, number: u32) -> Wish
+    ensures { result ≡ wish_of lasting.now number }
+{
+    match lasting.items.work(number) {
+        Some(Work::Crash { node: _ }) => Wish::Crash,
+        Some(Work::Restart { node: _ }) => Wish::Restart,
+        _ => Wish::Checkpoint,
+    }
+}
+
+/// The next item of a manager that is down.
+#[tactic(auto, unfolding(crate::specs::Phases::begin_down))]
+pub(crate) fn begin_down(effects: &mut Effects, lasting: Lasting) -> Mem<Phase>
+    ensures state { IfOk result (λ phase. phase ≡ (begin_down lasting).state) }
+    ensures effects { OnOk result (effects.new ≡ effects.old ++ (begin_down lasting).outs) }
+{
+    let mut lasting = lasting;
+    let Some(number) = lasting.items.begin() else {
+        return Ok(Phase::Down(lasting));
+    };
+    let wish = wish_of(&lasting, number);
+    down_wish(effects, lasting, number, wish)
+}
+
+// A restart, and all else is refused.
+fn down_wish(effects: &mut Effects, lasting: Lasting, number: u32, wish: Wish) -> Mem<Phase>
+    ensures state { IfOk result (λ phase. phase ≡ (down_wish lasting number wish).state) }
+    ensures effects { OnOk result (effects.new ≡ effects.old ++ (down_wish lasting number wish).outs) }
+{
+    match wish {
+        Wish::Restart => restart(effects, lasting, number),
+        Wish::Crash | Wish::Checkpoint => {
+            effects.answer(number, Answer::Down)?;
+            Ok(Phase::Down(lasting))
+        }
+    }
+}
+
+/// The next item of a manager that awaits its Welcome.
+#[tactic(auto, unfolding(crate::specs::Phases::begin_waiting))]
+pub(crate) fn begin_waiting(effects: &mut Effects, lasting: Lasting, hello: u32) -> Mem<Phase>
+    ensures state { IfOk result (λ phase. phase ≡ (begin_waiting lasting hello).state) }
+    ensures effects { OnOk result (effects.new ≡ effects.old ++ (begin_waiting lasting hello).outs) }
+{
+    let mut lasting = lasting;
+    let Some(number) = lasting.items.begin() else {
+        return Ok(Phase::Waiting(lasting, hello));
+    };
+    let wish = wish_of(&lasting, number);
+    waiting_wish(effects, lasting, hello, number, wish)
+}
+
+// It manages no slot yet.
+fn waiting_wish(
+    effects: &mut Effects,
+    lasting: Lasting,
+    hello: u32,
+    number: u32,
+    wish: Wish,
+) -> Mem<Phase>
+    ensures state { IfOk result (λ phase. phase ≡ (waiting_wish lasting hello number wish).state) }
+    ensures effects { OnOk result (effects.new ≡ effects.old ++ (waiting_wish lasting hello number wish).outs) }
+{
+    match wish {
+        Wish::Crash => crash(effects, lasting, number),
+        Wish::Restart => {
+            effects.answer(number, Answer::Up)?;
+            Ok(Phase::Waiting(lasting, hello))
+        }
+        Wish::Checkpoint => {
+            effects.answer(number, Answer::Count(0))?;
+            Ok(Phase::Waiting(lasting, hello))
+        }
+    }
+}
+
+/// The next item of a manager that serves.
+#[tactic(auto, unfolding(crate::specs::Phases::begin_serving))]
+pub(crate) fn begin_serving(alloc: Global, effects: &mut Effects, serving: Serving) -> Mem<Phase>
+    ensures state { IfOk result (λ phase. phase ≡ (begin_serving serving).state) }
+    ensures effects { OnOk result (effects.new ≡ effects.old ++ (begin_serving serving).outs) }
+{
+    let mut serving = serving;
+    let Some(number) = serving.lasting.items.begin() else {
+        return Ok(Phase::Serving(serving));
+    };
+    let wish = wish_of(&serving.lasting, number);
+    serving_wish(alloc, effects, serving, number, wish)
+}
+
+fn serving_wish(
+    alloc: Global,
+    effects: &mut Effects,
+    serving: Serving,
+    number: u32,
+    wish: Wish,
+) -> Mem<Phase>
+    ensures state { IfOk result (λ phase. phase ≡ (serving_wish serving number wish).state) }
+    ensures effects { OnOk result (effects.new ≡ effects.old ++ (serving_wish serving number wish).outs) }
+{
+    match wish {
+        Wish::Crash => crash(effects, serving.lasting, number),
+        Wish::Restart => {
+            effects.answer(number, Answer::Up)?;
+            Ok(Phase::Serving(serving))
+        }
+        Wish::Checkpoint => {
+            let mut serving = serving;
+            serving.on_checkpoint(alloc, effects, number)?;
+            Ok(Phase::Serving(serving))
+        }
+    }
+}
+
+// All is lost but what outlives a crash: the item that is open is cut.
+#[tactic(auto, unfolding(crate::specs::Phases::crashes))]
+fn crash(effects: &mut Effects, lasting: Lasting, number: u32) -> Mem<Phase>
+    ensures state { IfOk result (λ phase. phase ≡ (crashes lasting number).state) }
+    ensures effects { OnOk result (effects.new ≡ effects.old ++ (crashes lasting number).outs) }
+{
+    let mut lasting = lasting;
+    lasting.answer(effects, Answer::Cut)?;
+    effects.answer(number, Answer::Done)?;
+    Ok(Phase::Down(lasting))
+}
+
+// The next incarnation begins: it asks for the maps.
+#[tactic(auto, unfolding(crate::specs::Phases::restarts))]
+fn restart(effects: &mut Effects, lasting: Lasting, number: u32) -> Mem<Phase>
+    ensures state { IfOk result (λ phase. phase ≡ (restarts lasting number).state) }
+    ensures effects { OnOk result (effects.new ≡ effects.old ++ (restarts lasting number).outs) }
+{
+    let mut lasting = lasting;
+    lasting.inc = lasting.inc.saturating_add(1);
+    let hello = lasting.questions.draw();
+    effects.answer(number, Answer::Done)?;
+    send_hello(effects, lasting.inc, hello)?;
+    Ok(Phase::Waiting(lasting, hello))
+}

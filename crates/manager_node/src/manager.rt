@@ -1,0 +1,204 @@
+//! The manager.
+ghost use Rattle.std.specs.Prelude.{◌≡◌, ◌++◌, IfOk, OnOk};
+ghost use Rattle.node_base.specs.Setups.{IsSetup};
+ghost use Rattle.manager_node.specs.Phases.{lasting_of, on_begin};
+ghost use Rattle.manager_node.specs.Events.{first_manager, takes_welcome, on_welcome, on_waiting, on_packet, on_deliver, on_time, on_event, happens};
+
+use crate::beginning::{begin_down, begin_serving, begin_waiting};
+use crate::lasting::Lasting;
+use crate::phase::Phase;
+use crate::serving::Serving;
+use log_owner::sending::send_hello;
+use node_base::{Effects, Items, Maps, Peers, Questions, groups_of, is_well_formed};
+use std::alloc::Global;
+use version_model::Work;
+use wire_msg::{Body, Do, Packet, Welcome};
+use xfs_base::{List, Mem, NodeId, Setup};
+
+/// A manager: of each of its slots it has the tokens and the index.
+#[derive(Drop)]
+pub struct Manager {
+    pub(crate) peers: Peers,
+    pub(crate) phase: Phase,
+}
+
+impl Manager {
+    /// A manager at the start of a run: it manages its slots, in which nothing has happened.
+    pub fn start(alloc: Global, number: u8, setup: &Setup, items: List<Work>) -> Mem<Manager>
+        requires { IsSetup setup.now }
+        ensures { IfOk result (λ manager. manager ≡ first_manager number setup.now items) }
+    {
+        let groups = groups_of(alloc, setup)?;
+        let lasting = Lasting {
+            number,
+            inc: 1,
+            questions: Questions::new(),
+            items: Items::start(items),
+        };
+        Ok(Manager {
+            peers: Peers::of(setup),
+            phase: Phase::Serving(Serving::start(alloc, lasting, setup.managers, groups)?),
+        })
+    }
+
+    /// The items of the node.
+    pub fn items(&self) -> &Items
+        ensures { result.now ≡ (lasting_of self.now.phase).items }
+    {
+        &self.phase.lasting().items
+    }
+
+    // Where a counter is near its end, the event changes nothing.
+    #[tactic(auto, unfolding(crate::specs::Events::happens))]
+    pub(crate) fn happens(self, alloc: Global, effects: &mut Effects, what: &Do) -> Mem<Phase>
+        ensures state { IfOk result (λ phase. phase ≡ (happens self what.now).state) }
+        ensures effects { OnOk result (effects.new ≡ effects.old ++ (happens self what.now).outs) }
+    {
+        let Manager { peers, phase } = self;
+        if phase.has_room() {
+            on_event(alloc, effects, peers, phase, what)
+        } else {
+            Ok(phase)
+        }
+    }
+}
+
+fn on_event(
+    alloc: Global,
+    effects: &mut Effects,
+    peers: Peers,
+    phase: Phase,
+    what: &Do,
+) -> Mem<Phase>
+    ensures state { IfOk result (λ after. after ≡ (on_event peers phase what.now).state) }
+    ensures effects { OnOk result (effects.new ≡ effects.old ++ (on_event peers phase what.now).outs) }
+{
+    match what {
+        Do::Begin => on_begin(alloc, effects, phase),
+        Do::Deliver(packet) => on_deliver(alloc, effects, peers, phase, packet),
+        Do::Tick => on_time(alloc, effects, phase),
+    }
+}
+
+// The next item begins.
+fn on_begin(alloc: Global, effects: &mut Effects, phase: Phase) -> Mem<Phase>
+    ensures state { IfOk result (λ after. after ≡ (on_begin phase).state) }
+    ensures effects { OnOk result (effects.new ≡ effects.old ++ (on_begin phase).outs) }
+{
+    match phase {
+        Phase::Down(lasting) => begin_down(effects, lasting),
+        Phase::Waiting(lasting, hello) => begin_waiting(effects, lasting, hello),
+        Phase::Serving(serving) => begin_serving(alloc, effects, serving),
+    }
+}
+
+// A packet comes.
+#[tactic(auto, unfolding(crate::specs::Events::on_deliver))]
+fn on_deliver(
+    alloc: Global,
+    effects: &mut Effects,
+    peers: Peers,
+    phase: Phase,
+    packet: &Packet,
+) -> Mem<Phase>
+    ensures state { IfOk result (λ after. after ≡ (on_deliver peers phase packet.now).state) }
+    ensures effects { OnOk result (effects.new ≡ effects.old ++ (on_deliver peers phase packet.now).outs) }
+{
+    if is_well_formed(peers, packet) {
+        on_packet(alloc, effects, peers, phase, packet)
+    } else {
+        Ok(phase)
+    }
+}
+
+// A manager that is down takes no packet, and one that awaits its Welcome takes that alone.
+fn on_packet(
+    alloc: Global,
+    effects: &mut Effects,
+    peers: Peers,
+    phase: Phase,
+    packet: &Packet,
+) -> Mem<Phase>
+    ensures state { IfOk result (λ after. after ≡ (on_packet peers phase packet.now).state) }
+    ensures effects { OnOk result (effects.new ≡ effects.old ++ (on_packet peers phase packet.now).outs) }
+{
+    match phase {
+        Phase::Down(lasting) => Ok(Phase::Down(lasting)),
+        Phase::Waiting(lasting, hello) => {
+            on_waiting(alloc, effects, peers, lasting, hello, &packet.body)
+        }
+        Phase::Serving(serving) => {
+            let mut serving = serving;
+            serving.hear(alloc, effects, peers.clients, packet)?;
+            Ok(Phase::Serving(serving))
+        }
+    }
+}
+
+fn on_waiting(
+    alloc: Global,
+    effects: &mut Effects,
+    peers: Peers,
+    lasting: Lasting,
+    hello: u32,
+    body: &Body,
+) -> Mem<Phase>
+    ensures state { IfOk result (λ after. after ≡ (on_waiting peers lasting hello body.now).state) }
+    ensures effects { OnOk result (effects.new ≡ effects.old ++ (on_waiting peers lasting hello body.now).outs) }
+{
+    match body {
+        Body::Welcome(welcome) => on_welcome(alloc, effects, peers, lasting, hello, welcome),
+        _ => Ok(Phase::Waiting(lasting, hello)),
+    }
+}
+
+// Whether these are the maps that a manager awaits that has started again.
+fn takes_welcome(peers: Peers, lasting: &Lasting, hello: u32, welcome: &Welcome) -> bool
+    ensures { result ≡ takes_welcome peers lasting.now hello welcome.now }
+{
+    welcome.inc == lasting.inc
+        && welcome.ask == hello
+        && Maps::forgotten(peers.servers).fits(&welcome.news)
+}
+
+#[tactic(auto, unfolding(crate::specs::Events::on_welcome))]
+fn on_welcome(
+    alloc: Global,
+    effects: &mut Effects,
+    peers: Peers,
+    lasting: Lasting,
+    hello: u32,
+    welcome: &Welcome,
+) -> Mem<Phase>
+    ensures state { IfOk result (λ after. after ≡ (on_welcome peers lasting hello welcome.now).state) }
+    ensures effects { OnOk result (effects.new ≡ effects.old ++ (on_welcome peers lasting hello welcome.now).outs) }
+{
+    if !takes_welcome(peers, &lasting, hello, welcome) {
+        return Ok(Phase::Waiting(lasting, hello));
+    }
+    let maps = Maps::forgotten(peers.servers);
+    let groups = welcome.news.groups.copy(alloc)?;
+    let mut serving = Serving::again(alloc, lasting, maps, groups)?;
+    serving.on_news(alloc, effects, peers.clients, &welcome.news)?;
+    Ok(Phase::Serving(serving))
+}
+
+// Time passes.
+#[tactic(auto, unfolding(crate::specs::Events::on_time))]
+fn on_time(alloc: Global, effects: &mut Effects, phase: Phase) -> Mem<Phase>
+    ensures state { IfOk result (λ after. after ≡ (on_time phase).state) }
+    ensures effects { OnOk result (effects.new ≡ effects.old ++ (on_time phase).outs) }
+{
+    match phase {
+        Phase::Down(lasting) => Ok(Phase::Down(lasting)),
+        Phase::Waiting(lasting, hello) => {
+            send_hello(effects, lasting.inc, hello)?;
+            Ok(Phase::Waiting(lasting, hello))
+        }
+        Phase::Serving(serving) => {
+            let mut serving = serving;
+            serving.on_tick(alloc, effects)?;
+            Ok(Phase::Serving(serving))
+        }
+    }
+}
