@@ -4,7 +4,7 @@ use Rattle.std.proofs.lemmas.Bool.Decides.{nat_tests}
 use Rattle.xfs_base.specs.declared.block.BlockId.{BlockId}
 use Rattle.xfs_base.specs.declared.entry.Entry.{Entry}
 use Rattle.xfs_base.specs.declared.token.Mode.{Mode}
-use Rattle.xfs_base.specs.declared.token.Mode.TheVariants.{Copy, Own}
+use Rattle.xfs_base.specs.declared.token.Mode.TheVariants.{Nothing, Copy, Own}
 use Rattle.xfs_base.specs.declared.token.Stamp.{Stamp}
 use Rattle.token_client.specs.declared.input.In as inputs
 use Rattle.token_client.specs.declared.input.In.TheVariants as input
@@ -27,9 +27,9 @@ use Rattle.token_tie.specs.Taken.{Took}
 use Rattle.token_tie.specs.Inputs as laws
 use Rattle.token_tie.specs.SlotInputs as slot_inputs
 use Rattle.token_manager.specs.Recalls.{all_sent}
-use Rattle.token_law.specs.Net.{Net, slot_packets, after_client, after_slot, IsOwnAct, Happens}
+use Rattle.token_law.specs.Net.{Net, slot_packets, after_client, after_slot, IsOwnAct, IsOfOther, Happens}
 use Rattle.token_law.specs.Net.Packet.{ReportSent}
-use Rattle.token_law.specs.Net.Happens.{Acts, Crashes, Returns, Reports, GetsCopy, GetsOwn, GetsRecall, GetsForward, GetsSupply, GetsDeltas, GetsWant, GetsGave, Ticks, Activates}
+use Rattle.token_law.specs.Net.Happens.{Acts, Elsewhere, Declines, Crashes, Returns, Reports, GetsCopy, GetsOwn, GetsRecall, GetsForward, GetsSupply, GetsDeltas, GetsWant, GetsGave, Ticks, Activates}
 use Rattle.token_client.specs.State.{is_in_slot}
 use Rattle.token_manager.specs.Beliefs.{all_believed}
 use Rattle.token_manager.specs.Laws.{OwnsAlone, IsNotTick}
@@ -37,12 +37,12 @@ use Rattle.token_manager.proofs.Turns.{takes-transition}
 use Rattle.token_client.specs.Held.{is_settled_by}
 use Rattle.token_tie.specs.Seen.{located}
 use Rattle.std.proofs.Common.{nat_le, ◌&&◌}
+use Rattle.std.specs.Prelude.{All, Contains}
 use Rattle.token_client.specs.State.{started as fresh_tokens}
 use Rattle.token_protocol.proofs.Refining.{put_each}
 use Rattle.token_tie.specs.Epochs.{all_reported}
-use Rattle.token_law.specs.Net.{upto}
 use Rattle.token_tie.proofs.TakingOver.{one_numbers, reports_none}
-use Rattle.token_tie.proofs.ClientLaws.{takes_inputs, owns_and_writes}
+use Rattle.token_tie.proofs.ClientLaws.{takes_inputs, owns_and_writes, owns_and_declines}
 use Rattle.token_tie.proofs.Applying.{sound_takes}
 use Rattle.token_tie.proofs.Elsewhere as elsewhere
 use Rattle.token_tie.proofs.Takes.{at_block}
@@ -65,11 +65,11 @@ module _ (members part : ℕ) (n : Net) (i : Good members part n) where
   pub ready : (b : BlockId) (v : View members part b n) (c end : ℕ) → 0 < c → c < members → n.up c ≡ true → laws.Ready false (setting b c (n.tokens c).inc) end v.world (n.tokens c)
   ready b v c end pos less up = record { shows = shown_up members part b n v c pos less up; sound = i.sound c; promised = epoch_promised v.world (owned false members v.world v.steps) c (let m = v.many in omega arith); settled = tt }
 
-  pub client_good : (c end : ℕ) (d : client.Done) → 0 < c → n.up c ≡ true → IsSound d.state → ((b : BlockId) (v : View members part b n) → Took false (setting b c (n.tokens c).inc) end v.world d) → Good members part (after_client n c end d)
+  pub client_good : (c end : ℕ) (d : client.Done) → 0 < c → n.up c ≡ true → IsSound d.state → ((b : BlockId) → is_in_slot part b ≡ true → (v : View members part b n) → Took false (setting b c (n.tokens c).inc) end v.world d) → Good members part (after_client n c end d)
   client_good c end d pos up sound took = record {
     sound = put_each (λ k x. IsSound x) n.tokens c d.state sound (λ k other. i.sound k);
     ran = i.ran;
-    views = λ b inside. let v = i.views b inside in client_view members part b n v c end d pos up (took b v);
+    views = λ b inside. let v = i.views b inside in client_view members part b n v c end d pos up (took b inside v);
   }
 
   pub transition_sound : (c : ℕ) (x : inputs.In) → IsSound (client.transition (n.tokens c) x).state
@@ -153,6 +153,43 @@ module _ (members part : ℕ) (n : Net) (i : Good members part n) where
       (λ sent accepts. owns_and_writes false (setting b c (n.tokens c).inc) end v.world (n.tokens c) stamp inc req entry value (ready b v c end pos less up) (sent refl) accepts room)
       (λ k other _ _. owned_there b v c end k stamp inc req entry value pos less up other) block sent accepts
 
+  -- the same of a grant that is let go
+  pub declined_there : (b : BlockId) (v : View members part b n) (c end : ℕ) (block : BlockId) (stamp : Stamp) (inc req : ℕ) (entry : Entry) → 0 < c → c < members → n.up c ≡ true → (block ≡ b → ⊥) → Took false (setting b c (n.tokens c).inc) end v.world (laws.granted_and_evicted (n.tokens c) stamp inc req block entry)
+  declined_there b v c end block stamp inc req entry pos less up other =
+      let g = setting b c (n.tokens c).inc in
+      let s = n.tokens c in
+      let d = client.on_granted s block stamp inc req Own entry in
+      elsewhere.apart_took g false end v.world s (laws.granted_and_evicted s stamp inc req block entry)
+      (elsewhere.apart_through g s d (client.on_evict d.state block) (elsewhere.on_granted-apart g block other s stamp inc req Own entry) (elsewhere.on_evict-apart g block other d.state)) (shown_up members part b n v c pos less up)
+
+  pub declines_took : (b : BlockId) (v : View members part b n) (c end : ℕ) (block : BlockId) (stamp : Stamp) (inc req : ℕ) (entry : Entry) → 0 < c → c < members → n.up c ≡ true → (block ≡ b → SentOffer c v.world stamp inc req Own (entry_seen entry))
+      → client.accepts (n.tokens c) block stamp inc req Own ≡ true → Took false (setting b c (n.tokens c).inc) end v.world (laws.granted_and_evicted (n.tokens c) stamp inc req block entry)
+  declines_took b v c end block stamp inc req entry pos less up sent accepts =
+      at_block (setting b c (n.tokens c).inc) (λ k. (k ≡ b → SentOffer c v.world stamp inc req Own (entry_seen entry)) → client.accepts (n.tokens c) k stamp inc req Own ≡ true → Took false (setting b c (n.tokens c).inc) end v.world (laws.granted_and_evicted (n.tokens c) stamp inc req k entry))
+      (λ sent accepts. owns_and_declines false (setting b c (n.tokens c).inc) end v.world (n.tokens c) stamp inc req entry (ready b v c end pos less up) (sent refl) accepts)
+      (λ k other _ _. declined_there b v c end k stamp inc req entry pos less up other) block sent accepts
+
+  -- an input about a block of another slot is about none of this slot
+  pub of_other : (b block : BlockId) → is_in_slot part b ≡ true → is_in_slot part block ≡ false → block ≡ b → ⊥
+  of_other b block inside outside same = let clash : false ≡ true = sym outside ∙ (ap (is_in_slot part) same ∙ inside) in absurd (cc)
+
+  pub other_brings : (b : BlockId) (c : ℕ) (w : World) (x : inputs.In) → is_in_slot part b ≡ true → IsOfOther part x → laws.Brings false (setting b c (n.tokens c).inc) w (n.tokens c) x
+  other_brings b c w (input.Need block mode) inside other = absurd other
+  other_brings b c w (input.Granted block stamp inc req Nothing entry) inside other = of_other b block inside other
+  other_brings b c w (input.Granted block stamp inc req Copy entry) inside other = λ same. absurd (of_other b block inside other same)
+  other_brings b c w (input.Granted block stamp inc req Own entry) inside other = of_other b block inside other
+  other_brings b c w (input.Supplied block stamp inc req ver value) inside other = λ same. absurd (of_other b block inside other same)
+  other_brings b c w (input.Forwarded block stamp ver) inside other = absurd other
+  other_brings b c w (input.Recalled block stamp keep) inside other = λ same. absurd (of_other b block inside other same)
+  other_brings b c w (input.Wrote block value) inside other = absurd other
+  other_brings b c w (input.Settled block ver) inside other = absurd other
+  other_brings b c w (input.Fetched block value) inside other = absurd other
+  other_brings b c w (input.Evict block) inside other = absurd other
+  other_brings b c w (input.Reask block) inside other = absurd other
+  other_brings b c w (input.Quit block) inside other = absurd other
+  other_brings b c w (input.Promise slot_ epoch) inside other = absurd other
+  other_brings b c w input.Tick inside other = absurd other
+
   pub slot_event : (b : BlockId) (v : View members part b n) (e : ℕ) (s : SlotState) (x : slot_in.In) → n.slots e ≡ Some s → slot_inputs.Brings false b v.world s x → (e < v.world.epoch → IsNotTick x) → (slot.transition s x).state.epoch ≡ s.epoch → View members part b (after_slot n e (slot.transition s x))
   slot_event b v e s x is brings news stays =
       ⊎_elim
@@ -196,9 +233,10 @@ module _ (members part : ℕ) (n : Net) (i : Good members part n) where
   pub one_epoch : (b k : BlockId) (v : View members part b n) (u : View members part k n) → v.world.epoch ≤ u.world.epoch
   one_epoch b k v u = (u.past v.world.epoch v.slot v.reigns).0
 
-  pub activated_good : (epoch : ℕ) (index : List (BlockId × Entry)) (applied : List ℕ) (rows : ℕ → List (BlockId × Mode)) → n.slots epoch ≡ None → ((c : ℕ) → 0 < c → c < members → In (ReportSent c epoch (rows c)) n.sent)
-      → Good members part (record n { slots = put n.slots epoch (Some (slot.started epoch index (all_reported rows (upto members)) applied)) })
-  activated_good epoch index applied rows none reports_sent = record { sound = i.sound; ran = ran_put n.slots epoch (slot.started epoch index (all_reported rows (upto members)) applied) (begun epoch index (all_reported rows (upto members)) applied) i.ran; views = λ b inside. at b inside (i.views b inside) (nat_lt (i.views b inside).world.epoch epoch) refl }
+  pub activated_good : (epoch : ℕ) (index : List (BlockId × Entry)) (applied : List ℕ) (rows : ℕ → List (BlockId × Mode)) (order : List ℕ) → n.slots epoch ≡ None → ((c : ℕ) → 0 < c → c < members → Contains order c)
+      → All (λ c. (0 < c) × (c < members)) order → ((c : ℕ) → 0 < c → c < members → In (ReportSent c epoch (rows c)) n.sent)
+      → Good members part (record n { slots = put n.slots epoch (Some (slot.started epoch index (all_reported rows order) applied)) })
+  activated_good epoch index applied rows order none all each reports_sent = record { sound = i.sound; ran = ran_put n.slots epoch (slot.started epoch index (all_reported rows order) applied) (begun epoch index (all_reported rows order) applied) i.ran; views = λ b inside. at b inside (i.views b inside) (nat_lt (i.views b inside).world.epoch epoch) refl }
     where
       less : (a c : ℕ) → nat_lt a c ≡ true → a < c
       less a c h = grind (arith, nat_tests)
@@ -212,26 +250,26 @@ module _ (members part : ℕ) (n : Net) (i : Good members part n) where
       taken : SlotState → n.slots epoch ≡ None → (s : SlotState) → n.slots epoch ≡ Some s → ⊥
       taken z h s is = let clash : None ≡ Some s = sym h ∙ is in absurd (cc)
 
-      alone : (b : BlockId) (v : View members part b n) → v.world.epoch < epoch → OwnsAlone (slot.started epoch index (all_reported rows (upto members)) applied).beliefs
+      alone : (b : BlockId) (v : View members part b n) → v.world.epoch < epoch → OwnsAlone (slot.started epoch index (all_reported rows order) applied).beliefs
       alone b v later k c d apart =
-          elim (is_in_slot part k) as (λ t. is_in_slot part k ≡ t → share_of (all_believed [] (all_reported rows (upto members))) k c + share_of (all_believed [] (all_reported rows (upto members))) k d ≤ 2) [
-            | true ↦ λ inside. let u = i.views k inside in let same = one_epoch k b u v in alone_here members part k n u epoch index applied rows none reports_sent (omega arith) c d apart
+          elim (is_in_slot part k) as (λ t. is_in_slot part k ≡ t → share_of (all_believed [] (all_reported rows order)) k c + share_of (all_believed [] (all_reported rows order)) k d ≤ 2) [
+            | true ↦ λ inside. let u = i.views k inside in let same = one_epoch k b u v in alone_here members part k n u epoch index applied rows none order all each reports_sent (omega arith) c d apart
             | false ↦ λ outside.
-                let as_ = beliefs_are members part b n v epoch index applied rows none reports_sent in
-                let sorted = λ (x : ℕ). (hears members part b n v epoch index applied rows none reports_sent x).sorted in
-                let table = blocks members part b n v epoch index applied rows none reports_sent in
-                let p = reports_none part k c table (upto members) outside in
-                let q = reports_none part k d table (upto members) outside in
+                let as_ = beliefs_are members part b n v epoch index applied rows none order all each reports_sent in
+                let sorted = λ (x : ℕ). (hears members part b n v epoch index applied rows none order all each reports_sent x).sorted in
+                let table = blocks members part b n v epoch index applied rows none order all each reports_sent in
+                let p = reports_none part k c table order outside in
+                let q = reports_none part k d table order outside in
                 subst (λ xs. share_of (all_believed [] xs) k c + share_of (all_believed [] xs) k d ≤ 2) (sym as_) (omega arith)
           ] refl
 
-      at : (b : BlockId) → is_in_slot part b ≡ true → (v : View members part b n) (t : Bool) → nat_lt v.world.epoch epoch ≡ t → View members part b (record n { slots = put n.slots epoch (Some (slot.started epoch index (all_reported rows (upto members)) applied)) })
+      at : (b : BlockId) → is_in_slot part b ≡ true → (v : View members part b n) (t : Bool) → nat_lt v.world.epoch epoch ≡ t → View members part b (record n { slots = put n.slots epoch (Some (slot.started epoch index (all_reported rows order) applied)) })
       at b inside v true h =
           let later = less v.world.epoch epoch h in
-          later_view members part b n v epoch index applied rows none reports_sent later inside (sound-start epoch index (all_reported rows (upto members)) applied (alone b v later))
+          later_view members part b n v epoch index applied rows none order all each reports_sent later inside (sound-start epoch index (all_reported rows order) applied (alone b v later))
       at b inside v false h =
           let other : epoch ≡ v.world.epoch → ⊥ = λ same. taken v.slot none v.slot (ap n.slots same ∙ v.reigns) in
-          stale_view members part b n v epoch (slot.started epoch index (all_reported rows (upto members)) applied) [] (below epoch v.world.epoch (most v.world.epoch epoch h) other) refl (λ p is. absurd is)
+          stale_view members part b n v epoch (slot.started epoch index (all_reported rows order) applied) [] (below epoch v.world.epoch (most v.world.epoch epoch h) other) refl (λ p is. absurd is)
 
 pub keeps : (members part : ℕ) (n m : Net) → Happens members part n m → Good members part n → Good members part m
 keeps members part n m (Acts c end x pos less up own) i = record { sound = put_each (λ k x. IsSound x) n.tokens c (client.transition (n.tokens c) x).state (transition_sound members part n i c x) (λ k other. i.sound k); ran = i.ran; views = λ b inside. any_acts members part n i b (i.views b inside) c end x pos less up own }
@@ -252,15 +290,23 @@ keeps members part n m (GetsDeltas e s log first upto_ rows at known) i =
 keeps members part n m (Reports c pos less up) i = record { sound = i.sound; ran = i.ran; views = λ b inside. report_view members part b n (i.views b inside) c pos less up (i.sound c) inside }
 keeps members part n m (GetsCopy c end block stamp inc req entry pos less up is) i =
     let x = input.Granted block stamp inc req Copy entry in
-    client_good members part n i c end (client.transition (n.tokens c) x) pos up (transition_sound members part n i c x) (λ b v. takes_inputs false (setting b c (n.tokens c).inc) end v.world (n.tokens c) x (ready members part n i b v c end pos less up) (v.sent _ is))
+    client_good members part n i c end (client.transition (n.tokens c) x) pos up (transition_sound members part n i c x) (λ b inside v. takes_inputs false (setting b c (n.tokens c).inc) end v.world (n.tokens c) x (ready members part n i b v c end pos less up) (v.sent _ is))
 keeps members part n m (GetsOwn c end block stamp inc req entry value pos less up is accepts room) i =
     let d = client.transition (n.tokens c) (input.Granted block stamp inc req Own entry) in
     client_good members part n i c end (laws.granted_and_wrote (n.tokens c) stamp inc req block entry value) pos up
     (transition-follows (λ b. Unit {0}) d.state (transition_sound members part n i c (input.Granted block stamp inc req Own entry)) (input.Wrote block value) (λ b h. tt)).sound
-    (λ b v. owns_took members part n i b v c end block stamp inc req entry value pos less up (v.sent _ is) accepts room)
+    (λ b inside v. owns_took members part n i b v c end block stamp inc req entry value pos less up (v.sent _ is) accepts room)
+keeps members part n m (Elsewhere c end x pos less up other) i =
+    client_good members part n i c end (client.transition (n.tokens c) x) pos up (transition_sound members part n i c x)
+    (λ b inside v. takes_inputs false (setting b c (n.tokens c).inc) end v.world (n.tokens c) x (ready members part n i b v c end pos less up) (other_brings members part n i b c v.world x inside other))
+keeps members part n m (Declines c end block stamp inc req entry pos less up is accepts) i =
+    let d = client.transition (n.tokens c) (input.Granted block stamp inc req Own entry) in
+    client_good members part n i c end (laws.granted_and_evicted (n.tokens c) stamp inc req block entry) pos up
+    (transition-follows (λ b. Unit {0}) d.state (transition_sound members part n i c (input.Granted block stamp inc req Own entry)) (input.Evict block) (λ b h. tt)).sound
+    (λ b inside v. declines_took members part n i b v c end block stamp inc req entry pos less up (v.sent _ is) accepts)
 keeps members part n m (GetsRecall c end block stamp keep pos less up is) i =
     let x = input.Recalled block stamp keep in
-    client_good members part n i c end (client.transition (n.tokens c) x) pos up (transition_sound members part n i c x) (λ b v. takes_inputs false (setting b c (n.tokens c).inc) end v.world (n.tokens c) x (ready members part n i b v c end pos less up) (v.sent _ is))
+    client_good members part n i c end (client.transition (n.tokens c) x) pos up (transition_sound members part n i c x) (λ b inside v. takes_inputs false (setting b c (n.tokens c).inc) end v.world (n.tokens c) x (ready members part n i b v c end pos less up) (v.sent _ is))
 keeps members part n m (GetsWant e s c inc req again block mode end at is) i =
     let x = told.Want c block inc req again mode end in
     record { sound = i.sound; ran = ran_put n.slots e (slot.transition s x).state (on s x (i.ran e s at)) i.ran; views = λ b inside. let v = i.views b inside in slot_event members part n i b v e s x at (v.sent _ is) (λ _. tt) (takes-transition s x tt).0 }
@@ -270,4 +316,4 @@ keeps members part n m (GetsGave e s c block stamp end at is) i =
 keeps members part n m (Ticks e s at) i = record { sound = i.sound; ran = ran_put n.slots e s (i.ran e s at) i.ran; views = λ b inside. tick_event members part n i b (i.views b inside) e s at }
 keeps members part n m (Crashes c pos less up) i = record { sound = i.sound; ran = i.ran; views = λ b inside. crash_view members part b n (i.views b inside) c pos less up }
 keeps members part n m (Returns c inc epochs pos less up later rises) i = record { sound = put_each (λ k x. IsSound x) n.tokens c (fresh_tokens inc epochs) (started-sound inc epochs) (λ k other. i.sound k); ran = i.ran; views = λ b inside. return_view members part b n (i.views b inside) c inc epochs pos less up later rises inside }
-keeps members part n m (Activates e index applied rows none sent) i = activated_good members part n i e index applied rows none sent
+keeps members part n m (Activates e index applied rows order none all each sent) i = activated_good members part n i e index applied rows order none all each sent

@@ -1,5 +1,5 @@
 -- The laws are read off how each block of a run is seen in the abstract token protocol.
-use Rattle.std.proofs.Common.{◌≡◌, ℕ, ◌≤◌, ◌<◌, Bool, true, false, refl, sym, ap, subst, ◌∙◌, Some, arith}
+use Rattle.std.proofs.Common.{◌≡◌, ℕ, ◌≤◌, ◌<◌, Bool, true, false, refl, sym, ap, subst, ◌∙◌, arith}
 use Rattle.xfs_base.specs.declared.block.BlockId.{BlockId}
 use Rattle.xfs_base.specs.declared.token.Mode.{Mode}
 use Rattle.xfs_base.specs.declared.token.Mode.TheVariants.{Nothing, Copy, Own}
@@ -9,7 +9,6 @@ use Rattle.xfs_base.proofs.Booleans.{contrary}
 use Rattle.token_client.specs.State.{held_of, epoch_of}
 use Rattle.token_manager.specs.Laws.{share_of}
 use Rattle.token_manager.specs.SlotState.{SlotState}
-use Rattle.token_protocol.specs.World.{World}
 use Rattle.token_protocol.proofs.Invariant.{Owned, owned}
 use Rattle.token_protocol.proofs.Laws.{single_owner, epoch_promised, beliefs_cover, acceptable_believed, no_holder_after_fall}
 use Rattle.token_tie.specs.Seen.{rank, local_of, entry_seen}

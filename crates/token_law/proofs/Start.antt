@@ -1,5 +1,5 @@
 -- The small world is seen at its start, so it is always.
-use Rattle.std.proofs.Common.{◌≡◌, ℕ, zero, suc, ◌-◌, ◌%◌, ◌≤◌, ◌<◌, Bool, true, false, cond, nat_lt, get_or, List, [], ◌∷◌, Some, None, refl, sym, ap, ◌∙◌, arith}
+use Rattle.std.proofs.Common.{◌≡◌, ℕ, zero, suc, ◌-◌, ◌%◌, ◌≤◌, ◌<◌, Bool, cond, nat_lt, get_or, List, [], ◌∷◌, Some, None, refl, sym, ap, arith}
 use Rattle.std.proofs.lemmas.Bool.Decides.{nat_tests}
 use Rattle.xfs_base.specs.Blocks.{slot_of}
 use Rattle.token_client.proofs.AllInputs.{started-sound}

@@ -1,7 +1,6 @@
 -- A later manager starts: the world is seen under its epoch.
-use Rattle.xfs_base.proofs.Members.{contains_first, contains_rest}
 use Rattle.std.specs.List.Sorted.{IsStrictlySortedBy}
-use Rattle.std.proofs.Common.{◌≡◌, ℕ, zero, suc, ◌+◌, ◌≤◌, ◌<◌, Bool, true, false, cond, nat_lt, List, [], ◌++◌, ◌⊎◌, inl, inr, ⊎_elim, Some, None, refl, sym, ap, subst, ◌∙◌, arith}
+use Rattle.std.proofs.Common.{◌≡◌, ℕ, zero, suc, ◌+◌, ◌≤◌, ◌<◌, Bool, true, false, cond, nat_lt, List, [], ◌∷◌, ◌++◌, ◌⊎◌, inl, inr, Some, None, refl, sym, ap, subst, ◌∙◌, arith}
 use Rattle.std.proofs.lemmas.Bool.Decides.{nat_tests}
 use Rattle.xfs_base.specs.declared.block.BlockId.{BlockId}
 use Rattle.xfs_base.specs.declared.entry.Entry.{Entry}
@@ -36,11 +35,10 @@ use Rattle.token_protocol.specs.Step.Step.{Reports as ReportsStep, Activates as 
 use Rattle.token_protocol.proofs.Laws.{beliefs_cover}
 use Rattle.token_protocol.proofs.Refining.{put_each}
 use Rattle.token_tie.specs.Epochs.{all_reported}
-use Rattle.token_law.specs.Net.{upto}
 use Rattle.token_tie.proofs.Frames.{put_here, put_there}
 use Rattle.token_tie.proofs.TakingOver.{one_numbers, activation_shows, activation_manages, reports_believed, reports_most}
 use Rattle.token_client.proofs.Tables.{InOrder}
-use Rattle.std.specs.Prelude.{Contains}
+use Rattle.std.specs.Prelude.{All, Contains}
 use Rattle.token_law.proofs.Views.{setting, ClientShown, some_one, Carried, View, carried_on}
 
 pub carried_rise : (part : ℕ) (b : BlockId) (w : World) (epoch : ℕ) (report : ℕ → packets.Report) (applied : ℕ → ℕ) (e : abstract_entry.Entry) (p : Packet) → w.epoch < epoch → Carried part b w p → Carried part b (takeover.activates w epoch report applied e) p
@@ -56,19 +54,10 @@ pub nothing_in_order : InOrder []
 unfolding IsStrictlySortedBy
 nothing_in_order = tt
 
-pub upto_has : (n c : ℕ) → 0 < c → c < n → Contains (upto n) c
-upto_has zero c pos less = absurd (omega arith)
-upto_has (suc zero) c pos less = absurd (omega arith)
-upto_has (suc (suc n)) c pos less = ⊎_elim (λ same. subst (Contains (upto (suc (suc n)))) (sym same) (contains_first (suc n) (upto (suc n)))) (λ other. contains_rest (suc n) c (upto (suc n)) (upto_has (suc n) c pos (below c (suc n) less other))) (one_numbers c (suc n))
-  where
-    below : (c n : ℕ) → c < suc n → (c ≡ n → ⊥) → c < n
-    below c n less other = elim (nat_lt c n) as (λ t. nat_lt c n ≡ t → c < n) [ true ↦ λ h. grind (arith, nat_tests) | false ↦ λ h. absurd (other (grind (arith, nat_tests))) ] refl
-
 -- the rows of those who report
-pub rows_same : (rows more : ℕ → List (BlockId × Mode)) (n k : ℕ) → k ≤ n → ((c : ℕ) → 0 < c → c < n → rows c ≡ more c) → all_reported rows (upto k) ≡ all_reported more (upto k)
-rows_same rows more n zero less same = refl
-rows_same rows more n (suc zero) less same = refl
-rows_same rows more n (suc (suc k)) less same = λ i. reported (suc k) (same (suc k) (omega arith) (omega arith) i) ++ rows_same rows more n (suc k) (omega arith) same i
+pub rows_same : (members : ℕ) (rows more : ℕ → List (BlockId × Mode)) (order : List ℕ) → All (λ c. (0 < c) × (c < members)) order → ((c : ℕ) → 0 < c → c < members → rows c ≡ more c) → all_reported rows order ≡ all_reported more order
+rows_same members rows more [] within same = refl
+rows_same members rows more (c ∷ order) within same = λ i. reported c (same c (within 0 c (omega arith)).0 (within 0 c (omega arith)).1 i) ++ rows_same members rows more order (λ k d less. within (suc k) d (omega arith)) same i
 
 pub most_rank : (mode : Mode) → rank mode ≤ 2
 most_rank Nothing = omega arith
@@ -99,7 +88,7 @@ pub record Told (members part : ℕ) (b : BlockId) (w : World) (epoch : ℕ) (ro
   pub nothing : (c < members → ⊥) → rank (held_of blocks b).mode ≡ 0
 
 module _ (members part : ℕ) (b : BlockId) (n : Net) (v : View members part b n) (epoch : ℕ) (index : List (BlockId × Entry)) (applied : List ℕ) (rows : ℕ → List (BlockId × Mode)) (none : n.slots epoch ≡ None)
-    (reports_sent : (c : ℕ) → 0 < c → c < members → In (ReportSent c epoch (rows c)) n.sent) where
+    (order : List ℕ) (all : (c : ℕ) → 0 < c → c < members → Contains order c) (each : All (λ c. (0 < c) × (c < members)) order) (reports_sent : (c : ℕ) → 0 < c → c < members → In (ReportSent c epoch (rows c)) n.sent) where
   abbrev pub old : World
   old = v.world
 
@@ -152,10 +141,10 @@ module _ (members part : ℕ) (b : BlockId) (n : Net) (v : View members part b n
   report c = (hears c).report
 
   abbrev pub beliefs : List (BlockId × ℕ × Mode)
-  beliefs = all_reported rows (upto members)
+  beliefs = all_reported rows order
 
-  pub beliefs_are : beliefs ≡ all_reported (λ d. held_in part (blocks d)) (upto members)
-  beliefs_are = rows_same rows (λ d. held_in part (blocks d)) members members (omega arith) (λ c pos less. (hears c).same pos less)
+  pub beliefs_are : beliefs ≡ all_reported (λ d. held_in part (blocks d)) order
+  beliefs_are = rows_same members rows (λ d. held_in part (blocks d)) order each (λ c pos less. (hears c).same pos less)
 
   -- one that doesn't reign begins unheard; one of a later epoch reigns
   abbrev pub begun : SlotState
@@ -202,7 +191,7 @@ module _ (members part : ℕ) (b : BlockId) (n : Net) (v : View members part b n
       covered c within (inl none) = let mode = (hears c).mode within in let z : rank (held_of (blocks c) b).mode ≡ 0 = ap (λ k. rank (held_of (blocks k) b).mode) none in omega arith
       covered c within (inr some) =
           let mode = (hears c).mode within in
-          let most = reports_believed part blocks (upto members) b c (λ d. (hears d).sorted) inside (upto_has members c (positive c some) within) in
+          let most = reports_believed part blocks order b c (λ d. (hears d).sorted) inside (all c (positive c some) within) in
           subst (λ xs. (report c).mode ≤ share_of (all_believed [] xs) b c) (sym beliefs_are) (omega arith)
         where
           positive : (c : ℕ) → (c ≡ 0 → ⊥) → 0 < c
@@ -216,8 +205,8 @@ module _ (members part : ℕ) (b : BlockId) (n : Net) (v : View members part b n
       let mode : (k : ℕ) → next.belief k ≡ rank (held_of (blocks k) b).mode = λ k. belief_is k (nat_lt k now.members) refl in
       let mc = mode c in let md = mode d in
       let sum = two_ranks (rank (held_of (blocks c) b).mode) (rank (held_of (blocks d) b).mode) (most_rank _) (most_rank _) (λ two some. apart (cover.single c d (mc ∙ two) (omega arith))) (λ two some. apart (sym (cover.single d c (md ∙ two) (omega arith)))) in
-      let a = reports_most part b c blocks (upto members) (λ k. (hears k).sorted) in
-      let e = reports_most part b d blocks (upto members) (λ k. (hears k).sorted) in
+      let a = reports_most part b c blocks order (λ k. (hears k).sorted) in
+      let e = reports_most part b d blocks order (λ k. (hears k).sorted) in
       subst (λ xs. share_of (all_believed [] xs) b c + share_of (all_believed [] xs) b d ≤ 2) (sym beliefs_are) (omega arith)
     where
       less : (c n : ℕ) → nat_lt c n ≡ true → c < n

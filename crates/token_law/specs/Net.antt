@@ -1,7 +1,7 @@
 -- A small world of token machines: the tokens of clients, the slots of all managers that one slot of the map had, each under its epoch (deposed ones
 -- go on), and the packets that were sent, of which any may come any number of times, in any order, or never.
 -- Logs aren't trusted here: Deltas may tell anything, and a version may be told settled at any time.
-use Rattle.std.specs.Prelude.{◌≡◌, ℕ, ◌-◌, ◌^◌, ◌<◌, ◌≤◌, Bool, true, false, nat_lt, List, [], ◌∷◌, ◌++◌, zero, suc, length, Option, Some, None}
+use Rattle.std.specs.Prelude.{◌≡◌, ℕ, ◌-◌, ◌^◌, ◌<◌, ◌≤◌, Bool, true, false, nat_lt, List, [], ◌∷◌, ◌++◌, length, Option, Some, None, All, Contains}
 use Rattle.xfs_base.specs.declared.block.BlockId.{BlockId}
 use Rattle.xfs_base.specs.declared.entry.Entry.{Entry}
 use Rattle.xfs_base.specs.declared.token.Mode.{Mode}
@@ -21,8 +21,7 @@ use Rattle.token_manager.specs.SlotState.{SlotState}
 use Rattle.token_manager.specs.Transition as slot
 use Rattle.token_protocol.specs.Basics.{put, In}
 use Rattle.token_tie.specs.Epochs.{all_reported}
-use Rattle.token_tie.specs.Inputs.{granted_and_wrote}
-use Rattle.xfs_base.specs.Modes.{is_held, is_own}
+use Rattle.token_tie.specs.Inputs.{granted_and_wrote, granted_and_evicted}
 
 -- A packet with who sent it, or who gets it, first. A Want also bears its sender's incarnation and the end of its log, a Gave that end, and a Forward the
 -- client to be supplied. A Report bears the epoch that its sender has promised, and what it holds of the slot.
@@ -86,16 +85,28 @@ IsOwnAct (input.Quit block) = Unit {0}
 IsOwnAct (input.Promise slot epoch) = Unit {0}
 IsOwnAct input.Tick = Unit {0}
 
--- the clients from 1 on, as a list
-abbrev pub upto : ℕ → List ℕ
-upto zero = []
-upto (suc zero) = []
-upto (suc (suc n)) = suc n ∷ upto (suc n)
+-- what a client takes about a block of another slot, of which nothing is said here
+abbrev pub IsOfOther : ℕ → inputs.In → Type 0
+IsOfOther part (input.Need block mode) = ⊥
+IsOfOther part (input.Granted block stamp inc req mode entry) = is_in_slot part block ≡ false
+IsOfOther part (input.Supplied block stamp inc req ver value) = is_in_slot part block ≡ false
+IsOfOther part (input.Forwarded block stamp ver) = ⊥
+IsOfOther part (input.Recalled block stamp keep) = is_in_slot part block ≡ false
+IsOfOther part (input.Wrote block value) = ⊥
+IsOfOther part (input.Settled block ver) = ⊥
+IsOfOther part (input.Fetched block value) = ⊥
+IsOfOther part (input.Evict block) = ⊥
+IsOfOther part (input.Reask block) = ⊥
+IsOfOther part (input.Quit block) = ⊥
+IsOfOther part (input.Promise slot epoch) = ⊥
+IsOfOther part input.Tick = ⊥
 
 -- What can happen, for the clients from 1 to below `members`, and for this slot of the map.
 pub data Happens (members part : ℕ) : Net → Net → Type 0 where
   -- a client takes an input of its own accord
   Acts : {n : Net} (c end : ℕ) (i : inputs.In) → 0 < c → c < members → n.up c ≡ true → IsOwnAct i → Happens members part n (after_client n c end (client.transition (n.tokens c) i))
+  -- a client takes an input about a block of another slot
+  Elsewhere : {n : Net} (c end : ℕ) (i : inputs.In) → 0 < c → c < members → n.up c ≡ true → IsOfOther part i → Happens members part n (after_client n c end (client.transition (n.tokens c) i))
   -- a client reports what it holds of the slot
   Reports : {n : Net} (c : ℕ) → 0 < c → c < members → n.up c ≡ true → Happens members part n (record n { sent = ReportSent c (epoch_of (n.tokens c).epochs part) (held_in part (n.tokens c).blocks) ∷ n.sent })
   -- a client gets a Grant of a copy
@@ -104,6 +115,9 @@ pub data Happens (members part : ℕ) : Net → Net → Type 0 where
   -- a client gets a Grant to own that it accepts, and writes in the same event
   GetsOwn : {n : Net} (c end : ℕ) (block : BlockId) (stamp : Stamp) (inc req : ℕ) (entry : Entry) (value : Option (List ℕ)) → 0 < c → c < members → n.up c ≡ true → In (GrantSent c block stamp inc req Own entry) n.sent
       → client.accepts (n.tokens c) block stamp inc req Own ≡ true → nat_lt entry.ver (2 ^ 64 - 1) ≡ true → Happens members part n (after_client n c end (granted_and_wrote (n.tokens c) stamp inc req block entry value))
+  -- a client gets a Grant to own that it accepts, and lets it go in the same event
+  Declines : {n : Net} (c end : ℕ) (block : BlockId) (stamp : Stamp) (inc req : ℕ) (entry : Entry) → 0 < c → c < members → n.up c ≡ true → In (GrantSent c block stamp inc req Own entry) n.sent
+      → client.accepts (n.tokens c) block stamp inc req Own ≡ true → Happens members part n (after_client n c end (granted_and_evicted (n.tokens c) stamp inc req block entry))
   -- a client gets a Recall
   GetsRecall : {n : Net} (c end : ℕ) (block : BlockId) (stamp : Stamp) (keep : Bool) → 0 < c → c < members → n.up c ≡ true → In (RecallSent c block stamp keep) n.sent
       → Happens members part n (after_client n c end (client.transition (n.tokens c) (input.Recalled block stamp keep)))
@@ -129,9 +143,10 @@ pub data Happens (members part : ℕ) : Net → Net → Type 0 where
   -- a client returns in a later incarnation, and promises no less than before
   Returns : {n : Net} (c inc : ℕ) (epochs : List ℕ) → 0 < c → c < members → n.up c ≡ false → (n.tokens c).inc < inc → epoch_of (n.tokens c).epochs part ≤ epoch_of epochs part
       → Happens members part n (record n { tokens = put n.tokens c (fresh_tokens inc epochs); up = put n.up c true })
-  -- a manager becomes active at an epoch, with a report of that epoch from each client
-  Activates : {n : Net} (e : ℕ) (index : List (BlockId × Entry)) (applied : List ℕ) (rows : ℕ → List (BlockId × Mode)) → n.slots e ≡ None → ((c : ℕ) → 0 < c → c < members → In (ReportSent c e (rows c)) n.sent)
-      → Happens members part n (record n { slots = put n.slots e (Some (slot.started e index (all_reported rows (upto members)) applied)) })
+  -- a manager becomes active at an epoch, with a report of that epoch from each client, in the order in which they came
+  Activates : {n : Net} (e : ℕ) (index : List (BlockId × Entry)) (applied : List ℕ) (rows : ℕ → List (BlockId × Mode)) (order : List ℕ) → n.slots e ≡ None → ((c : ℕ) → 0 < c → c < members → Contains order c)
+      → All (λ c. (0 < c) × (c < members)) order → ((c : ℕ) → 0 < c → c < members → In (ReportSent c e (rows c)) n.sent)
+      → Happens members part n (record n { slots = put n.slots e (Some (slot.started e index (all_reported rows order) applied)) })
 
 -- Any list of such things, oldest first.
 pub data Runs (members part : ℕ) : Net → Net → Type 0 where
