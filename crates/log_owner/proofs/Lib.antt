@@ -1,2 +1,3 @@
 pub mod Behaving
+pub mod Promising
 pub mod Starting

@@ -366,7 +366,7 @@ fn left_hello(hello: Option<u32>, ask: u32) -> Option<u32>
 }
 
 // The number of a server.
-fn server_in(node: NodeId) -> Option<u8>
+pub(crate) fn server_in(node: NodeId) -> Option<u8>
     ensures { result ≡ server_in node }
 {
     match node {

@@ -3,11 +3,13 @@
 #![tactic(auto)]
 
 use std::env;
+use std::io::ErrorKind;
 use std::process::ExitCode;
 use xfs_top::{OpenGate, StdSink, StdSource, xfs};
 
 /// Makes the real source and sink, calls `xfs` with the words after the program's name, and ends with its
-/// status. Words that are not UTF-8 are handed in as no words, which are no form.
+/// status, or with 7 where memory is wanting for the words. Words that are not UTF-8 are handed in as no
+/// words, which are no form.
 fn main(rt: HostRuntime) -> ExitCode {
     let alloc = rt.alloc();
     let mut words = Vec::new(alloc);
@@ -19,7 +21,11 @@ fn main(rt: HostRuntime) -> ExitCode {
                 }
             }
         }
-        Err(_) => {}
+        Err(error) => {
+            if error.kind() == ErrorKind::OutOfMemory {
+                return ExitCode::from(7);
+            }
+        }
     }
     let mut source = StdSource::new(rt.stdin());
     let mut sink = StdSink::new(rt.stdout());

@@ -1,5 +1,1 @@
-pub mod Contents
-pub mod Legal
-pub mod Loops
-pub mod Told
-pub mod Words
+pub mod Owners

@@ -2,8 +2,8 @@
 //! against their traits, which then say only when they fail.
 ghost use Rattle.std.specs.Prelude.{None};
 
-use crate::{Sink, Source};
 use std::io::{Read, Write};
+use top_call::{Sink, Source};
 use xfs_base::Failed;
 
 /// Reads from standard input, or another reader, and counts its failures.

@@ -1,0 +1,11 @@
+pub mod Blocks
+pub mod Bodies
+pub mod Clocks
+pub mod Follow
+pub mod Flights
+pub mod Packets
+pub mod Phases
+pub mod Reads
+pub mod Running
+pub mod Sends
+pub mod Starting

@@ -1,0 +1,282 @@
+-- What an event makes of a client.
+use Rattle.std.specs.Prelude.{ℕ, ◌+◌, Bool, true, ◌&&◌, nat_lt, if◌then◌else◌, List, [], ◌∷◌, ◌++◌, Option, Some, None, map, unwrap_or, is_some}
+use Rattle.client_log.specs.LogState.{FlightState, LogState}
+use Rattle.client_node.specs.declared.beginning.Wish.{Wish}
+use Rattle.client_node.specs.declared.beginning.Wish.TheVariants as wish
+use Rattle.client_node.specs.declared.client.Client.{Client}
+use Rattle.client_node.specs.declared.call.Going.{Going}
+use Rattle.client_node.specs.declared.lasting.Lasting.{Lasting}
+use Rattle.client_node.specs.declared.phase.Phase.{Phase}
+use Rattle.client_node.specs.declared.phase.Phase.TheVariants.{Down, Opening, Serving as Serves}
+use Rattle.client_node.specs.declared.serving.Serving.{Serving}
+use Rattle.client_node.specs.Packets.{epochs_room, on_packet, on_tick}
+use Rattle.client_node.specs.Running.{call_of, goes_on, runs}
+use Rattle.client_node.specs.Sends.{Done, gives}
+use Rattle.client_node.specs.Starting.{cached_upto}
+use Rattle.coop_cache.specs.CacheState as cache
+use Rattle.log_owner.specs.declared.ended.Owner.{Owner}
+use Rattle.log_owner.specs.declared.opened.Opened.{Opened}
+use Rattle.log_owner.specs.declared.opened.Progress.{Progress}
+use Rattle.log_owner.specs.declared.opened.Progress.TheVariants as progress
+use Rattle.log_owner.specs.declared.opening.Opening as openings
+use Rattle.log_owner.specs.declared.promised.Promised.{Promised}
+use Rattle.log_owner.specs.Opening as opening
+use Rattle.log_owner.specs.Opening.{Went, log_room}
+use Rattle.log_owner.specs.Sending.{pushes_all}
+use Rattle.node_base.specs.Beginning.{next_item, begun, work_at, waiting, answered, answers_unanswered}
+use Rattle.delta_feed.specs.FeedState.{FeedState}
+use Rattle.node_base.specs.declared.effects.Effect.{Effect}
+use Rattle.node_base.specs.declared.effects.Effect.TheVariants.{Answer as Answers, Does}
+use Rattle.node_base.specs.declared.maps.Maps.{Maps}
+use Rattle.node_base.specs.declared.peers.Peers.{Peers}
+use Rattle.node_base.specs.Effects.{packets_of, acts_of}
+use Rattle.node_base.specs.Room.{has_room}
+use Rattle.node_base.specs.Shape.{is_well_formed}
+use Rattle.segment_format.specs.declared.segment.Item.{Item}
+use Rattle.segment_format.specs.declared.segment.Item.TheVariants.{Block, Delta, Part}
+use Rattle.token_client.specs.State.{started, held_of, dirty_in}
+use Rattle.version_model.specs.declared.act.Act.TheVariants.{Fell, Back}
+use Rattle.version_model.specs.declared.act.Fall.{Fall}
+use Rattle.version_model.specs.declared.answer.Answer.{Answer}
+use Rattle.version_model.specs.declared.answer.Answer.TheVariants as answer
+use Rattle.version_model.specs.declared.work.Work.{Work}
+use Rattle.version_model.specs.declared.work.Work.TheVariants as work
+use Rattle.wire_msg.specs.declared.packet.Do.{Do}
+use Rattle.wire_msg.specs.declared.packet.Do.TheVariants.{Begin, Deliver, Tick}
+use Rattle.wire_msg.specs.declared.packet.Packet.{Packet}
+use Rattle.wire_msg.specs.NodeStep.{NodeStep}
+use Rattle.xfs_base.specs.Blocks.{same_block}
+use Rattle.xfs_base.specs.declared.block.BlockId.{BlockId}
+use Rattle.xfs_base.specs.declared.node.NodeId.TheVariants.{Client as AClient}
+use Rattle.xfs_base.specs.Limits.{u32_end}
+use Rattle.xfs_base.specs.Steps.{Stepped, still, after}
+
+-- the phase of a client after an event, and what the event has it do
+abbrev pub Went_to : Type 0
+Went_to = Stepped Phase Effect
+
+-- ---- crash
+
+abbrev pub version_of : BlockId → Item → Option ℕ
+version_of block (Block b value) = None
+version_of block (Delta b ver hop item) = if same_block b block then Some ver else None
+version_of block (Part slot rows) = None
+
+-- the version of a block among items, or else this one
+abbrev pub version_in : BlockId → ℕ → List Item → ℕ
+version_in block low [] = low
+version_in block low (item ∷ items) = unwrap_or (version_of block item) (version_in block low items)
+
+abbrev pub flown_version : Option FlightState → BlockId → ℕ → ℕ
+flown_version None block low = low
+flown_version (Some f) block low = version_in block low f.segment.items
+
+-- the versions to which a block may fall: the settled one, and the one that is in flight
+unfoldable pub fall_of : Serving → BlockId → Fall
+fall_of s block =
+    let low = (held_of s.tokens.blocks block).settled in
+    record { block = block; low = low; high = flown_version s.log.flight block low }
+
+abbrev pub flight_of : Option FlightState → Option (ℕ × ℕ)
+flight_of None = None
+flight_of (Some f) = Some (f.segment.name.seq, f.segment.name.pass.inc)
+
+-- what a crash may make of the blocks whose newest version isn't settled
+abbrev pub falls : Serving → Effect
+falls s = Does (Fell s.lasting.number (flight_of s.log.flight) (map (fall_of s) (dirty_in s.tokens.blocks)))
+
+-- Crash: the item that is open is cut, and all is lost but what outlives it.
+abbrev pub crashed : Lasting → ℕ → Went_to
+crashed l number =
+    record {
+      state = Down (record l { items = answered l.items });
+      outs = answers_unanswered l.items.unanswered answer.Cut ++ Answers number answer.Done ∷ [];
+    }
+
+-- ---- restart
+
+-- the next incarnation, whose restart is not answered yet
+abbrev pub next_life : Lasting → ℕ → Lasting
+next_life l number = record l { inc = if nat_lt l.inc u32_end then l.inc + 1 else l.inc; items = waiting l.items number }
+
+abbrev pub owner_of : Lasting → Owner
+owner_of l = record { log = record { 0 = l.number }; inc = l.inc }
+
+-- Restart: the log is opened again, by a new question for the maps.
+abbrev pub restarted : ℕ → Lasting → Went_to
+restarted servers l =
+    let w = opening.on_start (owner_of l) servers l.questions in
+    record { state = Opening (record l { questions = w.questions }) (opening.at_first (owner_of l) servers l.questions); outs = w.effects }
+
+-- ---- the end of an opening
+
+-- a client whose log is open again: nothing is cached
+abbrev pub returned : Lasting → ℕ → Maps → Promised → LogState → FeedState → Serving
+returned l capacity maps promised log feed =
+    record {
+      lasting = l;
+      maps = maps;
+      managers = promised.managers;
+      tokens = started l.inc promised.epochs;
+      log = log;
+      feed = feed;
+      cache = cache.started (cached_upto capacity);
+      call = None;
+    }
+
+abbrev pub served : Lasting → ℕ → Opened → Serving
+served l capacity o = returned (record l { items = answered l.items }) capacity o.maps o.promised o.log o.feed
+
+-- Back: the client serves again, and tells all slots of its log.
+abbrev pub back : Lasting → ℕ → Opened → Went_to
+back l capacity o =
+    record {
+      state = Serves (served l capacity o);
+      outs = Does (Back l.number o.chain) ∷ pushes_all o.promised.managers o.feed ++ answers_unanswered l.items.unanswered answer.Done;
+    }
+
+abbrev pub after_opening : Lasting → ℕ → Progress → Went_to
+after_opening l capacity (progress.Opening o) = still (Opening l o)
+after_opening l capacity (progress.Opened o) = back l capacity o
+after_opening l capacity (progress.Lost seg) =
+    record { state = Down (record l { items = answered l.items }); outs = answers_unanswered l.items.unanswered (answer.Lost seg) }
+
+abbrev pub opened_on : Lasting → ℕ → Went → Went_to
+opened_on l capacity w = after w.effects (after_opening (record l { questions = w.questions }) capacity w.progress)
+
+-- ---- the next item begins
+
+abbrev pub answers : Phase → ℕ → Answer → Went_to
+answers phase number a = record { state = phase; outs = Answers number a ∷ [] }
+
+abbrev pub begins_call : Serving → ℕ → Option Going → Done
+begins_call s number None = gives s (Answers number answer.Done ∷ [])
+begins_call s number (Some going) = (let d = goes_on (record s { lasting = record s.lasting { items = waiting s.lasting.items number } }) going in after d.outs (runs d.state))
+
+abbrev pub call_at : Serving → ℕ → Option Work → Option Going
+call_at s number None = None
+call_at s number (Some w) = call_of w number s.lasting.number
+
+-- Begin of a call: it opens, and runs until it must wait. While another is open it is refused.
+unfoldable pub opens : Serving → ℕ → Done
+opens s number =
+    if is_some s.lasting.items.unanswered then gives s (Answers number answer.Busy ∷ [])
+    else begins_call s number (call_at s number (work_at s.lasting.items number))
+
+abbrev pub serves_on : Done → Went_to
+serves_on d = record { state = Serves d.state; outs = d.outs }
+
+abbrev pub wish_of : Option Work → Wish
+wish_of None = wish.Call
+wish_of (Some (work.Crash node)) = wish.Crash
+wish_of (Some (work.Restart node)) = wish.Restart
+wish_of (Some other) = wish.Call
+
+-- what an item asks for
+abbrev pub wish_at : Lasting → ℕ → Wish
+wish_at l number = wish_of (work_at l.items number)
+
+abbrev pub down_begins : ℕ → Lasting → ℕ → Wish → Went_to
+down_begins servers l number wish.Restart = restarted servers (next_life l number)
+down_begins servers l number wish.Crash = answers (Down l) number answer.Down
+down_begins servers l number wish.Call = answers (Down l) number answer.Down
+
+abbrev pub opening_begins : Lasting → openings.Opening → ℕ → Wish → Went_to
+opening_begins l o number wish.Crash = crashed l number
+opening_begins l o number wish.Restart = answers (Opening l o) number answer.Up
+opening_begins l o number wish.Call = answers (Opening l o) number answer.Down
+
+-- what it may lose is acted, and then it is down
+abbrev pub serving_crashes : Serving → ℕ → Went_to
+serving_crashes s number = after (falls s ∷ []) (crashed s.lasting number)
+
+abbrev pub serving_begins : Serving → ℕ → Wish → Went_to
+serving_begins s number wish.Crash = serving_crashes s number
+serving_begins s number wish.Restart = answers (Serves s) number answer.Up
+serving_begins s number wish.Call = serves_on (opens s number)
+
+abbrev pub lasting_of : Phase → Lasting
+lasting_of (Down l) = l
+lasting_of (Opening l o) = l
+lasting_of (Serves s) = s.lasting
+
+-- the phase, once its next item is begun
+abbrev pub with_begun : Phase → Phase
+with_begun (Down l) = Down (record l { items = begun l.items })
+with_begun (Opening l o) = Opening (record l { items = begun l.items }) o
+with_begun (Serves s) = Serves (record s { lasting = record s.lasting { items = begun s.lasting.items } })
+
+abbrev pub item_begins : ℕ → Phase → ℕ → Wish → Went_to
+item_begins servers (Down l) number wish = down_begins servers l number wish
+item_begins servers (Opening l o) number wish = opening_begins l o number wish
+item_begins servers (Serves s) number wish = serving_begins s number wish
+
+abbrev pub begins_item : ℕ → Phase → Option ℕ → Went_to
+begins_item servers phase None = still phase
+begins_item servers phase (Some number) = (let p = with_begun phase in item_begins servers p number (wish_at (lasting_of p) number))
+
+-- Begin
+unfoldable pub on_begin : ℕ → Phase → Went_to
+on_begin servers phase = begins_item servers phase (next_item (lasting_of phase).items)
+
+-- ---- packets and time
+
+-- the open call is looked at once, at the end of the event
+abbrev pub then_runs : Done → Went_to
+then_runs d = serves_on (after d.outs (runs d.state))
+
+unfoldable pub on_deliver : ℕ → Phase → Packet → Went_to
+on_deliver capacity (Down l) packet = still (Down l)
+on_deliver capacity (Opening l o) packet = opened_on l capacity (opening.on_packet o l.questions packet)
+on_deliver capacity (Serves s) packet = then_runs (on_packet s packet)
+
+unfoldable pub on_time : ℕ → Phase → Went_to
+on_time capacity (Down l) = still (Down l)
+on_time capacity (Opening l o) = opened_on l capacity (opening.on_tick o l.questions)
+on_time capacity (Serves s) = then_runs (on_tick s)
+
+-- a packet that is not well formed is dropped
+abbrev pub delivers : Peers → ℕ → Phase → Packet → Went_to
+delivers peers capacity phase packet = if is_well_formed peers packet then on_deliver capacity phase packet else still phase
+
+-- what an event makes of a phase
+abbrev pub on_event : Peers → ℕ → Phase → Do → Went_to
+on_event peers capacity phase Begin = on_begin peers.servers phase
+on_event peers capacity phase (Deliver packet) = delivers peers capacity phase packet
+on_event peers capacity phase Tick = on_time capacity phase
+
+abbrev pub happens : Client → Do → Went_to
+happens c what = on_event c.peers c.cache c.phase what
+
+-- ---- the ends of counters
+
+abbrev pub serving_room : Serving → Bool
+serving_room s =
+    has_room s.maps.version && (has_room s.tokens.req && (log_room s.log && epochs_room s.tokens))
+
+abbrev pub phase_room : Phase → Bool
+phase_room (Down l) = true
+phase_room (Opening l o) = opening.opening_room o
+phase_room (Serves s) = serving_room s
+
+-- no counter is near its end
+abbrev pub client_room : Client → Bool
+client_room c = has_room (lasting_of c.phase).inc && (has_room (lasting_of c.phase).questions.last && phase_room c.phase)
+
+-- ---- the transition
+
+abbrev pub stepped : Client → Went_to → NodeStep Client
+stepped c w =
+    record {
+      node = record c { phase = w.state };
+      packets = packets_of (AClient (lasting_of c.phase).number) w.outs;
+      acts = acts_of (AClient (lasting_of c.phase).number) w.outs;
+    }
+
+-- an event is taken; where a counter is near its end, it changes nothing
+abbrev pub takes : Client → Do → Went_to
+takes c what = if client_room c then happens c what else still c.phase
+
+-- what an event makes of a client
+abbrev pub client_step : Client → Do → NodeStep Client
+client_step c what = stepped c (takes c what)

@@ -1,0 +1,121 @@
+-- The open call: it is looked at at the end of each event.
+use Rattle.std.specs.Prelude.{ℕ, zero, suc, Bool, true, false, ◌&&◌, nat_le, if◌then◌else◌, Option, Some, None}
+use Rattle.client_node.specs.Blocks.{Made, makes}
+use Rattle.client_node.specs.declared.call.Call.{Call}
+use Rattle.client_node.specs.declared.call.Going.{Going}
+use Rattle.client_node.specs.declared.call.Going.TheVariants.{On, Ends}
+use Rattle.client_node.specs.declared.call.Plan.{Plan}
+use Rattle.client_node.specs.declared.call.Plan.TheVariants.{One, File}
+use Rattle.client_node.specs.declared.serving.Serving.{Serving}
+use Rattle.client_node.specs.Sends.{Done, gives}
+use Rattle.file_plan.specs.declared.block_call.BlockAnswer.{BlockAnswer}
+use Rattle.file_plan.specs.declared.block_call.BlockAnswer.TheVariants as answer
+use Rattle.file_plan.specs.declared.block_call.BlockCall.{BlockCall}
+use Rattle.file_plan.specs.declared.block_call.BlockCall.TheVariants.{Get, Put, Sync}
+use Rattle.file_plan.specs.declared.block_call.Next.{Next}
+use Rattle.file_plan.specs.declared.block_call.Next.TheVariants.{Step, Reply}
+use Rattle.file_plan.specs.declared.state.PlanState.{PlanState}
+use Rattle.file_plan.specs.Plan as plan
+use Rattle.node_base.specs.Beginning.{answered, answers_unanswered}
+use Rattle.version_model.specs.declared.answer.Answer.{Answer}
+use Rattle.version_model.specs.declared.answer.Answer.TheVariants.{Got, Version, Done as Finished}
+use Rattle.version_model.specs.declared.file_call.FileCall.{FileCall}
+use Rattle.version_model.specs.declared.work.Work.{Work}
+use Rattle.version_model.specs.declared.work.Work.TheVariants as work
+use Rattle.xfs_base.specs.Steps.{still, after}
+
+-- a call that has this call on blocks to make
+abbrev pub call_for : Plan → BlockCall → Call
+call_for p step = record { plan = p; step = step; reading = None }
+
+abbrev pub going_by : PlanState → Next → Going
+going_by p (Step step) = On (call_for (File p) step)
+going_by p (Reply answer) = Ends answer
+
+abbrev pub going : PlanState → Going
+going p = going_by p (plan.next p)
+
+-- the answer of a call that is one call on blocks
+abbrev pub answer_of : BlockAnswer → Answer
+answer_of (answer.Got ver value) = Got ver value
+answer_of (answer.Put ver) = Version ver
+answer_of answer.Changed = Finished
+answer_of answer.Synced = Finished
+
+-- where a call stands once its call on blocks is answered
+abbrev pub after_answer : Plan → BlockAnswer → Going
+after_answer One a = Ends (answer_of a)
+after_answer (File p) a = going (plan.after p a)
+
+-- neither an item nor a client has a greater number
+abbrev pub may_make : ℕ → ℕ → Bool
+may_make number self = nat_le number 20000 && (nat_le 1 self && nat_le self 8)
+
+-- the call on files of an item
+abbrev pub file_call : FileCall → ℕ → ℕ → Option Going
+file_call call number self = if may_make number self then Some (going (plan.start call (plan.made_by number self))) else None
+
+-- the call of an item; none where the item is no call
+abbrev pub call_of : Work → ℕ → ℕ → Option Going
+call_of (work.Bput client block value) number self = Some (On (call_for One (Put block value)))
+call_of (work.Bget client block) number self = Some (On (call_for One (Get block)))
+call_of (work.Sync client) number self = Some (On (call_for One Sync))
+call_of (work.File client call) number self = file_call call number self
+call_of (work.Crash node) number self = None
+call_of (work.Restart node) number self = None
+call_of (work.Checkpoint manager) number self = None
+call_of (work.Lose server) number self = None
+call_of (work.Rebuild server) number self = None
+call_of (work.Move slot manager) number self = None
+call_of (work.Clean count) number self = None
+call_of (work.NetLose count) number self = None
+call_of (work.NetAgain count) number self = None
+call_of (work.NetMix seed) number self = None
+call_of work.NetHold number self = None
+call_of work.NetGo number self = None
+call_of (work.NetStep count) number self = None
+call_of (work.BoardStop board) number self = None
+call_of (work.BoardStart board) number self = None
+call_of (work.ServerStop server passes) number self = None
+call_of (work.ServerStart server) number self = None
+
+-- the open call stands so: it goes on, or its item is answered
+unfoldable pub goes_on : Serving → Going → Done
+goes_on s (On call) = still (record s { call = Some call })
+goes_on s (Ends answer) = gives (record s { lasting = record s.lasting { items = answered s.lasting.items } }) (answers_unanswered s.lasting.items.unanswered answer)
+
+-- one call on blocks of the open call: what it does, and whether it was answered
+pub record Ran : Type 0 where
+  pub done : Done
+  pub goes : Bool
+
+-- the call waits with its call on blocks, or that was answered so
+abbrev pub answers_call : Serving → Call → Option BlockAnswer → Ran
+answers_call s call None = record { done = still (record s { call = Some call }); goes = false }
+answers_call s call (Some a) = record { done = goes_on s (after_answer call.plan a); goes = true }
+
+abbrev pub ran : Call → Made → Ran
+ran call made = (let r = answers_call made.done.state call made.answer in record { done = after made.done.outs r.done; goes = r.goes })
+
+abbrev pub runs_call : Serving → Option Call → Ran
+runs_call s None = record { done = still s; goes = false }
+runs_call s (Some call) = ran call (makes (record s { call = None }) call.step)
+
+unfoldable pub runs_once : Serving → Ran
+runs_once s = runs_call s s.call
+
+abbrev pub if_goes : Ran → (Serving → Done) → Done
+if_goes r f = if r.goes then after r.done.outs (f r.done.state) else r.done
+
+-- so many calls on blocks at most
+unfoldable pub runs_upto : ℕ → Serving → Done
+runs_upto zero s = still s
+runs_upto (suc n) s = if_goes (runs_once s) (runs_upto n)
+
+-- how many calls on blocks a call makes in one event at most
+abbrev pub most_steps : ℕ
+most_steps = 4096
+
+-- the open call runs until it must wait or is answered
+unfoldable pub runs : Serving → Done
+runs s = runs_upto most_steps s

@@ -1,0 +1,218 @@
+//! The client as a node: what each event makes of it.
+ghost use Rattle.std.specs.Prelude.{◌≡◌, ◌++◌, IfOk, OnOk};
+ghost use Rattle.client_node.specs.Phases.{on_begin, delivers, on_deliver, on_time, on_event, happens, client_room, phase_room, takes};
+ghost use Rattle.client_node.specs.Starting.{first_client};
+ghost use Rattle.node_base.specs.Setups.{IsSetup};
+ghost use Rattle.segment_format.specs.Format.{IsLog};
+
+use crate::beginning::{begin_down, begin_opening, begin_serving};
+use crate::returning::after;
+use crate::{Lasting, Phase, Serving};
+use node_base::{Effects, Peers, groups_of, has_room, is_well_formed};
+use std::alloc::Global;
+use version_model::{Act, Work};
+use wire_msg::{Actor, Do, Packet};
+use xfs_base::{Crosses, List, Mem, NodeId, Setup};
+
+/// A client.
+#[derive(Drop)]
+pub struct Client {
+    peers: Peers,
+    cache: u16,
+    phase: Phase,
+}
+
+impl Actor for Client {
+    ghost use Rattle.client_node.specs.Phases.{client_step};
+    ghost use Rattle.client_node.specs.Clocks.{client_sends_clock_0};
+
+    ghost transition = { client_step };
+
+    fn step(self, alloc: Global, what: &Do) -> Mem<(Client, List<Packet>, List<Act>)> {
+        let node = NodeId::Client(self.phase.lasting().number);
+        let mut effects = Effects::new(alloc);
+        let client = self.takes(alloc, &mut effects, what)?;
+        let (packets, acts) = effects.into_parts(alloc, node)?;
+        Ok((client, packets, acts))
+    }
+
+    ghost no_clock = { client_sends_clock_0 };
+}
+
+impl Crosses for Client {}
+
+impl Client {
+    /// The client of this number at the start, with its items.
+    pub fn start(alloc: Global, number: u8, setup: &Setup, items: List<Work>) -> Mem<Client>
+        requires log { IsLog number }
+        requires setup { IsSetup setup.now }
+        ensures { IfOk result (λ client. client ≡ first_client number setup.now items) }
+    {
+        let groups = groups_of(alloc, setup)?;
+        let lasting = Lasting::start(number, items);
+        let serving = Serving::start(alloc, lasting, setup.managers, setup.cache, groups)?;
+        Ok(Client {
+            peers: Peers::of(setup),
+            cache: setup.cache,
+            phase: Phase::Serving(serving),
+        })
+    }
+
+    /// How many clean blocks it caches at most.
+    pub fn cache(&self) -> u16
+        ensures { result ≡ self.now.cache }
+    {
+        self.cache
+    }
+
+    /// What it has.
+    pub fn phase(&self) -> &Phase
+        ensures { result.now ≡ self.now.phase }
+    {
+        &self.phase
+    }
+
+    // Whether no counter is near its end.
+    fn has_room(&self) -> bool
+        ensures { result ≡ client_room self.now }
+    {
+        let lasting = self.phase.lasting();
+        has_room(lasting.inc) && (has_room(lasting.questions.last) && phase_has_room(&self.phase))
+    }
+
+    // An event is taken where no counter is near its end.
+    fn takes(self, alloc: Global, effects: &mut Effects, what: &Do) -> Mem<Client>
+        ensures client { IfOk result (λ client. client ≡ record self { phase = (takes self what.now).state }) }
+        ensures effects { OnOk result (effects.new ≡ effects.old ++ (takes self what.now).outs) }
+    {
+        if !self.has_room() {
+            return Ok(self);
+        }
+        self.happens(alloc, effects, what)
+    }
+
+    fn happens(self, alloc: Global, effects: &mut Effects, what: &Do) -> Mem<Client>
+        ensures client { IfOk result (λ client. client ≡ record self { phase = (happens self what.now).state }) }
+        ensures effects { OnOk result (effects.new ≡ effects.old ++ (happens self what.now).outs) }
+    {
+        let Client {
+            peers,
+            cache,
+            phase,
+        } = self;
+        let phase = on_event(alloc, effects, peers, cache, phase, what)?;
+        Ok(Client {
+            peers,
+            cache,
+            phase,
+        })
+    }
+}
+
+fn on_event(
+    alloc: Global,
+    effects: &mut Effects,
+    peers: Peers,
+    cache: u16,
+    phase: Phase,
+    what: &Do,
+) -> Mem<Phase>
+    ensures phase { IfOk result (λ after. after ≡ (on_event peers cache phase what.now).state) }
+    ensures effects { OnOk result (effects.new ≡ effects.old ++ (on_event peers cache phase what.now).outs) }
+{
+    match what {
+        Do::Begin => begin(alloc, effects, peers, phase),
+        Do::Deliver(packet) => deliver(alloc, effects, peers, cache, phase, packet),
+        Do::Tick => tick(alloc, effects, cache, phase),
+    }
+}
+
+fn phase_has_room(phase: &Phase) -> bool
+    ensures { result ≡ phase_room phase.now }
+{
+    match phase {
+        Phase::Down(_) => true,
+        Phase::Opening(_, opening) => opening.has_room(),
+        Phase::Serving(serving) => serving.has_room(),
+    }
+}
+
+// The next item begins.
+fn begin(alloc: Global, effects: &mut Effects, peers: Peers, phase: Phase) -> Mem<Phase>
+    ensures phase { IfOk result (λ after. after ≡ (on_begin peers.servers phase).state) }
+    ensures effects { OnOk result (effects.new ≡ effects.old ++ (on_begin peers.servers phase).outs) }
+{
+    match phase {
+        Phase::Down(lasting) => begin_down(alloc, effects, peers, lasting),
+        Phase::Opening(lasting, opening) => begin_opening(effects, peers, lasting, opening),
+        Phase::Serving(serving) => begin_serving(alloc, effects, peers, serving),
+    }
+}
+
+// A packet comes.
+fn deliver(
+    alloc: Global,
+    effects: &mut Effects,
+    peers: Peers,
+    cache: u16,
+    phase: Phase,
+    packet: &Packet,
+) -> Mem<Phase>
+    ensures phase { IfOk result (λ after. after ≡ (delivers peers cache phase packet.now).state) }
+    ensures effects { OnOk result (effects.new ≡ effects.old ++ (delivers peers cache phase packet.now).outs) }
+{
+    if !is_well_formed(peers, packet) {
+        return Ok(phase);
+    }
+    take(alloc, effects, cache, phase, packet)
+}
+
+// A client that is down takes no packet.
+#[tactic(auto, unfolding(crate::specs::Phases::on_deliver))]
+fn take(
+    alloc: Global,
+    effects: &mut Effects,
+    cache: u16,
+    phase: Phase,
+    packet: &Packet,
+) -> Mem<Phase>
+    ensures phase { IfOk result (λ after. after ≡ (on_deliver cache phase packet.now).state) }
+    ensures effects { OnOk result (effects.new ≡ effects.old ++ (on_deliver cache phase packet.now).outs) }
+{
+    match phase {
+        Phase::Down(lasting) => Ok(Phase::Down(lasting)),
+        Phase::Opening(lasting, opening) => {
+            let mut lasting = lasting;
+            let progress = opening.take(alloc, effects, &mut lasting.questions, packet)?;
+            after(alloc, effects, lasting, cache, progress)
+        }
+        Phase::Serving(serving) => {
+            let mut serving = serving;
+            serving.take(alloc, effects, packet)?;
+            serving.run(alloc, effects)?;
+            Ok(Phase::Serving(serving))
+        }
+    }
+}
+
+// Time passes.
+#[tactic(auto, unfolding(crate::specs::Phases::on_time))]
+fn tick(alloc: Global, effects: &mut Effects, cache: u16, phase: Phase) -> Mem<Phase>
+    ensures phase { IfOk result (λ after. after ≡ (on_time cache phase).state) }
+    ensures effects { OnOk result (effects.new ≡ effects.old ++ (on_time cache phase).outs) }
+{
+    match phase {
+        Phase::Down(lasting) => Ok(Phase::Down(lasting)),
+        Phase::Opening(lasting, opening) => {
+            let mut lasting = lasting;
+            let progress = opening.tick(alloc, effects, &mut lasting.questions)?;
+            after(alloc, effects, lasting, cache, progress)
+        }
+        Phase::Serving(serving) => {
+            let mut serving = serving;
+            serving.tick(alloc, effects)?;
+            serving.run(alloc, effects)?;
+            Ok(Phase::Serving(serving))
+        }
+    }
+}

@@ -1,0 +1,265 @@
+//! The log of a client: sealing it, and what is settled.
+ghost use Rattle.std.specs.Prelude.{◌≡◌, ◌++◌, ◌∷◌, [], IfOk, OnOk, fold};
+ghost use Rattle.std.specs.List.{flat_map, list_any};
+ghost use Rattle.client_node.specs.Flights.{feeds, gives_if_clean, gives_up, held_at, is_giving, is_settling, is_to_give, keeps_clean, notes_settled, on_stored, seals_again, settled_rows, settles, writes, writes_one};
+ghost use Rattle.client_node.specs.Follow.{seals};
+ghost use Rattle.log_owner.specs.Opening.{stored};
+ghost use Rattle.log_owner.specs.Sending.{pushes_all};
+ghost use Rattle.token_client.specs.Held.{is_dirty};
+ghost use Rattle.token_client.specs.State.{held_of};
+ghost use Rattle.xfs_base.specs.Steps.{steps};
+
+use crate::Serving;
+use client_log::{In, Out};
+use log_owner::name_of;
+use log_owner::sending::{push_all, send_store};
+use node_base::Effects;
+use std::alloc::Global;
+use token_client::Tokens;
+use version_model::Act;
+use wire_msg::Stored;
+use xfs_base::{BlockId, End, Entry, List, Mem};
+
+impl Serving {
+    /// Hands the log an input, and does what it says. After a segment is settled the log is sealed again
+    /// where a block is still to be given up.
+    #[tactic(auto, unfolding(crate::specs::Flights::writes))]
+    pub(crate) fn write(&mut self, alloc: Global, effects: &mut Effects, input: In) -> Mem<()>
+        ensures state { OnOk result (self.new ≡ (writes self.old input).state) }
+        ensures effects { OnOk result (effects.new ≡ effects.old ++ (writes self.old input).outs) }
+    {
+        let outs = self.log.take(alloc, input)?;
+        let settling = is_any_settling(outs.as_slice());
+        self.write_all(alloc, effects, outs)?;
+        self.seal_again(alloc, effects, settling)
+    }
+
+    fn write_all(&mut self, alloc: Global, effects: &mut Effects, outs: List<Out>) -> Mem<()>
+        ensures state { OnOk result (self.new ≡ (steps writes_one self.old outs).state) }
+        ensures effects { OnOk result (effects.new ≡ effects.old ++ (steps writes_one self.old outs).outs) }
+    {
+        for out in outs.into_vec() {
+            self.write_one(alloc, effects, out)?;
+        }
+        Ok(())
+    }
+
+    #[tactic(auto, unfolding(crate::specs::Flights::writes_one))]
+    fn write_one(&mut self, alloc: Global, effects: &mut Effects, out: Out) -> Mem<()>
+        ensures state { OnOk result (self.new ≡ (writes_one self.old out).state) }
+        ensures effects { OnOk result (effects.new ≡ effects.old ++ (writes_one self.old out).outs) }
+    {
+        match out {
+            Out::Send { fragment, member } => send_store(effects, fragment, member),
+            Out::Settled { end, rows } => self.settle(alloc, effects, end, rows),
+        }
+    }
+
+    fn seal_again(&mut self, alloc: Global, effects: &mut Effects, settling: bool) -> Mem<()>
+        ensures state { OnOk result (self.new ≡ (seals_again self.old settling).state) }
+        ensures effects { OnOk result (effects.new ≡ effects.old ++ (seals_again self.old settling).outs) }
+    {
+        if settling && self.is_giving(alloc)? {
+            self.seal(alloc, effects)?;
+        }
+        Ok(())
+    }
+
+    /// Seals the log.
+    #[tactic(auto, unfolding(crate::specs::Follow::seals))]
+    pub(crate) fn seal(&mut self, alloc: Global, effects: &mut Effects) -> Mem<()>
+        ensures state { OnOk result (self.new ≡ (seals self.old).state) }
+        ensures effects { OnOk result (effects.new ≡ effects.old ++ (seals self.old).outs) }
+    {
+        let outs = self.log.take(alloc, In::Seal)?;
+        send_sealed(effects, outs)
+    }
+
+    /// A server holds a fragment of the segment in flight.
+    pub(crate) fn on_stored(
+        &mut self,
+        alloc: Global,
+        effects: &mut Effects,
+        stored: Stored,
+    ) -> Mem<()>
+        ensures state { OnOk result (self.new ≡ (on_stored self.old stored).state) }
+        ensures effects { OnOk result (effects.new ≡ effects.old ++ (on_stored self.old stored).outs) }
+    {
+        let input = In::Acked {
+            name: stored.name,
+            index: stored.index,
+            generation: stored.generation,
+        };
+        self.write(alloc, effects, input)
+    }
+
+    // A segment is settled.
+    #[tactic(auto, unfolding(crate::specs::Flights::settles))]
+    fn settle(
+        &mut self,
+        alloc: Global,
+        effects: &mut Effects,
+        end: End,
+        rows: List<(BlockId, Entry)>,
+    ) -> Mem<()>
+        ensures state { OnOk result (self.new ≡ (settles self.old end rows).state) }
+        ensures effects { OnOk result (effects.new ≡ effects.old ++ (settles self.old end rows).outs) }
+    {
+        let seg = name_of(self.lasting.log(), end);
+        effects.act(Act::Filed { seg })?;
+        let dirty = self.tokens.dirty(alloc)?;
+        self.take_rows(alloc, end, rows)?;
+        self.tell_settled(alloc, effects, dirty.as_slice())
+    }
+
+    // These rows are settled: clean blocks go into the cache, and the feed takes the rows.
+    fn take_rows(&mut self, alloc: Global, end: End, rows: List<(BlockId, Entry)>) -> Mem<()>
+        ensures { OnOk result (self.new ≡ feeds (settled_rows self.old rows) end rows) }
+    {
+        self.note_settled(alloc, rows.as_slice())?;
+        self.keep_clean(alloc, rows.as_slice())?;
+        let seq = end.seq;
+        let _outs = self
+            .feed
+            .take(alloc, delta_feed::In::Settled { seq, rows })?;
+        Ok(())
+    }
+
+    // All slots are told, and then those of these blocks that are clean and to be given up are given up.
+    fn tell_settled(&mut self, alloc: Global, effects: &mut Effects, blocks: &[BlockId]) -> Mem<()>
+        ensures state { OnOk result (self.new ≡ (steps gives_if_clean self.old blocks.now).state) }
+        ensures effects { OnOk result (effects.new ≡ effects.old ++ (pushes_all self.old.managers self.old.feed ++ (steps gives_if_clean self.old blocks.now).outs)) }
+    {
+        push_all(alloc, effects, &mut self.feed, self.managers)?;
+        self.give_clean(alloc, effects, blocks)
+    }
+
+    // The versions of these rows are settled.
+    fn note_settled(&mut self, alloc: Global, rows: &[(BlockId, Entry)]) -> Mem<()>
+        ensures { OnOk result (self.new ≡ fold notes_settled self.old rows.now) }
+    {
+        for row in rows {
+            self.note_row(alloc, *row)?;
+        }
+        Ok(())
+    }
+
+    #[tactic(auto, unfolding(crate::specs::Flights::notes_settled))]
+    fn note_row(&mut self, alloc: Global, row: (BlockId, Entry)) -> Mem<()>
+        ensures { OnOk result (self.new ≡ notes_settled self.old row) }
+    {
+        let input = token_client::In::Settled {
+            block: row.0,
+            ver: row.1.ver,
+        };
+        let _outs = self.tokens.take(alloc, input)?;
+        Ok(())
+    }
+
+    // Those of these blocks that are clean go into the cache.
+    fn keep_clean(&mut self, alloc: Global, rows: &[(BlockId, Entry)]) -> Mem<()>
+        ensures { OnOk result (self.new ≡ fold keeps_clean self.old rows.now) }
+    {
+        for row in rows {
+            self.keep_row(alloc, *row)?;
+        }
+        Ok(())
+    }
+
+    #[tactic(auto, unfolding(crate::specs::Flights::keeps_clean))]
+    fn keep_row(&mut self, alloc: Global, row: (BlockId, Entry)) -> Mem<()>
+        ensures { OnOk result (self.new ≡ keeps_clean self.old row) }
+    {
+        if !is_dirty(&self.tokens, row.0) && self.tokens.mode(row.0).is_held() {
+            self.note_clean(alloc, row.0)?;
+        }
+        Ok(())
+    }
+
+    // Those of these blocks that are clean and to be given up are given up.
+    fn give_clean(&mut self, alloc: Global, effects: &mut Effects, blocks: &[BlockId]) -> Mem<()>
+        ensures state { OnOk result (self.new ≡ (steps gives_if_clean self.old blocks.now).state) }
+        ensures effects { OnOk result (effects.new ≡ effects.old ++ (steps gives_if_clean self.old blocks.now).outs) }
+    {
+        for block in blocks {
+            self.give_if_clean(alloc, effects, *block)?;
+        }
+        Ok(())
+    }
+
+    #[tactic(auto, unfolding(crate::specs::Flights::gives_if_clean))]
+    fn give_if_clean(&mut self, alloc: Global, effects: &mut Effects, block: BlockId) -> Mem<()>
+        ensures state { OnOk result (self.new ≡ (gives_if_clean self.old block).state) }
+        ensures effects { OnOk result (effects.new ≡ effects.old ++ (gives_if_clean self.old block).outs) }
+    {
+        if is_dirty(&self.tokens, block) {
+            return Ok(());
+        }
+        self.give_up(alloc, effects, block)
+    }
+
+    fn give_up(&mut self, alloc: Global, effects: &mut Effects, block: BlockId) -> Mem<()>
+        ensures state { OnOk result (self.new ≡ (gives_up self.old block (held_at self.old block).giving).state) }
+        ensures effects { OnOk result (effects.new ≡ effects.old ++ (gives_up self.old block (held_at self.old block).giving).outs) }
+    {
+        match self.tokens.giving(block) {
+            Some((stamp, keep)) => self.take_back(alloc, effects, block, stamp, keep),
+            None => Ok(()),
+        }
+    }
+
+    // Whether some block is to be given up.
+    fn is_giving(&self, alloc: Global) -> Mem<bool>
+        ensures { IfOk result (λ giving. giving ≡ is_giving self.now.tokens) }
+    {
+        let dirty = self.tokens.dirty(alloc)?;
+        let blocks = dirty.as_slice();
+        Ok(blocks.iter().any(|block| is_to_give(&self.tokens, *block)))
+    }
+}
+
+fn is_any_settling(outs: &[Out]) -> bool
+    ensures { result ≡ list_any is_settling outs.now }
+{
+    outs.iter().any(|out| is_settling(out))
+}
+
+fn is_settling(out: &Out) -> bool
+    ensures { result ≡ is_settling out.now }
+{
+    match out {
+        Out::Send { .. } => false,
+        Out::Settled { .. } => true,
+    }
+}
+
+// Sends what is to be stored.
+fn send_sealed(effects: &mut Effects, outs: List<Out>) -> Mem<()>
+    ensures { OnOk result (effects.new ≡ effects.old ++ flat_map stored outs) }
+{
+    for out in outs.into_vec() {
+        send_stored(effects, out)?;
+    }
+    Ok(())
+}
+
+fn send_stored(effects: &mut Effects, out: Out) -> Mem<()>
+    ensures { OnOk result (effects.new ≡ effects.old ++ stored out) }
+{
+    match out {
+        Out::Send { fragment, member } => send_store(effects, fragment, member),
+        Out::Settled { .. } => Ok(()),
+    }
+}
+
+fn is_to_give(tokens: &Tokens, block: BlockId) -> bool
+    ensures { result ≡ is_to_give tokens.now block }
+{
+    tokens.giving(block).is_some()
+}
+
+fn is_dirty(tokens: &Tokens, block: BlockId) -> bool
+    ensures { result ≡ is_dirty (held_of tokens.now.blocks block) }
+{
+    tokens.settled(block) < tokens.ver(block)
+}

@@ -1,0 +1,61 @@
+//! A client whose log is open again.
+ghost use Rattle.std.specs.Prelude.{◌≡◌, ◌++◌, IfOk, OnOk};
+ghost use Rattle.client_node.specs.Phases.{after_opening, back};
+
+use crate::{Lasting, Phase, Serving};
+use log_owner::sending::push_all;
+use log_owner::{Opened, Progress};
+use node_base::Effects;
+use std::alloc::Global;
+use version_model::{Act, Answer};
+use xfs_base::Mem;
+
+/// The phase after an event of an opening.
+pub(crate) fn after(
+    alloc: Global,
+    effects: &mut Effects,
+    lasting: Lasting,
+    cache: u16,
+    progress: Progress,
+) -> Mem<Phase>
+    ensures phase { IfOk result (λ phase. phase ≡ (after_opening lasting cache progress).state) }
+    ensures effects { OnOk result (effects.new ≡ effects.old ++ (after_opening lasting cache progress).outs) }
+{
+    match progress {
+        Progress::Opening(opening) => Ok(Phase::Opening(lasting, opening)),
+        Progress::Opened(opened) => back(alloc, effects, lasting, cache, opened),
+        Progress::Lost(seg) => {
+            let mut lasting = lasting;
+            lasting.answer(effects, Answer::Lost(seg))?;
+            Ok(Phase::Down(lasting))
+        }
+    }
+}
+
+// The log is open: the client serves again, and tells all slots of its log.
+fn back(
+    alloc: Global,
+    effects: &mut Effects,
+    lasting: Lasting,
+    cache: u16,
+    opened: Opened,
+) -> Mem<Phase>
+    ensures phase { IfOk result (λ phase. phase ≡ (back lasting cache opened).state) }
+    ensures effects { OnOk result (effects.new ≡ effects.old ++ (back lasting cache opened).outs) }
+{
+    let Opened {
+        maps,
+        promised,
+        log,
+        feed,
+        chain,
+    } = opened;
+    effects.act(Act::Back {
+        client: lasting.number,
+        chain,
+    })?;
+    let mut serving = Serving::back(alloc, lasting, cache, maps, promised, log, feed)?;
+    push_all(alloc, effects, &mut serving.feed, serving.managers)?;
+    serving.lasting.answer(effects, Answer::Done)?;
+    Ok(Phase::Serving(serving))
+}

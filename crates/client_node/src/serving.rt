@@ -1,0 +1,295 @@
+//! A client that serves.
+ghost use Rattle.std.specs.Prelude.{◌≡◌, ◌++◌, IfOk, OnOk, None, Some, replicate};
+ghost use Rattle.client_node.specs.Bodies.{on_log_body, on_map_body};
+ghost use Rattle.client_node.specs.Packets.{asks_for_maps, epochs_room, on_ack, on_body, on_packet, on_tick};
+ghost use Rattle.client_node.specs.Phases.{begins_call, call_at, opens, returned, serving_room};
+ghost use Rattle.client_node.specs.Starting.{cached_upto, empty_end, first_serving};
+ghost use Rattle.node_base.specs.Beginning.{work_at};
+ghost use Rattle.segment_format.specs.Format.{IsLog};
+ghost use Rattle.token_client.specs.State.{started};
+
+use crate::{Call, Going, Lasting};
+use client_log::Log;
+use coop_cache::Cache;
+use delta_feed::Feed;
+use group_map::GroupMap;
+use log_owner::sending::{push_all, send_hello};
+use log_owner::{Managers, Promised, log_has_room};
+use node_base::{Effects, Maps, has_room, names_known_groups};
+use std::alloc::Global;
+use token_client::Tokens;
+use version_model::Answer;
+use wire_msg::{Body, DeltaAck, Packet};
+use xfs_base::{End, Mem, NodeId, Pass};
+
+/// What a client that serves has. The tokens keep which epoch each slot is promised to.
+#[derive(Drop)]
+pub struct Serving {
+    /// What outlives a crash.
+    pub lasting: Lasting,
+    /// The maps.
+    pub maps: Maps,
+    /// The managers to which the slots are promised.
+    pub managers: Managers,
+    /// What it may do with each block.
+    pub tokens: Tokens,
+    /// Its log.
+    pub log: Log,
+    /// The deltas of its log.
+    pub feed: Feed,
+    /// Its clean blocks, by their last use.
+    pub cache: Cache,
+    /// The call that is open.
+    pub call: Option<Call>,
+}
+
+impl Serving {
+    /// A client at the start: nothing is cached, and its log is empty.
+    pub fn start(
+        alloc: Global,
+        lasting: Lasting,
+        managers: u8,
+        cache: u16,
+        groups: GroupMap,
+    ) -> Mem<Serving>
+        requires { IsLog lasting.number }
+        ensures { IfOk result (λ made. made ≡ first_serving lasting managers cache groups) }
+    {
+        let tokens = first_tokens(alloc)?;
+        let copy = groups.copy(alloc)?;
+        let log = Log::start(alloc, lasting.log(), 1, empty_end(), copy)?;
+        Ok(Serving {
+            lasting,
+            maps: Maps::start(groups),
+            managers: Managers::start(managers),
+            tokens,
+            log,
+            feed: Feed::start(alloc, 0)?,
+            cache: Cache::start(alloc, cached_upto(cache))?,
+            call: None,
+        })
+    }
+
+    /// A client whose log is open again: nothing is cached.
+    pub fn back(
+        alloc: Global,
+        lasting: Lasting,
+        cache: u16,
+        maps: Maps,
+        promised: Promised,
+        log: Log,
+        feed: Feed,
+    ) -> Mem<Serving>
+        ensures { IfOk result (λ made. made ≡ returned lasting cache maps promised log feed) }
+    {
+        let tokens = Tokens::start(alloc, lasting.inc, promised.listed(alloc)?)?;
+        Ok(Serving {
+            lasting,
+            maps,
+            managers: promised.managers,
+            tokens,
+            log,
+            feed,
+            cache: Cache::start(alloc, cached_upto(cache))?,
+            call: None,
+        })
+    }
+
+    /// Takes a packet. One that names a group that isn't known is dropped, and the maps are asked for.
+    #[tactic(auto, unfolding(crate::specs::Packets::on_packet))]
+    pub fn take(&mut self, alloc: Global, effects: &mut Effects, packet: &Packet) -> Mem<()>
+        ensures state { OnOk result (self.new ≡ (on_packet self.old packet.now).state) }
+        ensures effects { OnOk result (effects.new ≡ effects.old ++ (on_packet self.old packet.now).outs) }
+    {
+        if names_known_groups(&self.maps, &packet.body) {
+            self.take_body(alloc, effects, packet.from, &packet.body)
+        } else {
+            self.ask_for_maps(effects)
+        }
+    }
+
+    // A body about blocks, or another.
+    fn take_body(
+        &mut self,
+        alloc: Global,
+        effects: &mut Effects,
+        from: NodeId,
+        body: &Body,
+    ) -> Mem<()>
+        ensures state { OnOk result (self.new ≡ (on_body self.old from body.now).state) }
+        ensures effects { OnOk result (effects.new ≡ effects.old ++ (on_body self.old from body.now).outs) }
+    {
+        match body {
+            Body::Grant(grant) => self.on_grant(alloc, effects, *grant),
+            Body::Supply(supply) => self.on_supply(alloc, effects, supply),
+            Body::Forward(forward) => self.on_forward(alloc, effects, *forward),
+            Body::Recall(recall) => self.on_recall(alloc, effects, *recall),
+            Body::Gone(gone) => self.on_gone(alloc, effects, *gone),
+            _ => self.take_log_body(alloc, effects, from, body),
+        }
+    }
+
+    // A body about a log, or one about the maps.
+    fn take_log_body(
+        &mut self,
+        alloc: Global,
+        effects: &mut Effects,
+        from: NodeId,
+        body: &Body,
+    ) -> Mem<()>
+        ensures state { OnOk result (self.new ≡ (on_log_body self.old from body.now).state) }
+        ensures effects { OnOk result (effects.new ≡ effects.old ++ (on_log_body self.old from body.now).outs) }
+    {
+        match body {
+            Body::DeltaAck(ack) => self.on_ack(alloc, *ack),
+            Body::Stored(stored) => self.on_stored(alloc, effects, *stored),
+            Body::Fragment(found) => self.on_found(alloc, effects, from, found),
+            Body::Missing(missing) => self.on_missing(alloc, effects, from, *missing),
+            _ => self.take_map_body(alloc, effects, from, body),
+        }
+    }
+
+    // A body about the maps or the promises.
+    fn take_map_body(
+        &mut self,
+        alloc: Global,
+        effects: &mut Effects,
+        from: NodeId,
+        body: &Body,
+    ) -> Mem<()>
+        ensures state { OnOk result (self.new ≡ (on_map_body self.old from body.now).state) }
+        ensures effects { OnOk result (effects.new ≡ effects.old ++ (on_map_body self.old from body.now).outs) }
+    {
+        match body {
+            Body::Poll(poll) => self.on_poll(alloc, effects, from, *poll),
+            Body::MapNews(news) => self.on_news(alloc, effects, news),
+            Body::Welcome(welcome) => self.on_welcome(alloc, effects, welcome),
+            _ => Ok(()),
+        }
+    }
+
+    // The maps are asked for, under a new question.
+    #[tactic(auto, unfolding(crate::specs::Packets::asks_for_maps))]
+    fn ask_for_maps(&mut self, effects: &mut Effects) -> Mem<()>
+        ensures state { OnOk result (self.new ≡ (asks_for_maps self.old).state) }
+        ensures effects { OnOk result (effects.new ≡ effects.old ++ (asks_for_maps self.old).outs) }
+    {
+        send_hello(effects, self.lasting.inc, self.lasting.questions.draw())
+    }
+
+    /// Time passes: what waits for an answer is said again.
+    #[tactic(auto, unfolding(crate::specs::Packets::on_tick))]
+    pub fn tick(&mut self, alloc: Global, effects: &mut Effects) -> Mem<()>
+        ensures state { OnOk result (self.new ≡ (on_tick self.old).state) }
+        ensures effects { OnOk result (effects.new ≡ effects.old ++ (on_tick self.old).outs) }
+    {
+        self.hand(alloc, effects, token_client::In::Tick)?;
+        self.fetch_again(alloc, effects)?;
+        self.write(alloc, effects, client_log::In::Tick)?;
+        push_all(alloc, effects, &mut self.feed, self.managers)
+    }
+
+    /// Opens the call of an item. One that comes while another is open is refused.
+    #[tactic(auto, unfolding(crate::specs::Phases::opens))]
+    pub fn open(&mut self, alloc: Global, effects: &mut Effects, number: u32) -> Mem<()>
+        ensures state { OnOk result (self.new ≡ (opens self.old number).state) }
+        ensures effects { OnOk result (effects.new ≡ effects.old ++ (opens self.old number).outs) }
+    {
+        if self.lasting.items.open().is_some() {
+            return effects.answer(number, Answer::Busy);
+        }
+        let going = self.call_at(alloc, number)?;
+        self.begin_call(alloc, effects, number, going)
+    }
+
+    // The call of an item; none where the item is no call.
+    fn call_at(&self, alloc: Global, number: u32) -> Mem<Option<Going>>
+        ensures { IfOk result (λ going. going ≡ call_at self.now number (work_at self.now.lasting.items number)) }
+    {
+        match self.lasting.items.work(number) {
+            Some(work) => Call::of(alloc, work, number, self.lasting.number),
+            None => Ok(None),
+        }
+    }
+
+    fn begin_call(
+        &mut self,
+        alloc: Global,
+        effects: &mut Effects,
+        number: u32,
+        going: Option<Going>,
+    ) -> Mem<()>
+        ensures state { OnOk result (self.new ≡ (begins_call self.old number going).state) }
+        ensures effects { OnOk result (effects.new ≡ effects.old ++ (begins_call self.old number going).outs) }
+    {
+        let Some(going) = going else {
+            return effects.answer(number, Answer::Done);
+        };
+        self.lasting.items.wait(number);
+        self.go_on(effects, going)?;
+        self.run(alloc, effects)
+    }
+
+    /// Whether no counter is near its end.
+    pub fn has_room(&self) -> bool
+        ensures { result ≡ serving_room self.now }
+    {
+        has_room(self.maps.version)
+            && has_room(self.tokens.asked())
+            && log_has_room(&self.log)
+            && epochs_have_room(&self.tokens)
+    }
+
+    // A manager has applied the log.
+    #[tactic(auto, unfolding(crate::specs::Packets::on_ack))]
+    fn on_ack(&mut self, alloc: Global, ack: DeltaAck) -> Mem<()>
+        ensures { OnOk result (self.new ≡ on_ack self.old ack) }
+    {
+        if ack.slot < 8 && self.tokens.promised(ack.slot) == ack.epoch {
+            let input = delta_feed::In::Ack {
+                slot: ack.slot,
+                applied: ack.applied,
+            };
+            let _outs = self.feed.take(alloc, input)?;
+        }
+        Ok(())
+    }
+}
+
+// Whether the promised epochs are not near the end.
+#[tactic(auto, unfolding(crate::specs::Packets::epochs_room))]
+fn epochs_have_room(tokens: &Tokens) -> bool
+    ensures { result ≡ epochs_room tokens.now }
+{
+    for slot in 0..8 {
+        if !has_room(tokens.promised(slot)) {
+            return false;
+        }
+    }
+    true
+}
+
+// The tokens of the start: nothing is known of any block, and each slot is at epoch 1.
+fn first_tokens(alloc: Global) -> Mem<Tokens>
+    ensures { IfOk result (λ tokens. tokens ≡ started 1 (replicate 8 1)) }
+{
+    Tokens::start(alloc, 1, Promised::start(1).listed(alloc)?)
+}
+
+// The end of an empty log.
+fn empty_end() -> End
+    ensures { result ≡ empty_end }
+{
+    End {
+        seq: 0,
+        pass: Pass { inc: 0, att: 0 },
+        group: 0,
+    }
+}
+
+// A client caches one block at least.
+fn cached_upto(cache: u16) -> u16
+    ensures { result ≡ cached_upto cache }
+{
+    if cache == 0 { 1 } else { cache }
+}

@@ -1,0 +1,2 @@
+pub mod AnyNode
+pub mod Clocks

@@ -1,0 +1,80 @@
+//! A node of any kind.
+use client_node::Client;
+use manager_node::Manager;
+use std::alloc::Global;
+use store_nodes::{Cleaner, RegistryNode, Server};
+use version_model::{Act, Work};
+use wire_msg::{Actor, Do, Packet};
+use world_base::Member;
+use xfs_base::{List, Mem, NodeId, Setup};
+
+/// A node of any kind.
+#[derive(Drop)]
+pub enum AnyNode {
+    /// Caches blocks and appends to a log of its own.
+    Client(Client),
+    /// Keeps the index of its slots and decides who may write.
+    Manager(Manager),
+    /// Keeps fragments of stripes.
+    Server(Server),
+    /// Empties old segments.
+    Cleaner(Cleaner),
+    /// Gives out the maps.
+    Registry(RegistryNode),
+}
+
+impl Actor for AnyNode {
+    ghost use Rattle.core_world.specs.AnyNode.{any_step};
+    ghost use Rattle.core_world.specs.Clocks.{any_sends_clock_0};
+
+    ghost transition = { any_step };
+
+    fn step(self, alloc: Global, what: &Do) -> Mem<(AnyNode, List<Packet>, List<Act>)> {
+        match self {
+            AnyNode::Client(node) => {
+                let (node, packets, acts) = node.step(alloc, what)?;
+                Ok((AnyNode::Client(node), packets, acts))
+            }
+            AnyNode::Manager(node) => {
+                let (node, packets, acts) = node.step(alloc, what)?;
+                Ok((AnyNode::Manager(node), packets, acts))
+            }
+            AnyNode::Server(node) => {
+                let (node, packets, acts) = node.step(alloc, what)?;
+                Ok((AnyNode::Server(node), packets, acts))
+            }
+            AnyNode::Cleaner(node) => {
+                let (node, packets, acts) = node.step(alloc, what)?;
+                Ok((AnyNode::Cleaner(node), packets, acts))
+            }
+            AnyNode::Registry(node) => {
+                let (node, packets, acts) = node.step(alloc, what)?;
+                Ok((AnyNode::Registry(node), packets, acts))
+            }
+        }
+    }
+
+    ghost no_clock = { any_sends_clock_0 };
+}
+
+impl Member for AnyNode {
+    ghost use Rattle.core_world.specs.AnyNode.{any_start};
+
+    ghost first = { any_start };
+
+    fn start(alloc: Global, node: NodeId, setup: &Setup, items: List<Work>) -> Mem<AnyNode> {
+        match node {
+            NodeId::Client(number) => Ok(AnyNode::Client(Client::start(
+                alloc, number, setup, items,
+            )?)),
+            NodeId::Manager(number) => Ok(AnyNode::Manager(Manager::start(
+                alloc, number, setup, items,
+            )?)),
+            NodeId::Server(number) => Ok(AnyNode::Server(Server::start(
+                alloc, number, setup, items,
+            )?)),
+            NodeId::Cleaner => Ok(AnyNode::Cleaner(Cleaner::start(alloc, 0, setup, items)?)),
+            NodeId::Registry => Ok(AnyNode::Registry(RegistryNode::start(alloc, 0, setup, items)?)),
+        }
+    }
+}

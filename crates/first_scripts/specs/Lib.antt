@@ -1,5 +1,0 @@
-pub mod Lines
-pub mod Reading
-pub mod Script
-pub mod Spelling
-pub mod Words

@@ -1,0 +1,151 @@
+-- What a takeover was reported, as the small world has it: once all have reported, the slot becomes active there.
+use Rattle.std.proofs.Common.{◌≡◌, ℕ, ◌+◌, ◌-◌, ◌==◌, ◌≤◌, ◌<◌, true, false, cond, List, [], ◌∷◌, ◌++◌, inl, inr, ⊎_elim, map, Some, None, refl, sym, ap, subst, ◌∙◌, arith}
+use Rattle.std.specs.List.{AllByRecursion, Contains, flat_map, range_with_len}
+use Rattle.std.proofs.Common.{append_assoc, append-nil, zero, suc}
+use Rattle.std.proofs.lemmas.Bool.{eqb-true}
+use Rattle.std.proofs.lemmas.Bool.Decides.{nat_tests}
+use Rattle.std.proofs.lemmas.List.Elements.{All-from_recursion}
+use Rattle.xfs_base.proofs.Booleans.{contrary}
+use Rattle.xfs_base.proofs.Members.{contains_first, contains_rest}
+use Rattle.xfs_base.specs.declared.block.BlockId.{BlockId}
+use Rattle.xfs_base.specs.declared.entry.Entry.{Entry}
+use Rattle.xfs_base.specs.declared.node.NodeId.{NodeId}
+use Rattle.xfs_base.specs.declared.node.NodeId.TheVariants.{Client, Manager, Server, Cleaner, Registry}
+use Rattle.xfs_base.specs.declared.token.Mode.{Mode}
+use Rattle.takeover.specs.declared.report.Report.{Report as Heard}
+use Rattle.takeover.specs.Reports.{same_node, polled, client_after, held_by, beliefs_of}
+use Rattle.takeover.specs.TakeState.{TakeState}
+use Rattle.takeover.specs.Transition.{awaited}
+use Rattle.token_law.specs.Net.{Net, Happens}
+use Rattle.token_law.specs.Net.Packet.{ReportSent}
+use Rattle.token_law.specs.Net.Happens.{Activates}
+use Rattle.token_manager.specs.Transition.{started as slot_started}
+use Rattle.token_protocol.specs.Basics.{put, In}
+use Rattle.token_tie.specs.Epochs.{reported, all_reported}
+use Rattle.node_tie.specs.ManagerEvents.{ReportKnown}
+use Rattle.node_tie.proofs.ManagerMoves.{in_front, all_both}
+use Rattle.node_tie.proofs.ManagerTakes.{IsOnce, heard_is, all_heard, same_node_itself, same_node_is}
+
+-- ---- the reports, as the small world has them
+
+-- the clients that reported, in the order in which they did
+abbrev client_of : NodeId → List ℕ
+client_of (Client c) = c ∷ []
+client_of (Manager c) = []
+client_of (Server c) = []
+client_of Cleaner = []
+client_of Registry = []
+
+abbrev order_of : List Heard → List ℕ
+order_of reports = flat_map (λ r. client_of r.from) reports
+
+-- what a client reported first
+abbrev rows_of : List Heard → ℕ → List (BlockId × Mode)
+rows_of [] c = []
+rows_of (r ∷ rs) c = cond (same_node r.from (Client c)) r.held (rows_of rs c)
+
+rows_found : (reports : List Heard) (c : ℕ) (r : Heard) → In r reports → r.from ≡ Client c
+    → (q : Heard) × In q reports × (q.from ≡ Client c) × (rows_of reports c ≡ q.held)
+rows_found [] c r is from = absurd is
+rows_found (x ∷ xs) c r is from =
+    elim (same_node x.from (Client c)) as (λ t. same_node x.from (Client c) ≡ t → (q : Heard) × In q (x ∷ xs) × (q.from ≡ Client c) ×
+    (cond t x.held (rows_of xs c) ≡ q.held)) [
+      | true ↦ λ same. (x, inl refl, same_node_is x.from (Client c) same, refl)
+      | false ↦ λ other.
+          let there : In r xs = ⊎_elim (λ same. absurd (contrary
+          (sym other ∙ subst (λ k. same_node k (Client c) ≡ true) (sym from ∙ ap (λ (y : Heard). y.from) same) (same_node_itself (Client c)))))
+          (λ h. h) is in
+          let rest = rows_found xs c r there from in (rest.0, inr rest.1, rest.2, rest.3)
+    ] refl
+
+rows_are : (reports : List Heard) → IsOnce reports → (c : ℕ) (r : Heard) → In r reports → r.from ≡ Client c → rows_of reports c ≡ r.held
+rows_are reports once c r is from = let q = rows_found reports c r is from in q.3 ∙ once q.0 r q.1 is (q.2 ∙ sym from)
+
+both_reported : (rows : ℕ → List (BlockId × Mode)) (cs ds : List ℕ) → all_reported rows (cs ++ ds) ≡ all_reported rows cs ++ all_reported rows ds
+both_reported rows [] ds = refl
+both_reported rows (c ∷ cs) ds = ap (λ xs. reported c (rows c) ++ xs) (both_reported rows cs ds) ∙ sym
+    (append_assoc (reported c (rows c)) (all_reported rows cs) (all_reported rows ds))
+
+one_reported : (rows : ℕ → List (BlockId × Mode)) (node : NodeId) (held : List (BlockId × Mode)) → ((c : ℕ) → node ≡ Client c → rows c ≡ held)
+    → held_by node held ≡ all_reported rows (client_of node)
+one_reported rows (Client c) held say = ap (reported c) (sym (say c refl)) ∙ sym (append-nil (reported c (rows c)))
+one_reported rows (Manager c) held say = refl
+one_reported rows (Server c) held say = refl
+one_reported rows Cleaner held say = refl
+one_reported rows Registry held say = refl
+
+-- where each client's report says these rows, what is believed is what was reported
+beliefs_are : (rows : ℕ → List (BlockId × Mode)) (reports : List Heard) → ((c : ℕ) (r : Heard) → In r reports → r.from ≡ Client c → rows c ≡ r.held)
+    → beliefs_of reports ≡ all_reported rows (order_of reports)
+beliefs_are rows [] say = refl
+beliefs_are rows (r ∷ rs) say =
+    ap (λ xs. held_by r.from r.held ++ xs) (beliefs_are rows rs (λ c q is. say c q (inr is))) ∙ ap (λ xs. xs ++ all_reported rows (order_of rs))
+    (one_reported rows r.from r.held (λ c. say c r (inl refl)))
+    ∙ sym (both_reported rows (client_of r.from) (order_of rs))
+
+contains_either : (cs ds : List ℕ) (c : ℕ) → Contains ds c → Contains (cs ++ ds) c
+contains_either [] ds c is = is
+contains_either (d ∷ cs) ds c is = contains_rest d c (cs ++ ds) (contains_either cs ds c is)
+
+in_order : (reports : List Heard) (c : ℕ) (r : Heard) → In r reports → r.from ≡ Client c → Contains (order_of reports) c
+in_order [] c r is from = absurd is
+in_order (x ∷ xs) c r (inl same) from = subst (λ k. Contains (client_of k ++ order_of xs) c) (sym from ∙ ap (λ (y : Heard). y.from) same)
+    (contains_first c (order_of xs))
+in_order (x ∷ xs) c r (inr is) from = contains_either (client_of x.from) (order_of xs) c (in_order xs c r is from)
+
+in_range : (a n c : ℕ) → a ≤ c → c < a + n → In (client_after c) (map client_after (range_with_len a n))
+in_range a zero c low high = absurd (omega arith)
+in_range a (suc n) c low high =
+    elim (a == c) as (λ t. (a == c) ≡ t → In (client_after c) (client_after a ∷ map client_after (range_with_len (a + 1) n))) [
+      | true ↦ λ same. inl (ap client_after (sym (eqb-true a c same)))
+      | false ↦ λ other. inr (in_range (a + 1) n c (above a c low other) (omega arith))
+    ] refl
+  where
+    above : (a c : ℕ) → a ≤ c → (a == c) ≡ false → a + 1 ≤ c
+    above a c low other = grind (arith, nat_tests)
+
+is_polled : (clients c : ℕ) → 0 < c → c < clients + 1 → In (Client c) (polled clients)
+is_polled clients c pos less =
+    let before : c - 1 + 1 ≡ c = omega arith in
+    subst (λ k. In (Client k) (polled clients)) before (in_front (client_after (c - 1)) (map client_after (range_with_len 0 clients)) (Cleaner ∷ [])
+    (in_range 0 clients (c - 1) (omega arith) (omega arith)))
+
+module _ (members part : ℕ) (n : Net) where
+  abbrev IsClient : ℕ → Type 0
+  IsClient c = (0 < c) × (c < members)
+
+  are_clients : (e : ℕ) (reports : List Heard) → ((r : Heard) → In r reports → ReportKnown members part n e r.from r.held)
+      → AllByRecursion IsClient (order_of reports)
+  are_clients e [] known = tt
+  are_clients e (r ∷ rs) known = all_both IsClient (client_of r.from) (order_of rs) (one r.from r.held (known r (inl refl)))
+      (are_clients e rs (λ q is. known q (inr is)))
+    where
+      one : (node : NodeId) (held : List (BlockId × Mode)) → ReportKnown members part n e node held → AllByRecursion IsClient (client_of node)
+      one (Client c) held k = ((k.0, k.1), tt)
+      one (Manager c) held k = tt
+      one (Server c) held k = tt
+      one Cleaner held k = tt
+      one Registry held k = tt
+
+  known_at : (e c : ℕ) (node : NodeId) (held : List (BlockId × Mode)) → node ≡ Client c → ReportKnown members part n e node held
+      → In (ReportSent c e held) n.sent
+  known_at e c node held is known = (subst (λ k. ReportKnown members part n e k held) is known).2
+
+  -- once all have reported, the slot becomes active in the small world
+  pub activates : (s : TakeState) (e : ℕ) (index : List (BlockId × Entry)) (applied : List ℕ) → n.slots e ≡ None → s.clients + 1 ≡ members → awaited s ≡ []
+      → IsOnce s.reports
+      → ((r : Heard) → In r s.reports → ReportKnown members part n e r.from r.held)
+      → Happens members part n (record n { slots = put n.slots e (Some (slot_started e index (beliefs_of s.reports) applied)) })
+  activates s e index applied free clients none once known =
+      let rows = rows_of s.reports in
+      let order = order_of s.reports in
+      subst (λ beliefs. Happens members part n (record n { slots = put n.slots e (Some (slot_started e index beliefs applied)) }))
+      (sym (beliefs_are rows s.reports (rows_are s.reports once)))
+      (Activates e index applied rows order free
+      (λ c pos less. let r = heard_of c pos less in in_order s.reports c r.0 r.1 r.2)
+      (All-from_recursion IsClient order (are_clients e s.reports known))
+      (λ c pos less. let r = heard_of c pos less in
+      subst (λ held. In (ReportSent c e held) n.sent) (sym (rows_are s.reports once c r.0 r.1 r.2)) (known_at e c r.0.from r.0.held r.2 (known r.0 r.1))))
+    where
+      heard_of : (c : ℕ) → 0 < c → c < members → (r : Heard) × In r s.reports × (r.from ≡ Client c)
+      heard_of c pos less = heard_is s.reports (Client c) (all_heard s.reports (polled s.clients) (Client c) none (is_polled s.clients c pos (omega arith)))

@@ -1,0 +1,12 @@
+use Rattle.node_tie.proofs.CleanerEvents.{cleaner_sends}
+use Rattle.node_tie.proofs.RegistryNode.{registry_begins, registry_goes}
+use Rattle.node_tie.proofs.StoreServer.{server_sends}
+use Rattle.node_tie.proofs.other_events_are_seen.Goals as goal
+
+pub returns : goal.returns
+returns c = record {
+  start = registry_begins;
+  events = registry_goes;
+  servers = server_sends;
+  cleaner = cleaner_sends;
+}

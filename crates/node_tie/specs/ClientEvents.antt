@@ -1,0 +1,181 @@
+-- What an event makes of a client, as the small world sees it.
+use Rattle.std.specs.Prelude.{◌≡◌, ◌⊎◌, ◌<◌, ◌≤◌, ℕ, true, false, List, Some, All, length}
+use Rattle.client_node.specs.declared.client.Client as clients
+use Rattle.client_node.specs.declared.lasting.Lasting.{Lasting}
+use Rattle.client_node.specs.declared.phase.Phase.{Phase}
+use Rattle.client_node.specs.declared.phase.Phase.TheVariants.{Down, Opening, Serving as Serves}
+use Rattle.client_node.specs.declared.serving.Serving.{Serving}
+use Rattle.client_node.specs.Phases.{lasting_of, takes}
+use Rattle.client_node.specs.Starting.{first_client}
+use Rattle.log_owner.specs.declared.opening.Opening as openings
+use Rattle.log_owner.specs.declared.opening.Stage as stages
+use Rattle.log_owner.specs.declared.opening.Stage.TheVariants as stage
+use Rattle.log_scan.specs.declared.stage.Stage.TheVariants as scan
+use Rattle.node_base.specs.declared.effects.Effect.{Effect}
+use Rattle.token_client.specs.declared.held.Giving.{Giving}
+use Rattle.token_client.specs.State.{epoch_of, held_of, is_in_slot}
+use Rattle.token_law.specs.Net.{Net, Packet, Runs, opening}
+use Rattle.token_law.specs.Net.Packet.{RecallSent}
+use Rattle.token_protocol.specs.Basics.{In}
+use Rattle.version_model.specs.declared.work.Work.{Work}
+use Rattle.wire_msg.specs.declared.body.Body.{Body}
+use Rattle.wire_msg.specs.declared.body.Body.TheVariants as body
+use Rattle.wire_msg.specs.declared.packet.Do.{Do}
+use Rattle.wire_msg.specs.declared.packet.Do.TheVariants.{Begin, Deliver, Tick}
+use Rattle.wire_msg.specs.declared.packet.Packet as packets
+use Rattle.wire_msg.specs.declared.registry.Welcome.{Welcome}
+use Rattle.xfs_base.specs.declared.block.BlockId.{BlockId}
+use Rattle.xfs_base.specs.declared.news.SlotNews.{SlotNews}
+use Rattle.xfs_base.specs.declared.node.NodeId.TheVariants.{Client}
+use Rattle.xfs_base.specs.declared.setup.Setup.{Setup}
+use Rattle.node_tie.specs.Asks.{AsksForCall}
+use Rattle.node_tie.specs.Sight.{ClientDoes, GrantSeen, ForwardSeen, RecallSeen, SupplySeen, PollSeen}
+
+-- ---- how a client is seen
+
+-- the first Welcome of an opening is awaited
+abbrev pub AwaitsFirst : stages.Stage → Type 0
+AwaitsFirst (stage.Scanning s) = s.scan.stage ≡ scan.Hails
+AwaitsFirst (stage.Settling s) = ⊥
+
+module _ (part c : ℕ) (n : Net) where
+  -- one that serves has the tokens that it has in the small world
+  pub record SeesServing (s : Serving) : Type 0 where
+    pub up : n.up c ≡ true
+    pub tokens : n.tokens c ≡ s.tokens
+    pub number : s.lasting.number ≡ c
+    pub inc : s.tokens.inc ≡ s.lasting.inc
+    pub epochs : length s.tokens.epochs ≡ 8
+    -- each recall of the slot that is put off was sent
+    pub giving : (block : BlockId) (g : Giving) → is_in_slot part block ≡ true → (held_of s.tokens.blocks block).giving ≡ Some g
+        → In (RecallSent c block g.stamp g.keep) n.sent
+
+  -- of one that fell the last tokens are left, and those are of no later incarnation
+  pub record SeesDown (l : Lasting) : Type 0 where
+    pub up : n.up c ≡ false
+    pub number : l.number ≡ c
+    pub inc : (n.tokens c).inc ≤ l.inc
+
+  -- what an opening promises is no less than what was promised before
+  pub record Raises (o : openings.Opening) : Type 0 where
+    pub epochs : length o.known.promised.epochs ≡ 8
+    pub rises : epoch_of (n.tokens c).epochs part ≤ epoch_of o.known.promised.epochs part
+
+  -- one that opens its log is in a later incarnation
+  pub record SeesOpening (l : Lasting) (o : openings.Opening) : Type 0 where
+    pub up : n.up c ≡ false
+    pub number : l.number ≡ c
+    pub inc : (n.tokens c).inc < l.inc
+    pub owner : o.known.owner.inc ≡ l.inc
+    pub promised : AwaitsFirst o.stage ⊎ Raises o
+
+  abbrev pub ClientAgrees : Phase → Type 0
+  ClientAgrees (Down l) = SeesDown l
+  ClientAgrees (Opening l o) = SeesOpening l o
+  ClientAgrees (Serves s) = SeesServing s
+
+-- ---- what the world owes it
+
+-- what is promised is of no later epoch than this bound; before its first Welcome an opening promises nothing
+abbrev pub PromisesWithin : ℕ → ℕ → Phase → Type 0
+PromisesWithin part most (Down l) = Unit {0}
+PromisesWithin part most (Opening l o) = AwaitsFirst o.stage ⊎ (epoch_of o.known.promised.epochs part ≤ most)
+PromisesWithin part most (Serves s) = Unit {0}
+
+abbrev pub AsksIfServing : Phase → Type 0
+AsksIfServing (Down l) = Unit {0}
+AsksIfServing (Opening l o) = Unit {0}
+AsksIfServing (Serves s) = AsksForCall s
+
+-- what holds before each event
+pub record ClientStands (part most c : ℕ) (n : Net) (p : Phase) : Type 0 where
+  pub asks : AsksIfServing p
+  pub within : epoch_of (n.tokens c).epochs part ≤ most
+  pub promises : PromisesWithin part most p
+
+module _ (part most c : ℕ) (n : Net) where
+  -- what is said of the slot is of an epoch within the bound
+  abbrev pub NewsWithin : List SlotNews → Type 0
+  NewsWithin slots = All (λ news. news.slot ≡ part → news.epoch ≤ most) slots
+
+  -- what is said of the slot is of no earlier epoch than the promised one
+  abbrev pub NewsRises : List SlotNews → Type 0
+  NewsRises slots = All (λ news. news.slot ≡ part → epoch_of (n.tokens c).epochs part ≤ news.epoch) slots
+
+  -- a Welcome that answers an opening
+  abbrev pub WelcomeRises : Phase → Welcome → Type 0
+  WelcomeRises (Down l) m = Unit {0}
+  WelcomeRises (Opening l o) m = m.inc ≡ l.inc → NewsRises m.news.slots
+  WelcomeRises (Serves s) m = Unit {0}
+
+  abbrev pub GetsBody : Phase → Body → Type 0
+  GetsBody p (body.Grant m) = GrantSeen part n.sent (Client c) m
+  GetsBody p (body.Forward m) = ForwardSeen part n.sent (Client c) m
+  GetsBody p (body.Recall m) = RecallSeen part n.sent (Client c) m
+  GetsBody p (body.Supply m) = SupplySeen part n.sent (Client c) m
+  GetsBody p (body.Poll m) = PollSeen part n.sent most m
+  GetsBody p (body.MapNews m) = NewsWithin m.slots
+  GetsBody p (body.Welcome m) = NewsWithin m.news.slots × WelcomeRises p m
+  GetsBody p _ = Unit {0}
+
+  -- what the world owes a packet that is delivered to the client
+  abbrev pub ClientGets : Phase → packets.Packet → Type 0
+  ClientGets p packet = GetsBody p packet.body
+
+-- ---- what an event makes of it
+
+-- an opening begins in a later incarnation
+abbrev pub BeginsLater : Phase → Phase → Type 0
+BeginsLater (Opening l o) p = Unit {0}
+BeginsLater (Down l) (Opening next o) = l.inc < next.inc
+BeginsLater (Down l) (Down next) = Unit {0}
+BeginsLater (Down l) (Serves s) = Unit {0}
+BeginsLater (Serves s) (Opening next o) = s.lasting.inc < next.inc
+BeginsLater (Serves s) (Down next) = Unit {0}
+BeginsLater (Serves s) (Serves next) = Unit {0}
+
+-- an opening goes on
+abbrev pub BothOpening : Phase → Phase → Type 0
+BothOpening (Opening l o) (Opening next q) = Unit {0}
+BothOpening (Opening l o) (Down next) = ⊥
+BothOpening (Opening l o) (Serves s) = ⊥
+BothOpening (Down l) p = ⊥
+BothOpening (Serves s) p = ⊥
+
+-- The small world runs on to a net in which the client is seen as it is then, and all that it sends was sent.
+pub record ClientGoes (members part most c : ℕ) (n : Net) (p p' : Phase) (outs : List Effect) : Type 0 where
+  pub next : Net
+  pub runs : Runs members part n next
+  pub agrees : ClientAgrees part c next p'
+  pub others : (d : ℕ) → (d ≡ c → ⊥) → (next.tokens d ≡ n.tokens d) × (next.up d ≡ n.up d)
+  pub slots : (e : ℕ) → next.slots e ≡ n.slots e
+  pub grows : (x : Packet) → In x n.sent → In x next.sent
+  pub does : All (ClientDoes part next.sent c (lasting_of p').inc) outs
+  pub within : epoch_of (next.tokens c).epochs part ≤ most
+  pub promises : PromisesWithin part most p'
+  pub later : (lasting_of p).inc ≤ (lasting_of p').inc
+  pub begins : BeginsLater p p'
+  -- while an opening goes on, what is left of the client's last tokens stands still
+  pub stands : BothOpening p p' → next.tokens c ≡ n.tokens c
+
+-- what the world owes an event
+abbrev pub ClientOwed : (part most c : ℕ) → Net → Phase → Do → Type 0
+ClientOwed part most c n p Begin = Unit {0}
+ClientOwed part most c n p (Deliver packet) = ClientGets part most c n p packet
+ClientOwed part most c n p Tick = Unit {0}
+
+-- Each event of a client is a run of the small world.
+abbrev pub ClientTakes : Type 0
+ClientTakes =
+    (members part most c : ℕ) → part < 8 → 0 < c → c < members → (n : Net) (client : clients.Client) (what : Do) → ClientAgrees part c n client.phase →
+    ClientStands part most c n client.phase
+    → ClientOwed part most c n client.phase what → ClientGoes members part most c n client.phase (takes client what).state (takes client what).outs
+
+-- At the start each client is seen in the small world, and what is promised is within any bound from 1 on.
+pub record ClientBegins (part most c : ℕ) (client : clients.Client) : Type 0 where
+  pub agrees : ClientAgrees part c opening client.phase
+  pub within : epoch_of (opening.tokens c).epochs part ≤ most
+  pub promises : PromisesWithin part most client.phase
+
+abbrev pub ClientStarts : Type 0
+ClientStarts = (part most c : ℕ) → part < 8 → 1 ≤ most → (setup : Setup) (works : List Work) → ClientBegins part most c (first_client c setup works)

@@ -1,0 +1,7 @@
+pub mod Sight
+pub mod Asks
+pub mod AskingEvents
+pub mod ClientEvents
+pub mod ManagerEvents
+pub mod StoreEvents
+pub mod RegistryEvents

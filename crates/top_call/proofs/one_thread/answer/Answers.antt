@@ -1,0 +1,27 @@
+use Rattle.std.proofs.Common.{◌≡◌, None, [], false, inl, refl, subst}
+use Rattle.top_call.specs.Claim.{Claim, line, reading, writing}
+use Rattle.top_call.specs.Commands.{reads}
+use Rattle.top_call.specs.Spoken.{usage_text}
+use Rattle.top_call.proofs.Claims.{answers, claims_unread, line_told, none_played}
+use Rattle.top_call.proofs.one_thread.answer.Goals as goal
+
+pub returns-in-None-clause-claim : goal.returns-in-None-clause-claim
+returns-in-None-clause-claim g c =
+    let step = g.N.Actor.transition in
+    let first = g.N.Member.first in
+    let o = c.tell.result in
+    let r = reading g.S.Source.left g.S.Source.faults c.args.source.now c.args.source.now in
+    let s = writing g.K.Sink.written g.K.Sink.faults c.args.sink.now c.tell.new.sink in
+    let told = line_told s o _ _ 2 c.usage.ensures c.tell.ensures.told in
+    let answer = answers step first None [] s o (line usage_text 2) refl (inl told) in
+    subst (λ command. Claim step first command r s o) c.in-None.ensures.command (claims_unread step first g.S.Source.left g.S.Source.faults c.args.source.now None s o refl (λ e. told) answer (none_played step first o.estate c.tell.ensures.no_run) c.tell.ensures.later)
+
+pub returns-in-Some-clause-claim : goal.returns-in-Some-clause-claim
+returns-in-Some-clause-claim g c =
+    let r = reading g.S.Source.left g.S.Source.faults c.args.source.now c.carry_out.new.source in
+    let s = writing g.K.Sink.written g.K.Sink.faults c.args.sink.now c.carry_out.new.sink in
+    subst (λ command. Claim g.N.Actor.transition g.N.Member.first command r s c.carry_out.result) c.in-Some.ensures.command c.carry_out.ensures.claim
+
+pub returns-in-Some-clause-untouched : goal.returns-in-Some-clause-untouched
+returns-in-Some-clause-untouched g c =
+    subst (λ command. reads command ≡ false → c.carry_out.new.source ≡ c.args.source.now) c.in-Some.ensures.command c.carry_out.ensures.untouched

@@ -1,0 +1,180 @@
+-- What a call of the program answers: the one claim of the top call.
+use Rattle.std.specs.Prelude.{◌≡◌, ◌⊎◌, ◌≤◌, ℕ, ◌==◌, Bool, true, false, IsTrue, IfSome, List, [], length, Option, Some, None, Err, if◌then◌else◌}
+use Rattle.std.specs.Io.KnownBytes.{Appends, Consumes, Keeps}
+use Rattle.audit.specs.Journal.{IsAudited, read_journal}
+use Rattle.node_base.specs.Setups.{IsSetup}
+use Rattle.play.specs.Plays.{actors_of, estate_of}
+use Rattle.script_print.specs.Generator.{generated}
+use Rattle.script_print.specs.Printing.{printed}
+use Rattle.script_text.specs.declared.refusal.Kind.{Kind}
+use Rattle.script_text.specs.declared.script.Script.{Script}
+use Rattle.script_text.specs.Script.{IsScriptOf, IsFirstBad}
+use Rattle.transcript.specs.Counts.{brief_of}
+use Rattle.transcript.specs.Replies.{open_items}
+use Rattle.transcript.specs.Text.{text_of}
+use Rattle.version_model.specs.declared.verdict.Verdict.{Verdict}
+use Rattle.version_model.specs.declared.verdict.Verdict.TheVariants.{Legal, Illegal}
+use Rattle.version_model.specs.declared.work.Work.{Work}
+use Rattle.wire_msg.specs.declared.packet.Do.{Do}
+use Rattle.wire_msg.specs.NodeStep.{NodeStep}
+use Rattle.world_base.specs.declared.estate.Estate.{Estate}
+use Rattle.world_base.specs.Runs.{BeginsAll, IsRun, begun_in}
+use Rattle.xfs_base.specs.declared.node.NodeId.{NodeId}
+use Rattle.xfs_base.specs.declared.setup.Setup.{Setup}
+use Rattle.top_call.specs.declared.command.Command.{Command}
+use Rattle.top_call.specs.declared.command.Command.TheVariants.{Run, Gen, Big, Audit}
+use Rattle.top_call.specs.declared.command.Drawn.{Drawn}
+use Rattle.top_call.specs.declared.outcome.Outcome.{Outcome}
+use Rattle.top_call.specs.Causes.{Rose}
+use Rattle.top_call.specs.Commands.{reads}
+use Rattle.top_call.specs.Input.{limit, ReadWhole}
+use Rattle.top_call.specs.Output.{AppendsFront}
+use Rattle.top_call.specs.Spoken.{refused_text, usage_text, verdict_text}
+
+-- what a sink held before and after, where it tells that, and how often writes had failed
+pub record Writing : Type 0 where
+  pub before : Option (List ℕ)
+  pub after : Option (List ℕ)
+  pub faults : ℕ
+  pub faults_after : ℕ
+
+-- what a source had to give before and after, where it tells that, and how often reads had failed
+pub record Reading : Type 0 where
+  pub before : Option (List ℕ)
+  pub after : Option (List ℕ)
+  pub faults : ℕ
+  pub faults_after : ℕ
+
+-- the script that is drawn
+abbrev pub script_of : Drawn → Script
+script_of d = generated d.number d.turns
+
+-- what a sink says of two of its states, and a source
+abbrev pub writing : {K : Type 0} → (K → Option (List ℕ)) → (K → ℕ) → K → K → Writing
+writing written faults old new = record { before = written old; after = written new; faults = faults old; faults_after = faults new }
+
+abbrev pub reading : {S : Type 0} → (S → Option (List ℕ)) → (S → ℕ) → S → S → Reading
+reading left faults old new = record { before = left old; after = left new; faults = faults old; faults_after = faults new }
+
+-- what the source told is read to its end or to the limit
+abbrev pub IsRead : Bool → Reading → List ℕ → Type 0
+IsRead true r input = ReadWhole r.before input × Consumes r.before r.after input
+IsRead false r input = input ≡ []
+
+-- the input of a command; none where it reads none
+abbrev pub IsInput : Option Command → Reading → List ℕ → Type 0
+IsInput command r input = IsRead (reads command) r input
+
+-- at most 1,048,577 bytes were read
+abbrev pub ReadsAtMost : Reading → ℕ → Type 0
+ReadsAtMost r most = (bytes : List ℕ) × (length bytes ≤ most) × Consumes r.before r.after bytes
+
+abbrev pub verdict_status : Verdict → ℕ
+verdict_status (Legal count) = 0
+verdict_status (Illegal number) = 1
+
+-- what is to be answered: a text, a status and, where a script is played, its run
+pub record Wanted (N : Type 0) : Type 0 where
+  pub text : List ℕ
+  pub status : ℕ
+  pub estate : Option (Estate N)
+
+module _ {N : Type 0} where
+  abbrev pub line : List ℕ → ℕ → Wanted N
+  line text status = record { text = text; status = status; estate = None }
+
+  -- the first bad line of an input
+  abbrev pub refusal : ℕ → Kind → Wanted N
+  refusal number kind = line (refused_text number kind) 3
+
+  -- a run: 1 where an item of it is unanswered
+  abbrev pub run_status : Estate N → ℕ
+  run_status e = if open_items e == 0 then 0 else 1
+
+  abbrev pub run_answer : List ℕ → Estate N → Wanted N
+  run_answer text e = record { text = text; status = run_status e; estate = Some e }
+
+  -- all of it was written; or a front of it, and a write failed
+  abbrev pub IsWhole : Writing → Outcome N → Wanted N → Type 0
+  IsWhole s o w = (o.status ≡ w.status) × Appends s.before s.after w.text
+
+  abbrev pub IsCut : Writing → Outcome N → Wanted N → Type 0
+  IsCut s o w = (o.status ≡ 5) × AppendsFront s.before s.after w.text × Rose s.faults s.faults_after
+
+  abbrev pub Tells : Writing → Outcome N → Wanted N → Type 0
+  Tells s o w = (o.estate ≡ w.estate) × (IsWhole s o w ⊎ IsCut s o w)
+
+  -- memory is wanting, and nothing was written
+  abbrev pub GivesUp : Writing → Outcome N → Type 0
+  GivesUp s o = (o.status ≡ 7) × (o.estate ≡ None) × Keeps s.before s.after
+
+  abbrev pub TellsOrGivesUp : Writing → Outcome N → Wanted N → Type 0
+  TellsOrGivesUp s o w = Tells s o w ⊎ GivesUp s o
+
+  -- a read failed, and nothing was written
+  abbrev pub CannotRead : Reading → Writing → Outcome N → Type 0
+  CannotRead r s o = (o.status ≡ 4) × (o.estate ≡ None) × Keeps s.before s.after × Rose r.faults r.faults_after
+
+module _ {N : Type 0} (step : N → Do → NodeStep N) (first : NodeId → Setup → List Work → N) where
+  -- the text of the run of a script
+  abbrev pub run_wanted : Script → Wanted N
+  run_wanted script = run_answer (text_of (estate_of step first script)) (estate_of step first script)
+
+  -- the counts of the run of a script
+  abbrev pub brief_wanted : Script → Wanted N
+  brief_wanted script = run_answer (brief_of (estate_of step first script)) (estate_of step first script)
+
+  -- an input is a script, which is played, or has a first bad line
+  abbrev pub AnswersScript : List ℕ → Wanted N → Type 0
+  AnswersScript input w =
+      ((script : Script) × IsScriptOf false input script × (w ≡ run_wanted script))
+      ⊎ ((number : ℕ) × (kind : Kind) × IsFirstBad false input number kind × (w ≡ refusal number kind))
+
+  -- an input is a journal, which is judged, or has a first bad line
+  abbrev pub AnswersJournal : List ℕ → Wanted N → Type 0
+  AnswersJournal input w =
+      ((verdict : Verdict) × IsAudited input verdict × (w ≡ line (verdict_text verdict) (verdict_status verdict)))
+      ⊎ ((number : ℕ) × (kind : Kind) × (read_journal input ≡ Err (record { line = number; kind = kind })) × (w ≡ refusal number kind))
+
+  -- what a command wants to be answered, of an input if it reads one; words that are no form want the usage line
+  abbrev pub Wants : Option Command → List ℕ → Wanted N → Type 0
+  Wants None input w = w ≡ line usage_text 2
+  Wants (Some Run) input w = AnswersScript input w
+  Wants (Some (Gen d)) input w = w ≡ line (printed (script_of d)) 0
+  Wants (Some (Big d)) input w = w ≡ brief_wanted (script_of d)
+  Wants (Some Audit) input w = AnswersJournal input w
+
+  -- what is wanted of the input is told
+  pub record Answers (command : Option Command) (input : List ℕ) (s : Writing) (o : Outcome N) : Type 0 where
+    pub wanted : Wanted N
+    pub wants : Wants command input wanted
+    pub told : Tells s o wanted
+
+  abbrev pub AnswersOrGivesUp : Option Command → List ℕ → Writing → Outcome N → Type 0
+  AnswersOrGivesUp command input s o = Answers command input s o ⊎ GivesUp s o
+
+  -- a command is answered as is wanted of what it read; where memory is wanting, or a read failed, it isn't
+  abbrev pub Ends : Option Command → Reading → Writing → Outcome N → Type 0
+  Ends command r s o =
+      ((input : List ℕ) × IsInput command r input × Answers command input s o)
+      ⊎ (GivesUp s o ⊎ (IsTrue (reads command) × CannotRead r s o))
+
+  -- of its script's setup a run can be started; the events of a run lead from its script's start to its world; each item is begun once, at its line, and
+  -- none is left out
+  pub record IsPlayed (e : Estate N) : Type 0 where
+    pub setup : IsSetup e.script.setup
+    pub one_run : IsRun step first e.script e.events e.world
+    pub in_order : begun_in e.events ≡ actors_of e.script.lines
+    pub complete : BeginsAll e.script.lines e.events
+
+  -- what a call of the program answers
+  pub record Claim (command : Option Command) (r : Reading) (s : Writing) (o : Outcome N) : Type 0 where
+    -- words that are no form are answered by the usage line
+    pub usage : command ≡ None → Tells s o (line usage_text 2)
+    -- a command is answered by the text of its run, its script, its verdict or its refusal
+    pub ends : Ends command r s o
+    -- what was played is one run of its script
+    pub run : IfSome o.estate IsPlayed
+    -- the source is read no further than needed, and no count of faults falls
+    pub bounded : ReadsAtMost r limit
+    pub later : (r.faults ≤ r.faults_after) × (s.faults ≤ s.faults_after)

@@ -1,0 +1,7 @@
+pub mod Causes
+pub mod Claim
+pub mod Commands
+pub mod Input
+pub mod Memory
+pub mod Output
+pub mod Spoken

@@ -1,0 +1,19 @@
+//! What a call of the program answers: its words, its input, and what it writes, over nodes of any kind.
+//! The claim of the top call stands here, in `specs/Claim.antt`.
+#![tactic(auto)]
+
+pub mod command;
+pub mod input;
+pub mod memory_sink;
+pub mod memory_source;
+pub mod one_thread;
+pub mod outcome;
+pub mod output;
+pub mod outside;
+pub mod spoken;
+
+pub use memory_sink::MemSink;
+pub use memory_source::MemSource;
+pub use one_thread::answer;
+pub use outcome::Outcome;
+pub use outside::{Sink, Source};

@@ -1,0 +1,145 @@
+-- A client that has its turn: the moment after it stands to the small world that runs on with it.
+use Rattle.std.proofs.Common.{◌≡◌, ⊎_elim, ℕ, ◌≤◌, ◌<◌, List, ◌++◌, Some, map, slice_get, slice_set, get_or, refl, sym, ap, subst, ◌∙◌, arith}
+use Rattle.client_node.specs.declared.client.Client.{Client as ClientNode}
+use Rattle.client_node.specs.declared.phase.Phase.{Phase}
+use Rattle.client_node.specs.declared.phase.Phase.TheVariants.{Down, Opening, Serving as Serves}
+use Rattle.client_node.specs.Phases.{Went_to, lasting_of}
+use Rattle.core_world.specs.declared.any_node.AnyNode.{AnyNode}
+use Rattle.core_world.specs.declared.any_node.AnyNode.TheVariants as any
+use Rattle.node_base.specs.declared.effects.Effect.{Effect}
+use Rattle.node_base.specs.Effects.{packets_of}
+use Rattle.node_tie.specs.ClientEvents.{AsksIfServing, ClientAgrees, ClientGoes, ClientStands, WelcomeRises}
+use Rattle.node_tie.specs.Sight.{ClientDoes, ClientSends}
+use Rattle.store_nodes.specs.declared.registry_node.RegistryNode.{RegistryNode}
+use Rattle.token_client.specs.State.{TokensState, epoch_of}
+use Rattle.token_law.specs.Net.{Net}
+use Rattle.token_protocol.specs.Basics.{put, In}
+use Rattle.token_protocol.proofs.Refining.{put_each}
+use Rattle.token_tie.proofs.Frames.{put_here}
+use Rattle.wire_msg.specs.declared.body.Body.{Body}
+use Rattle.wire_msg.specs.declared.packet.Packet.{Packet}
+use Rattle.wire_msg.specs.declared.registry.Welcome.{Welcome}
+use Rattle.world_base.specs.Cluster.{place_of}
+use Rattle.world_base.specs.declared.cluster.Cluster.{Cluster}
+use Rattle.world_base.specs.NextWorld.{sent_at}
+use Rattle.world_law.proofs.Facts.{Grown, fact_stays}
+use Rattle.world_law.proofs.Frames.{client_frame, manager_frame, runs_on, stands_frame}
+use Rattle.world_law.proofs.Nodes.{here, there}
+use Rattle.world_law.proofs.Sent.{in_append, sends}
+use Rattle.world_law.proofs.Standing.{Fact, ManagerSees, Placed, Scene, Stands, epoch_now, life_of_client, members}
+use Rattle.world_law.specs.Owners.{node_in}
+use Rattle.xfs_base.specs.declared.node.NodeId.{NodeId}
+use Rattle.xfs_base.specs.declared.node.NodeId.TheVariants.{Client, Manager, Server, Cleaner, Registry}
+
+abbrev pub number : NodeId → ℕ
+number (Client c) = c
+number (Manager c) = c
+number (Server c) = c
+number Cleaner = 0
+number Registry = 0
+
+-- ---- Welcomes
+
+-- what a Welcome to another client owes is owed as before
+pub welcome_frame : (part most c : ℕ) (n m : Net) → m.tokens c ≡ n.tokens c → (p : Phase) (w : Welcome) → WelcomeRises part most c n p w → WelcomeRises part most c m p w
+welcome_frame part most c n m tokens (Down l) w h = tt
+welcome_frame part most c n m tokens (Opening l o) w h = λ same i d less of_part. subst (λ (t : TokensState). epoch_of t.epochs part ≤ (get_or w.news.slots i d).epoch) (sym tokens) (h same i d less of_part)
+welcome_frame part most c n m tokens (Serves s) w h = tt
+
+module _ (part most c : ℕ) (n : Net) where
+  -- a Welcome of a life that a client had says nothing of one that begins, and what it owes to an opening stands still with that
+  pub welcome_after : (p p' : Phase) (members : ℕ) (outs : List Effect) (go : ClientGoes members part most c n p p' outs) (w : Welcome) → w.inc ≤ (lasting_of p).inc → WelcomeRises part most c n p w → WelcomeRises part most c go.next p' w
+  welcome_after p (Down next) members outs go w life h = tt
+  welcome_after p (Serves s) members outs go w life h = tt
+  welcome_after (Down l) (Opening next o) members outs go w life h = λ same. (let later = go.begins in absurd (omega arith))
+  welcome_after (Serves s) (Opening next o) members outs go w life h = λ same. (let later = go.begins in absurd (omega arith))
+  welcome_after (Opening l q) (Opening next o) members outs go w life h = λ same. (let later = go.later in let now : w.inc ≡ l.inc = omega arith in welcome_frame part most c n go.next (go.stands tt) (Opening l q) w h now)
+
+pub number_is : (part c : ℕ) (n : Net) (p : Phase) → ClientAgrees part c n p → (lasting_of p).number ≡ c
+number_is part c n (Down l) h = h.number
+number_is part c n (Opening l o) h = h.number
+number_is part c n (Serves s) h = h.number
+
+-- ---- the turn
+
+module _ (k : Cluster) (part : ℕ) (RegistrySound : RegistryNode → Type 0) (nodes : List AnyNode) (sent : List Packet) (s : Scene) (st : Stands k part nodes sent RegistrySound s)
+    (c p clock : ℕ) (some : 0 < c) (within : c < members k part) (at : place_of k (Client c) ≡ Some p) (is : slice_get nodes p ≡ Some (any.Client (s.client c)))
+    (w : Went_to) (go : ClientGoes (members k part) part (epoch_now k part s) c s.net (s.client c).phase w.state w.outs) (asks : AsksIfServing w.state) where
+  abbrev after_node : ClientNode
+  after_node = record (s.client c) { phase = w.state }
+
+  abbrev pub client_scene : Scene
+  client_scene = record s { net = go.next; client = put s.client c after_node }
+
+  abbrev nodes_now : List AnyNode
+  nodes_now = slice_set nodes p (any.Client after_node)
+
+  abbrev sent_now : List Packet
+  sent_now = sent ++ map (sent_at clock) (packets_of (Client (lasting_of (s.client c).phase).number) w.outs)
+
+  grown : Grown k part s client_scene
+  grown = record {
+    sent = go.grows;
+    lives = put_each (λ d (x : ClientNode). life_of_client s d ≤ (lasting_of x.phase).inc) s.client c after_node go.later (λ d other. omega arith);
+    reigns = λ j. omega arith;
+    epochs = omega arith;
+    told = λ j. omega arith;
+    given = λ e most. (refl, refl);
+    new = λ e less most. absurd (omega arith);
+    welcomes = λ d m. put_each (λ d (x : ClientNode). m.inc ≤ life_of_client s d → WelcomeRises part (epoch_now k part s) d s.net (s.client d).phase m → WelcomeRises part (epoch_now k part s) d go.next x.phase m)
+        s.client c after_node (λ life h. welcome_after part (epoch_now k part s) c s.net (s.client c).phase w.state (members k part) w.outs go m life h)
+        (λ d other life h. welcome_frame part (epoch_now k part s) d s.net go.next (go.others d other).0 (s.client d).phase m h) d;
+  }
+
+  placed : Placed k part nodes_now sent_now client_scene
+  placed = record {
+    clients = put_each (λ d (x : ClientNode). 0 < d → d < members k part → node_in nodes_now (place_of k (Client d)) ≡ Some (any.Client x)) s.client c after_node
+        (λ _ _. here k nodes (Client c) p at (any.Client after_node) (any.Client (s.client c)) is)
+        (λ d other pos less. there k nodes (Client c) p at (any.Client after_node) (Client d) (λ same. other (ap number same)) ∙ st.placed.clients d pos less);
+    managers = λ j pos most. there k nodes (Client c) p at (any.Client after_node) (Manager j) (λ same. absurd (cc)) ∙ st.placed.managers j pos most;
+    servers = λ n pos most. (let h = st.placed.servers n pos most in (h.0, there k nodes (Client c) p at (any.Client after_node) (Server n) (λ same. absurd (cc)) ∙ h.1));
+    cleaner = (st.placed.cleaner.0, there k nodes (Client c) p at (any.Client after_node) Cleaner (λ same. absurd (cc)) ∙ st.placed.cleaner.1);
+    registry = there k nodes (Client c) p at (any.Client after_node) Registry (λ same. absurd (cc)) ∙ st.placed.registry;
+  }
+
+  sees : (j : ℕ) → 0 < j → j ≤ k.managers → ManagerSees k part client_scene j (s.manager j).phase
+  sees j pos most = (let h = st.managers j pos most in record {
+    agrees = manager_frame (members k part) part s.net go.next go.grows j (s.manager j).phase (λ e held. go.slots e) h.agrees;
+    within = h.within;
+    owns = h.owns;
+    fresh = h.fresh;
+    known = h.known;
+    told = h.told;
+  })
+
+  new_facts : (q : Packet) → In q (map (sent_at clock) (packets_of (Client (lasting_of (s.client c).phase).number) w.outs)) → Fact k part client_scene q
+  new_facts q h =
+      sends (Client (lasting_of (s.client c).phase).number) clock (ClientDoes part go.next.sent c (lasting_of w.state).inc) (Fact k part client_scene)
+      (λ to m does. fact_of (lasting_of (s.client c).phase).number (number_is part c s.net (s.client c).phase (st.clients c some within).0) to m does) w.outs go.does q h
+    where
+      life_here : life_of_client client_scene c ≡ (lasting_of w.state).inc
+      life_here = ap (λ (x : ClientNode). (lasting_of x.phase).inc) (put_here s.client c after_node)
+
+      fact_of : (x : ℕ) → x ≡ c → (to : NodeId) (m : Body) → ClientSends part go.next.sent c (lasting_of w.state).inc to m
+          → (0 < x) × (x < members k part) × ClientSends part go.next.sent x (life_of_client client_scene x) to m
+      fact_of x same to m h =
+          subst (λ y. (0 < y) × (y < members k part) × ClientSends part go.next.sent y (life_of_client client_scene y) to m) (sym same)
+          (some, within, subst (λ l. ClientSends part go.next.sent c l to m) (sym life_here) h)
+
+  pub client_turn : Stands k part nodes_now sent_now RegistrySound client_scene
+  client_turn = record {
+    runs = runs_on (members k part) part _ s.net go.next st.runs go.runs;
+    placed = placed;
+    sound = st.sound;
+    clients = put_each (λ d (x : ClientNode). 0 < d → d < members k part → ClientAgrees part d go.next x.phase × ClientStands part (epoch_now k part s) d go.next x.phase) s.client c after_node
+        (λ _ _. (go.agrees, record { asks = asks; within = go.within; promises = go.promises }))
+        (λ d other pos less. (let h = st.clients d pos less in let o = go.others d other in
+        (client_frame part d s.net go.next o.0 o.1 go.grows (s.client d).phase h.0, stands_frame part (epoch_now k part s) (epoch_now k part s) d s.net go.next (omega arith) o.0 (s.client d).phase h.1)));
+    managers = sees;
+    peers = st.peers;
+    current = st.current;
+    some = st.some;
+    before = st.before;
+    entered = λ e z there_. st.entered e z (sym (go.slots e) ∙ there_);
+    facts = λ q h. ⊎_elim (λ old. fact_stays k part s client_scene grown q (st.facts q old)) (λ new. new_facts q new) (in_append sent _ q h);
+  }

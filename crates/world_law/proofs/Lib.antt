@@ -1,0 +1,14 @@
+pub mod Places
+pub mod Sent
+pub mod Turning
+pub mod Standing
+pub mod Facts
+pub mod Frames
+pub mod Nodes
+pub mod ClientTurns
+pub mod Gets
+pub mod ManagerTurns
+pub mod RegistryTurns
+pub mod OtherTurns
+pub mod Start
+pub mod Laws

@@ -1,0 +1,16 @@
+//! The law of every run of the nodes' world: no block has two owners. It has no code: the function below has
+//! an empty body, and its contract is a law. The proof carries, for each slot of the map, a run of the small
+//! world of tokens (`token_law`) beside the run of the nodes; `proofs/Standing.antt` says how the two stand to
+//! each other.
+#![tactic(auto)]
+
+ghost use Rattle.world_law.specs.Owners.{EveryRunHasOneOwner};
+
+/// In every run, whatever messages are lost, repeated or reordered and whichever nodes stop, at each of its
+/// moments a block has one owner at most, and then no other client holds it (the 1996 paper, on cache
+/// consistency). It asks nothing of losses of storage.
+///
+/// - `one_owner`: so it is of every run of a script of whose setup a run can be started.
+pub fn every_run_has_one_owner()
+    ensures one_owner { EveryRunHasOneOwner }
+{}

@@ -1,0 +1,10 @@
+use Rattle.xfs_top.proofs.top.xfs.Goals as goal
+
+pub returns-clause-claim : goal.returns-clause-claim
+returns-clause-claim g c = c.solo.ensures.claim
+
+pub returns-clause-untouched : goal.returns-clause-untouched
+returns-clause-untouched g c = c.solo.ensures.untouched
+
+pub returns-clause-one_owner : goal.returns-clause-one_owner
+returns-clause-one_owner g c = c.solo.ensures.one_owner
