@@ -22,12 +22,14 @@ use Rattle.wire_msg.specs.declared.packet.Do.TheVariants.{Begin, Deliver, Tick}
 use Rattle.wire_msg.specs.declared.packet.Packet.{Packet}
 use Rattle.world_base.specs.Cluster.{cluster_of, place_of}
 use Rattle.world_base.specs.declared.cluster.Cluster.{Cluster}
+use Rattle.world_base.specs.declared.estate.Estate.{Estate}
+use Rattle.node_base.specs.Setups.{IsSetup}
 use Rattle.world_base.specs.declared.event.Event.{Event}
 use Rattle.world_base.specs.declared.event.Event.TheVariants as events
 use Rattle.world_base.specs.declared.world.World.{World}
 use Rattle.world_base.specs.Events.{node_of, what_of}
 use Rattle.world_base.specs.NextWorld.{next_world, sent_at, start_world}
-use Rattle.world_base.specs.Runs.{Leads, MayHappen}
+use Rattle.world_base.specs.Runs.{IsRun, Leads, MayHappen}
 use Rattle.world_law.proofs.ClientTurns.{client_scene, client_turn}
 use Rattle.world_law.proofs.Gets.{client_gets, manager_gets}
 use Rattle.world_law.proofs.ManagerTurns.{delivered, manager_scene, manager_turn}
@@ -68,7 +70,7 @@ of_asks (Down l) h = tt
 of_asks (Opening l o) h = tt
 of_asks (Serves s) h = h
 
-one_node : {X : Type 0} (a b : X) → Some a ≡ Some b → a ≡ b
+pub one_node : {X : Type 0} (a b : X) → Some a ≡ Some b → a ≡ b
 one_node a b same = ap (λ o. unwrap_or o a) same
 
 module _ (laws : NodeLaws) (k : Cluster) (part : ℕ) (of_eight : part < 8) where
@@ -199,7 +201,7 @@ module _ (laws : NodeLaws) (k : Cluster) (part : ℕ) (of_eight : part < 8) wher
     pub up : s.net.up c ≡ true
     pub tokens : s.net.tokens c ≡ t
 
-  serves_there : (nodes : List AnyNode) (sent : List Packet) (s : Scene) → Stands k part nodes sent RegistrySound s → (c : ℕ) (t : TokensState) → tokens_of (node_in nodes (place_of k (Client c))) ≡ Some t → ServesThere s c t
+  pub serves_there : (nodes : List AnyNode) (sent : List Packet) (s : Scene) → Stands k part nodes sent RegistrySound s → (c : ℕ) (t : TokensState) → tokens_of (node_in nodes (place_of k (Client c))) ≡ Some t → ServesThere s c t
   serves_there nodes sent s st c t is = by_place (place_of k (Client c)) refl
     where
       by_phase : (p : Phase) → ClientAgrees part c s.net p → IsClient (members k part) c → tokens_in p ≡ Some t → ServesThere s c t
@@ -213,6 +215,14 @@ module _ (laws : NodeLaws) (k : Cluster) (part : ℕ) (of_eight : part < 8) wher
           let b = behind 0 k.clients c p at in
           let less : c < members k part = (let most = b.within in omega arith) in
           by_phase (s.client c).phase (st.clients c b.some less).0 (record { some = b.some; within = less }) (sym (ap tokens_of (st.placed.clients c b.some less)) ∙ is)
+
+-- each moment of a run stands to the small world of each slot
+pub front : (laws : NodeLaws) (e : Estate AnyNode) → IsSetup e.script.setup → IsRun any_step any_start e.script e.events e.world → (count part : ℕ) (of_eight : part < 8)
+    → ((moment e count).cluster ≡ cluster_of e.script.setup) × Good laws (cluster_of e.script.setup) part of_eight (moment e count).nodes (moment e count).sent
+unfolding start_world
+front laws e setup run count part of_eight =
+    front_keeps laws (cluster_of e.script.setup) part of_eight e.events count (start_world any_start e.script) e.world refl run
+    (start_scene laws.starts_asking laws.first_manager laws.begins e.script setup.managers.0 part of_eight, start_stands laws.starts_asking laws.first_manager laws.begins e.script setup.managers.0 part of_eight)
 
 module _ (laws : NodeLaws) (small : OneOwner) where
   one_owner_now : (w : World AnyNode) (k : Cluster) → w.cluster ≡ k → ((part : ℕ) (of_eight : part < 8) → Good laws k part of_eight w.nodes w.sent) → HasOneOwner w
@@ -242,10 +252,5 @@ module _ (laws : NodeLaws) (small : OneOwner) where
       y = serves_there laws k part of_eight w.nodes w.sent now st d t (subst (λ cl. tokens_of (node_in w.nodes (place_of cl (Client d))) ≡ Some t) cluster at_d)
 
   pub every_run : EveryRunHasOneOwner
-  unfolding start_world
-  every_run e setup run count = one_owner_now (moment e count) (cluster_of e.script.setup) (front 0 (omega arith)).0 (λ part of_eight. (front part of_eight).1)
-    where
-      front : (part : ℕ) (of_eight : part < 8) → ((moment e count).cluster ≡ cluster_of e.script.setup) × Good laws (cluster_of e.script.setup) part of_eight (moment e count).nodes (moment e count).sent
-      front part of_eight =
-          front_keeps laws (cluster_of e.script.setup) part of_eight e.events count (start_world any_start e.script) e.world refl run
-          (start_scene laws.starts_asking laws.first_manager laws.begins e.script setup.managers.0 part of_eight, start_stands laws.starts_asking laws.first_manager laws.begins e.script setup.managers.0 part of_eight)
+  every_run e setup run count =
+      one_owner_now (moment e count) (cluster_of e.script.setup) (front laws e setup run count 0 (omega arith)).0 (λ part of_eight. (front laws e setup run count part of_eight).1)

@@ -12,3 +12,5 @@ pub mod RegistryTurns
 pub mod OtherTurns
 pub mod Start
 pub mod Laws
+pub mod Managers
+pub mod AllNodes

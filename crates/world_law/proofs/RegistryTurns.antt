@@ -49,7 +49,7 @@ welcome_more part most more c s (clients.Opening l o) m h = h
 welcome_more part most more c s (clients.Serving v) m h = tt
 
 -- the epoch at which a manager holds the slot is the one that it knows
-held_known : (p : SlotPhase) (e : ℕ) → HeldAt p e → slot_epoch p ≡ e
+pub held_known : (p : SlotPhase) (e : ℕ) → HeldAt p e → slot_epoch p ≡ e
 held_known (phase.Taking t) e h = h
 held_known (phase.Active a) e h = h
 held_known (phase.Away epoch) e h = absurd h

@@ -1,9 +1,10 @@
-//! The law of every run of the nodes' world: no block has two owners. It has no code: the function below has
-//! an empty body, and its contract is a law. The proof carries, for each slot of the map, a run of the small
+//! The laws of every run of the nodes' world: no block has two owners, no slot two managers at one epoch. It
+//! has no code: each function below has an empty body, and its contract is a law. The proof carries, for each slot of the map, a run of the small
 //! world of tokens (`token_law`) beside the run of the nodes; `proofs/Standing.antt` says how the two stand to
 //! each other.
 #![tactic(auto)]
 
+ghost use Rattle.world_law.specs.Managers.{EveryRunHasOneManager};
 ghost use Rattle.world_law.specs.Owners.{EveryRunHasOneOwner};
 
 /// In every run, whatever messages are lost, repeated or reordered and whichever nodes stop, at each of its
@@ -13,4 +14,15 @@ ghost use Rattle.world_law.specs.Owners.{EveryRunHasOneOwner};
 /// - `one_owner`: so it is of every run of a script of whose setup a run can be started.
 pub fn every_run_has_one_owner()
     ensures one_owner { EveryRunHasOneOwner }
+{}
+
+/// In every run, at each of its moments, a slot of the map has one manager at an epoch at most, and what that
+/// believes covers what is held (the 1996 paper, on cache consistency). It asks nothing of losses of storage.
+///
+/// - `one_manager`: of every run of a script of whose setup a run can be started, at each moment and of each
+///   slot: no two managers manage it at one epoch, none at an epoch above the registry's; each client that
+///   serves has promised each epoch at which a manager manages it; and who manages it at the registry's epoch
+///   believes of each client that serves at least what that holds.
+pub fn every_run_has_one_manager()
+    ensures one_manager { EveryRunHasOneManager }
 {}
