@@ -180,8 +180,13 @@ fn answer(effects: &mut Effects, phase: Phase, number: u32, answer: Answer) -> M
     ensures phase { IfOk result (λ after. after ≡ (answers phase number answer).state) }
     ensures effects { OnOk result (effects.new ≡ effects.old ++ (answers phase number answer).outs) }
 {
-    effects.answer(number, answer)?;
-    Ok(phase)
+    match effects.answer(number, answer) {
+        Ok(()) => Ok(phase),
+        Err(error) => {
+            drop(phase);
+            Err(error)
+        }
+    }
 }
 
 // The client crashes: the item that is open is cut.

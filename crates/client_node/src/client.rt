@@ -1,6 +1,8 @@
 //! The client as a node: what each event makes of it.
 ghost use Rattle.std.specs.Prelude.{◌≡◌, ◌++◌, IfOk, OnOk};
 ghost use Rattle.client_node.specs.Phases.{on_begin, delivers, on_deliver, on_time, on_event, happens, client_room, phase_room, takes};
+ghost use Rattle.client_node.specs.Packets.{on_packet, on_tick};
+ghost use Rattle.client_node.specs.Running.{runs};
 ghost use Rattle.client_node.specs.Starting.{first_client};
 ghost use Rattle.node_base.specs.Setups.{IsSetup};
 ghost use Rattle.segment_format.specs.Format.{IsLog};
@@ -167,6 +169,30 @@ fn deliver(
     take(alloc, effects, cache, phase, packet)
 }
 
+// A packet comes to a client that serves, and the open call is looked at. What isn't held on is dropped by a
+// call, here and below, so that each part of it is dropped in one proof.
+fn take_and_run(
+    alloc: Global,
+    effects: &mut Effects,
+    serving: &mut Serving,
+    packet: &Packet,
+) -> Mem<()>
+    ensures serving { OnOk result (serving.new ≡ (runs (on_packet serving.old packet.now).state).state) }
+    ensures effects { OnOk result (effects.new ≡ effects.old ++ ((on_packet serving.old packet.now).outs ++ (runs (on_packet serving.old packet.now).state).outs)) }
+{
+    serving.take(alloc, effects, packet)?;
+    serving.run(alloc, effects)
+}
+
+// Time passes at a client that serves, and the open call is looked at.
+fn tick_and_run(alloc: Global, effects: &mut Effects, serving: &mut Serving) -> Mem<()>
+    ensures serving { OnOk result (serving.new ≡ (runs (on_tick serving.old).state).state) }
+    ensures effects { OnOk result (effects.new ≡ effects.old ++ ((on_tick serving.old).outs ++ (runs (on_tick serving.old).state).outs)) }
+{
+    serving.tick(alloc, effects)?;
+    serving.run(alloc, effects)
+}
+
 // A client that is down takes no packet.
 #[tactic(auto, unfolding(crate::specs::Phases::on_deliver))]
 fn take(
@@ -188,9 +214,13 @@ fn take(
         }
         Phase::Serving(serving) => {
             let mut serving = serving;
-            serving.take(alloc, effects, packet)?;
-            serving.run(alloc, effects)?;
-            Ok(Phase::Serving(serving))
+            match take_and_run(alloc, effects, &mut serving, packet) {
+                Ok(()) => Ok(Phase::Serving(serving)),
+                Err(error) => {
+                    drop(serving);
+                    Err(error)
+                }
+            }
         }
     }
 }
@@ -210,9 +240,13 @@ fn tick(alloc: Global, effects: &mut Effects, cache: u16, phase: Phase) -> Mem<P
         }
         Phase::Serving(serving) => {
             let mut serving = serving;
-            serving.tick(alloc, effects)?;
-            serving.run(alloc, effects)?;
-            Ok(Phase::Serving(serving))
+            match tick_and_run(alloc, effects, &mut serving) {
+                Ok(()) => Ok(Phase::Serving(serving)),
+                Err(error) => {
+                    drop(serving);
+                    Err(error)
+                }
+            }
         }
     }
 }
