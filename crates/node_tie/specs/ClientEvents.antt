@@ -28,7 +28,7 @@ use Rattle.xfs_base.specs.declared.block.BlockId.{BlockId}
 use Rattle.xfs_base.specs.declared.news.SlotNews.{SlotNews}
 use Rattle.xfs_base.specs.declared.node.NodeId.TheVariants.{Client}
 use Rattle.xfs_base.specs.declared.setup.Setup.{Setup}
-use Rattle.node_tie.specs.Asks.{AsksForCall}
+use Rattle.node_tie.specs.AskingEvents.{PhaseAsks}
 use Rattle.node_tie.specs.Sight.{ClientDoes, GrantSeen, ForwardSeen, RecallSeen, SupplySeen, PollSeen}
 
 -- ---- how a client is seen
@@ -82,14 +82,9 @@ PromisesWithin part most (Down l) = Unit {0}
 PromisesWithin part most (Opening l o) = AwaitsFirst o.stage ⊎ (epoch_of o.known.promised.epochs part ≤ most)
 PromisesWithin part most (Serves s) = Unit {0}
 
-abbrev pub AsksIfServing : Phase → Type 0
-AsksIfServing (Down l) = Unit {0}
-AsksIfServing (Opening l o) = Unit {0}
-AsksIfServing (Serves s) = AsksForCall s
-
 -- what holds before each event
 pub record ClientStands (part most c : ℕ) (n : Net) (p : Phase) : Type 0 where
-  pub asks : AsksIfServing p
+  pub asks : PhaseAsks p
   pub within : epoch_of (n.tokens c).epochs part ≤ most
   pub promises : PromisesWithin part most p
 

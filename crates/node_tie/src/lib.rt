@@ -45,7 +45,7 @@ pub fn manager_events_are_seen()
 /// - `start`: the registry has epoch 1 of each slot, and each manager in its first incarnation.
 /// - `events`: an event leaves a slot as it was or gives it anew under the next epoch; a manager that tells
 ///   of a later incarnation has its slots given anew; what the registry sends tells of its present maps.
-/// - `servers`, `cleaner`: they send nothing of tokens, of maps or of promises.
+/// - `servers`, `cleaner`: they send nothing of tokens and no maps.
 pub fn other_events_are_seen()
     ensures start { RegistryStarts }
     ensures events { RegistryEventGoes }

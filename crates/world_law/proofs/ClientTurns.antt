@@ -8,7 +8,9 @@ use Rattle.core_world.specs.declared.any_node.AnyNode.{AnyNode}
 use Rattle.core_world.specs.declared.any_node.AnyNode.TheVariants as any
 use Rattle.node_base.specs.declared.effects.Effect.{Effect}
 use Rattle.node_base.specs.Effects.{packets_of}
-use Rattle.node_tie.specs.ClientEvents.{AsksIfServing, ClientAgrees, ClientGoes, ClientStands, WelcomeRises}
+use Rattle.node_tie.proofs.ManagerFrames.{manager_on}
+use Rattle.node_tie.specs.AskingEvents.{PhaseAsks}
+use Rattle.node_tie.specs.ClientEvents.{ClientAgrees, ClientGoes, ClientStands, WelcomeRises}
 use Rattle.node_tie.specs.Sight.{ClientDoes, ClientSends}
 use Rattle.store_nodes.specs.declared.registry_node.RegistryNode.{RegistryNode}
 use Rattle.token_client.specs.State.{TokensState, epoch_of}
@@ -23,7 +25,7 @@ use Rattle.world_base.specs.Cluster.{place_of}
 use Rattle.world_base.specs.declared.cluster.Cluster.{Cluster}
 use Rattle.world_base.specs.NextWorld.{sent_at}
 use Rattle.world_law.proofs.Facts.{Grown, fact_stays}
-use Rattle.world_law.proofs.Frames.{client_frame, manager_frame, runs_on, stands_frame}
+use Rattle.world_law.proofs.Frames.{client_frame, runs_on, stands_frame}
 use Rattle.world_law.proofs.Nodes.{here, there}
 use Rattle.world_law.proofs.Sent.{in_append, sends}
 use Rattle.world_law.proofs.Standing.{Fact, ManagerSees, Placed, Scene, Stands, epoch_now, life_of_client, members}
@@ -64,7 +66,7 @@ number_is part c n (Serves s) h = h.number
 
 module _ (k : Cluster) (part : ℕ) (RegistrySound : RegistryNode → Type 0) (nodes : List AnyNode) (sent : List Packet) (s : Scene) (st : Stands k part nodes sent RegistrySound s)
     (c p clock : ℕ) (some : 0 < c) (within : c < members k part) (at : place_of k (Client c) ≡ Some p) (is : slice_get nodes p ≡ Some (any.Client (s.client c)))
-    (w : Went_to) (go : ClientGoes (members k part) part (epoch_now k part s) c s.net (s.client c).phase w.state w.outs) (asks : AsksIfServing w.state) where
+    (w : Went_to) (go : ClientGoes (members k part) part (epoch_now k part s) c s.net (s.client c).phase w.state w.outs) (asks : PhaseAsks w.state) where
   abbrev after_node : ClientNode
   after_node = record (s.client c) { phase = w.state }
 
@@ -104,7 +106,7 @@ module _ (k : Cluster) (part : ℕ) (RegistrySound : RegistryNode → Type 0) (n
 
   sees : (j : ℕ) → 0 < j → j ≤ k.managers → ManagerSees k part client_scene j (s.manager j).phase
   sees j pos most = (let h = st.managers j pos most in record {
-    agrees = manager_frame (members k part) part s.net go.next go.grows j (s.manager j).phase (λ e held. go.slots e) h.agrees;
+    agrees = manager_on (members k part) part s.net go.next go.grows j (s.manager j).phase (λ e held. go.slots e) h.agrees;
     within = h.within;
     owns = h.owns;
     fresh = h.fresh;

@@ -1,7 +1,6 @@
 -- What holds of a packet goes on to hold, as the small world and the registry go on.
 use Rattle.std.proofs.Common.{◌≡◌, ℕ, ◌≤◌, ◌<◌, List, refl, sym, subst, ◌∙◌, arith}
 use Rattle.std.proofs.Common.{Bool, true, false, nat_le}
-use Rattle.std.proofs.lemmas.Bool.Decides.{nat_tests}
 use Rattle.node_tie.specs.ClientEvents.{WelcomeRises}
 use Rattle.node_tie.specs.Sight.{ClientSends, ManagerSends, GrantSeen, ForwardSeen, RecallSeen, SupplySeen}
 use Rattle.token_law.specs.Net.{Packet as NetPacket}
@@ -15,6 +14,7 @@ use Rattle.wire_msg.specs.declared.tokens.Grant.{Grant}
 use Rattle.wire_msg.specs.declared.tokens.Recall.{Recall}
 use Rattle.wire_msg.specs.declared.tokens.Supply.{Supply}
 use Rattle.world_base.specs.declared.cluster.Cluster.{Cluster}
+use Rattle.world_law.proofs.Numbers.{le_of, lt_of}
 use Rattle.world_law.proofs.Standing.{AllTold, ClientWelcomed, Fact, ManagerWelcomed, NewsTold, RegistrySends, Scene, SentBy, Welcomed, epoch_now, life_of_client, life_of_manager, life_told}
 use Rattle.xfs_base.specs.declared.news.SlotNews.{SlotNews}
 use Rattle.xfs_base.specs.declared.node.NodeId.{NodeId}
@@ -22,12 +22,6 @@ use Rattle.xfs_base.specs.declared.node.NodeId.TheVariants.{Client, Manager, Ser
 
 up_to : (a b c : ℕ) → a ≤ b → b ≤ c → a ≤ c
 up_to a b c h g = omega arith
-
-le_of : (a c : ℕ) → nat_le a c ≡ true → a ≤ c
-le_of a c h = grind (arith, nat_tests)
-
-lt_of : (a c : ℕ) → nat_le a c ≡ false → c < a
-lt_of a c h = grind (arith, nat_tests)
 
 -- ---- packets about tokens stay sent
 

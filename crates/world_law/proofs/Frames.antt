@@ -1,21 +1,12 @@
--- What other nodes do leaves a client and a manager seen as they were.
-use Rattle.std.proofs.Common.{◌≡◌, ⊎_elim, ℕ, ◌≤◌, ◌<◌, List, inl, inr, refl, sym, subst, ◌∙◌, arith}
+-- What other nodes do leaves a client seen as it was.
+use Rattle.std.proofs.Common.{◌≡◌, ⊎_elim, ℕ, ◌≤◌, ◌<◌, inl, inr, sym, subst, ◌∙◌, arith}
 use Rattle.client_node.specs.declared.phase.Phase.{Phase as ClientPhase}
 use Rattle.client_node.specs.declared.phase.Phase.TheVariants as clients
-use Rattle.manager_node.specs.declared.phase.Phase.{Phase as ManagerPhase}
-use Rattle.manager_node.specs.declared.phase.Phase.TheVariants as managers
-use Rattle.manager_node.specs.declared.slot_phase.SlotPhase.{SlotPhase}
-use Rattle.manager_node.specs.declared.slot_phase.SlotPhase.TheVariants as phase
 use Rattle.node_tie.specs.ClientEvents.{ClientAgrees, ClientStands, PromisesWithin}
-use Rattle.node_tie.specs.ManagerEvents.{ManagerAgrees, PhaseAgrees, ReportKnown, HeldAt, slot_in, phase_at}
 use Rattle.token_client.specs.State.{TokensState, epoch_of}
 use Rattle.token_law.specs.Net.{Net, Packet, Runs}
 use Rattle.token_law.specs.Net.Runs.{Begun, On}
-use Rattle.xfs_base.specs.declared.token.Mode.{Mode}
 use Rattle.token_protocol.specs.Basics.{In}
-use Rattle.xfs_base.specs.declared.block.BlockId.{BlockId}
-use Rattle.xfs_base.specs.declared.node.NodeId.{NodeId}
-use Rattle.xfs_base.specs.declared.node.NodeId.TheVariants.{Client, Manager, Server, Cleaner, Registry}
 
 -- one run after another
 pub runs_on : (members part : ℕ) (n m o : Net) → Runs members part n m → Runs members part m o → Runs members part n o
@@ -57,32 +48,3 @@ stands_frame part most more c n m rise tokens p h = record {
   where
     up_to : (a b c : ℕ) → a ≤ b → b ≤ c → a ≤ c
     up_to a b c h g = omega arith
-
--- ---- a manager
-
-module _ (members part : ℕ) (n m : Net) (grows : (x : Packet) → In x n.sent → In x m.sent) where
-  known_stays : (epoch : ℕ) (from : NodeId) (held : List (BlockId × Mode)) → ReportKnown members part n epoch from held → ReportKnown members part m epoch from held
-  known_stays epoch (Client c) held h = (h.0, h.1, grows _ h.2)
-  known_stays epoch (Manager c) held h = tt
-  known_stays epoch (Server c) held h = tt
-  known_stays epoch Cleaner held h = tt
-  known_stays epoch Registry held h = tt
-
-  phase_frame : (p : SlotPhase) → ((e : ℕ) → HeldAt p e → m.slots e ≡ n.slots e) → PhaseAgrees members part n p → PhaseAgrees members part m p
-  phase_frame (phase.Taking t) same h = record {
-    free = same t.epoch refl ∙ h.free;
-    slot = h.slot;
-    epoch = h.epoch;
-    clients = h.clients;
-    reported = λ r is. known_stays t.epoch r.from r.held (h.reported r is);
-    once = h.once;
-    ready = h.ready;
-  }
-  phase_frame (phase.Active a) same h = record { slot = h.slot; there = same a.slot.epoch refl ∙ h.there; same = h.same; nine = h.nine }
-  phase_frame (phase.Away epoch) same h = tt
-  phase_frame (phase.Broken epoch seg) same h = tt
-
-  pub manager_frame : (j : ℕ) (p : ManagerPhase) → ((e : ℕ) → HeldAt (slot_in part p) e → m.slots e ≡ n.slots e) → ManagerAgrees members part n j p → ManagerAgrees members part m j p
-  manager_frame j (managers.Down kept) same h = h
-  manager_frame j (managers.Waiting kept hello) same h = h
-  manager_frame j (managers.Serving s) same h = record { number = h.number; table = record { eight = h.table.eight; here = phase_frame (phase_at s.slots part) same h.table.here; there = h.table.there } }

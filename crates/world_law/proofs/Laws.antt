@@ -9,7 +9,7 @@ use Rattle.core_world.specs.declared.any_node.AnyNode.{AnyNode}
 use Rattle.core_world.specs.declared.any_node.AnyNode.TheVariants as any
 use Rattle.manager_node.specs.Events.{happens}
 use Rattle.node_tie.specs.AskingEvents.{EventsKeepAsking, PhaseAsks, StartsAsking}
-use Rattle.node_tie.specs.ClientEvents.{AsksIfServing, ClientAgrees, ClientGoes, ClientOwed, ClientStands, ClientTakes}
+use Rattle.node_tie.specs.ClientEvents.{ClientAgrees, ClientGoes, ClientOwed, ClientStands, ClientTakes}
 use Rattle.node_tie.specs.ManagerEvents.{FirstManagerAgrees, ManagerEventGoes, ManagerGoes, EventGets as ManagerEventGets}
 use Rattle.node_tie.specs.RegistryEvents.{RegistryEventGoes, RegistryGoes, RegistrySound, RegistryStarts}
 use Rattle.node_tie.specs.StoreEvents.{CleanerSays, ServersSay}
@@ -60,16 +60,6 @@ pub record NodeLaws : Type 0 where
   pub server : ServersSay
   pub cleaner : CleanerSays
 
-asks_of : (p : Phase) → PhaseAsks p → AsksIfServing p
-asks_of (Down l) h = tt
-asks_of (Opening l o) h = tt
-asks_of (Serves s) h = h
-
-of_asks : (p : Phase) → AsksIfServing p → PhaseAsks p
-of_asks (Down l) h = tt
-of_asks (Opening l o) h = tt
-of_asks (Serves s) h = h
-
 pub one_node : {X : Type 0} (a b : X) → Some a ≡ Some b → a ≡ b
 one_node a b same = ap (λ o. unwrap_or o a) same
 
@@ -107,8 +97,8 @@ module _ (laws : NodeLaws) (k : Cluster) (part : ℕ) (of_eight : part < 8) wher
         go : ClientGoes (members k part) part (epoch_now k part s) c s.net (s.client c).phase (takes (s.client c) what).state (takes (s.client c) what).outs
         go = laws.client (members k part) part (epoch_now k part s) c of_eight b.some less s.net (s.client c) what agreed.0 agreed.1 (gets what refl)
 
-        asks : AsksIfServing (takes (s.client c) what).state
-        asks = asks_of (takes (s.client c) what).state (laws.keeps_asking (s.client c) what (of_asks (s.client c).phase agreed.1.asks))
+        asks : PhaseAsks (takes (s.client c) what).state
+        asks = laws.keeps_asking (s.client c) what agreed.1.asks
 
     manager_after : (j : ℕ) → ((q : Packet) → what ≡ Deliver q → Fact k part s q × (q.to ≡ Manager j)) → place_of k (Manager j) ≡ Some place → (node : AnyNode) → slice_get nodes place ≡ Some node → After node
     manager_after j fact at node is = subst After (one_node (any.Manager (s.manager j)) node (sym here ∙ is)) (

@@ -13,4 +13,4 @@ pub mod OtherTurns
 pub mod Start
 pub mod Laws
 pub mod Managers
-pub mod AllNodes
+pub mod Numbers

@@ -10,6 +10,7 @@ use Rattle.manager_node.specs.declared.slot_phase.SlotPhase.{SlotPhase}
 use Rattle.manager_node.specs.declared.slot_phase.SlotPhase.TheVariants as phase
 use Rattle.manager_node.specs.Phases.{Went_to, lasting_of}
 use Rattle.node_base.specs.Effects.{packets_of}
+use Rattle.node_tie.proofs.ManagerFrames.{manager_on}
 use Rattle.node_tie.specs.ManagerEvents.{HeldAt, ManagerAgrees, ManagerGoes, NamedBy, NamedIn, Names, TakingAt, epoch_in, is_serving, is_waiting, slot_in}
 use Rattle.node_tie.specs.Sight.{ManagerDoes, ManagerSends}
 use Rattle.store_nodes.specs.declared.registry_node.RegistryNode.{RegistryNode}
@@ -30,7 +31,7 @@ use Rattle.world_base.specs.declared.cluster.Cluster.{Cluster}
 use Rattle.world_base.specs.NextWorld.{sent_at}
 use Rattle.world_law.proofs.ClientTurns.{number, welcome_frame}
 use Rattle.world_law.proofs.Facts.{Grown, fact_stays}
-use Rattle.world_law.proofs.Frames.{client_frame, manager_frame, runs_on, stands_frame}
+use Rattle.world_law.proofs.Frames.{client_frame, runs_on, stands_frame}
 use Rattle.world_law.proofs.Gets.{news_told, welcome_told}
 use Rattle.world_law.proofs.Nodes.{here, there}
 use Rattle.world_law.proofs.Sent.{in_append, sends}
@@ -254,7 +255,7 @@ module _ (k : Cluster) (part : ℕ) (RegistrySound : RegistryNode → Type 0) (n
 
   sees_others : (d : ℕ) → (d ≡ j → ⊥) → 0 < d → d ≤ k.managers → ManagerSees k part manager_scene d (s.manager d).phase
   sees_others d other pos less = (let h = st.managers d pos less in record {
-    agrees = manager_frame (members k part) part s.net go.next go.grows d (s.manager d).phase
+    agrees = manager_on (members k part) part s.net go.next go.grows d (s.manager d).phase
         (λ e held. go.slots e (λ mine. other (sym (h.owns e held).0 ∙ (sees.owns e mine).0))) h.agrees;
     within = h.within;
     owns = h.owns;

@@ -1,19 +1,17 @@
 -- A server or the cleaner that has its turn: the moment after it stands to the same small world.
-use Rattle.std.proofs.Common.{◌≡◌, ◌⊎◌, ⊎_elim, ℕ, zero, suc, ◌==◌, true, false, List, [], ◌∷◌, ◌++◌, Some, map, slice_get, slice_set, inl, inr, refl, sym, ap, subst, ◌∙◌, arith}
+use Rattle.std.proofs.Common.{◌≡◌, ◌⊎◌, ⊎_elim, ℕ, ◌==◌, true, false, List, ◌++◌, Some, map, slice_get, slice_set, inl, inr, refl, sym, ap, subst, ◌∙◌, arith}
 use Rattle.std.proofs.lemmas.Bool.Decides.{nat_tests}
-use Rattle.std.specs.Prelude.{All}
 use Rattle.core_world.specs.declared.any_node.AnyNode.{AnyNode}
 use Rattle.core_world.specs.declared.any_node.AnyNode.TheVariants as any
-use Rattle.node_base.specs.declared.effects.Effect.{Effect}
-use Rattle.node_base.specs.declared.effects.Effect.TheVariants.{Send, Answer, Lose, Does}
-use Rattle.node_base.specs.Effects.{packets_of}
+use Rattle.node_tie.proofs.CleanerEvents.{cleaner_from}
+use Rattle.node_tie.proofs.StoreServer.{server_from}
 use Rattle.node_tie.specs.Sight.{CleanerSends, ServerSends}
 use Rattle.node_tie.specs.StoreEvents.{PacketsSay}
-use Rattle.store_nodes.specs.CleanerEvents.{cleaner_step, takes as cleaner_takes}
+use Rattle.store_nodes.specs.CleanerEvents.{cleaner_step}
 use Rattle.store_nodes.specs.declared.cleaner.Cleaner.{Cleaner as CleanerNode}
 use Rattle.store_nodes.specs.declared.registry_node.RegistryNode.{RegistryNode}
 use Rattle.store_nodes.specs.declared.server.Server.{Server as ServerNode}
-use Rattle.store_nodes.specs.ServerEvents.{server_step, takes as server_takes}
+use Rattle.store_nodes.specs.ServerEvents.{server_step}
 use Rattle.token_protocol.specs.Basics.{In}
 use Rattle.wire_msg.specs.declared.packet.Do.{Do}
 use Rattle.wire_msg.specs.declared.packet.Packet.{Packet}
@@ -27,18 +25,6 @@ use Rattle.world_law.proofs.Standing.{Fact, Placed, Scene, SentBy, Stands}
 use Rattle.world_law.specs.Owners.{node_in}
 use Rattle.xfs_base.specs.declared.node.NodeId.{NodeId}
 use Rattle.xfs_base.specs.declared.node.NodeId.TheVariants.{Client, Manager, Server, Cleaner, Registry}
-
-all_cons : {X : Type 0} (K : X → Type 0) (x : X) (xs : List X) → K x → All K xs → All K (x ∷ xs)
-all_cons K x xs h all zero d less = h
-all_cons K x xs h all (suc i) d less = all i d (omega arith)
-
--- the packets of a node are from it
-pub from_node : (node : NodeId) (outs : List Effect) → All (λ (p : Packet). p.from ≡ node) (packets_of node outs)
-from_node node [] = λ i d less. absurd (omega arith)
-from_node node (Send to body ∷ outs) = all_cons (λ (p : Packet). p.from ≡ node) (record { from = node; to = to; clock = 0; body = body }) (packets_of node outs) refl (from_node node outs)
-from_node node (Answer item answer ∷ outs) = from_node node outs
-from_node node (Lose seg ∷ outs) = from_node node outs
-from_node node (Does act ∷ outs) = from_node node outs
 
 equal_or_not : (n m : ℕ) → (n ≡ m) ⊎ (n ≡ m → ⊥)
 equal_or_not n m = elim (n == m) as (λ t. (n == m) ≡ t → (n ≡ m) ⊎ (n ≡ m → ⊥)) [ true ↦ λ h. inl (same n m h) | false ↦ λ h. inr (λ e. grind (arith, nat_tests)) ] refl
@@ -70,7 +56,7 @@ module _ (k : Cluster) (part : ℕ) (RegistrySound : RegistryNode → Type 0) (n
   server_turn n at server is says = stands_so now (map (sent_at clock) (server_step server what).packets) placed
       (λ q h. at_clock clock (λ x. (x.from ≡ Server server.number) × ServerSends x.body) (Fact k part s)
       (λ x both. subst (λ (y : NodeId). SentBy k part s y x.to x.body) (sym both.0) both.1)
-      (server_step server what).packets (λ i d less. (from_node (Server server.number) (server_takes server what).outs i d less, says i d less)) q h)
+      (server_step server what).packets (λ i d less. (server_from server what i d less, says i d less)) q h)
     where
       after : AnyNode
       after = any.Server (server_step server what).node
@@ -104,7 +90,7 @@ module _ (k : Cluster) (part : ℕ) (RegistrySound : RegistryNode → Type 0) (n
   cleaner_turn at cleaner is says = stands_so now (map (sent_at clock) (cleaner_step cleaner what).packets) placed
       (λ q h. at_clock clock (λ x. (x.from ≡ Cleaner) × CleanerSends x.body) (Fact k part s)
       (λ x both. subst (λ (y : NodeId). SentBy k part s y x.to x.body) (sym both.0) both.1)
-      (cleaner_step cleaner what).packets (λ i d less. (from_node Cleaner (cleaner_takes cleaner.peers cleaner.phase what).outs i d less, says i d less)) q h)
+      (cleaner_step cleaner what).packets (λ i d less. (cleaner_from cleaner what i d less, says i d less)) q h)
     where
       now : List AnyNode
       now = slice_set nodes p (any.Cleaner (cleaner_step cleaner what).node)

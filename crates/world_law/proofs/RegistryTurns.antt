@@ -1,7 +1,6 @@
 -- The registry that has its turn: a slot may be given anew, and the moment after it stands to the same small world.
-use Rattle.std.proofs.Common.{◌≡◌, ◌⊎◌, ⊎_elim, ℕ, ◌+◌, ◌≤◌, ◌<◌, true, false, nat_le, List, ◌++◌, Some, map, slice_get, slice_set, inl, inr, refl, sym, ap, subst, ◌∙◌, arith}
+use Rattle.std.proofs.Common.{◌≡◌, ⊎_elim, ℕ, ◌+◌, ◌≤◌, ◌<◌, List, ◌++◌, Some, map, slice_get, slice_set, refl, sym, ap, subst, ◌∙◌, arith}
 use Rattle.std.proofs.Math.Nat.{mod-lt}
-use Rattle.std.proofs.lemmas.Bool.Decides.{nat_tests}
 use Rattle.client_node.specs.declared.phase.Phase.{Phase as ClientPhase}
 use Rattle.client_node.specs.declared.phase.Phase.TheVariants as clients
 use Rattle.core_world.specs.declared.any_node.AnyNode.{AnyNode}
@@ -33,6 +32,7 @@ use Rattle.world_law.proofs.Facts.{Grown, fact_stays}
 use Rattle.world_law.proofs.Frames.{stands_frame}
 use Rattle.world_law.proofs.Gets.{all_in}
 use Rattle.world_law.proofs.Nodes.{here, there}
+use Rattle.world_law.proofs.Numbers.{one_way}
 use Rattle.world_law.proofs.Sent.{at_clock, in_all, in_append, in_list}
 use Rattle.world_law.proofs.Standing.{AllTold, Fact, ManagerSees, Placed, Scene, SentBy, Stands, Welcomed, PastAt, epoch_now, life_of_client, life_of_manager, life_told, manager_now, members, RegistrySends as Sends}
 use Rattle.xfs_base.specs.Blocks.{slot_of}
@@ -54,15 +54,6 @@ held_known (phase.Taking t) e h = h
 held_known (phase.Active a) e h = h
 held_known (phase.Away epoch) e h = absurd h
 held_known (phase.Broken epoch seg) e h = absurd h
-
-le_of : (a c : ℕ) → nat_le a c ≡ true → a ≤ c
-le_of a c h = grind (arith, nat_tests)
-
-lt_of : (a c : ℕ) → nat_le a c ≡ false → c < a
-lt_of a c h = grind (arith, nat_tests)
-
-one_of : (a c : ℕ) → (a ≤ c) ⊎ (c < a)
-one_of a c = elim (nat_le a c) as (λ t. nat_le a c ≡ t → (a ≤ c) ⊎ (c < a)) [ true ↦ λ h. inl (le_of a c h) | false ↦ λ h. inr (lt_of a c h) ] refl
 
 module _ (k : Cluster) (part : ℕ) (nodes : List AnyNode) (sent : List Packet) (s : Scene) (st : Stands k part nodes sent RegistrySound s)
     (p clock : ℕ) (at : place_of k Registry ≡ Some p) (is : slice_get nodes p ≡ Some (any.Registry s.registry))
@@ -159,7 +150,7 @@ module _ (k : Cluster) (part : ℕ) (nodes : List AnyNode) (sent : List Packet) 
     fresh = λ serves e less within mine. ⊎_elim
         (λ low. subst (λ x. (manager_phases.lasting_of (s.manager j).phase).inc ≤ x) (sym (since_stays e low)) (h.fresh serves e less low (sym (lord_stays e low) ∙ mine)))
         (λ high. let g = subst (λ x. life_told registry_scene x ≤ put s.since new (inc_in after_node.board lord) e) mine (new_given e high within) in let a = h.known serves in let b = go.board.rises j in omega arith)
-        (one_of e old);
+        (one_way e old);
     known = λ serves. (let a = h.known serves in let b = go.board.rises j in omega arith);
     told = ⊎_elim (λ low. let a = h.told in omega arith) (λ heard. hello_of_manager j (inc_in after_node.board j) heard) (go.board.heard j);
   }
@@ -267,7 +258,7 @@ module _ (k : Cluster) (part : ℕ) (nodes : List AnyNode) (sent : List Packet) 
   }
     where
       not_new : (d : ℕ) → (d ≡ new → ⊥) → d ≤ new → d ≤ old
-      not_new d other within = ⊎_elim (λ low. low) (λ high. absurd (other (let b = by_one in omega arith))) (one_of d old)
+      not_new d other within = ⊎_elim (λ low. low) (λ high. absurd (other (let b = by_one in omega arith))) (one_way d old)
 
       omega_le : (e : ℕ) → e ≤ old → e ≤ new
       omega_le e low = (let b = rises in omega arith)

@@ -1,11 +1,17 @@
 //! The laws of every run of the nodes' world: no block has two owners, no slot two managers at one epoch. It
-//! has no code: each function below has an empty body, and its contract is a law. The proof carries, for each slot of the map, a run of the small
+//! has no code of the product: each function below calls the laws that it stands on, and its contract is a law. The proof carries, for each slot of the map, a run of the small
 //! world of tokens (`token_law`) beside the run of the nodes; `proofs/Standing.antt` says how the two stand to
 //! each other.
 #![tactic(auto)]
 
 ghost use Rattle.world_law.specs.Managers.{EveryRunHasOneManager};
 ghost use Rattle.world_law.specs.Owners.{EveryRunHasOneOwner};
+
+use node_tie::{
+    client_events_are_seen, clients_ask_for_their_call, manager_events_are_seen,
+    other_events_are_seen,
+};
+use token_law::tokens_keep_their_word;
 
 /// In every run, whatever messages are lost, repeated or reordered and whichever nodes stop, at each of its
 /// moments a block has one owner at most, and then no other client holds it (the 1996 paper, on cache
@@ -14,7 +20,13 @@ ghost use Rattle.world_law.specs.Owners.{EveryRunHasOneOwner};
 /// - `one_owner`: so it is of every run of a script of whose setup a run can be started.
 pub fn every_run_has_one_owner()
     ensures one_owner { EveryRunHasOneOwner }
-{}
+{
+    clients_ask_for_their_call();
+    client_events_are_seen();
+    manager_events_are_seen();
+    other_events_are_seen();
+    tokens_keep_their_word();
+}
 
 /// In every run, at each of its moments, a slot of the map has one manager at an epoch at most, and what that
 /// believes covers what is held (the 1996 paper, on cache consistency). It asks nothing of losses of storage.
@@ -25,4 +37,10 @@ pub fn every_run_has_one_owner()
 ///   believes of each client that serves at least what that holds.
 pub fn every_run_has_one_manager()
     ensures one_manager { EveryRunHasOneManager }
-{}
+{
+    clients_ask_for_their_call();
+    client_events_are_seen();
+    manager_events_are_seen();
+    other_events_are_seen();
+    tokens_keep_their_word();
+}

@@ -1,7 +1,17 @@
-use Rattle.token_law.proofs.Laws.{active_promised, holdings_believed}
-use Rattle.world_law.proofs.AllNodes.{laws}
 use Rattle.world_law.proofs.Managers.{every_run_one_manager}
 use Rattle.world_law.proofs.every_run_has_one_manager.Goals as goal
 
 pub returns : goal.returns
-returns c = record { one_manager = every_run_one_manager laws active_promised holdings_believed }
+returns c = record {
+  one_manager = every_run_one_manager (record {
+    starts_asking = c.clients_ask_for_their_call.ensures.start;
+    keeps_asking = c.clients_ask_for_their_call.ensures.events;
+    client = c.client_events_are_seen.ensures.events;
+    first_manager = c.manager_events_are_seen.ensures.start;
+    manager = c.manager_events_are_seen.ensures.events;
+    begins = c.other_events_are_seen.ensures.start;
+    registry = c.other_events_are_seen.ensures.events;
+    server = c.other_events_are_seen.ensures.servers;
+    cleaner = c.other_events_are_seen.ensures.cleaner;
+  }) c.tokens_keep_their_word.ensures.promised c.tokens_keep_their_word.ensures.believed;
+}

@@ -1,7 +1,17 @@
-use Rattle.token_law.proofs.Laws.{one_owner}
-use Rattle.world_law.proofs.AllNodes.{laws}
 use Rattle.world_law.proofs.Laws.{every_run}
 use Rattle.world_law.proofs.every_run_has_one_owner.Goals as goal
 
 pub returns : goal.returns
-returns c = record { one_owner = every_run laws one_owner }
+returns c = record {
+  one_owner = every_run (record {
+    starts_asking = c.clients_ask_for_their_call.ensures.start;
+    keeps_asking = c.clients_ask_for_their_call.ensures.events;
+    client = c.client_events_are_seen.ensures.events;
+    first_manager = c.manager_events_are_seen.ensures.start;
+    manager = c.manager_events_are_seen.ensures.events;
+    begins = c.other_events_are_seen.ensures.start;
+    registry = c.other_events_are_seen.ensures.events;
+    server = c.other_events_are_seen.ensures.servers;
+    cleaner = c.other_events_are_seen.ensures.cleaner;
+  }) c.tokens_keep_their_word.ensures.one_owner;
+}
