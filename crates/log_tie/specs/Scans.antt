@@ -158,12 +158,12 @@ pub record ScanShown (g : Setting) (w : State) (book : ℕ → Segment) (hellos 
   pub stage : StageShown g w book hellos s.opening s.stage
 
 -- where a chain is told, all is read back
-abbrev pub Gives : Setting → State → (ℕ → Segment) → Option GroupMapState → Out → Type 0
-Gives g w book groups (Hello ask) = Unit {0}
-Gives g w book groups (Fence server) = Unit {0}
-Gives g w book groups (Fetch server name ask) = Unit {0}
-Gives g w book groups (Chain segments end prior) = (m : GroupMapState) × (groups ≡ Some m) × ReadShown g w book end segments m
-Gives g w book groups (Lost name) = Unit {0}
+abbrev pub OutShown : Setting → State → (ℕ → Segment) → Option GroupMapState → Out → Type 0
+OutShown g w book groups (Hello ask) = Unit {0}
+OutShown g w book groups (Fence server) = Unit {0}
+OutShown g w book groups (Fetch server name ask) = Unit {0}
+OutShown g w book groups (Chain segments end prior) = (m : GroupMapState) × (groups ≡ Some m) × ReadShown g w book end segments m
+OutShown g w book groups (Lost name) = Unit {0}
 
 -- ---- the laws
 
@@ -179,7 +179,7 @@ BringsScan g w book hellos s Tick = Unit {0}
 -- the opening is seen as it is after the input, and what it tells is read back
 pub record Scanned (g : Setting) (w : State) (book : ℕ → Segment) (hellos : List Asked) (s : ScanState) (outs : List Out) : Type 0 where
   pub shown : ScanShown g w book (asked_by w.incarnation w.low outs hellos) s
-  pub gives : AllByRecursion (Gives g w book s.opening.groups) outs
+  pub gives : AllByRecursion (OutShown g w book s.opening.groups) outs
 
 -- Each input of an opening is taken by steps of the owner, where what is booked can be read back.
 abbrev pub ScanTakes : Type 0

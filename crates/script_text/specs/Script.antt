@@ -69,8 +69,8 @@ IsBadItem c ws k =
     ⊎ ((f : Form) × IsOfForm ws f × IsFaulty c ws f k)
 
 -- a line of the setup that gives a number of these to a name
-abbrev pub Gives : List ℕ → ℕ → ℕ → List (List ℕ) → ℕ → Type 0
-Gives name least most ws n = (ws ≡ name ∷ decimal n ∷ []) × (least ≤ n) × (n ≤ most)
+abbrev pub SaysNumber : List ℕ → ℕ → ℕ → List (List ℕ) → ℕ → Type 0
+SaysNumber name least most ws n = (ws ≡ name ∷ decimal n ∷ []) × (least ≤ n) × (n ≤ most)
 
 -- no two of these are the same
 abbrev pub AreDifferent : List ℕ → Type 0
@@ -103,17 +103,17 @@ AddsActs p ws q = (ws ≡ codes "acts" ∷ []) × (q ≡ record p { stage = stag
 
 -- a line of the setup, where it may stand, and what it adds
 abbrev pub AddsSetup : Stage → Place → List (List ℕ) → Place → Type 0
-AddsSetup stage.Version p ws q = (n : ℕ) × Gives (codes "xfs") 1 1 ws n × (q ≡ record p { stage = stage.Clients })
+AddsSetup stage.Version p ws q = (n : ℕ) × SaysNumber (codes "xfs") 1 1 ws n × (q ≡ record p { stage = stage.Clients })
 AddsSetup stage.Clients p ws q =
-    (n : ℕ) × Gives (codes "clients") 1 8 ws n × (q ≡ record p { stage = stage.Managers; setup = record p.setup { clients = n } })
+    (n : ℕ) × SaysNumber (codes "clients") 1 8 ws n × (q ≡ record p { stage = stage.Managers; setup = record p.setup { clients = n } })
 AddsSetup stage.Managers p ws q =
-    (n : ℕ) × Gives (codes "managers") 1 4 ws n × (q ≡ record p { stage = stage.Servers; setup = record p.setup { managers = n } })
+    (n : ℕ) × SaysNumber (codes "managers") 1 4 ws n × (q ≡ record p { stage = stage.Servers; setup = record p.setup { managers = n } })
 AddsSetup stage.Servers p ws q =
-    (n : ℕ) × Gives (codes "servers") 3 12 ws n × (q ≡ record p { stage = stage.FirstGroup; setup = record p.setup { servers = n } })
+    (n : ℕ) × SaysNumber (codes "servers") 3 12 ws n × (q ≡ record p { stage = stage.FirstGroup; setup = record p.setup { servers = n } })
 AddsSetup stage.FirstGroup p ws q = AddsGroup p ws q
 AddsSetup stage.Groups p ws q =
     AddsGroup p ws q
-    ⊎ ((n : ℕ) × Gives (codes "cache") 1 1024 ws n × (q ≡ record p { stage = stage.Cached; setup = record p.setup { cache = n } }))
+    ⊎ ((n : ℕ) × SaysNumber (codes "cache") 1 1024 ws n × (q ≡ record p { stage = stage.Cached; setup = record p.setup { cache = n } }))
     ⊎ AddsActs p ws q
 AddsSetup stage.Cached p ws q = AddsActs p ws q
 AddsSetup stage.Items p ws q = ⊥
