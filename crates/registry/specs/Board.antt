@@ -98,10 +98,10 @@ done s slot epoch parts horizon =
 
 -- ---- all inputs
 
-abbrev pub step : BoardState → In → Made
-step s (Hello node inc) = hello s node inc
-step s (Reassign slot manager) = reassign s slot manager
-step s (Done slot epoch parts horizon) = done s slot epoch parts horizon
+abbrev pub transition : BoardState → In → Made
+transition s (Hello node inc) = hello s node inc
+transition s (Reassign slot manager) = reassign s slot manager
+transition s (Done slot epoch parts horizon) = done s slot epoch parts horizon
 
 abbrev pub started : Setup → BoardState
 started setup = record {
