@@ -27,7 +27,7 @@ use Rattle.file_plan.specs.declared.state.Task.TheVariants.{Tells, Cuts, Raises,
 use Rattle.file_plan.specs.Calls.{block_at, root}
 use Rattle.file_plan.specs.Names.{Name, Row, name_cmp, bucket_number, same_node, is_directory, named, names_are_good}
 use Rattle.file_plan.specs.Format.{content_of, rows_text, read_bucket, read_size}
-use Rattle.file_plan.specs.Plan.{walking, walking_path, walked_to, walked, emptying, blocks_of, measured, fits, leaving, unfound, looked_at, looked, entered, on_got, on_written, on_changed, on_synced, after, next, start_named, start, after_all, made_by}
+use Rattle.file_plan.specs.Plan.{walking, walking_path, walked_to, walked, emptying, blocks_of, measured, fits, leaving, unfound, looked_at, looked, entered, on_got, on_written, on_changed, on_synced, after_answer, next_call, start_named, start, after_all, made_by}
 use Rattle.file_plan.specs.WriteOrder.{TakesOut, PutsIn, HasWritten, HasSettled, RemovesEntryFirst, AddsBeforeItRemoves}
 
 -- a fact that holds of the states to which each of two outcomes leads
@@ -35,15 +35,15 @@ either : (P : PlanState → Type 0) (b : Bool) (x y : PlanState) → P x → P y
 either P true x y f g = f
 either P false x y f g = g
 
-last : (answers : List BlockAnswer) (a : BlockAnswer) (s : PlanState) → after_all s (answers ++ a ∷ []) ≡ after (after_all s answers) a
+last : (answers : List BlockAnswer) (a : BlockAnswer) (s : PlanState) → after_all s (answers ++ a ∷ []) ≡ after_answer (after_all s answers) a
 last [] a s = refl
-last (b ∷ answers) a s = last answers a (after s b)
+last (b ∷ answers) a s = last answers a (after_answer s b)
 
 -- ---- what was written stays written
 
 module _ (s0 : PlanState) where
   abbrev from_here : List BlockAnswer → Next
-  from_here answers = next (after_all s0 answers)
+  from_here answers = next_call (after_all s0 answers)
 
   written_more : (IsSuch : BlockId → Content → Type 0) (answers : List BlockAnswer) (a : BlockAnswer) → HasWritten from_here answers IsSuch → HasWritten from_here (answers ++ a ∷ []) IsSuch
   written_more IsSuch answers a w = record {
@@ -166,7 +166,7 @@ module _ (H K : Type 0) (kept : H → K) where
   removal_got (Closes ino v) ver value h = kept h
   removal_got (Gathers dir blk left rows) ver value h = absurd h
 
-  removal_written : (s : PlanState) → ((block : BlockId) (ver : ℕ) (value : Content) → next s ≡ Step (PutAt block ver value) → TakesOut block value → K) → InRemoval H s → InRemoval K (on_written s)
+  removal_written : (s : PlanState) → ((block : BlockId) (ver : ℕ) (value : Content) → next_call s ≡ Step (PutAt block ver value) → TakesOut block value → K) → InRemoval H s → InRemoval K (on_written s)
   removal_written (Ends answer) new h = tt
   removal_written (Walks dir name onto rest job) new h = h
   removal_written (Looks dir name job) new h = h
@@ -231,8 +231,8 @@ module _ (H K : Type 0) (kept : H → K) where
   removal_synced (Closes ino v) h = kept h
   removal_synced (Gathers dir blk left rows) h = absurd h
 
-  removal_after : (s : PlanState) (a : BlockAnswer) → ((made : ℕ) (block : BlockId) (ver : ℕ) (value : Content) → a ≡ Written made → next s ≡ Step (PutAt block ver value) → TakesOut block value → K)
-      → InRemoval H s → InRemoval K (after s a)
+  removal_after : (s : PlanState) (a : BlockAnswer) → ((made : ℕ) (block : BlockId) (ver : ℕ) (value : Content) → a ≡ Written made → next_call s ≡ Step (PutAt block ver value) → TakesOut block value → K)
+      → InRemoval H s → InRemoval K (after_answer s a)
   removal_after s (Got ver value) new h = removal_got s ver value h
   removal_after s (Written made) new h = removal_written s (λ block ver value e t. new made block ver value refl e t) h
   removal_after s Changed new h = removal_changed s h
@@ -254,7 +254,7 @@ module _ (s0 : PlanState) where
       subst (λ (as' : List BlockAnswer). InRemoval (TakenOut as') (after_all s0 as')) (append_assoc front (a ∷ []) rest) (removal_all rest (front ++ a ∷ []) (removal_more front a h))
 
 -- a whole block that a removal writes
-removal_put : (H : Type 0) (s : PlanState) (block : BlockId) (value : Content) → next s ≡ Step (Put block value) → InRemoval H s → H × (value ≡ None)
+removal_put : (H : Type 0) (s : PlanState) (block : BlockId) (value : Content) → next_call s ≡ Step (Put block value) → InRemoval H s → H × (value ≡ None)
 removal_put H (Ends answer) block value e h = let no' : ⊥ = cc in absurd no'
 removal_put H (Walks dir name onto rest job) block value e h = let no' : ⊥ = cc in absurd no'
 removal_put H (Looks dir name job) block value e h = let no' : ⊥ = cc in absurd no'
@@ -271,7 +271,7 @@ removal_put H (Closes ino v) block value e h = let no' : ⊥ = cc in absurd no'
 removal_put H (Gathers dir blk left rows) block value e h = absurd h
 
 -- a write of a removal over a version
-removal_put_at : (H : Type 0) (s : PlanState) (block : BlockId) (ver : ℕ) (value : Content) → next s ≡ Step (PutAt block ver value) → InRemoval H s → TakesOut block value ⊎ (H × (value ≡ None))
+removal_put_at : (H : Type 0) (s : PlanState) (block : BlockId) (ver : ℕ) (value : Content) → next_call s ≡ Step (PutAt block ver value) → InRemoval H s → TakesOut block value ⊎ (H × (value ≡ None))
 removal_put_at H (Ends answer) block ver value e h = let no' : ⊥ = cc in absurd no'
 removal_put_at H (Walks dir name onto rest job) block ver value e h = let no' : ⊥ = cc in absurd no'
 removal_put_at H (Looks dir name job) block ver value e h = let no' : ⊥ = cc in absurd no'
@@ -501,7 +501,7 @@ module _ (A S B T : Type 0) (f : A → B) (g : S → T) where
       new (record { dir = dir; name = name; node = linked; rows = h.0; at = refl; text = ap (λ (rs : List Row). content_of (rows_text rs)) h.1 })
   move_entered dir name rows ino (Unlinks old) new h = tt
 
-  move_written : (s : PlanState) → ((block : BlockId) (ver : ℕ) (value : Content) → next s ≡ Step (PutAt block ver value) → PutsIn block value → B) → InMove A S s → InMove B T (on_written s)
+  move_written : (s : PlanState) → ((block : BlockId) (ver : ℕ) (value : Content) → next_call s ≡ Step (PutAt block ver value) → PutsIn block value → B) → InMove A S s → InMove B T (on_written s)
   move_written (Ends answer) new h = tt
   move_written (Walks dir name onto rest job) new h = h
   move_written (Looks dir name job) new h = still_at_entry S T g job h
@@ -533,7 +533,7 @@ module _ (A S B T : Type 0) (f : A → B) (g : S → T) where
   move_changed (Closes ino v) h = absurd h
   move_changed (Gathers dir blk left rows) h = absurd h
 
-  move_synced : (s : PlanState) → (next s ≡ Step Sync → A → T) → InMove A S s → InMove B T (on_synced s)
+  move_synced : (s : PlanState) → (next_call s ≡ Step Sync → A → T) → InMove A S s → InMove B T (on_synced s)
   move_synced (Ends answer) new h = tt
   move_synced (Walks dir name onto rest job) new h = h
   move_synced (Looks dir name job) new h = still_at_entry S T g job h
@@ -549,8 +549,8 @@ module _ (A S B T : Type 0) (f : A → B) (g : S → T) where
   move_synced (Closes ino v) new h = absurd h
   move_synced (Gathers dir blk left rows) new h = absurd h
 
-  move_after : (s : PlanState) (a : BlockAnswer) → ((made : ℕ) (block : BlockId) (ver : ℕ) (value : Content) → a ≡ Written made → next s ≡ Step (PutAt block ver value) → PutsIn block value → B)
-      → (a ≡ Synced → next s ≡ Step Sync → A → T) → InMove A S s → InMove B T (after s a)
+  move_after : (s : PlanState) (a : BlockAnswer) → ((made : ℕ) (block : BlockId) (ver : ℕ) (value : Content) → a ≡ Written made → next_call s ≡ Step (PutAt block ver value) → PutsIn block value → B)
+      → (a ≡ Synced → next_call s ≡ Step Sync → A → T) → InMove A S s → InMove B T (after_answer s a)
   move_after s (Got ver value) new settled h = move_got s ver value h
   move_after s (Written made) new settled h = move_written s (λ block ver value e t. new made block ver value refl e t) h
   move_after s Changed new settled h = move_changed s h
@@ -578,7 +578,7 @@ module _ (s0 : PlanState) where
   move_all (a ∷ rest) front h = subst Stands (append_assoc front (a ∷ []) rest) (move_all rest (front ++ a ∷ []) (move_more front a h))
 
 -- a move writes no whole block
-move_put : (A S : Type 0) (s : PlanState) (block : BlockId) (value : Content) → next s ≡ Step (Put block value) → InMove A S s → ⊥
+move_put : (A S : Type 0) (s : PlanState) (block : BlockId) (value : Content) → next_call s ≡ Step (Put block value) → InMove A S s → ⊥
 move_put A S (Ends answer) block value e h = cc
 move_put A S (Walks dir name onto rest job) block value e h = cc
 move_put A S (Looks dir name job) block value e h = cc
@@ -609,7 +609,7 @@ move_write S dir name rows (Links linked from old) h =
 move_write S dir name rows (Unlinks old) h =
     inr (record { dir = dir; name = name; rows = h.1.0; at = refl; text = ap (λ (rs : List Row). content_of (rows_text rs)) h.1.1 }, h.0)
 
-move_put_at : (A S : Type 0) (s : PlanState) (block : BlockId) (ver : ℕ) (value : Content) → next s ≡ Step (PutAt block ver value) → InMove A S s → PutsIn block value ⊎ (TakesOut block value × S)
+move_put_at : (A S : Type 0) (s : PlanState) (block : BlockId) (ver : ℕ) (value : Content) → next_call s ≡ Step (PutAt block ver value) → InMove A S s → PutsIn block value ⊎ (TakesOut block value × S)
 move_put_at A S (Ends answer) block ver value e h = let no' : ⊥ = cc in absurd no'
 move_put_at A S (Walks dir name onto rest job) block ver value e h = let no' : ⊥ = cc in absurd no'
 move_put_at A S (Looks dir name job) block ver value e h = let no' : ⊥ = cc in absurd no'
@@ -628,7 +628,7 @@ move_put_at A S (Empties ino blk left v) block ver value e h = absurd h
 move_put_at A S (Closes ino v) block ver value e h = absurd h
 move_put_at A S (Gathers dir blk left rows) block ver value e h = absurd h
 
-move_sync : (A S : Type 0) (s : PlanState) → next s ≡ Step Sync → InMove A S s → A
+move_sync : (A S : Type 0) (s : PlanState) → next_call s ≡ Step Sync → InMove A S s → A
 move_sync A S (Ends answer) e h = let no' : ⊥ = cc in absurd no'
 move_sync A S (Walks dir name onto rest job) e h = let no' : ⊥ = cc in absurd no'
 move_sync A S (Looks dir name job) e h = let no' : ⊥ = cc in absurd no'
