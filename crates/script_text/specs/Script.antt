@@ -170,10 +170,15 @@ IsBad line p k =
     × ((((is_whole p.stage && not (is_setup_word (first (words line)))) ≡ false) × (k ≡ BadSetup))
     ⊎ (((is_whole p.stage && not (is_setup_word (first (words line)))) ≡ true) × IsBadItem (at_place p) (words line) k))
 
--- of an input of so many bytes, the line of this number, which ends at this place with its line feed, is past a limit: it is
--- line 20,001 or later, or it has the first byte too many or stands behind it
-abbrev pub IsPast : ℕ → ℕ → ℕ → Type 0
-IsPast total n end = (20000 < n) ⊎ (1048576 < total) × (1048576 < end)
+-- a line of an input: how many bytes the input has, the number of the line, and the byte at which it ends with its line feed
+pub record LineEnd : Type 0 where
+  pub total : ℕ
+  pub number : ℕ
+  pub end : ℕ
+
+-- the line is past a limit: it is line 20,001 or later, or it has the first byte too many or stands behind it
+abbrev pub IsPast : LineEnd → Type 0
+IsPast line = (20000 < line.number) ⊎ (1048576 < line.total) × (1048576 < line.end)
 
 -- the place at the first line: nothing is said yet, a client caches 64 clean blocks where no line says another number, and texts
 -- may have 64 MiB
@@ -216,7 +221,7 @@ abbrev pub Accepts : Bool → ℕ → ℕ → ℕ → List (List ℕ) → Place 
 Accepts live total n at [] p s =
     (is_whole p.stage ≡ true) × (open_crash live p.items ≡ None) × (s ≡ record { setup = p.setup; lines = p.items })
 Accepts live total n at (l ∷ ls) p s =
-    (IsPast total n (at + (length l + 1)) → ⊥)
+    (IsPast (record { total = total; number = n; end = at + (length l + 1) }) → ⊥)
     × (q : Place) × Leads n l p q × Accepts live total (n + 1) (at + (length l + 1)) ls q s
 
 -- of these lines the first bad one has the number m and is bad of kind k: the setup is not whole at their end, a crash stays
@@ -226,9 +231,9 @@ Refuses live total n at [] p m k =
     ((is_whole p.stage ≡ false) × (m ≡ n) × (k ≡ BadSetup))
     ⊎ ((is_whole p.stage ≡ true) × (open_crash live p.items ≡ Some m) × (k ≡ Unclosed))
 Refuses live total n at (l ∷ ls) p m k =
-    (IsPast total n (at + (length l + 1)) × (m ≡ n) × (k ≡ TooLong))
-    ⊎ ((IsPast total n (at + (length l + 1)) → ⊥) × IsBad l p k × (m ≡ n))
-    ⊎ ((IsPast total n (at + (length l + 1)) → ⊥) × (q : Place) × Leads n l p q × Refuses live total (n + 1) (at + (length l + 1)) ls q m k)
+    (IsPast (record { total = total; number = n; end = at + (length l + 1) }) × (m ≡ n) × (k ≡ TooLong))
+    ⊎ ((IsPast (record { total = total; number = n; end = at + (length l + 1) }) → ⊥) × IsBad l p k × (m ≡ n))
+    ⊎ ((IsPast (record { total = total; number = n; end = at + (length l + 1) }) → ⊥) × (q : Place) × Leads n l p q × Refuses live total (n + 1) (at + (length l + 1)) ls q m k)
 
 -- the bytes are this script
 abbrev pub IsScriptOf : Bool → List ℕ → Script → Type 0
