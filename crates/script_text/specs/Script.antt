@@ -1,5 +1,5 @@
 -- Which bytes are which script, and which line is the first bad one.
-use Rattle.std.specs.Prelude.{◌≡◌, ◌≢◌, ◌⊎◌, ℕ, ◌+◌, ◌-◌, ◌≤◌, ◌<◌, ◌^◌, ◌==◌, Bool, true, false, not, ◌&&◌, ◌||◌, List, [], ◌∷◌, ◌++◌, length, map, codes, Option, Some, None, ⊤, if◌then◌else◌}
+use Rattle.std.specs.Prelude.{◌≡◌, ◌≢◌, ◌⊎◌, ℕ, ◌+◌, ◌-◌, ◌≤◌, ◌<◌, ◌^◌, ◌==◌, Bool, true, false, not, ◌&&◌, ◌||◌, List, [], ◌∷◌, ◌++◌, length, map, codes, Option, Some, None, if◌then◌else◌}
 use Rattle.std.specs.Bool.{MatchBool}
 use Rattle.std.specs.List.{list_any, AllByRecursion}
 use Rattle.std.specs.Str.{bytes_eq}
@@ -74,7 +74,7 @@ SaysNumber name least most ws n = (ws ≡ name ∷ decimal n ∷ []) × (least �
 
 -- no two of these are the same
 abbrev pub AreDifferent : List ℕ → Type 0
-AreDifferent [] = ⊤
+AreDifferent [] = Unit {0}
 AreDifferent (n ∷ ns) = AllByRecursion (λ m. m ≢ n) ns × AreDifferent ns
 
 -- servers that a group of this parity may have, of so many
@@ -246,4 +246,4 @@ IsFirstBad live bytes number kind = Refuses live (length bytes) 1 0 (lines bytes
 -- a refusal names the first bad line and its kind; want of memory needs no cause
 abbrev pub HasCause : Bool → List ℕ → ScriptError → Type 0
 HasCause live bytes (Bad number kind) = IsFirstBad live bytes number kind
-HasCause live bytes Memory = ⊤
+HasCause live bytes Memory = Unit {0}

@@ -1,5 +1,5 @@
 -- What the laws of a slot say.
-use Rattle.std.specs.Prelude.{◌≡◌, ◌↔◌, ℕ, ◌+◌, ◌<◌, ◌≤◌, Bool, List, [], ◌∷◌, ◌⊎◌, All, Option, Some, None, ⊤, if◌then◌else◌}
+use Rattle.std.specs.Prelude.{◌≡◌, ◌↔◌, ℕ, ◌+◌, ◌<◌, ◌≤◌, Bool, List, [], ◌∷◌, ◌⊎◌, All, Option, Some, None, if◌then◌else◌}
 use Rattle.std.specs.Map.{lookup}
 use Rattle.std.specs.BTreeMap.{is_at}
 use Rattle.xfs_base.specs.Steps.{steps}
@@ -35,10 +35,10 @@ CountsTurns epoch turn (Dead ∷ outs) last = CountsTurns epoch turn outs last
 
 -- an input other than a tick, which sends again what bears an earlier turn
 abbrev pub IsNotTick : In → Type 0
-IsNotTick (Want client block inc req again mode end) = ⊤
-IsNotTick (Gave client block stamp end) = ⊤
-IsNotTick (Deltas log first upto rows) = ⊤
-IsNotTick (Check block place) = ⊤
+IsNotTick (Want client block inc req again mode end) = Unit {0}
+IsNotTick (Gave client block stamp end) = Unit {0}
+IsNotTick (Deltas log first upto rows) = Unit {0}
+IsNotTick (Check block place) = Unit {0}
 IsNotTick Tick = ⊥
 
 -- the block is granted, or its copy is to be passed on, by one of these
