@@ -69,7 +69,7 @@ u5 = keeps_horizon u4 (λ l. suc (u4.applied 1 l))
 s5 : IndexSteps u0 u5
 s5 = More s4 (Keeps (λ l. suc (u4.applied 1 l)) (record { rises = λ l. one_le (u4.applied 1) l; applied = λ l. same (λ m. suc (u4.applied 1 m)) l }))
 
-other : u5.top.seq ≡ 1 → ⊥
+other : u5.joined.seq ≡ 1 → ⊥
 other e = omega arith
 
 -- version 5 is answered Dead, which is counted, and is dropped

@@ -41,7 +41,7 @@ pub record IndexPastStays (w u : IndexState) : Type 0 where
   pub head : (l : ℕ) → w.head l ≤ u.head l
   pub version : (l q : ℕ) → q ≤ w.head l → u.version l q ≡ w.version l q
   pub hop : (l q : ℕ) → q ≤ w.head l → u.hop l q ≡ w.hop l q
-  pub top : w.top.version ≤ u.top.version
+  pub joined : w.joined.version ≤ u.joined.version
   pub epoch : w.epoch ≤ u.epoch
   pub reigning : w.reigning ≤ u.reigning
   pub promised : w.promised ≤ u.promised
