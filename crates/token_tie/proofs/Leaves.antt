@@ -178,7 +178,7 @@ module _ (logs : Bool) (g : Setting) (end : ℕ) (w : World) where
       let known = s.mode in let counted = s.counted in
       goes_by logs g end w (asks w g.client (rank mode) (l.req + 1) end) _ _ (record here { want = rank mode; request = l.req + 1 })
       (Asks g.client (rank mode) (l.req + 1) end
-      (record { client = s.client; serving = s.serving; some = some_rank mode some; rank = most_rank mode; less = omega arith; unused = omega arith }) settled)
+      (record { client = s.client; serving = s.serving; some = some_rank mode some; upto_own = most_rank mode; less = omega arith; unused = omega arith }) settled)
       refl refl (λ p is. inr is) (λ y is. is)
       (record {
         client = s.client;
@@ -239,7 +239,7 @@ module _ (logs : Bool) (g : Setting) (end : ℕ) (w : World) where
         record {
           sent = sent.offered seen.1;
           live = record { heard = seen.0; newer = seen.2; wanted = want.0; incarnation = s.incarnation ∙ sym s.boot ∙ sym boot; request = want.1; some = want.2 };
-          rank = refl;
+          of_mode = refl;
         },
       )
 
