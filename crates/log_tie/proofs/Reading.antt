@@ -171,13 +171,13 @@ module _ (g : Setting) (v : State) (book : ℕ → Segment) (hellos : List Asked
 
   -- a reading is seen alike after a question
   asked_reading : (o : Opening) (ask : ℕ) (b : Backward) → ReadingShown g v book o b → ReadingShown g v book (record o { ask = ask }) b
-  asked_reading o ask b h = record { phase = h.phase; mapped = record { map = h.mapped.map; is = h.mapped.is; whole = h.mapped.whole; known = h.mapped.known }; base = h.base; opening = h.opening; low = h.low; past = h.past; from = h.from; chained = h.chained; seq = h.seq; grouped = h.grouped }
+  asked_reading o ask b h = record { phase = h.phase; mapped = record { map = h.mapped.map; taken = h.mapped.taken; whole = h.mapped.whole; known = h.mapped.known }; base = h.base; opening = h.opening; low = h.low; past = h.past; from = h.from; chained = h.chained; seq = h.seq; grouped = h.grouped }
 
   -- all lists are in: the registry is asked
   pub asks_new : (o : Opening) (lists : List Listing) (bound : ℕ) → Framed o → Gathering g v book o bound lists → ((u : ℕ) → 0 < u → u < suc g.servers → has_list u lists ≡ true) → bound ≤ v.low → v.begin_low ≤ bound → Sees (asks_anew o (Asks lists))
   asks_new o lists bound f k every past begun = sees_anew o (Asks lists) f (record {
     bound = bound;
-    gathering = record { phase = k.phase; phantom = k.phantom; mapped = record { map = k.mapped.map; is = k.mapped.is; whole = k.mapped.whole; known = k.mapped.known }; kept = k.kept };
+    gathering = record { phase = k.phase; phantom = k.phantom; mapped = record { map = k.mapped.map; taken = k.mapped.taken; whole = k.mapped.whole; known = k.mapped.known }; kept = k.kept };
     every = every;
     past = past;
     begun = begun;
@@ -196,7 +196,7 @@ module _ (g : Setting) (v : State) (book : ℕ → Segment) (hellos : List Asked
     gives = (
       (
         h.mapped.map,
-        h.mapped.is,
+        h.mapped.taken,
         record {
           phase = h.phase;
           map = h.mapped.whole.seen.whole;
@@ -212,7 +212,7 @@ module _ (g : Setting) (v : State) (book : ℕ → Segment) (hellos : List Asked
   begins_shown : (o : Opening) (b : Backward) (group : Option Group) → known_group o.groups b.next.group ≡ group → Framed o → ReadingShown g v book o b → is_bottom o.low b.next ≡ false → Sees (begins_in o b group)
   begins_shown o b None of f h more = sees_anew o (Reads b None) f (asked_reading o (o.ask + 1) b h, more, tt)
   begins_shown o b (Some group) of f h more =
-      let known : group_of h.mapped.map b.next.group ≡ Some group = ap (λ (gs : Option GroupMapState). known_group gs b.next.group) (sym h.mapped.is) ∙ of in
+      let known : group_of h.mapped.map b.next.group ≡ Some group = ap (λ (gs : Option GroupMapState). known_group gs b.next.group) (sym h.mapped.taken) ∙ of in
       let named = h.mapped.whole.named b.next.group group known in
       sees_fetches (drawn o) b (reading.begun (target_at o.log b.next) group (o.ask + 1)) (framed_drawn o (o.ask + 1) (omega arith) f) (
         asked_reading o (o.ask + 1) b h,

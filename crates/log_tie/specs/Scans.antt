@@ -105,7 +105,7 @@ pub record Phantom (w : State) : Type 0 where
 -- the map that the owner took
 pub record Mapped (g : Setting) (w : State) (groups : Option GroupMapState) : Type 0 where
   pub map : GroupMapState
-  pub is : groups ≡ Some map
+  pub taken : groups ≡ Some map
   pub whole : WholeMap g w.registry_generation map
   pub known : (v : ℕ) → w.owner_generation v ≡ present_at map v
 
