@@ -22,7 +22,8 @@ use Rattle.token_tie.specs.Seen.{Setting, Local, Shows, local_of}
 use Rattle.token_tie.specs.Taken.{Goes, Took}
 use Rattle.token_tie.specs.Inputs as laws
 use Rattle.token_tie.proofs.Frames.{goes_nowhere, goes_through, shown_on, end_on}
-use Rattle.token_tie.proofs.Leaves.{equal_numbers, promises-goes, drops_promised-goes}
+use Rattle.token_tie.proofs.Leaves.{promises-goes, drops_promised-goes}
+use Rattle.token_tie.proofs.SmallFacts.{equal_numbers}
 use Rattle.token_tie.proofs.Elsewhere.{apart_took, ask-apart, ask_again-apart}
 use Rattle.token_tie.proofs.Takes.{at_block, unheld_rank, ask-there, ask_again-there}
 use Rattle.xfs_base.specs.Modes.{is_held}

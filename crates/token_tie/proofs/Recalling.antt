@@ -16,7 +16,8 @@ use Rattle.token_tie.specs.Seen.{Setting, Local, Shows, SentRecall, recall_seen,
 use Rattle.token_tie.specs.Taken.{ByClient, Goes, Took}
 use Rattle.token_tie.specs.Inputs as laws
 use Rattle.token_tie.proofs.Frames.{goes_nowhere, goes_through, shown_on, epoch_on, end_on}
-use Rattle.token_tie.proofs.Leaves.{equal_numbers, drops_fetch-goes, put_off-goes, gives-goes, gives_again-goes, asks-goes}
+use Rattle.token_tie.proofs.Leaves.{drops_fetch-goes, put_off-goes, gives-goes, gives_again-goes, asks-goes}
+use Rattle.token_tie.proofs.SmallFacts.{equal_numbers}
 use Rattle.token_tie.proofs.Takes.{unheld_rank, lifted}
 use Rattle.xfs_base.specs.Stamps.{is_later}
 use Rattle.xfs_base.proofs.Booleans.{and_first, and_second, by_test, contrary}
