@@ -1,4 +1,5 @@
--- Counting the members that a flag names: fewer than all of them leave one that it doesn't. So the premise on losses follows where no more than the spare members were hurt.
+-- Counting the members that a flag names: fewer than all of them leave one that it doesn't. So the premise on losses follows where no more than the
+-- spare members were hurt.
 use Rattle.std.proofs.Common.{◌≡◌, ℕ, zero, suc, ◌<◌, ◌≤◌, refl, arith}
 use Rattle.log_protocol.specs.Counting.{count, NotAllHurt}
 use Rattle.log_protocol.specs.State.{State}

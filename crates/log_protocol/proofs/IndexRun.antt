@@ -1,4 +1,5 @@
--- A run of the index of a block, as a term: two versions, an activation, a merge, a horizon, a Dead, its counting, a drop, a move, a promise, a second activation, a copy.
+-- A run of the index of a block, as a term: two versions, an activation, a merge, a horizon, a Dead, its counting, a drop, a move, a promise, a
+-- second activation, a copy.
 -- Log 1 is a client's, log 2 the cleaner's; the manager of epoch 1 is followed by that of epoch 2.
 use Rattle.std.proofs.Common.{◌≡◌, ℕ, suc, ◌≤◌, refl, arith}
 use Rattle.std.proofs.lemmas.Bool.Decides.{nat_tests}

@@ -17,7 +17,8 @@ pub record IndexIsJoin (w : IndexState) : Type 0 where
 abbrev pub CleaningLosesNothing : IndexState → Type 0
 CleaningLosesNothing w = (l q : ℕ) → w.dropped l q ≡ 1 → 0 < w.version l q → w.joined.log ≡ l → w.joined.seq ≡ q → ⊥
 
--- Dead stays dead for whom it was counted: a row of which a Dead was counted is named by no manager that is active at that epoch or a later one, unless a newer version is filed. Only such rows are dropped.
+-- Dead stays dead for whom it was counted: a row of which a Dead was counted is named by no manager that is active at that epoch or a later one,
+-- unless a newer version is filed. Only such rows are dropped.
 pub record DeadStays (w : IndexState) : Type 0 where
   pub counted : (l q : ℕ) → w.dropped l q ≡ 1 → 0 < w.dead_at l q
   pub reigned : (l q : ℕ) → 0 < w.dead_at l q → w.dead_at l q ≤ w.reigning

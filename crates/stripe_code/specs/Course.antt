@@ -11,7 +11,8 @@ use Rattle.stripe_code.specs.declared.target.Target.{Target}
 use Rattle.stripe_code.specs.Lost.{missing_twice}
 use Rattle.stripe_code.specs.Reading.{ReadingState, Step, begun, on_answer, on_confirmed}
 
--- a server told something in answer to a question, where the reader knew these groups; or the reader's own question was answered alike, and a further one is drawn
+-- a server told something in answer to a question, where the reader knew these groups; or the reader's own question was answered alike, and a further
+-- one is drawn
 pub data Event : Type 0 where
   Answered : GroupMapState → ℕ → ℕ → Told → Event
   Alike : ℕ → Event
@@ -55,7 +56,8 @@ Decides Between next missed = (next ≡ Ask) × (missed → ⊥)
 Decides Doubted next missed = (next ≡ Lost) × missed
 Decides Over next missed = next ≡ Wait
 
--- Over any course: where the reader's own question is out and is answered alike, the segment is lost exactly where the last two rounds missed it; else a further round begins. While a round is on, or when all is over, nothing is lost.
+-- Over any course: where the reader's own question is out and is answered alike, the segment is lost exactly where the last two rounds missed it;
+-- else a further round begins. While a round is on, or when all is over, nothing is lost.
 abbrev pub IsLostExactly : Type 0
 IsLostExactly = (target : Target) (group : Group) (ask next : ℕ) (events : List Event) →
     let c = course_of target group ask events in Decides c.reading.stage (transition c.reading (Alike next)).next (MissedTwice group.parity c.ended)
