@@ -31,7 +31,8 @@ pub record Page (g : Setting) (x : ℕ) (s : Segment) (text count : ℕ) (server
 
 -- the book: of each booked name the segment
 abbrev pub Book : Setting → State → (ℕ → Segment) → Type 0
-Book g w book = (x : ℕ) → w.booked x ≡ 1 → Page g x (book x) (w.text_of x) (w.member_count x) (w.member_server x) (w.member_generation x) (w.prior_of x) (w.content_of x)
+Book g w book =
+    (x : ℕ) → w.booked x ≡ 1 → Page g x (book x) (w.text_of x) (w.member_count x) (w.member_server x) (w.member_generation x) (w.prior_of x) (w.content_of x)
 
 -- a segment in flight
 pub record Flying (g : Setting) (book : ℕ → Segment) (f : FlightState) (inc seq booked flight : ℕ) (noted : ℕ → ℕ) : Type 0 where
@@ -167,4 +168,5 @@ pub record Standing : Type 0 where
   pub clean : ℕ
 
 abbrev pub standing_of : State → Standing
-standing_of w = record { phase = w.phase; end = w.end; base = w.base; opening_seq = w.opening_seq; read_low = w.read_low; pick_low = w.pick_low; clean = w.clean }
+standing_of w =
+    record { phase = w.phase; end = w.end; base = w.base; opening_seq = w.opening_seq; read_low = w.read_low; pick_low = w.pick_low; clean = w.clean }

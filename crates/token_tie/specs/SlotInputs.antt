@@ -36,4 +36,6 @@ Brings logs b w s Tick = Unit {0}
 
 -- Each input of a slot is taken by steps of the manager.
 abbrev pub SlotTakes : Type 0
-SlotTakes = (logs : Bool) (b : BlockId) (w : World) (s : SlotState) (input : inputs.In) → Reached s → Manages b s w → Brings logs b w s input → Runs logs b w (transition s input)
+SlotTakes =
+    (logs : Bool) (b : BlockId) (w : World) (s : SlotState) (input : inputs.In) → Reached s → Manages b s w → Brings logs b w s input
+    → Runs logs b w (transition s input)
