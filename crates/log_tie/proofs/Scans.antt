@@ -67,7 +67,7 @@ module _ (g : Setting) (w : State) (book : ℕ → Segment) (hellos : List Asked
 
   -- by these steps
   goes_by : (v : State) (d : Done) → Steps w v → ByOwner g w v book book → Book g v book → v.end ≡ w.end → Sees g v book hellos d → To d
-  goes_by v d steps by pages same shows = record { world = v; later = book; steps = steps; frame = by; paged = pages; shows = shows; said = tt; top = inl same }
+  goes_by v d steps by pages same shows = record { world = v; later = book; steps = steps; frame = by; paged = pages; shows = shows; said = tt; end_follows = inl same }
 
   -- by none
   goes_still : (d : Done) → Sees g w book hellos d → To d

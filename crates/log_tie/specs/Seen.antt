@@ -136,8 +136,8 @@ pub record ByOwner (g : Setting) (w v : State) (book later : ℕ → Segment) : 
   pub calm : g.doubts ≡ false → w.clean ≡ 1 → v.clean ≡ 1
 
 -- the end stays, or is what was filed
-abbrev pub Topped : Setting → State → State → List Out → Type 0
-Topped g w v outs = (v.end ≡ w.end) ⊎ In (name_of g v.end) (log_filed g.log outs)
+abbrev pub EndFollows : Setting → State → State → List Out → Type 0
+EndFollows g w v outs = (v.end ≡ w.end) ⊎ In (name_of g v.end) (log_filed g.log outs)
 
 -- By steps of the owner the state becomes one in which P holds, with a book, and in which what is given was sent.
 pub record Goes (g : Setting) (w : State) (book : ℕ → Segment) (P : State → (ℕ → Segment) → Type 0) (outs : List Out) : Type 0 where
@@ -148,7 +148,7 @@ pub record Goes (g : Setting) (w : State) (book : ℕ → Segment) (P : State �
   pub paged : Book g world later
   pub shows : P world later
   pub said : AllSaid g world.booked later world.stores world.filed outs
-  pub top : Topped g w world outs
+  pub end_follows : EndFollows g w world outs
 
 -- what is known of every state that a run of machines shows
 pub record Fixed (g : Setting) (w : State) : Type 0 where
