@@ -11,7 +11,6 @@ use Rattle.token_protocol.specs.Basics.{put}
 use Rattle.token_protocol.specs.Client.{Client}
 use Rattle.token_protocol.specs.Entry as abstract_entry
 use Rattle.token_protocol.specs.Stamps.{Node, Seen, Exceeds}
-use Rattle.token_protocol.proofs.StampsSeen.{promised}
 use Rattle.token_tie.specs.Seen.{WantShown, FetchShown, rank, kept, stamp_seen}
 use Rattle.xfs_base.specs.Modes.{is_held, is_own, same_mode}
 use Rattle.xfs_base.specs.Stamps.{is_later}
