@@ -16,10 +16,10 @@ use Rattle.group_map.specs.GroupMapState.{GroupMapState}
 use Rattle.node_base.specs.declared.effects.Effect.{Effect}
 use Rattle.node_base.specs.declared.questions.Asked.{Asked}
 use Rattle.node_base.specs.declared.questions.Questions.{Questions}
-use Rattle.takeover.specs.declared.events.In.{In as Input}
-use Rattle.takeover.specs.declared.events.In.TheVariants as input
-use Rattle.takeover.specs.declared.events.Out.{Out}
-use Rattle.takeover.specs.declared.events.Out.TheVariants as out
+use Rattle.takeover.specs.declared.input.In.{In as Input}
+use Rattle.takeover.specs.declared.input.In.TheVariants as input
+use Rattle.takeover.specs.declared.output.Out.{Out}
+use Rattle.takeover.specs.declared.output.Out.TheVariants as out
 use Rattle.takeover.specs.declared.report.Report.{Report as Heard}
 use Rattle.takeover.specs.Reports.{beliefs_of, applied_of}
 use Rattle.takeover.specs.TakeState.{TakeState, started}

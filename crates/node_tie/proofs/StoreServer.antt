@@ -6,10 +6,10 @@ use Rattle.std.specs.Prelude.{◌==◌}
 use Rattle.fragment_store.specs.Calls.{store_refused, on_fence as fenced_at}
 use Rattle.fragment_store.specs.ShelfState.{ShelfState, fence_of, held_at}
 use Rattle.group_map.specs.GroupMapState.{GroupMapState}
-use Rattle.group_rebuild.specs.declared.events.In.{In}
-use Rattle.group_rebuild.specs.declared.events.In.TheVariants as input
-use Rattle.group_rebuild.specs.declared.events.Out.{Out}
-use Rattle.group_rebuild.specs.declared.events.Out.TheVariants as out
+use Rattle.group_rebuild.specs.declared.input.In.{In}
+use Rattle.group_rebuild.specs.declared.input.In.TheVariants as input
+use Rattle.group_rebuild.specs.declared.output.Out.{Out}
+use Rattle.group_rebuild.specs.declared.output.Out.TheVariants as out
 use Rattle.group_rebuild.specs.Transition.{transition}
 use Rattle.node_base.specs.Beginning.{answers_unanswered, begun, next_item, work_at}
 use Rattle.node_base.specs.Known.{names_known}
