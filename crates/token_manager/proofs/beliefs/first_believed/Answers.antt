@@ -1,3 +1,4 @@
+-- Where the walk meets no client of a block at once, none is believed to hold it.
 use Rattle.std.proofs.Common.{◌∙◌, ap, sym, subst, List, Bool}
 use Rattle.std.specs.declared.ops.Bound.TheVariants.{Included, Unbounded}
 use Rattle.std.specs.List.{filter}

@@ -1,3 +1,4 @@
+-- A belief about the block that goes leaves those about other blocks.
 use Rattle.std.proofs.Common.{◌∙◌, ap}
 use Rattle.token_manager.specs.Beliefs.{without_block}
 use Rattle.token_manager.proofs.Together.{without_removed}

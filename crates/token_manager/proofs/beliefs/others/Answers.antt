@@ -1,3 +1,4 @@
+-- The walk from the first of all clients of a block on lists the others.
 use Rattle.std.proofs.Common.{◌∙◌, ap, ◌++◌, List, ℕ, Bool}
 use Rattle.std.specs.declared.ops.Bound.TheVariants.{Included, Unbounded}
 use Rattle.std.specs.List.{filter}
