@@ -70,6 +70,10 @@ heard (phase.Broken epoch seg) given = still (phase.Broken epoch seg)
 unfoldable pub takes : Asker → ℕ → In → Done
 takes a slot given = says_each slot (record a { phase = (heard a.phase given).state }) (heard a.phase given).outs
 
+-- newer groups
+abbrev pub told_groups : GroupMapState → In
+told_groups groups = input.Maps groups
+
 abbrev pub is_poll : Out → Bool
 is_poll (out.Poll to) = true
 is_poll (out.Fetch server name own) = false
