@@ -26,10 +26,10 @@ use Rattle.xfs_base.proofs.Booleans.{by_test}
 use Rattle.xfs_base.specs.declared.node.NodeId.TheVariants.{Cleaner as TheCleaner}
 use Rattle.xfs_base.specs.Steps.{still}
 use Rattle.node_tie.specs.Sight.{CleanerSends}
-use Rattle.node_tie.specs.StoreEvents.{Says, AllSay, PacketsSay}
+use Rattle.node_tie.specs.StoreEvents.{NoneFalls, Says, AllSay, PacketsSay}
 use Rattle.node_tie.proofs.CleanerEmptying.{deltas_pushed, cleaning_wished, packet_heard, time_passes}
 use Rattle.node_tie.proofs.OpeningSends.{start_does, packet_does, tick_does, cleaner_opening}
-use Rattle.node_tie.proofs.StoreFrames.{all_append, answers_say, packets_say, packets_from}
+use Rattle.node_tie.proofs.StoreFrames.{all_append, answers_say, none_falls, packets_say, packets_from}
 
 -- each effect of the step is no packet, or one that the cleaner sends
 abbrev GoesWell : Went_to → Type 0
@@ -130,8 +130,11 @@ taken_so : (peers : Peers) (phase : Phase) (what : Do) → GoesWell (takes peers
 taken_so peers phase what = by_test GoesWell (phase_room phase) (happens peers phase what) (still phase) (λ t. happened peers phase what) (λ t. tt)
 
 -- whatever happens to the cleaner, its packets are such as the cleaner sends
-pub cleaner_sends : (cleaner : Cleaner) (what : Do) → PacketsSay CleanerSends (cleaner_step cleaner what).packets
-cleaner_sends cleaner what = packets_say CleanerSends TheCleaner (takes cleaner.peers cleaner.phase what).outs (taken_so cleaner.peers cleaner.phase what)
+pub cleaner_sends : (cleaner : Cleaner) (what : Do) → PacketsSay CleanerSends (cleaner_step cleaner what).packets × NoneFalls (cleaner_step cleaner what).acts
+cleaner_sends cleaner what = (
+  packets_say CleanerSends TheCleaner (takes cleaner.peers cleaner.phase what).outs (taken_so cleaner.peers cleaner.phase what),
+  none_falls (Says CleanerSends) TheCleaner (λ act is. is) (takes cleaner.peers cleaner.phase what).outs (taken_so cleaner.peers cleaner.phase what),
+)
 
 pub cleaner_from : (cleaner : Cleaner) (what : Do) → All (λ (p : Packet). p.from ≡ TheCleaner) (cleaner_step cleaner what).packets
 cleaner_from cleaner what = packets_from TheCleaner (takes cleaner.peers cleaner.phase what).outs

@@ -6,7 +6,7 @@ use Rattle.std.proofs.lemmas.Bool.Decides.{nat_tests}
 use Rattle.std.proofs.lemmas.List.{get_or-set_same, get_or-set_other}
 use Rattle.std.proofs.lemmas.List.Elements.{All-from_recursion, All-weaker}
 use Rattle.std.proofs.Math.ListN.{length-set}
-use Rattle.log_owner.specs.Behaves.{MaySay, MayDo}
+use Rattle.log_owner.specs.Behaves.{MayAct, MaySay, MayDo}
 use Rattle.log_owner.specs.declared.ended.Owner.{Owner}
 use Rattle.log_owner.specs.declared.opening.Stage.{Stage}
 use Rattle.log_owner.specs.declared.opening.Stage.TheVariants as stage
@@ -17,13 +17,15 @@ use Rattle.node_base.specs.declared.effects.Effect.{Effect}
 use Rattle.node_base.specs.declared.effects.Effect.TheVariants.{Send, Answer, Lose, Does}
 use Rattle.node_base.specs.Shape.{are_from}
 use Rattle.token_client.specs.State.{epoch_of}
+use Rattle.version_model.specs.declared.act.Act.{Act}
+use Rattle.version_model.specs.declared.act.Act.TheVariants as act
 use Rattle.wire_msg.specs.declared.body.Body.{Body}
 use Rattle.wire_msg.specs.declared.body.Body.TheVariants as body
 use Rattle.xfs_base.proofs.Booleans.{by_test, and_first, and_second}
 use Rattle.xfs_base.specs.declared.news.SlotNews.{SlotNews}
 use Rattle.xfs_base.specs.declared.node.NodeId.{NodeId}
 use Rattle.node_tie.specs.ClientEvents.{AwaitsFirst}
-use Rattle.node_tie.specs.Sight.{ClientDoes, ClientSends}
+use Rattle.node_tie.specs.Sight.{ClientDoes, ClientSends, IsNoFall}
 use Rattle.node_tie.proofs.ClientFrames.{Plain}
 
 -- ---- what it says
@@ -63,11 +65,15 @@ module _ (part c life : ℕ) (owner : Owner) (same : owner.inc ≡ life) where
   may_say to (body.CkptDone m) h = h
   may_say to (body.CkptAck m) h = h
 
+  no_fall : (a : Act) → MayAct a → IsNoFall a
+  no_fall (act.Fell client flight falls) h = h
+  no_fall _ h = tt
+
   may_do : (e : Effect) → MayDo owner e → ClientDoes part [] c life e
   may_do (Send to b) h = may_say to b h
   may_do (Answer item answer) h = tt
   may_do (Lose seg) h = tt
-  may_do (Does act) h = tt
+  may_do (Does a) h = no_fall a h
 
   pub plain_does : (es : List Effect) → AllByRecursion (MayDo owner) es → Plain part c life es
   plain_does es h = All-weaker (MayDo owner) (ClientDoes part [] c life) may_do es (All-from_recursion (MayDo owner) es h)

@@ -79,7 +79,7 @@ module _ (members part most life : ℕ) where
   does_on n m grows (Send to b) h = sends_on n m grows to b h
   does_on n m grows (Answer item answer) h = tt
   does_on n m grows (Lose seg) h = tt
-  does_on n m grows (Does act) h = tt
+  does_on n m grows (Does act) h = h
 
   pub done_on : (n m : Net) → Grows n m → (outs : List Effect) → AllDone n outs → AllDone m outs
   done_on n m grows outs h = all_weaker (DoesAt n) (DoesAt m) (does_on n m grows) outs h

@@ -10,8 +10,8 @@ use Rattle.node_base.specs.declared.effects.Effect.{Effect}
 use Rattle.node_base.specs.Effects.{packets_of}
 use Rattle.node_tie.proofs.ManagerFrames.{manager_on}
 use Rattle.node_tie.specs.AskingEvents.{PhaseAsks}
-use Rattle.node_tie.specs.ClientEvents.{ClientAgrees, ClientGoes, ClientStands, WelcomeRises}
-use Rattle.node_tie.specs.Sight.{ClientDoes, ClientSends}
+use Rattle.node_tie.specs.ClientEvents.{ClientAgrees, ClientDid, ClientGoes, ClientStands, WelcomeRises}
+use Rattle.node_tie.specs.Sight.{ClientSends}
 use Rattle.store_nodes.specs.declared.registry_node.RegistryNode.{RegistryNode}
 use Rattle.token_client.specs.State.{TokensState, epoch_of}
 use Rattle.token_law.specs.Net.{Net}
@@ -116,7 +116,7 @@ module _ (k : Cluster) (part : ℕ) (RegistrySound : RegistryNode → Type 0) (n
 
   new_facts : (q : Packet) → In q (map (sent_at clock) (packets_of (Client (lasting_of (s.client c).phase).number) w.outs)) → Fact k part client_scene q
   new_facts q h =
-      sends (Client (lasting_of (s.client c).phase).number) clock (ClientDoes part go.next.sent c (lasting_of w.state).inc) (Fact k part client_scene)
+      sends (Client (lasting_of (s.client c).phase).number) clock (ClientDid part c s.net go.next.sent (lasting_of w.state).inc w.state) (Fact k part client_scene)
       (λ to m does. fact_of (lasting_of (s.client c).phase).number (number_is part c s.net (s.client c).phase (st.clients c some within).0) to m does) w.outs go.does q h
     where
       life_here : life_of_client client_scene c ≡ (lasting_of w.state).inc

@@ -36,7 +36,7 @@ all_in K xs each = λ i d less. each (get_or xs i d) (in_get xs i d less)
 module _ (k : Cluster) (part : ℕ) (s : Scene) where
   -- ---- who may have sent it
 
-  grant_told : (from to : NodeId) (m : Grant) → SentBy k part s from to (body.Grant m) → GrantSeen part s.net.sent to m
+  pub grant_told : (from to : NodeId) (m : Grant) → SentBy k part s from to (body.Grant m) → GrantSeen part s.net.sent to m
   grant_told (Client c) to m h = absurd h.2
   grant_told (Manager j) to m h = h.2
   grant_told (Server n) to m h = absurd h

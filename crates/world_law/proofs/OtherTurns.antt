@@ -26,7 +26,7 @@ use Rattle.world_law.specs.Owners.{node_in}
 use Rattle.xfs_base.specs.declared.node.NodeId.{NodeId}
 use Rattle.xfs_base.specs.declared.node.NodeId.TheVariants.{Client, Manager, Server, Cleaner, Registry}
 
-equal_or_not : (n m : ℕ) → (n ≡ m) ⊎ (n ≡ m → ⊥)
+pub equal_or_not : (n m : ℕ) → (n ≡ m) ⊎ (n ≡ m → ⊥)
 equal_or_not n m = elim (n == m) as (λ t. (n == m) ≡ t → (n ≡ m) ⊎ (n ≡ m → ⊥)) [ true ↦ λ h. inl (same n m h) | false ↦ λ h. inr (λ e. grind (arith, nat_tests)) ] refl
   where
     same : (n m : ℕ) → (n == m) ≡ true → n ≡ m

@@ -9,12 +9,16 @@ use Rattle.node_base.specs.Setups.{IsSetup}
 use Rattle.node_tie.specs.ManagerEvents.{slot_in}
 use Rattle.registry.specs.Slots.{entry_of}
 use Rattle.token_client.specs.State.{TokensState, epoch_of, held_of, is_in_slot}
+use Rattle.token_client.specs.Transition.{accepts}
 use Rattle.token_manager.specs.Laws.{share_of}
 use Rattle.token_manager.specs.SlotState.{SlotState}
 use Rattle.token_tie.specs.Seen.{rank}
+use Rattle.wire_msg.specs.declared.body.Body.TheVariants as body
+use Rattle.wire_msg.specs.declared.packet.Packet.{Packet}
+use Rattle.wire_msg.specs.declared.tokens.Grant.{Grant}
 use Rattle.world_base.specs.declared.estate.Estate.{Estate}
 use Rattle.world_base.specs.declared.world.World.{World}
-use Rattle.world_base.specs.Runs.{IsRun}
+use Rattle.world_base.specs.Runs.{IsRun, WasSent}
 use Rattle.world_law.specs.Owners.{moment, node_named, tokens_at}
 use Rattle.xfs_base.specs.declared.block.BlockId.{BlockId}
 use Rattle.xfs_base.specs.declared.node.NodeId.TheVariants as nodes
@@ -60,8 +64,15 @@ pub record HasOneManager (w : World AnyNode) (part : ℕ) : Type 0 where
   -- who manages it at the registry's epoch believes of each client that serves at least what that holds
   pub believed : (j c : ℕ) (s : SlotState) (t : TokensState) (b : BlockId) → active_at w part j ≡ Some s → s.epoch ≡ epoch_at w part → tokens_at w c ≡ Some t
       → is_in_slot part b ≡ true → rank (held_of t.blocks b).mode ≤ share_of s.beliefs b c
+  -- and what a Grant that was sent to it would give, where it would still accept that
+  pub acceptable : (j c : ℕ) (s : SlotState) (t : TokensState) (packet : Packet) (m : Grant) → active_at w part j ≡ Some s → s.epoch ≡ epoch_at w part → tokens_at w c ≡ Some t
+      → WasSent w.sent packet → packet.to ≡ nodes.Client c → packet.body ≡ body.Grant m → is_in_slot part m.block ≡ true
+      → accepts t m.block m.stamp m.inc m.req m.mode ≡ true → rank m.mode ≤ share_of s.beliefs m.block c
+
+-- at each moment of a run each slot has one manager at an epoch at most
+abbrev pub OneManagerThroughout : Estate AnyNode → Type 0
+OneManagerThroughout e = (count part : ℕ) → part < 8 → HasOneManager (moment e count) part
 
 -- Each run of a script of whose setup a run can be started has one manager of each slot, at each of its moments.
 abbrev pub EveryRunHasOneManager : Type 0
-EveryRunHasOneManager =
-    (e : Estate AnyNode) → IsSetup e.script.setup → IsRun any_step any_start e.script e.events e.world → (count part : ℕ) → part < 8 → HasOneManager (moment e count) part
+EveryRunHasOneManager = (e : Estate AnyNode) → IsSetup e.script.setup → IsRun any_step any_start e.script e.events e.world → OneManagerThroughout e

@@ -13,5 +13,5 @@ returns c = record {
     registry = c.other_events_are_seen.ensures.events;
     server = c.other_events_are_seen.ensures.servers;
     cleaner = c.other_events_are_seen.ensures.cleaner;
-  }) c.tokens_keep_their_word.ensures.promised c.tokens_keep_their_word.ensures.believed;
+  }) c.tokens_keep_their_word.ensures.promised c.tokens_keep_their_word.ensures.believed c.tokens_keep_their_word.ensures.acceptable;
 }
