@@ -1,6 +1,5 @@
 -- The beliefs about one block stand together in their order, so a walk from the first of them on meets them all.
 use Rattle.std.proofs.Common.{◌≡◌, ℕ, Bool, true, false, cond, not, ◌&&◌, ◌||◌, ◌==◌, if◌then◌else◌, List, [], ◌∷◌, refl, sym, ap, ◌∙◌, arith, zero, suc}
-use Rattle.std.specs.Prelude.{⊤}
 use Rattle.std.specs.declared.cmp.Ordering.{Ordering}
 use Rattle.std.specs.declared.cmp.Ordering.TheVariants.{Less, Equal, Greater}
 use Rattle.std.specs.declared.ops.Bound.TheVariants.{Included, Unbounded}
@@ -30,7 +29,7 @@ NoneOf block es = AllByRecursion (λ e. same_block e.0.block block ≡ false) es
 
 -- the first belief is about another block, or there is none
 abbrev pub StartsPast : BlockId → List (Holder × Bool) → Type 0
-StartsPast block [] = ⊤
+StartsPast block [] = Unit {0}
 StartsPast block (e ∷ es) = same_block e.0.block block ≡ false
 
 -- the other clients of a block, up to the first belief about another

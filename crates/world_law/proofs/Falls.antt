@@ -21,7 +21,7 @@ use Rattle.version_model.specs.declared.act.Act.{Act}
 use Rattle.version_model.specs.declared.act.Act.TheVariants as act
 use Rattle.version_model.specs.declared.act.Fall.{Fall}
 use Rattle.version_model.specs.declared.history.FallTold.{FallTold}
-use Rattle.version_model.specs.Effects.{after, change, cut_to, history_after, holds_flight, pin, settle, settle_falls}
+use Rattle.version_model.specs.Effects.{after_act, change, cut_to, history_after, holds_flight, pin, settle, settle_falls}
 use Rattle.version_model.specs.History.{History, is_by_other, nothing_yet}
 use Rattle.world_law.proofs.OtherTurns.{equal_or_not}
 use Rattle.world_law.proofs.Sent.{in_append}
@@ -44,7 +44,7 @@ settle_told chain (t ∷ ts) h =
 
 history_append : (xs ys : List Act) (h : History) → history_after (xs ++ ys) h ≡ history_after ys (history_after xs h)
 history_append [] ys h = refl
-history_append (x ∷ xs) ys h = history_append xs ys (after x h)
+history_append (x ∷ xs) ys h = history_append xs ys (after_act x h)
 
 itself : (n : ℕ) → (n == n) ≡ true
 itself n = grind (arith, nat_tests)
@@ -56,7 +56,7 @@ module _ (F : ℕ → BlockId → Type 0) where
   Falls _ = Unit {0}
 
   -- a fall that waits after an act waited before, or is the act's
-  one_told : (a : Act) (h : History) (c : ℕ) (b : BlockId) → Falls a → Names b ((after a h).told c) → Names b (h.told c) ⊎ F c b
+  one_told : (a : Act) (h : History) (c : ℕ) (b : BlockId) → Falls a → Names b ((after_act a h).told c) → Names b (h.told c) ⊎ F c b
   one_told (act.Wrote client block value) h c b right names = inl names
   one_told (act.Read client block ver value) h c b right names =
       by_test (λ (x : History). Names b (x.told c) → Names b (h.told c) ⊎ F c b) (is_by_other client ver (h.of_block block).versions) (change block (pin ver) h) h
@@ -84,17 +84,17 @@ module _ (F : ℕ → BlockId → Type 0) where
   pub all_told : (acts : List Act) (h : History) (c : ℕ) (b : BlockId) → All Falls acts → Names b ((history_after acts h).told c) → Names b (h.told c) ⊎ F c b
   all_told [] h c b right names = inl names
   all_told (a ∷ acts) h c b right names =
-      ⊎_elim (λ old. one_told a h c b (All-head Falls a acts right) old) inr (all_told acts (after a h) c b (All-tail Falls a acts right) names)
+      ⊎_elim (λ old. one_told a h c b (All-head Falls a acts right) old) inr (all_told acts (after_act a h) c b (All-tail Falls a acts right) names)
 
   -- none waits once its client is back
   pub back_told : (acts : List Act) (h : History) (c : ℕ) (b : BlockId) (chain : List SegName) → In (act.Back c chain) acts → All Falls acts → (F c b → ⊥) → Names b ((history_after acts h).told c) → ⊥
   back_told [] h c b chain is right none names = is
   back_told (a ∷ acts) h c b chain (inl same) right none names =
-      ⊎_elim (λ old. over (subst (λ (x : Act). Names b ((after x h).told c)) (sym same) old)) none (all_told acts (after a h) c b (All-tail Falls a acts right) names)
+      ⊎_elim (λ old. over (subst (λ (x : Act). Names b ((after_act x h).told c)) (sym same) old)) none (all_told acts (after_act a h) c b (All-tail Falls a acts right) names)
     where
-      over : Names b ((after (act.Back c chain) h).told c) → ⊥
+      over : Names b ((after_act (act.Back c chain) h).told c) → ⊥
       over n = (subst (λ t. Names b (if t then [] else (settle chain (h.told c) h).told c)) (itself c) n).among
-  back_told (a ∷ acts) h c b chain (inr later) right none names = back_told acts (after a h) c b chain later (All-tail Falls a acts right) none names
+  back_told (a ∷ acts) h c b chain (inr later) right none names = back_told acts (after_act a h) c b chain later (All-tail Falls a acts right) none names
 
 in_behind : {X : Type 0} (x : X) (xs ys : List X) → In x ys → In x (xs ++ ys)
 in_behind x [] ys is = is
