@@ -1,3 +1,5 @@
+mod Chains
 mod Rows
 mod Slots
 mod Tables
+mod Takeovers

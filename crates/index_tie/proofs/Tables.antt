@@ -1,5 +1,5 @@
 -- Tables changed at one place.
-use Rattle.std.proofs.Common.{◌≡◌, ℕ, ◌==◌, Bool, true, false, cond, sym, refl, subst, arith}
+use Rattle.std.proofs.Common.{◌≡◌, ℕ, ◌<◌, ◌≤◌, ◌==◌, nat_lt, nat_le, Bool, true, false, cond, sym, refl, subst, arith}
 use Rattle.std.proofs.lemmas.Bool.Decides.{nat_tests}
 use Rattle.log_protocol.specs.Tables.{put}
 
@@ -24,3 +24,25 @@ put_each P f c x here there d = by (d == c) (λ e. grind (arith, nat_tests, e)) 
     by : (t : Bool) → (t ≡ true → d ≡ c) → (t ≡ false → d ≡ c → ⊥) → P d (cond t x (f d))
     by true same other = subst (λ e. P e x) (sym (same refl)) here
     by false same other = there d (other refl)
+
+-- the two outcomes of a test
+pub first_of : {X : Type 0} (t : Bool) (x y : X) → t ≡ true → cond t x y ≡ x
+first_of true x y is = refl
+first_of false x y is = absurd (cc)
+
+pub second_of : {X : Type 0} (t : Bool) (x y : X) → t ≡ false → cond t x y ≡ y
+second_of true x y is = absurd (cc)
+second_of false x y is = refl
+
+-- what tests say
+pub within_is : (a b : ℕ) → nat_le a b ≡ true → a ≤ b
+within_is a b is = grind (arith, nat_tests)
+
+pub past_is : (a b : ℕ) → nat_le a b ≡ false → b < a
+past_is a b is = grind (arith, nat_tests)
+
+pub less_is : (a b : ℕ) → a < b → nat_lt a b ≡ true
+less_is a b less = grind (arith, nat_tests)
+
+pub not_less_is : (a b : ℕ) → b ≤ a → nat_lt a b ≡ false
+not_less_is a b least = grind (arith, nat_tests)

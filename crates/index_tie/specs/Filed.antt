@@ -3,6 +3,8 @@ use Rattle.std.specs.Prelude.{◌≡◌, ℕ, suc, ◌-◌, ◌<◌, ◌≤◌, 
 use Rattle.std.specs.List.{AllByRecursion, flat_map, range_with_len}
 use Rattle.xfs_base.specs.declared.block.BlockId.{BlockId}
 use Rattle.xfs_base.specs.declared.entry.Entry.{Entry}
+use Rattle.segment_format.specs.declared.segment.Item.{Item}
+use Rattle.segment_format.specs.declared.segment.Item.TheVariants.{Block, Delta, Part}
 use Rattle.segment_format.specs.declared.segment.Segment.{Segment}
 use Rattle.segment_format.specs.Rows.{rows_of}
 use Rattle.delta_index.specs.Entries.{no_entry}
@@ -27,12 +29,19 @@ row_at f b l q = join (rows_at f l q) b
 abbrev pub rows_between : Filed → ℕ → ℕ → ℕ → List (BlockId × Entry)
 rows_between f l first upto = flat_map (rows_at f l) (range_with_len first (suc upto - first))
 
--- a segment bears its log and its seq, some incarnation wrote it, and its Deltas are of versions from 1 on
+-- no part of a checkpoint
+abbrev pub IsNoPart : Item → Type 0
+IsNoPart (Block block value) = Unit {0}
+IsNoPart (Delta block ver hop item) = Unit {0}
+IsNoPart (Part slot rows) = ⊥
+
+-- a segment bears its log and its seq, some incarnation wrote it, its Deltas are of versions from 1 on, and it has no part of a checkpoint
 pub record IsSegment (l q : ℕ) (s : Segment) : Type 0 where
   pub log : s.name.log.0 ≡ l
   pub seq : s.name.seq ≡ q
   pub boot : 0 < s.name.pass.inc
   pub versions : AllByRecursion (λ row. 0 < row.1.ver) (rows_of s)
+  pub no_parts : AllByRecursion IsNoPart s.items
 
 -- just logs 1 to 9 file what is said of blocks
 pub record IsFiled (f : Filed) : Type 0 where

@@ -4,8 +4,14 @@
 #![tactic(auto)]
 
 ghost use Rattle.index_tie.specs.Slots.{AppliesAreMerges};
+ghost use Rattle.index_tie.specs.Takeovers.{TakeoversAreActivations};
 
 /// What a slot does on an input is, at each block, a list of steps of its manager: Deltas that it applies are one merge, all else is no step.
 pub fn applies_are_merges()
     ensures { AppliesAreMerges }
+{}
+
+/// When a takeover hands a slot out, the slot that starts with what it hands out is, at each block of it, an activation.
+pub fn takeovers_are_activations()
+    ensures { TakeoversAreActivations }
 {}
