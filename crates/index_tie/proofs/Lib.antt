@@ -1,4 +1,5 @@
 mod Chains
+mod Growth
 mod Rows
 mod Slots
 mod Tables

@@ -1,3 +1,4 @@
 pub mod Filed
+pub mod Growth
 pub mod Slots
 pub mod Takeovers

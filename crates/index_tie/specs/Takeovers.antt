@@ -35,6 +35,7 @@ below horizon l = of_log horizon l - 1
 -- Rows tell of the block the join of what the logs filed below a horizon.
 pub record Covers (b : BlockId) (f : Filed) (w : IndexState) (horizon : List ℕ) (rows : List (BlockId × Entry)) : Type 0 where
   pub named : index.Entry
+  pub filed : (l : ℕ) → below horizon l ≤ f.head l
   pub names : Names b f (join rows b) named
   pub joins : Joins w.version w.hop (below horizon) named
 

@@ -3,6 +3,7 @@
 //! has an empty body, and its contract is a law.
 #![tactic(auto)]
 
+ghost use Rattle.index_tie.specs.Growth.{ClientsFile, CleanerFiles, SlotsStay, PartsStay, DeltasStay, MoreIsFiled};
 ghost use Rattle.index_tie.specs.Slots.{AppliesAreMerges};
 ghost use Rattle.index_tie.specs.Takeovers.{TakeoversAreActivations};
 
@@ -14,4 +15,26 @@ pub fn applies_are_merges()
 /// When a takeover hands a slot out, the slot that starts with what it hands out is, at each block of it, an activation.
 pub fn takeovers_are_activations()
     ensures { TakeoversAreActivations }
+{}
+
+/// What is seen stays seen while logs file more.
+///
+/// - `slots`: a slot of whose manager nothing is changed is seen as before.
+/// - `parts`: parts of a checkpoint cover what they covered.
+/// - `deltas`: Deltas tell what they told.
+/// - `more`: with one more segment, what was filed is as it was.
+pub fn what_is_seen_stays()
+    ensures slots { SlotsStay }
+    ensures parts { PartsStay }
+    ensures deltas { DeltasStay }
+    ensures more { MoreIsFiled }
+{}
+
+/// What a log files is, at each block, one step.
+///
+/// - `clients`: a segment that a client settles is news of the blocks that it names.
+/// - `cleaner`: one that the cleaner settles has copies of the blocks that it names.
+pub fn logs_file()
+    ensures clients { ClientsFile }
+    ensures cleaner { CleanerFiles }
 {}
