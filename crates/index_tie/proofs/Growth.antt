@@ -172,6 +172,7 @@ filed_more f l s filed some most is = record {
     outside : (l ≡ 0) ⊎ (9 < l) → ⊥
     outside (inl none) = omega arith
     outside (inr past) = omega arith
+
     by : (m q : ℕ) → 0 < q → (t u : Bool) → q ≤ cond t (suc (f.head l)) (f.head m) → (t ≡ true → m ≡ l) → (u ≡ true → q ≡ suc (f.head l)) → (u ≡ false → q ≡ suc (f.head l) → ⊥) → IsSegment m q (cond t (cond u s (f.segment m q)) (f.segment m q))
     by m q more true true within same last past = subst (λ k. IsSegment k q s) (sym (same refl)) (subst (λ k. IsSegment l k s) (sym (last refl)) is)
     by m q more true false within same last past =

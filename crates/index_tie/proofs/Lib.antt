@@ -1,4 +1,6 @@
 mod Chains
+mod Checkpoints
+mod Feeds
 mod Growth
 mod Rows
 mod Slots

@@ -2,3 +2,5 @@ pub mod Filed
 pub mod Growth
 pub mod Slots
 pub mod Takeovers
+pub mod Checkpoints
+pub mod Feeds

@@ -3,6 +3,8 @@
 //! has an empty body, and its contract is a law.
 #![tactic(auto)]
 
+ghost use Rattle.index_tie.specs.Checkpoints.{PartsCover, PartsAreRead, PartsTellTheirRows, CheckpointsAreKept};
+ghost use Rattle.index_tie.specs.Feeds.{RangesTellWhatIsFiled};
 ghost use Rattle.index_tie.specs.Growth.{ClientsFile, CleanerFiles, SlotsStay, PartsStay, DeltasStay, MoreIsFiled};
 ghost use Rattle.index_tie.specs.Slots.{AppliesAreMerges};
 ghost use Rattle.index_tie.specs.Takeovers.{TakeoversAreActivations};
@@ -37,4 +39,22 @@ pub fn what_is_seen_stays()
 pub fn logs_file()
     ensures clients { ClientsFile }
     ensures cleaner { CleanerFiles }
+{}
+
+/// What is told of a range is the join of its rows: the ranges of a log's feed tell of each block of their slot what the log filed in them.
+pub fn what_is_told_is_filed()
+    ensures { RangesTellWhatIsFiled }
+{}
+
+/// A checkpoint is kept, and a takeover has it back.
+///
+/// - `cover`: its parts tell of each block the join of what the logs filed below its horizon.
+/// - `read`: a takeover that read the parts whole was told what they hold.
+/// - `rows`: a segment that has just parts of the slot tells what its items hold.
+/// - `kept`: its horizon, which the slot's manager has applied, is kept.
+pub fn checkpoints_are_kept()
+    ensures cover { PartsCover }
+    ensures read { PartsAreRead }
+    ensures rows { PartsTellTheirRows }
+    ensures kept { CheckpointsAreKept }
 {}
