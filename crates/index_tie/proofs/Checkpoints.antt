@@ -1,37 +1,27 @@
 -- A checkpoint's parts cover what its horizon passes, are read as they were written, and its horizon is kept.
-use Rattle.std.proofs.Common.{◌≡◌, ℕ, zero, suc, ◌+◌, ◌-◌, ◌<◌, ◌≤◌, ◌&&◌, ◌⊎◌, inl, inr, Bool, true, false, cond, not, nat_lt, nat_le, get_or, List, [], ◌∷◌, ◌++◌, map, filter, Option, Some, None, unwrap_or, append-nil, refl, sym, ap, subst, ◌∙◌, arith}
+use Rattle.std.proofs.Common.{◌≡◌, ℕ, suc, ◌-◌, ◌<◌, ◌≤◌, ◌&&◌, ◌⊎◌, inl, inr, Bool, false, not, nat_lt, nat_le, get_or, List, [], ◌∷◌, ◌++◌, filter, Option, Some, None, unwrap_or, append-nil, refl, sym, ap, subst, ◌∙◌, arith}
 use Rattle.std.specs.List.{AllByRecursion, flat_map, filter_map}
 use Rattle.std.proofs.lemmas.Bool.Decides.{nat_tests}
-use Rattle.xfs_base.specs.declared.block.BlockId.{BlockId}
-use Rattle.xfs_base.specs.declared.entry.Entry.{Entry}
 use Rattle.xfs_base.specs.declared.segment.SegRef.{SegRef}
-use Rattle.segment_format.specs.declared.segment.Item.{Item}
 use Rattle.segment_format.specs.declared.segment.Segment.{Segment}
-use Rattle.segment_format.specs.Rows.{row_of, rows_of}
+use Rattle.segment_format.specs.Rows.{row_of}
 use Rattle.delta_index.specs.Index.{entry_of}
 use Rattle.delta_index.specs.Join.{join}
 use Rattle.takeover.specs.declared.source.Source.{Source}
-use Rattle.takeover.specs.ReadBack.{IsReadBack, AreReadBack, told_along, told_by_all}
+use Rattle.takeover.specs.ReadBack.{IsReadBack, told_along, told_by_all}
 use Rattle.takeover.specs.Rows.{is_of, part_rows, told_of}
 use Rattle.takeover.specs.Sources.{part_source, is_none, prior_of, goes_back, back_from}
 use Rattle.index_pages.specs.Pages.{PagesState}
-use Rattle.token_manager.specs.Index.{pages_of}
-use Rattle.token_manager.specs.Recalls.{applied_of}
-use Rattle.token_manager.specs.SlotState.{SlotState}
 use Rattle.token_manager.specs.Transition.{entry_at}
-use Rattle.checkpoint.specs.Laws.{Event, rows_in, rows_of_items, after_event, slot_after}
+use Rattle.checkpoint.specs.Laws.{rows_in, rows_of_items, after_event, slot_after}
 use Rattle.checkpoint.specs.Laws.Event.{Written}
 use Rattle.checkpoint.specs.WriterState.{Rows, items_of}
 use Rattle.checkpoint.proofs.Covering.{is_the_index}
-use Rattle.log_protocol.specs.IndexState.{IndexState, Joins}
-use Rattle.log_protocol.specs.IndexLaws.{IndexReached}
-use Rattle.log_protocol.specs.IndexSteps.{keeps_horizon}
 use Rattle.log_protocol.specs.IndexSteps.IndexStep.{Keeps as Keep}
 use Rattle.log_protocol.proofs.IndexInduction.{index_is_join_always, index_in_bounds_always}
-use Rattle.index_tie.specs.Filed.{Filed, IsFiled, Tells, Names}
-use Rattle.index_tie.specs.Slots.{Manages}
+use Rattle.index_tie.specs.Filed.{Names}
 use Rattle.index_tie.specs.Takeovers.{of_log, below}
-use Rattle.index_tie.specs.Checkpoints.{IsNext, PartsCover, TellsPart, PartsAreRead, PartsTellTheirRows, horizon_seen, CheckpointsAreKept}
+use Rattle.index_tie.specs.Checkpoints.{PartsCover, TellsPart, PartsAreRead, PartsTellTheirRows, horizon_seen, CheckpointsAreKept}
 use Rattle.index_tie.proofs.Takeovers.{by_log, of_log_in, of_log_out, joins_at}
 use Rattle.index_tie.proofs.Tables.{at_same, first_of, second_of, not_less_is}
 

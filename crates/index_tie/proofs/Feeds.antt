@@ -1,23 +1,20 @@
 -- What a feed tells of a range joins to what the log filed in it.
-use Rattle.std.proofs.Common.{◌≡◌, ℕ, zero, suc, ◌+◌, ◌-◌, ◌<◌, ◌≤◌, ◌&&◌, Bool, true, false, max, nat_lt, nat_le, List, [], ◌∷◌, ◌++◌, map, refl, sym, ap, subst, ◌∙◌, arith}
+use Rattle.std.proofs.Common.{◌≡◌, ℕ, zero, suc, ◌+◌, ◌-◌, ◌<◌, ◌≤◌, ◌&&◌, Bool, true, false, nat_lt, nat_le, List, [], ◌∷◌, map, refl, sym, ap, ◌∙◌, arith}
 use Rattle.std.specs.List.{flat_map, range_with_len}
 use Rattle.std.proofs.lemmas.Bool.Decides.{nat_tests}
 use Rattle.std.proofs.lemmas.List.Elements.{All-contains}
 use Rattle.xfs_base.specs.declared.block.BlockId.{BlockId}
-use Rattle.xfs_base.specs.declared.entry.Entry.{Entry}
 use Rattle.delta_index.specs.Entries.{first_greatest}
 use Rattle.delta_index.specs.Join.{join}
 use Rattle.delta_index.proofs.JoinAlgebra.{join-append}
-use Rattle.delta_feed.specs.declared.input.In.{In}
 use Rattle.delta_feed.specs.declared.output.Out.TheVariants.{Range}
-use Rattle.delta_feed.specs.History.{state_after, greatest, acknowledged_by, acks_since, deltas_between}
+use Rattle.delta_feed.specs.History.{state_after, greatest, acks_since, deltas_between}
 use Rattle.delta_feed.specs.RangeLaws.{TellsRange, IsTrueRange}
 use Rattle.delta_feed.specs.Transition.{transition}
 use Rattle.delta_feed.proofs.RangeRows.{between_more, between_same}
 use Rattle.delta_feed.proofs.Ranges.{ranges_true}
 use Rattle.index_tie.specs.Filed.{Filed, rows_at, rows_between}
-use Rattle.index_tie.specs.Slots.{DeltasTell}
-use Rattle.index_tie.specs.Feeds.{fed_at, IsFed, RangesTellWhatIsFiled}
+use Rattle.index_tie.specs.Feeds.{fed_at, RangesTellWhatIsFiled}
 
 -- segments from within the range on
 all_within : (b : BlockId) (f : Filed) (l first upto n at : ℕ) → first ≤ at → at + n ≡ suc upto → join (deltas_between first upto (map (fed_at f l) (range_with_len at n))) b ≡ join (flat_map (rows_at f l) (range_with_len at n)) b

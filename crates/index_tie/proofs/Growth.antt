@@ -1,5 +1,5 @@
 -- Filing one more segment is a step at each block, and what was seen stays seen.
-use Rattle.std.proofs.Common.{◌≡◌, ℕ, zero, suc, ◌+◌, ◌-◌, ◌<◌, ◌≤◌, ◌==◌, ◌&&◌, Bool, true, false, cond, nat_lt, nat_le, List, [], ◌∷◌, ◌++◌, refl, sym, ap, subst, ◌∙◌, inl, inr, ◌⊎◌, arith}
+use Rattle.std.proofs.Common.{◌≡◌, ℕ, zero, suc, ◌+◌, ◌-◌, ◌<◌, ◌≤◌, ◌==◌, ◌&&◌, Bool, true, false, cond, nat_lt, nat_le, [], ◌++◌, refl, sym, ap, subst, ◌∙◌, inl, inr, ◌⊎◌, arith}
 use Rattle.std.specs.List.{flat_map, range_with_len}
 use Rattle.std.proofs.lemmas.Bool.Decides.{nat_tests}
 use Rattle.xfs_base.specs.declared.block.BlockId.{BlockId}
@@ -8,21 +8,18 @@ use Rattle.segment_format.specs.declared.segment.Segment.{Segment}
 use Rattle.segment_format.specs.Rows.{rows_of}
 use Rattle.delta_index.specs.Entries.{no_entry}
 use Rattle.delta_index.specs.Join.{join}
-use Rattle.token_manager.specs.SlotState.{SlotState}
 use Rattle.token_manager.specs.Transition.{entry_at}
 use Rattle.log_protocol.specs.Tables.{put, put_at}
 use Rattle.log_protocol.specs.IndexState.{IndexState, Joins}
 use Rattle.log_protocol.specs.IndexState as index
-use Rattle.log_protocol.specs.IndexLaws.{IndexReached}
 use Rattle.log_protocol.specs.IndexSteps.{files, files_none, copies}
 use Rattle.log_protocol.specs.IndexSteps.IndexSteps.{Done as Ended, More}
 use Rattle.log_protocol.specs.IndexSteps.IndexStep.{Files as File, Files_none, Copies}
 use Rattle.index_tie.specs.Filed.{Filed, rows_at, row_at, rows_between, IsSegment, IsFiled, Tells, Names}
-use Rattle.index_tie.specs.Slots.{Manages, DeltasTell}
-use Rattle.index_tie.specs.Takeovers.{below, Covers}
-use Rattle.index_tie.specs.Growth.{with_segment, said_of, IsNews, IsCopy, Files, ClientsFile, CleanerFiles, IsMore, IsKept, SlotsStay, PartsStay, DeltasStay, MoreIsFiled}
-use Rattle.index_tie.proofs.Rows.{Versioned, versioned_of, join_has, by_filed, row_versioned}
-use Rattle.index_tie.proofs.Tables.{put_each, first_of, second_of}
+use Rattle.index_tie.specs.Takeovers.{below}
+use Rattle.index_tie.specs.Growth.{with_segment, said_of, IsCopy, Files, ClientsFile, CleanerFiles, IsMore, SlotsStay, PartsStay, DeltasStay, MoreIsFiled}
+use Rattle.index_tie.proofs.Rows.{Versioned, versioned_of, join_has, by_filed}
+use Rattle.index_tie.proofs.Tables.{put_each, first_of}
 
 -- ---- what was filed says what it said
 

@@ -1,5 +1,7 @@
+mod Answers
 mod Chains
 mod Checkpoints
+mod Cleaning
 mod Feeds
 mod Growth
 mod Rows

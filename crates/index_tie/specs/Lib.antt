@@ -4,3 +4,4 @@ pub mod Slots
 pub mod Takeovers
 pub mod Checkpoints
 pub mod Feeds
+pub mod Cleaning

@@ -4,6 +4,7 @@
 #![tactic(auto)]
 
 ghost use Rattle.index_tie.specs.Checkpoints.{PartsCover, PartsAreRead, PartsTellTheirRows, CheckpointsAreKept};
+ghost use Rattle.index_tie.specs.Cleaning.{LiveIsFiled, MovesAreCopies, DeadsAreBeats, MovesAndDrops, JobsStay, JobsBegin};
 ghost use Rattle.index_tie.specs.Feeds.{RangesTellWhatIsFiled};
 ghost use Rattle.index_tie.specs.Growth.{ClientsFile, CleanerFiles, SlotsStay, PartsStay, DeltasStay, MoreIsFiled};
 ghost use Rattle.index_tie.specs.Slots.{AppliesAreMerges};
@@ -57,4 +58,22 @@ pub fn checkpoints_are_kept()
     ensures read { PartsAreRead }
     ensures rows { PartsTellTheirRows }
     ensures kept { CheckpointsAreKept }
+{}
+
+/// The cleaner (the 1996 paper, on cleaning) moves what is live, and drops what is dead.
+///
+/// - `live`: what a manager answers Live is a filed row.
+/// - `moves`: what is live, moved once, is a row at the same version and one hop further.
+/// - `dead`: an active manager that answers Dead for a filed row below a kept horizon has its entry elsewhere.
+/// - `inputs`: what a job does on an input is, at each block, a list of steps of the cleaner: a promise, a count of a Dead, a drop. What is to be deleted was
+///   dropped.
+/// - `stay`: a job is seen as before while more is filed.
+/// - `begin`: a job that begins is seen as the cleaner.
+pub fn moves_and_drops()
+    ensures live { LiveIsFiled }
+    ensures moves { MovesAreCopies }
+    ensures dead { DeadsAreBeats }
+    ensures inputs { MovesAndDrops }
+    ensures stay { JobsStay }
+    ensures begin { JobsBegin }
 {}
