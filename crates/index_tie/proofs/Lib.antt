@@ -4,6 +4,7 @@ mod Checkpoints
 mod Cleaning
 mod Feeds
 mod Growth
+mod Laws
 mod Rows
 mod Slots
 mod Tables

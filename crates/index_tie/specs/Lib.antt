@@ -5,3 +5,4 @@ pub mod Takeovers
 pub mod Checkpoints
 pub mod Feeds
 pub mod Cleaning
+pub mod Laws

@@ -7,6 +7,7 @@ ghost use Rattle.index_tie.specs.Checkpoints.{PartsCover, PartsAreRead, PartsTel
 ghost use Rattle.index_tie.specs.Cleaning.{LiveIsFiled, MovesAreCopies, DeadsAreBeats, MovesAndDrops, JobsStay, JobsBegin};
 ghost use Rattle.index_tie.specs.Feeds.{RangesTellWhatIsFiled};
 ghost use Rattle.index_tie.specs.Growth.{ClientsFile, CleanerFiles, SlotsStay, PartsStay, DeltasStay, MoreIsFiled};
+ghost use Rattle.index_tie.specs.Laws.{IndexesAreJoins, PlacesAreExact, DroppedIsOutdated, NewestIsKept};
 ghost use Rattle.index_tie.specs.Slots.{AppliesAreMerges};
 ghost use Rattle.index_tie.specs.Takeovers.{TakeoversAreActivations};
 
@@ -76,4 +77,17 @@ pub fn moves_and_drops()
     ensures inputs { MovesAndDrops }
     ensures stay { JobsStay }
     ensures begin { JobsBegin }
+{}
+
+/// What the index comes to (the 1996 paper, on the imap and on cleaning), of machines that are seen so.
+///
+/// - `joins`: the index of each active slot is the join of what it has applied.
+/// - `places`: a place in it names a filed segment, by its log, seq, pass and group.
+/// - `dropped`: a slot whose entry lies in a dropped row, of which a Dead was counted at an epoch up to the slot's, is outdated.
+/// - `kept`: cleaning loses nothing: the newest row was not dropped.
+pub fn the_index_is_the_join()
+    ensures joins { IndexesAreJoins }
+    ensures places { PlacesAreExact }
+    ensures dropped { DroppedIsOutdated }
+    ensures kept { NewestIsKept }
 {}
