@@ -21,12 +21,12 @@ use Rattle.index_tie.specs.Cleaning.{IsRow, LiveIsFiled, MovesAreCopies, DeadsAr
 use Rattle.index_tie.proofs.Rows.{row_versioned}
 
 -- an entry that lies somewhere is of some version
-placed_row : (b : BlockId) (f : Filed) (entry : Entry) (named : index.Entry) (place : Place) → Names b f entry named → is_place entry.place place ≡ true → entry ≡ row_at f b named.log named.seq
+placed_row : (b : BlockId) (f : Filed) (entry : Entry) (named : index.Entry) (place : Place) → Names b f entry named → is_place entry.place place ≡ true → IsRow b f entry
 placed_row b f entry named place n is = by entry.ver refl
   where
-    by : (v : ℕ) → entry.ver ≡ v → entry ≡ row_at f b named.log named.seq
+    by : (v : ℕ) → entry.ver ≡ v → IsRow b f entry
     by zero none = absurd (false≢true (sym (ap (λ (e : Entry). is_place e.place place) (n.none none)) ∙ is))
-    by (suc v) some = n.row (omega arith)
+    by (suc v) some = record { log = named.log; seq = named.seq; is = n.row (omega arith); some = omega arith }
 
 abbrev live_of : Out → Entry → Entry
 live_of (Live e) other = e
@@ -40,7 +40,7 @@ pub live_is_filed : LiveIsFiled
 live_is_filed b f w s place entry m = by_test (λ (o : Out). (o ∷ []) ≡ (Live entry ∷ []) → IsRow b f entry) (is_place (entry_at s b).place place) (Live (entry_at s b)) Dead
     (λ is says.
     let same : entry_at s b ≡ entry = ap (λ os. live_of (first_of_outs os) (entry_at s b)) says in
-    subst (IsRow b f) same (record { log = (w.index s.epoch).log; seq = (w.index s.epoch).seq; is = placed_row b f (entry_at s b) (w.index s.epoch) place m.index is }))
+    subst (IsRow b f) same (placed_row b f (entry_at s b) (w.index s.epoch) place m.index is))
     (λ _ says. absurd (dead_or_live says))
   where
     dead_or_live : (Dead ∷ []) ≡ (Live entry ∷ []) → ⊥

@@ -231,10 +231,11 @@ module _ (b : BlockId) (f : Filed) where
     steps : IndexSteps w state
     frame : uncleaned state ≡ uncleaned w
     promised : state.promised ≡ w.promised
+    polled : (e : ℕ) → state.polled e ≡ w.polled e
     fine : Fine state.dead_at state.dropped turn
 
   by_nothing : (w : IndexState) (turn : Turn) → Fine w.dead_at w.dropped turn → Turned w turn
-  by_nothing w turn fine = record { state = w; steps = Ended; frame = refl; promised = refl; fine = fine }
+  by_nothing w turn fine = record { state = w; steps = Ended; frame = refl; promised = refl; polled = λ e. refl; fine = fine }
 
   -- the row of a segment of which each check is dead is dropped
   record Ends (w : IndexState) (name : SegName) (checks : List Check) : Type 0 where
@@ -242,6 +243,7 @@ module _ (b : BlockId) (f : Filed) where
     steps : IndexSteps w state
     frame : uncleaned state ≡ uncleaned w
     promised : state.promised ≡ w.promised
+    polled : (e : ℕ) → state.polled e ≡ w.polled e
     checked : IsChecked b f state.dead_at name checks
     drops : all_dead checks ≡ true → IsDropped b f state.dropped name
 
@@ -255,7 +257,7 @@ module _ (b : BlockId) (f : Filed) where
       q = name.seq
 
       same : (((is_filed_name f name ≡ true) → (has_block b f name ≡ true) → all_dead checks ≡ true → ⊥)) → Ends w name checks
-      same never = record { state = w; steps = Ended; frame = refl; promised = refl; checked = k; drops = λ dead. record { within = k.within; is = λ is has. absurd (never is has dead) } }
+      same never = record { state = w; steps = Ended; frame = refl; promised = refl; polled = λ e. refl; checked = k; drops = λ dead. record { within = k.within; is = λ is has. absurd (never is has dead) } }
 
       by : (t u v : Bool) → is_filed_name f name ≡ t → has_block b f name ≡ u → all_dead checks ≡ v → Ends w name checks
       by true true true is has dead =
@@ -265,6 +267,7 @@ module _ (b : BlockId) (f : Filed) where
             steps = More Ended (Drops_row name.log.0 name.seq (record { counted = some }));
             frame = refl;
             promised = refl;
+            polled = λ e. refl;
             checked = k;
             drops = λ _. record { within = k.within; is = λ _ _. at_same name.log.0 (cond (name.seq == name.seq) 1 (w.dropped name.log.0 name.seq)) (w.dropped name.log.0 name.seq) ∙ at_same name.seq 1 (w.dropped name.log.0 name.seq) };
           }
@@ -273,7 +276,7 @@ module _ (b : BlockId) (f : Filed) where
       by false u v twin has alive = same (λ is _ _. false≢true (sym twin ∙ is))
 
   looked : (w : IndexState) (j : JobState) (segment : SegRef) (was_asked : Bool) (checks : List Check) → IsChecked b f w.dead_at segment.name checks → Turned w (looked_at j segment was_asked checks)
-  looked w j segment was_asked checks k = let e = ends w segment.name checks k in record { state = e.state; steps = e.steps; frame = e.frame; promised = e.promised; fine = looked_fine e.state.dead_at e.state.dropped j segment was_asked checks e.checked e.drops }
+  looked w j segment was_asked checks k = let e = ends w segment.name checks k in record { state = e.state; steps = e.steps; frame = e.frame; promised = e.promised; polled = e.polled; fine = looked_fine e.state.dead_at e.state.dropped j segment was_asked checks e.checked e.drops }
 
   checked_first : (w : IndexState) (j : JobState) (segment : SegRef) (read : Segment) → IsWithin f segment.name → (is_filed_name f segment.name ≡ true → read ≡ f.segment segment.name.log.0 segment.name.seq) → Turned w (checking j segment (checks_from 0 read.items))
   checked_first w j segment read within text =
@@ -284,7 +287,7 @@ module _ (b : BlockId) (f : Filed) where
         counted = λ is has. weaker checks (none_dead 0 read.items);
       } in
       let e = ends w segment.name checks k in
-      record { state = e.state; steps = e.steps; frame = e.frame; promised = e.promised; fine = checking_fine e.state.dead_at e.state.dropped j segment checks e.checked e.drops }
+      record { state = e.state; steps = e.steps; frame = e.frame; promised = e.promised; polled = e.polled; fine = checking_fine e.state.dead_at e.state.dropped j segment checks e.checked e.drops }
     where
       weaker : (cs : List Check) → AllByRecursion (λ (c : Check). is_dead c.fate ≡ false) cs → AllByRecursion (λ (c : Check). c.block ≡ b → is_dead c.fate ≡ true → 0 < w.dead_at segment.name.log.0 segment.name.seq) cs
       weaker [] all = tt
@@ -333,7 +336,7 @@ module _ (b : BlockId) (f : Filed) where
           let now : v.dead_at l q ≡ epoch = at_same l (cond (q == q) epoch (w.dead_at l q)) (w.dead_at l q) ∙ at_same q epoch (w.dead_at l q) in
           let some : 0 < v.dead_at l q = subst (λ n. 0 < n) (sym now) was.0 in
           let t = looked v j segment (any_asked checks) (map (dead_at block) checks) (dead_checks v.dead_at (λ _ _. all-each (λ c. c.block ≡ b → is_dead c.fate ≡ true → 0 < v.dead_at l q) (λ c _ _. some) (map (dead_at block) checks))) in
-          record { state = t.state; steps = index_steps_on w v t.state (More Ended (Counts epoch l q (record { told = was.1; latest = latest at was.0 }))) t.steps; frame = t.frame; promised = t.promised; fine = t.fine }
+          record { state = t.state; steps = index_steps_on w v t.state (More Ended (Counts epoch l q (record { told = was.1; latest = latest at was.0 }))) t.steps; frame = t.frame; promised = t.promised; polled = t.polled; fine = t.fine }
       by true true false is has other =
           looked w j segment (any_asked checks) (map (dead_at block) checks) (dead_checks w.dead_at (λ is_ has_. all-map (λ c. c.block ≡ b → is_dead c.fate ≡ true → 0 < w.dead_at segment.name.log.0 segment.name.seq)
           (λ c. c.block ≡ b → is_dead c.fate ≡ true → 0 < w.dead_at segment.name.log.0 segment.name.seq) (dead_at block) (elsewhere other) checks (k.counted is has)))
@@ -343,94 +346,166 @@ module _ (b : BlockId) (f : Filed) where
 
   -- ---- all inputs
 
-  turns : (w : IndexState) (s : CleaningState) (turn : Turn) → Cleans b f w s → Turned w turn → Cleaned b f w (turned s turn)
+  -- what is no promise leaves the promise as it was
+  pub record StaysOn (w : IndexState) (d : Done) : Type 0 where
+    pub cleaned : Cleaned b f w d
+    pub promised : cleaned.state.promised ≡ w.promised
+    pub polled : (e : ℕ) → cleaned.state.polled e ≡ w.polled e
+
+  turns : (w : IndexState) (s : CleaningState) (turn : Turn) → Cleans b f w s → Turned w turn → StaysOn w (turned s turn)
   turns w s turn c t = record {
-    state = t.state;
-    steps = t.steps;
-    frame = t.frame;
-    shows = record { promised = still_promised c.promised; known = t.fine.0 };
-    deletes = t.fine.1;
+    cleaned = record {
+      state = t.state;
+      steps = t.steps;
+      frame = t.frame;
+      shows = record { promised = still_promised c.promised; known = t.fine.0 };
+      deletes = t.fine.1;
+    };
+    promised = t.promised;
+    polled = t.polled;
   }
     where
       still_promised : (promise_of b s ≡ 0) ⊎ (w.promised ≡ promise_of b s) → (promise_of b s ≡ 0) ⊎ (t.state.promised ≡ promise_of b s)
       still_promised (inl none) = inl none
       still_promised (inr is) = inr (t.promised ∙ is)
 
-  quiet : (w : IndexState) (s : CleaningState) → Cleans b f w s → Cleaned b f w (still s)
-  quiet w s c = record { state = w; steps = Ended; frame = refl; shows = c; deletes = tt }
-
-  -- a promise, or none
-  promise_to : (w : IndexState) (s : CleaningState) (d : Done) → Cleans b f w s → Known b f w.dead_at w.dropped d.state.phase → AllByRecursion (DeletesDropped b f w.dropped) d.outs → NoLower b w s d.state → Cleaned b f w d
-  promise_to w s d c known says (inl same) = record { state = w; steps = Ended; frame = refl; shows = record { promised = as_before c.promised; known = known }; deletes = says }
+  stays_same : (w : IndexState) (s : CleaningState) (d : Done) → Cleans b f w s → promise_of b d.state ≡ promise_of b s → Known b f w.dead_at w.dropped d.state.phase → AllByRecursion (DeletesDropped b f w.dropped) d.outs → StaysOn w d
+  stays_same w s d c same known says = record {
+    cleaned = record { state = w; steps = Ended; frame = refl; shows = record { promised = as_before c.promised; known = known }; deletes = says };
+    promised = refl;
+    polled = λ e. refl;
+  }
     where
       as_before : (promise_of b s ≡ 0) ⊎ (w.promised ≡ promise_of b s) → (promise_of b d.state ≡ 0) ⊎ (w.promised ≡ promise_of b d.state)
       as_before (inl none) = inl (same ∙ none)
       as_before (inr is) = inr (is ∙ sym same)
-  promise_to w s d c known says (inr rises) = record {
-    state = promises w (promise_of b d.state);
-    steps = More Ended (Promises (promise_of b d.state) (record { rises = rises }));
-    frame = refl;
-    shows = record { promised = inr refl; known = known };
-    deletes = says;
+
+  quiet : (w : IndexState) (s : CleaningState) → Cleans b f w s → StaysOn w (still s)
+  quiet w s c = stays_same w s (still s) c refl c.known tt
+
+  -- a promise that isn't lower
+  pub record RisesOn (w : IndexState) (d : Done) : Type 0 where
+    pub cleaned : Cleaned b f w d
+    pub promised : cleaned.state.promised ≡ promise_of b d.state
+    pub polled : (e : ℕ) → (cleaned.state.polled e ≡ w.polled e) ⊎ ((w.promised < e) × (cleaned.state.polled e ≡ w.head w.cleaner))
+
+  rises_to : (w : IndexState) (d : Done) → w.promised ≤ promise_of b d.state → Known b f w.dead_at w.dropped d.state.phase → AllByRecursion (DeletesDropped b f w.dropped) d.outs → RisesOn w d
+  rises_to w d rises known says = record {
+    cleaned = record {
+      state = promises w (promise_of b d.state);
+      steps = More Ended (Promises (promise_of b d.state) (record { rises = rises }));
+      frame = refl;
+      shows = record { promised = inr refl; known = known };
+      deletes = says;
+    };
+    promised = refl;
+    polled = λ e. polls e (nat_lt w.promised e) (nat_lt (promise_of b d.state) e) refl;
   }
+    where
+      above : (x y : ℕ) → nat_lt x y ≡ true → x < y
+      above x y h = grind (arith, nat_tests)
+      polls : (e : ℕ) (t u : Bool) → nat_lt w.promised e ≡ t → (cond t (cond u (w.polled e) (w.head w.cleaner)) (w.polled e) ≡ w.polled e) ⊎ ((w.promised < e) × (cond t (cond u (w.polled e) (w.head w.cleaner)) (w.polled e) ≡ w.head w.cleaner))
+      polls e true true is = inl refl
+      polls e true false is = inr (above w.promised e is, refl)
+      polls e false u is = inl refl
 
-  welcome_cleans : (w : IndexState) (s : CleaningState) (slots : List SlotNews) (groups : GroupMapState) → Cleans b f w s → NoLower b w s (on_welcome s slots groups).state → Cleaned b f w (on_welcome s slots groups)
+  -- the phase after a promise or a Welcome
+  welcome_known : (w : IndexState) (s : CleaningState) (slots : List SlotNews) (groups : GroupMapState) → Cleans b f w s
+      → Known b f w.dead_at w.dropped (on_welcome s slots groups).state.phase × AllByRecursion (DeletesDropped b f w.dropped) (on_welcome s slots groups).outs
   unfolding on_welcome
-  welcome_cleans w s slots groups c =
-      by_test (λ (d : Done). NoLower b w s d.state → Cleaned b f w d) (is_greeting s.phase && (length slots == 8)) (welcomed s slots groups) (still s)
-      (λ _. promise_to w s (welcomed s slots groups) c tt (says_lists w.dead_at w.dropped (begun slots groups).awaited))
-      (λ _ _. quiet w s c)
+  welcome_known w s slots groups c =
+      by_test (λ (d : Done). Known b f w.dead_at w.dropped d.state.phase × AllByRecursion (DeletesDropped b f w.dropped) d.outs) (is_greeting s.phase && (length slots == 8)) (welcomed s slots groups) (still s)
+      (λ _. (tt, says_lists w.dead_at w.dropped (begun slots groups).awaited))
+      (λ _. (c.known, tt))
 
-  promise_cleans : (w : IndexState) (s : CleaningState) (slot epoch : ℕ) → Cleans b f w s → NoLower b w s (on_promise s slot epoch).state → Cleaned b f w (on_promise s slot epoch)
+  promise_known : (w : IndexState) (s : CleaningState) (slot epoch : ℕ) → Cleans b f w s
+      → Known b f w.dead_at w.dropped (on_promise s slot epoch).state.phase × AllByRecursion (DeletesDropped b f w.dropped) (on_promise s slot epoch).outs
   unfolding on_promise
-  promise_cleans w s slot epoch c =
-      by_test (λ (d : Done). NoLower b w s d.state → Cleaned b f w d) (is_above s.promised slot epoch) (turned (record s { promised = promised_with s.promised slot epoch }) (forgetting slot s.phase)) (still s)
-      (λ _. let fine = forgetting_fine w.dead_at w.dropped slot s.phase c.known in promise_to w s (turned (record s { promised = promised_with s.promised slot epoch }) (forgetting slot s.phase)) c fine.0 fine.1)
-      (λ _ _. quiet w s c)
+  promise_known w s slot epoch c =
+      by_test (λ (d : Done). Known b f w.dead_at w.dropped d.state.phase × AllByRecursion (DeletesDropped b f w.dropped) d.outs) (is_above s.promised slot epoch)
+      (turned (record s { promised = promised_with s.promised slot epoch }) (forgetting slot s.phase)) (still s)
+      (λ _. forgetting_fine w.dead_at w.dropped slot s.phase c.known)
+      (λ _. (c.known, tt))
 
-  usage_cleans : (w : IndexState) (s : CleaningState) (slot epoch : ℕ) (counts : _) → Cleans b f w s → Cleaned b f w (on_usage s slot epoch counts)
+  pub welcome_rises : (w : IndexState) (s : CleaningState) (slots : List SlotNews) (groups : GroupMapState) → Cleans b f w s → w.promised ≤ promise_of b (on_welcome s slots groups).state → RisesOn w (on_welcome s slots groups)
+  welcome_rises w s slots groups c rises = let k = welcome_known w s slots groups c in rises_to w (on_welcome s slots groups) rises k.0 k.1
+
+  pub promise_rises : (w : IndexState) (s : CleaningState) (slot epoch : ℕ) → Cleans b f w s → w.promised ≤ promise_of b (on_promise s slot epoch).state → RisesOn w (on_promise s slot epoch)
+  promise_rises w s slot epoch c rises = let k = promise_known w s slot epoch c in rises_to w (on_promise s slot epoch) rises k.0 k.1
+
+  pub promise_stays : (w : IndexState) (s : CleaningState) (slot epoch : ℕ) → Cleans b f w s → promise_of b (on_promise s slot epoch).state ≡ promise_of b s → StaysOn w (on_promise s slot epoch)
+  promise_stays w s slot epoch c same = let k = promise_known w s slot epoch c in stays_same w s (on_promise s slot epoch) c same k.0 k.1
+
+  usage_stays : (w : IndexState) (s : CleaningState) (slot epoch : ℕ) (counts : _) → Cleans b f w s → StaysOn w (on_usage s slot epoch counts)
   unfolding on_usage
-  usage_cleans w s slot epoch counts c =
-      by_test (Cleaned b f w) (is_promised s.promised slot epoch) (turned s (counted_in s.count slot counts s.phase)) (still s)
+  usage_stays w s slot epoch counts c =
+      by_test (StaysOn w) (is_promised s.promised slot epoch) (turned s (counted_in s.count slot counts s.phase)) (still s)
       (λ _. turns w s (counted_in s.count slot counts s.phase) c (by_nothing w (counted_in s.count slot counts s.phase) (counted_in_fine w.dead_at w.dropped s.count slot counts s.phase c.known)))
       (λ _. quiet w s c)
 
-  live_cleans : (w : IndexState) (s : CleaningState) (block : BlockId) (epoch : ℕ) (entry : Entry) → Cleans b f w s → Cleaned b f w (on_live s block epoch entry)
+  live_answered : (w : IndexState) (s : CleaningState) (block : BlockId) (epoch : ℕ) (entry : Entry) → Cleans b f w s → StaysOn w (on_live s block epoch entry)
   unfolding on_live
-  live_cleans w s block epoch entry c =
-      by_test (Cleaned b f w) (is_heard s.promised block epoch && may_move entry) (turned s (answered_in (live_at block entry) s.phase)) (still s)
+  live_answered w s block epoch entry c =
+      by_test (StaysOn w) (is_heard s.promised block epoch && may_move entry) (turned s (answered_in (live_at block entry) s.phase)) (still s)
       (λ _. turns w s (answered_in (live_at block entry) s.phase) c (live_turned w block entry s.phase c.known))
       (λ _. quiet w s c)
 
-  dead_cleans : (w : IndexState) (s : CleaningState) (block : BlockId) (epoch : ℕ) → Cleans b f w s → (block ≡ b → ToldFor b f w epoch s.phase) → Cleaned b f w (on_dead s block epoch)
+  same_number : (x : ℕ) (t : Bool) (y : ℕ) → (t && (x == y)) ≡ true → x ≡ y
+  same_number x t y h = grind (arith, nat_tests)
+
+  -- a Dead that is heard is of the promised epoch
+  pub heard_at : (s : CleaningState) (block : BlockId) (epoch : ℕ) → block ≡ b → is_heard s.promised block epoch ≡ true → epoch ≡ promise_of b s
+  heard_at s block epoch at heard = same_number epoch (nat_lt (slot_of block.ino.0) 8) (promised_at s.promised (slot_of block.ino.0)) heard ∙ ap (λ (k : BlockId). promised_at s.promised (slot_of k.ino.0)) at
+
+  pub dead_answered : (w : IndexState) (s : CleaningState) (block : BlockId) (epoch : ℕ) → Cleans b f w s → (block ≡ b → is_heard s.promised block epoch ≡ true → ToldFor b f w epoch s.phase) → StaysOn w (on_dead s block epoch)
   unfolding on_dead
-  dead_cleans w s block epoch c told =
-      by_test (Cleaned b f w) (is_heard s.promised block epoch) (turned s (answered_in (dead_at block) s.phase)) (still s)
-      (λ heard. turns w s (answered_in (dead_at block) s.phase) c (dead_turned w block epoch s.phase c.known told (λ at some. latest c.promised (heard_at at heard) some)))
+  dead_answered w s block epoch c told =
+      by_test (StaysOn w) (is_heard s.promised block epoch) (turned s (answered_in (dead_at block) s.phase)) (still s)
+      (λ heard. turns w s (answered_in (dead_at block) s.phase) c (dead_turned w block epoch s.phase c.known (λ at. told at heard) (λ at some. latest c.promised (heard_at s block epoch at heard) some)))
       (λ _. quiet w s c)
     where
-      same_number : (x : ℕ) (t : Bool) (y : ℕ) → (t && (x == y)) ≡ true → x ≡ y
-      same_number x t y h = grind (arith, nat_tests)
-
-      heard_at : block ≡ b → is_heard s.promised block epoch ≡ true → epoch ≡ promise_of b s
-      heard_at at heard = same_number epoch (nat_lt (slot_of block.ino.0) 8) (promised_at s.promised (slot_of block.ino.0)) heard ∙ ap (λ (k : BlockId). promised_at s.promised (slot_of k.ino.0)) at
-
       latest : (promise_of b s ≡ 0) ⊎ (w.promised ≡ promise_of b s) → epoch ≡ promise_of b s → 0 < epoch → epoch ≡ w.promised
       latest (inl none) is some = absurd (omega arith)
       latest (inr same) is some = is ∙ sym same
 
+  pub read_stays : (w : IndexState) (s : CleaningState) (read : Option Segment) → Cleans b f w s → ReadFor f read s.phase → StaysOn w (transition s (input.Read read))
+  read_stays w s read c owes = turns w s (read_in read s.phase) c (read_turned w read s.phase c.known owes)
+
+  pub maps_stay : (w : IndexState) (s : CleaningState) (groups : GroupMapState) → Cleans b f w s → StaysOn w (transition s (input.Maps groups))
+  maps_stay w s groups c = stays_same w s (transition s (input.Maps groups)) c refl (mapped_fine w.dead_at w.dropped groups s.phase c.known) tt
+
+  pub listed_stays : (w : IndexState) (s : CleaningState) (server : ℕ) (held : List FragMeta) → Cleans b f w s → StaysOn w (transition s (input.Listed server held))
+  listed_stays w s server held c = turns w s (listed_in server held s.phase) c (by_nothing w (listed_in server held s.phase) (listed_in_fine w.dead_at w.dropped server held s.phase c.known))
+
+  pub moved_stays_on : (w : IndexState) (s : CleaningState) → Cleans b f w s → StaysOn w (transition s input.Moved)
+  moved_stays_on w s c = turns w s (moved_in s.phase) c (by_nothing w (moved_in s.phase) (moved_fine w.dead_at w.dropped s.phase c.known))
+
+  pub deleted_stays : (w : IndexState) (s : CleaningState) (server : ℕ) (name : SegName) → Cleans b f w s → StaysOn w (transition s (input.Deleted server name))
+  deleted_stays w s server name c = turns w s (deleted_in server name s.phase) c (by_nothing w (deleted_in server name s.phase) (deleted_in_fine w.dead_at w.dropped server name s.phase c.known))
+
+  pub tick_stays : (w : IndexState) (s : CleaningState) → Cleans b f w s → StaysOn w (transition s input.Tick)
+  tick_stays w s c = stays_same w s (transition s input.Tick) c refl c.known (awaits_fine w.dead_at w.dropped s.phase c.known)
+
+  welcome_cleans : (w : IndexState) (s : CleaningState) (slots : List SlotNews) (groups : GroupMapState) → Cleans b f w s → NoLower b w s (on_welcome s slots groups).state → Cleaned b f w (on_welcome s slots groups)
+  welcome_cleans w s slots groups c (inl same) = let k = welcome_known w s slots groups c in (stays_same w s (on_welcome s slots groups) c same k.0 k.1).cleaned
+  welcome_cleans w s slots groups c (inr rises) = (welcome_rises w s slots groups c rises).cleaned
+
+  promise_cleans : (w : IndexState) (s : CleaningState) (slot epoch : ℕ) → Cleans b f w s → NoLower b w s (on_promise s slot epoch).state → Cleaned b f w (on_promise s slot epoch)
+  promise_cleans w s slot epoch c (inl same) = (promise_stays w s slot epoch c same).cleaned
+  promise_cleans w s slot epoch c (inr rises) = (promise_rises w s slot epoch c rises).cleaned
+
   pub cleans_all : (w : IndexState) (s : CleaningState) (i : In) → Cleans b f w s → Owes b f w s i → Cleaned b f w (transition s i)
   cleans_all w s (input.Welcome slots groups) c owes = welcome_cleans w s slots groups c owes
   cleans_all w s (input.Promise slot epoch) c owes = promise_cleans w s slot epoch c owes
-  cleans_all w s (input.Maps groups) c owes = record { state = w; steps = Ended; frame = refl; shows = record { promised = c.promised; known = mapped_fine w.dead_at w.dropped groups s.phase c.known }; deletes = tt }
-  cleans_all w s (input.Listed server held) c owes = turns w s (listed_in server held s.phase) c (by_nothing w (listed_in server held s.phase) (listed_in_fine w.dead_at w.dropped server held s.phase c.known))
-  cleans_all w s (input.Usage slot epoch counts) c owes = usage_cleans w s slot epoch counts c
-  cleans_all w s (input.Read read) c owes = turns w s (read_in read s.phase) c (read_turned w read s.phase c.known owes)
-  cleans_all w s (input.Live block epoch entry) c owes = live_cleans w s block epoch entry c
-  cleans_all w s (input.Dead block epoch) c owes = dead_cleans w s block epoch c owes
-  cleans_all w s input.Moved c owes = turns w s (moved_in s.phase) c (by_nothing w (moved_in s.phase) (moved_fine w.dead_at w.dropped s.phase c.known))
-  cleans_all w s (input.Deleted server name) c owes = turns w s (deleted_in server name s.phase) c (by_nothing w (deleted_in server name s.phase) (deleted_in_fine w.dead_at w.dropped server name s.phase c.known))
-  cleans_all w s input.Tick c owes = record { state = w; steps = Ended; frame = refl; shows = c; deletes = awaits_fine w.dead_at w.dropped s.phase c.known }
+  cleans_all w s (input.Maps groups) c owes = (maps_stay w s groups c).cleaned
+  cleans_all w s (input.Listed server held) c owes = (listed_stays w s server held c).cleaned
+  cleans_all w s (input.Usage slot epoch counts) c owes = (usage_stays w s slot epoch counts c).cleaned
+  cleans_all w s (input.Read read) c owes = (read_stays w s read c owes).cleaned
+  cleans_all w s (input.Live block epoch entry) c owes = (live_answered w s block epoch entry c).cleaned
+  cleans_all w s (input.Dead block epoch) c owes = (dead_answered w s block epoch c owes).cleaned
+  cleans_all w s input.Moved c owes = (moved_stays_on w s c).cleaned
+  cleans_all w s (input.Deleted server name) c owes = (deleted_stays w s server name c).cleaned
+  cleans_all w s input.Tick c owes = (tick_stays w s c).cleaned
 
 pub moves_and_drops : MovesAndDrops
 moves_and_drops b f w s i c owes = cleans_all b f w s i c owes
@@ -446,6 +521,18 @@ jobs_begin b f w count = record { promised = inl (none_yet (slot_of b.ino.0)); k
         by false past = get_or-eq_default (started count).promised 0 (grind (arith, nat_tests))
 
 -- ---- more is filed
+
+-- what was dropped stays so
+pub dropped_stays : (b : BlockId) (f g : Filed) (dropped more_dropped : ℕ → ℕ → ℕ) (name : SegName) → IsMore f g → ((l q : ℕ) → dropped l q ≡ 1 → more_dropped l q ≡ 1) → IsDropped b f dropped name → IsDropped b g more_dropped name
+dropped_stays b f g dropped more_dropped name more drops k =
+    let l = name.log.0 in
+    let q = name.seq in
+    let head = more.head l in
+    let filed = k.within.filed in
+    let same : g.segment l q ≡ f.segment l q = more.segment l q filed in
+    let its : is_filed_name g name ≡ is_filed_name f name = ap (λ (s : Segment). same_name name s.name) same in
+    let has : has_block b g name ≡ has_block b f name = ap (λ (s : Segment). list_any (same_block b) (blocks_of s.items)) same in
+    record { within = record { some = k.within.some; filed = omega arith }; is = λ is any. drops l q (k.is (sym its ∙ is) (sym has ∙ any)) }
 
 known_stays : (b : BlockId) (f g : Filed) (dead more_dead dropped more_dropped : ℕ → ℕ → ℕ) (p : Phase) → IsMore f g → ((l q : ℕ) → dead l q ≤ more_dead l q) → ((l q : ℕ) → dropped l q ≡ 1 → more_dropped l q ≡ 1) → Known b f dead dropped p
     → Known b g more_dead more_dropped p
@@ -467,16 +554,7 @@ known_stays b f g dead more_dead dropped more_dropped (Checking j segment checks
     all_more : (cs : List Check) → AllByRecursion (λ (c : Check). c.block ≡ b → is_dead c.fate ≡ true → 0 < dead segment.name.log.0 segment.name.seq) cs → AllByRecursion (λ (c : Check). c.block ≡ b → is_dead c.fate ≡ true → 0 < more_dead segment.name.log.0 segment.name.seq) cs
     all_more [] all = tt
     all_more (c ∷ cs) all = ((λ at now. let x = all.0 at now in let y = counted segment.name.log.0 segment.name.seq in omega arith), all_more cs all.1)
-known_stays b f g dead more_dead dropped more_dropped (Deleting j segment servers) more counted drops k =
-    let name = segment.name in
-    let l = name.log.0 in
-    let q = name.seq in
-    let head = more.head l in
-    let filed = k.within.filed in
-    let same : g.segment l q ≡ f.segment l q = more.segment l q filed in
-    let its : is_filed_name g name ≡ is_filed_name f name = ap (λ (s : Segment). same_name name s.name) same in
-    let has : has_block b g name ≡ has_block b f name = ap (λ (s : Segment). list_any (same_block b) (blocks_of s.items)) same in
-    record { within = record { some = k.within.some; filed = omega arith }; is = λ is any. drops l q (k.is (sym its ∙ is) (sym has ∙ any)) }
+known_stays b f g dead more_dead dropped more_dropped (Deleting j segment servers) more counted drops k = dropped_stays b f g dropped more_dropped segment.name more drops k
 known_stays b f g dead more_dead dropped more_dropped p more counted drops k = tt
 
 pub jobs_stay : JobsStay

@@ -39,6 +39,7 @@ pub record IsRow (b : BlockId) (f : Filed) (entry : Entry) : Type 0 where
   pub log : ℕ
   pub seq : ℕ
   pub is : entry ≡ row_at f b log seq
+  pub some : 0 < entry.ver
 
 -- What is answered Live is a filed row.
 abbrev pub LiveIsFiled : Type 0
@@ -113,7 +114,7 @@ abbrev pub Owes : BlockId → Filed → IndexState → CleaningState → inputs.
 Owes b f w s (input.Welcome slots groups) = NoLower b w s (job.transition s (input.Welcome slots groups)).state
 Owes b f w s (input.Promise slot epoch) = NoLower b w s (job.transition s (input.Promise slot epoch)).state
 Owes b f w s (input.Read read) = ReadFor f read s.phase
-Owes b f w s (input.Dead block epoch) = block ≡ b → ToldFor b f w epoch s.phase
+Owes b f w s (input.Dead block epoch) = block ≡ b → job.is_heard s.promised block epoch ≡ true → ToldFor b f w epoch s.phase
 Owes b f w s input = Unit {0}
 
 -- what is deleted was dropped

@@ -6,3 +6,5 @@ pub mod Checkpoints
 pub mod Feeds
 pub mod Cleaning
 pub mod Laws
+pub mod Net
+pub mod NetLaws

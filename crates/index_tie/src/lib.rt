@@ -8,6 +8,7 @@ ghost use Rattle.index_tie.specs.Cleaning.{LiveIsFiled, MovesAreCopies, DeadsAre
 ghost use Rattle.index_tie.specs.Feeds.{RangesTellWhatIsFiled};
 ghost use Rattle.index_tie.specs.Growth.{ClientsFile, CleanerFiles, SlotsStay, PartsStay, DeltasStay, MoreIsFiled};
 ghost use Rattle.index_tie.specs.Laws.{IndexesAreJoins, PlacesAreExact, DroppedIsOutdated, NewestIsKept};
+ghost use Rattle.index_tie.specs.NetLaws.{EachIndexIsTheJoin, NewestIsNeverDeleted, ReigningIsOutdated};
 ghost use Rattle.index_tie.specs.Slots.{AppliesAreMerges};
 ghost use Rattle.index_tie.specs.Takeovers.{TakeoversAreActivations};
 
@@ -90,4 +91,15 @@ pub fn the_index_is_the_join()
     ensures places { PlacesAreExact }
     ensures dropped { DroppedIsOutdated }
     ensures kept { NewestIsKept }
+{}
+
+/// The law of every run of a small world of these machines, in which a slot of the map goes from manager to manager, is checkpointed, taken over and cleaned.
+///
+/// - `joins`: the index of each slot that a manager ever had is the join of what it has applied.
+/// - `kept`: the newest row of a block is in no segment that was to be deleted.
+/// - `outdated`: where the reigning slot's entry lies in such a segment, a newer version is filed.
+pub fn cleaning_loses_nothing()
+    ensures joins { EachIndexIsTheJoin }
+    ensures kept { NewestIsNeverDeleted }
+    ensures outdated { ReigningIsOutdated }
 {}
