@@ -436,14 +436,14 @@ module _ (b : BlockId) (f : Filed) where
   pub promise_stays : (w : IndexState) (s : CleaningState) (slot epoch : ℕ) → Cleans b f w s → promise_of b (on_promise s slot epoch).state ≡ promise_of b s → StaysOn w (on_promise s slot epoch)
   promise_stays w s slot epoch c same = let k = promise_known w s slot epoch c in stays_same w s (on_promise s slot epoch) c same k.0 k.1
 
-  usage_stays : (w : IndexState) (s : CleaningState) (slot epoch : ℕ) (counts : _) → Cleans b f w s → StaysOn w (on_usage s slot epoch counts)
+  pub usage_stays : (w : IndexState) (s : CleaningState) (slot epoch : ℕ) (counts : _) → Cleans b f w s → StaysOn w (on_usage s slot epoch counts)
   unfolding on_usage
   usage_stays w s slot epoch counts c =
       by_test (StaysOn w) (is_promised s.promised slot epoch) (turned s (counted_in s.count slot counts s.phase)) (still s)
       (λ _. turns w s (counted_in s.count slot counts s.phase) c (by_nothing w (counted_in s.count slot counts s.phase) (counted_in_fine w.dead_at w.dropped s.count slot counts s.phase c.known)))
       (λ _. quiet w s c)
 
-  live_answered : (w : IndexState) (s : CleaningState) (block : BlockId) (epoch : ℕ) (entry : Entry) → Cleans b f w s → StaysOn w (on_live s block epoch entry)
+  pub live_answered : (w : IndexState) (s : CleaningState) (block : BlockId) (epoch : ℕ) (entry : Entry) → Cleans b f w s → StaysOn w (on_live s block epoch entry)
   unfolding on_live
   live_answered w s block epoch entry c =
       by_test (StaysOn w) (is_heard s.promised block epoch && may_move entry) (turned s (answered_in (live_at block entry) s.phase)) (still s)

@@ -160,7 +160,7 @@ module _ (b : BlockId) (f : Filed) (w : IndexState) (l : ℕ) (s : Segment) wher
   }
 
 -- each segment is what it has to be
-filed_more : (f : Filed) (l : ℕ) (s : Segment) → IsFiled f → 0 < l → l ≤ 9 → IsSegment l (suc (f.head l)) s → IsFiled (with_segment f l s)
+pub filed_more : (f : Filed) (l : ℕ) (s : Segment) → IsFiled f → 0 < l → l ≤ 9 → IsSegment l (suc (f.head l)) s → IsFiled (with_segment f l s)
 filed_more f l s filed some most is = record {
   others = put_each (λ m n. (m ≡ 0) ⊎ (9 < m) → n ≡ 0) f.head l (suc (f.head l)) (λ out. absurd (outside out)) (λ m other out. filed.others m out);
   each = λ m q more within. by m q more (m == l) (q == suc (f.head l)) within (λ e. grind (arith, nat_tests, e)) (λ e. grind (arith, nat_tests, e)) (λ e. grind (arith, nat_tests, e));

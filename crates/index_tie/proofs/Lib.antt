@@ -2,6 +2,7 @@ mod Answers
 mod Chains
 mod Checkpoints
 mod Cleaning
+mod Events
 mod Feeds
 mod Growth
 mod Laws
@@ -9,3 +10,4 @@ mod Rows
 mod Slots
 mod Tables
 mod Takeovers
+mod Views

@@ -173,7 +173,7 @@ pub data Happens (part : ℕ) (holds : SegRef → Rows) : Net → Net → Type 0
   Moves : {n : Net} → Happens part holds n (record n { epoch = suc n.epoch })
   -- a manager becomes active at an epoch
   Activates : {n : Net} (e : ℕ) (news : SlotNews) (groups : GroupMapState) (clients : ℕ) (inputs : List TakeoverIn) (input : TakeoverIn) (index : List (BlockId × Entry)) (beliefs : List (BlockId × ℕ × Mode)) (applied : List ℕ) → n.slots e ≡ None
-      → e ≤ n.epoch → Contains (takeover.transition (course_of news groups clients inputs).state input).outs (Active e index beliefs applied)
+      → 0 < e → e ≤ n.epoch → Contains (takeover.transition (course_of news groups clients inputs).state input).outs (Active e index beliefs applied)
       → HasRead part holds n e news (after_input (course_of news groups clients inputs) input) → Happens part holds n (with_slot n e (slot.started e index beliefs applied))
   -- the cleaner promises an epoch while no job of it has promised one
   Promises : {n : Net} (e : ℕ) → n.promised ≤ e → promised_at n.job.promised part ≡ 0 → Happens part holds n (record n { promised = e })
