@@ -104,6 +104,18 @@ none_dead n (Block block value ∷ items) = (refl, none_dead (n + 1) items)
 none_dead n (Delta block ver hop item ∷ items) = none_dead (n + 1) items
 none_dead n (Part slot rows ∷ items) = none_dead (n + 1) items
 
+-- when an epoch is promised, the end of the cleaner's log is noted for those that were not
+pub polled_at : (w : IndexState) (p e : ℕ) → ((promises w p).polled e ≡ w.polled e) ⊎ ((w.promised < e) × ((promises w p).polled e ≡ w.head w.cleaner))
+polled_at w p e = by (nat_lt w.promised e) (nat_lt p e) refl
+  where
+    above : (x y : ℕ) → nat_lt x y ≡ true → x < y
+    above x y h = grind (arith, nat_tests)
+
+    by : (t u : Bool) → nat_lt w.promised e ≡ t → (cond t (cond u (w.polled e) (w.head w.cleaner)) (w.polled e) ≡ w.polled e) ⊎ ((w.promised < e) × (cond t (cond u (w.polled e) (w.head w.cleaner)) (w.polled e) ≡ w.head w.cleaner))
+    by true true is = inl refl
+    by true false is = inr (above w.promised e is, refl)
+    by false u is = inl refl
+
 module _ (b : BlockId) (f : Filed) where
   -- ---- what is given, where what is deleted was dropped
 
@@ -399,15 +411,8 @@ module _ (b : BlockId) (f : Filed) where
       deletes = says;
     };
     promised = refl;
-    polled = λ e. polls e (nat_lt w.promised e) (nat_lt (promise_of b d.state) e) refl;
+    polled = polled_at w (promise_of b d.state);
   }
-    where
-      above : (x y : ℕ) → nat_lt x y ≡ true → x < y
-      above x y h = grind (arith, nat_tests)
-      polls : (e : ℕ) (t u : Bool) → nat_lt w.promised e ≡ t → (cond t (cond u (w.polled e) (w.head w.cleaner)) (w.polled e) ≡ w.polled e) ⊎ ((w.promised < e) × (cond t (cond u (w.polled e) (w.head w.cleaner)) (w.polled e) ≡ w.head w.cleaner))
-      polls e true true is = inl refl
-      polls e true false is = inr (above w.promised e is, refl)
-      polls e false u is = inl refl
 
   -- the phase after a promise or a Welcome
   welcome_known : (w : IndexState) (s : CleaningState) (slots : List SlotNews) (groups : GroupMapState) → Cleans b f w s

@@ -1,6 +1,5 @@
 -- Each thing that happens in the small world keeps it seen: what slots and logs do.
-use Rattle.std.proofs.Common.{◌≡◌, ℕ, zero, suc, ◌+◌, ◌-◌, ◌<◌, ◌≤◌, ◌⊎◌, inl, inr, nat_lt, Bool, true, false, cond, List, [], ◌∷◌, ◌++◌, Option, Some, None, unwrap_or, length, refl, sym, ap, subst, ◌∙◌, arith}
-use Rattle.std.specs.List.{AllByRecursion}
+use Rattle.std.proofs.Common.{◌≡◌, ℕ, zero, suc, ◌-◌, ◌<◌, ◌≤◌, List, Some, None, unwrap_or, length, refl, sym, ap, subst, ◌∙◌, arith}
 use Rattle.xfs_base.specs.declared.block.BlockId.{BlockId}
 use Rattle.xfs_base.specs.declared.entry.Entry.{Entry}
 use Rattle.xfs_base.specs.declared.segment.LogId.{LogId}
@@ -14,12 +13,11 @@ use Rattle.token_manager.specs.declared.input.In.TheVariants.{Want, Gave, Deltas
 use Rattle.token_manager.specs.SlotState.{SlotState}
 use Rattle.token_manager.specs.Transition as slot
 use Rattle.token_manager.proofs.Turns.{takes-transition}
-use Rattle.log_protocol.specs.Tables.{In, put}
-use Rattle.log_protocol.specs.IndexState.{IndexState, Joins}
+use Rattle.log_protocol.specs.IndexState.{IndexState}
 use Rattle.log_protocol.specs.IndexLaws.{IndexReached}
 use Rattle.log_protocol.proofs.IndexInduction.{index_is_join_always}
 use Rattle.index_tie.specs.Filed.{Filed, row_at, IsSegment, Tells}
-use Rattle.index_tie.specs.Growth.{with_segment, said_of, IsNews, Files, IsMore}
+use Rattle.index_tie.specs.Growth.{with_segment, said_of, Files}
 use Rattle.index_tie.specs.Slots.{Manages, Runs, DeltasTell, Brings}
 use Rattle.index_tie.specs.Net.{Net, with_slot, IsNewer, IsMove, IsOfTokens}
 use Rattle.index_tie.specs.Net.Packet.{AnsweredLive}
@@ -28,7 +26,7 @@ use Rattle.index_tie.proofs.Cleaning.{jobs_stay}
 use Rattle.index_tie.proofs.Growth.{slots_stay, parts_stay, more_is_filed, filed_more, clients_file, cleaner_files}
 use Rattle.index_tie.proofs.Slots.{applies_are_merges}
 use Rattle.index_tie.proofs.Tables.{put_each}
-use Rattle.index_tie.proofs.Views.{View, Went, went, found, Sound, Good, same_filed, tells_same}
+use Rattle.index_tie.proofs.Views.{View, went, found, Sound, Good, same_filed, tells_same}
 
 pub some_is : {X : Type 0} (x y : X) → Some x ≡ Some y → x ≡ y
 some_is x y same = ap (λ o. unwrap_or o x) same
@@ -80,12 +78,12 @@ module _ (part : ℕ) (holds : SegRef → Rows) where
   with_slot_good n e s g is some runs = record {
     filed = g.filed;
     epochs = put_each (λ d o. (t : SlotState) → o ≡ Some t → t.epoch ≡ d) n.slots e (Some s) (λ t same. subst (λ (x : SlotState). x.epoch ≡ e) (some_is s t same) is) (λ d other. g.epochs d);
-    begun = put_each (λ d o. d ≡ 0 → o ≡ None) n.slots e (Some s) (λ zero. absurd (some zero)) (λ d other zero. ap n.slots zero ∙ g.begun) 0 refl;
+    begun = put_each (λ d o. d ≡ 0 → o ≡ None) n.slots e (Some s) (λ is_zero. absurd (some is_zero)) (λ d other is_zero. ap n.slots is_zero ∙ g.begun) 0 refl;
     views = λ b inside. by_manager n b (g.views b inside) e s g.epochs is (runs b inside (g.views b inside));
   }
 
   not_zero : (n : Net) (e : ℕ) (s : SlotState) → Good part holds n → n.slots e ≡ Some s → e ≡ 0 → ⊥
-  not_zero n e s g at zero = some_none s (sym at ∙ ap n.slots zero ∙ g.begun)
+  not_zero n e s g at is = some_none s (sym at ∙ ap n.slots is ∙ g.begun)
 
   -- a slot takes an input
   takes : (n : Net) (e : ℕ) (s : SlotState) (x : slot_inputs.In) → Good part holds n → n.slots e ≡ Some s → ((b : BlockId) → slot_of b.ino.0 ≡ part → Brings b n.filed s x) → Good part holds (with_slot n e (slot.transition s x).state)

@@ -5,8 +5,11 @@ mod Cleaning
 mod Events
 mod Feeds
 mod Growth
+mod Jobs
 mod Laws
+mod Registry
 mod Rows
+mod Runs
 mod Slots
 mod Tables
 mod Takeovers

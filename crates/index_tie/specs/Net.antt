@@ -2,7 +2,7 @@
 -- what the registry keeps of it, the cleaner's job, and the packets that were sent, of which any may come any number of times, in any order, or never.
 -- What the laws of tokens, logs and epochs say is asked of what happens: that clients file newer versions, that Deltas tell what was filed, that logs are
 -- read as they were written, and that epochs begin and are promised in their order.
-use Rattle.std.specs.Prelude.{◌≡◌, ℕ, suc, ◌-◌, ◌<◌, ◌≤◌, Bool, true, nat_lt, List, [], ◌∷◌, ◌++◌, length, take, Option, Some, None, Contains, if◌then◌else◌}
+use Rattle.std.specs.Prelude.{◌≡◌, ℕ, suc, ◌-◌, ◌<◌, ◌≤◌, true, nat_lt, List, [], ◌∷◌, ◌++◌, length, take, Option, Some, None, Contains, if◌then◌else◌}
 use Rattle.std.specs.List.{AllByRecursion}
 use Rattle.group_map.specs.GroupMapState.{GroupMapState}
 use Rattle.segment_format.specs.declared.segment.Segment.{Segment}
@@ -178,7 +178,8 @@ pub data Happens (part : ℕ) (holds : SegRef → Rows) : Net → Net → Type 0
   -- the cleaner promises an epoch while no job of it has promised one
   Promises : {n : Net} (e : ℕ) → n.promised ≤ e → promised_at n.job.promised part ≡ 0 → Happens part holds n (record n { promised = e })
   -- and by its job, from a Poll or news, or from the job's Welcome
-  JobPromises : {n : Net} (e : ℕ) → n.promised ≤ e → Happens part holds n (record (with_job n (job.transition n.job (job_input.Promise part e))) { promised = e })
+  JobPromises : {n : Net} (e : ℕ) → n.promised ≤ promised_at (job.transition n.job (job_input.Promise part e)).state.promised part
+      → Happens part holds n (record (with_job n (job.transition n.job (job_input.Promise part e))) { promised = promised_at (job.transition n.job (job_input.Promise part e)).state.promised part })
   JobWelcomed : {n : Net} (slots : List SlotNews) (groups : GroupMapState) → n.promised ≤ promised_at (job.transition n.job (job_input.Welcome slots groups)).state.promised part
       → Happens part holds n (record (with_job n (job.transition n.job (job_input.Welcome slots groups))) { promised = promised_at (job.transition n.job (job_input.Welcome slots groups)).state.promised part })
   -- the cleaner reports what it has promised, and the end of its log

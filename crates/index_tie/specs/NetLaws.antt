@@ -1,5 +1,5 @@
 -- The laws of every run of the small world.
-use Rattle.std.specs.Prelude.{◌≡◌, ℕ, ◌≤◌, true, Option, Some}
+use Rattle.std.specs.Prelude.{◌≡◌, ℕ, ◌≤◌, true, Some}
 use Rattle.segment_format.specs.declared.segment.Segment.{Segment}
 use Rattle.xfs_base.specs.declared.block.BlockId.{BlockId}
 use Rattle.xfs_base.specs.declared.entry.Place.{Place}
