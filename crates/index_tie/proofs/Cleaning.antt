@@ -1,15 +1,11 @@
 -- A job's inputs as steps of the cleaner: promises, counts of what is answered Dead, and drops of what is deleted.
-use Rattle.std.proofs.Common.{◌≡◌, ℕ, ◌+◌, ◌<◌, ◌≤◌, ◌⊎◌, inl, inr, Bool, true, false, cond, List, [], ◌∷◌, Option, Some, None, map, length, refl, sym, ap, subst, ◌∙◌, arith}
-use Rattle.std.specs.Prelude.{◌==◌, ◌&&◌, ◌||◌, not, nat_lt}
+use Rattle.std.proofs.Common.{◌≡◌, ℕ, ◌<◌, ◌≤◌, ◌⊎◌, inl, inr, Bool, true, false, cond, List, [], ◌∷◌, Option, Some, None, map, length, refl, sym, ap, subst, ◌∙◌, arith}
+use Rattle.std.specs.Prelude.{◌==◌, ◌&&◌, not, nat_lt}
 use Rattle.std.specs.List.{AllByRecursion, cons_option, list_any}
 use Rattle.std.proofs.lemmas.Bool.{false≢true}
 use Rattle.std.proofs.lemmas.Bool.Decides.{nat_tests}
 use Rattle.std.proofs.lemmas.Map.Views.{tells_apart}
-use Rattle.std.proofs.lemmas.List.{get_or-replicate}
-use Rattle.std.proofs.Math.ListN.{get_or-eq_default}
 use Rattle.group_map.specs.GroupMapState.{GroupMapState}
-use Rattle.segment_format.specs.declared.segment.Item.{Item}
-use Rattle.segment_format.specs.declared.segment.Item.TheVariants.{Block, Delta, Part}
 use Rattle.segment_format.specs.declared.segment.Segment.{Segment}
 use Rattle.xfs_base.specs.declared.block.BlockId.{BlockId}
 use Rattle.xfs_base.specs.declared.entry.Entry.{Entry}
@@ -20,19 +16,17 @@ use Rattle.xfs_base.specs.declared.segment.SegRef.{SegRef}
 use Rattle.xfs_base.specs.Blocks.{slot_of, same_block}
 use Rattle.xfs_base.specs.Steps.{still}
 use Rattle.xfs_base.proofs.BlockOrder.{same_block_exact, same_block_itself}
-use Rattle.xfs_base.proofs.Booleans.{by_test, and_first, and_second}
+use Rattle.xfs_base.proofs.Booleans.{by_test}
 use Rattle.xfs_base.proofs.Orders.{seg_cmp_exact}
 use Rattle.stripe_cleaner.specs.declared.checks.Check.{Check}
-use Rattle.stripe_cleaner.specs.declared.checks.Fate.{Fate}
-use Rattle.stripe_cleaner.specs.declared.checks.Fate.TheVariants as fate
 use Rattle.stripe_cleaner.specs.declared.input.In.{In}
 use Rattle.stripe_cleaner.specs.declared.input.In.TheVariants as input
 use Rattle.stripe_cleaner.specs.declared.output.Out.{Out}
 use Rattle.stripe_cleaner.specs.declared.output.Out.TheVariants as out
 use Rattle.stripe_cleaner.specs.declared.phase.Phase.{Phase}
 use Rattle.stripe_cleaner.specs.declared.phase.Phase.TheVariants.{Greeting, Listing, Counting, Reading, Checking, Deleting, Over}
-use Rattle.stripe_cleaner.specs.Checks.{checks_from, after_live, after_dead, after_moved, live_at, dead_at, moved_at, is_dead, is_awaited, any_asked, all_dead, place_in, questions, moves}
-use Rattle.stripe_cleaner.specs.CleaningState.{CleaningState, started}
+use Rattle.stripe_cleaner.specs.Checks.{checks_from, after_live, after_dead, live_at, dead_at, moved_at, is_dead, is_awaited, any_asked, all_dead, place_in, questions, moves}
+use Rattle.stripe_cleaner.specs.CleaningState.{CleaningState}
 use Rattle.stripe_cleaner.specs.Counting.{CountingState, has_usage, is_counted, awaited_slots, all_slots, chosen}
 use Rattle.stripe_cleaner.specs.Histories.{blocks_of}
 use Rattle.stripe_cleaner.specs.Job.{Turn, next_of, next, deletes, servers_of, deleting, counted, left_to_delete, same_name, on_deleted, checking, looked_at, is_moving}
@@ -47,62 +41,9 @@ use Rattle.log_protocol.specs.IndexSteps.IndexSteps.{Done as Ended, More}
 use Rattle.log_protocol.specs.IndexSteps.IndexStep.{Promises, Counts, Drops_row}
 use Rattle.log_protocol.proofs.IndexRunsGoOn.{index_steps_on}
 use Rattle.index_tie.specs.Filed.{Filed}
-use Rattle.index_tie.specs.Growth.{IsMore}
-use Rattle.index_tie.specs.Cleaning.{is_filed_name, has_block, IsWithin, IsChecked, IsDropped, Known, promise_of, Cleans, NoLower, ReadFor, ToldFor, Owes, DeletesDropped, uncleaned, Cleaned, MovesAndDrops, JobsStay, JobsBegin}
+use Rattle.index_tie.specs.Cleaning.{is_filed_name, has_block, IsWithin, IsChecked, IsDropped, Known, promise_of, Cleans, NoLower, ReadFor, ToldFor, Owes, DeletesDropped, uncleaned, Cleaned, MovesAndDrops}
+use Rattle.index_tie.proofs.CheckLists.{blocks-checks, blocks-map, all-map, all-each, of_dead, live_stays, moved_stays, live_block, dead_block, none_dead}
 use Rattle.index_tie.proofs.Tables.{at_same}
-
--- ---- checks
-
-blocks-checks : (n : ℕ) (items : List Item) → map (λ (c : Check). c.block) (checks_from n items) ≡ blocks_of items
-blocks-checks n [] = refl
-blocks-checks n (Block block value ∷ items) = ap (λ bs. block ∷ bs) (blocks-checks (n + 1) items)
-blocks-checks n (Delta block ver hop item ∷ items) = blocks-checks (n + 1) items
-blocks-checks n (Part slot rows ∷ items) = blocks-checks (n + 1) items
-
-blocks-map : (g : Check → Check) → ((c : Check) → (g c).block ≡ c.block) → (checks : List Check) → map (λ (c : Check). c.block) (map g checks) ≡ map (λ (c : Check). c.block) checks
-blocks-map g same [] = refl
-blocks-map g same (c ∷ cs) = λ k. same c k ∷ blocks-map g same cs k
-
-all-map : (P Q : Check → Type 0) (g : Check → Check) → ((c : Check) → P c → Q (g c)) → (checks : List Check) → AllByRecursion P checks → AllByRecursion Q (map g checks)
-all-map P Q g keeps [] all = tt
-all-map P Q g keeps (c ∷ cs) all = (keeps c all.0, all-map P Q g keeps cs all.1)
-
-all-each : (P : Check → Type 0) → ((c : Check) → P c) → (checks : List Check) → AllByRecursion P checks
-all-each P each [] = tt
-all-each P each (c ∷ cs) = (each c, all-each P each cs)
-
--- where each check is dead and one is of the block, what holds of such holds
-of_dead : (b : BlockId) (X : Type 0) (checks : List Check) → all_dead checks ≡ true → list_any (same_block b) (map (λ (c : Check). c.block) checks) ≡ true → AllByRecursion (λ (c : Check). c.block ≡ b → is_dead c.fate ≡ true → X) checks → X
-of_dead b X [] dead any all = absurd (false≢true any)
-of_dead b X (c ∷ cs) dead any all = by (λ rest. of_dead b X cs (and_second (is_dead c.fate) (all_dead cs) dead) rest all.1) (same_block b c.block) refl any
-  where
-    by : (list_any (same_block b) (map (λ (d : Check). d.block) cs) ≡ true → X) → (t : Bool) → same_block b c.block ≡ t → (t || list_any (same_block b) (map (λ (d : Check). d.block) cs)) ≡ true → X
-    by on true same _ = all.0 (same_block_exact b c.block same) (and_first (is_dead c.fate) (all_dead cs) dead)
-    by on false _ rest = on rest
-
-live_stays : (entry : Entry) (x : Fate) → is_dead (after_live entry x) ≡ true → is_dead x ≡ true
-live_stays entry (fate.Asked value) h = absurd (false≢true h)
-live_stays entry (fate.Live e value) h = absurd (false≢true h)
-live_stays entry fate.Moved h = absurd (false≢true h)
-live_stays entry fate.Dead h = refl
-
-moved_stays : (x : Fate) → is_dead (after_moved x) ≡ true → is_dead x ≡ true
-moved_stays (fate.Asked value) h = absurd (false≢true h)
-moved_stays (fate.Live e value) h = absurd (false≢true h)
-moved_stays fate.Moved h = absurd (false≢true h)
-moved_stays fate.Dead h = refl
-
-live_block : (block : BlockId) (entry : Entry) (c : Check) → (live_at block entry c).block ≡ c.block
-live_block block entry c = by_test (λ (d : Check). d.block ≡ c.block) (same_block c.block block) (record c { fate = after_live entry c.fate }) c (λ t. refl) (λ t. refl)
-
-dead_block : (block : BlockId) (c : Check) → (dead_at block c).block ≡ c.block
-dead_block block c = by_test (λ (d : Check). d.block ≡ c.block) (same_block c.block block) (record c { fate = after_dead c.fate }) c (λ t. refl) (λ t. refl)
-
-none_dead : (n : ℕ) (items : List Item) → AllByRecursion (λ (c : Check). is_dead c.fate ≡ false) (checks_from n items)
-none_dead n [] = tt
-none_dead n (Block block value ∷ items) = (refl, none_dead (n + 1) items)
-none_dead n (Delta block ver hop item ∷ items) = none_dead (n + 1) items
-none_dead n (Part slot rows ∷ items) = none_dead (n + 1) items
 
 -- when an epoch is promised, the end of the cleaner's log is noted for those that were not
 pub polled_at : (w : IndexState) (p e : ℕ) → ((promises w p).polled e ≡ w.polled e) ⊎ ((w.promised < e) × ((promises w p).polled e ≡ w.head w.cleaner))
@@ -514,57 +455,3 @@ module _ (b : BlockId) (f : Filed) where
 
 pub moves_and_drops : MovesAndDrops
 moves_and_drops b f w s i c owes = cleans_all b f w s i c owes
-
-pub jobs_begin : JobsBegin
-jobs_begin b f w count = record { promised = inl (none_yet (slot_of b.ino.0)); known = tt }
-  where
-    none_yet : (slot : ℕ) → promised_at (started count).promised slot ≡ 0
-    none_yet slot = by (nat_lt slot 8) refl
-      where
-        by : (t : Bool) → nat_lt slot 8 ≡ t → promised_at (started count).promised slot ≡ 0
-        by true less = get_or-replicate 8 slot 0 0 (grind (arith, nat_tests))
-        by false past = get_or-eq_default (started count).promised 0 (grind (arith, nat_tests))
-
--- ---- more is filed
-
--- what was dropped stays so
-pub dropped_stays : (b : BlockId) (f g : Filed) (dropped more_dropped : ℕ → ℕ → ℕ) (name : SegName) → IsMore f g → ((l q : ℕ) → dropped l q ≡ 1 → more_dropped l q ≡ 1) → IsDropped b f dropped name → IsDropped b g more_dropped name
-dropped_stays b f g dropped more_dropped name more drops k =
-    let l = name.log.0 in
-    let q = name.seq in
-    let head = more.head l in
-    let filed = k.within.filed in
-    let same : g.segment l q ≡ f.segment l q = more.segment l q filed in
-    let its : is_filed_name g name ≡ is_filed_name f name = ap (λ (s : Segment). same_name name s.name) same in
-    let has : has_block b g name ≡ has_block b f name = ap (λ (s : Segment). list_any (same_block b) (blocks_of s.items)) same in
-    record { within = record { some = k.within.some; filed = omega arith }; is = λ is any. drops l q (k.is (sym its ∙ is) (sym has ∙ any)) }
-
-known_stays : (b : BlockId) (f g : Filed) (dead more_dead dropped more_dropped : ℕ → ℕ → ℕ) (p : Phase) → IsMore f g → ((l q : ℕ) → dead l q ≤ more_dead l q) → ((l q : ℕ) → dropped l q ≡ 1 → more_dropped l q ≡ 1) → Known b f dead dropped p
-    → Known b g more_dead more_dropped p
-known_stays b f g dead more_dead dropped more_dropped (Checking j segment checks) more counted drops k =
-    let name = segment.name in
-    let l = name.log.0 in
-    let q = name.seq in
-    let head = more.head l in
-    let filed = k.within.filed in
-    let same : g.segment l q ≡ f.segment l q = more.segment l q filed in
-    let its : is_filed_name g name ≡ is_filed_name f name = ap (λ (s : Segment). same_name name s.name) same in
-    let has : has_block b g name ≡ has_block b f name = ap (λ (s : Segment). list_any (same_block b) (blocks_of s.items)) same in
-    record {
-      within = record { some = k.within.some; filed = omega arith };
-      blocks = λ is. k.blocks (sym its ∙ is) ∙ sym (ap (λ (s : Segment). blocks_of s.items) same);
-      counted = λ is any. all_more checks (k.counted (sym its ∙ is) (sym has ∙ any));
-    }
-  where
-    all_more : (cs : List Check) → AllByRecursion (λ (c : Check). c.block ≡ b → is_dead c.fate ≡ true → 0 < dead segment.name.log.0 segment.name.seq) cs → AllByRecursion (λ (c : Check). c.block ≡ b → is_dead c.fate ≡ true → 0 < more_dead segment.name.log.0 segment.name.seq) cs
-    all_more [] all = tt
-    all_more (c ∷ cs) all = ((λ at now. let x = all.0 at now in let y = counted segment.name.log.0 segment.name.seq in omega arith), all_more cs all.1)
-known_stays b f g dead more_dead dropped more_dropped (Deleting j segment servers) more counted drops k = dropped_stays b f g dropped more_dropped segment.name more drops k
-known_stays b f g dead more_dead dropped more_dropped p more counted drops k = tt
-
-pub jobs_stay : JobsStay
-jobs_stay b f g w v s more promised counted drops c = record { promised = as_before c.promised; known = known_stays b f g w.dead_at v.dead_at w.dropped v.dropped s.phase more counted drops c.known }
-  where
-    as_before : (promise_of b s ≡ 0) ⊎ (w.promised ≡ promise_of b s) → (promise_of b s ≡ 0) ⊎ (v.promised ≡ promise_of b s)
-    as_before (inl none) = inl none
-    as_before (inr is) = inr (promised ∙ is)

@@ -22,7 +22,7 @@ use Rattle.index_tie.specs.Slots.{Manages, Runs, DeltasTell, Brings}
 use Rattle.index_tie.specs.Net.{Net, with_slot, IsNewer, IsMove, IsOfTokens}
 use Rattle.index_tie.specs.Net.Packet.{AnsweredLive}
 use Rattle.index_tie.proofs.Answers.{moves_are_copies}
-use Rattle.index_tie.proofs.Cleaning.{jobs_stay}
+use Rattle.index_tie.proofs.JobsStay.{jobs_stay}
 use Rattle.index_tie.proofs.Growth.{slots_stay, parts_stay, more_is_filed, filed_more, clients_file, cleaner_files}
 use Rattle.index_tie.proofs.Slots.{applies_are_merges}
 use Rattle.index_tie.proofs.Tables.{put_each}

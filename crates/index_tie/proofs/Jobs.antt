@@ -33,8 +33,9 @@ use Rattle.index_tie.specs.Filed.{Filed}
 use Rattle.index_tie.specs.Cleaning.{is_filed_name, IsDropped, ReadFor, ToldFor, DeletesDropped, Cleaned}
 use Rattle.index_tie.specs.Net.{Net, with_job, deletes_of, IsOther, IsInHand}
 use Rattle.index_tie.specs.Net.Packet.{AnsweredDead}
-use Rattle.index_tie.proofs.Cleaning.{polled_at, StaysOn, RisesOn, heard_at, jobs_begin, welcome_rises, promise_rises, promise_stays, usage_stays, live_answered, dead_answered, read_stays, maps_stay, listed_stays, moved_stays_on, deleted_stays, tick_stays}
+use Rattle.index_tie.proofs.Cleaning.{polled_at, StaysOn, RisesOn, heard_at, welcome_rises, promise_rises, promise_stays, usage_stays, live_answered, dead_answered, read_stays, maps_stay, listed_stays, moved_stays_on, deleted_stays, tick_stays}
 use Rattle.index_tie.proofs.Growth.{parts_stay}
+use Rattle.index_tie.proofs.JobsStay.{jobs_begin}
 use Rattle.index_tie.proofs.Registry.{Kept, kept_tells, kept_slots}
 use Rattle.index_tie.proofs.Views.{View, went, found, Sound, Good, same_filed}
 use Rattle.checkpoint.specs.Laws.{rows_in}

@@ -1,11 +1,13 @@
 mod Answers
 mod Chains
+mod CheckLists
 mod Checkpoints
 mod Cleaning
 mod Events
 mod Feeds
 mod Growth
 mod Jobs
+mod JobsStay
 mod Laws
 mod Registry
 mod Rows

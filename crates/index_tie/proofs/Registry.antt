@@ -51,7 +51,7 @@ use Rattle.index_tie.specs.Net.{Net, Packet, with_slot, with_packet, answer_pack
 use Rattle.index_tie.specs.Net.Packet.{CheckpointDone, CleanerReported, Checked, AnsweredLive, AnsweredDead}
 use Rattle.index_tie.proofs.Answers.{live_is_filed, deads_are_beats}
 use Rattle.index_tie.proofs.Checkpoints.{parts_cover, parts_are_read, checkpoints_are_kept}
-use Rattle.index_tie.proofs.Cleaning.{jobs_stay}
+use Rattle.index_tie.proofs.JobsStay.{jobs_stay}
 use Rattle.index_tie.proofs.Events.{with_slot_good}
 use Rattle.index_tie.proofs.Growth.{slots_stay, parts_stay}
 use Rattle.index_tie.proofs.Takeovers.{takeovers_are_activations}

@@ -26,7 +26,7 @@ use Rattle.index_tie.specs.Net.{Net, Happens, Runs, opening, ones, zeros}
 use Rattle.index_tie.specs.Net.Happens.{ClientFiles, CleanerFiles, GetsDeltas, GetsOther, Answers, Checkpoints, Keeps, Moves, Activates, Promises, JobPromises, JobWelcomed, Reports, JobBegins, JobReads, Asks, JobHearsDead, JobTakes}
 use Rattle.index_tie.specs.Net.Runs.{Begun, On}
 use Rattle.index_tie.specs.NetLaws.{Moment, EachIndexIsTheJoin, NewestIsNeverDeleted, ReigningIsOutdated}
-use Rattle.index_tie.proofs.Cleaning.{jobs_begin}
+use Rattle.index_tie.proofs.JobsStay.{jobs_begin}
 use Rattle.index_tie.proofs.Events.{some_is, some_none, gets_deltas, gets_other, client_files, cleaner_files_one}
 use Rattle.index_tie.proofs.Jobs.{job_takes, job_reads, job_hears_dead, job_promises, job_welcomed, cleaner_promises, job_begins}
 use Rattle.index_tie.proofs.Laws.{indexes_are_joins, newest_is_kept, dropped_is_outdated}

@@ -26,7 +26,7 @@ use Rattle.index_tie.specs.Takeovers.{of_log, Covers}
 use Rattle.index_tie.specs.Cleaning.{IsRow, is_filed_name, IsWithin, IsDropped, Cleans}
 use Rattle.index_tie.specs.Net.{Net, Packet}
 use Rattle.index_tie.specs.Net.Packet.{CheckpointDone, CleanerReported, Checked, AnsweredLive, AnsweredDead}
-use Rattle.index_tie.proofs.Cleaning.{dropped_stays}
+use Rattle.index_tie.proofs.JobsStay.{dropped_stays}
 use Rattle.index_tie.proofs.Growth.{row_stays, is_filed, parts_stay}
 
 module _ (part : ℕ) (holds : SegRef → Rows) (b : BlockId) where
