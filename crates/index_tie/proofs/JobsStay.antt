@@ -1,0 +1,76 @@
+-- A job that begins is seen as the cleaner, and is seen as before while more is filed.
+use Rattle.std.proofs.Common.{◌≡◌, ℕ, ◌<◌, ◌≤◌, ◌⊎◌, inl, inr, Bool, true, false, List, [], ◌∷◌, refl, sym, ap, ◌∙◌, arith}
+use Rattle.std.specs.Prelude.{nat_lt}
+use Rattle.std.specs.List.{AllByRecursion, list_any}
+use Rattle.std.proofs.lemmas.Bool.Decides.{nat_tests}
+use Rattle.std.proofs.lemmas.List.{get_or-replicate}
+use Rattle.std.proofs.Math.ListN.{get_or-eq_default}
+use Rattle.segment_format.specs.declared.segment.Segment.{Segment}
+use Rattle.xfs_base.specs.declared.block.BlockId.{BlockId}
+use Rattle.xfs_base.specs.declared.segment.SegName.{SegName}
+use Rattle.xfs_base.specs.Blocks.{slot_of, same_block}
+use Rattle.stripe_cleaner.specs.declared.checks.Check.{Check}
+use Rattle.stripe_cleaner.specs.declared.phase.Phase.{Phase}
+use Rattle.stripe_cleaner.specs.declared.phase.Phase.TheVariants.{Checking, Deleting}
+use Rattle.stripe_cleaner.specs.Checks.{is_dead}
+use Rattle.stripe_cleaner.specs.CleaningState.{started}
+use Rattle.stripe_cleaner.specs.Histories.{blocks_of}
+use Rattle.stripe_cleaner.specs.Job.{counted, same_name}
+use Rattle.stripe_cleaner.specs.Promises.{promised_at}
+use Rattle.index_tie.specs.Filed.{Filed}
+use Rattle.index_tie.specs.Growth.{IsMore}
+use Rattle.index_tie.specs.Cleaning.{is_filed_name, has_block, IsDropped, Known, promise_of, JobsStay, JobsBegin}
+
+pub jobs_begin : JobsBegin
+jobs_begin b f w count = record { promised = inl (none_yet (slot_of b.ino.0)); known = tt }
+  where
+    none_yet : (slot : ℕ) → promised_at (started count).promised slot ≡ 0
+    none_yet slot = by (nat_lt slot 8) refl
+      where
+        by : (t : Bool) → nat_lt slot 8 ≡ t → promised_at (started count).promised slot ≡ 0
+        by true less = get_or-replicate 8 slot 0 0 (grind (arith, nat_tests))
+        by false past = get_or-eq_default (started count).promised 0 (grind (arith, nat_tests))
+
+-- ---- more is filed
+
+-- what was dropped stays so
+pub dropped_stays : (b : BlockId) (f g : Filed) (dropped more_dropped : ℕ → ℕ → ℕ) (name : SegName) → IsMore f g → ((l q : ℕ) → dropped l q ≡ 1 → more_dropped l q ≡ 1) → IsDropped b f dropped name → IsDropped b g more_dropped name
+dropped_stays b f g dropped more_dropped name more drops k =
+    let l = name.log.0 in
+    let q = name.seq in
+    let head = more.head l in
+    let filed = k.within.filed in
+    let same : g.segment l q ≡ f.segment l q = more.segment l q filed in
+    let its : is_filed_name g name ≡ is_filed_name f name = ap (λ (s : Segment). same_name name s.name) same in
+    let has : has_block b g name ≡ has_block b f name = ap (λ (s : Segment). list_any (same_block b) (blocks_of s.items)) same in
+    record { within = record { some = k.within.some; filed = omega arith }; is = λ is any. drops l q (k.is (sym its ∙ is) (sym has ∙ any)) }
+
+known_stays : (b : BlockId) (f g : Filed) (dead more_dead dropped more_dropped : ℕ → ℕ → ℕ) (p : Phase) → IsMore f g → ((l q : ℕ) → dead l q ≤ more_dead l q) → ((l q : ℕ) → dropped l q ≡ 1 → more_dropped l q ≡ 1) → Known b f dead dropped p
+    → Known b g more_dead more_dropped p
+known_stays b f g dead more_dead dropped more_dropped (Checking j segment checks) more counted drops k =
+    let name = segment.name in
+    let l = name.log.0 in
+    let q = name.seq in
+    let head = more.head l in
+    let filed = k.within.filed in
+    let same : g.segment l q ≡ f.segment l q = more.segment l q filed in
+    let its : is_filed_name g name ≡ is_filed_name f name = ap (λ (s : Segment). same_name name s.name) same in
+    let has : has_block b g name ≡ has_block b f name = ap (λ (s : Segment). list_any (same_block b) (blocks_of s.items)) same in
+    record {
+      within = record { some = k.within.some; filed = omega arith };
+      blocks = λ is. k.blocks (sym its ∙ is) ∙ sym (ap (λ (s : Segment). blocks_of s.items) same);
+      counted = λ is any. all_more checks (k.counted (sym its ∙ is) (sym has ∙ any));
+    }
+  where
+    all_more : (cs : List Check) → AllByRecursion (λ (c : Check). c.block ≡ b → is_dead c.fate ≡ true → 0 < dead segment.name.log.0 segment.name.seq) cs → AllByRecursion (λ (c : Check). c.block ≡ b → is_dead c.fate ≡ true → 0 < more_dead segment.name.log.0 segment.name.seq) cs
+    all_more [] all = tt
+    all_more (c ∷ cs) all = ((λ at now. let x = all.0 at now in let y = counted segment.name.log.0 segment.name.seq in omega arith), all_more cs all.1)
+known_stays b f g dead more_dead dropped more_dropped (Deleting j segment servers) more counted drops k = dropped_stays b f g dropped more_dropped segment.name more drops k
+known_stays b f g dead more_dead dropped more_dropped p more counted drops k = tt
+
+pub jobs_stay : JobsStay
+jobs_stay b f g w v s more promised counted drops c = record { promised = as_before c.promised; known = known_stays b f g w.dead_at v.dead_at w.dropped v.dropped s.phase more counted drops c.known }
+  where
+    as_before : (promise_of b s ≡ 0) ⊎ (w.promised ≡ promise_of b s) → (promise_of b s ≡ 0) ⊎ (v.promised ≡ promise_of b s)
+    as_before (inl none) = inl none
+    as_before (inr is) = inr (promised ∙ is)

@@ -1,0 +1,11 @@
+use Rattle.index_tie.proofs.Runs.{each_index_is_the_join, newest_is_never_deleted, reigning_is_outdated}
+use Rattle.index_tie.proofs.cleaning_loses_nothing.Goals as goal
+
+pub returns-clause-joins : goal.returns-clause-joins
+returns-clause-joins c = each_index_is_the_join
+
+pub returns-clause-kept : goal.returns-clause-kept
+returns-clause-kept c = newest_is_never_deleted
+
+pub returns-clause-outdated : goal.returns-clause-outdated
+returns-clause-outdated c = reigning_is_outdated

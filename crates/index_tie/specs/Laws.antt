@@ -1,0 +1,68 @@
+-- What the index comes to, in the words of the machines: entries are joins, their places are exact, and cleaning loses nothing.
+use Rattle.std.specs.Prelude.{◌≡◌, ℕ, ◌<◌, ◌≤◌, ◌⊎◌, false, Some}
+use Rattle.xfs_base.specs.declared.block.BlockId.{BlockId}
+use Rattle.xfs_base.specs.declared.entry.Entry.{Entry}
+use Rattle.xfs_base.specs.declared.entry.Place.{Place}
+use Rattle.delta_index.specs.Entries.{no_entry, is_newer, HasSameRank}
+use Rattle.token_manager.specs.Recalls.{applied_of}
+use Rattle.token_manager.specs.SlotState.{SlotState}
+use Rattle.token_manager.specs.Transition.{entry_at}
+use Rattle.log_protocol.specs.IndexState.{IndexState}
+use Rattle.log_protocol.specs.IndexLaws.{IndexReached}
+use Rattle.index_tie.specs.Filed.{Filed, row_at, IsFiled, Tells, Names}
+use Rattle.log_protocol.specs.IndexState as index
+use Rattle.index_tie.specs.Slots.{Manages}
+
+-- an entry is a row that the slot has applied, and the earliest of its version and hop
+pub record IsAppliedRow (b : BlockId) (f : Filed) (s : SlotState) (entry : Entry) : Type 0 where
+  pub log : ℕ
+  pub seq : ℕ
+  pub some : 0 < log
+  pub applied : seq ≤ applied_of s.applied log
+  pub is : entry ≡ row_at f b log seq
+  pub earliest : (l q : ℕ) → 0 < l → q ≤ applied_of s.applied l → HasSameRank (row_at f b l q) entry → seq ≤ q
+
+-- What the index of a slot holds of the block is the join of what the slot has applied: none of it is newer, and it is one of it, or no entry.
+pub record IsJoinOfApplied (b : BlockId) (f : Filed) (s : SlotState) : Type 0 where
+  pub newest : (l q : ℕ) → 0 < l → q ≤ applied_of s.applied l → is_newer (row_at f b l q) (entry_at s b) ≡ false
+  pub one : (entry_at s b ≡ no_entry) ⊎ IsAppliedRow b f s (entry_at s b)
+
+-- The index of each active slot is the join of what it has applied.
+abbrev pub IndexesAreJoins : Type 0
+IndexesAreJoins = (b : BlockId) (f : Filed) (w : IndexState) (s : SlotState) → IndexReached w → IsFiled f → Tells b f w → Manages b f w s → IsJoinOfApplied b f s
+
+-- the place of an entry names the log and the seq of its row, and the segment that was filed there
+pub record IsExact (f : Filed) (named : index.Entry) (place : Place) : Type 0 where
+  pub log : place.seg.name.log.0 ≡ named.log
+  pub seq : place.seg.name.seq ≡ named.seq
+  pub name : place.seg.name ≡ (f.segment named.log named.seq).name
+  pub group : place.seg.group ≡ (f.segment named.log named.seq).group
+  pub some : 0 < named.seq
+  pub filed : named.seq ≤ f.head named.log
+
+-- Places are exact.
+abbrev pub PlacesAreExact : Type 0
+PlacesAreExact = (b : BlockId) (f : Filed) (entry : Entry) (named : index.Entry) (place : Place) → IsFiled f → Names b f entry named → entry.place ≡ Some place → IsExact f named place
+
+-- a newer version of the block is filed
+pub record IsOutdated (b : BlockId) (f : Filed) (entry : Entry) : Type 0 where
+  pub log : ℕ
+  pub seq : ℕ
+  pub newer : entry.ver < (row_at f b log seq).ver
+
+-- What was dropped is outdated: where a slot's entry lies in a segment whose row was dropped, and a Dead of it was counted at an epoch up to the slot's, a newer
+-- version is filed.
+abbrev pub DroppedIsOutdated : Type 0
+DroppedIsOutdated =
+    (b : BlockId) (f : Filed) (w : IndexState) (s : SlotState) (place : Place) → IndexReached w → IsFiled f → Tells b f w → Manages b f w s → (entry_at s b).place ≡ Some place
+    → w.dropped place.seg.name.log.0 place.seg.name.seq ≡ 1 → w.dead_at place.seg.name.log.0 place.seg.name.seq ≤ s.epoch → IsOutdated b f (entry_at s b)
+
+-- a row of the block that no filed one is newer than, and the earliest of its version and hop
+pub record IsNewest (b : BlockId) (f : Filed) (l q : ℕ) : Type 0 where
+  pub some : 0 < (row_at f b l q).ver
+  pub newest : (m r : ℕ) → is_newer (row_at f b m r) (row_at f b l q) ≡ false
+  pub earliest : (m r : ℕ) → HasSameRank (row_at f b m r) (row_at f b l q) → q ≤ r
+
+-- Cleaning loses nothing: the newest row was not dropped.
+abbrev pub NewestIsKept : Type 0
+NewestIsKept = (b : BlockId) (f : Filed) (w : IndexState) (l q : ℕ) → IndexReached w → IsFiled f → Tells b f w → IsNewest b f l q → w.dropped l q ≡ 1 → ⊥

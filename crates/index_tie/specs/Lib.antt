@@ -1,0 +1,10 @@
+pub mod Filed
+pub mod Growth
+pub mod Slots
+pub mod Takeovers
+pub mod Checkpoints
+pub mod Feeds
+pub mod Cleaning
+pub mod Laws
+pub mod Net
+pub mod NetLaws

@@ -1,0 +1,37 @@
+-- The laws of every run of the small world.
+use Rattle.std.specs.Prelude.{◌≡◌, ℕ, ◌≤◌, true, Some}
+use Rattle.segment_format.specs.declared.segment.Segment.{Segment}
+use Rattle.xfs_base.specs.declared.block.BlockId.{BlockId}
+use Rattle.xfs_base.specs.declared.entry.Place.{Place}
+use Rattle.xfs_base.specs.declared.segment.SegName.{SegName}
+use Rattle.xfs_base.specs.declared.segment.SegRef.{SegRef}
+use Rattle.xfs_base.specs.Blocks.{slot_of}
+use Rattle.checkpoint.specs.WriterState.{Rows}
+use Rattle.token_manager.specs.SlotState.{SlotState}
+use Rattle.token_manager.specs.Transition.{entry_at}
+use Rattle.log_protocol.specs.Tables.{In}
+use Rattle.index_tie.specs.Cleaning.{is_filed_name, has_block}
+use Rattle.index_tie.specs.Laws.{IsJoinOfApplied, IsNewest, IsOutdated}
+use Rattle.index_tie.specs.Net.{Net, Runs, opening}
+
+-- a moment of a run, and a block of the slot
+pub record Moment (part : ℕ) (holds : SegRef → Rows) (n : Net) (b : BlockId) : Type 0 where
+  pub any : ℕ → ℕ → Segment
+  pub run : Runs part holds (opening any) n
+  pub inside : slot_of b.ino.0 ≡ part
+
+-- The index of each active slot, deposed or not, is the join of what it has applied.
+abbrev pub EachIndexIsTheJoin : Type 0
+EachIndexIsTheJoin = (part : ℕ) (holds : SegRef → Rows) (n : Net) (b : BlockId) (e : ℕ) (s : SlotState) → Moment part holds n b → n.slots e ≡ Some s → IsJoinOfApplied b n.filed s
+
+-- Cleaning loses nothing: the newest row of a block isn't in a segment that was to be deleted.
+abbrev pub NewestIsNeverDeleted : Type 0
+NewestIsNeverDeleted =
+    (part : ℕ) (holds : SegRef → Rows) (n : Net) (b : BlockId) (name : SegName) → Moment part holds n b → In name n.deleted → is_filed_name n.filed name ≡ true → has_block b n.filed name ≡ true
+    → IsNewest b n.filed name.log.0 name.seq → ⊥
+
+-- And where the entry of the slot that reigns lies in such a segment, a newer version is filed: it will be told of it.
+abbrev pub ReigningIsOutdated : Type 0
+ReigningIsOutdated =
+    (part : ℕ) (holds : SegRef → Rows) (n : Net) (b : BlockId) (e : ℕ) (s : SlotState) (place : Place) → Moment part holds n b → n.slots e ≡ Some s → ((d : ℕ) (t : SlotState) → n.slots d ≡ Some t → d ≤ e) → (entry_at s b).place ≡ Some place
+    → In place.seg.name n.deleted → is_filed_name n.filed place.seg.name ≡ true → has_block b n.filed place.seg.name ≡ true → IsOutdated b n.filed (entry_at s b)
