@@ -1,0 +1,16 @@
+//! Facts of a client by itself, whatever packets come in whatever order, however time passes, and whichever
+//! items it has. It has no code: each function below has an empty body, and its contract is a law.
+#![tactic(auto)]
+
+ghost use Rattle.client_law.specs.Unserving.{SaysNothingOfTokens, TakesNothingOfTokens};
+
+/// A client that doesn't serve, down or while it opens its log, says nothing of tokens and takes nothing of
+/// them.
+///
+/// - `says_nothing`: whatever happens, it sends no Want, Gave, Report or Supply.
+/// - `takes_nothing`: a Grant, Supply, Forward, Recall or Poll leaves it as it was, but that it may ask for
+///   the maps.
+pub fn only_who_serves_has_tokens()
+    ensures says_nothing { SaysNothingOfTokens }
+    ensures takes_nothing { TakesNothingOfTokens }
+{}
