@@ -1,2 +1,6 @@
 mod Effects
+mod Quiet
+mod Keeping
+mod Sounding
+mod Arriving
 mod Unserving
