@@ -88,12 +88,12 @@ module _ (B : Fact) (P : ℕ → Fact) (Q : BlockId → Fact) (k : Keeps B P Q) 
   abbrev pub KeptOrFresh : Serving → Type 0
   KeptOrFresh s = At (P 0) s ⊎ IsFresh Q s
 
-  lessens : (s : Serving) → At (P 1) s → At (P 0) s
+  pub lessens : (s : Serving) → At (P 1) s → At (P 0) s
   lessens s p = k.less s.tokens s.log s.cache p
 
   -- ---- reading
 
-  loses-keeps : (n : ℕ) (s : Serving) (block : BlockId) (seg : SegName) → At (P n) s → At (P n) (loses s block seg).state
+  pub loses-keeps : (n : ℕ) (s : Serving) (block : BlockId) (seg : SegName) → At (P n) s → At (P n) (loses s block seg).state
   unfolding loses
   loses-keeps n s block seg p = (k.takes n).quiet s.tokens (on_quit s.tokens block).state s.log s.cache (on_quit-quiet s.tokens block).quiet p
 

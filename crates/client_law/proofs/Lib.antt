@@ -3,4 +3,7 @@ mod Quiet
 mod Keeping
 mod Sounding
 mod Arriving
+mod Packets
+mod Calls
+mod Happening
 mod Unserving

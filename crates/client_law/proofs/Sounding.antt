@@ -130,7 +130,7 @@ reads-sound s block place p =
 
 -- ---- what the tokens say
 
-seals-sound : (s : Serving) → Sound s → Sound (seals s).state
+pub seals-sound : (s : Serving) → Sound s → Sound (seals s).state
 unfolding seals
 seals-sound s p = p
 
