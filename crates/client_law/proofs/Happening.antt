@@ -200,3 +200,12 @@ module _ (B : Fact) (P : ℕ → Fact) (Q : _) (k : Keeps B P Q) (O : openings.O
       serves_so (after_events (first_client number setup works) events).phase
       (after-so (first_client number setup works) events (first_asks number setup works)
       (starts 1 _ l setup.cache (first (record { 0 = number }) map)))
+
+-- what follows from what holds after any events holds after any events
+pub after_weaker : (F G : Serving → Type 0) → ((s : Serving) → F s → G s) → HoldsAfterAnyEvents F → HoldsAfterAnyEvents G
+after_weaker F G f h number setup works events = weaker (after_events (first_client number setup works) events).phase (h number setup works events)
+  where
+    weaker : (phase : Phase) → WhereItServes F phase → WhereItServes G phase
+    weaker (Down l) p = tt
+    weaker (Opening l o) p = tt
+    weaker (Serves s) p = f s p

@@ -6,4 +6,6 @@ mod Arriving
 mod Packets
 mod Calls
 mod Happening
+mod Writing
+mod Giving
 mod Unserving

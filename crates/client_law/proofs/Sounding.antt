@@ -180,7 +180,7 @@ gives_if_clean-sound s block p =
     by_test (λ (d : Done). Sound d.state) (is_dirty (held_at s block)) (still s) (gives_up s block (held_at s block).giving) (λ t. p)
     (λ t. gives_up-sound s block (held_at s block).giving p)
 
-settles-sound : (s : Serving) (end : End) (rows : List (BlockId × Entry)) → Sound s → Sound (settles s end rows).state
+pub settles-sound : (s : Serving) (end : End) (rows : List (BlockId × Entry)) → Sound s → Sound (settles s end rows).state
 unfolding settles
 settles-sound s end rows p =
     steps-sound gives_if_clean gives_if_clean-sound (feeds (settled_rows s rows) end rows) (dirty_in s.tokens.blocks) (settled_rows-sound s rows p)

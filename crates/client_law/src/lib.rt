@@ -2,6 +2,7 @@
 //! items it has. It has no code: each function below has an empty body, and its contract is a law.
 #![tactic(auto)]
 
+ghost use Rattle.client_law.specs.Giving.{PutsOffWhatIsDirty};
 ghost use Rattle.client_law.specs.Unserving.{SaysNothingOfTokens, TakesNothingOfTokens};
 
 /// A client that doesn't serve, down or while it opens its log, says nothing of tokens and takes nothing of
@@ -13,4 +14,10 @@ ghost use Rattle.client_law.specs.Unserving.{SaysNothingOfTokens, TakesNothingOf
 pub fn only_who_serves_has_tokens()
     ensures says_nothing { SaysNothingOfTokens }
     ensures takes_nothing { TakesNothingOfTokens }
+{}
+
+/// After any events a recall is put off of dirty blocks alone: once all of a block is settled it is given up
+/// in that very event (the 1996 paper, on cache consistency).
+pub fn puts_off_what_is_dirty()
+    ensures dirty { PutsOffWhatIsDirty }
 {}
