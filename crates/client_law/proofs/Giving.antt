@@ -54,7 +54,7 @@ abbrev GivesBut : (BlockId → Type 0) → TokensState → Type 0
 GivesBut X t = (b : BlockId) → is_some (held_of t.blocks b).giving ≡ true → (is_dirty (held_of t.blocks b) ≡ true) ⊎ X b
 
 -- a block at the same versions is as dirty
-dirty_same : (h g : Held) → g.ver ≡ h.ver → g.settled ≡ h.settled → is_dirty g ≡ is_dirty h
+pub dirty_same : (h g : Held) → g.ver ≡ h.ver → g.settled ≡ h.settled → is_dirty g ≡ is_dirty h
 dirty_same h g ver settled = ap (λ n. nat_lt g.settled n) ver ∙ ap (λ n. nat_lt n h.ver) settled
 
 -- what was dirty is, and what was excepted is
@@ -341,10 +341,10 @@ keeps-giving = record {
 
 -- ---- openings
 
-abbrev AnyOpening : openings.Opening → Type 0
+abbrev pub AnyOpening : openings.Opening → Type 0
 AnyOpening o = Unit {0}
 
-abbrev AnyLog : LogState → Type 0
+abbrev pub AnyLog : LogState → Type 0
 AnyLog l = Unit {0}
 
 any_opens : (p : Progress) → OpensSo AnyOpening AnyLog p

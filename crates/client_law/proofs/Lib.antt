@@ -8,4 +8,7 @@ mod Calls
 mod Happening
 mod Writing
 mod Giving
+mod Orders
+mod Caching
+mod CachingSteps
 mod Unserving

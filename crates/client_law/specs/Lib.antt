@@ -1,3 +1,4 @@
+pub mod Caching
 pub mod Events
 pub mod Giving
 pub mod Unserving

@@ -2,6 +2,7 @@
 //! items it has. It has no code: each function below has an empty body, and its contract is a law.
 #![tactic(auto)]
 
+ghost use Rattle.client_law.specs.Caching.{CachesJustWhatIsClean};
 ghost use Rattle.client_law.specs.Giving.{PutsOffWhatIsDirty};
 ghost use Rattle.client_law.specs.Unserving.{SaysNothingOfTokens, TakesNothingOfTokens};
 
@@ -20,4 +21,10 @@ pub fn only_who_serves_has_tokens()
 /// in that very event (the 1996 paper, on cache consistency).
 pub fn puts_off_what_is_dirty()
     ensures dirty { PutsOffWhatIsDirty }
+{}
+
+/// After any events the cache of a client has just the blocks that it holds and that are clean, and what leaves
+/// it is held and clean (the 1996 paper, on cooperative caching).
+pub fn caches_what_is_clean()
+    ensures clean { CachesJustWhatIsClean }
 {}
