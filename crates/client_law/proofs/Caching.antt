@@ -39,11 +39,12 @@ use Rattle.xfs_base.specs.Steps.{steps, still}
 use Rattle.xfs_base.proofs.BlockOrder.{same_block_exact, same_block_itself}
 use Rattle.xfs_base.proofs.Booleans.{and_first, and_second, by_test, contrary, not_true, or_first, or_second}
 use Rattle.xfs_base.proofs.Members.{contains_cases, contains_first, contains_nothing, contains_rest}
+use Rattle.client_law.specs.Blocks.{Once}
 use Rattle.client_law.specs.Caching.{CachesJustWhatIsClean, CachesWhatIsClean, IsCleanVictim}
 use Rattle.client_law.proofs.Giving.{any_reopens, AnyLog, AnyOpening, dirty_same}
 use Rattle.client_law.proofs.Happening.{after_weaker, always}
 use Rattle.client_law.proofs.Keeping.{At, Fact, IsCopied, IsLetGo, IsLowered, IsOwned, IsPutOff, Keeps, Sound, TakesKeep, notes_gone-keeps, seals-keeps, takes_back-keeps}
-use Rattle.client_law.proofs.Orders.{Once, either, has, in_drop, in_take, in_used, in_without, not_both, not_both_parts, once_drop, once_used, once_without, or_elim, same_symmetric, taken_or_left, to_used, to_without}
+use Rattle.client_law.proofs.Orders.{either, has, in_drop, in_take, in_used, in_without, not_both, not_both_parts, once_drop, once_used, once_without, or_elim, same_symmetric, taken_or_left, to_used, to_without}
 use Rattle.client_law.proofs.Quiet.{IsQuiet, IsSame}
 
 -- the cache has just what is held and clean, but perhaps for these

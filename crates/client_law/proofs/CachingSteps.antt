@@ -44,7 +44,7 @@ use Rattle.client_law.proofs.Happening.{after_weaker, always}
 use Rattle.client_law.proofs.Caching.{C, CachesBut, clean-caches, clean_evicts, clean_victims, dirty_stays, gone-caches, left-caches, put_cases, same-caches, settled_clean, takes-cache}
 use Rattle.client_law.proofs.Effects.{all_weaker}
 use Rattle.client_law.proofs.Keeping.{At, Fact, IsCopied, IsLetGo, IsLowered, IsOwned, IsPutOff, Keeps, Sound, TakesKeep, notes_gone-keeps, seals-keeps, takes_back-keeps}
-use Rattle.client_law.proofs.Orders.{Once, either, has, in_drop, in_take, in_used, in_without, not_both, not_both_parts, once_drop, once_used, once_without, or_elim, same_symmetric, taken_or_left, to_used, to_without}
+use Rattle.client_law.proofs.Orders.{either, has, in_drop, in_take, in_used, in_without, not_both, not_both_parts, once_drop, once_used, once_without, or_elim, same_symmetric, taken_or_left, to_used, to_without}
 use Rattle.client_law.proofs.Quiet.{IsQuiet, IsSame}
 
 -- ---- a segment is settled
@@ -278,6 +278,7 @@ both_ways false false f g = refl
 
 what_is_clean : (s : Serving) → At (C none) s → CachesWhatIsClean s
 what_is_clean s p = record {
+  once = p.once;
   exact = λ b. both_ways (is_clean s.cache b) (may_evict (held_at s b)) (p.cached b) (λ clean. surely (p.caches b clean));
   victims = λ block clean.
       (let order : List BlockId = used_last block s.cache.blocks in

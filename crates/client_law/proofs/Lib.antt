@@ -11,4 +11,6 @@ mod Giving
 mod Orders
 mod Caching
 mod CachingSteps
+mod Versions
+mod Unsettled
 mod Unserving

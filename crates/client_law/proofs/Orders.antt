@@ -4,16 +4,12 @@ use Rattle.std.specs.List.{list_any}
 use Rattle.coop_cache.specs.Transition.{used_last, without}
 use Rattle.xfs_base.specs.Blocks.{same_block}
 use Rattle.xfs_base.specs.declared.block.BlockId.{BlockId}
+use Rattle.client_law.specs.Blocks.{Once}
 use Rattle.xfs_base.proofs.BlockOrder.{same_block_exact, same_block_itself}
 use Rattle.xfs_base.proofs.Booleans.{and_first, and_second, by_test, contrary, not_true, or_first, or_second}
 
 abbrev pub has : BlockId → List BlockId → Bool
 has b bs = list_any (same_block b) bs
-
--- no block twice
-abbrev pub Once : List BlockId → Type 0
-Once [] = Unit {0}
-Once (b ∷ bs) = (has b bs ≡ false) × Once bs
 
 -- a block is this one or not
 pub either : (t : Bool) → (t ≡ true) ⊎ (t ≡ false)

@@ -1,4 +1,6 @@
+pub mod Blocks
 pub mod Caching
+pub mod Unsettled
 pub mod Events
 pub mod Giving
 pub mod Unserving
