@@ -13,4 +13,6 @@ mod Caching
 mod CachingSteps
 mod Versions
 mod Unsettled
+mod UnsettledSteps
+mod UnsettledAlways
 mod Unserving

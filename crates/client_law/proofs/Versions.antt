@@ -186,7 +186,7 @@ versions_put k change (c ∷ cs) = by_same (same_block k c.0) (versions_put k ch
     by_same false h = ap (λ rest. version_of c ∷ rest) h
 
 -- what items tell of blocks
-abbrev told : Segment → List Item → Versions
+abbrev pub told : Segment → List Item → Versions
 told s items = map row_version (filter_map (row_of s) items)
 
 told-change : (s : Segment) (before : ℕ) (b : BlockId) (entry : Entry) (value : Option (List ℕ)) (rest : List Item)
