@@ -1,3 +1,4 @@
 pub mod Behaving
+pub mod Emptying
 pub mod Promising
 pub mod Starting
