@@ -5,6 +5,7 @@
 ghost use Rattle.client_law.specs.Caching.{CachesJustWhatIsClean};
 ghost use Rattle.client_law.specs.Giving.{PutsOffWhatIsDirty};
 ghost use Rattle.client_law.specs.Unserving.{SaysNothingOfTokens, TakesNothingOfTokens};
+ghost use Rattle.client_law.specs.Unsettled.{WritesJustWhatIsDirty};
 
 /// A client that doesn't serve, down or while it opens its log, says nothing of tokens and takes nothing of
 /// them.
@@ -27,4 +28,11 @@ pub fn puts_off_what_is_dirty()
 /// it is held and clean (the 1996 paper, on cooperative caching).
 pub fn caches_what_is_clean()
     ensures clean { CachesJustWhatIsClean }
+{}
+
+/// After any events just the dirty blocks of a client whose newest version isn't in flight wait to be written
+/// to its log, each once, and what is in flight of a block is above its settled version and at most its newest
+/// (the 1996 paper, "Writes").
+pub fn writes_what_is_dirty()
+    ensures written { WritesJustWhatIsDirty }
 {}
