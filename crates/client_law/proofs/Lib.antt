@@ -1,3 +1,4 @@
+mod Asking
 mod Effects
 mod Quiet
 mod Keeping

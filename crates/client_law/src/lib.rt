@@ -2,6 +2,7 @@
 //! items it has. It has no code: each function below has an empty body, and its contract is a law.
 #![tactic(auto)]
 
+ghost use Rattle.client_law.specs.Asking.{AsksForOneBlockAlways};
 ghost use Rattle.client_law.specs.Caching.{CachesJustWhatIsClean};
 ghost use Rattle.client_law.specs.Giving.{PutsOffWhatIsDirty};
 ghost use Rattle.client_law.specs.Unserving.{SaysNothingOfTokens, TakesNothingOfTokens};
@@ -35,4 +36,10 @@ pub fn caches_what_is_clean()
 /// (the 1996 paper, "Writes").
 pub fn writes_what_is_dirty()
     ensures written { WritesJustWhatIsDirty }
+{}
+
+/// After any events at most one block asks, by a want or a fetch, and that for the open call: to be written for
+/// a call that writes it, to be read for one that reads it (the 1996 paper, on cache consistency).
+pub fn asks_for_one_block()
+    ensures one { AsksForOneBlockAlways }
 {}
