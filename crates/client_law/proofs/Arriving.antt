@@ -8,6 +8,7 @@ use Rattle.client_node.specs.Follow.{follows, follows_one, notes_clean, notes_co
 use Rattle.client_node.specs.Reads.{ask_after, begins, begins_over, confirmed_next, confirms, drawn_after, draws, ends_reading, group_in, kept_while, loses, loses_at, reading_in, reads, reads_over, same_target, target_of, with_reading}
 use Rattle.client_node.specs.Sends as client
 use Rattle.group_map.specs.declared.group.Group.{Group}
+use Rattle.group_map.specs.GroupMapState.{GroupMapState}
 use Rattle.node_base.specs.Room.{has_long_room}
 use Rattle.stripe_code.specs.declared.reading.Next.{Next}
 use Rattle.stripe_code.specs.declared.reading.Next.TheVariants as next
@@ -83,7 +84,7 @@ pub record IsFresh (Q : BlockId → Fact) (s : Serving) : Type 0 where
   pub may : may_write (held_at s block) ≡ true
   pub empty : is_none (held_at s block).value ≡ true
 
-module _ (B : Fact) (P : ℕ → Fact) (Q : BlockId → Fact) (k : Keeps B P Q) where
+module _ (A : BlockId → Type 0) (M : GroupMapState → Type 0) (B : Fact) (P : ℕ → Fact) (Q : BlockId → Fact) (k : Keeps A M B P Q) where
   -- the fact is kept, or a block was just granted to be written
   abbrev pub KeptOrFresh : Serving → Type 0
   KeptOrFresh s = At (P 0) s ⊎ IsFresh Q s
@@ -157,13 +158,13 @@ module _ (B : Fact) (P : ℕ → Fact) (Q : BlockId → Fact) (k : Keeps B P Q) 
     unfolding follows
     stays = p
 
-    copy-arrives : (g : Held) → IsCopied h g → At (P 1) (told s (record { state = with_held s.tokens block g; outs = Ready block ∷ [] })).state
+    copy-arrives : (g : Held) → A block → IsCopied h g → At (P 1) (told s (record { state = with_held s.tokens block g; outs = Ready block ∷ [] })).state
     unfolding follows follows_one notes_copy
-    copy-arrives g is =
+    copy-arrives g may is =
         let t : TokensState = with_held s.tokens block g in
         let u : Serving = with_block g in
         by_test (At (P 1)) (same_mode (held_of t.blocks block).mode Copy) (notes_clean u block) u
-        (λ x. k.copies (with_reading s (kept_while t (reading_in s.call))) block g asks.sound is p)
+        (λ x. k.copies (with_reading s (kept_while t (reading_in s.call))) block g may asks.sound is p)
         (λ x. contrary (sym x ∙ ap (λ (f : Held). same_mode f.mode Copy) (held_of-put_itself block g s.tokens.blocks) ∙ ap (λ m. same_mode m Copy) is.mode))
 
     module _ (stamp : Stamp) (inc req : ℕ) where
@@ -179,12 +180,12 @@ module _ (B : Fact) (P : ℕ → Fact) (Q : BlockId → Fact) (k : Keeps B P Q) 
       unheld : accepts s.tokens block stamp inc req Copy ≡ true → h.mode ≡ Nothing
       unheld t = unheld_is_nothing h.mode (needs_it Copy t).1
 
-      pub supplied-keeps : (ver : ℕ) (value : Option (List ℕ)) → At (P 1) (told s (on_supplied s.tokens block stamp inc req ver value)).state
+      pub supplied-keeps : A block → (ver : ℕ) (value : Option (List ℕ)) → At (P 1) (told s (on_supplied s.tokens block stamp inc req ver value)).state
       unfolding on_supplied
-      supplied-keeps ver value =
+      supplied-keeps may ver value =
           by_test (λ (d : Done). At (P 1) (told s d).state) (accepts s.tokens block stamp inc req Copy)
           (record { state = with_held s.tokens block (copied h stamp ver value); outs = Ready block ∷ [] }) (still s.tokens)
-          (λ t. copy-arrives (copied h stamp ver value) (record { asks = asked Copy t; unheld = unheld t; mode = refl; clean = refl; giving = refl })) (λ t. stays)
+          (λ t. copy-arrives (copied h stamp ver value) may (record { asks = asked Copy t; unheld = unheld t; mode = refl; clean = refl; giving = refl })) (λ t. stays)
 
       -- ---- a grant
 
@@ -194,19 +195,19 @@ module _ (B : Fact) (P : ℕ → Fact) (Q : BlockId → Fact) (k : Keeps B P Q) 
           (k.takes 1).quiet s.tokens (with_held s.tokens block g) s.log s.cache
           (quiet_put s.tokens block g (record { mode = sym nothing; ver = refl; settled = refl; giving = λ x. x })) p
 
-      granted_copy : (entry : Entry) → At (P 1) (told s (on_granted s.tokens block stamp inc req Copy entry)).state
+      granted_copy : A block → (entry : Entry) → At (P 1) (told s (on_granted s.tokens block stamp inc req Copy entry)).state
       unfolding on_granted follows follows_one
-      granted_copy entry =
+      granted_copy arrives entry =
           by_test (λ (d : Done). At (P 1) (told s d).state) (accepts s.tokens block stamp inc req Copy) _ (still s.tokens) (λ t. placed t entry.place) (λ t. stays)
         where
           placed : accepts s.tokens block stamp inc req Copy ≡ true → (place : Option Place)
               → At (P 1) (told s (record { state = with_held s.tokens block (copy_granted h stamp entry.ver place); outs = copy_next block place ∷ [] })).state
-          placed t None = copy-arrives (copied h stamp entry.ver None) (record { asks = asked Copy t; unheld = unheld t; mode = refl; clean = refl; giving = refl })
+          placed t None = copy-arrives (copied h stamp entry.ver None) arrives (record { asks = asked Copy t; unheld = unheld t; mode = refl; clean = refl; giving = refl })
           placed t (Some place) = reads-keeps 1 (with_block (fetched_from h stamp entry.ver place)) block place (fetched-same entry.ver place (unheld t))
 
-      granted_own : (entry : Entry) → has_long_room entry.ver ≡ true → KeptOrFresh (told s (on_granted s.tokens block stamp inc req Own entry)).state
+      granted_own : A block → (entry : Entry) → has_long_room entry.ver ≡ true → KeptOrFresh (told s (on_granted s.tokens block stamp inc req Own entry)).state
       unfolding on_granted follows follows_one notes_copy
-      granted_own entry room =
+      granted_own arrives entry room =
           let g : Held = owned h stamp entry.ver in
           by_test (λ (d : Done). KeptOrFresh (told s d).state) (accepts s.tokens block stamp inc req Own)
           (record { state = with_held s.tokens block g; outs = Ready block ∷ [] }) (still s.tokens) (λ t. owned_now t) (λ t. inl (lessens (told s (still s.tokens)).state stays))
@@ -223,22 +224,22 @@ module _ (B : Fact) (P : ℕ → Fact) (Q : BlockId → Fact) (k : Keeps B P Q) 
               (λ x. contrary (sym (ap (λ (f : Held). same_mode f.mode Copy) now) ∙ x))
               (λ x. inr (record {
                 block = block;
-                fact = k.owns s.tokens s.log s.cache block g asks.sound (record { asks = asked Own t; mode = refl; clean = refl; giving = refl }) p;
+                fact = k.owns s.tokens s.log s.cache block g arrives asks.sound (record { asks = asked Own t; mode = refl; clean = refl; giving = refl }) p;
                 needs = needed_same (with_block g).call s.call (call_with-step s.call (kept_while u (reading_in s.call))) ∙ (needs_it Own t).0;
                 may = ap may_write now ∙ ap (λ b. b && nat_lt entry.ver (2 ^ 64 - 1)) ungiven ∙ below;
                 empty = ap (λ (f : Held). is_none f.value) now;
               }))
 
-      pub granted-keeps : (mode : Mode) (entry : Entry) → (is_own mode && not (has_long_room entry.ver)) ≡ false
+      pub granted-keeps : A block → (mode : Mode) (entry : Entry) → (is_own mode && not (has_long_room entry.ver)) ≡ false
           → KeptOrFresh (told s (on_granted s.tokens block stamp inc req mode entry)).state
       unfolding on_granted
-      granted-keeps Copy entry room = inl (lessens (told s (on_granted s.tokens block stamp inc req Copy entry)).state (granted_copy entry))
-      granted-keeps Own entry room = granted_own entry (not_false (has_long_room entry.ver) room)
+      granted-keeps arrives Copy entry room = inl (lessens (told s (on_granted s.tokens block stamp inc req Copy entry)).state (granted_copy arrives entry))
+      granted-keeps arrives Own entry room = granted_own arrives entry (not_false (has_long_room entry.ver) room)
         where
           not_false : (b : Bool) → not b ≡ false → b ≡ true
           not_false true h = refl
           not_false false h = contrary (sym h)
-      granted-keeps Nothing entry room = inl (lessens (told s (on_granted s.tokens block stamp inc req Nothing entry)).state none)
+      granted-keeps arrives Nothing entry room = inl (lessens (told s (on_granted s.tokens block stamp inc req Nothing entry)).state none)
         where
           none : At (P 1) (told s (on_granted s.tokens block stamp inc req Nothing entry)).state
           none =
@@ -251,12 +252,12 @@ module _ (B : Fact) (P : ℕ → Fact) (Q : BlockId → Fact) (k : Keeps B P Q) 
     ended-copied None value some asking nothing = contrary some
     ended-copied (Some f) value some asking nothing = record { asks = asking; unheld = nothing; mode = refl; clean = refl; giving = refl }
 
-    pub fetched-keeps : (value : Option (List ℕ)) → At (P 1) (told s (on_fetched s.tokens block value)).state
+    pub fetched-keeps : (may_end_fetch h ≡ true → A block) → (value : Option (List ℕ)) → At (P 1) (told s (on_fetched s.tokens block value)).state
     unfolding on_fetched
-    fetched-keeps value =
+    fetched-keeps may value =
         let fetching : may_end_fetch h ≡ true → is_some h.fetch ≡ true = and_first (is_some h.fetch) (is_none h.want) in
         by_test (λ (d : Done). At (P 1) (told s d).state) (may_end_fetch h)
         (record { state = with_held s.tokens block (fetch_ended h h.fetch value); outs = Ready block ∷ [] }) (still s.tokens)
-        (λ t. copy-arrives (fetch_ended h h.fetch value)
+        (λ t. copy-arrives (fetch_ended h h.fetch value) (may t)
         (ended-copied h.fetch value (fetching t) (asks_by_fetch h (fetching t)) (unheld_is_nothing h.mode ((asks.sound.each block).fetch_unheld (fetching t)))))
         (λ t. stays)

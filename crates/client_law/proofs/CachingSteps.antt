@@ -40,7 +40,7 @@ use Rattle.xfs_base.proofs.Booleans.{and_first, and_second, by_test, contrary, n
 use Rattle.xfs_base.proofs.Members.{contains_cases, contains_first, contains_nothing, contains_rest}
 use Rattle.client_law.specs.Caching.{CachesJustWhatIsClean, CachesWhatIsClean, IsCleanVictim}
 use Rattle.client_law.proofs.Giving.{any_reopens, AnyLog, AnyOpening, dirty_same}
-use Rattle.client_law.proofs.Happening.{after_weaker, always}
+use Rattle.client_law.proofs.Happening.{AnyBlock, AnyMap, after_weaker, always}
 use Rattle.client_law.proofs.Caching.{C, CachesBut, clean-caches, clean_evicts, clean_victims, dirty_stays, gone-caches, left-caches, put_cases, same-caches, settled_clean, takes-cache}
 use Rattle.client_law.proofs.Effects.{all_weaker}
 use Rattle.client_law.proofs.Keeping.{At, Fact, IsCopied, IsLetGo, IsLowered, IsOwned, IsPutOff, Keeps, Sound, TakesKeep, notes_gone-keeps, seals-keeps, takes_back-keeps}
@@ -254,15 +254,15 @@ touched-caches t c block p =
       caches = λ b clean. still_there b (p.caches b clean);
     }
 
-keeps-caching : Keeps (C none) (λ n. C none) (λ block. C (λ b. b ≡ block))
+keeps-caching : Keeps AnyBlock AnyMap (C none) (λ n. C none) (λ block. C (λ b. b ≡ block))
 keeps-caching = record {
   begins = λ t l c p room. p;
   less = λ t l c p. p;
   ends = λ t l c p. p;
   takes = λ n. takes-cache none;
   touches = λ t l c block p. touched-caches t c block p;
-  copies = λ s block g sound is p. copies-caches s block g is p;
-  owns = λ t l c block g sound is p. arrived t c block g (clean_evicts g (ap is_held is.mode) (settled_clean g is.clean)) p;
+  copies = λ s block g may sound is p. copies-caches s block g is p;
+  owns = λ t l c block g may sound is p. arrived t c block g (clean_evicts g (ap is_held is.mode) (settled_clean g is.clean)) p;
   logs = λ s i outer sound p. logs-caches s i p;
   puts = λ s block value sound may p. changes-caches s block value sound may (more (λ b. b ≡ block) s p);
   puts_owned = changes-caches;

@@ -13,6 +13,7 @@ use Rattle.client_node.specs.Sends as client
 use Rattle.file_plan.specs.declared.block_call.BlockAnswer.{BlockAnswer}
 use Rattle.file_plan.specs.declared.block_call.BlockCall.{BlockCall}
 use Rattle.file_plan.specs.declared.block_call.BlockCall.TheVariants.{Get, Put, PutAt, Sync}
+use Rattle.group_map.specs.GroupMapState.{GroupMapState}
 use Rattle.token_client.specs.declared.held.Held.{Held}
 use Rattle.token_client.specs.declared.input.In.TheVariants as input
 use Rattle.token_client.specs.Held.{is_dirty, let_go, may_evict, may_write}
@@ -98,7 +99,7 @@ makes-sound s Sync p = seals-sound s p
 
 -- ---- the fact
 
-module _ (B : Fact) (P : ℕ → Fact) (Q : BlockId → Fact) (k : Keeps B P Q) where
+module _ (A : BlockId → Type 0) (M : GroupMapState → Type 0) (B : Fact) (P : ℕ → Fact) (Q : BlockId → Fact) (k : Keeps A M B P Q) where
   abbrev T : TakesKeep (P 0)
   T = k.takes 0
 
@@ -236,7 +237,7 @@ module _ (B : Fact) (P : ℕ → Fact) (Q : BlockId → Fact) (k : Keeps B P Q) 
       by_test (λ (d : client.Done). Both d.state) r.goes (after r.done.outs (runs_upto n r.done.state)) r.done (λ t. runs_upto-both n r.done.state q) (λ t. q)
 
   -- the open call runs
-  pub runs-keeps : (s : Serving) → Sound s → KeptOrFresh B P Q k s → At (P 0) (runs s).state
+  pub runs-keeps : (s : Serving) → Sound s → KeptOrFresh A M B P Q k s → At (P 0) (runs s).state
   unfolding runs
   runs-keeps s sound (inl p) = (runs_upto-both most_steps s (record { sound = sound; fact = p })).fact
   runs-keeps s sound (inr f) = (runs_upto-fresh most_steps s (omega arith) sound f).fact

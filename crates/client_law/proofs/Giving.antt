@@ -43,7 +43,7 @@ use Rattle.xfs_base.proofs.BlockOrder.{block_cmp_exact}
 use Rattle.xfs_base.proofs.Booleans.{and_first, and_second, by_test, contrary, not_true, or_first}
 use Rattle.xfs_base.proofs.Members.{contains_cases, contains_first, contains_nothing, contains_rest}
 use Rattle.client_law.specs.Giving.{GivesOnlyDirty, PutsOffWhatIsDirty}
-use Rattle.client_law.proofs.Happening.{OpensSo, Reopens, after_weaker, always}
+use Rattle.client_law.proofs.Happening.{AnyBlock, AnyMap, OpensSo, Reopens, after_weaker, always}
 use Rattle.client_law.proofs.Keeping.{At, Fact, IsCopied, IsLetGo, IsLowered, IsOwned, IsPutOff, Keeps, Sound, TakesKeep, follows-silent, takes_back-keeps, told}
 use Rattle.client_law.proofs.Quiet.{IsQuiet, IsSame, refetch-quiet}
 use Rattle.client_law.proofs.Sounding.{gives_if_clean-sound, settled_rows-sound, settles-sound, transition-sound}
@@ -324,15 +324,15 @@ changes-give s block value sound p =
     logs-give w (log_ins.Put block (record { ver = (held_at w block).ver; hop = 0; place = None }) value) (transition-sound s.tokens (input.Wrote block value) sound)
     (wrote-gives s.tokens block value p)
 
-keeps-giving : Keeps (G none) (λ n. G none) (λ b. G none)
+keeps-giving : Keeps AnyBlock AnyMap (G none) (λ n. G none) (λ b. G none)
 keeps-giving = record {
   begins = λ t l c p room. p;
   less = λ t l c p. p;
   ends = λ t l c p. p;
   takes = λ n. takes-give none;
   touches = λ t l c block p. p;
-  copies = copies-give;
-  owns = λ t l c block g sound is p. ungiven-put t p block g (ap is_none is.giving ∙ (sound.each block).asks_ungiven is.asks);
+  copies = λ s block g may sound is p. copies-give s block g sound is p;
+  owns = λ t l c block g may sound is p. ungiven-put t p block g (ap is_none is.giving ∙ (sound.each block).asks_ungiven is.asks);
   logs = λ s i outer sound p. logs-give s i sound p;
   puts = λ s block value sound may p. changes-give s block value sound p;
   puts_owned = λ s block value sound may p. changes-give s block value sound p;
@@ -352,10 +352,10 @@ any_opens (progress.Opening o) = tt
 any_opens (progress.Opened d) = tt
 any_opens (progress.Lost seg) = tt
 
-pub any_reopens : Reopens AnyOpening AnyLog
+pub any_reopens : Reopens AnyMap AnyOpening AnyLog
 any_reopens = record {
   first = λ owner servers q. tt;
-  packet = λ o q p h. any_opens (opening.on_packet o q p).progress;
+  packet = λ o q p brings h. any_opens (opening.on_packet o q p).progress;
   tick = λ o q h. any_opens (opening.on_tick o q).progress;
 }
 

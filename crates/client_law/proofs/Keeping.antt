@@ -14,6 +14,7 @@ use Rattle.client_node.specs.Reads.{ends_reading}
 use Rattle.client_node.specs.Sends as client
 use Rattle.coop_cache.specs.CacheState.{CacheState}
 use Rattle.coop_cache.specs.Transition.{left, touched}
+use Rattle.group_map.specs.GroupMapState.{GroupMapState}
 use Rattle.token_client.specs.declared.held.Held.{Held}
 use Rattle.token_client.specs.declared.input.In.TheVariants.{Recalled}
 use Rattle.token_client.specs.declared.output.Out.{Out}
@@ -93,31 +94,31 @@ pub record TakesKeep (P : Fact) : Type 0 where
       → P t l c → P t l (left c block)
   pub seals : (t : TokensState) (l : LogState) (c : CacheState) → P t l c → P t (on_seal l).state c
 
--- a log's input but for one of the client's own calls
-abbrev pub IsOuter : log_in.In → Type 0
-IsOuter (log_ins.Put block entry value) = ⊥
-IsOuter (log_ins.Parts items) = ⊥
-IsOuter log_ins.Seal = ⊥
-IsOuter (log_ins.Acked name index generation) = Unit {0}
-IsOuter (log_ins.Maps groups) = Unit {0}
-IsOuter log_ins.Tick = Unit {0}
+-- a log's input but for one of the client's own calls; maps that come are so
+abbrev pub IsOuter : (GroupMapState → Type 0) → log_in.In → Type 0
+IsOuter M (log_ins.Put block entry value) = ⊥
+IsOuter M (log_ins.Parts items) = ⊥
+IsOuter M log_ins.Seal = ⊥
+IsOuter M (log_ins.Acked name index generation) = Unit {0}
+IsOuter M (log_ins.Maps groups) = M groups
+IsOuter M log_ins.Tick = Unit {0}
 
 abbrev pub Sound : Serving → Type 0
 Sound s = IsSound s.tokens
 
 -- All that a client does keeps the fact. Between events it is `B`; within one it is `P` of how many segments may still be settled; and where
--- a block was just granted to be written, and nothing was written yet, it is `Q` of the block.
-pub record Keeps (B : Fact) (P : ℕ → Fact) (Q : BlockId → Fact) : Type 0 where
+-- a block was just granted to be written, and nothing was written yet, it is `Q` of the block. Blocks that arrive are `A`, maps that come `M`.
+pub record Keeps (A : BlockId → Type 0) (M : GroupMapState → Type 0) (B : Fact) (P : ℕ → Fact) (Q : BlockId → Fact) : Type 0 where
   pub begins : (t : TokensState) (l : LogState) (c : CacheState) → B t l c → has_room l.end.seq ≡ true → P 1 t l c
   pub less : (t : TokensState) (l : LogState) (c : CacheState) → P 1 t l c → P 0 t l c
   pub ends : (t : TokensState) (l : LogState) (c : CacheState) → P 0 t l c → B t l c
   pub takes : (n : ℕ) → TakesKeep (P n)
   pub touches : (t : TokensState) (l : LogState) (c : CacheState) (block : BlockId) → P 0 t l c → P 0 t l (touched c block)
-  pub copies : (s : Serving) (block : BlockId) (g : Held) → Sound s → IsCopied (held_at s block) g → At (P 1) s
+  pub copies : (s : Serving) (block : BlockId) (g : Held) → A block → Sound s → IsCopied (held_at s block) g → At (P 1) s
       → At (P 1) (notes_clean (record s { tokens = with_held s.tokens block g }) block)
-  pub owns : (t : TokensState) (l : LogState) (c : CacheState) (block : BlockId) (g : Held) → IsSound t → IsOwned (held_of t.blocks block) g → P 1 t l c
+  pub owns : (t : TokensState) (l : LogState) (c : CacheState) (block : BlockId) (g : Held) → A block → IsSound t → IsOwned (held_of t.blocks block) g → P 1 t l c
       → Q block (with_held t block g) l c
-  pub logs : (s : Serving) (i : log_in.In) → IsOuter i → Sound s → At (P 1) s → At (P 0) (writes s i).state
+  pub logs : (s : Serving) (i : log_in.In) → IsOuter M i → Sound s → At (P 1) s → At (P 0) (writes s i).state
   pub puts : (s : Serving) (block : BlockId) (value : Option (List ℕ)) → Sound s → may_write (held_at s block) ≡ true → At (P 0) s
       → At (P 0) (changes s block value).done.state
   pub puts_owned : (s : Serving) (block : BlockId) (value : Option (List ℕ)) → Sound s → may_write (held_at s block) ≡ true → At (Q block) s

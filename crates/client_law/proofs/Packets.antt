@@ -20,6 +20,7 @@ use Rattle.stripe_code.specs.declared.round.Told.{Told}
 use Rattle.stripe_code.specs.declared.round.Told.TheVariants as tells
 use Rattle.stripe_code.specs.declared.target.BlockAt.{BlockAt}
 use Rattle.token_client.specs.declared.input.In.TheVariants as tokens
+use Rattle.token_client.specs.Held.{may_end_fetch}
 use Rattle.token_client.specs.State.{TokensState, epoch_of, held_of}
 use Rattle.token_client.specs.Transition.{Done, is_promised, on_promise, on_recalled, recalled, recalled_above, recalled_again, was_answered, on_tick as tokens_tick, on_reask, on_forwarded}
 use Rattle.wire_msg.specs.declared.body.Body.{Body}
@@ -50,6 +51,7 @@ use Rattle.node_tie.specs.Asks.{AsksForCall}
 use Rattle.node_tie.proofs.AsksFrames.{kept}
 use Rattle.node_tie.proofs.AsksFollow.{with_reading-keeps}
 use Rattle.node_tie.specs.Asks.{needed}
+use Rattle.client_law.specs.Maps.{BringsMaps}
 use Rattle.client_law.proofs.Arriving.{IsFresh, KeptOrFresh, fetched-keeps, granted-keeps, lessens, loses-keeps, supplied-keeps}
 use Rattle.client_law.proofs.Keeping.{At, Fact, Keeps, Sound, quiet-keeps, takes_back-keeps, told}
 use Rattle.client_law.proofs.Quiet.{GoesQuietly, on_forwarded-quiet, on_promise-quiet, on_reask-quiet, on_tick-quiet}
@@ -77,7 +79,15 @@ recalled-same t block stamp keep same =
     (λ x. by_test (λ (d : Done). d.state ≡ t) (is_later stamp at) (recalled_above t block stamp keep) (recalled_again t block stamp)
     (λ later. contrary (sym (not_later_itself stamp) ∙ ap (is_later stamp) (sym (stamp_is at stamp same)) ∙ later)) (λ y. again-same t block stamp)) (λ x. refl)
 
-module _ (B : Fact) (P : ℕ → Fact) (Q : BlockId → Fact) (k : Keeps B P Q) where
+-- what a packet brings: blocks that may arrive, and maps that may come
+abbrev pub Arrives : (BlockId → Type 0) → Serving → Body → Type 0
+Arrives A s (body.Grant m) = A m.block
+Arrives A s (body.Supply m) = A m.block
+Arrives A s (body.Fragment m) = (block : BlockId) → may_end_fetch (held_at s block) ≡ true → A block
+Arrives A s (body.Missing m) = (block : BlockId) → may_end_fetch (held_at s block) ≡ true → A block
+Arrives A s _ = Unit {0}
+
+module _ (A : BlockId → Type 0) (M : GroupMapState → Type 0) (B : Fact) (P : ℕ → Fact) (Q : BlockId → Fact) (k : Keeps A M B P Q) where
   -- sound tokens, and the fact
   record Both (n : ℕ) (s : Serving) : Type 0 where
     sound : Sound s
@@ -129,27 +139,27 @@ module _ (B : Fact) (P : ℕ → Fact) (Q : BlockId → Fact) (k : Keeps B P Q) 
   all_heard s [] p = p
   all_heard s (x ∷ xs) p = all_heard (hears s x).state xs (hears-keeps s x p)
 
-  regroups-keeps : (s : Serving) (newer : Bool) (groups : GroupMapState) → Both 1 s → At (P 0) (regroups s newer groups).state
-  regroups-keeps s newer groups p =
-      by_test (λ (d : client.Done). At (P 0) d.state) newer (writes s (log_in.Maps groups)) (still s) (λ x. k.logs s (log_in.Maps groups) tt p.sound p.fact)
-      (λ x. lessens B P Q k s p.fact)
+  regroups-keeps : (s : Serving) (newer : Bool) (groups : GroupMapState) → M groups → Both 1 s → At (P 0) (regroups s newer groups).state
+  regroups-keeps s newer groups may p =
+      by_test (λ (d : client.Done). At (P 0) d.state) newer (writes s (log_in.Maps groups)) (still s) (λ x. k.logs s (log_in.Maps groups) may p.sound p.fact)
+      (λ x. lessens A M B P Q k s p.fact)
 
-  takes_news-keeps : (s : Serving) (news : News) → Both 1 s → At (P 0) (takes_news s news).state
+  takes_news-keeps : (s : Serving) (news : News) → M news.groups → Both 1 s → At (P 0) (takes_news s news).state
   unfolding takes_news
-  takes_news-keeps s news p =
+  takes_news-keeps s news may p =
       let t : Serving = record s { maps = taken s.maps news } in
-      regroups-keeps (steps hears t news.slots).state (is_older s.maps news) news.groups (all_heard t news.slots (record { sound = p.sound; fact = p.fact }))
+      regroups-keeps (steps hears t news.slots).state (is_older s.maps news) news.groups may (all_heard t news.slots (record { sound = p.sound; fact = p.fact }))
 
-  on_news-keeps : (s : Serving) (news : News) → Both 1 s → At (P 0) (on_news s news).state
-  on_news-keeps s news p =
-      by_test (λ (d : client.Done). At (P 0) d.state) (fits s.maps news) (takes_news s news) (still s) (λ x. takes_news-keeps s news p)
-      (λ x. lessens B P Q k s p.fact)
+  on_news-keeps : (s : Serving) (news : News) → M news.groups → Both 1 s → At (P 0) (on_news s news).state
+  on_news-keeps s news may p =
+      by_test (λ (d : client.Done). At (P 0) d.state) (fits s.maps news) (takes_news s news) (still s) (λ x. takes_news-keeps s news may p)
+      (λ x. lessens A M B P Q k s p.fact)
 
-  on_welcome-keeps : (s : Serving) (w : Welcome) → Both 1 s → At (P 0) (on_welcome s w).state
+  on_welcome-keeps : (s : Serving) (w : Welcome) → M w.news.groups → Both 1 s → At (P 0) (on_welcome s w).state
   unfolding on_welcome
-  on_welcome-keeps s w p =
-      by_test (λ (d : client.Done). At (P 0) d.state) (w.inc == s.lasting.inc) (on_news s w.news) (still s) (λ x. on_news-keeps s w.news p)
-      (λ x. lessens B P Q k s p.fact)
+  on_welcome-keeps s w may p =
+      by_test (λ (d : client.Done). At (P 0) d.state) (w.inc == s.lasting.inc) (on_news s w.news) (still s) (λ x. on_news-keeps s w.news may p)
+      (λ x. lessens A M B P Q k s p.fact)
 
   -- ---- time
 
@@ -168,16 +178,16 @@ module _ (B : Fact) (P : ℕ → Fact) (Q : BlockId → Fact) (k : Keeps B P Q) 
     both : Both 1 s
     both = record { sound = asks.sound; fact = p }
 
-    on_grant-keeps : (g : Grant) → KeptOrFresh B P Q k (on_grant s g).state
+    on_grant-keeps : (g : Grant) → A g.block → KeptOrFresh A M B P Q k (on_grant s g).state
     unfolding on_grant hands
-    on_grant-keeps g =
-        by_test (λ (d : client.Done). KeptOrFresh B P Q k d.state) (is_own g.mode && not (has_long_room g.entry.ver)) (still s)
+    on_grant-keeps g may =
+        by_test (λ (d : client.Done). KeptOrFresh A M B P Q k d.state) (is_own g.mode && not (has_long_room g.entry.ver)) (still s)
         (hands s (tokens.Granted g.block g.stamp g.inc g.req g.mode g.entry))
-        (λ x. inl (lessens B P Q k s p)) (λ x. granted-keeps B P Q k s asks p g.block g.stamp g.inc g.req g.mode g.entry x)
+        (λ x. inl (lessens A M B P Q k s p)) (λ x. granted-keeps A M B P Q k s asks p g.block g.stamp g.inc g.req may g.mode g.entry x)
 
-    on_supply-keeps : (m : Supply) → Kept (on_supply s m)
+    on_supply-keeps : (m : Supply) → A m.block → Kept (on_supply s m)
     unfolding on_supply hands
-    on_supply-keeps m = supplied-keeps B P Q k s asks p m.block m.stamp m.inc m.req m.ver m.value
+    on_supply-keeps m may = supplied-keeps A M B P Q k s asks p m.block m.stamp m.inc m.req may m.ver m.value
 
     on_forward-keeps : (m : Forward) → Kept (on_forward s m)
     unfolding on_forward
@@ -194,7 +204,7 @@ module _ (B : Fact) (P : ℕ → Fact) (Q : BlockId → Fact) (k : Keeps B P Q) 
 
     on_gone-keeps : (g : Gone) → Kept (on_gone s g)
     unfolding on_gone
-    on_gone-keeps g = by_test Kept (is_gone s g) (loses s g.block g.seg) (still s) (λ x. loses-keeps B P Q k 1 s g.block g.seg p) (λ x. p)
+    on_gone-keeps g = by_test Kept (is_gone s g) (loses s g.block g.seg) (still s) (λ x. loses-keeps A M B P Q k 1 s g.block g.seg p) (λ x. p)
 
     on_ack-keeps : (m : DeltaAck) → At (P 1) (on_ack s m)
     unfolding on_ack
@@ -202,71 +212,73 @@ module _ (B : Fact) (P : ℕ → Fact) (Q : BlockId → Fact) (k : Keeps B P Q) 
 
     -- ---- fragments
 
-    ends_fetch-keeps : (r : _) (at : BlockAt) (n : Next) → Kept (ends_fetch (with_reading s r) at n)
-    unfolding hands
-    ends_fetch-keeps r at next.Again = hushed (with_reading s r) (on_reask s.tokens at.block) (on_reask-quiet s.tokens at.block) p
-    ends_fetch-keeps r at (next.Read segment) =
-        fetched-keeps B P Q k (with_reading s r) (kept s (with_reading s r) (with_reading-keeps (needed s.call) s r) asks) p at.block (value_at segment at.item)
-    ends_fetch-keeps r at next.Wait = p
-    ends_fetch-keeps r at next.Ask = p
-    ends_fetch-keeps r at next.Lost = p
+    -- what was read ends a fetch of what may arrive
+    module _ (may : (block : BlockId) → may_end_fetch (held_at s block) ≡ true → A block) where
+      ends_fetch-keeps : (r : _) (at : BlockAt) (n : Next) → Kept (ends_fetch (with_reading s r) at n)
+      unfolding hands
+      ends_fetch-keeps r at next.Again = hushed (with_reading s r) (on_reask s.tokens at.block) (on_reask-quiet s.tokens at.block) p
+      ends_fetch-keeps r at (next.Read segment) =
+          fetched-keeps A M B P Q k (with_reading s r) (kept s (with_reading s r) (with_reading-keeps (needed s.call) s r) asks) p at.block (may at.block) (value_at segment at.item)
+      ends_fetch-keeps r at next.Wait = p
+      ends_fetch-keeps r at next.Ask = p
+      ends_fetch-keeps r at next.Lost = p
 
-    told_at-keeps : (at : Option BlockAt) (h : Heard) → Kept (told_at s at h)
-    told_at-keeps None h = p
-    told_at-keeps (Some at) h = ends_fetch-keeps h.reading at h.next
+      told_at-keeps : (at : Option BlockAt) (h : Heard) → Kept (told_at s at h)
+      told_at-keeps None h = p
+      told_at-keeps (Some at) h = ends_fetch-keeps h.reading at h.next
 
-    on_told-keeps : (from : NodeId) (ask : ℕ) (t : Told) → Kept (on_told s from ask t)
-    unfolding told_by
-    on_told-keeps (node.Server server) ask t = told_at-keeps (block_read (reading_in s.call)) (heard (reading_in s.call) s.maps.groups ask server t)
-    on_told-keeps (node.Client c) ask t = p
-    on_told-keeps (node.Manager m) ask t = p
-    on_told-keeps node.Cleaner ask t = p
-    on_told-keeps node.Registry ask t = p
+      on_told-keeps : (from : NodeId) (ask : ℕ) (t : Told) → Kept (on_told s from ask t)
+      unfolding told_by
+      on_told-keeps (node.Server server) ask t = told_at-keeps (block_read (reading_in s.call)) (heard (reading_in s.call) s.maps.groups ask server t)
+      on_told-keeps (node.Client c) ask t = p
+      on_told-keeps (node.Manager m) ask t = p
+      on_told-keeps node.Cleaner ask t = p
+      on_told-keeps node.Registry ask t = p
 
     -- ---- a packet
 
-    less : (d : client.Done) → Kept d → KeptOrFresh B P Q k d.state
-    less d q = inl (lessens B P Q k d.state q)
+    less : (d : client.Done) → Kept d → KeptOrFresh A M B P Q k d.state
+    less d q = inl (lessens A M B P Q k d.state q)
 
-    unmoved : KeptOrFresh B P Q k s
+    unmoved : KeptOrFresh A M B P Q k s
     unmoved = less (still s) p
 
-    on_body-keeps : (from : NodeId) (m : Body) → KeptOrFresh B P Q k (on_body s from m).state
-    on_body-keeps from (body.Grant m) = on_grant-keeps m
-    on_body-keeps from (body.Supply m) = less (on_supply s m) (on_supply-keeps m)
-    on_body-keeps from (body.Forward m) = less (on_forward s m) (on_forward-keeps m)
-    on_body-keeps from (body.Recall m) = less (on_recall s m) (on_recall-keeps m)
-    on_body-keeps from (body.Gone m) = less (on_gone s m) (on_gone-keeps m)
-    on_body-keeps from (body.DeltaAck m) = less (still (on_ack s m)) (on_ack-keeps m)
-    on_body-keeps from (body.Poll m) = less (on_poll s from m) (on_poll-keeps s from m p)
-    on_body-keeps from (body.Stored m) = inl (k.logs s (log_in.Acked m.name m.index m.generation) tt asks.sound p)
-    on_body-keeps from (body.Fragment m) = less (on_found s from m) (on_told-keeps from m.ask (tells.Held m.fragment))
-    on_body-keeps from (body.Missing m) = less (on_missing s from m) (on_told-keeps from m.ask (tells.Missing m.generation))
-    on_body-keeps from (body.MapNews m) = inl (on_news-keeps s m both)
-    on_body-keeps from (body.Welcome m) = inl (on_welcome-keeps s m both)
-    on_body-keeps from (body.Want m) = unmoved
-    on_body-keeps from (body.Gave m) = unmoved
-    on_body-keeps from (body.Deltas m) = unmoved
-    on_body-keeps from (body.Report m) = unmoved
-    on_body-keeps from (body.Store m) = unmoved
-    on_body-keeps from (body.Fetch m) = unmoved
-    on_body-keeps from (body.Fence m) = unmoved
-    on_body-keeps from (body.Fenced m) = unmoved
-    on_body-keeps from (body.List m) = unmoved
-    on_body-keeps from (body.Listed m) = unmoved
-    on_body-keeps from (body.Delete m) = unmoved
-    on_body-keeps from (body.Deleted m) = unmoved
-    on_body-keeps from (body.Check m) = unmoved
-    on_body-keeps from (body.Live m) = unmoved
-    on_body-keeps from (body.Dead m) = unmoved
-    on_body-keeps from (body.UsageAsk m) = unmoved
-    on_body-keeps from (body.Usage m) = unmoved
-    on_body-keeps from (body.Hello m) = unmoved
-    on_body-keeps from (body.CkptDone m) = unmoved
-    on_body-keeps from (body.CkptAck m) = unmoved
+    on_body-keeps : (from : NodeId) (m : Body) → Arrives A s m → BringsMaps M m → KeptOrFresh A M B P Q k (on_body s from m).state
+    on_body-keeps from (body.Grant m) arrives brings = on_grant-keeps m arrives
+    on_body-keeps from (body.Supply m) arrives brings = less (on_supply s m) (on_supply-keeps m arrives)
+    on_body-keeps from (body.Forward m) arrives brings = less (on_forward s m) (on_forward-keeps m)
+    on_body-keeps from (body.Recall m) arrives brings = less (on_recall s m) (on_recall-keeps m)
+    on_body-keeps from (body.Gone m) arrives brings = less (on_gone s m) (on_gone-keeps m)
+    on_body-keeps from (body.DeltaAck m) arrives brings = less (still (on_ack s m)) (on_ack-keeps m)
+    on_body-keeps from (body.Poll m) arrives brings = less (on_poll s from m) (on_poll-keeps s from m p)
+    on_body-keeps from (body.Stored m) arrives brings = inl (k.logs s (log_in.Acked m.name m.index m.generation) tt asks.sound p)
+    on_body-keeps from (body.Fragment m) arrives brings = less (on_found s from m) (on_told-keeps arrives from m.ask (tells.Held m.fragment))
+    on_body-keeps from (body.Missing m) arrives brings = less (on_missing s from m) (on_told-keeps arrives from m.ask (tells.Missing m.generation))
+    on_body-keeps from (body.MapNews m) arrives brings = inl (on_news-keeps s m brings both)
+    on_body-keeps from (body.Welcome m) arrives brings = inl (on_welcome-keeps s m brings both)
+    on_body-keeps from (body.Want m) arrives brings = unmoved
+    on_body-keeps from (body.Gave m) arrives brings = unmoved
+    on_body-keeps from (body.Deltas m) arrives brings = unmoved
+    on_body-keeps from (body.Report m) arrives brings = unmoved
+    on_body-keeps from (body.Store m) arrives brings = unmoved
+    on_body-keeps from (body.Fetch m) arrives brings = unmoved
+    on_body-keeps from (body.Fence m) arrives brings = unmoved
+    on_body-keeps from (body.Fenced m) arrives brings = unmoved
+    on_body-keeps from (body.List m) arrives brings = unmoved
+    on_body-keeps from (body.Listed m) arrives brings = unmoved
+    on_body-keeps from (body.Delete m) arrives brings = unmoved
+    on_body-keeps from (body.Deleted m) arrives brings = unmoved
+    on_body-keeps from (body.Check m) arrives brings = unmoved
+    on_body-keeps from (body.Live m) arrives brings = unmoved
+    on_body-keeps from (body.Dead m) arrives brings = unmoved
+    on_body-keeps from (body.UsageAsk m) arrives brings = unmoved
+    on_body-keeps from (body.Usage m) arrives brings = unmoved
+    on_body-keeps from (body.Hello m) arrives brings = unmoved
+    on_body-keeps from (body.CkptDone m) arrives brings = unmoved
+    on_body-keeps from (body.CkptAck m) arrives brings = unmoved
 
-    pub on_packet-keeps : (packet : Packet) → KeptOrFresh B P Q k (on_packet s packet).state
+    pub on_packet-keeps : (packet : Packet) → Arrives A s packet.body → BringsMaps M packet.body → KeptOrFresh A M B P Q k (on_packet s packet).state
     unfolding on_packet asks_for_maps
-    on_packet-keeps packet =
-        by_test (λ (d : client.Done). KeptOrFresh B P Q k d.state) (names_known s.maps packet.body) (on_body s packet.from packet.body) (asks_for_maps s)
-        (λ x. on_body-keeps packet.from packet.body) (λ x. inl (lessens B P Q k s p))
+    on_packet-keeps packet arrives brings =
+        by_test (λ (d : client.Done). KeptOrFresh A M B P Q k d.state) (names_known s.maps packet.body) (on_body s packet.from packet.body) (asks_for_maps s)
+        (λ x. on_body-keeps packet.from packet.body arrives brings) (λ x. inl (lessens A M B P Q k s p))

@@ -31,7 +31,7 @@ use Rattle.xfs_base.specs.Steps.{still}
 use Rattle.xfs_base.proofs.Booleans.{by_test, contrary, or_second}
 use Rattle.client_law.specs.Unsettled.{WritesJustWhatIsDirty, WritesWhatIsDirty, versions_flown, versions_waiting}
 use Rattle.client_law.proofs.Caching.{settled_clean}
-use Rattle.client_law.proofs.Happening.{OpensSo, Reopens, after_weaker, always}
+use Rattle.client_law.proofs.Happening.{AnyBlock, AnyMap, OpensSo, Reopens, after_weaker, always}
 use Rattle.client_law.proofs.Keeping.{At, Fact, IsCopied, IsOwned, Keeps, Sound, notes_gone-keeps}
 use Rattle.client_law.proofs.Unsettled.{AreUnsettled, none_unsettled, unsettled-written}
 use Rattle.client_law.proofs.UnsettledSteps.{B, IsSend, NextTo, P, Unsettled, Writes, WroteSo, clean-unsettled, evict-unsettled, if_full-end, if_full-sends, if_full-writes, logs-unsettled, notes_clean-unsettled, room_same, sent-so, takes-unsettled, written-so}
@@ -106,17 +106,17 @@ lessened t l p = record { log = p.log; room = less l.end.seq p.room }
 begun : (n : ℕ) → has_room n ≡ true → n + 1 < u32_end
 begun n room = grind (arith, nat_tests)
 
-keeps-unsettled : Keeps B P (λ block. P 0)
+keeps-unsettled : Keeps AnyBlock AnyMap B P (λ block. P 0)
 keeps-unsettled = record {
   begins = λ t l c p room. record { log = p; room = begun l.end.seq room };
   less = λ t l c p. lessened t l p;
   ends = λ t l c p. p.log;
   takes = takes-unsettled;
   touches = λ t l c block p. p;
-  copies = copies-unsettled;
-  owns = λ t l c block g sound is p.
+  copies = λ s block g may sound is p. copies-unsettled s block g sound is p;
+  owns = λ t l c block g may sound is p.
       lessened (with_held t block g) l (clean-unsettled 1 t l block g ((sound.each block).asks_clean is.asks) (settled_clean g is.clean) p);
-  logs = λ s i outer sound p. logs-unsettled s i outer p;
+  logs = λ s i outer sound p. logs-unsettled s i (λ g. Unit {0}) outer p;
   puts = changes-unsettled;
   puts_owned = changes-unsettled;
   lets_owned = λ s block sound p.
@@ -167,7 +167,7 @@ writes_just_what_is_dirty opens =
     (always B P (λ block. P 0) keeps-unsettled WaitsNot IsEmpty
     (record {
       first = λ owner servers q. tt;
-      packet = λ o q p h. opens_so (opening.on_packet o q p).progress (opens.packet o q p h);
+      packet = λ o q p brings h. opens_so (opening.on_packet o q p).progress (opens.packet o q p h);
       tick = λ o q h. opens_so (opening.on_tick o q).progress (opens.tick o q h);
     })
     (λ inc epochs l capacity empty. starts-writing _ l (λ b. refl) empty) (λ l map. (refl, refl)))

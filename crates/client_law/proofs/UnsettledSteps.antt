@@ -374,14 +374,14 @@ module _ (s : Serving) where
     ticked-so None = lessened p
     ticked-so (Some f) = sent-so (ticked (Some f)) (all_sent f f.group.members 0) (lessened p)
 
-    outer-so : (i : log_in.In) → IsOuter i → WroteSo s (log.transition s.log i)
+    outer-so : (M : GroupMapState → Type 0) (i : log_in.In) → IsOuter M i → WroteSo s (log.transition s.log i)
     unfolding on_acked on_maps on_tick
-    outer-so (log_ins.Put block entry value) outer = absurd outer
-    outer-so (log_ins.Parts items) outer = absurd outer
-    outer-so log_ins.Seal outer = absurd outer
-    outer-so (log_ins.Acked name index generation) outer = acked-so name index generation s.log.flight refl
-    outer-so (log_ins.Maps groups) outer = mapped-so groups s.log.flight refl
-    outer-so log_ins.Tick outer = ticked-so s.log.flight
+    outer-so M (log_ins.Put block entry value) outer = absurd outer
+    outer-so M (log_ins.Parts items) outer = absurd outer
+    outer-so M log_ins.Seal outer = absurd outer
+    outer-so M (log_ins.Acked name index generation) outer = acked-so name index generation s.log.flight refl
+    outer-so M (log_ins.Maps groups) outer = mapped-so groups s.log.flight refl
+    outer-so M log_ins.Tick outer = ticked-so s.log.flight
 
 -- what the log says is done, and where a block is still to be given up it is sealed again
 pub written-so : (s : Serving) (i : log_in.In) → WroteSo s (log.transition s.log i) → At (P 0) (writes s i).state
@@ -392,5 +392,5 @@ written-so s i p =
     by_test (λ (d : client.Done). At (P 0) d.state) (list_any is_settling outs && is_giving u.tokens) (seals u) (still u)
     (λ x. seals-keeps (P 0) (takes-unsettled 0) u p) (λ x. p)
 
-pub logs-unsettled : (s : Serving) (i : log_in.In) → IsOuter i → At (P 1) s → At (P 0) (writes s i).state
-logs-unsettled s i outer p = written-so s i (outer-so s p i outer)
+pub logs-unsettled : (s : Serving) (i : log_in.In) (M : GroupMapState → Type 0) → IsOuter M i → At (P 1) s → At (P 0) (writes s i).state
+logs-unsettled s i M outer p = written-so s i (outer-so s p M i outer)

@@ -4,4 +4,5 @@ pub mod Caching
 pub mod Unsettled
 pub mod Events
 pub mod Giving
+pub mod Maps
 pub mod Unserving
