@@ -27,7 +27,7 @@ use Rattle.client_law.specs.Events.{HoldsAfterAnyEvents, WhereItServes, after_ev
 use Rattle.client_law.proofs.Happening.{after_weaker}
 use Rattle.client_law.proofs.Orders.{or_cases}
 
-after-asks : (client : Client) (events : List Do) → PhaseAsks client.phase → PhaseAsks (after_events client events).phase
+pub after-asks : (client : Client) (events : List Do) → PhaseAsks client.phase → PhaseAsks (after_events client events).phase
 after-asks client [] asks = asks
 after-asks client (what ∷ rest) asks = after-asks (client_step client what).node rest (phase_asks client what asks)
 

@@ -16,4 +16,5 @@ mod Versions
 mod Unsettled
 mod UnsettledSteps
 mod UnsettledAlways
+mod Fetching
 mod Unserving

@@ -3,6 +3,7 @@ pub mod Blocks
 pub mod Caching
 pub mod Unsettled
 pub mod Events
+pub mod Fetching
 pub mod Giving
 pub mod Maps
 pub mod Unserving

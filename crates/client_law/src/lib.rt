@@ -4,6 +4,7 @@
 
 ghost use Rattle.client_law.specs.Asking.{AsksForOneBlockAlways};
 ghost use Rattle.client_law.specs.Caching.{CachesJustWhatIsClean};
+ghost use Rattle.client_law.specs.Fetching.{WantsEndByAnAnswer};
 ghost use Rattle.client_law.specs.Giving.{PutsOffWhatIsDirty};
 ghost use Rattle.client_law.specs.Unserving.{SaysNothingOfTokens, TakesNothingOfTokens};
 ghost use Rattle.client_law.specs.Unsettled.{WritesJustWhatIsDirty};
@@ -42,4 +43,10 @@ pub fn writes_what_is_dirty()
 /// a call that writes it, to be read for one that reads it (the 1996 paper, on cache consistency).
 pub fn asks_for_one_block()
     ensures one { AsksForOneBlockAlways }
+{}
+
+/// A block that isn't held, and of which a want is open, comes to be held by a Grant or a Supply of it alone:
+/// what was read ends a fetch only where nothing is wanted.
+pub fn wants_end_by_an_answer()
+    ensures answered { WantsEndByAnAnswer }
 {}
