@@ -255,11 +255,12 @@ always B P Q k O E r starts first number setup works events =
     always_where AnyBlock AnyMap B P Q k O E r starts arrives_any number setup works events
     (first (record { 0 = number }) (groups.started setup.servers setup.groups)) (all_brings events)
 
--- what follows from what holds after any events holds after any events
+-- what follows from what holds where a client serves holds there
+pub where_weaker : (F G : Serving → Type 0) → ((s : Serving) → F s → G s) → (phase : Phase) → WhereItServes F phase → WhereItServes G phase
+where_weaker F G f (Down l) p = tt
+where_weaker F G f (Opening l o) p = tt
+where_weaker F G f (Serves s) p = f s p
+
 pub after_weaker : (F G : Serving → Type 0) → ((s : Serving) → F s → G s) → HoldsAfterAnyEvents F → HoldsAfterAnyEvents G
-after_weaker F G f h number setup works events = weaker (after_events (first_client number setup works) events).phase (h number setup works events)
-  where
-    weaker : (phase : Phase) → WhereItServes F phase → WhereItServes G phase
-    weaker (Down l) p = tt
-    weaker (Opening l o) p = tt
-    weaker (Serves s) p = f s p
+after_weaker F G f h number setup works events =
+    where_weaker F G f (after_events (first_client number setup works) events).phase (h number setup works events)

@@ -17,4 +17,5 @@ mod Unsettled
 mod UnsettledSteps
 mod UnsettledAlways
 mod Fetching
+mod Groups
 mod Unserving

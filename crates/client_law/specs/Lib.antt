@@ -5,5 +5,6 @@ pub mod Unsettled
 pub mod Events
 pub mod Fetching
 pub mod Giving
+pub mod Groups
 pub mod Maps
 pub mod Unserving

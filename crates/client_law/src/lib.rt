@@ -6,6 +6,7 @@ ghost use Rattle.client_law.specs.Asking.{AsksForOneBlockAlways};
 ghost use Rattle.client_law.specs.Caching.{CachesJustWhatIsClean};
 ghost use Rattle.client_law.specs.Fetching.{WantsEndByAnAnswer};
 ghost use Rattle.client_law.specs.Giving.{PutsOffWhatIsDirty};
+ghost use Rattle.client_law.specs.Groups.{StripesByPresentGroupsAlways};
 ghost use Rattle.client_law.specs.Unserving.{SaysNothingOfTokens, TakesNothingOfTokens};
 ghost use Rattle.client_law.specs.Unsettled.{WritesJustWhatIsDirty};
 
@@ -49,4 +50,10 @@ pub fn asks_for_one_block()
 /// what was read ends a fetch only where nothing is wanted.
 pub fn wants_end_by_an_answer()
     ensures answered { WantsEndByAnAnswer }
+{}
+
+/// After any events that bring maps of groups, as each is by its type, the map over which a client stripes is one:
+/// so each member of a current group is at the generation that its server has in the map.
+pub fn stripes_by_present_groups()
+    ensures present { StripesByPresentGroupsAlways }
 {}
