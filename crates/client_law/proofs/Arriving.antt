@@ -1,11 +1,10 @@
 -- A block arrives: what a grant, a supply or what was read makes of a client that asks for its call, in terms of a fact that is kept.
-use Rattle.std.proofs.Common.{◌≡◌, ◌⊎◌, inl, inr, ℕ, ◌+◌, ◌-◌, ◌^◌, Bool, true, false, ◌&&◌, ◌==◌, not, nat_lt, nat_le, List, [], ◌∷◌, Option, Some, None, is_some, is_none, refl, sym, ap, subst, ◌∙◌, arith}
+use Rattle.std.proofs.Common.{◌≡◌, ◌⊎◌, inl, inr, ℕ, ◌-◌, ◌^◌, Bool, true, false, ◌&&◌, ◌==◌, not, nat_lt, List, [], ◌∷◌, Option, Some, None, is_some, is_none, refl, sym, ap, subst, ◌∙◌, arith}
 use Rattle.std.proofs.lemmas.Bool.Decides.{nat_tests}
-use Rattle.client_node.specs.declared.call.Call.{Call}
 use Rattle.client_node.specs.declared.serving.Serving.{Serving}
 use Rattle.client_node.specs.Flights.{held_at}
 use Rattle.client_node.specs.Follow.{follows, follows_one, notes_clean, notes_copy}
-use Rattle.client_node.specs.Reads.{ask_after, begins, begins_over, confirmed_next, confirms, drawn_after, draws, ends_reading, group_in, kept_while, loses, loses_at, reading_in, reads, reads_over, same_target, target_of, with_reading}
+use Rattle.client_node.specs.Reads.{ask_after, begins, begins_over, confirmed_next, confirms, drawn_after, ends_reading, group_in, kept_while, loses, loses_at, reading_in, reads, reads_over, same_target, target_of, with_reading}
 use Rattle.client_node.specs.Sends as client
 use Rattle.group_map.specs.declared.group.Group.{Group}
 use Rattle.group_map.specs.GroupMapState.{GroupMapState}
@@ -20,7 +19,7 @@ use Rattle.stripe_code.specs.Reading.{ReadingState, on_confirmed}
 use Rattle.token_client.specs.declared.held.Fetch.{Fetch}
 use Rattle.token_client.specs.declared.held.Held.{Held}
 use Rattle.token_client.specs.declared.held.Wanted.{Wanted}
-use Rattle.token_client.specs.declared.output.Out.TheVariants.{Read, Ready}
+use Rattle.token_client.specs.declared.output.Out.TheVariants.{Ready}
 use Rattle.token_client.specs.Held.{copied, copy_granted, fetch_ended, fetched_from, is_asking, is_wanted, may_end_fetch, may_write, owned}
 use Rattle.token_client.specs.State.{TokensState, held_of, with_held}
 use Rattle.token_client.specs.Transition.{Done, accepts, copy_next, on_fetched, on_granted, on_supplied, on_quit}
@@ -42,8 +41,8 @@ use Rattle.node_tie.proofs.AsksFollow.{call_with-step}
 use Rattle.node_tie.proofs.AsksFrames.{asks_as, needed_same}
 use Rattle.node_tie.proofs.AsksInputs.{AsksAs}
 use Rattle.node_tie.proofs.AsksTokens.{answers_want}
-use Rattle.client_law.proofs.Keeping.{At, Fact, IsCopied, IsOwned, Keeps, Sound, TakesKeep, told}
-use Rattle.client_law.proofs.Quiet.{GoesQuietly, on_quit-quiet, quiet_put, quiet_still}
+use Rattle.client_law.proofs.Keeping.{At, Fact, IsCopied, Keeps, told}
+use Rattle.client_law.proofs.Quiet.{on_quit-quiet, quiet_put}
 
 -- ---- modes
 

@@ -1,5 +1,5 @@
 -- After any events at most one block asks, for the open call: each event keeps that what is asked for is what the call needs.
-use Rattle.std.proofs.Common.{◌≡◌, ◌⊎◌, inl, inr, ℕ, Bool, true, false, ◌||◌, List, [], ◌∷◌, Option, Some, None, is_some, refl, sym, ap, ◌∙◌}
+use Rattle.std.proofs.Common.{◌≡◌, ◌⊎◌, inl, inr, Bool, true, false, List, [], ◌∷◌, Option, Some, None, is_some, refl, sym, ap, ◌∙◌}
 use Rattle.client_node.specs.declared.call.Call.{Call}
 use Rattle.client_node.specs.declared.client.Client.{Client}
 use Rattle.client_node.specs.declared.phase.Phase.{Phase}
@@ -11,7 +11,6 @@ use Rattle.client_node.specs.Starting.{first_client}
 use Rattle.file_plan.specs.declared.block_call.BlockCall.{BlockCall}
 use Rattle.file_plan.specs.declared.block_call.BlockCall.TheVariants.{Get, Put, PutAt, Sync}
 use Rattle.token_client.specs.declared.held.Fetch.{Fetch}
-use Rattle.token_client.specs.declared.held.Held.{Held}
 use Rattle.token_client.specs.declared.held.Wanted.{Wanted}
 use Rattle.token_client.specs.Held.{is_asking}
 use Rattle.wire_msg.specs.declared.packet.Do.{Do}

@@ -1,51 +1,34 @@
 -- Between events the cache has just the blocks that are held and clean, and none twice. Within an event some blocks may be held and clean
 -- and not be in it yet: those are excepted.
-use Rattle.std.proofs.Common.{◌≡◌, ◌⊎◌, inl, inr, ℕ, ◌+◌, ◌≤◌, Bool, true, false, cond, ◌&&◌, ◌||◌, not, nat_lt, nat_le, List, [], ◌∷◌, ◌++◌, map, take, drop, Option, Some, None, is_some, is_none, refl, sym, ap, subst, ◌∙◌, arith}
-use Rattle.std.specs.Prelude.{Contains, fold}
-use Rattle.std.specs.Map.{keys_of}
+use Rattle.std.proofs.Common.{◌≡◌, ◌⊎◌, inl, inr, ℕ, Bool, true, false, ◌&&◌, not, nat_lt, List, [], ◌∷◌, map, take, drop, refl, sym, ap, subst, ◌∙◌, arith}
+use Rattle.std.specs.Prelude.{fold}
 use Rattle.std.specs.List.{AllByRecursion}
 use Rattle.std.proofs.lemmas.Bool.Decides.{nat_tests}
-use Rattle.client_log.specs.declared.input.In as log_in
-use Rattle.client_log.specs.declared.input.In.TheVariants as log_ins
-use Rattle.client_log.specs.declared.output.Out as log_out
-use Rattle.client_log.specs.declared.output.Out.TheVariants.{Send, Settled}
-use Rattle.client_log.specs.LogState.{LogState}
-use Rattle.client_log.specs.Transition as log
-use Rattle.client_node.specs.Blocks.{changes, put_of, wrote}
 use Rattle.client_node.specs.declared.serving.Serving.{Serving}
-use Rattle.client_node.specs.Flights.{feeds, gives_if_clean, gives_up, held_at, is_giving, is_settling, keeps_clean, notes_settled, seals_again, settled_rows, settles, writes, writes_one}
-use Rattle.client_node.specs.Follow.{evicts, notes_clean, notes_gone, seals, takes_back}
-use Rattle.client_node.specs.Sends as client
+use Rattle.client_node.specs.Flights.{held_at}
+use Rattle.client_node.specs.Follow.{evicts, notes_clean, seals}
 use Rattle.coop_cache.specs.CacheState.{CacheState}
-use Rattle.coop_cache.specs.CacheState as cache
-use Rattle.coop_cache.specs.declared.output.Out as cache_out
 use Rattle.coop_cache.specs.declared.output.Out.TheVariants.{Victim}
-use Rattle.coop_cache.specs.Transition.{cleaned, excess, is_clean, left, touched, used_last, without}
-use Rattle.token_client.specs.declared.held.Giving.{Giving}
+use Rattle.coop_cache.specs.Transition.{cleaned, excess, is_clean, left, used_last}
 use Rattle.token_client.specs.declared.held.Held.{Held}
-use Rattle.token_client.specs.Held.{is_dirty, is_settled_by, let_go, may_evict, may_write, version_settled, written}
-use Rattle.token_client.specs.Laws.{IsSound}
-use Rattle.token_client.specs.State.{TokensState, dirty_in, held_of, put_held, with_held}
-use Rattle.token_client.specs.Transition.{Done, on_evict, on_settled, on_wrote}
+use Rattle.token_client.specs.Held.{is_dirty, let_go, may_evict}
+use Rattle.token_client.specs.State.{TokensState, held_of, put_held, with_held}
+use Rattle.token_client.specs.Transition.{Done, on_evict}
 use Rattle.token_client.proofs.Tables.{held_of-put_itself, put_each}
 use Rattle.xfs_base.specs.Blocks.{same_block}
 use Rattle.xfs_base.specs.declared.block.BlockId.{BlockId}
-use Rattle.xfs_base.specs.declared.entry.Entry.{Entry}
-use Rattle.xfs_base.specs.declared.segment.End.{End}
 use Rattle.xfs_base.specs.declared.token.Mode.{Mode}
 use Rattle.xfs_base.specs.declared.token.Mode.TheVariants.{Nothing, Copy, Own}
 use Rattle.xfs_base.specs.Modes.{is_held, is_nothing}
-use Rattle.xfs_base.specs.Steps.{steps, still}
+use Rattle.xfs_base.specs.Steps.{still}
 use Rattle.xfs_base.proofs.BlockOrder.{same_block_exact, same_block_itself}
-use Rattle.xfs_base.proofs.Booleans.{and_first, and_second, by_test, contrary, not_true, or_first, or_second}
-use Rattle.xfs_base.proofs.Members.{contains_cases, contains_first, contains_nothing, contains_rest}
+use Rattle.xfs_base.proofs.Booleans.{by_test, contrary, or_first, or_second}
 use Rattle.client_law.specs.Blocks.{Once}
-use Rattle.client_law.specs.Caching.{CachesJustWhatIsClean, CachesWhatIsClean, IsCleanVictim}
-use Rattle.client_law.proofs.Giving.{any_reopens, AnyLog, AnyOpening, dirty_same}
-use Rattle.client_law.proofs.Happening.{after_weaker, always}
-use Rattle.client_law.proofs.Keeping.{At, Fact, IsCopied, IsLetGo, IsLowered, IsOwned, IsPutOff, Keeps, Sound, TakesKeep, notes_gone-keeps, seals-keeps, takes_back-keeps}
-use Rattle.client_law.proofs.Orders.{either, has, in_drop, in_take, in_used, in_without, not_both, not_both_parts, once_drop, once_used, once_without, or_elim, same_symmetric, taken_or_left, to_used, to_without}
-use Rattle.client_law.proofs.Quiet.{IsQuiet, IsSame}
+use Rattle.client_law.specs.Caching.{IsCleanVictim}
+use Rattle.client_law.proofs.Giving.{dirty_same}
+use Rattle.client_law.proofs.Keeping.{At, Fact, TakesKeep}
+use Rattle.client_law.proofs.Orders.{either, has, in_drop, in_used, in_without, not_both_parts, once_drop, once_used, once_without, or_elim, same_symmetric, taken_or_left, to_used, to_without}
+use Rattle.client_law.proofs.Quiet.{IsQuiet}
 
 -- the cache has just what is held and clean, but perhaps for these
 pub record CachesBut (X : BlockId → Type 0) (t : TokensState) (c : CacheState) : Type 0 where

@@ -1,5 +1,5 @@
 -- Each thing that a client does keeps that its cache has just the blocks that are held and clean.
-use Rattle.std.proofs.Common.{◌≡◌, ◌⊎◌, inl, inr, ℕ, ◌+◌, ◌≤◌, Bool, true, false, cond, ◌&&◌, ◌||◌, not, nat_lt, nat_le, List, [], ◌∷◌, ◌++◌, map, take, drop, Option, Some, None, is_some, is_none, refl, sym, ap, subst, ◌∙◌, arith}
+use Rattle.std.proofs.Common.{◌≡◌, ◌⊎◌, inl, inr, ℕ, ◌+◌, ◌≤◌, Bool, true, false, ◌&&◌, not, nat_lt, List, [], ◌∷◌, map, take, Option, Some, None, refl, sym, ap, ◌∙◌, arith}
 use Rattle.std.specs.Prelude.{Contains, fold}
 use Rattle.std.specs.Map.{keys_of}
 use Rattle.std.specs.List.{AllByRecursion, list_any}
@@ -8,44 +8,35 @@ use Rattle.client_log.specs.declared.input.In as log_in
 use Rattle.client_log.specs.declared.input.In.TheVariants as log_ins
 use Rattle.client_log.specs.declared.output.Out as log_out
 use Rattle.client_log.specs.declared.output.Out.TheVariants.{Send, Settled}
-use Rattle.client_log.specs.LogState.{LogState}
 use Rattle.client_log.specs.Transition as log
-use Rattle.client_node.specs.Blocks.{changes, put_of, wrote}
+use Rattle.client_node.specs.Blocks.{changes, wrote}
 use Rattle.client_node.specs.declared.serving.Serving.{Serving}
-use Rattle.client_node.specs.Flights.{feeds, gives_if_clean, gives_up, held_at, is_giving, is_settling, keeps_clean, notes_settled, seals_again, settled_rows, settles, writes, writes_one}
-use Rattle.client_node.specs.Follow.{evicts, notes_clean, notes_gone, seals, takes_back}
+use Rattle.client_node.specs.Flights.{feeds, gives_if_clean, gives_up, held_at, is_giving, is_settling, keeps_clean, notes_settled, settled_rows, settles, writes, writes_one}
+use Rattle.client_node.specs.Follow.{notes_clean, notes_gone, seals}
 use Rattle.client_node.specs.Sends as client
 use Rattle.coop_cache.specs.CacheState.{CacheState}
-use Rattle.coop_cache.specs.CacheState as cache
-use Rattle.coop_cache.specs.declared.output.Out as cache_out
-use Rattle.coop_cache.specs.declared.output.Out.TheVariants.{Victim}
-use Rattle.coop_cache.specs.Transition.{cleaned, excess, is_clean, left, touched, used_last, without}
+use Rattle.coop_cache.specs.Transition.{excess, is_clean, left, touched, used_last}
 use Rattle.token_client.specs.declared.held.Giving.{Giving}
 use Rattle.token_client.specs.declared.held.Held.{Held}
 use Rattle.token_client.specs.Held.{is_dirty, is_settled_by, let_go, may_evict, may_write, version_settled, written}
 use Rattle.token_client.specs.Laws.{IsSound}
-use Rattle.token_client.specs.State.{TokensState, dirty_in, held_of, put_held, with_held}
+use Rattle.token_client.specs.State.{TokensState, dirty_in, held_of, with_held}
 use Rattle.token_client.specs.Transition.{Done, on_evict, on_settled, on_wrote}
 use Rattle.token_client.proofs.Tables.{held_of-put_itself, put_each}
-use Rattle.xfs_base.specs.Blocks.{same_block}
 use Rattle.xfs_base.specs.declared.block.BlockId.{BlockId}
 use Rattle.xfs_base.specs.declared.entry.Entry.{Entry}
 use Rattle.xfs_base.specs.declared.segment.End.{End}
-use Rattle.xfs_base.specs.declared.token.Mode.{Mode}
-use Rattle.xfs_base.specs.declared.token.Mode.TheVariants.{Nothing, Copy, Own}
 use Rattle.xfs_base.specs.Modes.{is_held, is_nothing}
 use Rattle.xfs_base.specs.Steps.{steps, still}
-use Rattle.xfs_base.proofs.BlockOrder.{same_block_exact, same_block_itself}
-use Rattle.xfs_base.proofs.Booleans.{and_first, and_second, by_test, contrary, not_true, or_first, or_second}
+use Rattle.xfs_base.proofs.Booleans.{by_test, contrary}
 use Rattle.xfs_base.proofs.Members.{contains_cases, contains_first, contains_nothing, contains_rest}
-use Rattle.client_law.specs.Caching.{CachesJustWhatIsClean, CachesWhatIsClean, IsCleanVictim}
-use Rattle.client_law.proofs.Giving.{any_reopens, AnyLog, AnyOpening, dirty_same}
+use Rattle.client_law.specs.Caching.{CachesJustWhatIsClean, CachesWhatIsClean}
+use Rattle.client_law.proofs.Giving.{any_reopens, AnyLog, AnyOpening}
 use Rattle.client_law.proofs.Happening.{AnyBlock, AnyMap, after_weaker, always}
-use Rattle.client_law.proofs.Caching.{C, CachesBut, clean-caches, clean_evicts, clean_victims, dirty_stays, gone-caches, left-caches, put_cases, same-caches, settled_clean, takes-cache}
+use Rattle.client_law.proofs.Caching.{C, CachesBut, clean-caches, clean_evicts, clean_victims, dirty_stays, gone-caches, settled_clean, takes-cache}
 use Rattle.client_law.proofs.Effects.{all_weaker}
-use Rattle.client_law.proofs.Keeping.{At, Fact, IsCopied, IsLetGo, IsLowered, IsOwned, IsPutOff, Keeps, Sound, TakesKeep, notes_gone-keeps, seals-keeps, takes_back-keeps}
-use Rattle.client_law.proofs.Orders.{either, has, in_drop, in_take, in_used, in_without, not_both, not_both_parts, once_drop, once_used, once_without, or_elim, same_symmetric, taken_or_left, to_used, to_without}
-use Rattle.client_law.proofs.Quiet.{IsQuiet, IsSame}
+use Rattle.client_law.proofs.Keeping.{At, IsCopied, Keeps, Sound, notes_gone-keeps, takes_back-keeps}
+use Rattle.client_law.proofs.Orders.{has, in_take, in_used, once_used, to_used}
 
 -- ---- a segment is settled
 
@@ -57,9 +48,10 @@ InRows rows b = Contains (keys_of rows) b
 
 rows_in : (rows : List (BlockId × Entry)) → AllByRecursion (λ row. InRows rows row.0) rows
 rows_in [] = tt
-rows_in (row ∷ rows) =
-    (contains_first row.0 (keys_of rows),
-    all_weaker (λ (r : BlockId × Entry). InRows rows r.0) (λ (r : BlockId × Entry). InRows (row ∷ rows) r.0) (λ r inside. contains_rest row.0 r.0 (keys_of rows) inside) rows (rows_in rows))
+rows_in (row ∷ rows) = (
+  contains_first row.0 (keys_of rows),
+  all_weaker (λ (r : BlockId × Entry). InRows rows r.0) (λ (r : BlockId × Entry). InRows (row ∷ rows) r.0) (λ r inside. contains_rest row.0 r.0 (keys_of rows) inside) rows (rows_in rows),
+)
 
 module _ (X : BlockId → Type 0) where
   -- a version is settled of a block that is excepted
@@ -100,6 +92,7 @@ module _ (row : BlockId × Entry) (rows : List (BlockId × Entry)) (s : Serving)
       by_row : (b : BlockId) → may_evict (held_at s b) ≡ true → (b ≡ row.0) ⊎ InRows rows b → (is_clean s.cache b ≡ true) ⊎ InRows rows b
       by_row b clean (inl same) = contrary (sym gone ∙ ap (λ a. may_evict (held_at s a)) (sym same) ∙ clean)
       by_row b clean (inr rest) = inr rest
+
       less : (b : BlockId) → may_evict (held_at s b) ≡ true → (is_clean s.cache b ≡ true) ⊎ InRows (row ∷ rows) b → (is_clean s.cache b ≡ true) ⊎ InRows rows b
       less b clean (inl inside) = inl inside
       less b clean (inr x) = by_row b clean (but_row b x)
@@ -244,9 +237,11 @@ touched-caches t c block p =
     there : (b : BlockId) → is_clean c block ≡ true → (b ≡ block) ⊎ (has b c.blocks ≡ true) → is_clean c b ≡ true
     there b x (inl same) = ap (λ a. is_clean c a) same ∙ x
     there b x (inr inside) = inside
+
     still_there : (b : BlockId) → (is_clean c b ≡ true) ⊎ ⊥ → (has b (used_last block c.blocks) ≡ true) ⊎ ⊥
     still_there b (inl inside) = inl (to_used block b c.blocks (inr inside))
     still_there b (inr x) = inr x
+
     used : is_clean c block ≡ true → CachesBut none t (record { blocks = used_last block c.blocks; capacity = c.capacity })
     used x = record {
       once = once_used block c.blocks p.once;

@@ -1,13 +1,12 @@
 -- What the effects of an event say, where those of each of its parts say it; and what its packets say then.
-use Rattle.std.proofs.Common.{◌≡◌, ℕ, List, [], ◌∷◌, ◌++◌, map, Option, Some, None, All}
-use Rattle.std.specs.List.{AllByRecursion, flat_map}
+use Rattle.std.proofs.Common.{ℕ, List, [], ◌∷◌, ◌++◌, map, Option, Some, None, All}
+use Rattle.std.specs.List.{AllByRecursion}
 use Rattle.std.proofs.lemmas.List.Elements.{All-nil, All-cons, All-append}
 use Rattle.delta_feed.specs.declared.output.Out as feed_out
 use Rattle.delta_feed.specs.declared.output.Out.TheVariants.{Range}
 use Rattle.delta_feed.specs.FeedState.{FeedState}
 use Rattle.delta_feed.specs.Transition.{ticked}
 use Rattle.log_owner.specs.declared.promised.Managers.{Managers}
-use Rattle.log_owner.specs.Promised.{manager_of}
 use Rattle.log_owner.specs.Sending.{range, pushes_all}
 use Rattle.node_base.specs.Beginning.{answers_unanswered}
 use Rattle.node_base.specs.declared.effects.Effect.{Effect}

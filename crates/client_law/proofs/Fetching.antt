@@ -1,24 +1,21 @@
 -- A block that isn't held, and of which a want is open, comes to be held by an answer alone: nothing else that a client does has a block held
 -- that isn't, and what was read is taken only where nothing is wanted.
-use Rattle.std.proofs.Common.{◌≡◌, ◌⊎◌, inl, inr, ℕ, Bool, true, false, ◌&&◌, not, List, [], ◌∷◌, Option, Some, None, is_some, is_none, refl, sym, ap, subst, ◌∙◌}
+use Rattle.std.proofs.Common.{◌≡◌, ◌⊎◌, inl, inr, ℕ, true, false, ◌&&◌, not, List, [], ◌∷◌, Option, Some, None, is_some, is_none, refl, sym, ap, subst, ◌∙◌}
 use Rattle.std.specs.Prelude.{fold}
 use Rattle.client_log.specs.declared.input.In as log_in
 use Rattle.client_log.specs.declared.input.In.TheVariants as log_ins
-use Rattle.client_log.specs.LogState.{LogState}
-use Rattle.client_node.specs.Blocks.{changes, put_of, wrote}
+use Rattle.client_node.specs.Blocks.{changes, wrote}
 use Rattle.client_node.specs.declared.client.Client.{Client}
 use Rattle.client_node.specs.declared.phase.Phase.{Phase}
-use Rattle.client_node.specs.declared.phase.Phase.TheVariants.{Down, Opening, Serving as Serves}
+use Rattle.client_node.specs.declared.phase.Phase.TheVariants.{Serving as Serves}
 use Rattle.client_node.specs.declared.serving.Serving.{Serving}
 use Rattle.client_node.specs.Flights.{feeds, gives_if_clean, gives_up, held_at, keeps_clean, notes_settled, settled_rows, settles, writes}
-use Rattle.client_node.specs.Follow.{notes_clean, notes_gone, takes_back}
-use Rattle.client_node.specs.Phases.{client_step, takes}
+use Rattle.client_node.specs.Follow.{notes_clean}
+use Rattle.client_node.specs.Phases.{takes}
 use Rattle.client_node.specs.Sends as client
 use Rattle.client_node.specs.Starting.{first_client}
-use Rattle.coop_cache.specs.CacheState.{CacheState}
 use Rattle.token_client.specs.declared.held.Giving.{Giving}
 use Rattle.token_client.specs.declared.held.Held.{Held}
-use Rattle.token_client.specs.declared.held.Wanted.{Wanted}
 use Rattle.token_client.specs.Held.{is_dirty, is_settled_by, let_go, may_end_fetch, may_evict, may_write, version_settled, written}
 use Rattle.token_client.specs.State.{TokensState, dirty_in, held_of, with_held}
 use Rattle.token_client.specs.Transition.{Done, on_evict, on_settled, on_wrote}
@@ -42,7 +39,7 @@ use Rattle.client_law.proofs.Asking.{after-asks}
 use Rattle.client_law.proofs.Caching.{put_cases}
 use Rattle.client_law.proofs.Giving.{AnyLog, AnyOpening, any_reopens}
 use Rattle.client_law.proofs.Happening.{AnyMap, ArrivesTo, PhaseHolds, Starts, brings_any, takes-so}
-use Rattle.client_law.proofs.Keeping.{At, Fact, IsLetGo, IsLowered, IsPutOff, Keeps, TakesKeep, takes_back-keeps}
+use Rattle.client_law.proofs.Keeping.{Fact, Keeps, TakesKeep, takes_back-keeps}
 use Rattle.client_law.proofs.Orders.{either}
 use Rattle.client_law.proofs.Packets.{Arrives}
 use Rattle.client_law.proofs.Writing.{notes_clean-tokens, notes_gone-tokens, writes-tokens}

@@ -1,6 +1,6 @@
 -- Between events a recall is put off of dirty blocks alone. While a segment is settled it may be of a block that just became clean: of one
 -- that was dirty before; those are given up one after the other.
-use Rattle.std.proofs.Common.{◌≡◌, ◌⊎◌, inl, inr, ℕ, Bool, true, false, cond, ◌&&◌, ◌||◌, ◌==◌, not, nat_lt, List, [], ◌∷◌, Option, Some, None, is_some, is_none, refl, sym, ap, subst, ◌∙◌, arith}
+use Rattle.std.proofs.Common.{◌≡◌, ◌⊎◌, inl, inr, ℕ, Bool, true, false, cond, ◌&&◌, ◌==◌, not, nat_lt, List, [], ◌∷◌, Option, Some, None, is_some, is_none, refl, sym, ap, subst, ◌∙◌, arith}
 use Rattle.std.specs.Prelude.{Contains, fold, unwrap_or}
 use Rattle.std.specs.Map.{keys_of, lookup}
 use Rattle.std.specs.BTreeMap.{is_at}
@@ -11,12 +11,11 @@ use Rattle.std.proofs.lemmas.Bool.Decides.{nat_tests}
 use Rattle.client_log.specs.declared.input.In as log_in
 use Rattle.client_log.specs.declared.input.In.TheVariants as log_ins
 use Rattle.client_log.specs.LogState.{LogState}
-use Rattle.client_node.specs.Blocks.{changes, put_of, wrote}
+use Rattle.client_node.specs.Blocks.{changes, wrote}
 use Rattle.client_node.specs.declared.serving.Serving.{Serving}
 use Rattle.client_node.specs.Flights.{feeds, gives_if_clean, gives_up, held_at, keeps_clean, notes_settled, settled_rows, settles, writes}
-use Rattle.client_node.specs.Follow.{follows, follows_one, hands, notes_clean, notes_gone, takes_back}
+use Rattle.client_node.specs.Follow.{follows, follows_one, hands, notes_clean, takes_back}
 use Rattle.client_node.specs.Sends as client
-use Rattle.coop_cache.specs.CacheState.{CacheState}
 use Rattle.log_owner.specs.declared.opening.Opening as openings
 use Rattle.log_owner.specs.declared.opened.Progress.{Progress}
 use Rattle.log_owner.specs.declared.opened.Progress.TheVariants as progress
@@ -25,7 +24,7 @@ use Rattle.token_client.specs.declared.held.Giving.{Giving}
 use Rattle.token_client.specs.declared.held.Held.{Held}
 use Rattle.token_client.specs.declared.input.In.TheVariants as input
 use Rattle.token_client.specs.declared.output.Out.TheVariants.{Gave, Flush}
-use Rattle.token_client.specs.Held.{given_up, is_asking, is_dirty, is_settled_by, let_go, may_evict, may_write, put_off, unknown, version_settled, written}
+use Rattle.token_client.specs.Held.{given_up, is_dirty, is_settled_by, let_go, may_evict, may_write, put_off, unknown, version_settled, written}
 use Rattle.token_client.specs.Laws.{IsGivingAbove, IsSound}
 use Rattle.token_client.specs.State.{TokensState, dirty_in, epoch_of, held_of, with_held}
 use Rattle.token_client.specs.Transition.{Done, can_refetch, give, is_promised, on_evict, on_recalled, on_settled, on_wrote, recalled, recalled_above, recalled_again, refetch}
@@ -35,17 +34,16 @@ use Rattle.xfs_base.specs.Blocks.{block_cmp, slot_of}
 use Rattle.xfs_base.specs.declared.block.BlockId.{BlockId}
 use Rattle.xfs_base.specs.declared.entry.Entry.{Entry}
 use Rattle.xfs_base.specs.declared.segment.End.{End}
-use Rattle.xfs_base.specs.declared.token.Stamp.{Stamp}
 use Rattle.xfs_base.specs.Modes.{is_held, is_own}
 use Rattle.xfs_base.specs.Stamps.{is_later}
 use Rattle.xfs_base.specs.Steps.{after, steps, still}
 use Rattle.xfs_base.proofs.BlockOrder.{block_cmp_exact}
-use Rattle.xfs_base.proofs.Booleans.{and_first, and_second, by_test, contrary, not_true, or_first}
+use Rattle.xfs_base.proofs.Booleans.{and_first, and_second, by_test, contrary, or_first}
 use Rattle.xfs_base.proofs.Members.{contains_cases, contains_first, contains_nothing, contains_rest}
 use Rattle.client_law.specs.Giving.{GivesOnlyDirty, PutsOffWhatIsDirty}
 use Rattle.client_law.proofs.Happening.{AnyBlock, AnyMap, OpensSo, Reopens, after_weaker, always}
-use Rattle.client_law.proofs.Keeping.{At, Fact, IsCopied, IsLetGo, IsLowered, IsOwned, IsPutOff, Keeps, Sound, TakesKeep, follows-silent, takes_back-keeps, told}
-use Rattle.client_law.proofs.Quiet.{IsQuiet, IsSame, refetch-quiet}
+use Rattle.client_law.proofs.Keeping.{At, Fact, IsCopied, Keeps, Sound, TakesKeep, follows-silent, takes_back-keeps, told}
+use Rattle.client_law.proofs.Quiet.{IsQuiet, refetch-quiet}
 use Rattle.client_law.proofs.Sounding.{gives_if_clean-sound, settled_rows-sound, settles-sound, transition-sound}
 use Rattle.client_law.proofs.Writing.{notes_clean-tokens, notes_gone-tokens, writes-tokens}
 
@@ -241,6 +239,7 @@ module _ (x : BlockId) (xs : List BlockId) where
       in_list (inl same) =
           inl (subst (λ c. is_some (held_of t.blocks c).giving ≡ true → is_dirty (held_of t.blocks c) ≡ true) same done some)
       in_list (inr rest) = inr rest
+
       by_case : (is_dirty (held_of t.blocks b) ≡ true) ⊎ Contains (x ∷ xs) b → (is_dirty (held_of t.blocks b) ≡ true) ⊎ Contains xs b
       by_case (inl d) = inl d
       by_case (inr c) = in_list (contains_cases x b xs c)

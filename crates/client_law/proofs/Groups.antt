@@ -1,7 +1,7 @@
 -- The map over which a client stripes is always one that came, or the setup's: what is true of these is true of it.
-use Rattle.std.proofs.Common.{◌≡◌, ℕ, Bool, true, false, cond, if◌then◌else◌, ◌&&◌, not, nat_lt, length, List, [], ◌∷◌, Option, Some, None, refl, sym, ap, subst, ◌∙◌}
+use Rattle.std.proofs.Common.{◌≡◌, ℕ, cond, if◌then◌else◌, ◌&&◌, not, nat_lt, length, List, [], ◌∷◌, Option, Some, None, refl, sym, subst}
 use Rattle.std.specs.Prelude.{fold}
-use Rattle.std.specs.List.{AllByRecursion, list_any}
+use Rattle.std.specs.List.{list_any}
 use Rattle.client_log.specs.declared.dirty.Change.{Change}
 use Rattle.client_log.specs.declared.flight.Fate.{Fate}
 use Rattle.client_log.specs.declared.flight.Fate.TheVariants.{Restripe, Settle, Wait}
@@ -13,26 +13,25 @@ use Rattle.client_log.specs.Fate.{fate_of}
 use Rattle.client_log.specs.LogState.{FlightState, LogState}
 use Rattle.client_log.specs.Transition as log
 use Rattle.client_log.specs.Transition.{all_sends, can_follow, can_go_on, followed, has_next, if_full, is_full, is_idle, is_of, landed, launched, looked_at, noting, on_acked, on_maps, on_put, on_seal, on_tick, restriped, sealed, settled, waits}
-use Rattle.client_node.specs.Blocks.{changes, put_of, wrote}
+use Rattle.client_node.specs.Blocks.{changes, wrote}
 use Rattle.client_node.specs.declared.serving.Serving.{Serving}
 use Rattle.client_node.specs.Flights.{feeds, gives_if_clean, gives_up, held_at, is_giving, is_settling, keeps_clean, notes_settled, settled_rows, settles, writes, writes_one}
-use Rattle.client_node.specs.Follow.{evicts, notes_clean, notes_gone, seals, takes_back}
+use Rattle.client_node.specs.Follow.{evicts, notes_clean, seals}
 use Rattle.client_node.specs.Sends as client
 use Rattle.coop_cache.specs.declared.output.Out as cache_out
 use Rattle.coop_cache.specs.declared.output.Out.TheVariants.{Victim}
-use Rattle.coop_cache.specs.Transition.{cleaned, left}
+use Rattle.coop_cache.specs.Transition.{cleaned}
 use Rattle.group_map.specs.GroupMapState.{GroupMapState}
 use Rattle.group_map.specs.WellFormed.{IsGroupMap}
 use Rattle.group_map.proofs.Presence.{is_present}
 use Rattle.log_owner.specs.declared.opened.Progress.{Progress}
 use Rattle.log_owner.specs.declared.opened.Progress.TheVariants as progress
-use Rattle.log_owner.specs.declared.opening.Opening as openings
 use Rattle.log_owner.specs.Grouped.{HasSuchMaps, OpensBySuch, SaysSuchMaps}
 use Rattle.log_owner.specs.Opening as opening
 use Rattle.log_owner.proofs.Grouping.{packet_groups, tick_groups}
 use Rattle.token_client.specs.declared.held.Giving.{Giving}
 use Rattle.token_client.specs.Held.{is_dirty}
-use Rattle.token_client.specs.State.{dirty_in, held_of}
+use Rattle.token_client.specs.State.{dirty_in}
 use Rattle.token_client.specs.Transition.{on_evict}
 use Rattle.wire_msg.specs.declared.body.Body.{Body}
 use Rattle.wire_msg.specs.declared.body.Body.TheVariants as body
@@ -40,13 +39,12 @@ use Rattle.xfs_base.specs.declared.block.BlockId.{BlockId}
 use Rattle.xfs_base.specs.declared.entry.Entry.{Entry}
 use Rattle.xfs_base.specs.declared.segment.End.{End}
 use Rattle.xfs_base.specs.declared.segment.SegName.{SegName}
-use Rattle.xfs_base.specs.Modes.{is_held, is_nothing}
-use Rattle.xfs_base.specs.Steps.{after, steps, still}
+use Rattle.xfs_base.specs.Modes.{is_held}
+use Rattle.xfs_base.specs.Steps.{steps, still}
 use Rattle.xfs_base.proofs.Booleans.{by_test}
-use Rattle.client_law.specs.Events.{WhereItServes}
 use Rattle.client_law.specs.Groups.{StripesByPresentGroups, StripesByPresentGroupsAlways}
 use Rattle.client_law.specs.Maps.{BringsMaps}
-use Rattle.client_law.proofs.Happening.{AnyBlock, OpensSo, Reopens, Starts, always_where, arrives_any, where_weaker}
+use Rattle.client_law.proofs.Happening.{AnyBlock, OpensSo, Reopens, always_where, arrives_any, where_weaker}
 use Rattle.client_law.proofs.Keeping.{At, Fact, IsOuter, Keeps, TakesKeep, notes_gone-keeps, seals-keeps, takes_back-keeps}
 
 -- ---- the log keeps its groups

@@ -1,5 +1,5 @@
 -- Each event keeps a fact of a client that asks for its call: so it holds after any events.
-use Rattle.std.proofs.Common.{◌≡◌, ◌⊎◌, inl, inr, ℕ, Bool, true, false, ◌&&◌, List, [], ◌∷◌, Option, Some, None, is_some, refl, sym, ap, subst, ◌∙◌}
+use Rattle.std.proofs.Common.{◌≡◌, inl, ℕ, Bool, true, ◌&&◌, List, [], ◌∷◌, Option, Some, None, is_some}
 use Rattle.client_log.specs.LogState as logs
 use Rattle.client_log.specs.LogState.{LogState}
 use Rattle.client_node.specs.declared.call.Going.{Going}
@@ -9,11 +9,11 @@ use Rattle.client_node.specs.declared.phase.Phase.{Phase}
 use Rattle.client_node.specs.declared.phase.Phase.TheVariants.{Down, Opening, Serving as Serves}
 use Rattle.client_node.specs.declared.serving.Serving.{Serving}
 use Rattle.client_node.specs.Packets.{epochs_room, on_packet, on_tick}
-use Rattle.client_node.specs.Phases.{Went_to, after_opening, begins_call, begins_item, call_at, client_room, client_step, delivers, down_begins, happens, item_begins, lasting_of, next_life, on_begin, on_deliver, on_time, opened_on, opening_begins, opens, owner_of, phase_room, serving_begins, serving_room, takes, then_runs, wish_of, with_begun}
+use Rattle.client_node.specs.Phases.{Went_to, after_opening, begins_call, begins_item, call_at, client_room, client_step, down_begins, happens, item_begins, lasting_of, next_life, on_begin, on_deliver, on_time, opened_on, opening_begins, opens, owner_of, phase_room, serving_begins, serving_room, takes, wish_of, with_begun}
 use Rattle.client_node.specs.Running.{goes_on, runs}
 use Rattle.client_node.specs.Sends as client
 use Rattle.client_node.specs.Sends.{gives}
-use Rattle.client_node.specs.Starting.{cached_upto, empty_end, first_client, first_lasting}
+use Rattle.client_node.specs.Starting.{cached_upto, empty_end, first_client}
 use Rattle.coop_cache.specs.CacheState as cache
 use Rattle.group_map.specs.Groups as groups
 use Rattle.group_map.specs.GroupMapState.{GroupMapState}
@@ -25,11 +25,10 @@ use Rattle.log_owner.specs.Opening as opening
 use Rattle.log_owner.specs.Opening.{Went, log_room}
 use Rattle.node_base.specs.Beginning.{next_item, waiting, work_at}
 use Rattle.node_base.specs.declared.effects.Effect.TheVariants.{Answer as Answers}
-use Rattle.node_base.specs.declared.peers.Peers.{Peers}
 use Rattle.node_base.specs.declared.questions.Questions.{Questions}
 use Rattle.node_base.specs.Room.{has_room}
 use Rattle.node_base.specs.Shape.{is_well_formed}
-use Rattle.token_client.specs.State.{TokensState, started}
+use Rattle.token_client.specs.State.{started}
 use Rattle.version_model.specs.declared.answer.Answer.TheVariants as answer
 use Rattle.version_model.specs.declared.work.Work.{Work}
 use Rattle.version_model.specs.declared.work.Work.TheVariants as work

@@ -1,6 +1,6 @@
 -- What is asked of a fact of a client's tokens, log and cache, so that all that a client does keeps it; and the first of it: what the
 -- tokens say is done, and a block is taken back.
-use Rattle.std.proofs.Common.{◌≡◌, ℕ, Bool, true, false, ◌&&◌, List, [], ◌∷◌, ◌++◌, Option, Some, None, is_some, refl, sym, ap, subst, ◌∙◌}
+use Rattle.std.proofs.Common.{◌≡◌, ℕ, Bool, true, false, ◌&&◌, List, [], ◌∷◌, ◌++◌, Option, None, is_some, refl, sym, ap, subst, ◌∙◌}
 use Rattle.std.specs.List.{AllByRecursion}
 use Rattle.client_log.specs.declared.input.In as log_in
 use Rattle.client_log.specs.declared.input.In.TheVariants as log_ins
@@ -16,7 +16,6 @@ use Rattle.coop_cache.specs.CacheState.{CacheState}
 use Rattle.coop_cache.specs.Transition.{left, touched}
 use Rattle.group_map.specs.GroupMapState.{GroupMapState}
 use Rattle.token_client.specs.declared.held.Held.{Held}
-use Rattle.token_client.specs.declared.input.In.TheVariants.{Recalled}
 use Rattle.token_client.specs.declared.output.Out.{Out}
 use Rattle.token_client.specs.declared.output.Out.TheVariants.{Want, Gave, Supply, Flush, Read, Ready}
 use Rattle.token_client.specs.Held.{given_up, is_asking, is_dirty, may_write, put_off}
@@ -32,7 +31,7 @@ use Rattle.xfs_base.specs.Modes.{is_held, is_nothing}
 use Rattle.xfs_base.specs.Stamps.{is_later}
 use Rattle.xfs_base.specs.Steps.{after, still}
 use Rattle.xfs_base.proofs.Booleans.{and_second, by_test, contrary}
-use Rattle.client_law.proofs.Quiet.{GoesQuietly, IsQuiet, IsSame, IsSilent, quiet_itself, quiet_still, refetch-quiet}
+use Rattle.client_law.proofs.Quiet.{GoesQuietly, IsQuiet, IsSilent, quiet_itself, quiet_still, refetch-quiet}
 
 -- a fact of a client that serves: of its tokens, its log and its cache
 abbrev pub Fact : Type 1

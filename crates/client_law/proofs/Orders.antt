@@ -6,7 +6,7 @@ use Rattle.xfs_base.specs.Blocks.{same_block}
 use Rattle.xfs_base.specs.declared.block.BlockId.{BlockId}
 use Rattle.client_law.specs.Blocks.{Once}
 use Rattle.xfs_base.proofs.BlockOrder.{same_block_exact, same_block_itself}
-use Rattle.xfs_base.proofs.Booleans.{and_first, and_second, by_test, contrary, not_true, or_first, or_second}
+use Rattle.xfs_base.proofs.Booleans.{and_first, and_second, contrary, not_true, or_first, or_second}
 
 abbrev pub has : BlockId → List BlockId → Bool
 has b bs = list_any (same_block b) bs
@@ -92,12 +92,15 @@ once_last block (x ∷ xs) absent o = (here, once_last block xs (or_false_second
     or_false_second : (a b : Bool) → (a || b) ≡ false → b ≡ false
     or_false_second true b h = contrary (sym h)
     or_false_second false b h = h
+
     or_false_first : (a b : Bool) → (a || b) ≡ false → a ≡ false
     or_false_first true b h = h
     or_false_first false b h = refl
+
     two_false : (a b : Bool) → a ≡ false → b ≡ false → (a || b) ≡ false
     two_false true b h g = h
     two_false false b h g = g
+
     here : has x (xs ++ block ∷ []) ≡ false
     here =
         has_append x xs (block ∷ []) ∙ two_false (has x xs) _ o.0
@@ -128,6 +131,7 @@ in_used block b bs h = by_part (or_cases (has b (without block bs)) _ (sym (has_
     last : (same_block b block ≡ true) ⊎ (false ≡ true) → b ≡ block
     last (inl same) = sym (same_block_exact b block same)
     last (inr none) = contrary none
+
     by_part : (has b (without block bs) ≡ true) ⊎ (has b (block ∷ []) ≡ true) → (b ≡ block) ⊎ (has b bs ≡ true)
     by_part (inl inside) = inr (in_without block b bs inside).0
     by_part (inr end) = inl (last (or_cases (same_block b block) false end))

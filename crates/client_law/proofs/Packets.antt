@@ -1,9 +1,9 @@
 -- A packet and time keep a fact of a client that serves and asks for its call; only a grant may leave a block that is to be written at once.
-use Rattle.std.proofs.Common.{◌≡◌, ◌⊎◌, inl, inr, ℕ, Bool, true, false, ◌&&◌, ◌==◌, not, nat_lt, List, [], ◌∷◌, Option, Some, None, option_map, refl, sym, ap, subst, ◌∙◌, arith}
+use Rattle.std.proofs.Common.{◌≡◌, inl, ℕ, Bool, true, ◌&&◌, ◌==◌, not, nat_lt, List, [], ◌∷◌, Option, Some, None, refl, sym, ap, subst, ◌∙◌, arith}
 use Rattle.std.proofs.lemmas.Bool.Decides.{nat_tests}
 use Rattle.client_log.specs.declared.input.In.TheVariants as log_in
 use Rattle.client_node.specs.declared.serving.Serving.{Serving}
-use Rattle.client_node.specs.Flights.{held_at, on_stored, writes}
+use Rattle.client_node.specs.Flights.{held_at, writes}
 use Rattle.client_node.specs.Follow.{hands, takes_back}
 use Rattle.client_node.specs.Packets.{asks_for_maps, block_read, ends_fetch, hears, heard, Heard, is_acked, is_gone, is_news, is_stamp, may_report, on_ack, on_body, on_forward, on_found, on_gone, on_grant, on_missing, on_news, on_packet, on_poll, on_recall, on_supply, on_tick, on_told, on_welcome, polled, promised_in, promises, regroups, renews, reports, says_again, takes_news, told_at, told_by}
 use Rattle.client_node.specs.Reads.{loses, reading_in, value_at, with_reading}
@@ -30,8 +30,6 @@ use Rattle.wire_msg.specs.declared.deltas.Poll.{Poll}
 use Rattle.wire_msg.specs.declared.packet.Packet.{Packet}
 use Rattle.wire_msg.specs.declared.registry.News.{News}
 use Rattle.wire_msg.specs.declared.registry.Welcome.{Welcome}
-use Rattle.wire_msg.specs.declared.storage.Found.{Found}
-use Rattle.wire_msg.specs.declared.storage.Missing.{Missing}
 use Rattle.wire_msg.specs.declared.tokens.Forward.{Forward}
 use Rattle.wire_msg.specs.declared.tokens.Gone.{Gone}
 use Rattle.wire_msg.specs.declared.tokens.Grant.{Grant}
@@ -52,10 +50,10 @@ use Rattle.node_tie.proofs.AsksFrames.{kept}
 use Rattle.node_tie.proofs.AsksFollow.{with_reading-keeps}
 use Rattle.node_tie.specs.Asks.{needed}
 use Rattle.client_law.specs.Maps.{BringsMaps}
-use Rattle.client_law.proofs.Arriving.{IsFresh, KeptOrFresh, fetched-keeps, granted-keeps, lessens, loses-keeps, supplied-keeps}
+use Rattle.client_law.proofs.Arriving.{KeptOrFresh, fetched-keeps, granted-keeps, lessens, loses-keeps, supplied-keeps}
 use Rattle.client_law.proofs.Keeping.{At, Fact, Keeps, Sound, quiet-keeps, takes_back-keeps, told}
 use Rattle.client_law.proofs.Quiet.{GoesQuietly, on_forwarded-quiet, on_promise-quiet, on_reask-quiet, on_tick-quiet}
-use Rattle.client_law.proofs.Sounding.{follows-sound, hands-sound, steps-sound, transition-sound}
+use Rattle.client_law.proofs.Sounding.{follows-sound, hands-sound, transition-sound}
 
 -- ---- a recall that stands at the block's stamp
 

@@ -1,5 +1,5 @@
 -- What inputs leave of a client's tokens that neither give nor take a block: only what is asked for changes, and puts-off may be dropped.
-use Rattle.std.proofs.Common.{◌≡◌, ℕ, ◌+◌, ◌-◌, ◌^◌, Bool, true, false, List, [], ◌∷◌, ◌++◌, Option, Some, None, is_some, refl, sym, ap, subst, ◌∙◌, nat_lt}
+use Rattle.std.proofs.Common.{◌≡◌, ℕ, ◌+◌, ◌-◌, ◌^◌, true, List, [], ◌∷◌, Option, Some, None, is_some, refl, sym, subst, ◌∙◌, nat_lt}
 use Rattle.std.specs.List.{AllByRecursion, list_any}
 use Rattle.std.specs.Map.{values_of}
 use Rattle.xfs_base.specs.declared.block.BlockId.{BlockId}

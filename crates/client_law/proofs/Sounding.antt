@@ -1,5 +1,5 @@
 -- A client that serves has sound tokens still, whatever it does: they change by their own inputs alone.
-use Rattle.std.proofs.Common.{◌≡◌, ℕ, Bool, ◌&&◌, not, List, [], ◌∷◌, Option, Some, None, is_none}
+use Rattle.std.proofs.Common.{Bool, ◌&&◌, not, List, [], ◌∷◌, Option, Some, None, is_none}
 use Rattle.std.specs.List.{fold, list_any}
 use Rattle.client_log.specs.declared.input.In as log_in
 use Rattle.client_log.specs.declared.output.Out as log_out
@@ -8,7 +8,7 @@ use Rattle.client_log.specs.Transition as log
 use Rattle.client_node.specs.declared.serving.Serving.{Serving}
 use Rattle.client_node.specs.Flights.{feeds, gives_if_clean, gives_up, held_at, is_giving, is_settling, keeps_clean, notes_settled, seals_again, settled_rows, settles, writes, writes_one}
 use Rattle.client_node.specs.Follow.{evicts, follows, follows_one, hands, notes_clean, notes_copy, notes_gone, seals, takes_back}
-use Rattle.client_node.specs.Reads.{begins, begins_over, confirmed_next, confirms, drawn_after, draws, ends_reading, group_in, loses, loses_at, reading_in, reads, reads_over, same_target, target_of, with_reading}
+use Rattle.client_node.specs.Reads.{begins, begins_over, confirmed_next, confirms, drawn_after, ends_reading, group_in, loses, loses_at, reading_in, reads, reads_over, same_target, target_of, with_reading}
 use Rattle.client_node.specs.Reads as reading
 use Rattle.client_node.specs.Sends.{Done}
 use Rattle.coop_cache.specs.declared.output.Out as cache_out

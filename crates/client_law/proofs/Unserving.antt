@@ -1,15 +1,13 @@
 -- A client that doesn't serve says nothing of tokens, and takes nothing of them.
-use Rattle.std.proofs.Common.{◌≡◌, ◌⊎◌, inl, inr, ℕ, Bool, true, false, List, [], ◌∷◌, ◌++◌, Option, Some, None, All, refl, sym, ap, subst, ◌∙◌}
+use Rattle.std.proofs.Common.{◌≡◌, inl, inr, ℕ, true, false, [], ◌∷◌, Option, Some, None, refl, sym, ap, subst}
 use Rattle.std.proofs.lemmas.List.Elements.{All-nil, All-cons}
 use Rattle.client_node.specs.declared.client.Client.{Client}
 use Rattle.client_node.specs.declared.lasting.Lasting.{Lasting}
 use Rattle.client_node.specs.declared.phase.Phase.{Phase}
 use Rattle.client_node.specs.declared.phase.Phase.TheVariants.{Down, Opening, Serving as Serves}
-use Rattle.client_node.specs.declared.serving.Serving.{Serving}
-use Rattle.client_node.specs.Phases.{stepped, Went_to, after_opening, begins_item, client_room, client_step, crashed, delivers, down_begins, happens, item_begins, lasting_of, next_life, on_begin, on_deliver, on_time, opened_on, opening_begins, owner_of, restarted, takes, wish_of, with_begun}
+use Rattle.client_node.specs.Phases.{stepped, Went_to, after_opening, begins_item, client_room, crashed, down_begins, happens, item_begins, lasting_of, next_life, on_begin, on_deliver, on_time, opened_on, opening_begins, owner_of, restarted, takes, wish_of, with_begun}
 use Rattle.log_owner.specs.Behaves.{Behaves, MayDo, MaySay}
 use Rattle.log_owner.specs.declared.ended.Owner.{Owner}
-use Rattle.log_owner.specs.declared.opened.Opened.{Opened}
 use Rattle.log_owner.specs.declared.opened.Progress.{Progress}
 use Rattle.log_owner.specs.declared.opened.Progress.TheVariants as progress
 use Rattle.log_owner.specs.declared.opening.Opening as openings
@@ -21,7 +19,6 @@ use Rattle.node_base.specs.Asking.{drawn, next_ask}
 use Rattle.node_base.specs.Beginning.{next_item, work_at}
 use Rattle.node_base.specs.declared.effects.Effect.{Effect}
 use Rattle.node_base.specs.declared.effects.Effect.TheVariants.{Send, Answer, Lose, Does}
-use Rattle.node_base.specs.declared.peers.Peers.{Peers}
 use Rattle.node_base.specs.declared.questions.Questions.{Questions}
 use Rattle.node_base.specs.Known.{names_known}
 use Rattle.node_base.specs.Shape.{is_well_formed}
@@ -33,7 +30,6 @@ use Rattle.wire_msg.specs.declared.body.Body.TheVariants as body
 use Rattle.wire_msg.specs.declared.packet.Do.{Do}
 use Rattle.wire_msg.specs.declared.packet.Do.TheVariants.{Begin, Deliver, Tick}
 use Rattle.wire_msg.specs.declared.packet.Packet.{Packet}
-use Rattle.wire_msg.specs.NodeStep.{NodeStep}
 use Rattle.xfs_base.specs.declared.node.NodeId.{NodeId}
 use Rattle.xfs_base.specs.declared.node.NodeId.TheVariants.{Client as AClient}
 use Rattle.xfs_base.specs.Steps.{still}

@@ -1,24 +1,21 @@
 -- What waits and what is in flight, as tables of versions beside a client's tokens: that just what is dirty waits or flies, and that each
 -- change of a block, each seal and each landing keeps it.
-use Rattle.std.proofs.Common.{◌≡◌, ◌⊎◌, inl, inr, ℕ, ◌+◌, ◌<◌, ◌≤◌, Bool, true, false, cond, not, nat_lt, nat_le, List, [], ◌∷◌, map, take, drop, Option, Some, None, is_some, unwrap_or, refl, sym, ap, subst, ◌∙◌, arith}
-use Rattle.std.specs.Map.{keys_of}
+use Rattle.std.proofs.Common.{◌≡◌, ◌⊎◌, inl, inr, ℕ, ◌+◌, ◌<◌, ◌≤◌, Bool, true, false, cond, nat_lt, List, [], ◌∷◌, take, drop, Option, Some, None, is_some, unwrap_or, refl, sym, ap, subst, ◌∙◌, arith}
 use Rattle.std.proofs.lemmas.Bool.Decides.{nat_tests}
 use Rattle.token_client.specs.declared.held.Held.{Held}
 use Rattle.token_client.specs.Held.{is_dirty, is_settled_by, version_settled, written}
 use Rattle.token_client.specs.State.{TokensState, held_of, with_held}
 use Rattle.token_client.specs.Transition.{Done, on_settled}
-use Rattle.token_client.proofs.Tables.{held_of-put_itself, put_each}
+use Rattle.token_client.proofs.Tables.{put_each}
 use Rattle.xfs_base.specs.Blocks.{same_block}
 use Rattle.xfs_base.specs.declared.block.BlockId.{BlockId}
-use Rattle.xfs_base.specs.declared.entry.Entry.{Entry}
 use Rattle.xfs_base.specs.Steps.{still}
 use Rattle.xfs_base.proofs.BlockOrder.{same_block_exact, same_block_itself}
 use Rattle.xfs_base.proofs.Booleans.{by_test, contrary}
 use Rattle.client_law.specs.Unsettled.{version_at}
 use Rattle.client_law.proofs.Caching.{put_cases}
 use Rattle.client_law.proofs.Giving.{dirty_same}
-use Rattle.client_law.proofs.Orders.{has}
-use Rattle.client_law.proofs.Versions.{EachOnce, Versions, found_dropped, found_has, found_put, found_taken, not_in_both, once_dropped, once_put, once_taken, put, row_version, same_turned, taken_or_dropped}
+use Rattle.client_law.proofs.Versions.{EachOnce, Versions, found_dropped, found_has, found_put, found_taken, not_in_both, once_dropped, once_put, once_taken, put, same_turned, taken_or_dropped}
 
 -- `w` waits and `d` is in flight
 pub record AreUnsettled (t : TokensState) (w d : Versions) : Type 0 where
@@ -75,6 +72,7 @@ module _ (t : TokensState) (w d : Versions) (p : AreUnsettled t w d) where
     where
       dirty : (b : BlockId) → is_dirty (held_of u.blocks b) ≡ is_dirty (held_of t.blocks b)
       dirty b = dirty_same (held_of t.blocks b) (held_of u.blocks b) (same b).0 (same b).1
+
       by_case : (b : BlockId) → (is_some (version_at w b) ≡ true) ⊎ (version_at d b ≡ Some (held_of t.blocks b).ver)
           → (is_some (version_at w b) ≡ true) ⊎ (version_at d b ≡ Some (held_of u.blocks b).ver)
       by_case b (inl waits) = inl waits
@@ -146,14 +144,18 @@ module _ (t : TokensState) (w d : Versions) (p : AreUnsettled t w d) where
       where
         dirty_now : (settled ver : ℕ) → settled ≤ ver → nat_lt settled (ver + 1) ≡ true
         dirty_now settled ver low = grind (arith, nat_tests)
+
         more : (u ver : ℕ) → u ≤ ver → u ≤ ver + 1
         more u ver h = omega (arith, h)
+
         less : (u ver v : ℕ) → v ≡ ver + 1 → u ≤ ver → u < v
         less u ver v is h = omega (arith, is, h)
+
         waits_still : (b : BlockId) → same_block block b ≡ false → (is_some (version_at w b) ≡ true) ⊎ (version_at d b ≡ Some (held_of t.blocks b).ver)
             → (is_some (version_at next b) ≡ true) ⊎ (version_at d b ≡ Some (held_of t.blocks b).ver)
         waits_still b other (inl waits) = inl (ap is_some (elsewhere b other) ∙ waits)
         waits_still b other (inr flies) = inr flies
+
         by_block : (b : BlockId) (v u : ℕ) (r : Bool) → same_block block b ≡ r → version_at next b ≡ Some v → version_at d b ≡ Some u → u < v
         by_block b v u true same at flies =
             let is : b ≡ block = same_block_exact block b same in
@@ -176,14 +178,18 @@ unsettled-sealed t w n p = record {
   where
     itself : (u : ℕ) → u ≤ u
     itself u = omega arith
+
     low : (b : BlockId) (u : ℕ) → u ≡ (held_of t.blocks b).ver → is_dirty (held_of t.blocks b) ≡ true → (held_of t.blocks b).settled < u
     low b u is dirty = grind (arith, nat_tests)
+
     part : (b : BlockId) (v : ℕ) → v ≡ (held_of t.blocks b).ver → (version_at (take n w) b ≡ Some v) ⊎ (version_at (drop n w) b ≡ Some v)
         → (is_some (version_at (drop n w) b) ≡ true) ⊎ (version_at (take n w) b ≡ Some (held_of t.blocks b).ver)
     part b v is (inl taken) = inr (taken ∙ ap (λ m. Some m) is)
     part b v is (inr left) = inl (ap is_some left)
+
     found : (b : BlockId) → (v : ℕ) × (version_at w b ≡ Some v) → (is_some (version_at (drop n w) b) ≡ true) ⊎ (version_at (take n w) b ≡ Some (held_of t.blocks b).ver)
     found b e = part b e.0 (p.newest b e.0 e.1) (taken_or_dropped n w b e.0 e.1)
+
     by_case : (b : BlockId) → (is_some (version_at w b) ≡ true) ⊎ (None ≡ Some (held_of t.blocks b).ver)
         → (is_some (version_at (drop n w) b) ≡ true) ⊎ (version_at (take n w) b ≡ Some (held_of t.blocks b).ver)
     by_case b (inl waits) = found b (some_of (version_at w b) waits)
@@ -235,12 +241,15 @@ module _ (t : TokensState) (w d : Versions) (block : BlockId) (u : ℕ) (p : Are
     where
       newer : (u v ver : ℕ) → u < v → v ≡ ver → nat_lt u ver ≡ true
       newer u v ver less is = grind (arith, nat_tests)
+
       none_newer : (u ver : ℕ) → u ≡ ver → nat_lt u ver ≡ true → false ≡ true
       none_newer u ver is less = grind (arith, nat_tests)
+
       here : nat_lt u f.ver ≡ true → (is_some (version_at w block) ≡ true) ⊎ (version_at (row ∷ d) block ≡ Some f.ver)
           → (is_some (version_at w block) ≡ true) ⊎ (version_at d block ≡ Some f.ver)
       here dirty (inl waits) = inl waits
       here dirty (inr flies) = contrary (none_newer u f.ver (some_exact u f.ver (sym flies_here ∙ flies)) dirty)
+
       there : (b : BlockId) → same_block block b ≡ false → (is_some (version_at w b) ≡ true) ⊎ (version_at (row ∷ d) b ≡ Some (held_of t.blocks b).ver)
           → (is_some (version_at w b) ≡ true) ⊎ (version_at d b ≡ Some (held_of t.blocks b).ver)
       there b other (inl waits) = inl waits

@@ -1,15 +1,14 @@
 -- A block that is written waits; and so after any events just the dirty blocks wait to be written or are in flight.
-use Rattle.std.proofs.Common.{◌≡◌, ◌⊎◌, ℕ, ◌+◌, ◌-◌, ◌^◌, ◌<◌, Bool, true, false, ◌||◌, ◌&&◌, not, nat_lt, nat_le, List, [], ◌∷◌, map, Option, Some, None, refl, sym, ap, subst, ◌∙◌, arith}
+use Rattle.std.proofs.Common.{◌≡◌, ℕ, ◌+◌, ◌<◌, true, false, not, nat_lt, List, [], map, Option, None, refl, sym, subst, ◌∙◌, arith}
 use Rattle.std.proofs.lemmas.Bool.Decides.{nat_tests}
 use Rattle.client_log.specs.declared.dirty.Change.{Change}
 use Rattle.client_log.specs.declared.input.In.TheVariants as log_ins
 use Rattle.client_log.specs.LogState.{LogState}
-use Rattle.client_log.specs.Transition as log
 use Rattle.client_log.specs.Transition.{can_go_on, has_next, if_full, is_full, on_put, waits}
-use Rattle.client_node.specs.Blocks.{changes, put_of, wrote}
+use Rattle.client_node.specs.Blocks.{changes}
 use Rattle.client_node.specs.declared.serving.Serving.{Serving}
 use Rattle.client_node.specs.Flights.{held_at, writes}
-use Rattle.client_node.specs.Follow.{notes_clean, notes_gone}
+use Rattle.client_node.specs.Follow.{notes_clean}
 use Rattle.coop_cache.specs.Transition.{left}
 use Rattle.log_owner.specs.declared.opened.Progress.{Progress}
 use Rattle.log_owner.specs.declared.opened.Progress.TheVariants as progress
@@ -19,7 +18,7 @@ use Rattle.log_owner.specs.Opening as opening
 use Rattle.node_base.specs.declared.questions.Questions.{Questions}
 use Rattle.node_base.specs.Room.{has_room}
 use Rattle.token_client.specs.declared.held.Held.{Held}
-use Rattle.token_client.specs.Held.{is_asking, is_dirty, let_go, may_evict, may_write, written}
+use Rattle.token_client.specs.Held.{is_dirty, may_write, written}
 use Rattle.token_client.specs.State.{TokensState, held_of, with_held}
 use Rattle.token_client.specs.Transition.{Done, on_evict, on_wrote}
 use Rattle.token_client.proofs.Tables.{held_of-put_itself}
@@ -31,10 +30,10 @@ use Rattle.xfs_base.specs.Steps.{still}
 use Rattle.xfs_base.proofs.Booleans.{by_test, contrary, or_second}
 use Rattle.client_law.specs.Unsettled.{WritesJustWhatIsDirty, WritesWhatIsDirty, versions_flown, versions_waiting}
 use Rattle.client_law.proofs.Caching.{settled_clean}
-use Rattle.client_law.proofs.Happening.{AnyBlock, AnyMap, OpensSo, Reopens, after_weaker, always}
-use Rattle.client_law.proofs.Keeping.{At, Fact, IsCopied, IsOwned, Keeps, Sound, notes_gone-keeps}
+use Rattle.client_law.proofs.Happening.{AnyBlock, AnyMap, OpensSo, after_weaker, always}
+use Rattle.client_law.proofs.Keeping.{At, IsCopied, Keeps, Sound, notes_gone-keeps}
 use Rattle.client_law.proofs.Unsettled.{AreUnsettled, none_unsettled, unsettled-written}
-use Rattle.client_law.proofs.UnsettledSteps.{B, IsSend, NextTo, P, Unsettled, Writes, WroteSo, clean-unsettled, evict-unsettled, if_full-end, if_full-sends, if_full-writes, logs-unsettled, notes_clean-unsettled, room_same, sent-so, takes-unsettled, written-so}
+use Rattle.client_law.proofs.UnsettledSteps.{B, NextTo, P, Unsettled, Writes, WroteSo, clean-unsettled, evict-unsettled, if_full-end, if_full-sends, if_full-writes, logs-unsettled, notes_clean-unsettled, room_same, sent-so, takes-unsettled, written-so}
 use Rattle.client_law.proofs.Versions.{put, version_of, versions_put}
 
 -- ---- a block is written

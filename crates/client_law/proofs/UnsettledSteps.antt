@@ -1,10 +1,8 @@
 -- Each thing that a client does keeps that just the dirty blocks wait to be written or are in flight.
-use Rattle.std.proofs.Common.{◌≡◌, ◌⊎◌, inl, inr, ℕ, ◌+◌, ◌-◌, ◌<◌, ◌≤◌, Bool, true, false, cond, if◌then◌else◌, ◌&&◌, ◌||◌, not, nat_lt, nat_le, List, [], ◌∷◌, ◌++◌, map, take, drop, length, Option, Some, None, is_some, is_none, refl, sym, ap, subst, ◌∙◌, arith}
+use Rattle.std.proofs.Common.{◌≡◌, ℕ, ◌+◌, ◌<◌, Bool, true, false, cond, if◌then◌else◌, ◌&&◌, not, nat_lt, List, [], ◌∷◌, ◌++◌, map, take, drop, length, Option, Some, None, is_none, refl, sym, ap, subst, ◌∙◌, arith}
 use Rattle.std.specs.Prelude.{fold}
-use Rattle.std.specs.List.{AllByRecursion, filter_map, list_any}
-use Rattle.std.proofs.lemmas.Bool.Decides.{nat_tests}
+use Rattle.std.specs.List.{AllByRecursion, list_any}
 use Rattle.std.proofs.lemmas.List.{drop-map, take-map}
-use Rattle.client_log.specs.declared.dirty.Change.{Change}
 use Rattle.client_log.specs.declared.flight.Fate.{Fate}
 use Rattle.client_log.specs.declared.flight.Fate.TheVariants.{Restripe, Settle, Wait}
 use Rattle.client_log.specs.declared.input.In as log_in
@@ -15,42 +13,37 @@ use Rattle.client_log.specs.Fate.{fate_of}
 use Rattle.client_log.specs.Items.{items_of}
 use Rattle.client_log.specs.LogState.{FlightState, LogState, is_noted}
 use Rattle.client_log.specs.Transition as log
-use Rattle.client_log.specs.Transition.{all_sends, can_follow, can_go_on, followed, has_next, if_full, is_full, is_idle, is_of, landed, launched, looked_at, next_attempt, noting, on_acked, on_maps, on_put, on_seal, on_tick, restriped, sealed, send_at, sends, settled, waits}
-use Rattle.client_node.specs.Blocks.{changes, put_of, wrote}
+use Rattle.client_log.specs.Transition.{all_sends, can_follow, followed, has_next, if_full, is_full, is_idle, is_of, landed, launched, looked_at, next_attempt, noting, on_acked, on_maps, on_seal, on_tick, restriped, sealed, send_at, sends, settled}
 use Rattle.client_node.specs.declared.serving.Serving.{Serving}
-use Rattle.client_node.specs.Flights.{feeds, gives_if_clean, gives_up, held_at, is_giving, is_settling, keeps_clean, notes_settled, seals_again, settled_rows, settles, writes, writes_one}
-use Rattle.client_node.specs.Follow.{evicts, notes_clean, notes_gone, seals, takes_back}
+use Rattle.client_node.specs.Flights.{feeds, gives_if_clean, gives_up, held_at, is_giving, is_settling, keeps_clean, notes_settled, settled_rows, settles, writes, writes_one}
+use Rattle.client_node.specs.Follow.{evicts, notes_clean, seals}
 use Rattle.client_node.specs.Sends as client
-use Rattle.coop_cache.specs.CacheState.{CacheState}
 use Rattle.coop_cache.specs.declared.output.Out as cache_out
 use Rattle.coop_cache.specs.declared.output.Out.TheVariants.{Victim}
-use Rattle.coop_cache.specs.Transition.{cleaned, left}
+use Rattle.coop_cache.specs.Transition.{cleaned}
 use Rattle.group_map.specs.declared.group.Member.{Member}
 use Rattle.group_map.specs.GroupMapState.{GroupMapState}
-use Rattle.node_base.specs.Room.{has_room}
 use Rattle.segment_format.specs.declared.segment.Item.{Item}
 use Rattle.segment_format.specs.declared.segment.Item.TheVariants.{Block, Delta, Part}
 use Rattle.segment_format.specs.declared.segment.Segment.{Segment}
-use Rattle.segment_format.specs.Rows.{row_of, rows_of}
+use Rattle.segment_format.specs.Rows.{rows_of}
 use Rattle.token_client.specs.declared.held.Giving.{Giving}
 use Rattle.token_client.specs.declared.held.Held.{Held}
-use Rattle.token_client.specs.Held.{is_dirty, let_go, may_evict, may_write, written}
+use Rattle.token_client.specs.Held.{is_dirty, let_go, may_evict}
 use Rattle.token_client.specs.State.{TokensState, dirty_in, held_of, with_held}
-use Rattle.token_client.specs.Transition.{Done, on_evict, on_wrote}
-use Rattle.token_client.proofs.Tables.{held_of-put_itself}
+use Rattle.token_client.specs.Transition.{Done, on_evict}
 use Rattle.xfs_base.specs.declared.block.BlockId.{BlockId}
 use Rattle.xfs_base.specs.declared.entry.Entry.{Entry}
 use Rattle.xfs_base.specs.declared.segment.End.{End}
 use Rattle.xfs_base.specs.declared.segment.SegName.{SegName}
 use Rattle.xfs_base.specs.Limits.{segment_blocks, u32_end}
-use Rattle.xfs_base.specs.Modes.{is_held, is_nothing}
-use Rattle.xfs_base.specs.Steps.{after, steps, still}
-use Rattle.xfs_base.proofs.Booleans.{and_first, and_second, by_test, contrary, or_second}
+use Rattle.xfs_base.specs.Modes.{is_held}
+use Rattle.xfs_base.specs.Steps.{steps, still}
+use Rattle.xfs_base.proofs.Booleans.{and_first, by_test, contrary}
 use Rattle.client_law.specs.Unsettled.{versions_flown, versions_waiting}
-use Rattle.client_law.proofs.Keeping.{At, Fact, IsOuter, TakesKeep, notes_gone-keeps, seals-keeps, takes_back-keeps}
-use Rattle.client_law.proofs.Quiet.{IsQuiet}
-use Rattle.client_law.proofs.Unsettled.{AreUnsettled, unsettled-clean, unsettled-put, unsettled-same, unsettled-sealed, unsettled-settled, unsettled-written}
-use Rattle.client_law.proofs.Versions.{Versions, put, row_version, told, version_of, versions_put, versions_written}
+use Rattle.client_law.proofs.Keeping.{At, Fact, IsOuter, TakesKeep, seals-keeps, takes_back-keeps}
+use Rattle.client_law.proofs.Unsettled.{AreUnsettled, unsettled-clean, unsettled-put, unsettled-same, unsettled-sealed, unsettled-settled}
+use Rattle.client_law.proofs.Versions.{Versions, row_version, told, version_of, versions_written}
 
 -- ---- the log
 

@@ -1,5 +1,5 @@
 -- Tables of versions, in which each block stands once: what is found of a block in a part of one, and once a version is put.
-use Rattle.std.proofs.Common.{◌≡◌, ◌⊎◌, inl, inr, ℕ, zero, suc, ◌+◌, length, Bool, true, false, cond, ◌||◌, List, [], ◌∷◌, ◌++◌, map, take, drop, Option, Some, None, is_some, refl, sym, ap, subst, ◌∙◌}
+use Rattle.std.proofs.Common.{◌≡◌, ◌⊎◌, inl, inr, ℕ, zero, suc, ◌+◌, length, Bool, true, false, cond, ◌||◌, List, [], ◌∷◌, ◌++◌, map, take, drop, Option, Some, None, is_some, refl, sym, ap, ◌∙◌}
 use Rattle.std.specs.List.{filter_map}
 use Rattle.std.specs.Map.{keys_of}
 use Rattle.std.proofs.lemmas.Map.Made.{is_some-lookup}
@@ -7,17 +7,16 @@ use Rattle.client_log.specs.declared.dirty.Change.{Change}
 use Rattle.client_log.specs.Items.{change_items, items_of}
 use Rattle.indexmap.specs.IndexMap.{insert_entry}
 use Rattle.segment_format.specs.declared.segment.Item.{Item}
-use Rattle.segment_format.specs.declared.segment.Item.TheVariants.{Block, Delta}
 use Rattle.segment_format.specs.declared.segment.Segment.{Segment}
-use Rattle.segment_format.specs.Rows.{row_of, rows_of}
+use Rattle.segment_format.specs.Rows.{row_of}
 use Rattle.xfs_base.specs.Blocks.{same_block}
 use Rattle.xfs_base.specs.declared.block.BlockId.{BlockId}
 use Rattle.xfs_base.specs.declared.entry.Entry.{Entry}
-use Rattle.xfs_base.proofs.BlockOrder.{same_block_exact, same_block_itself}
-use Rattle.xfs_base.proofs.Booleans.{contrary, or_first, or_second}
+use Rattle.xfs_base.proofs.BlockOrder.{same_block_exact}
+use Rattle.xfs_base.proofs.Booleans.{contrary}
 use Rattle.client_law.specs.Blocks.{Once}
 use Rattle.client_law.specs.Unsettled.{version_at}
-use Rattle.client_law.proofs.Orders.{either, has, not_both, same_symmetric}
+use Rattle.client_law.proofs.Orders.{has, same_symmetric}
 
 abbrev pub Versions : Type 0
 Versions = List (BlockId × ℕ)
@@ -126,6 +125,7 @@ module _ (k : BlockId) (v : ℕ) where
       swapped true true f = contrary (sym (f refl))
       swapped true false f = refl
       swapped false q f = refl
+
       apart : same_block b e.0 ≡ true → same_block b k ≡ false
       apart same = ap (λ c. same_block c k) (sym (same_block_exact b e.0 same)) ∙ same_turned e.0 k ∙ other
 

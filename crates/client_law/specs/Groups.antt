@@ -1,5 +1,5 @@
 -- The map of groups over which a client stripes its segments.
-use Rattle.std.specs.Prelude.{◌≡◌, ℕ, All, IsTrue, List, Option, Some}
+use Rattle.std.specs.Prelude.{◌≡◌, ℕ, All, IsTrue, List, Some}
 use Rattle.std.specs.List.{AllByRecursion}
 use Rattle.client_node.specs.declared.serving.Serving.{Serving}
 use Rattle.client_node.specs.Starting.{first_client}

@@ -1,5 +1,5 @@
 -- An opening that ends leaves a log in which nothing waits, and nothing is in flight: its first segment has no item and nothing waits behind it.
-use Rattle.std.proofs.Common.{◌≡◌, ℕ, ◌+◌, Bool, true, false, cond, if◌then◌else◌, ◌&&◌, nat_lt, nat_le, List, [], ◌∷◌, ◌++◌, length, Option, Some, None, is_some, refl, sym, ap, subst, ◌∙◌}
+use Rattle.std.proofs.Common.{◌≡◌, ℕ, ◌+◌, true, cond, if◌then◌else◌, ◌&&◌, nat_le, List, [], ◌∷◌, ◌++◌, length, Option, Some, None, is_some, refl, sym, ap, ◌∙◌}
 use Rattle.std.specs.List.{AllByRecursion}
 use Rattle.client_log.specs.declared.flight.Fate.{Fate}
 use Rattle.client_log.specs.declared.flight.Fate.TheVariants.{Restripe, Settle, Wait}
@@ -19,7 +19,6 @@ use Rattle.log_owner.specs.declared.ended.Ended.{Ended}
 use Rattle.log_owner.specs.declared.ended.Ended.TheVariants.{Found, Lost}
 use Rattle.log_owner.specs.declared.ended.Sent.{Sent}
 use Rattle.log_owner.specs.declared.known.Known.{Known}
-use Rattle.log_owner.specs.declared.opened.Progress.{Progress}
 use Rattle.log_owner.specs.declared.opened.Progress.TheVariants as progress
 use Rattle.log_owner.specs.declared.opening.Opening.{Opening}
 use Rattle.log_owner.specs.declared.opening.Scanning.{Scanning}
@@ -27,8 +26,7 @@ use Rattle.log_owner.specs.declared.opening.Settling.{Settling}
 use Rattle.log_owner.specs.declared.opening.Stage.{Stage}
 use Rattle.log_owner.specs.declared.opening.Stage.TheVariants as stage
 use Rattle.log_owner.specs.Empty.{OpensEmpty, WaitsForNothing}
-use Rattle.log_owner.specs.Opening.{Moved, Went, answers, at_log, at_scan, behind, by_server, drops, fenced_by, follows, found_by, is_fenced, is_meant, missing_by, on_body, on_fenced, on_found, on_missing, on_news, on_packet, on_stored, on_tick, on_welcome, opens, own_in, regrouped, scanned, scans, scans_at, scans_on, settled_in, settles_over, starts_log, stays, welcomed, welcomed_as, welcomed_with, went, writes, written, wrote_one}
-use Rattle.log_owner.specs.Promised.{promised_in}
+use Rattle.log_owner.specs.Opening.{Moved, Went, answers, at_scan, behind, by_server, drops, fenced_by, follows, found_by, is_fenced, is_meant, missing_by, on_body, on_fenced, on_found, on_missing, on_news, on_packet, on_stored, on_tick, on_welcome, opens, own_in, regrouped, scanned, scans, scans_at, scans_on, settles_over, starts_log, stays, welcomed, welcomed_as, welcomed_with, went, writes, written, wrote_one}
 use Rattle.log_owner.specs.Sending.{hello, server_in}
 use Rattle.log_scan.specs.declared.input.In.{In}
 use Rattle.log_scan.specs.declared.input.In.TheVariants as input

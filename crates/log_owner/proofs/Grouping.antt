@@ -1,33 +1,27 @@
 -- Where each map of groups that is said is so, those of an opening are, and so is the one over which the log stripes that it opens.
-use Rattle.std.proofs.Common.{◌≡◌, ℕ, ◌+◌, Bool, true, false, cond, if◌then◌else◌, ◌&&◌, nat_lt, nat_le, List, [], ◌∷◌, ◌++◌, length, Option, Some, None, is_some, refl, sym, ap, subst, ◌∙◌}
-use Rattle.std.specs.List.{AllByRecursion}
+use Rattle.std.proofs.Common.{◌≡◌, ℕ, cond, if◌then◌else◌, ◌&&◌, List, [], ◌∷◌, Option, Some, None, refl, sym, subst}
 use Rattle.client_log.specs.declared.flight.Fate.{Fate}
 use Rattle.client_log.specs.declared.flight.Fate.TheVariants.{Restripe, Settle, Wait}
 use Rattle.client_log.specs.declared.input.In.{In as LogIn}
 use Rattle.client_log.specs.declared.input.In.TheVariants as log_in
-use Rattle.client_log.specs.declared.output.Out.{Out as LogOut}
-use Rattle.client_log.specs.declared.output.Out.TheVariants as log_out
 use Rattle.client_log.specs.Fate.{fate_of}
-use Rattle.client_log.specs.LogState.{FlightState, LogState, is_noted}
+use Rattle.client_log.specs.LogState.{FlightState, LogState}
 use Rattle.client_log.specs.Texts.{has_text}
 use Rattle.client_log.specs.Transition as log
-use Rattle.client_log.specs.Transition.{all_sends, can_follow, followed, has_next, if_full, is_full, is_idle, is_of, landed, launched, looked_at, next_attempt, next_name, noting, on_acked, on_maps, on_parts, on_tick as log_tick, prior_from, restriped, sealed, send_at, sends, settled}
-use Rattle.group_map.specs.declared.group.Member.{Member}
+use Rattle.client_log.specs.Transition.{all_sends, can_follow, followed, has_next, if_full, is_full, is_idle, is_of, landed, launched, looked_at, noting, on_acked, on_maps, on_parts, on_tick as log_tick, restriped, sealed, settled}
 use Rattle.group_map.specs.GroupMapState.{GroupMapState}
 use Rattle.log_owner.specs.declared.ended.Chain.{Chain}
 use Rattle.log_owner.specs.declared.ended.Ended.{Ended}
 use Rattle.log_owner.specs.declared.ended.Ended.TheVariants.{Found, Lost}
 use Rattle.log_owner.specs.declared.ended.Sent.{Sent}
 use Rattle.log_owner.specs.declared.known.Known.{Known}
-use Rattle.log_owner.specs.declared.opened.Progress.{Progress}
 use Rattle.log_owner.specs.declared.opened.Progress.TheVariants as progress
 use Rattle.log_owner.specs.declared.opening.Opening.{Opening}
 use Rattle.log_owner.specs.declared.opening.Scanning.{Scanning}
 use Rattle.log_owner.specs.declared.opening.Settling.{Settling}
 use Rattle.log_owner.specs.declared.opening.Stage.{Stage}
 use Rattle.log_owner.specs.declared.opening.Stage.TheVariants as stage
-use Rattle.log_owner.specs.Opening.{Moved, Went, answers, at_log, at_scan, behind, by_server, drops, fenced_by, follows, found_by, is_fenced, is_meant, missing_by, on_body, on_fenced, on_found, on_missing, on_news, on_packet, on_stored, on_tick, on_welcome, opens, own_in, regrouped, scanned, scans, scans_at, scans_on, settled_in, settles_over, starts_log, stays, welcomed, welcomed_as, welcomed_with, went, writes, written, wrote_one}
-use Rattle.log_owner.specs.Promised.{promised_in}
+use Rattle.log_owner.specs.Opening.{Moved, Went, answers, at_scan, behind, by_server, drops, fenced_by, follows, found_by, is_fenced, is_meant, missing_by, on_body, on_fenced, on_found, on_missing, on_news, on_packet, on_stored, on_tick, on_welcome, opens, own_in, regrouped, scanned, scans, scans_at, scans_on, settles_over, starts_log, stays, welcomed, welcomed_as, welcomed_with, went, writes, written}
 use Rattle.log_owner.specs.Sending.{hello, server_in}
 use Rattle.log_scan.specs.declared.input.In.{In}
 use Rattle.log_scan.specs.declared.input.In.TheVariants as input
@@ -40,19 +34,17 @@ use Rattle.node_base.specs.Known.{names_known}
 use Rattle.node_base.specs.Maps.{fits, is_older, taken}
 use Rattle.node_base.specs.Shape.{is_log}
 use Rattle.segment_format.specs.declared.segment.Item.{Item}
-use Rattle.segment_format.specs.Rows.{rows_of}
 use Rattle.wire_msg.specs.declared.body.Body.{Body}
 use Rattle.wire_msg.specs.declared.body.Body.TheVariants as body
 use Rattle.wire_msg.specs.declared.packet.Packet.{Packet}
 use Rattle.wire_msg.specs.declared.registry.News.{News}
 use Rattle.wire_msg.specs.declared.registry.Welcome.{Welcome}
 use Rattle.wire_msg.specs.declared.storage.Stored.{Stored}
-use Rattle.xfs_base.proofs.Booleans.{and_second, by_test, contrary}
+use Rattle.xfs_base.proofs.Booleans.{by_test}
 use Rattle.xfs_base.specs.declared.node.NodeId.{NodeId}
 use Rattle.xfs_base.specs.declared.segment.End.{End}
 use Rattle.xfs_base.specs.declared.segment.SegName.{SegName}
-use Rattle.xfs_base.specs.Limits.{segment_blocks}
-use Rattle.xfs_base.specs.Steps.{Stepped, after, steps, still}
+use Rattle.xfs_base.specs.Steps.{Stepped, still}
 use Rattle.log_owner.specs.Grouped.{HasSuchMaps, KnowsSuch, OpensBySuch, SaysSuchMaps, StripesBySuch}
 
 -- ---- the log keeps its groups
