@@ -99,7 +99,7 @@ module _ (s : Serving) (p : AsksForCall s) where
   is_asked : (block other : BlockId) → is_asking (held_at s block) ≡ true → asked other ≡ block
   is_asked block other asks = by_either block other (or_cases (is_some (held_at s block).want) (is_some (held_at s block).fetch) asks)
 
-  asks_one : AsksForOneBlock s
+  pub asks_one : AsksForOneBlock s
   asks_one = record {
     one = λ block other asks also. sym (is_asked block block asks) ∙ is_asked other block also;
     own = λ block w is own. writing block s.call (p.wanted block w is ∙ ap (λ m. Some (block, m)) own);

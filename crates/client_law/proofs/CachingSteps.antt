@@ -32,7 +32,7 @@ use Rattle.xfs_base.proofs.Booleans.{by_test, contrary}
 use Rattle.xfs_base.proofs.Members.{contains_cases, contains_first, contains_nothing, contains_rest}
 use Rattle.client_law.specs.Caching.{CachesJustWhatIsClean, CachesWhatIsClean}
 use Rattle.client_law.proofs.Giving.{any_reopens, AnyLog, AnyOpening}
-use Rattle.client_law.proofs.Happening.{AnyBlock, AnyMap, after_weaker, always}
+use Rattle.client_law.proofs.Happening.{AnyBlock, AnyMap, after_weaker, always, Starts}
 use Rattle.client_law.proofs.Caching.{C, CachesBut, clean-caches, clean_evicts, clean_victims, dirty_stays, gone-caches, settled_clean, takes-cache}
 use Rattle.client_law.proofs.Effects.{all_weaker}
 use Rattle.client_law.proofs.Keeping.{At, IsCopied, Keeps, Sound, notes_gone-keeps, takes_back-keeps}
@@ -40,7 +40,7 @@ use Rattle.client_law.proofs.Orders.{has, in_take, in_used, once_used, to_used}
 
 -- ---- a segment is settled
 
-abbrev none : BlockId → Type 0
+abbrev pub none : BlockId → Type 0
 none b = ⊥
 
 abbrev InRows : List (BlockId × Entry) → BlockId → Type 0
@@ -249,7 +249,7 @@ touched-caches t c block p =
       caches = λ b clean. still_there b (p.caches b clean);
     }
 
-keeps-caching : Keeps AnyBlock AnyMap (C none) (λ n. C none) (λ block. C (λ b. b ≡ block))
+pub keeps-caching : Keeps AnyBlock AnyMap (C none) (λ n. C none) (λ block. C (λ b. b ≡ block))
 keeps-caching = record {
   begins = λ t l c p room. p;
   less = λ t l c p. p;
@@ -271,7 +271,7 @@ both_ways true b f g = sym (f refl)
 both_ways false true f g = g refl
 both_ways false false f g = refl
 
-what_is_clean : (s : Serving) → At (C none) s → CachesWhatIsClean s
+pub what_is_clean : (s : Serving) → At (C none) s → CachesWhatIsClean s
 what_is_clean s p = record {
   once = p.once;
   exact = λ b. both_ways (is_clean s.cache b) (may_evict (held_at s b)) (p.cached b) (λ clean. surely (p.caches b clean));
@@ -285,8 +285,10 @@ what_is_clean s p = record {
     surely (inl a) = a
     surely (inr x) = absurd x
 
+pub starts-caching : Starts (C none) AnyLog
+starts-caching inc epochs l capacity h = record { once = tt; cached = λ b inside. contrary inside; caches = λ b clean. contrary clean }
+
 pub caches_just_what_is_clean : CachesJustWhatIsClean
 caches_just_what_is_clean =
     after_weaker (At (C none)) CachesWhatIsClean what_is_clean
-    (always (C none) (λ n. C none) (λ block. C (λ b. b ≡ block)) keeps-caching AnyOpening AnyLog any_reopens
-    (λ inc epochs l capacity h. record { once = tt; cached = λ b inside. contrary inside; caches = λ b clean. contrary clean }) (λ l map. tt))
+    (always (C none) (λ n. C none) (λ block. C (λ b. b ≡ block)) keeps-caching AnyOpening AnyLog any_reopens starts-caching (λ l map. tt))

@@ -41,14 +41,14 @@ use Rattle.xfs_base.proofs.BlockOrder.{block_cmp_exact}
 use Rattle.xfs_base.proofs.Booleans.{and_first, and_second, by_test, contrary, or_first}
 use Rattle.xfs_base.proofs.Members.{contains_cases, contains_first, contains_nothing, contains_rest}
 use Rattle.client_law.specs.Giving.{GivesOnlyDirty, PutsOffWhatIsDirty}
-use Rattle.client_law.proofs.Happening.{AnyBlock, AnyMap, OpensSo, Reopens, after_weaker, always}
+use Rattle.client_law.proofs.Happening.{AnyBlock, AnyMap, OpensSo, Reopens, after_weaker, always, Starts}
 use Rattle.client_law.proofs.Keeping.{At, Fact, IsCopied, Keeps, Sound, TakesKeep, follows-silent, takes_back-keeps, told}
 use Rattle.client_law.proofs.Quiet.{IsQuiet, refetch-quiet}
 use Rattle.client_law.proofs.Sounding.{gives_if_clean-sound, settled_rows-sound, settles-sound, transition-sound}
 use Rattle.client_law.proofs.Writing.{notes_clean-tokens, notes_gone-tokens, writes-tokens}
 
 -- a put-off recall is of a dirty block, or of one of these
-abbrev GivesBut : (BlockId → Type 0) → TokensState → Type 0
+abbrev pub GivesBut : (BlockId → Type 0) → TokensState → Type 0
 GivesBut X t = (b : BlockId) → is_some (held_of t.blocks b).giving ≡ true → (is_dirty (held_of t.blocks b) ≡ true) ⊎ X b
 
 -- a block at the same versions is as dirty
@@ -61,7 +61,7 @@ still_dirty X h g same (inl d) = inl (same ∙ d)
 still_dirty X h g same (inr x) = inr x
 
 module _ (X : BlockId → Type 0) where
-  abbrev G : Fact
+  abbrev pub G : Fact
   G t l c = GivesBut X t
 
   -- one block is put of which it holds
@@ -286,7 +286,7 @@ settles-gives s end rows sound p =
 
 -- ---- all that a client does
 
-abbrev none : BlockId → Type 0
+abbrev pub none : BlockId → Type 0
 none b = ⊥
 
 -- sound tokens, and the fact
@@ -323,7 +323,7 @@ changes-give s block value sound p =
     logs-give w (log_ins.Put block (record { ver = (held_at w block).ver; hop = 0; place = None }) value) (transition-sound s.tokens (input.Wrote block value) sound)
     (wrote-gives s.tokens block value p)
 
-keeps-giving : Keeps AnyBlock AnyMap (G none) (λ n. G none) (λ b. G none)
+pub keeps-giving : Keeps AnyBlock AnyMap (G none) (λ n. G none) (λ b. G none)
 keeps-giving = record {
   begins = λ t l c p room. p;
   less = λ t l c p. p;
@@ -358,10 +358,13 @@ any_reopens = record {
   tick = λ o q h. any_opens (opening.on_tick o q).progress;
 }
 
-only_dirty : (s : Serving) → At (G none) s → GivesOnlyDirty s
+pub only_dirty : (s : Serving) → At (G none) s → GivesOnlyDirty s
 only_dirty s p b some = dirty_only _ (p b some)
+
+pub starts-giving : Starts (G none) AnyLog
+starts-giving inc epochs l capacity h b some = contrary some
 
 pub puts_off_what_is_dirty : PutsOffWhatIsDirty
 puts_off_what_is_dirty =
     after_weaker (At (G none)) GivesOnlyDirty only_dirty
-    (always (G none) (λ n. G none) (λ b. G none) keeps-giving AnyOpening AnyLog any_reopens (λ inc epochs l capacity h b some. contrary some) (λ l map. tt))
+    (always (G none) (λ n. G none) (λ b. G none) keeps-giving AnyOpening AnyLog any_reopens starts-giving (λ l map. tt))

@@ -127,7 +127,7 @@ module _ (Is : GroupMapState → Type 0) where
 
   -- ---- what a client does
 
-  abbrev S : Fact
+  abbrev pub S : Fact
   S t l c = Is l.groups
 
   takes-stripes : TakesKeep S
@@ -205,7 +205,7 @@ module _ (Is : GroupMapState → Type 0) where
       written w (log_ins.Put block entry value) (put-has s.log p block (record { entry = entry; value = value }))
 
   -- where each map that comes is so, the log's is
-  keeps-stripes : Keeps AnyBlock Is S (λ n. S) (λ block. S)
+  pub keeps-stripes : Keeps AnyBlock Is S (λ n. S) (λ block. S)
   keeps-stripes = record {
     begins = λ t l c p room. p;
     less = λ t l c p. p;
@@ -222,7 +222,7 @@ module _ (Is : GroupMapState → Type 0) where
 
   -- ---- openings
 
-  abbrev StripesSo : LogState → Type 0
+  abbrev pub StripesSo : LogState → Type 0
   StripesSo l = Is l.groups
 
   says_so : (m : Body) → BringsMaps Is m → SaysSuchMaps Is m
@@ -235,14 +235,14 @@ module _ (Is : GroupMapState → Type 0) where
   opens_so (progress.Opened d) h = h
   opens_so (progress.Lost seg) h = tt
 
-  reopens-stripes : Reopens Is (HasSuchMaps Is) StripesSo
+  pub reopens-stripes : Reopens Is (HasSuchMaps Is) StripesSo
   reopens-stripes = record {
     first = λ owner servers q. record { known = tt; log = tt };
     packet = λ o q p brings h. opens_so (opening.on_packet o q p).progress (packet_groups Is o q p (says_so p.body brings) h);
     tick = λ o q h. opens_so (opening.on_tick o q).progress (tick_groups Is o q h);
   }
 
-present : (s : Serving) → At (S IsGroupMap) s → StripesByPresentGroups s
+pub present : (s : Serving) → At (S IsGroupMap) s → StripesByPresentGroups s
 present s p = record { whole = p; present = λ id group is current. is_present s.log.groups id group p.present is current }
 
 pub stripes_by_present_groups : StripesByPresentGroupsAlways

@@ -18,4 +18,5 @@ mod UnsettledSteps
 mod UnsettledAlways
 mod Fetching
 mod Groups
+mod Standing
 mod Unserving

@@ -10,6 +10,7 @@ use Rattle.client_node.specs.declared.serving.Serving.{Serving}
 use Rattle.client_node.specs.Flights.{held_at, writes}
 use Rattle.client_node.specs.Follow.{notes_clean}
 use Rattle.coop_cache.specs.Transition.{left}
+use Rattle.group_map.specs.GroupMapState.{GroupMapState}
 use Rattle.log_owner.specs.declared.opened.Progress.{Progress}
 use Rattle.log_owner.specs.declared.opened.Progress.TheVariants as progress
 use Rattle.log_owner.specs.declared.opening.Opening as openings
@@ -30,7 +31,7 @@ use Rattle.xfs_base.specs.Steps.{still}
 use Rattle.xfs_base.proofs.Booleans.{by_test, contrary, or_second}
 use Rattle.client_law.specs.Unsettled.{WritesJustWhatIsDirty, WritesWhatIsDirty, versions_flown, versions_waiting}
 use Rattle.client_law.proofs.Caching.{settled_clean}
-use Rattle.client_law.proofs.Happening.{AnyBlock, AnyMap, OpensSo, after_weaker, always}
+use Rattle.client_law.proofs.Happening.{AnyBlock, AnyMap, OpensSo, Reopens, Starts, after_weaker, always}
 use Rattle.client_law.proofs.Keeping.{At, IsCopied, Keeps, Sound, notes_gone-keeps}
 use Rattle.client_law.proofs.Unsettled.{AreUnsettled, none_unsettled, unsettled-written}
 use Rattle.client_law.proofs.UnsettledSteps.{B, NextTo, P, Unsettled, Writes, WroteSo, clean-unsettled, evict-unsettled, if_full-end, if_full-sends, if_full-writes, logs-unsettled, notes_clean-unsettled, room_same, sent-so, takes-unsettled, written-so}
@@ -105,7 +106,7 @@ lessened t l p = record { log = p.log; room = less l.end.seq p.room }
 begun : (n : ℕ) → has_room n ≡ true → n + 1 < u32_end
 begun n room = grind (arith, nat_tests)
 
-keeps-unsettled : Keeps AnyBlock AnyMap B P (λ block. P 0)
+pub keeps-unsettled : Keeps AnyBlock AnyMap B P (λ block. P 0)
 keeps-unsettled = record {
   begins = λ t l c p room. record { log = p; room = begun l.end.seq room };
   less = λ t l c p. lessened t l p;
@@ -124,10 +125,10 @@ keeps-unsettled = record {
 
 -- ---- openings
 
-abbrev WaitsNot : openings.Opening → Type 0
+abbrev pub WaitsNot : openings.Opening → Type 0
 WaitsNot o = WaitsForNothing o.stage
 
-abbrev IsEmpty : LogState → Type 0
+abbrev pub IsEmpty : LogState → Type 0
 IsEmpty l = (l.dirty ≡ []) × (l.flight ≡ None)
 
 -- an opening that ends leaves a log in which nothing waits or flies
@@ -140,7 +141,7 @@ opens_so (progress.Opening o) h = h
 opens_so (progress.Opened d) h = h
 opens_so (progress.Lost seg) h = h
 
-starts-writing : (t : TokensState) (l : LogState) → ((b : BlockId) → is_dirty (held_of t.blocks b) ≡ false) → IsEmpty l → Writes t l
+pub starts-writing : (t : TokensState) (l : LogState) → ((b : BlockId) → is_dirty (held_of t.blocks b) ≡ false) → IsEmpty l → Writes t l
 starts-writing t l clean empty = record {
   versions =
       subst (λ cs. AreUnsettled t (map version_of cs) (versions_flown l.flight)) (sym empty.0)
@@ -148,7 +149,7 @@ starts-writing t l clean empty = record {
   next = subst (λ o. NextTo o l.end.seq) (sym empty.1) tt;
 }
 
-writes_what_is_dirty : (s : Serving) → At B s → WritesWhatIsDirty s
+pub writes_what_is_dirty : (s : Serving) → At B s → WritesWhatIsDirty s
 writes_what_is_dirty s p = record {
   waits_once = p.versions.waits_once;
   flies_once = p.versions.flies_once;
@@ -160,13 +161,17 @@ writes_what_is_dirty s p = record {
   flown_upto = p.versions.upto;
 }
 
+pub reopens-empty : OpensEmptyLogs → (M : GroupMapState → Type 0) → Reopens M WaitsNot IsEmpty
+reopens-empty opens M = record {
+  first = λ owner servers q. tt;
+  packet = λ o q p brings h. opens_so (opening.on_packet o q p).progress (opens.packet o q p h);
+  tick = λ o q h. opens_so (opening.on_tick o q).progress (opens.tick o q h);
+}
+
+pub starts-empty : Starts B IsEmpty
+starts-empty inc epochs l capacity empty = starts-writing _ l (λ b. refl) empty
+
 pub writes_just_what_is_dirty : OpensEmptyLogs → WritesJustWhatIsDirty
 writes_just_what_is_dirty opens =
     after_weaker (At B) WritesWhatIsDirty writes_what_is_dirty
-    (always B P (λ block. P 0) keeps-unsettled WaitsNot IsEmpty
-    (record {
-      first = λ owner servers q. tt;
-      packet = λ o q p brings h. opens_so (opening.on_packet o q p).progress (opens.packet o q p h);
-      tick = λ o q h. opens_so (opening.on_tick o q).progress (opens.tick o q h);
-    })
-    (λ inc epochs l capacity empty. starts-writing _ l (λ b. refl) empty) (λ l map. (refl, refl)))
+    (always B P (λ block. P 0) keeps-unsettled WaitsNot IsEmpty (reopens-empty opens AnyMap) starts-empty (λ l map. (refl, refl)))

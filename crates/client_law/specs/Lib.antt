@@ -7,4 +7,5 @@ pub mod Fetching
 pub mod Giving
 pub mod Groups
 pub mod Maps
+pub mod Standing
 pub mod Unserving

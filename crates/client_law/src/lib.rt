@@ -12,6 +12,7 @@ ghost use Rattle.client_law.specs.Caching.{CachesJustWhatIsClean};
 ghost use Rattle.client_law.specs.Fetching.{WantsEndByAnAnswer};
 ghost use Rattle.client_law.specs.Giving.{PutsOffWhatIsDirty};
 ghost use Rattle.client_law.specs.Groups.{StripesByPresentGroupsAlways};
+ghost use Rattle.client_law.specs.Standing.{EventsKeepWell, StartsWell};
 ghost use Rattle.client_law.specs.Unserving.{SaysNothingOfTokens, TakesNothingOfTokens};
 ghost use Rattle.client_law.specs.Unsettled.{WritesJustWhatIsDirty};
 
@@ -61,4 +62,13 @@ pub fn wants_end_by_an_answer()
 /// so each member of a current group is at the generation that its server has in the map.
 pub fn stripes_by_present_groups()
     ensures present { StripesByPresentGroupsAlways }
+{}
+
+/// The facts above as one invariant, for those who go from event to event.
+///
+/// - `start`: a client at the start stands so, where the map of the setup's groups is one.
+/// - `events`: each event keeps it so, whatever a packet says, where a map of groups that it brings is one.
+pub fn clients_stand_well()
+    ensures start { StartsWell }
+    ensures events { EventsKeepWell }
 {}
