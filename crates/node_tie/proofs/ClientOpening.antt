@@ -24,6 +24,7 @@ use Rattle.wire_msg.specs.declared.body.Body.TheVariants as body
 use Rattle.xfs_base.proofs.Booleans.{by_test, and_first, and_second}
 use Rattle.xfs_base.specs.declared.news.SlotNews.{SlotNews}
 use Rattle.xfs_base.specs.declared.node.NodeId.{NodeId}
+use Rattle.node_tie.specs.CleanerEvents.{Bounded}
 use Rattle.node_tie.specs.ClientEvents.{AwaitsFirst}
 use Rattle.node_tie.specs.Sight.{ClientDoes, ClientSends, IsNoFall}
 use Rattle.node_tie.proofs.ClientFrames.{Plain}
@@ -89,12 +90,6 @@ pub awaits_here : (at : Stage) → promising.AwaitsFirst at → AwaitsFirst at
 awaits_here (stage.Scanning s) h = h
 awaits_here (stage.Settling s) h = h
 
--- eight epochs, and that of the slot within these bounds
-pub record Bounded (part low high : ℕ) (p : Promised) : Type 0 where
-  pub eight : length p.epochs ≡ 8
-  pub rises : low ≤ epoch_of p.epochs part
-  pub within : epoch_of p.epochs part ≤ high
-
 module _ (part low high : ℕ) (small : part < 8) where
   -- what is said of the slot is within them
   abbrev pub Says : SlotNews → Type 0
@@ -116,7 +111,7 @@ module _ (part low high : ℕ) (small : part < 8) where
       (λ t. length-set p.epochs news.slot news.epoch ∙ e) (λ t. e)
 
   -- the slot is promised
-  promise_here : (p : Promised) (news : SlotNews) → length p.epochs ≡ 8 → news.slot ≡ part → Says news → Bounded part low high (promise p news)
+  pub promise_here : (p : Promised) (news : SlotNews) → length p.epochs ≡ 8 → news.slot ≡ part → Says news → Bounded part low high (promise p news)
   promise_here p news e is says =
       by_test (Bounded part low high) (nat_lt news.slot 8)
       (record { epochs = slice_set p.epochs news.slot news.epoch; managers = manager_set p.managers news.slot news.manager }) p
@@ -146,7 +141,7 @@ module _ (part low high : ℕ) (small : part < 8) where
       })
       (λ t. h)
 
-  promise_keeps : (p : Promised) (news : SlotNews) → Says news → Bounded part low high p → Bounded part low high (promise p news)
+  pub promise_keeps : (p : Promised) (news : SlotNews) → Says news → Bounded part low high p → Bounded part low high (promise p news)
   promise_keeps p news says h = by_slot (news.slot == part) refl
     where
       by_slot : (t : Bool) → (news.slot == part) ≡ t → Bounded part low high (promise p news)

@@ -55,10 +55,11 @@ use Rattle.xfs_base.specs.declared.news.SlotNews.{SlotNews}
 use Rattle.xfs_base.specs.Limits.{u32_end}
 use Rattle.xfs_base.specs.Steps.{still, after}
 use Rattle.node_tie.specs.ClientEvents.{AwaitsFirst, SeesServing, SeesDown, Raises, SeesOpening, ClientAgrees, PromisesWithin, ClientStands, GetsBody, ClientGets, BeginsLater, SaysBack, ClientDid, ClientGoes, ClientOwed, ClientTakes}
+use Rattle.node_tie.specs.CleanerEvents.{Bounded}
 use Rattle.node_tie.specs.Sight.{ClientDoes}
 use Rattle.node_tie.proofs.ClientFalls.{all_did, falls_dirty}
 use Rattle.node_tie.proofs.ClientFrames as frames
-use Rattle.node_tie.proofs.ClientOpening.{Bounded, Says, awaits_here, awaits_there, plain_does, welcome_promises}
+use Rattle.node_tie.proofs.ClientOpening.{Says, awaits_here, awaits_there, plain_does, welcome_promises}
 use Rattle.node_tie.proofs.ClientServing as serving
 use Rattle.node_tie.proofs.ClientTaking.{put_here, put_there}
 use Rattle.node_tie.proofs.ClientTokens as tokens

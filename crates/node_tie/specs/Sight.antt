@@ -135,16 +135,18 @@ ServerSends (body.List m) = Unit {0}
 ServerSends (body.Hello m) = Unit {0}
 ServerSends _ = ⊥
 
--- the cleaner sends reports and what its log and its job need
-abbrev pub CleanerSends : Body → Type 0
-CleanerSends (body.Report m) = Unit {0}
-CleanerSends (body.Deltas m) = Unit {0}
-CleanerSends (body.Store m) = Unit {0}
-CleanerSends (body.Fetch m) = Unit {0}
-CleanerSends (body.Fence m) = Unit {0}
-CleanerSends (body.List m) = Unit {0}
-CleanerSends (body.Delete m) = Unit {0}
-CleanerSends (body.Check m) = Unit {0}
-CleanerSends (body.UsageAsk m) = Unit {0}
-CleanerSends (body.Hello m) = Unit {0}
-CleanerSends _ = ⊥
+module _ (part promised life : ℕ) where
+  -- the cleaner reports epochs of the slot up to the one that it has promised; it sends what its log and its job need; it says Hello in this incarnation
+  -- at most
+  abbrev pub CleanerSends : Body → Type 0
+  CleanerSends (body.Report m) = m.slot ≡ part → m.epoch ≤ promised
+  CleanerSends (body.Deltas m) = Unit {0}
+  CleanerSends (body.Store m) = Unit {0}
+  CleanerSends (body.Fetch m) = Unit {0}
+  CleanerSends (body.Fence m) = Unit {0}
+  CleanerSends (body.List m) = Unit {0}
+  CleanerSends (body.Delete m) = Unit {0}
+  CleanerSends (body.Check m) = Unit {0}
+  CleanerSends (body.UsageAsk m) = Unit {0}
+  CleanerSends (body.Hello m) = m.inc ≤ life
+  CleanerSends _ = ⊥

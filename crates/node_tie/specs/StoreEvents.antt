@@ -3,9 +3,7 @@ use Rattle.std.specs.Prelude.{List, All}
 use Rattle.std.specs.List.{AllByRecursion}
 use Rattle.node_base.specs.declared.effects.Effect.{Effect}
 use Rattle.node_base.specs.declared.effects.Effect.TheVariants.{Send, Answer, Lose, Does}
-use Rattle.node_tie.specs.Sight.{CleanerSends, IsNoFall, ServerSends}
-use Rattle.store_nodes.specs.CleanerEvents.{cleaner_step}
-use Rattle.store_nodes.specs.declared.cleaner.Cleaner.{Cleaner}
+use Rattle.node_tie.specs.Sight.{IsNoFall, ServerSends}
 use Rattle.store_nodes.specs.declared.server.Server.{Server}
 use Rattle.store_nodes.specs.ServerEvents.{server_step}
 use Rattle.version_model.specs.declared.act.Act.{Act}
@@ -32,9 +30,6 @@ PacketsSay P packets = All (λ (p : Packet). P p.body) packets
 abbrev pub NoneFalls : List Act → Type 0
 NoneFalls acts = All IsNoFall acts
 
--- Servers and the cleaner send what their kinds send, whatever happens to them, and no act of theirs is a fall of a client.
+-- Servers send what their kind sends, whatever happens to them, and no act of theirs is a fall of a client.
 abbrev pub ServersSay : Type 0
 ServersSay = (node : Server) (what : Do) → PacketsSay ServerSends (server_step node what).packets × NoneFalls (server_step node what).acts
-
-abbrev pub CleanerSays : Type 0
-CleanerSays = (cleaner : Cleaner) (what : Do) → PacketsSay CleanerSends (cleaner_step cleaner what).packets × NoneFalls (cleaner_step cleaner what).acts

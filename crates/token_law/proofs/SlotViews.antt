@@ -80,7 +80,7 @@ module _ (members part : ℕ) (b : BlockId) (n : Net) (v : View members part b n
   stale_carried epoch turn last (telling.Dead ∷ os) old turns p is = stale_carried epoch turn last os old turns p is
 
   -- a manager's that doesn't reign
-  pub stale_view : (e : ℕ) (x : SlotState) (outs : List Packet) → e < w.epoch → x.epoch ≡ e → ((p : Packet) → In p outs → Carried part b w p) → View members part b (record { tokens = n.tokens; up = n.up; slots = put n.slots e (Some x); sent = outs ++ n.sent })
+  pub stale_view : (e : ℕ) (x : SlotState) (outs : List Packet) → e < w.epoch → x.epoch ≡ e → ((p : Packet) → In p outs → Carried part b w p) → View members part b (record { tokens = n.tokens; up = n.up; slots = put n.slots e (Some x); sent = outs ++ n.sent; promised = n.promised })
   stale_view e x outs old is_of new = record {
     world = w;
     steps = v.steps;

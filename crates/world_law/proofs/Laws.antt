@@ -12,13 +12,16 @@ use Rattle.manager_node.specs.Events.{happens}
 use Rattle.manager_node.specs.Phases as managers
 use Rattle.node_tie.proofs.StoreFrames.{none_falls}
 use Rattle.node_tie.specs.AskingEvents.{EventsKeepAsking, PhaseAsks, StartsAsking}
+use Rattle.node_tie.specs.CleanerEvents.{CleanerDoes, CleanerGoes, CleanerOwed, CleanerStarts, CleanerTakes}
 use Rattle.node_tie.specs.ClientEvents.{ClientAgrees, ClientGoes, ClientOwed, ClientStands, ClientTakes}
 use Rattle.node_tie.specs.ManagerEvents.{FirstManagerAgrees, ManagerEventGoes, ManagerGoes, EventGets as ManagerEventGets}
 use Rattle.node_tie.specs.RegistryEvents.{RegistryEventGoes, RegistryGoes, RegistrySound, RegistryStarts}
 use Rattle.node_tie.specs.Sight.{ManagerDoes}
-use Rattle.node_tie.specs.StoreEvents.{CleanerSays, ServersSay}
+use Rattle.node_tie.specs.StoreEvents.{ServersSay}
+use Rattle.store_nodes.specs.CleanerEvents as cleaners
 use Rattle.store_nodes.specs.declared.server.Server.{Server as ServerNode}
 use Rattle.token_client.specs.State.{TokensState, held_of}
+use Rattle.token_law.proofs.Promises.{with_promise}
 use Rattle.token_law.specs.Laws.{IsClient, OneOwner}
 use Rattle.token_protocol.specs.Basics.{In}
 use Rattle.version_model.specs.declared.act.Act.{Act}
@@ -37,9 +40,9 @@ use Rattle.world_base.specs.NextWorld.{next_world, sent_at, start_world}
 use Rattle.world_base.specs.Runs.{IsRun, Leads, MayHappen}
 use Rattle.world_law.proofs.ClientTurns.{client_scene, client_turn}
 use Rattle.world_law.proofs.Falls.{FallsStand, client_falls, falls_stay}
-use Rattle.world_law.proofs.Gets.{client_gets, manager_gets}
+use Rattle.world_law.proofs.Gets.{client_gets, cleaner_gets, manager_gets}
 use Rattle.world_law.proofs.ManagerTurns.{delivered, manager_scene, manager_turn}
-use Rattle.world_law.proofs.OtherTurns.{cleaner_turn, server_turn}
+use Rattle.world_law.proofs.OtherTurns.{cleaner_scene, cleaner_turn, server_turn}
 use Rattle.world_law.proofs.Places.{Behind, behind}
 use Rattle.world_law.proofs.RegistryTurns.{registry_scene, registry_turn, slot_below}
 use Rattle.world_law.proofs.Sent.{was_sent}
@@ -64,7 +67,8 @@ pub record NodeLaws : Type 0 where
   pub begins : RegistryStarts
   pub registry : RegistryEventGoes
   pub server : ServersSay
-  pub cleaner : CleanerSays
+  pub cleaner_starts : CleanerStarts
+  pub cleaner : CleanerTakes
 
 pub one_node : {X : Type 0} (a b : X) → Some a ≡ Some b → a ≡ b
 one_node a b same = ap (λ o. unwrap_or o a) same
@@ -147,12 +151,28 @@ module _ (laws : NodeLaws) (k : Cluster) (part : ℕ) (of_eight : part < 8) wher
         here : slice_get nodes place ≡ Some (any.Server there.0)
         here = sym (ap (node_in nodes) at) ∙ there.1
 
-    cleaner_after : place_of k Cleaner ≡ Some place → (node : AnyNode) → slice_get nodes place ≡ Some node → After node
-    cleaner_after at node is = subst After (one_node (any.Cleaner st.placed.cleaner.0) node (sym here ∙ is))
-        (s, cleaner_turn k part RegistrySound nodes sent s st place clock what at st.placed.cleaner.0 here (laws.cleaner st.placed.cleaner.0 what).0, falls_stay (members k part) s.net s.net acts _ refl refl (laws.cleaner st.placed.cleaner.0 what).1 falls)
+    cleaner_after : ((q : Packet) → what ≡ Deliver q → Fact k part s q × (q.to ≡ Cleaner)) → place_of k Cleaner ≡ Some place → (node : AnyNode) → slice_get nodes place ≡ Some node → After node
+    cleaner_after fact at node is = subst After (one_node (any.Cleaner s.cleaner) node (sym here ∙ is)) (
+      cleaner_scene k part RegistrySound nodes sent s st place clock at here went go,
+      cleaner_turn k part RegistrySound nodes sent s st place clock at here went go,
+      falls_stay (members k part) s.net (record s.net { promised = go.next }) acts _ refl refl
+          (none_falls (CleanerDoes part go.next (cleaners.lasting_of went.state).inc) Cleaner (λ a is. is) went.outs
+          (recursion_from_All (CleanerDoes part go.next (cleaners.lasting_of went.state).inc) went.outs go.does)) falls,
+    )
       where
-        here : slice_get nodes place ≡ Some (any.Cleaner st.placed.cleaner.0)
-        here = sym (ap (node_in nodes) at) ∙ st.placed.cleaner.1
+        here : slice_get nodes place ≡ Some (any.Cleaner s.cleaner)
+        here = sym (ap (node_in nodes) at) ∙ st.placed.cleaner
+
+        went : cleaners.Went_to
+        went = cleaners.takes s.cleaner.peers s.cleaner.phase what
+
+        gets : (x : Do) → what ≡ x → CleanerOwed part s.net.promised (epoch_now k part s) s.cleaner.phase x
+        gets Begin same = tt
+        gets Tick same = tt
+        gets (Deliver q) same = (let f = fact q same in cleaner_gets k part s q f.0 f.1)
+
+        go : CleanerGoes part s.net.promised (epoch_now k part s) s.cleaner.phase went.state went.outs
+        go = laws.cleaner part s.net.promised (epoch_now k part s) of_eight st.cleaner.0 s.cleaner what st.cleaner.1 (gets what refl)
 
     registry_after : ((q : Packet) → what ≡ Deliver q → Fact k part s q) → place_of k Registry ≡ Some place → (node : AnyNode) → slice_get nodes place ≡ Some node → After node
     registry_after fact at node is = subst After (one_node (any.Registry s.registry) node (sym here ∙ is))
@@ -168,7 +188,7 @@ module _ (laws : NodeLaws) (k : Cluster) (part : ℕ) (of_eight : part < 8) wher
     node_after (Client c) fact at node is = client_after c fact at node is
     node_after (Manager j) fact at node is = manager_after j fact at node is
     node_after (Server n) fact at node is = server_after n at node is
-    node_after Cleaner fact at node is = cleaner_after at node is
+    node_after Cleaner fact at node is = cleaner_after fact at node is
     node_after Registry fact at node is = registry_after (λ q same. (fact q same).0) at node is
 
   -- what an event delivers was sent, to the node that it happens to
@@ -226,12 +246,12 @@ pub front : (laws : NodeLaws) (e : Estate AnyNode) → IsSetup e.script.setup �
 unfolding start_world
 front laws e setup run count part of_eight =
     front_keeps laws (cluster_of e.script.setup) part of_eight e.events count (start_world any_start e.script) e.world refl run
-    (start_scene laws.starts_asking laws.first_manager laws.begins e.script setup.managers.0 part of_eight, start_stands laws.starts_asking laws.first_manager laws.begins e.script setup.managers.0 part of_eight, λ b c names. absurd names.among)
+    (start_scene laws.starts_asking laws.first_manager laws.cleaner_starts laws.begins e.script setup.managers.0 part of_eight, start_stands laws.starts_asking laws.first_manager laws.cleaner_starts laws.begins e.script setup.managers.0 part of_eight, λ b c names. absurd names.among)
 
 module _ (laws : NodeLaws) (small : OneOwner) where
   one_owner_now : (w : World AnyNode) (k : Cluster) → w.cluster ≡ k → ((part : ℕ) (of_eight : part < 8) → GoodWorld laws k part of_eight w) → HasOneOwner w
   one_owner_now w k cluster good b c d s t at_c at_d own held =
-      small (members k part) part now.net b (record { run = st.runs; inside = itself part }) c d x.client y.client x.up y.up
+      small (members k part) part (with_promise 1 now.net) b (record { run = st.runs; inside = itself part }) c d x.client y.client x.up y.up
       (subst (λ (t : TokensState). is_own (held_of t.blocks b).mode ≡ true) (sym x.tokens) own) (subst (λ (t : TokensState). is_held (held_of t.blocks b).mode ≡ true) (sym y.tokens) held)
     where
       part : ℕ

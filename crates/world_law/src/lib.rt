@@ -1,7 +1,8 @@
 //! The laws of every run of the nodes' world: no block has two owners, no slot two managers at one epoch, and
-//! nobody holds what a client fell with that isn't back. It has no code of the product: each function below calls the laws that it stands on, and its contract is a law.
-//! The proof carries, for each slot of the map, a run of the small world of tokens (`token_law`) beside the run
-//! of the nodes; `proofs/Standing.antt` says how the two stand to each other.
+//! nobody holds what a client fell with that isn't back. It has no code of the product: each function below
+//! calls the laws that it stands on, and its contract is a law. The proof carries, for each slot of the map, a
+//! run of the small world of tokens (`token_law`) beside the run of the nodes; `proofs/Standing.antt` says how the
+//! two stand to each other.
 #![tactic(auto)]
 
 ghost use Rattle.world_law.specs.Fallen.{NobodyHoldsWhatFell};
@@ -34,7 +35,7 @@ pub fn every_run_has_one_owner()
 ///
 /// - `one_manager`: of every run of a script of whose setup a run can be started, at each moment and of each
 ///   slot: no two managers manage it at one epoch, none at an epoch above the registry's; each client that
-///   serves has promised each epoch at which a manager manages it; and who manages it at the registry's epoch
+///   serves, and the cleaner where it serves, has promised each epoch at which a manager manages it; and who manages it at the registry's epoch
 ///   believes of each client that serves at least what that holds, and what a Grant that was sent to it would
 ///   give, where it would still accept that.
 pub fn every_run_has_one_manager()
