@@ -36,7 +36,7 @@ use Rattle.log_tie.specs.Seen.{Book, Flying, Serves, ByOwner, Goes, Fixed, Stand
 use Rattle.log_tie.specs.Inputs.{StoredSeen, MapSeen}
 use Rattle.log_tie.specs.Openings.{Chained, AllFrom, ChainShown, ReadShown, WritingShown, AllFiled, OpeningShown, OpensByStep, OpeningTakes}
 use Rattle.log_tie.proofs.Names.{itself, one_name, one_number, some_number, name_coded}
-use Rattle.log_tie.proofs.Booking.{with_page, page_here, page_there, booked_state, stripe_group, booked_pages}
+use Rattle.log_tie.proofs.Booking.{books_one, with_page, page_here, page_there, booked_state, stripe_group, booked_pages}
 use Rattle.log_tie.proofs.Sending.{sent_all}
 use Rattle.log_tie.proofs.Sealing.{launch, nothing_noted}
 use Rattle.log_tie.proofs.Settling.{Aloft, restriped_goes, waits_goes, settled_there, flight_end}
@@ -143,7 +143,7 @@ module _ (g : Setting) (w : State) (book : ℕ → Segment) (fixed : Fixed g w) 
       → Goes g w book (λ v later. WritingShown g v later chain (log.writes (started g.log w.incarnation start m) []).state) (log.writes (started g.log w.incarnation start m) []).outs
   unfolding log.launched
   opens_goes start chain m shown =
-      launch g w book fixed paged _ v later f x (More Done (Opens x _ _ _ can)) by refl pages booked (sym here) stripe (λ stores. record {
+      launch g w book fixed paged _ v later f x (More Done (Opens x _ _ _ can)) by (books_one w x) refl pages booked (sym here) stripe (λ stores. record {
         writes = record { log = refl; inc = refl; some = some; map = shown.map; known = shown.known };
         phase = refl;
         clear = refl;
@@ -224,6 +224,7 @@ module _ (g : Setting) (w : State) (book : ℕ → Segment) (fixed : Fixed g w) 
     later = book;
     steps = More Done (ServesStep (path w) lowest sure (record { writing = shown.phase; settled = settled_there g w book fixed paged reached s f shown.writes h all; undoubted = premise; read = path_read w lowest shown.read.picked shown.read.cut }));
     frame = record { others = refl; booked = λ x is. is; segment = λ x is. refl; stores = λ p is. is; filed = λ x is. stays x is; calm = λ none c. ap (λ z. if z == 1 then w.clean else 0) (is_sure none) ∙ c };
+    fresh = λ x is. inl is;
     paged = paged;
     shows = (
       record {
@@ -289,6 +290,7 @@ module _ (g : Setting) (chain : List Segment) where
       later = t.later;
       steps = t.steps;
       frame = t.frame;
+      fresh = t.fresh;
       paged = t.paged;
       shows = inl (aloft_writes t.world t.later s f h (λ x is. (t.frame.booked x is, t.frame.segment x is)) t.paged t.shows);
       said = t.said;
@@ -296,7 +298,7 @@ module _ (g : Setting) (chain : List Segment) where
     }
 
     nothing : (s : LogState) → WritingShown g w book chain s → To w book (still s)
-    nothing s h = record { world = w; later = book; steps = Done; frame = record { others = refl; booked = λ x is. is; segment = λ x is. refl; stores = λ p is. is; filed = λ x is. is; calm = λ none c. c }; paged = paged; shows = inl h; said = tt; top = inl refl }
+    nothing s h = record { world = w; later = book; steps = Done; frame = record { others = refl; booked = λ x is. is; segment = λ x is. refl; stores = λ p is. is; filed = λ x is. is; calm = λ none c. c }; fresh = λ x is. inl is; paged = paged; shows = inl h; said = tt; top = inl refl }
 
     by_test : (t : Bool) (d e : log.Done) → (t ≡ true → To w book d) → (t ≡ false → To w book e) → To w book (cond t d e)
     by_test true d e h k = h refl
@@ -326,7 +328,7 @@ module _ (g : Setting) (chain : List Segment) where
 
         settling : Goes g w book (λ v later. Serves g v later (log.landed s f) × AllFiled g v chain) (Settled (end_from f.segment) (rows_of f.segment) ∷ []) → To w book (after (Settled (end_from f.segment) (rows_of f.segment) ∷ []) (log.if_full (log.landed s f)))
         settling t = subst (λ (d : log.Done). To w book (after (Settled (end_from f.segment) (rows_of f.segment) ∷ []) d)) (sym lands)
-            (record { world = t.world; later = t.later; steps = t.steps; frame = t.frame; paged = t.paged; shows = inr t.shows; said = t.said; top = t.top })
+            (record { world = t.world; later = t.later; steps = t.steps; frame = t.frame; fresh = t.fresh; paged = t.paged; shows = inr t.shows; said = t.said; top = t.top })
 
     looks_goes : (before s : LogState) (f : FlightState) → WritingShown g w book chain before → WritingShown g w book chain s → Flying g book f s.inc s.end.seq (w.booked w.flight) w.flight w.noted → (g.doubts ≡ false → w.pick_low ≤ w.head → Undoubted w)
         → To w book (log.looked_at before s f)
@@ -347,6 +349,7 @@ module _ (g : Setting) (chain : List Segment) where
           later = book;
           steps = t.steps;
           frame = record { others = refl; booked = λ x is. is; segment = λ x is. refl; stores = t.grown; filed = λ x is. is; calm = λ none c. c };
+          fresh = λ x is. inl is;
           paged = paged;
           shows = inl (record {
             writes = record { log = h.writes.log; inc = h.writes.inc; some = h.writes.some; map = h.writes.map; known = h.writes.known };
@@ -387,7 +390,7 @@ module _ (g : Setting) (chain : List Segment) where
               is_flight = h.is_flight;
               flying = record { some = h.flying.some; is_booked = h.flying.is_booked; segment = h.flying.segment; stripe = h.flying.stripe; own = h.flying.own; next = h.flying.next; notes = noted_still g h.flight.noted w.noted index h.flying.notes };
             } in
-            goes_after g _ w v book _ step (record { others = refl; booked = λ x is. is; segment = λ x is. refl; stores = λ p is. is; filed = λ x is. is; calm = λ none c. c }) refl
+            goes_after g _ w v book _ step (record { others = refl; booked = λ x is. is; segment = λ x is. refl; stores = λ p is. is; filed = λ x is. is; calm = λ none c. c }) (λ x is. is) refl
             (looks_goes v book (record { servers = fixed.servers; seq_of = fixed.seq_of; incarnation_of = fixed.incarnation_of; attempt_of = fixed.attempt_of }) paged (reached_by w v reached step refl) s s (log.noting h.flight index) there there
             (record { some = h.flying.some; is_booked = h.flying.is_booked; segment = h.flying.segment; stripe = h.flying.stripe; own = h.flying.own; next = h.flying.next; notes = noted_more g h.flight.noted w.noted index h.flying.notes }) premise)
 
@@ -396,7 +399,7 @@ module _ (g : Setting) (chain : List Segment) where
     maps_goes s m h premise seen =
         subst (λ o. To w book (elim o [ None ↦ still (record s { groups = m }) | Some f ↦ log.looked_at s (record s { groups = m }) f ])) (sym h.is_flight)
         (by_test w book fixed paged reached (log.can_follow (record s { groups = m }) h.flight (fate_of m h.flight)) _ _
-        (λ t. goes_after g _ w v book _ step (record { others = refl; booked = λ x is. is; segment = λ x is. refl; stores = λ p is. is; filed = λ x is. is; calm = λ none c. c }) refl
+        (λ t. goes_after g _ w v book _ step (record { others = refl; booked = λ x is. is; segment = λ x is. refl; stores = λ p is. is; filed = λ x is. is; calm = λ none c. c }) (λ x is. is) refl
         (follows_goes v book (record { servers = fixed.servers; seq_of = fixed.seq_of; incarnation_of = fixed.incarnation_of; attempt_of = fixed.attempt_of }) paged (reached_by w v reached step refl) (record s { groups = m }) h.flight there h.flying premise))
         (λ t. nothing w book fixed paged reached s h))
       where

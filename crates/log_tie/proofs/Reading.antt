@@ -171,7 +171,7 @@ module _ (g : Setting) (v : State) (book : ℕ → Segment) (hellos : List Asked
 
   -- a reading is seen alike after a question
   asked_reading : (o : Opening) (ask : ℕ) (b : Backward) → ReadingShown g v book o b → ReadingShown g v book (record o { ask = ask }) b
-  asked_reading o ask b h = record { phase = h.phase; mapped = record { map = h.mapped.map; is = h.mapped.is; whole = h.mapped.whole; known = h.mapped.known }; base = h.base; opening = h.opening; low = h.low; past = h.past; from = h.from; chained = h.chained; seq = h.seq; grouped = h.grouped }
+  asked_reading o ask b h = record { phase = h.phase; mapped = record { map = h.mapped.map; is = h.mapped.is; whole = h.mapped.whole; known = h.mapped.known }; base = h.base; begun = h.begun; opening = h.opening; low = h.low; past = h.past; from = h.from; chained = h.chained; seq = h.seq; grouped = h.grouped }
 
   -- all lists are in: the registry is asked
   pub asks_new : (o : Opening) (lists : List Listing) (bound : ℕ) → Framed o → Gathering g v book o bound lists → ((u : ℕ) → 0 < u → u < suc g.servers → has_list u lists ≡ true) → bound ≤ v.low → v.begin_low ≤ bound → Sees (asks_anew o (Asks lists))
@@ -202,6 +202,7 @@ module _ (g : Setting) (v : State) (book : ℕ → Segment) (hellos : List Asked
           map = h.mapped.whole.seen.whole;
           known = h.mapped.known;
           base = h.base;
+          grouped = h.begun;
           read = record { opening = h.opening; lowest = v.pick_low; picked = omega arith; cut = h.past; from = h.from; next = point g b.next.seq b.next.pass; chained = h.chained };
         },
       ),
@@ -238,6 +239,7 @@ module _ (g : Setting) (v : State) (book : ℕ → Segment) (hellos : List Asked
       phase = h.phase;
       mapped = h.mapped;
       base = h.base;
+      begun = h.begun;
       opening = h.opening;
       low = h.low;
       past = h.past;

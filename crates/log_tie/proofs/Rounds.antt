@@ -134,7 +134,7 @@ module _ (g : Setting) (w : State) (book : ℕ → Segment) (paged : Book g w bo
     pub booked : w.booked number ≡ 1
     pub text : joined (parts_in r.n r.answers) r.parity (unwrap_or (len_in r.answers) 0) ≡ text_of (book number)
 
-  enough_reads : (r : RoundSoFar) → Shown r → IsGrouped g book w.booked e → is_enough r ≡ true → Reads r
+  pub enough_reads : (r : RoundSoFar) → Shown r → IsGrouped g book w.booked e → is_enough r ≡ true → Reads r
   enough_reads r shown grouped enough = by (held_first r.answers shown.told)
     where
       few : ((i : ℕ) → bytes_in i r.answers ≡ None) → ⊥

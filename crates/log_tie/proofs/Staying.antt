@@ -74,6 +74,7 @@ module _ (g : Setting) (w u : State) (book : ℕ → Segment) (hellos : List Ask
     phase = phase_same 2 h.phase;
     mapped = mapped_stays o h.mapped;
     base = same (λ z. z.base ≡ point g b.start.seq b.start.pass) h.base;
+    begun = same (λ z. IsGrouped g book z.booked b.start) h.begun;
     opening = same (λ z. z.opening_seq ≡ b.start.seq + 1) h.opening;
     low = same (λ z. z.read_low ≡ o.low) h.low;
     past = same (λ z. z.pick_low ≤ z.read_low) h.past;

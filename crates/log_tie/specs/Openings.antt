@@ -13,6 +13,7 @@ use Rattle.log_protocol.specs.State.{State}
 use Rattle.log_tie.specs.Setting.{Setting, present_at, name_of, point, IsMap}
 use Rattle.log_tie.specs.Seen.{Book, Flying, Writes, Serves, Fixed, Goes}
 use Rattle.log_tie.specs.Inputs.{StoredSeen, MapSeen}
+use Rattle.log_tie.specs.Rounds.{IsGrouped}
 
 -- What was read back, the lowest first, as links down from the base: x is the name before them.
 abbrev pub Chained : Setting → State → (ℕ → Segment) → ℕ → ℕ → List Segment → Type 0
@@ -40,6 +41,7 @@ pub record ReadShown (g : Setting) (w : State) (book : ℕ → Segment) (start :
   pub map : IsMap g groups
   pub known : (v : ℕ) → w.owner_generation v ≡ present_at groups v
   pub base : w.base ≡ point g start.seq start.pass
+  pub grouped : IsGrouped g book w.booked start
   pub read : ChainShown g w book start.seq chain
 
 -- the opening segment is in flight, and nothing else waits

@@ -134,6 +134,7 @@ pub record ReadingShown (g : Setting) (w : State) (book : ℕ → Segment) (o : 
   pub phase : w.phase ≡ 2
   pub mapped : Mapped g w o.groups
   pub base : w.base ≡ point g b.start.seq b.start.pass
+  pub begun : IsGrouped g book w.booked b.start
   pub opening : w.opening_seq ≡ b.start.seq + 1
   pub low : w.read_low ≡ o.low
   pub past : w.pick_low ≤ w.read_low
@@ -181,11 +182,15 @@ pub record Scanned (g : Setting) (w : State) (book : ℕ → Segment) (hellos : 
   pub shown : ScanShown g w book (asked_by w.incarnation w.low outs hellos) s
   pub gives : AllByRecursion (Gives g w book s.opening.groups) outs
 
+-- nothing is booked while a log is read back
+abbrev pub BooksNothing : State → State → Type 0
+BooksNothing w v = (x : ℕ) → v.booked x ≡ 1 → w.booked x ≡ 1
+
 -- Each input of an opening is taken by steps of the owner, where what is booked can be read back.
 abbrev pub ScanTakes : Type 0
 ScanTakes =
     (g : Setting) (w : State) (book : ℕ → Segment) (hellos : List Asked) (s : ScanState) (input : inputs.In) → Fixed g w → Reached w → Book g w book → IsSpelled g book w.booked → ScanShown g w book hellos s → BringsScan g w book hellos s input
-    → Goes g w book (λ v later. Scanned g v later hellos (transition s input).state (transition s input).outs) []
+    → Goes g w book (λ v later. Scanned g v later hellos (transition s input).state (transition s input).outs × BooksNothing w v) []
 
 -- A restart: the owner's next boot, in which server 0 is asked at once; all else is as it was.
 pub record Restarted (g : Setting) (w : State) (book : ℕ → Segment) (hellos : List Asked) : Type 0 where
