@@ -1,0 +1,5 @@
+mod Below
+mod Views
+mod Growing
+mod Frames
+mod Turning

@@ -1,0 +1,3 @@
+pub mod Net
+pub mod Events
+pub mod Laws

@@ -1,0 +1,2 @@
+//! The law of logs where machines, generations and packets meet.
+#![tactic(auto)]
