@@ -3,3 +3,6 @@ mod Views
 mod Growing
 mod Frames
 mod Turning
+mod Listing
+mod Filling
+mod ServerTurns

@@ -3,12 +3,15 @@ use Rattle.std.specs.Prelude.{◌≡◌, ℕ, suc, ◌<◌, ◌≤◌, true, IfS
 use Rattle.xfs_base.specs.declared.fragment.FragMeta.{FragMeta}
 use Rattle.xfs_base.specs.declared.fragment.Fragment.{Fragment}
 use Rattle.xfs_base.specs.declared.news.SlotNews.{SlotNews}
+use Rattle.xfs_base.specs.declared.segment.LogId.{LogId}
+use Rattle.xfs_base.specs.declared.segment.Pass.{Pass}
 use Rattle.xfs_base.specs.declared.segment.SegName.{SegName}
 use Rattle.xfs_base.specs.Limits.{u32_end}
 use Rattle.segment_format.specs.declared.segment.Segment.{Segment}
 use Rattle.segment_format.specs.Ranges.{Fits}
 use Rattle.segment_format.specs.Text.{text_of, IsText}
 use Rattle.group_map.specs.GroupMapState.{GroupMapState}
+use Rattle.fragment_store.specs.Calls.{on_fence}
 use Rattle.stripe_code.specs.declared.round.Answer.{Answer}
 use Rattle.stripe_code.specs.declared.round.RoundState.TheVariants.{Read}
 use Rattle.stripe_code.specs.declared.round.Told.{Told as Answered}
@@ -133,6 +136,8 @@ pub data Happens (g : Setting) : Net → Net → Type 0 where
   -- something is done to a server's shelf
   Serves : {n : Net} (v : ℕ) (deed : Deed) → 0 < v → CameToServer g n v deed
       → Happens g n (record n { shelves = put n.shelves v (shelf_after g (n.shelves v) deed); sent = answers g v (n.shelves v) deed ++ n.sent })
+  -- a server takes a Fence of another log
+  Bars : {n : Net} (v : ℕ) (log : LogId) (pass : Pass) → Happens g n (record n { shelves = put n.shelves v (on_fence (n.shelves v) log pass) })
   -- a server lists what it holds
   Lists : {n : Net} (v : ℕ) → Happens g n (record n { sent = ListedSent (listed g (n.shelves v)) ∷ n.sent })
   -- the registry hears of a generation that a server reached
