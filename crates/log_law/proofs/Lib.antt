@@ -6,3 +6,4 @@ mod Turning
 mod Listing
 mod Filling
 mod ServerTurns
+mod OtherTurns
