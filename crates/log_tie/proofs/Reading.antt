@@ -117,7 +117,7 @@ module _ (g : Setting) (v : State) (book : ℕ → Segment) (hellos : List Asked
   -- ---- what is said
 
   -- nothing that asks the registry or tells a chain
-  pub sees_quiet : (o : Opening) (stage : Stage) (outs : List Out) → Framed o → asked_by v.incarnation v.low outs hellos ≡ hellos → AllByRecursion (Gives g v book o.groups) outs → StageShown g v book hellos o stage → Sees (goes o stage outs)
+  pub sees_quiet : (o : Opening) (stage : Stage) (outs : List Out) → Framed o → asked_by v.incarnation v.low outs hellos ≡ hellos → AllByRecursion (Gives g v book o) outs → StageShown g v book hellos o stage → Sees (goes o stage outs)
   sees_quiet o stage outs f same gives h = record {
     shown = subst (λ hs. ScanShown g v book hs (record { opening = o; stage = stage })) (sym same) (record { log = f.log; inc = f.inc; horizon = f.horizon; asked = f.asked; stage = h });
     gives = gives;
@@ -130,7 +130,7 @@ module _ (g : Setting) (v : State) (book : ℕ → Segment) (hellos : List Asked
   asked_fetches name ask [] = refl
   asked_fetches name ask (s ∷ ss) = asked_fetches name ask ss
 
-  gives_fetches : (o : Opening) (name : SegName) (ask : ℕ) (servers : List ℕ) → AllByRecursion (Gives g v book o.groups) (map (λ server. Fetch server name ask) servers)
+  gives_fetches : (o : Opening) (name : SegName) (ask : ℕ) (servers : List ℕ) → AllByRecursion (Gives g v book o) (map (λ server. Fetch server name ask) servers)
   gives_fetches o name ask [] = tt
   gives_fetches o name ask (s ∷ ss) = (tt, gives_fetches o name ask ss)
 
@@ -138,7 +138,7 @@ module _ (g : Setting) (v : State) (book : ℕ → Segment) (hellos : List Asked
   asked_fences [] = refl
   asked_fences (s ∷ ss) = asked_fences ss
 
-  gives_fences : (o : Opening) (servers : List ℕ) → AllByRecursion (Gives g v book o.groups) (fences servers)
+  gives_fences : (o : Opening) (servers : List ℕ) → AllByRecursion (Gives g v book o) (fences servers)
   gives_fences o [] = tt
   gives_fences o (s ∷ ss) = (tt, gives_fences o ss)
 
@@ -197,6 +197,7 @@ module _ (g : Setting) (v : State) (book : ℕ → Segment) (hellos : List Asked
       (
         h.mapped.map,
         h.mapped.is,
+        h.low,
         record {
           phase = h.phase;
           map = h.mapped.whole.seen.whole;

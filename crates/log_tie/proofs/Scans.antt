@@ -38,7 +38,7 @@ use Rattle.log_tie.specs.Setting.{Setting, present_at, point}
 use Rattle.log_tie.specs.Seen.{Page, Book, Fixed, ByOwner, Goes}
 use Rattle.log_tie.specs.Openings.{Chained}
 use Rattle.log_tie.specs.Rounds.{IsSpelled, IsGrouped}
-use Rattle.log_tie.specs.Scans.{Asked, WholeMap, Answered, FencedSeen, ListKept, AllListed, Phantom, Mapped, Gathering, Asking, LooksFor, ReadingShown, StageShown, ScanShown, Scanned, BooksNothing, ScanTakes, ScanStarts}
+use Rattle.log_tie.specs.Scans.{Asked, WholeMap, Answered, FencedSeen, ListKept, AllListed, Phantom, Mapped, Gathering, Asking, LooksFor, ReadingShown, StageShown, ScanShown, Scanned, BooksNothing, PicksAtHorizon, ScanTakes, ScanStarts}
 use Rattle.log_tie.proofs.Names.{equal, itself, one_number, coded, point_some}
 use Rattle.log_tie.proofs.Listings.{range_has, none_filtered, has_more, torn_lacks, le_test, test_le}
 use Rattle.log_tie.proofs.Picks.{list_of, picks_nothing, Best, the_best, keeps_it, discards_it, nothing_newest}
@@ -63,15 +63,22 @@ all_more g w book bound (x ∷ xs) l all k fresh = (record { seen = all.0.seen; 
 
 module _ (g : Setting) (w : State) (book : ℕ → Segment) (hellos : List Asked) (fixed : Fixed g w) (reached : Reached w) (paged : Book g w book) (spelled : IsSpelled g book w.booked) where
   abbrev To : Done → Type 0
-  To d = Goes g w book (λ v later. Scanned g v later hellos d.state d.outs × BooksNothing w v) []
+  To d = Goes g w book (λ v later. Scanned g v later hellos d.state d.outs × BooksNothing w v × PicksAtHorizon w v) []
 
   -- by these steps
-  goes_by : (v : State) (d : Done) → Steps w v → ByOwner g w v book book → BooksNothing w v → Book g v book → v.end ≡ w.end → Sees g v book hellos d → To d
-  goes_by v d steps by back pages same shows = record { world = v; later = book; steps = steps; frame = by; fresh = λ x is. inl (back x is); paged = pages; shows = (shows, back); said = tt; top = inl same }
+  goes_by : (v : State) (d : Done) → Steps w v → ByOwner g w v book book → BooksNothing w v → PicksAtHorizon w v → Book g v book → v.end ≡ w.end → Sees g v book hellos d → To d
+  goes_by v d steps by back picks pages same shows = record { world = v; later = book; steps = steps; frame = by; fresh = λ x is. inl (back x is); paged = pages; shows = (shows, back, picks); said = tt; top = inl same }
+
+  -- nothing was picked
+  no_pick : (v : State) → v.phase ≡ w.phase → v.pick_low ≡ w.pick_low → PicksAtHorizon w v
+  no_pick v same low = record { begins = λ a b. absurd (clash a b same); stays = λ a. low }
+    where
+      clash : w.phase ≡ 1 → v.phase ≡ 2 → v.phase ≡ w.phase → ⊥
+      clash a b c = omega arith
 
   -- by none
   goes_still : (d : Done) → Sees g w book hellos d → To d
-  goes_still d shows = goes_by w d Still (record { others = refl; booked = λ x is. is; segment = λ x is. refl; stores = λ p is. is; filed = λ x is. is; calm = λ none c. c }) (λ x is. is) paged refl shows
+  goes_still d shows = goes_by w d Still (record { others = refl; booked = λ x is. is; segment = λ x is. refl; stores = λ p is. is; filed = λ x is. is; calm = λ none c. c }) (λ x is. is) (no_pick _ refl refl) paged refl shows
 
   framed_of : (o : Opening) (stage : Stage) → ScanShown g w book hellos (record { opening = o; stage = stage }) → Framed g w book hellos o
   framed_of o stage h = record { log = h.log; inc = h.inc; horizon = h.horizon; asked = h.asked }
@@ -86,7 +93,7 @@ module _ (g : Setting) (w : State) (book : ℕ → Segment) (hellos : List Asked
     learning = More Still (Learns (present_at m) (record { known = whole.seen.past }))
 
     goes_learned : (d : Done) → Sees g learned book hellos d → To d
-    goes_learned d shows = goes_by learned d learning (record { others = refl; booked = λ x is. is; segment = λ x is. refl; stores = λ p is. is; filed = λ x is. is; calm = λ none c. c }) (λ x is. is) paged refl shows
+    goes_learned d shows = goes_by learned d learning (record { others = refl; booked = λ x is. is; segment = λ x is. refl; stores = λ p is. is; filed = λ x is. is; calm = λ none c. c }) (λ x is. is) (no_pick _ refl refl) paged refl shows
 
     mapped_there : Mapped g learned (Some m)
     mapped_there = record { map = m; is = refl; whole = whole; known = λ u. refl }
@@ -168,7 +175,7 @@ module _ (g : Setting) (w : State) (book : ℕ → Segment) (hellos : List Asked
 
         goes_cut : (d : Done) → Sees g cut book hellos d → To d
         goes_cut d shows = goes_by cut d (More learning (Cuts (max o.low least) (record { rises = (let a = h.low in omega arith); known = risen_known })))
-            (record { others = refl; booked = λ x is. is; segment = λ x is. refl; stores = λ p is. is; filed = λ x is. is; calm = λ none c. c }) (λ x is. is) paged refl shows
+            (record { others = refl; booked = λ x is. is; segment = λ x is. refl; stores = λ p is. is; filed = λ x is. is; calm = λ none c. c }) (λ x is. is) (no_pick _ refl refl) paged refl shows
 
         cut_fixed : Fixed g cut
         cut_fixed = record { servers = fixed.servers; seq_of = fixed.seq_of; incarnation_of = fixed.incarnation_of; attempt_of = fixed.attempt_of }
@@ -212,7 +219,7 @@ module _ (g : Setting) (w : State) (book : ℕ → Segment) (hellos : List Asked
         -- from a start
         from_start : (v : State) (start : End) → Steps w v → ByOwner g w v book book → BooksNothing w v → Book g v book → v.end ≡ w.end → v.phase ≡ 2 → Mapped g v (Some m) → v.base ≡ point g start.seq start.pass → v.opening_seq ≡ start.seq + 1 → v.read_low ≡ max o.low least → v.pick_low ≡ v.read_low
             → v.incarnation ≡ w.incarnation → v.low ≡ w.low → IsGrouped g book v.booked start → To (follows risen (read_from start))
-        from_start v start steps by back pages end phase mapped base opening low picked inc horizon grouped = goes_by v (follows risen (read_from start)) steps by back pages end
+        from_start v start steps by back pages end phase mapped base opening low picked inc horizon grouped = goes_by v (follows risen (read_from start)) steps by back (record { begins = λ a b. picked; stays = λ a. absurd (let p = k.gathering.phase in omega arith) }) pages end
             (follows_shown g v book hellos risen (read_from start)
             (record { log = f.log; inc = f.inc ∙ sym inc; horizon = (let a = risen_known in omega arith); asked = λ a is boot. f.asked a is (boot ∙ inc) })
             (record { phase = phase; mapped = mapped; base = base; opening = opening; low = low; past = omega arith; from = tt; chained = sym base; seq = omega arith; grouped = grouped; begun = grouped }))

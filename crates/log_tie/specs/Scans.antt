@@ -158,13 +158,13 @@ pub record ScanShown (g : Setting) (w : State) (book : ℕ → Segment) (hellos 
   pub asked : (a : Asked) → In a hellos → a.inc ≡ w.incarnation → a.ask ≤ s.opening.ask
   pub stage : StageShown g w book hellos s.opening s.stage
 
--- where a chain is told, all is read back
-abbrev pub Gives : Setting → State → (ℕ → Segment) → Option GroupMapState → Out → Type 0
-Gives g w book groups (Hello ask) = Unit {0}
-Gives g w book groups (Fence server) = Unit {0}
-Gives g w book groups (Fetch server name ask) = Unit {0}
-Gives g w book groups (Chain segments end prior) = (m : GroupMapState) × (groups ≡ Some m) × ReadShown g w book end segments m
-Gives g w book groups (Lost name) = Unit {0}
+-- where a chain is told, all is read back, down to the horizon that the opening took last
+abbrev pub Gives : Setting → State → (ℕ → Segment) → Opening → Out → Type 0
+Gives g w book o (Hello ask) = Unit {0}
+Gives g w book o (Fence server) = Unit {0}
+Gives g w book o (Fetch server name ask) = Unit {0}
+Gives g w book o (Chain segments end prior) = (m : GroupMapState) × (o.groups ≡ Some m) × (w.read_low ≡ o.low) × ReadShown g w book end segments m
+Gives g w book o (Lost name) = Unit {0}
 
 -- ---- the laws
 
@@ -180,17 +180,22 @@ BringsScan g w book hellos s Tick = Unit {0}
 -- the opening is seen as it is after the input, and what it tells is read back
 pub record Scanned (g : Setting) (w : State) (book : ℕ → Segment) (hellos : List Asked) (s : ScanState) (outs : List Out) : Type 0 where
   pub shown : ScanShown g w book (asked_by w.incarnation w.low outs hellos) s
-  pub gives : AllByRecursion (Gives g w book s.opening.groups) outs
+  pub gives : AllByRecursion (Gives g w book s.opening) outs
 
 -- nothing is booked while a log is read back
 abbrev pub BooksNothing : State → State → Type 0
 BooksNothing w v = (x : ℕ) → v.booked x ≡ 1 → w.booked x ≡ 1
 
+-- what is picked is picked by the horizon that the opening took last, once
+pub record PicksAtHorizon (w v : State) : Type 0 where
+  pub begins : w.phase ≡ 1 → v.phase ≡ 2 → v.pick_low ≡ v.read_low
+  pub stays : w.phase ≡ 2 → v.pick_low ≡ w.pick_low
+
 -- Each input of an opening is taken by steps of the owner, where what is booked can be read back.
 abbrev pub ScanTakes : Type 0
 ScanTakes =
     (g : Setting) (w : State) (book : ℕ → Segment) (hellos : List Asked) (s : ScanState) (input : inputs.In) → Fixed g w → Reached w → Book g w book → IsSpelled g book w.booked → ScanShown g w book hellos s → BringsScan g w book hellos s input
-    → Goes g w book (λ v later. Scanned g v later hellos (transition s input).state (transition s input).outs × BooksNothing w v) []
+    → Goes g w book (λ v later. Scanned g v later hellos (transition s input).state (transition s input).outs × BooksNothing w v × PicksAtHorizon w v) []
 
 -- A restart: the owner's next boot, in which server 0 is asked at once; all else is as it was.
 pub record Restarted (g : Setting) (w : State) (book : ℕ → Segment) (hellos : List Asked) : Type 0 where
