@@ -7,3 +7,4 @@ mod Listing
 mod Filling
 mod ServerTurns
 mod OtherTurns
+mod Logs

@@ -27,7 +27,7 @@ module _ (k : Below) (g : Setting) (n : Net) (h : View g n) where
   hears_view v generation up reached = turned k g n h _ (hears h.w v generation) [] (record {
     steps = More Done (Hears v generation (record { rises = (let e = h.registry v in omega arith); reached = (let e = (h.shelves v).of in omega arith) }));
     apart = record { seat = refl; storeds = λ p is. is; fragments = λ p is. is; fenceds = λ p is. is; dropped = λ x is. is; registry = λ y. rises y; low = omega arith };
-    rests = record { inc = refl; owner = refl; filed = refl; flown = refl; begin_low = refl };
+    rests = record { inc = refl; owner = refl; filed = refl; flown = refl; picked = refl };
     shelves = λ y. record { of = (h.shelves y).of; keeps = (h.shelves y).keeps; each = (h.shelves y).each; marks = (h.shelves y).marks };
     nobody = h.nobody;
     registry = λ y. ap (λ z. cond (y == v) generation z) (h.registry y);
@@ -50,7 +50,7 @@ module _ (k : Below) (g : Setting) (n : Net) (h : View g n) where
   raises_view low name up is below = turned k g n h _ (raises h.w low) [] (record {
     steps = More Done (Raises low (record { rises = (let e = h.low in omega arith); filed = within }));
     apart = record { seat = refl; storeds = λ p is. is; fragments = λ p is. is; fenceds = λ p is. is; dropped = λ x is. is; registry = λ y. omega arith; low = (let e = h.low in let u = up in omega arith) };
-    rests = record { inc = refl; owner = refl; filed = refl; flown = refl; begin_low = refl };
+    rests = record { inc = refl; owner = refl; filed = refl; flown = refl; picked = refl };
     shelves = λ y. record { of = (h.shelves y).of; keeps = (h.shelves y).keeps; each = (h.shelves y).each; marks = (h.shelves y).marks };
     nobody = h.nobody;
     registry = h.registry;
@@ -77,7 +77,7 @@ module _ (k : Below) (g : Setting) (n : Net) (h : View g n) where
   publishes_view m whole = turned k g n h _ h.w (MapSent m ∷ []) (record {
     steps = Done;
     apart = nothing_apart k g n h;
-    rests = record { inc = refl; owner = refl; filed = refl; flown = refl; begin_low = refl };
+    rests = record { inc = refl; owner = refl; filed = refl; flown = refl; picked = refl };
     shelves = h.shelves;
     nobody = h.nobody;
     registry = h.registry;
@@ -91,7 +91,7 @@ module _ (k : Below) (g : Setting) (n : Net) (h : View g n) where
   welcomes_view inc ask news m is low whole = turned k g n h _ h.w (WelcomeSent inc ask news m ∷ []) (record {
     steps = Done;
     apart = nothing_apart k g n h;
-    rests = record { inc = refl; owner = refl; filed = refl; flown = refl; begin_low = refl };
+    rests = record { inc = refl; owner = refl; filed = refl; flown = refl; picked = refl };
     shelves = h.shelves;
     nobody = h.nobody;
     registry = h.registry;
@@ -129,7 +129,7 @@ module _ (k : Below) (g : Setting) (n : Net) (h : View g n) where
       dropped_one f = turned k g n h _ (drops h.w f.0) (DeleteSent meta.name ∷ []) (record {
         steps = More Done (Drops f.0 can);
         apart = record { seat = refl; storeds = λ p in_. in_; fragments = λ p in_. in_; fenceds = λ p in_. in_; dropped = λ y e. put_one y e; registry = λ y. omega arith; low = omega arith };
-        rests = record { inc = refl; owner = refl; filed = refl; flown = refl; begin_low = refl };
+        rests = record { inc = refl; owner = refl; filed = refl; flown = refl; picked = refl };
         shelves = λ y. record { of = (h.shelves y).of; keeps = (h.shelves y).keeps; each = (h.shelves y).each; marks = (h.shelves y).marks };
         nobody = h.nobody;
         registry = h.registry;

@@ -126,7 +126,7 @@ module _ (k : Below) (g : Setting) (n : Net) (h : View g n) where
   serves_view v deed some came = turned k g n h _ d.world (answers g v (n.shelves v) deed) (record {
     steps = d.steps;
     apart = server_apart v h.w d.world d.frame;
-    rests = record { inc = refl; owner = refl; filed = refl; flown = refl; begin_low = refl };
+    rests = record { inc = refl; owner = refl; filed = refl; flown = refl; picked = refl };
     shelves = shelves_after v d.world (shelf_after g (n.shelves v) deed) d.frame d.shows;
     nobody = λ x. d.frame.holds 0 x (λ e. (let s = some in omega arith)) ∙ h.nobody x;
     registry = λ y. ap (λ (z : State). z.registry_generation y) d.frame.others ∙ h.registry y;
@@ -152,7 +152,7 @@ module _ (k : Below) (g : Setting) (n : Net) (h : View g n) where
   bars_view v log pass = turned k g n h _ h.w [] (record {
     steps = Done;
     apart = nothing_apart;
-    rests = record { inc = refl; owner = refl; filed = refl; flown = refl; begin_low = refl };
+    rests = record { inc = refl; owner = refl; filed = refl; flown = refl; picked = refl };
     shelves = shelves_after v h.w (on_fence (n.shelves v) log pass) (record { others = refl; generation = λ y other. refl; holds = λ y x other. refl; index = λ y x other. refl; marked = λ y x other. refl; storeds = λ p is. is; fragments = λ p is. is; fenceds = λ p is. is })
         (fence_shown (n.shelves v) (side_of h.w v) log pass (h.shelves v));
     nobody = h.nobody;
@@ -167,7 +167,7 @@ module _ (k : Below) (g : Setting) (n : Net) (h : View g n) where
   lists_view v = turned k g n h _ h.w (ListedSent (listed g (n.shelves v)) ∷ []) (record {
     steps = Done;
     apart = nothing_apart;
-    rests = record { inc = refl; owner = refl; filed = refl; flown = refl; begin_low = refl };
+    rests = record { inc = refl; owner = refl; filed = refl; flown = refl; picked = refl };
     shelves = h.shelves;
     nobody = h.nobody;
     registry = h.registry;

@@ -9,7 +9,7 @@ use Rattle.log_tie.specs.Scans.{Asked}
 use Rattle.log_tie.specs.Shelves.{ShelfShown}
 use Rattle.log_law.specs.Net.{Packet, Net}
 use Rattle.log_law.proofs.Below.{Below}
-use Rattle.log_law.proofs.Views.{Shown, OwnerShown, Flown, View}
+use Rattle.log_law.proofs.Views.{Shown, OwnerShown, Flown, View, PickShown}
 use Rattle.log_law.proofs.Growing.{shown_on}
 use Rattle.log_law.proofs.Frames.{Seat, seat_of, Apart, same, later_apart, fixed_apart, paged_apart, spelled_apart, flown_apart, owner_apart}
 
@@ -29,7 +29,7 @@ pub record Rests (n m : Net) : Type 0 where
   pub owner : m.owner ≡ n.owner
   pub filed : m.filed ≡ n.filed
   pub flown : m.flown ≡ n.flown
-  pub begin_low : m.begin_low ≡ n.begin_low
+  pub picked : m.picked ≡ n.picked
 
 module _ (k : Below) (g : Setting) (n : Net) (h : View g n) where
   -- what it owes: steps that leave the owner alone, the shelves and the registry as they are then, and the packets that it sends
@@ -60,8 +60,8 @@ module _ (k : Below) (g : Setting) (n : Net) (h : View g n) where
     registry = t.registry;
     low = t.low;
     inc = at (λ o. o.incarnation ≡ m.inc) (h.inc ∙ sym t.rests.inc);
-    begin_low = at (λ o. o.begin_low ≡ m.begin_low) (h.begin_low ∙ sym t.rests.begin_low);
     owner = subst (OwnerShown g u h.book h.hellos) (sym t.rests.owner) (owner_apart g h.w u h.book t.apart k h.hellos n.owner h.owner);
+    picked = at (λ o. PickShown o.pick_low m.picked m.owner) (subst (PickShown h.w.pick_low m.picked) (sym t.rests.owner) (subst (λ z. PickShown h.w.pick_low z n.owner) (sym t.rests.picked) h.picked));
     sent = λ p is. all_shown g u h.book h.hellos new n.sent t.shown (λ q among. shown_on g h.w u h.book h.book (later_apart g h.w u h.book t.apart) h.hellos h.hellos (λ a in_. in_) q (h.sent q among)) p (subst (In p) t.sends is);
     asked = λ a is. (at (λ o. a.inc ≤ o.incarnation) (h.asked a is).0, (let b = (h.asked a is).1 in let up = t.apart.low in omega arith));
     filed = λ name is. at (λ o. (x : ℕ) × (name ≡ name_of g x) × (o.filed x ≡ 1)) (h.filed name (subst (In name) t.rests.filed is));

@@ -1,4 +1,6 @@
 -- How the small world is seen as a run of the abstract log protocol: in which state, with which book, and what each packet that was sent says there.
+use Rattle.log_scan.specs.declared.stage.Stage.TheVariants.{Hails, Gathers, Asks, Reads, Over}
+use Rattle.log_scan.specs.declared.stage.Stage.{Stage}
 use Rattle.std.proofs.Common.{◌≡◌, ℕ, ◌⊎◌, ◌≤◌, false, List}
 use Rattle.xfs_base.specs.declared.fragment.Fragment.{Fragment}
 use Rattle.xfs_base.specs.declared.news.SlotNews.{SlotNews}
@@ -81,6 +83,20 @@ OwnerShown g w book hellos (Opening s) = ScanShown g w book hellos s
 OwnerShown g w book hellos (Writing chain s) = WritingShown g w book chain s × Behind g w book s
 OwnerShown g w book hellos (Serving s) = Serves g w book s × Behind g w book s
 
+-- the horizon of the pick, while the log is read back and its opening segment is written
+abbrev pub StagePicked : ℕ → ℕ → Stage → Type 0
+StagePicked low picked Hails = Unit {0}
+StagePicked low picked (Gathers lists) = Unit {0}
+StagePicked low picked (Asks lists) = Unit {0}
+StagePicked low picked (Reads b r) = low ≡ picked
+StagePicked low picked Over = Unit {0}
+
+abbrev pub PickShown : ℕ → ℕ → Owner → Type 0
+PickShown low picked Down = Unit {0}
+PickShown low picked (Opening s) = StagePicked low picked s.stage
+PickShown low picked (Writing chain s) = low ≡ picked
+PickShown low picked (Serving s) = Unit {0}
+
 -- what was in flight is just what is booked
 pub record Flown (w : State) (book : ℕ → Segment) (flown : List Segment) : Type 0 where
   pub all : (x : ℕ) → w.booked x ≡ 1 → In (book x) flown
@@ -104,8 +120,8 @@ pub record View (g : Setting) (n : Net) : Type 0 where
   pub registry : (v : ℕ) → w.registry_generation v ≡ n.registry v
   pub low : w.low ≡ n.low
   pub inc : w.incarnation ≡ n.inc
-  pub begin_low : w.begin_low ≡ n.begin_low
   pub owner : OwnerShown g w book hellos n.owner
+  pub picked : PickShown w.pick_low n.picked n.owner
   pub sent : (p : Packet) → In p n.sent → Shown g w book hellos p
   pub asked : (a : Asked) → In a hellos → (a.inc ≤ w.incarnation) × (a.low ≤ w.low)
   pub filed : (name : SegName) → In name n.filed → IsFiled g w name

@@ -129,10 +129,10 @@ pub data Happens (g : Setting) : Net → Net → Type 0 where
   -- so does the log of one that writes its opening segment
   Writes : {n : Net} (chain : List Segment) (s : LogState) (i : log_ins.In) → n.owner ≡ Writing chain s → CameToWriter n i → WritesText (log.transition s i) → Happens g n (after_writing g n chain (log.transition s i))
   -- an opening takes an input
-  Opens : {n : Net} (s : ScanState) (i : scan_ins.In) → n.owner ≡ Opening s → CameToScan g n i → CanStart g n.inc (scan.transition s i) → Happens g n (after_scan g n (scan.transition s i))
+  Opens : {n : Net} (s : ScanState) (i : scan_ins.In) → n.owner ≡ Opening s → CameToScan g n i → CanStart g n.inc (scan.transition s i) → Happens g n (after_scan g n s (scan.transition s i))
   -- the owner falls, and restarts in its next boot
   Crashes : {n : Net} → Happens g n (record n { owner = Down })
-  Restarts : {n : Net} → n.owner ≡ Down → Happens g n (record n { inc = suc n.inc; owner = Opening (started g.log (suc n.inc)); begin_low = n.low })
+  Restarts : {n : Net} → n.owner ≡ Down → Happens g n (record n { inc = suc n.inc; owner = Opening (started g.log (suc n.inc)) })
   -- something is done to a server's shelf
   Serves : {n : Net} (v : ℕ) (deed : Deed) → 0 < v → CameToServer g n v deed
       → Happens g n (record n { shelves = put n.shelves v (shelf_after g (n.shelves v) deed); sent = answers g v (n.shelves v) deed ++ n.sent })

@@ -1,6 +1,8 @@
 -- A small world of the machines of one log: the shelves of all servers, the log's owner through its falls and reopenings, the registry's generations and its
 -- least horizon, and the packets about the log that were sent, of which any may come any number of times, in any order, or never.
-use Rattle.std.specs.Prelude.{ℕ, ◌&&◌, if◌then◌else◌, List, [], ◌∷◌, ◌++◌, Option, Some, None, filter}
+use Rattle.log_scan.specs.declared.stage.Stage.TheVariants.{Hails, Gathers, Asks, Reads, Over}
+use Rattle.log_scan.specs.declared.stage.Stage.{Stage}
+use Rattle.std.specs.Prelude.{ℕ, ◌&&◌, if◌then◌else◌, List, [], ◌∷◌, ◌++◌, Option, Some, None, filter, Bool, true, false}
 use Rattle.xfs_base.specs.declared.fragment.FragMeta.{FragMeta}
 use Rattle.xfs_base.specs.declared.fragment.Fragment.{Fragment}
 use Rattle.xfs_base.specs.declared.news.SlotNews.{SlotNews}
@@ -46,7 +48,8 @@ pub data Owner : Type 0 where
   Serving : LogState → Owner
 
 -- The shelves and what the registry knows of their generations, the least horizon of the log, and the owner with its incarnation; all packets that were
--- sent, and the names that were filed and dropped. To state the laws, also all segments that were ever in flight, and the least horizon at the last restart.
+-- sent, and the names that were filed and dropped. To state the laws, also all segments that were ever in flight, and the horizon by which the last opening picked
+-- where the log goes on.
 pub record Net : Type 0 where
   pub shelves : ℕ → ShelfState
   pub registry : ℕ → ℕ
@@ -57,7 +60,7 @@ pub record Net : Type 0 where
   pub filed : List SegName
   pub dropped : List SegName
   pub flown : List Segment
-  pub begin_low : ℕ
+  pub picked : ℕ
 
 -- at first every shelf is empty and the owner serves an empty log in its first boot, with some map of groups
 abbrev pub no_end : End
@@ -74,7 +77,7 @@ opening g m = record {
   filed = [];
   dropped = [];
   flown = [];
-  begin_low = 1;
+  picked = 1;
 }
 
 -- ---- the log
@@ -134,23 +137,35 @@ chain_in (scan_out.Lost name ∷ os) = chain_in os
 abbrev pub first_write : Setting → ℕ → End → GroupMapState → log.Done
 first_write g inc end m = log.transition (started g.log inc end m) (log_in.Parts [])
 
+-- it reads back, from where it picked
+abbrev pub is_reading : Stage → Bool
+is_reading Hails = false
+is_reading (Gathers lists) = false
+is_reading (Asks lists) = false
+is_reading (Reads b r) = true
+is_reading Over = false
+
+abbrev pub picked_by : Net → ScanState → scan.Done → ℕ
+picked_by n s d = if is_reading s.stage then n.picked else d.state.opening.low
+
 -- the opening goes on
-abbrev pub scans_on : Net → scan.Done → Net
-scans_on n d = record n { owner = Owner.Opening d.state; sent = scan_packets n.inc d.outs ++ n.sent }
+abbrev pub scans_on : Net → ScanState → scan.Done → Net
+scans_on n s d = record n { owner = Owner.Opening d.state; sent = scan_packets n.inc d.outs ++ n.sent; picked = picked_by n s d }
 
 -- the opening took an input: where it tells its chain, the log starts
-abbrev pub after_told : Setting → Net → scan.Done → Option Told → Option GroupMapState → Net
-after_told g n d None groups = scans_on n d
-after_told g n d (Some t) None = scans_on n d
-after_told g n d (Some t) (Some m) =
+abbrev pub after_told : Setting → Net → ScanState → scan.Done → Option Told → Option GroupMapState → Net
+after_told g n s d None groups = scans_on n s d
+after_told g n s d (Some t) None = scans_on n s d
+after_told g n s d (Some t) (Some m) =
     let e = first_write g n.inc t.end m in record n {
       owner = Owner.Writing t.segments e.state;
       sent = log_packets e.outs ++ (scan_packets n.inc d.outs ++ n.sent);
       flown = flown_with e.state.flight n.flown;
+      picked = picked_by n s d;
     }
 
-abbrev pub after_scan : Setting → Net → scan.Done → Net
-after_scan g n d = after_told g n d (chain_in d.outs) d.state.opening.groups
+abbrev pub after_scan : Setting → Net → ScanState → scan.Done → Net
+after_scan g n s d = after_told g n s d (chain_in d.outs) d.state.opening.groups
 
 -- ---- servers
 
