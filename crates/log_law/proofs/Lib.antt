@@ -8,3 +8,4 @@ mod Filling
 mod ServerTurns
 mod OtherTurns
 mod Logs
+mod Moves

@@ -328,7 +328,7 @@ module _ (g : Setting) (chain : List Segment) where
 
         settling : Goes g w book (λ v later. Serves g v later (log.landed s f) × AllFiled g v chain) (Settled (end_from f.segment) (rows_of f.segment) ∷ []) → To w book (after (Settled (end_from f.segment) (rows_of f.segment) ∷ []) (log.if_full (log.landed s f)))
         settling t = subst (λ (d : log.Done). To w book (after (Settled (end_from f.segment) (rows_of f.segment) ∷ []) d)) (sym lands)
-            (record { world = t.world; later = t.later; steps = t.steps; frame = t.frame; fresh = t.fresh; paged = t.paged; shows = inr t.shows; said = t.said; top = t.top })
+            (record { world = t.world; later = t.later; steps = t.steps; frame = t.frame; fresh = t.fresh; paged = t.paged; shows = inr (t.shows.0, t.shows.1, refl); said = t.said; top = t.top })
 
     looks_goes : (before s : LogState) (f : FlightState) → WritingShown g w book chain before → WritingShown g w book chain s → Flying g book f s.inc s.end.seq (w.booked w.flight) w.flight w.noted → (g.doubts ≡ false → w.pick_low ≤ w.head → Undoubted w)
         → To w book (log.looked_at before s f)

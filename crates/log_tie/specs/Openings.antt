@@ -1,5 +1,5 @@
 -- How a log that is opened again is seen, from the moment at which all of it is read back until its owner serves.
-use Rattle.std.specs.Prelude.{◌≡◌, ℕ, ◌+◌, ◌≤◌, ◌⊎◌, true, false, List, [], ◌∷◌, Some, length}
+use Rattle.std.specs.Prelude.{◌≡◌, ℕ, ◌+◌, ◌≤◌, ◌⊎◌, true, false, List, [], ◌∷◌, Some, None, length}
 use Rattle.xfs_base.specs.declared.segment.End.{End}
 use Rattle.segment_format.specs.declared.segment.Segment.{Segment}
 use Rattle.group_map.specs.GroupMapState.{GroupMapState}
@@ -60,9 +60,9 @@ abbrev pub AllFiled : Setting → State → List Segment → Type 0
 AllFiled g w [] = Unit {0}
 AllFiled g w (t ∷ ts) = ((x : ℕ) × (t.name ≡ name_of g x) × (w.filed x ≡ 1)) × AllFiled g w ts
 
--- the opening segment is still in flight, or it has settled: then the owner serves, and all that was read back is filed
+-- the opening segment is still in flight, or it has settled: then the owner serves with nothing in flight, and all that was read back is filed
 abbrev pub OpeningShown : Setting → List Segment → LogState → State → (ℕ → Segment) → Type 0
-OpeningShown g chain s v later = WritingShown g v later chain s ⊎ (Serves g v later s × AllFiled g v chain)
+OpeningShown g chain s v later = WritingShown g v later chain s ⊎ (Serves g v later s × AllFiled g v chain × (s.flight ≡ None))
 
 -- The opening segment, which has no items, is written by a step of the opening.
 abbrev pub OpensByStep : Type 0
