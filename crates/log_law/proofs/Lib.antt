@@ -9,3 +9,5 @@ mod ServerTurns
 mod OtherTurns
 mod Logs
 mod Moves
+mod Picking
+mod OwnerTurns

@@ -104,7 +104,7 @@ after_log g n d = record n { owner = Owner.Serving d.state; sent = log_packets d
 -- the log of an owner that writes its opening segment took an input: once that is settled, it and what was read back are filed, and the owner serves
 abbrev pub after_flight : Setting → Net → List Segment → log.Done → Option FlightState → Net
 after_flight g n chain d None = record n { owner = Owner.Serving d.state; sent = log_packets d.outs ++ n.sent; filed = log_filed g.log d.outs ++ (names_of chain ++ n.filed) }
-after_flight g n chain d (Some f) = record n { owner = Owner.Writing chain d.state; sent = log_packets d.outs ++ n.sent; flown = f.segment ∷ n.flown }
+after_flight g n chain d (Some f) = record n { owner = Owner.Writing chain d.state; sent = log_packets d.outs ++ n.sent; filed = log_filed g.log d.outs ++ n.filed; flown = f.segment ∷ n.flown }
 
 abbrev pub after_writing : Setting → Net → List Segment → log.Done → Net
 after_writing g n chain d = after_flight g n chain d d.state.flight
