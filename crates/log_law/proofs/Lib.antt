@@ -11,3 +11,4 @@ mod Logs
 mod Moves
 mod Picking
 mod OwnerTurns
+mod ScanTurns

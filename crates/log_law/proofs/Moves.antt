@@ -57,7 +57,7 @@ in_left (y ∷ xs) ys x (inr is) = inr (in_left xs ys x is)
 module _ (k : Below) (g : Setting) (n : Net) (h : View g n) where
   module _ (P : State → (ℕ → Segment) → Type 0) (outs : List Out) (t : Goes g h.w h.book P outs) where
     -- what the owner's steps leave as it was
-    at : (Q : Others → Type 0) → Q (others_of h.w) → Q (others_of t.world)
+    abbrev pub at : (Q : Others → Type 0) → Q (others_of h.w) → Q (others_of t.world)
     at Q x = subst Q (sym t.frame.others) x
 
     pub later_goes : Later h.w t.world h.book t.later
@@ -95,7 +95,7 @@ module _ (k : Below) (g : Setting) (n : Net) (h : View g n) where
       pub filed : (name : SegName) → In name m.filed → IsFiled g t.world name
       pub top : (t.world.end ≡ 0) ⊎ In (name_of g t.world.end) m.filed
 
-    pub moved : (m : Net) (hellos : List Asked) (new : List Packet) → Move m hellos new → View g m
+    abbrev pub moved : (m : Net) (hellos : List Asked) (new : List Packet) → Move m hellos new → View g m
     moved m hellos new v = record {
       w = t.world;
       book = t.later;

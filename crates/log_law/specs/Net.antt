@@ -160,6 +160,7 @@ after_told g n s d (Some t) (Some m) =
     let e = first_write g n.inc t.end m in record n {
       owner = Owner.Writing t.segments e.state;
       sent = log_packets e.outs ++ (scan_packets n.inc d.outs ++ n.sent);
+      filed = log_filed g.log e.outs ++ n.filed;
       flown = flown_with e.state.flight n.flown;
       picked = picked_by n s d;
     }
