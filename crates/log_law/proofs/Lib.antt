@@ -12,3 +12,5 @@ mod Moves
 mod Picking
 mod OwnerTurns
 mod ScanTurns
+mod Always
+mod Wholeness

@@ -1,2 +1,48 @@
-//! The law of logs where machines, generations and packets meet.
+//! The law of logs where machines, generations and packets meet: a small world of the shelves of all servers, the owner of one log through its falls and
+//! reopenings, the registry and the cleaner, over a network that loses, repeats and reorders. It has no code: each function below calls the laws that it
+//! stands on, and its contract is a law.
 #![tactic(auto)]
+
+ghost use Rattle.log_law.specs.Laws.{LogsStayWhole, OneNameOneText};
+
+use client_log::laws::{end_rises_by_one, flight_is_next, settles_what_is_due};
+use log_protocol::{all_is_in_order, end_is_head, logs_whole, past_stays, runs_go_on};
+use log_tie::{log_inputs, opening_inputs, scan_inputs, shelf_deeds};
+
+/// Logs stay whole: at each moment of every run, whatever is lost, and however the owner falls and opens its log again, each member of a filed segment that
+/// isn't dropped holds its fragment, or its server is of a later generation than the segment's group names (the 1996 paper, on RAID).
+pub fn logs_stay_whole()
+    ensures whole { LogsStayWhole }
+{
+    log_inputs();
+    opening_inputs();
+    scan_inputs();
+    shelf_deeds();
+    flight_is_next();
+    end_rises_by_one();
+    settles_what_is_due();
+    all_is_in_order();
+    end_is_head();
+    logs_whole();
+    runs_go_on();
+    past_stays();
+}
+
+/// One name, one text: at each moment of every run, whatever is held, stored or sent under a name of the log is a fragment of the one segment that was
+/// written under that name.
+pub fn one_name_one_text()
+    ensures one_text { OneNameOneText }
+{
+    log_inputs();
+    opening_inputs();
+    scan_inputs();
+    shelf_deeds();
+    flight_is_next();
+    end_rises_by_one();
+    settles_what_is_due();
+    all_is_in_order();
+    end_is_head();
+    logs_whole();
+    runs_go_on();
+    past_stays();
+}
