@@ -79,8 +79,9 @@ BringsOpening g w (Acked name index generation) = StoredSeen g w.storeds name in
 BringsOpening g w (Maps m) = MapSeen g w.registry_generation m
 BringsOpening g w Tick = Unit {0}
 
--- Each input of a log that is opened is taken by steps of the opening; where no restart is doubtful, the premise on losses is asked for.
+-- Each input of a log that is opened is taken by steps of the opening; where no restart is doubtful, the premise on losses is
+-- asked for where the opening ends.
 abbrev pub OpeningTakes : Type 0
 OpeningTakes =
     (g : Setting) (w : State) (book : ℕ → Segment) (chain : List Segment) (s : LogState) (input : inputs.In) → Fixed g w → Reached w → Book g w book → WritingShown g w book chain s
-    → (g.doubts ≡ false → w.pick_low ≤ w.head → Undoubted w) → BringsOpening g w input → Goes g w book (OpeningShown g chain (transition s input).state) (transition s input).outs
+    → (g.doubts ≡ false → (transition s input).state.flight ≡ None → w.pick_low ≤ w.head → Undoubted w) → BringsOpening g w input → Goes g w book (OpeningShown g chain (transition s input).state) (transition s input).outs
