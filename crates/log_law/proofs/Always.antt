@@ -1,5 +1,8 @@
 -- The small world is seen at its start, and whatever happens it stays seen.
-use Rattle.std.proofs.Common.{◌≡◌, ℕ, suc, ◌≤◌, true, false, List, [], refl, sym, ◌∙◌, inl, arith}
+use Rattle.log_law.proofs.Next.{Next}
+use Rattle.client_log.specs.Transition as log
+use Rattle.log_law.specs.Restarts.{EndsRestart, is_writing, is_serving}
+use Rattle.std.proofs.Common.{◌≡◌, ℕ, suc, ◌≤◌, true, false, List, [], refl, sym, ◌∙◌, inl, arith, None, ap}
 use Rattle.xfs_base.proofs.Booleans.{contrary}
 use Rattle.segment_format.specs.declared.segment.Segment.{Segment}
 use Rattle.group_map.specs.GroupMapState.{GroupMapState}
@@ -11,7 +14,7 @@ use Rattle.log_protocol.specs.Step.Step.{Learns}
 use Rattle.log_protocol.specs.Step.Steps.{Done, More}
 use Rattle.log_tie.specs.Setting.{Setting, present_at, name_of}
 use Rattle.log_tie.specs.Scans.{WholeMap}
-use Rattle.log_law.specs.Net.{Net, no_end, opening}
+use Rattle.log_law.specs.Net.{Net, no_end, opening, after_writing, after_flight}
 use Rattle.log_law.specs.Net.Owner.{Writing}
 use Rattle.log_law.specs.Events.{Happens, Runs}
 use Rattle.log_law.specs.Events.Happens.{Acts, Writes, Opens, Crashes, Restarts, Serves, Bars, Lists, Hears, Raises, Publishes, Welcomes, Drops}
@@ -60,6 +63,7 @@ begins_seen k g m whole = record {
   calm = λ none. refl;
   top = inl refl;
   dropped = λ x. inl refl;
+  gone = λ name is. absurd is;
 }
   where
     first : State
@@ -68,14 +72,18 @@ begins_seen k g m whole = record {
     book : ℕ → Segment
     book x = record { name = name_of g 0; prior = record { pass = record { inc = 0; att = 0 }; group = 0 }; group = 0; items = [] }
 
--- the premise on losses, where it is asked for
-abbrev pub IsSure : (g : Setting) (n : Net) → View g n → Type 0
-IsSure g n h = g.doubts ≡ false → (chain : List Segment) (s : LogState) → n.owner ≡ Writing chain s → h.w.pick_low ≤ h.w.head → Undoubted h.w
+-- the premise on losses, where it is asked for: at an event by which a restart ends
+abbrev pub IsSure : (g : Setting) (n o : Net) → View g n → Type 0
+IsSure g n o h = g.doubts ≡ false → EndsRestart n o → h.w.pick_low ≤ h.w.head → Undoubted h.w
+
+-- the opening segment is settled: the owner serves
+ends_so : (g : Setting) (n : Net) (chain : List Segment) (s : LogState) (d : log.Done) → n.owner ≡ Writing chain s → d.state.flight ≡ None → EndsRestart n (after_writing g n chain d)
+ends_so g n chain s d is none = (ap is_writing is, ap (λ o. is_serving (after_flight g n chain d o).owner) none)
 
 -- whatever happens, it is seen
-pub keeps : (k : Below) (g : Setting) (n o : Net) (h : View g n) → Happens g n o → IsSure g n h → View g o
+pub keeps : (k : Below) (g : Setting) (n o : Net) (h : View g n) → Happens g n o → IsSure g n o h → Next g n h o
 keeps k g n o h (Acts s i is came texts) sure = serving_view k g n h s i is came texts
-keeps k g n o h (Writes chain s i is came texts) sure = writing_view k g n h chain s i is came texts (λ none. sure none chain s is)
+keeps k g n o h (Writes chain s i is came texts) sure = writing_view k g n h chain s i is came texts (λ none lands. sure none (ends_so g n chain s (log.transition s i) is lands))
 keeps k g n o h (Opens s i is came can) sure = opens_view k g n h s i is came can
 keeps k g n o h Crashes sure = crash_view k g n h
 keeps k g n o h (Restarts is) sure = restart_view k g n h is
@@ -91,4 +99,4 @@ keeps k g n o h (Drops lists meta is among below) sure = drops_view k g n h list
 -- where restarts may be doubtful, nothing is asked
 pub seen_always : (k : Below) (g : Setting) (n o : Net) → g.doubts ≡ true → Runs g n o → View g n → View g o
 seen_always k g n o doubts Begun h = h
-seen_always k g n o doubts (On {m = m} run happens) h = keeps k g m o (seen_always k g n m doubts run h) happens (λ none. contrary (sym none ∙ doubts))
+seen_always k g n o doubts (On {m = m} run happens) h = (keeps k g m o (seen_always k g n m doubts run h) happens (λ none. contrary (sym none ∙ doubts))).view

@@ -2,6 +2,7 @@ mod Below
 mod Views
 mod Growing
 mod Frames
+mod Next
 mod Turning
 mod Listing
 mod Filling

@@ -1,4 +1,5 @@
 -- What the owner does keeps the small world seen, where its steps are those of an input.
+use Rattle.log_law.proofs.Next.{Alone, Next}
 use Rattle.fragment_store.specs.ShelfState.{ShelfState, held_at}
 use Rattle.xfs_base.specs.declared.fragment.Fragment.{Fragment}
 use Rattle.std.proofs.Common.{◌≡◌, ℕ, suc, ◌≤◌, ◌⊎◌, List, [], ◌∷◌, ◌++◌, sym, ap, subst, ◌∙◌, inl, inr, arith, Option, Some, None}
@@ -124,8 +125,16 @@ module _ (k : Below) (g : Setting) (n : Net) (h : View g n) where
       filed = v.filed;
       calm = λ none. t.frame.calm none (h.calm none);
       top = v.top;
+      gone = λ name is. (let d = h.gone name (subst (In name) v.keeps.dropped is) in record { number = d.number; named = d.named; dropped = later_goes.dropped d.number d.dropped });
       dropped = λ x. subst (λ ds. (t.world.dropped x ≡ 0) ⊎ In (name_of g x) ds) (sym v.keeps.dropped) (at (λ o. (o.dropped x ≡ 0) ⊎ In (name_of g x) n.dropped) (h.dropped x));
     }
+
+    abbrev pub by_owner : Alone h.w t.world
+    by_owner = record { generation = ap (λ (o : Others). o.generation) t.frame.others; holds = ap (λ (o : Others). o.holds) t.frame.others; dropped = ap (λ (o : Others). o.dropped) t.frame.others }
+
+    -- the event is followed
+    pub next : (m : Net) (hellos : List Asked) (new : List Packet) → Move m hellos new → Next g n h m
+    next m hellos new v = record { view = moved m hellos new v; steps = t.steps; by = inr by_owner }
 
     -- what was filed stays so
     pub filed_still : (name : SegName) → In name n.filed → IsFiled g t.world name

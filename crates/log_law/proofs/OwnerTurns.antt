@@ -1,4 +1,5 @@
 -- What the log's owner does while it serves or writes its opening segment, and its falls and restarts, keep the small world seen.
+use Rattle.log_law.proofs.Next.{Next}
 use Rattle.std.proofs.Common.{◌≡◌, ℕ, suc, ◌≤◌, false, List, [], ◌∷◌, ◌++◌, Option, Some, None, refl, sym, ap, subst, ◌∙◌, inl, inr, arith}
 use Rattle.xfs_base.specs.declared.segment.SegName.{SegName}
 use Rattle.segment_format.specs.declared.segment.Segment.{Segment}
@@ -26,7 +27,7 @@ use Rattle.log_law.specs.Events.{WritesText, CameToLog, CameToWriter}
 use Rattle.log_law.proofs.Below.{Below}
 use Rattle.log_law.proofs.Views.{OwnerShown, PickShown, Behind, IsFiled, View, Flown}
 use Rattle.log_law.proofs.Growing.{Later, shown_on}
-use Rattle.log_law.proofs.Moves.{packets_shown, filed_said, in_right, in_left, moved, filed_still, topped}
+use Rattle.log_law.proofs.Moves.{packets_shown, filed_said, in_right, in_left, filed_still, topped, next}
 use Rattle.log_law.proofs.Logs.{now_behind, now_spelled, now_flown}
 use Rattle.log_law.proofs.Picking.{pick_stays}
 
@@ -63,8 +64,8 @@ module _ (k : Below) (g : Setting) (n : Net) (h : View g n) where
     abbrev goes : Goes g h.w h.book Now served.outs
     goes = k.machines.inputs g h.w h.book s i h.fixed h.reached h.paged as_it_serves.0 (serving_brings i came)
 
-    pub serving_view : View g (after_log g n served)
-    serving_view = moved k g n h Now served.outs goes (after_log g n served) h.hellos (log_packets served.outs) (record {
+    pub serving_view : Next g n h (after_log g n served)
+    serving_view = next k g n h Now served.outs goes (after_log g n served) h.hellos (log_packets served.outs) (record {
       keeps = record { shelves = refl; registry = refl; low = refl; inc = refl; dropped = refl };
       spelled = now_spelled k g h.w h.book h.reached h.paged h.spelled s i Now served.outs goes as_it_serves.1 as_it_serves.0.flight texts goes.shows.flight;
       flown = now_flown k g h.w h.book h.reached h.paged h.spelled s i Now served.outs goes as_it_serves.1 as_it_serves.0.flight texts goes.shows.flight n.flown h.flown;
@@ -88,7 +89,7 @@ module _ (k : Below) (g : Setting) (n : Net) (h : View g n) where
   writing_brings (log_in.Maps m) came = (h.sent (MapSent m) came).seen
   writing_brings log_in.Tick came = tt
 
-  module _ (chain : List Segment) (s : LogState) (i : Input) (is : n.owner ≡ Writing chain s) (came : CameToWriter n i) (texts : WritesText (log.transition s i)) (premise : g.doubts ≡ false → h.w.pick_low ≤ h.w.head → Undoubted h.w) where
+  module _ (chain : List Segment) (s : LogState) (i : Input) (is : n.owner ≡ Writing chain s) (came : CameToWriter n i) (texts : WritesText (log.transition s i)) (premise : g.doubts ≡ false → (log.transition s i).state.flight ≡ None → h.w.pick_low ≤ h.w.head → Undoubted h.w) where
     abbrev d : log.Done
     d = log.transition s i
 
@@ -107,8 +108,8 @@ module _ (k : Below) (g : Setting) (n : Net) (h : View g n) where
     abbrev After : Option FlightState → Type 0
     After o = FlightShown g t.later o d.state.inc d.state.end.seq (t.world.booked t.world.flight) t.world.flight t.world.noted
 
-    still_writes : (v : WritingShown g t.world t.later chain d.state) → After d.state.flight → View g (after_flight g n chain d (Some v.flight))
-    still_writes v after = moved k g n h P d.outs t (after_flight g n chain d (Some v.flight)) h.hellos (log_packets d.outs) (record {
+    still_writes : (v : WritingShown g t.world t.later chain d.state) → After d.state.flight → Next g n h (after_flight g n chain d (Some v.flight))
+    still_writes v after = next k g n h P d.outs t (after_flight g n chain d (Some v.flight)) h.hellos (log_packets d.outs) (record {
       keeps = record { shelves = refl; registry = refl; low = refl; inc = refl; dropped = refl };
       spelled = now_spelled k g h.w h.book h.reached h.paged h.spelled s i P d.outs t there.1 before texts after;
       flown = subst (λ o. Flown t.world t.later (flown_with o n.flown)) v.is_flight (now_flown k g h.w h.book h.reached h.paged h.spelled s i P d.outs t there.1 before texts after n.flown h.flown);
@@ -122,8 +123,8 @@ module _ (k : Below) (g : Setting) (n : Net) (h : View g n) where
       top = topped k g n h P d.outs t (log_filed g.log d.outs ++ n.filed) (λ name among. in_right (log_filed g.log d.outs) n.filed name among) (λ name among. in_left (log_filed g.log d.outs) n.filed name among);
     })
 
-    now_serves : Serves g t.world t.later d.state × AllFiled g t.world chain × (d.state.flight ≡ None) → View g (after_flight g n chain d None)
-    now_serves v = moved k g n h P d.outs t (after_flight g n chain d None) h.hellos (log_packets d.outs) (record {
+    now_serves : Serves g t.world t.later d.state × AllFiled g t.world chain × (d.state.flight ≡ None) → Next g n h (after_flight g n chain d None)
+    now_serves v = next k g n h P d.outs t (after_flight g n chain d None) h.hellos (log_packets d.outs) (record {
       keeps = record { shelves = refl; registry = refl; low = refl; inc = refl; dropped = refl };
       spelled = now_spelled k g h.w h.book h.reached h.paged h.spelled s i P d.outs t there.1 before texts v.0.flight;
       flown = subst (λ o. Flown t.world t.later (flown_with o n.flown)) v.2 (now_flown k g h.w h.book h.reached h.paged h.spelled s i P d.outs t there.1 before texts v.0.flight n.flown h.flown);
@@ -138,11 +139,11 @@ module _ (k : Below) (g : Setting) (n : Net) (h : View g n) where
           (λ name among. in_left (log_filed g.log d.outs) (names_of chain ++ n.filed) name among);
     })
 
-    by : P t.world t.later → View g (after_writing g n chain d)
-    by (inl v) = subst (λ o. View g (after_flight g n chain d o)) (sym v.is_flight) (still_writes v (subst After (sym v.is_flight) v.flying))
-    by (inr v) = subst (λ o. View g (after_flight g n chain d o)) (sym v.2) (now_serves v)
+    by : P t.world t.later → Next g n h (after_writing g n chain d)
+    by (inl v) = subst (λ o. Next g n h (after_flight g n chain d o)) (sym v.is_flight) (still_writes v (subst After (sym v.is_flight) v.flying))
+    by (inr v) = subst (λ o. Next g n h (after_flight g n chain d o)) (sym v.2) (now_serves v)
 
-    pub writing_view : View g (after_writing g n chain d)
+    pub writing_view : Next g n h (after_writing g n chain d)
     writing_view = by t.shows
 
   -- ---- it falls
@@ -160,8 +161,8 @@ module _ (k : Below) (g : Setting) (n : Net) (h : View g n) where
     top = inl refl;
   }
 
-  pub crash_view : View g (record n { owner = Down })
-  crash_view = moved k g n h (λ v later. v.phase ≡ 0) [] crash (record n { owner = Down }) h.hellos [] (record {
+  pub crash_view : Next g n h (record n { owner = Down })
+  crash_view = next k g n h (λ v later. v.phase ≡ 0) [] crash (record n { owner = Down }) h.hellos [] (record {
     keeps = record { shelves = refl; registry = refl; low = refl; inc = refl; dropped = refl };
     spelled = h.spelled;
     flown = record { all = h.flown.all; booked = h.flown.booked };
@@ -177,29 +178,34 @@ module _ (k : Below) (g : Setting) (n : Net) (h : View g n) where
 
   -- ---- it restarts, and server 0, which is none, is asked at once
 
-  pub restart_view : n.owner ≡ Down → View g (record n { inc = suc n.inc; owner = Opening (started g.log (suc n.inc)) })
+  pub restart_view : n.owner ≡ Down → Next g n h (record n { inc = suc n.inc; owner = Opening (started g.log (suc n.inc)) })
   restart_view is = record {
-    w = v;
-    book = h.book;
-    hellos = h.hellos;
-    fixed = record { servers = h.fixed.servers; seq_of = h.fixed.seq_of; incarnation_of = h.fixed.incarnation_of; attempt_of = h.fixed.attempt_of };
-    reached = k.protocol.goes_on h.w v h.reached (More (More Done (Begins (record { down = owner_there Down is }))) (Fences 0 (suc h.w.incarnation) (record { begun = omega arith })));
-    paged = h.paged;
-    spelled = h.spelled;
-    flown = record { all = h.flown.all; booked = h.flown.booked };
-    shelves = λ y. record { of = (h.shelves y).of; keeps = (h.shelves y).keeps; each = (h.shelves y).each; marks = (h.shelves y).marks };
-    nobody = h.nobody;
-    registry = h.registry;
-    low = h.low;
-    inc = ap suc h.inc;
-    owner = opens;
-    picked = tt;
-    sent = λ p among. shown_on g h.w v h.book h.book later h.hellos h.hellos (λ a in_. in_) p (h.sent p among);
-    asked = λ a among. (let b = h.asked a among in let c = b.0 in (omega arith, b.1));
-    filed = λ name among. h.filed name among;
-    calm = h.calm;
-    top = h.top;
-    dropped = h.dropped;
+    view = record {
+      w = v;
+      book = h.book;
+      hellos = h.hellos;
+      fixed = record { servers = h.fixed.servers; seq_of = h.fixed.seq_of; incarnation_of = h.fixed.incarnation_of; attempt_of = h.fixed.attempt_of };
+      reached = k.protocol.goes_on h.w v h.reached (More (More Done (Begins (record { down = owner_there Down is }))) (Fences 0 (suc h.w.incarnation) (record { begun = omega arith })));
+      paged = h.paged;
+      spelled = h.spelled;
+      flown = record { all = h.flown.all; booked = h.flown.booked };
+      shelves = λ y. record { of = (h.shelves y).of; keeps = (h.shelves y).keeps; each = (h.shelves y).each; marks = (h.shelves y).marks };
+      nobody = h.nobody;
+      registry = h.registry;
+      low = h.low;
+      inc = ap suc h.inc;
+      owner = opens;
+      picked = tt;
+      sent = λ p among. shown_on g h.w v h.book h.book later h.hellos h.hellos (λ a in_. in_) p (h.sent p among);
+      asked = λ a among. (let b = h.asked a among in let c = b.0 in (omega arith, b.1));
+      filed = λ name among. h.filed name among;
+      calm = h.calm;
+      top = h.top;
+      dropped = h.dropped;
+      gone = λ name among. (let d = h.gone name among in record { number = d.number; named = d.named; dropped = d.dropped });
+    };
+    steps = More (More Done (Begins (record { down = owner_there Down is }))) (Fences 0 (suc h.w.incarnation) (record { begun = omega arith }));
+    by = inr (record { generation = refl; holds = refl; dropped = refl });
   }
     where
       v : State

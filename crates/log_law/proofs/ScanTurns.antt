@@ -1,4 +1,6 @@
 -- What an opening of the log takes keeps the small world seen, until its log starts.
+use Rattle.log_tie.proofs.Frames.{steps_through}
+use Rattle.log_law.proofs.Next.{Next}
 use Rattle.std.proofs.lemmas.Bool.Decides.{nat_tests}
 use Rattle.std.proofs.Common.{◌≡◌, ℕ, ◌==◌, ◌&&◌, ◌≤◌, ◌<◌, List, [], ◌∷◌, ◌++◌, Option, Some, None, refl, sym, ap, subst, ◌∙◌, inl, inr, arith, if◌then◌else◌}
 use Rattle.std.specs.Prelude.{IfSome}
@@ -34,7 +36,7 @@ use Rattle.log_law.proofs.Below.{Below}
 use Rattle.log_law.proofs.Views.{FragmentSeen, WelcomeSeen, OwnerShown, StagePicked, Behind, View, PickShown}
 use Rattle.log_law.proofs.Growing.{spelled_on}
 use Rattle.log_law.proofs.Turning.{AllShown}
-use Rattle.log_law.proofs.Moves.{later_goes, packets_shown, filed_said, in_right, in_left, moved, filed_still, topped}
+use Rattle.log_law.proofs.Moves.{later_goes, packets_shown, filed_said, in_right, in_left, moved, filed_still, topped, by_owner}
 use Rattle.log_law.proofs.Logs.{ran_first, now_behind, now_spelled, now_flown}
 use Rattle.log_law.proofs.Picking.{pick_stays}
 
@@ -208,8 +210,8 @@ module _ (k : Below) (g : Setting) (n : Net) (h : View g n) (s : ScanState) (i :
         told_none : None ≡ Some told → ⊥
         told_none e = absurd cc
 
-    starts : View g (after_told g n s d (Some told) (Some r.map))
-    starts = moved k g (scans_on n s d) on Q first.outs e (after_told g n s d (Some told) (Some r.map)) hellos (log_packets first.outs) (record {
+    abbrev started_view : View g (after_told g n s d (Some told) (Some r.map))
+    started_view = moved k g (scans_on n s d) on Q first.outs e (after_told g n s d (Some told) (Some r.map)) hellos (log_packets first.outs) (record {
       keeps = record { shelves = refl; registry = refl; low = refl; inc = refl; dropped = refl };
       spelled = now_spelled k g t.world t.later on.reached t.paged on.spelled started (log_in.Parts []) Q first.outs e behind before (can.1 r.map) after;
       flown = now_flown k g t.world t.later on.reached t.paged on.spelled started (log_in.Parts []) Q first.outs e behind before (can.1 r.map) after n.flown on.flown;
@@ -223,9 +225,16 @@ module _ (k : Below) (g : Setting) (n : Net) (h : View g n) (s : ScanState) (i :
       top = topped k g (scans_on n s d) on Q first.outs e (log_filed g.log first.outs ++ n.filed) (λ name among. in_right (log_filed g.log first.outs) n.filed name among) (λ name among. in_left (log_filed g.log first.outs) n.filed name among);
     })
 
-  pub opens_view : CanStart g n.inc d → View g (after_scan g n s d)
+    starts : Next g n h (after_told g n s d (Some told) (Some r.map))
+    starts = record {
+      view = started_view;
+      steps = steps_through h.w t.world e.world t.steps e.steps;
+      by = (let a = by_owner k g n h P [] t in let b = by_owner k g (scans_on n s d) on Q first.outs e in inr (record { generation = b.generation ∙ a.generation; holds = b.holds ∙ a.holds; dropped = b.dropped ∙ a.dropped }));
+    }
+
+  pub opens_view : CanStart g n.inc d → Next g n h (after_scan g n s d)
   opens_view can = by (chain_in d.outs) refl (told_read g t.world t.later d.state.opening d.outs t.shows.0.gives) can
     where
-      by : (o : Option Told) → chain_in d.outs ≡ o → IfSome o (AllRead g t.world t.later d.state.opening) → IfSome o (StartsWith g n.inc d) → View g (after_told g n s d o d.state.opening.groups)
-      by None at read starts_so = on
-      by (Some told) at read starts_so = subst (λ groups. View g (after_told g n s d (Some told) groups)) (sym read.is) (starts told read at starts_so)
+      by : (o : Option Told) → chain_in d.outs ≡ o → IfSome o (AllRead g t.world t.later d.state.opening) → IfSome o (StartsWith g n.inc d) → Next g n h (after_told g n s d o d.state.opening.groups)
+      by None at read starts_so = record { view = on; steps = t.steps; by = inr (by_owner k g n h P [] t) }
+      by (Some told) at read starts_so = subst (λ groups. Next g n h (after_told g n s d (Some told) groups)) (sym read.is) (starts told read at starts_so)

@@ -1,15 +1,16 @@
 -- What is done to a server's shelf keeps the small world seen.
+use Rattle.log_law.proofs.Next.{Next}
 use Rattle.xfs_base.specs.Stamps.{is_greater}
 use Rattle.xfs_base.specs.Segments.{pass_cmp}
 use Rattle.std.specs.BTreeMap.{insert_entry}
-use Rattle.std.proofs.Common.{◌≡◌, ℕ, ◌==◌, ◌&&◌, ◌<◌, ◌⊎◌, Bool, true, false, cond, [], ◌∷◌, Option, Some, None, refl, sym, ap, subst, ◌∙◌, arith, ◌++◌}
+use Rattle.std.proofs.Common.{◌≡◌, ℕ, ◌==◌, ◌&&◌, ◌<◌, ◌⊎◌, Bool, true, false, cond, [], ◌∷◌, Option, Some, None, refl, sym, ap, subst, ◌∙◌, arith, ◌++◌, inl, inr}
 use Rattle.xfs_base.specs.declared.fragment.Fragment.{Fragment}
 use Rattle.xfs_base.specs.declared.segment.LogId.{LogId}
 use Rattle.xfs_base.specs.declared.segment.Pass.{Pass}
 use Rattle.xfs_base.specs.declared.segment.SegName.{SegName}
 use Rattle.xfs_base.proofs.Booleans.{contrary, by_test, and_first, and_second}
-use Rattle.fragment_store.specs.ShelfState.{ShelfState, held_at, fence_of, log_cmp}
-use Rattle.fragment_store.specs.Calls.{on_fence}
+use Rattle.fragment_store.specs.ShelfState.{ShelfState, held_at, fence_of, log_cmp, is_marked, is_held}
+use Rattle.fragment_store.specs.Calls.{on_fence, kept, with_fragment}
 use Rattle.log_protocol.specs.Packets.{FencedPacket}
 use Rattle.log_protocol.specs.State.{State}
 use Rattle.log_protocol.specs.Step.Steps.{Done}
@@ -122,7 +123,34 @@ module _ (k : Below) (g : Setting) (n : Net) (h : View g n) where
       pick true e = subst (λ z. ShelfShown g u h.book z s) (sym (equal y v e)) shows
       pick false e = subst (Seen (n.shelves y)) (sym (others (λ same. contrary (sym e ∙ (ap (λ z. y == z) (sym same) ∙ itself y))))) (h.shelves y)
 
-  pub serves_view : (v : ℕ) (deed : Deed) → 0 < v → CameToServer g n v deed → View g (record n { shelves = put n.shelves v (shelf_after g (n.shelves v) deed); sent = answers g v (n.shelves v) deed ++ n.sent })
+  -- the generation rises only by a loss, and then nothing is held
+  abbrev Stays : (v y : ℕ) → State → Type 0
+  Stays v y u = (u.generation y ≡ h.w.generation y) ⊎ (((x : ℕ) → u.holds y x ≡ 0) × (u.dropped ≡ h.w.dropped))
+
+  same_generation : (v : ℕ) (deed : Deed) (u : State) → ShelfShown g u h.book v (shelf_after g (n.shelves v) deed) → u.dropped ≡ h.w.dropped → Stays v v u
+  same_generation v (Stores f generation) u shows same = inl (shows.of ∙ (by_test (λ (s : ShelfState). s.generation ≡ (n.shelves v).generation) (is_stored (n.shelves v) f generation) (kept (n.shelves v) f) (n.shelves v) (λ t. keeps_it f) (λ t. refl) ∙ sym (h.shelves v).of))
+    where
+      keeps_it : (f : Fragment) → (kept (n.shelves v) f).generation ≡ (n.shelves v).generation
+      keeps_it f = by_test (λ (s : ShelfState). s.generation ≡ (n.shelves v).generation) (is_held (n.shelves v) f.meta.name) (n.shelves v) (record (n.shelves v) { held = with_fragment f (n.shelves v).held }) (λ t. refl) (λ t. refl)
+  same_generation v (Fetches name) u shows same = inl (shows.of ∙ sym (h.shelves v).of)
+  same_generation v (Fences inc) u shows same =
+      inl (shows.of ∙ (by_test (λ (s : ShelfState). s.generation ≡ (n.shelves v).generation) (is_greater (pass_cmp (record { inc = inc; att = 0 }) (fence_of (n.shelves v).fences g.log))) (record (n.shelves v) { fences = insert_entry log_cmp (n.shelves v).fences g.log (record { inc = inc; att = 0 }) }) (n.shelves v) (λ t. refl) (λ t. refl)
+      ∙ sym (h.shelves v).of))
+  same_generation v (Deletes name) u shows same = inl (shows.of ∙ sym (h.shelves v).of)
+  same_generation v (Fills f) u shows same =
+      inl (shows.of ∙ (by_test (λ (s : ShelfState). s.generation ≡ (n.shelves v).generation) (is_marked (n.shelves v).marks f.meta.name) (n.shelves v) (kept (n.shelves v) f) (λ t. refl)
+      (λ t. by_test (λ (s : ShelfState). s.generation ≡ (n.shelves v).generation) (is_held (n.shelves v) f.meta.name) (n.shelves v) (record (n.shelves v) { held = with_fragment f (n.shelves v).held }) (λ t. refl) (λ t. refl))
+      ∙ sym (h.shelves v).of))
+  same_generation v Loses u shows same = inr (shows.keeps, same)
+
+  servers_after : (v : ℕ) (deed : Deed) (d : Did g h.w h.book v (n.shelves v) deed) (y : ℕ) → Stays v y d.world
+  servers_after v deed d y = pick (y == v) refl
+    where
+      pick : (t : Bool) → (y == v) ≡ t → Stays v y d.world
+      pick true e = subst (λ z. Stays v z d.world) (sym (equal y v e)) (same_generation v deed d.world d.shows (ap (λ (z : State). z.dropped) d.frame.others))
+      pick false e = inl (d.frame.generation y (λ same. contrary (sym e ∙ (ap (λ z. y == z) (sym same) ∙ itself y))))
+
+  pub serves_view : (v : ℕ) (deed : Deed) → 0 < v → CameToServer g n v deed → Next g n h (record n { shelves = put n.shelves v (shelf_after g (n.shelves v) deed); sent = answers g v (n.shelves v) deed ++ n.sent })
   serves_view v deed some came = turned k g n h _ d.world (answers g v (n.shelves v) deed) (record {
     steps = d.steps;
     apart = server_apart v h.w d.world d.frame;
@@ -134,6 +162,8 @@ module _ (k : Below) (g : Setting) (n : Net) (h : View g n) where
     sends = refl;
     shown = told_shown d.world v deed (ap (λ (z : State). z.text_of) d.frame.others) (ap (λ (z : State). z.booked) d.frame.others) d.tells;
     dropped = λ x. subst (λ (z : State). (z.dropped x ≡ 0) ⊎ In (name_of g x) n.dropped) (sym d.frame.others) (h.dropped x);
+    gone = λ name is. inl is;
+    servers = λ y. servers_after v deed d y;
   })
     where
       d : Did g h.w h.book v (n.shelves v) deed
@@ -148,7 +178,7 @@ module _ (k : Below) (g : Setting) (n : Net) (h : View g n) where
   fence_shown s z log pass seen = by_test (λ t. Seen t z) (is_greater (pass_cmp pass (fence_of s.fences log))) (record s { fences = insert_entry log_cmp s.fences log pass }) s
       (λ t. record { of = seen.of; keeps = seen.keeps; each = seen.each; marks = seen.marks }) (λ t. seen)
 
-  pub bars_view : (v : ℕ) (log : LogId) (pass : Pass) → View g (record n { shelves = put n.shelves v (on_fence (n.shelves v) log pass) })
+  pub bars_view : (v : ℕ) (log : LogId) (pass : Pass) → Next g n h (record n { shelves = put n.shelves v (on_fence (n.shelves v) log pass) })
   bars_view v log pass = turned k g n h _ h.w [] (record {
     steps = Done;
     apart = nothing_apart;
@@ -161,9 +191,11 @@ module _ (k : Below) (g : Setting) (n : Net) (h : View g n) where
     sends = refl;
     shown = tt;
     dropped = h.dropped;
+    gone = λ name is. inl is;
+    servers = λ v. inl refl;
   })
 
-  pub lists_view : (v : ℕ) → View g (record n { sent = ListedSent (listed g (n.shelves v)) ∷ n.sent })
+  pub lists_view : (v : ℕ) → Next g n h (record n { sent = ListedSent (listed g (n.shelves v)) ∷ n.sent })
   lists_view v = turned k g n h _ h.w (ListedSent (listed g (n.shelves v)) ∷ []) (record {
     steps = Done;
     apart = nothing_apart;
@@ -175,4 +207,6 @@ module _ (k : Below) (g : Setting) (n : Net) (h : View g n) where
     sends = refl;
     shown = (metas_listed g h.book h.w.booked (n.shelves v).held (h.shelves v).each, tt);
     dropped = h.dropped;
+    gone = λ name is. inl is;
+    servers = λ v. inl refl;
   })

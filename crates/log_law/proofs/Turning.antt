@@ -1,17 +1,19 @@
 -- An event that leaves the owner as it was keeps the small world seen.
-use Rattle.std.proofs.Common.{◌≡◌, ℕ, ◌⊎◌, ◌≤◌, List, [], ◌∷◌, ◌++◌, sym, subst, ◌∙◌, inl, inr, arith}
+use Rattle.xfs_base.specs.declared.segment.SegName.{SegName}
+use Rattle.log_law.proofs.Next.{Next}
+use Rattle.std.proofs.Common.{◌≡◌, ℕ, ◌⊎◌, ◌≤◌, List, [], ◌∷◌, ◌++◌, sym, subst, ◌∙◌, inl, inr, arith, ⊎_elim}
 use Rattle.segment_format.specs.declared.segment.Segment.{Segment}
 use Rattle.log_protocol.specs.State.{State}
 use Rattle.log_protocol.specs.Step.{Steps}
 use Rattle.log_protocol.specs.Tables.{In}
 use Rattle.log_tie.specs.Setting.{Setting, name_of}
 use Rattle.log_tie.specs.Scans.{Asked}
-use Rattle.log_tie.specs.Shelves.{ShelfShown}
+use Rattle.log_tie.specs.Shelves.{ShelfShown, DropSeen}
 use Rattle.log_law.specs.Net.{Packet, Net}
 use Rattle.log_law.proofs.Below.{Below}
 use Rattle.log_law.proofs.Views.{Shown, OwnerShown, Flown, View, PickShown}
 use Rattle.log_law.proofs.Growing.{shown_on}
-use Rattle.log_law.proofs.Frames.{Seat, seat_of, Apart, same, later_apart, fixed_apart, paged_apart, spelled_apart, flown_apart, owner_apart}
+use Rattle.log_law.proofs.Frames.{Apart, same, later_apart, fixed_apart, paged_apart, spelled_apart, flown_apart, owner_apart}
 
 -- each of these is shown
 abbrev pub AllShown : Setting → State → (ℕ → Segment) → List Asked → List Packet → Type 0
@@ -44,9 +46,11 @@ module _ (k : Below) (g : Setting) (n : Net) (h : View g n) where
     pub sends : m.sent ≡ new ++ n.sent
     pub shown : AllShown g u h.book h.hellos new
     pub dropped : (x : ℕ) → (u.dropped x ≡ 0) ⊎ In (name_of g x) m.dropped
+    pub gone : (name : SegName) → In name m.dropped → In name n.dropped ⊎ DropSeen g u name
+    pub servers : (v : ℕ) → (u.generation v ≡ h.w.generation v) ⊎ (((x : ℕ) → u.holds v x ≡ 0) × (u.dropped ≡ h.w.dropped))
 
-  pub turned : (m : Net) (u : State) (new : List Packet) → Turn m u new → View g m
-  turned m u new t = record {
+  abbrev pub view_after : (m : Net) (u : State) (new : List Packet) → Turn m u new → View g m
+  view_after m u new t = record {
     w = u;
     book = h.book;
     hellos = h.hellos;
@@ -59,16 +63,17 @@ module _ (k : Below) (g : Setting) (n : Net) (h : View g n) where
     nobody = t.nobody;
     registry = t.registry;
     low = t.low;
-    inc = at (λ o. o.incarnation ≡ m.inc) (h.inc ∙ sym t.rests.inc);
+    inc = same g h.w u h.book t.apart (λ o. o.incarnation ≡ m.inc) (h.inc ∙ sym t.rests.inc);
     owner = subst (OwnerShown g u h.book h.hellos) (sym t.rests.owner) (owner_apart g h.w u h.book t.apart k h.hellos n.owner h.owner);
-    picked = at (λ o. PickShown o.pick_low m.picked m.owner) (subst (PickShown h.w.pick_low m.picked) (sym t.rests.owner) (subst (λ z. PickShown h.w.pick_low z n.owner) (sym t.rests.picked) h.picked));
+    picked = same g h.w u h.book t.apart (λ o. PickShown o.pick_low m.picked m.owner) (subst (PickShown h.w.pick_low m.picked) (sym t.rests.owner) (subst (λ z. PickShown h.w.pick_low z n.owner) (sym t.rests.picked) h.picked));
     sent = λ p is. all_shown g u h.book h.hellos new n.sent t.shown (λ q among. shown_on g h.w u h.book h.book (later_apart g h.w u h.book t.apart) h.hellos h.hellos (λ a in_. in_) q (h.sent q among)) p (subst (In p) t.sends is);
-    asked = λ a is. (at (λ o. a.inc ≤ o.incarnation) (h.asked a is).0, (let b = (h.asked a is).1 in let up = t.apart.low in omega arith));
-    filed = λ name is. at (λ o. (x : ℕ) × (name ≡ name_of g x) × (o.filed x ≡ 1)) (h.filed name (subst (In name) t.rests.filed is));
-    calm = λ none. at (λ o. o.clean ≡ 1) (h.calm none);
-    top = at (λ o. (o.end ≡ 0) ⊎ In (name_of g o.end) m.filed) (subst (λ names. (h.w.end ≡ 0) ⊎ In (name_of g h.w.end) names) (sym t.rests.filed) h.top);
+    asked = λ a is. (same g h.w u h.book t.apart (λ o. a.inc ≤ o.incarnation) (h.asked a is).0, (let b = (h.asked a is).1 in let up = t.apart.low in omega arith));
+    filed = λ name is. same g h.w u h.book t.apart (λ o. (x : ℕ) × (name ≡ name_of g x) × (o.filed x ≡ 1)) (h.filed name (subst (In name) t.rests.filed is));
+    calm = λ none. same g h.w u h.book t.apart (λ o. o.clean ≡ 1) (h.calm none);
+    top = same g h.w u h.book t.apart (λ o. (o.end ≡ 0) ⊎ In (name_of g o.end) m.filed) (subst (λ names. (h.w.end ≡ 0) ⊎ In (name_of g h.w.end) names) (sym t.rests.filed) h.top);
     dropped = t.dropped;
+    gone = λ name is. ⊎_elim (λ old. (let d = h.gone name old in record { number = d.number; named = d.named; dropped = t.apart.dropped d.number d.dropped })) (λ new_one. new_one) (t.gone name is);
   }
-    where
-      at : (P : Seat → Type 0) → P (seat_of h.w) → P (seat_of u)
-      at P x = same g h.w u h.book t.apart P x
+
+  pub turned : (m : Net) (u : State) (new : List Packet) → Turn m u new → Next g n h m
+  turned m u new t = record { view = view_after m u new t; steps = t.steps; by = inl (record { owner = t.rests.owner; servers = t.servers }) }

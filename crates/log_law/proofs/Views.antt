@@ -130,3 +130,4 @@ pub record View (g : Setting) (n : Net) : Type 0 where
   -- the end is filed
   pub top : (w.end ≡ 0) ⊎ In (name_of g w.end) n.filed
   pub dropped : (x : ℕ) → (w.dropped x ≡ 0) ⊎ In (name_of g x) n.dropped
+  pub gone : (name : SegName) → In name n.dropped → DropSeen g w name
