@@ -5,7 +5,7 @@ use Rattle.std.proofs.lemmas.Bool.Decides.{nat_tests}
 use Rattle.std.proofs.Common.{◌≡◌, ℕ, ◌==◌, ◌&&◌, ◌≤◌, ◌<◌, List, [], ◌∷◌, ◌++◌, Option, Some, None, refl, sym, ap, subst, ◌∙◌, inl, inr, arith, if◌then◌else◌}
 use Rattle.std.specs.Prelude.{IfSome}
 use Rattle.std.specs.List.{AllByRecursion}
-use Rattle.xfs_base.proofs.Booleans.{by_test}
+use Rattle.xfs_base.proofs.Booleans.{by_test, contrary}
 use Rattle.segment_format.specs.declared.segment.Segment.{Segment}
 use Rattle.group_map.specs.GroupMapState.{GroupMapState}
 use Rattle.client_log.specs.declared.input.In.TheVariants as log_in
@@ -175,6 +175,7 @@ module _ (k : Below) (g : Setting) (n : Net) (h : View g n) (s : ScanState) (i :
     shown = scan_shown g t.world t.later n.inc t.world.low d.outs h.hellos hellos (let e = incs in omega arith) (λ a among. subst (λ inc. In a (asked_by inc t.world.low d.outs h.hellos)) (sym incs) among);
     filed = filed_still k g n h P [] t;
     top = topped k g n h P [] t n.filed (λ name among. among) (λ name among. absurd among);
+    fallen = λ down. contrary down;
   })
 
   -- its log starts
@@ -223,6 +224,7 @@ module _ (k : Below) (g : Setting) (n : Net) (h : View g n) (s : ScanState) (i :
       shown = packets_shown g e.world e.later hellos first.outs e.said;
       filed = filed_said g e.world e.later first.outs n.filed e.said (filed_still k g (scans_on n s d) on Q first.outs e);
       top = topped k g (scans_on n s d) on Q first.outs e (log_filed g.log first.outs ++ n.filed) (λ name among. in_right (log_filed g.log first.outs) n.filed name among) (λ name among. in_left (log_filed g.log first.outs) n.filed name among);
+      fallen = λ down. contrary down;
     })
 
     starts : Next g n h (after_told g n s d (Some told) (Some r.map))
@@ -230,11 +232,12 @@ module _ (k : Below) (g : Setting) (n : Net) (h : View g n) (s : ScanState) (i :
       view = started_view;
       steps = steps_through h.w t.world e.world t.steps e.steps;
       by = (let a = by_owner k g n h P [] t in let b = by_owner k g (scans_on n s d) on Q first.outs e in inr (record { generation = b.generation ∙ a.generation; holds = b.holds ∙ a.holds; dropped = b.dropped ∙ a.dropped }));
+      fallen = λ down. contrary down;
     }
 
   pub opens_view : CanStart g n.inc d → Next g n h (after_scan g n s d)
   opens_view can = by (chain_in d.outs) refl (told_read g t.world t.later d.state.opening d.outs t.shows.0.gives) can
     where
       by : (o : Option Told) → chain_in d.outs ≡ o → IfSome o (AllRead g t.world t.later d.state.opening) → IfSome o (StartsWith g n.inc d) → Next g n h (after_told g n s d o d.state.opening.groups)
-      by None at read starts_so = record { view = on; steps = t.steps; by = inr (by_owner k g n h P [] t) }
+      by None at read starts_so = record { view = on; steps = t.steps; by = inr (by_owner k g n h P [] t); fallen = λ down. contrary down }
       by (Some told) at read starts_so = subst (λ groups. Next g n h (after_told g n s d (Some told) groups)) (sym read.is) (starts told read at starts_so)

@@ -1,7 +1,7 @@
 -- An event that leaves the owner as it was keeps the small world seen.
 use Rattle.xfs_base.specs.declared.segment.SegName.{SegName}
 use Rattle.log_law.proofs.Next.{Next}
-use Rattle.std.proofs.Common.{◌≡◌, ℕ, ◌⊎◌, ◌≤◌, List, [], ◌∷◌, ◌++◌, sym, subst, ◌∙◌, inl, inr, arith, ⊎_elim}
+use Rattle.std.proofs.Common.{◌≡◌, ℕ, ◌⊎◌, ◌≤◌, List, [], ◌∷◌, ◌++◌, sym, subst, ◌∙◌, inl, inr, arith, ⊎_elim, refl}
 use Rattle.segment_format.specs.declared.segment.Segment.{Segment}
 use Rattle.log_protocol.specs.State.{State}
 use Rattle.log_protocol.specs.Step.{Steps}
@@ -76,4 +76,4 @@ module _ (k : Below) (g : Setting) (n : Net) (h : View g n) where
   }
 
   pub turned : (m : Net) (u : State) (new : List Packet) → Turn m u new → Next g n h m
-  turned m u new t = record { view = view_after m u new t; steps = t.steps; by = inl (record { owner = t.rests.owner; servers = t.servers }) }
+  turned m u new t = record { view = view_after m u new t; steps = t.steps; by = inl (record { owner = t.rests.owner; servers = t.servers }); fallen = λ down. same g h.w u h.book t.apart (λ o. o.spanning ≡ h.w.spanning) refl }

@@ -11,6 +11,12 @@ use Rattle.log_law.specs.Net.Owner.{Down, Opening, Writing, Serving}
 use Rattle.log_law.specs.Events.{Runs}
 use Rattle.log_law.specs.Events.Runs.{Begun, On}
 
+abbrev pub is_down : Owner → Bool
+is_down Down = true
+is_down (Opening s) = false
+is_down (Writing chain s) = false
+is_down (Serving s) = false
+
 abbrev pub is_writing : Owner → Bool
 is_writing Down = false
 is_writing (Opening s) = false

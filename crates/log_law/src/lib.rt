@@ -6,7 +6,10 @@
 ghost use Rattle.log_law.specs.Laws.{LogsStayWhole, OneNameOneText};
 
 use client_log::laws::{end_rises_by_one, flight_is_next, settles_what_is_due};
-use log_protocol::{all_is_in_order, end_is_head, logs_whole, past_stays, runs_go_on};
+use log_protocol::{
+    all_is_in_order, end_is_head, hurt_is_earned, lacks_between, logs_whole, one_line, past_stays,
+    runs_go_on,
+};
 use log_tie::{log_inputs, opening_inputs, scan_inputs, shelf_deeds};
 
 /// Logs stay whole: at each moment of every run, whatever is lost, and however the owner falls and opens its log again, each member of a filed segment that
@@ -23,7 +26,10 @@ pub fn logs_stay_whole()
     settles_what_is_due();
     all_is_in_order();
     end_is_head();
+    hurt_is_earned();
+    lacks_between();
     logs_whole();
+    one_line();
     runs_go_on();
     past_stays();
 }
@@ -42,7 +48,10 @@ pub fn one_name_one_text()
     settles_what_is_due();
     all_is_in_order();
     end_is_head();
+    hurt_is_earned();
+    lacks_between();
     logs_whole();
+    one_line();
     runs_go_on();
     past_stays();
 }
