@@ -15,3 +15,5 @@ mod OwnerTurns
 mod ScanTurns
 mod Always
 mod Wholeness
+mod Hurting
+mod Followed
