@@ -17,3 +17,4 @@ mod Always
 mod Wholeness
 mod Hurting
 mod Followed
+mod InLine

@@ -1,5 +1,6 @@
 -- What holds of the small world at every moment of every run.
-use Rattle.std.specs.Prelude.{◌≡◌, ℕ, ◌<◌, ◌⊎◌, true, length, Some}
+use Rattle.log_law.specs.Restarts.{IsSureRun}
+use Rattle.std.specs.Prelude.{◌≡◌, ℕ, ◌<◌, ◌⊎◌, true, length, Some, suc, false}
 use Rattle.xfs_base.specs.declared.fragment.Fragment.{Fragment}
 use Rattle.xfs_base.specs.declared.segment.SegName.{SegName}
 use Rattle.segment_format.specs.declared.segment.Segment.{Segment}
@@ -45,3 +46,12 @@ LogsStayWhole = (g : Setting) (n : Net) → g.doubts ≡ true → Moment g n →
 
 abbrev pub OneNameOneText : Type 0
 OneNameOneText = (g : Setting) (n : Net) → g.doubts ≡ true → Moment g n → OneText g n
+
+-- One line of segments: no two filed segments have one number, and above the least horizon each names the pass of the one before it.
+pub record OneLine (g : Setting) (n : Net) : Type 0 where
+  pub no_two : (a b : SegName) → In a n.filed → In b n.filed → a.seq ≡ b.seq → a ≡ b
+  pub linked : (s t : Segment) → In s n.flown → In t n.flown → In s.name n.filed → In t.name n.filed → suc t.name.seq ≡ s.name.seq → n.low < s.name.seq → s.prior.pass ≡ t.name.pass
+
+-- while no restart that ended was doubtful
+abbrev pub LogsStayInLine : Type 0
+LogsStayInLine = (g : Setting) (n : Net) → g.doubts ≡ false → (m : Moment g n) → IsSureRun m.run → OneLine g n

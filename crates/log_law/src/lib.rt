@@ -3,7 +3,7 @@
 //! stands on, and its contract is a law.
 #![tactic(auto)]
 
-ghost use Rattle.log_law.specs.Laws.{LogsStayWhole, OneNameOneText};
+ghost use Rattle.log_law.specs.Laws.{LogsStayInLine, LogsStayWhole, OneNameOneText};
 
 use client_log::laws::{end_rises_by_one, flight_is_next, settles_what_is_due};
 use log_protocol::{
@@ -38,6 +38,30 @@ pub fn logs_stay_whole()
 /// written under that name.
 pub fn one_name_one_text()
     ensures one_text { OneNameOneText }
+{
+    log_inputs();
+    opening_inputs();
+    scan_inputs();
+    shelf_deeds();
+    flight_is_next();
+    end_rises_by_one();
+    settles_what_is_due();
+    all_is_in_order();
+    end_is_head();
+    hurt_is_earned();
+    lacks_between();
+    logs_whole();
+    one_line();
+    runs_go_on();
+    past_stays();
+}
+
+/// One line: while no restart that ended was doubtful, no two filed segments of the log have one number, and each above the least horizon names the pass of
+/// the one before it, through all falls and reopenings, and whichever tails were adopted or discarded. A restart is doubtful where of the newest segment that
+/// was filed before it each member lacked its fragment at some moment of the restart while the segment wasn't dropped, unless the horizon by which the chain
+/// was picked had passed the segment (the 1996 paper, on recovery).
+pub fn logs_stay_in_line()
+    ensures line { LogsStayInLine }
 {
     log_inputs();
     opening_inputs();
