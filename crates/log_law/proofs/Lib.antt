@@ -18,3 +18,4 @@ mod Wholeness
 mod Hurting
 mod Followed
 mod InLine
+mod Steady
