@@ -44,6 +44,7 @@ pub record Seat : Type 0 where
   pub begin_low : ℕ
   pub span_low : ℕ
   pub spanning : ℕ
+  pub served : ℕ
   pub clean : ℕ
   pub line : ℕ → ℕ
   pub head : ℕ
@@ -76,6 +77,7 @@ seat_of w = record {
   begin_low = w.begin_low;
   span_low = w.span_low;
   spanning = w.spanning;
+  served = w.served;
   clean = w.clean;
   line = w.line;
   head = w.head;

@@ -2,6 +2,7 @@ mod Below
 mod Views
 mod Growing
 mod Frames
+mod Steady
 mod Next
 mod Turning
 mod Listing
@@ -18,4 +19,3 @@ mod Wholeness
 mod Hurting
 mod Followed
 mod InLine
-mod Steady
