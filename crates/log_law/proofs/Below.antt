@@ -1,5 +1,5 @@
 -- The laws of the crates below on which the small world stands.
-use Rattle.log_protocol.specs.StepLaws.{HurtEarned}
+use Rattle.log_protocol.specs.StepLaws.{HurtEarned, NamesNew}
 use Rattle.std.proofs.Common.{◌≡◌, ℕ, List}
 use Rattle.std.specs.List.{AllByRecursion}
 use Rattle.xfs_base.specs.declared.segment.End.{End}
@@ -45,6 +45,8 @@ pub record Protocol : Type 0 where
   pub whole : (w : State) → Reached w → laws.LogsWhole w
   pub goes_on : (w u : State) → Reached w → Steps w u → Reached u
   pub line : (w : State) → Reached w → w.clean ≡ 1 → laws.OneLine w
+  pub adopts : (w : State) → Reached w → w.clean ≡ 1 → laws.AdoptsOne w
+  pub new : (w : State) → Reached w → NamesNew w
   pub earned : (w u : State) → Reached w → Step w u → w.clean ≡ 1 → HurtEarned w u
   pub lacks : (w m u : State) → Reached w → Steps w m → Steps m u → LacksBetween w m u
   pub past : (w u : State) → Reached w → Steps w u → PastStays w u

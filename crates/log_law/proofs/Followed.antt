@@ -1,4 +1,5 @@
 -- Along a run of which no restart was doubtful: a member of the newest segment that is hurt lacked its fragment at a moment of the span.
+use Rattle.log_law.proofs.Flights.{FlightKept, now_kept, first_kept}
 use Rattle.log_protocol.specs.Tables.{In}
 use Rattle.log_law.proofs.Always.{keeps}
 use Rattle.log_tie.specs.Seen.{Page, members_of}
@@ -21,7 +22,7 @@ use Rattle.log_law.specs.Net.{Owner, Net}
 use Rattle.log_law.specs.Net.Owner.{Down, Opening, Writing, Serving}
 use Rattle.log_law.specs.Events.{Happens, Runs}
 use Rattle.log_law.specs.Events.Runs.{Begun, On}
-use Rattle.log_law.specs.Restarts.{is_down, spans, in_span, Lacks, LackedInSpan, is_writing, EndsRestart, IsDoubtful, IsSureRun, is_serving}
+use Rattle.log_law.specs.Restarts.{is_down, spans, in_span, Lacks, LackedInSpan, is_writing, EndsRestart, IsDoubtful, IsSureRun, is_serving, last_flight}
 use Rattle.log_law.proofs.Below.{Below}
 use Rattle.log_law.proofs.Views.{OwnerShown, View, PickShown}
 use Rattle.log_law.proofs.Next.{Aside, Alone, Next}
@@ -278,16 +279,18 @@ serving_phase g n h t = by n.owner t h.owner
 pub record Along (k : Below) (g : Setting) (none : g.doubts ≡ false) (first : Net) (serves : is_serving first.owner ≡ true) (n : Net) (run : Runs g first n) : Type 0 where
   pub view : View g n
   pub followed : Followed k g none first serves n run view
+  pub flown : FlightKept g view.w (last_flight run)
 
 pub along : (k : Below) (g : Setting) (none : g.doubts ≡ false) (first : Net) (serves : is_serving first.owner ≡ true) → View g first → (n : Net) (run : Runs g first n) → IsSureRun run → Along k g none first serves n run
 along k g none first serves seen n Begun s = record {
   view = seen;
   followed = record { fallen = λ down some. absurd (not_down first.owner serves down); hurt = λ i span some low member hurt. absurd (let p = serving_phase g first seen serves in let q = span.not_serving in omega arith) };
+  flown = first_kept g k first seen (seen.calm none) serves;
 }
 along k g none first serves seen n (On {m = m} run happens) s = on (along k g none first serves seen m run s.0)
   where
     on : Along k g none first serves m run → Along k g none first serves n (On run happens)
-    on b = record { view = t.view; followed = record { fallen = now_fallen k g none first serves m run b.view b.followed n happens t; hurt = now_hurt k g none first serves m run b.view b.followed n happens t } }
+    on b = record { view = t.view; followed = record { fallen = now_fallen k g none first serves m run b.view b.followed n happens t; hurt = now_hurt k g none first serves m run b.view b.followed n happens t }; flown = now_kept g k m b.view n t (t.view.calm none) (last_flight run) b.flown }
       where
         t : Next g m b.view n
         t = keeps k g m n b.view happens (λ calm restart low. sure k g none first serves m run b.view b.followed n restart (s.1 restart) low)

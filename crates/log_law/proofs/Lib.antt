@@ -17,5 +17,7 @@ mod ScanTurns
 mod Always
 mod Wholeness
 mod Hurting
+mod Flights
 mod Followed
 mod InLine
+mod Adopting

@@ -3,12 +3,12 @@
 //! stands on, and its contract is a law.
 #![tactic(auto)]
 
-ghost use Rattle.log_law.specs.Laws.{LogsStayInLine, LogsStayWhole, OneNameOneText};
+ghost use Rattle.log_law.specs.Laws.{AReopeningAdopts, LogsStayInLine, LogsStayWhole, OneNameOneText};
 
 use client_log::laws::{end_rises_by_one, flight_is_next, settles_what_is_due};
 use log_protocol::{
-    all_is_in_order, end_is_head, hurt_is_earned, lacks_between, logs_whole, one_line, past_stays,
-    runs_go_on,
+    all_is_in_order, end_is_head, hurt_is_earned, lacks_between, logs_whole, names_are_new,
+    one_line, past_stays, runs_go_on, what_reopening_adopts,
 };
 use log_tie::{log_inputs, opening_inputs, scan_inputs, shelf_deeds};
 
@@ -30,6 +30,8 @@ pub fn logs_stay_whole()
     lacks_between();
     logs_whole();
     one_line();
+    what_reopening_adopts();
+    names_are_new();
     runs_go_on();
     past_stays();
 }
@@ -52,6 +54,8 @@ pub fn one_name_one_text()
     lacks_between();
     logs_whole();
     one_line();
+    what_reopening_adopts();
+    names_are_new();
     runs_go_on();
     past_stays();
 }
@@ -76,6 +80,32 @@ pub fn logs_stay_in_line()
     lacks_between();
     logs_whole();
     one_line();
+    what_reopening_adopts();
+    names_are_new();
+    runs_go_on();
+    past_stays();
+}
+
+/// What a reopening adopts: while no restart that ended was doubtful, of what a reopening reads back beyond what was filed, only the flight of the last boot
+/// that served tells anything: a segment of its number and its boot, with its content (the 1996 paper, on recovery).
+pub fn a_reopening_adopts()
+    ensures adopts { AReopeningAdopts }
+{
+    log_inputs();
+    opening_inputs();
+    scan_inputs();
+    shelf_deeds();
+    flight_is_next();
+    end_rises_by_one();
+    settles_what_is_due();
+    all_is_in_order();
+    end_is_head();
+    hurt_is_earned();
+    lacks_between();
+    logs_whole();
+    one_line();
+    what_reopening_adopts();
+    names_are_new();
     runs_go_on();
     past_stays();
 }
