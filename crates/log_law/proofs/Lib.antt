@@ -21,3 +21,4 @@ mod Flights
 mod Followed
 mod InLine
 mod Adopting
+mod Running

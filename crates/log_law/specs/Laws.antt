@@ -75,3 +75,7 @@ IsAdopted g run n t = IsNoFurther n t ⊎ ((g.content t.items ≡ 0) ⊎ ((f : F
 abbrev pub AReopeningAdopts : Type 0
 AReopeningAdopts =
     (g : Setting) (n : Net) → g.doubts ≡ false → (m : Moment g n) → IsSureRun m.run → (chain : List Segment) (s : LogState) → n.owner ≡ Writing chain s → (t : Segment) → In t chain → IsAdopted g m.run n t
+
+-- The laws speak of something: a run files a segment.
+abbrev pub SomeSegmentFiled : Type 0
+SomeSegmentFiled = (g : Setting) × (n : Net) × Moment g n × ((name : SegName) × In name n.filed)

@@ -3,7 +3,7 @@
 //! stands on, and its contract is a law.
 #![tactic(auto)]
 
-ghost use Rattle.log_law.specs.Laws.{AReopeningAdopts, LogsStayInLine, LogsStayWhole, OneNameOneText};
+ghost use Rattle.log_law.specs.Laws.{AReopeningAdopts, LogsStayInLine, LogsStayWhole, OneNameOneText, SomeSegmentFiled};
 
 use client_log::laws::{end_rises_by_one, flight_is_next, settles_what_is_due};
 use log_protocol::{
@@ -109,3 +109,8 @@ pub fn a_reopening_adopts()
     runs_go_on();
     past_stays();
 }
+
+/// The laws speak of something: there is a run, from a setting and a map of groups that exist, in which a segment is written, stored and filed.
+pub fn runs_exist()
+    ensures { SomeSegmentFiled }
+{}
