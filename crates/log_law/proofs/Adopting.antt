@@ -1,4 +1,5 @@
 -- What a reopening adopts: of what it reads back beyond what was filed, only what the last boot that served had in flight tells anything.
+use Rattle.log_law.proofs.Flights.{FlightOf}
 use Rattle.std.proofs.Common.{◌≡◌, ℕ, zero, suc, ◌+◌, ◌-◌, ◌≤◌, ◌<◌, ◌⊎◌, Bool, true, false, nat_lt, List, [], ◌∷◌, length, refl, sym, ap, subst, ◌∙◌, inl, inr, arith, Some}
 use Rattle.std.proofs.lemmas.Bool.Decides.{nat_tests}
 use Rattle.xfs_base.specs.declared.segment.SegName.{SegName}
@@ -96,21 +97,17 @@ module _ (k : Below) (g : Setting) (none : g.doubts ≡ false) (first : Net) (se
           let end_seq : h.w.seq_of h.w.end ≡ g.seq_of h.w.end = ap (λ f. f h.w.end) h.fixed.seq_of in
           let q = seq in (name_of g h.w.end, newest_filed (omega arith), omega arith)
 
+      -- the flight of the last boot that served
+      attempt : FlightOf g h.w (last_flight run) p.number → (f : FlightState) × (last_flight run ≡ Some f) × IsAttemptOf g f t
+      attempt f = (f.flight, f.is, record { seq = ap (λ (z : SegName). z.seq) named ∙ sym f.seq; boot = ap (λ (z : SegName). z.pass.inc) named ∙ sym f.boot; content = sym tells ∙ f.content })
+
       -- beyond it
       beyond : h.w.head < h.w.seq_of p.number → (c : ℕ) → h.w.content_of p.number ≡ c → (g.content t.items ≡ 0) ⊎ ((f : FlightState) × (last_flight run ≡ Some f) × IsAttemptOf g f t)
       beyond more zero none_told = inl (sym tells ∙ none_told)
       beyond more (suc c) told =
           let law = (k.protocol.adopts h.w h.reached clean) (path h.w) as_it_writes.read.lowest (h.w.seq_of p.number) as_it_writes.phase read more p.below (subst (λ y. 0 < h.w.content_of y) (sym p.there) (let c = told in omega arith)) in
           let boot : h.w.incarnation_of p.number ≡ h.w.served = ap h.w.incarnation_of (sym p.there) ∙ law.boot in
-          let f = a.flown p.number p.booked boot law.next in inr (
-            f.flight,
-            f.is,
-            record {
-              seq = ap (λ (z : SegName). z.seq) named ∙ sym f.seq;
-              boot = ap (λ (z : SegName). z.pass.inc) named ∙ sym f.boot;
-              content = sym tells ∙ f.content;
-            },
-          )
+          inr (attempt (a.flown p.number p.booked boot law.next))
 
       by : (b : Bool) → nat_lt h.w.head (h.w.seq_of p.number) ≡ b → IsAdopted g run n t
       by true is = inr (beyond (less (h.w.head) (h.w.seq_of p.number) is) (h.w.content_of p.number) refl)

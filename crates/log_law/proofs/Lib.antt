@@ -15,6 +15,7 @@ mod Picking
 mod OwnerTurns
 mod ScanTurns
 mod Always
+mod Calmer
 mod Wholeness
 mod Hurting
 mod Flights

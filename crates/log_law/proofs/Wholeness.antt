@@ -1,5 +1,6 @@
 -- Logs are whole, and one name has one text: read off how the small world is seen.
-use Rattle.std.proofs.Common.{◌≡◌, ℕ, ◌<◌, ◌⊎◌, true, Option, Some, None, length, sym, ap, subst, ◌∙◌, inl, inr, arith}
+use Rattle.log_law.proofs.Calmer.{doubtful, moment_so}
+use Rattle.std.proofs.Common.{◌≡◌, ℕ, ◌<◌, ◌⊎◌, true, Option, Some, None, length, sym, ap, subst, ◌∙◌, inl, inr, arith, refl}
 use Rattle.xfs_base.specs.declared.fragment.Fragment.{Fragment}
 use Rattle.xfs_base.specs.declared.segment.SegName.{SegName}
 use Rattle.segment_format.specs.declared.segment.Segment.{Segment}
@@ -104,11 +105,15 @@ module _ (k : Below) (g : Setting) (n : Net) (h : View g n) where
           there : (h.w.holds v x ≡ 1) × (h.w.booked x ≡ 1) × (f ≡ fragment_of g (h.book x) (h.w.kept_index v x))
           there = subst (λ o. Kept g (h.book x) o (h.w.booked x) (h.w.holds v x) (h.w.kept_index v x)) (ap (held_at (n.shelves v).held) (sym named) ∙ is) ((h.shelves v).keeps x)
 
-seen : (k : Below) (g : Setting) (n : Net) → g.doubts ≡ true → Moment g n → View g n
-seen k g n doubts m = seen_always k g (opening g m.map) n doubts m.run (begins_seen k g m.map m.whole)
+module _ (k : Below) (g : Setting) (n : Net) (m : Moment g n) where
+  abbrev calmer : Moment (doubtful g) n
+  calmer = moment_so g n m
+
+  seen : View (doubtful g) n
+  seen = seen_always k (doubtful g) (opening (doubtful g) calmer.map) n refl calmer.run (begins_seen k (doubtful g) calmer.map calmer.whole)
 
 pub logs_stay_whole : Below → LogsStayWhole
-logs_stay_whole k g n doubts m = logs_whole k g n (seen k g n doubts m)
+logs_stay_whole k g n m = let l = logs_whole k (doubtful g) n (seen k g n m) in record { flown = l.flown; whole = l.whole }
 
 pub one_name_one_text : Below → OneNameOneText
-one_name_one_text k g n doubts m = one_text k g n (seen k g n doubts m)
+one_name_one_text k g n m = let l = one_text k (doubtful g) n (seen k g n m) in record { one = l.one; held = l.held; stored = l.stored; told = l.told }

@@ -42,12 +42,12 @@ pub record OneText (g : Setting) (n : Net) : Type 0 where
   pub stored : (v generation : ℕ) (f : Fragment) → In (StoreSent v f generation) n.sent → (s : Segment) × In s n.flown × (f ≡ fragment_of g s f.meta.index)
   pub told : (f : Fragment) → In (FragmentSent f) n.sent → (s : Segment) × In s n.flown × (f ≡ fragment_of g s f.meta.index)
 
--- so it is where restarts may be doubtful, too
+-- so it is after doubtful restarts, too
 abbrev pub LogsStayWhole : Type 0
-LogsStayWhole = (g : Setting) (n : Net) → g.doubts ≡ true → Moment g n → LogsWhole g n
+LogsStayWhole = (g : Setting) (n : Net) → Moment g n → LogsWhole g n
 
 abbrev pub OneNameOneText : Type 0
-OneNameOneText = (g : Setting) (n : Net) → g.doubts ≡ true → Moment g n → OneText g n
+OneNameOneText = (g : Setting) (n : Net) → Moment g n → OneText g n
 
 -- One line of segments: no two filed segments have one number, and above the least horizon each names the pass of the one before it.
 pub record OneLine (g : Setting) (n : Net) : Type 0 where
