@@ -1,11 +1,11 @@
 -- What the cleaner has promised of one slot of the map, over each of its events.
-use Rattle.std.proofs.Common.{◌≡◌, ◌⊎◌, ℕ, ◌+◌, ◌==◌, ◌≤◌, ◌<◌, Bool, true, false, cond, ◌&&◌, nat_lt, List, [], ◌∷◌, ◌++◌, length, Option, Some, None, All, inl, inr, refl, sym, ap, subst, ◌∙◌, arith}
+use Rattle.std.proofs.Common.{◌≡◌, ◌⊎◌, ℕ, ◌+◌, ◌==◌, ◌≤◌, ◌<◌, true, cond, ◌&&◌, nat_lt, List, [], ◌∷◌, ◌++◌, length, Option, Some, None, All, inl, inr, refl, sym, ap, subst, ◌∙◌, arith}
 use Rattle.std.specs.List.{AllByRecursion, list_all}
 use Rattle.std.proofs.lemmas.Bool.Decides.{nat_tests}
 use Rattle.std.proofs.lemmas.List.Elements.{All-from_recursion, recursion_from_All}
 use Rattle.log_owner.proofs.Behaving as behaving
 use Rattle.log_owner.proofs.Promising as promising
-use Rattle.log_owner.specs.Behaves.{Behaves, IsOf}
+use Rattle.log_owner.specs.Behaves.{IsOf}
 use Rattle.log_owner.specs.declared.ended.Owner.{Owner}
 use Rattle.log_owner.specs.declared.opened.Opened.{Opened}
 use Rattle.log_owner.specs.declared.opened.Progress.{Progress}
@@ -24,7 +24,7 @@ use Rattle.node_base.specs.Maps.{fits}
 use Rattle.node_base.specs.Nodes.{has_node}
 use Rattle.node_base.specs.Room.{has_room}
 use Rattle.node_base.specs.Shape.{are_from, has_logs, has_slot, is_slot_news, is_well_formed}
-use Rattle.store_nodes.specs.CleanerEvents.{Went_to, crashes, next_life, owner_of, back, after_opening, opened_on, restarts, restarts_in, down_wishes, opening_wishes, serving_wishes, serves_on, begun_life, wish_at, down_at, opening_at, serving_at, on_begin, hears, on_deliver, on_time, happens, phase_room, lasting_of, takes, cleaner_step, cleaner_start}
+use Rattle.store_nodes.specs.CleanerEvents.{Went_to, crashes, next_life, owner_of, back, after_opening, opened_on, restarts, restarts_in, down_wishes, opening_wishes, serving_wishes, serves_on, begun_life, wish_at, down_at, opening_at, serving_at, on_begin, hears, on_deliver, on_time, happens, phase_room, lasting_of, takes, cleaner_step}
 use Rattle.store_nodes.specs.declared.cleaner.Cleaner.{Cleaner}
 use Rattle.store_nodes.specs.declared.cleaner.Phase.{Phase}
 use Rattle.store_nodes.specs.declared.cleaner.Phase.TheVariants.{Down, Opening, Serving as Serves}
@@ -38,7 +38,6 @@ use Rattle.token_client.specs.State.{epoch_of}
 use Rattle.token_law.proofs.Start.{all_ones}
 use Rattle.version_model.specs.declared.answer.Answer.{Answer as AnAnswer}
 use Rattle.version_model.specs.declared.answer.Answer.TheVariants as answer
-use Rattle.version_model.specs.declared.work.Work.{Work}
 use Rattle.wire_msg.specs.declared.body.Body.{Body}
 use Rattle.wire_msg.specs.declared.body.Body.TheVariants as body
 use Rattle.wire_msg.specs.declared.packet.Do.{Do}
@@ -47,15 +46,13 @@ use Rattle.wire_msg.specs.declared.packet.Packet.{Packet}
 use Rattle.xfs_base.proofs.Booleans.{by_test, and_first, and_second}
 use Rattle.xfs_base.specs.declared.news.SlotNews.{SlotNews}
 use Rattle.xfs_base.specs.declared.node.NodeId.TheVariants.{Cleaner as TheCleaner}
-use Rattle.xfs_base.specs.declared.setup.Setup.{Setup}
 use Rattle.xfs_base.specs.Limits.{u32_end}
 use Rattle.xfs_base.specs.Steps.{after, still}
-use Rattle.node_tie.specs.CleanerEvents.{Bounded, CleanerDoes, CleanerGets, CleanerGoes, CleanerOwed, CleanerStands, CleanerStarts, CleanerTakes, IsOpening, OpensLater, OpensSo, ServesSo}
+use Rattle.node_tie.specs.CleanerEvents.{Bounded, CleanerDoes, CleanerGets, CleanerGoes, CleanerOwed, CleanerStands, CleanerStarts, CleanerTakes, OpensLater, OpensSo, ServesSo}
 use Rattle.node_tie.specs.ClientEvents.{AwaitsFirst}
 use Rattle.node_tie.specs.Sight.{CleanerSends}
 use Rattle.node_tie.specs.StoreEvents.{AllSay, Says}
 use Rattle.node_tie.proofs.CleanerEmptying as emptying
-use Rattle.node_tie.proofs.CleanerJob.{JobSends}
 use Rattle.node_tie.proofs.ClientOpening as client_opening
 use Rattle.node_tie.proofs.OpeningSends.{start_does, packet_does, tick_does, cleaner_opening}
 use Rattle.node_tie.proofs.StoreFrames.{all_append, all_weaker, packets_from}

@@ -97,7 +97,7 @@ module _ (k : Cluster) (part : ℕ) (RegistrySound : RegistryNode → Type 0) (n
         s.client c after_node (λ life h. welcome_after part (epoch_now k part s) c s.net (s.client c).phase w.state (members k part) w.outs go m life h)
         (λ d other life h. welcome_frame part (epoch_now k part s) d s.net go.next (go.others d other).0 (s.client d).phase m h) d;
     cleans = omega arith;
-    promises = omega arith;
+    promises = omega (arith, promised);
     cleaner = λ m life h. subst (λ x. CleanerWelcomed part x (epoch_now k part s) s.cleaner.phase m) (sym promised) h;
   }
 

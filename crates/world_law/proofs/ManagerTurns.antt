@@ -131,7 +131,7 @@ module _ (k : Cluster) (part : ℕ) (RegistrySound : RegistryNode → Type 0) (n
     new = λ e less within. absurd (omega arith);
     welcomes = λ c m life h. welcome_frame part (epoch_now k part s) c s.net go.next (tokens_same c) (s.client c).phase m h;
     cleans = omega arith;
-    promises = omega arith;
+    promises = omega (arith, promised);
     cleaner = λ m life h. subst (λ x. CleanerWelcomed part x (epoch_now k part s) s.cleaner.phase m) (sym promised) h;
   }
 
