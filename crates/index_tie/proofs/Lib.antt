@@ -9,6 +9,7 @@ mod Growth
 mod Jobs
 mod JobsStay
 mod Laws
+mod Lines
 mod Registry
 mod Rows
 mod Runs
