@@ -12,6 +12,7 @@ mod Laws
 mod Lines
 mod Registry
 mod Rows
+mod RunExists
 mod Runs
 mod Slots
 mod Tables

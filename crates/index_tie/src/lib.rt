@@ -9,7 +9,7 @@ ghost use Rattle.index_tie.specs.Feeds.{RangesTellWhatIsFiled};
 ghost use Rattle.index_tie.specs.Growth.{ClientsFile, CleanerFiles, SlotsStay, PartsStay, DeltasStay, MoreIsFiled};
 ghost use Rattle.index_tie.specs.Laws.{IndexesAreJoins, PlacesAreExact, DroppedIsOutdated, NewestIsKept};
 ghost use Rattle.index_tie.specs.Lines.{LinesAreFiled, LinesAreLinked, FiledNamesAreEnds, FeedsAreFed, LinesGrow};
-ghost use Rattle.index_tie.specs.NetLaws.{EachIndexIsTheJoin, NewestIsNeverDeleted, ReigningIsOutdated};
+ghost use Rattle.index_tie.specs.NetLaws.{EachIndexIsTheJoin, NewestIsNeverDeleted, ReigningIsOutdated, TakenOver};
 ghost use Rattle.index_tie.specs.Slots.{AppliesAreMerges};
 ghost use Rattle.index_tie.specs.Takeovers.{TakeoversAreActivations};
 
@@ -118,4 +118,9 @@ pub fn cleaning_loses_nothing()
     ensures joins { EachIndexIsTheJoin }
     ensures kept { NewestIsNeverDeleted }
     ensures outdated { ReigningIsOutdated }
+{}
+
+/// The small world has a run in which a checkpoint is kept, the slot is taken over, and its new manager is told of what a client files.
+pub fn a_run_exists()
+    ensures { TakenOver }
 {}
