@@ -1,5 +1,5 @@
 -- A run of the small world that exists: that its laws speak of something.
-use Rattle.std.proofs.Common.{◌≡◌, ℕ, zero, suc, ◌+◌, ◌-◌, ◌<◌, ◌≤◌, nat_lt, Bool, true, false, cond, inl, inr, List, [], ◌∷◌, Option, Some, None, refl, sym, ap, subst, ◌∙◌, arith}
+use Rattle.std.proofs.Common.{◌≡◌, ℕ, suc, ◌-◌, ◌≤◌, nat_lt, cond, inl, [], ◌∷◌, refl, ap, ◌∙◌, arith}
 use Rattle.std.specs.Prelude.{Contains}
 use Rattle.group_map.specs.GroupMapState.{GroupMapState}
 use Rattle.xfs_base.specs.declared.block.BlockId.{BlockId}
@@ -9,7 +9,6 @@ use Rattle.xfs_base.specs.declared.node.NodeId.TheVariants.{Cleaner}
 use Rattle.xfs_base.specs.declared.segment.End.{End}
 use Rattle.xfs_base.specs.declared.segment.LogId.{LogId}
 use Rattle.xfs_base.specs.declared.segment.SegRef.{SegRef}
-use Rattle.xfs_base.specs.Blocks.{slot_of}
 use Rattle.xfs_base.proofs.Booleans.{by_test}
 use Rattle.xfs_base.proofs.Members.{contains_first}
 use Rattle.segment_format.specs.declared.segment.Item.TheVariants.{Delta}
@@ -17,7 +16,6 @@ use Rattle.segment_format.specs.declared.segment.Segment.{Segment}
 use Rattle.segment_format.specs.Rows.{rows_of}
 use Rattle.checkpoint.specs.WriterState.{Rows}
 use Rattle.delta_index.specs.Index.{entry_of}
-use Rattle.delta_index.specs.Join.{join}
 use Rattle.delta_index.proofs.IndexJoin.{index_join}
 use Rattle.takeover.specs.declared.events.In.{In as TakeoverIn}
 use Rattle.takeover.specs.declared.events.In.TheVariants.{Report}
@@ -28,13 +26,10 @@ use Rattle.takeover.specs.Reports.{no_end, end_of, same_node, writer_of}
 use Rattle.takeover.specs.Transition as takeover
 use Rattle.token_manager.specs.declared.input.In.TheVariants.{Deltas}
 use Rattle.token_manager.specs.Index.{Indexed, nothing_indexed, indexed_all}
-use Rattle.token_manager.specs.SlotState.{SlotState}
-use Rattle.token_manager.specs.Transition.{started, entry_at, transition}
-use Rattle.log_protocol.specs.Tables.{put}
-use Rattle.index_tie.specs.Filed.{Filed, row_at, IsSegment}
-use Rattle.index_tie.specs.Growth.{with_segment, said_of}
+use Rattle.token_manager.specs.Transition.{started, transition}
+use Rattle.index_tie.specs.Filed.{IsSegment}
+use Rattle.index_tie.specs.Growth.{with_segment}
 use Rattle.index_tie.specs.Slots.{DeltasTell}
-use Rattle.index_tie.specs.Takeovers.{of_log}
 use Rattle.index_tie.specs.Net.{Net, IsNewer, HasRead, Runs, with_packet, with_slot, opening, ones, zeros}
 use Rattle.index_tie.specs.Net.Packet.{CheckpointDone, CleanerReported}
 use Rattle.index_tie.specs.Net.Happens.{ClientFiles, GetsDeltas, Checkpoints, Keeps, Moves, Activates, Promises, Reports}
