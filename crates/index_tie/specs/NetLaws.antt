@@ -36,8 +36,8 @@ ReigningIsOutdated =
     (part : ℕ) (holds : SegRef → Rows) (n : Net) (b : BlockId) (e : ℕ) (s : SlotState) (place : Place) → Moment part holds n b → n.slots e ≡ Some s → ((d : ℕ) (t : SlotState) → n.slots d ≡ Some t → d ≤ e) → (entry_at s b).place ≡ Some place
     → In place.seg.name n.deleted → is_filed_name n.filed place.seg.name ≡ true → has_block b n.filed place.seg.name ≡ true → IsOutdated b n.filed (entry_at s b)
 
--- A run that exists: a checkpoint of epoch 1 is kept, the slot moves, the cleaner promises and reports, a manager takes the slot over at epoch 2, a client files a
--- version of the block, and the new manager is told of it.
+-- A run that exists: a checkpoint of epoch 1 is kept, the slot moves, the cleaner promises and reports, a manager takes the slot over at epoch 2, a client
+-- files a version of the block, and the new manager is told of it.
 pub record TakenOver : Type 0 where
   pub any : ℕ → ℕ → Segment
   pub holds : SegRef → Rows
