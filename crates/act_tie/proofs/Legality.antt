@@ -12,7 +12,7 @@ use Rattle.version_model.specs.declared.history.Version.{Version}
 use Rattle.version_model.specs.declared.history.BlockHistory.{BlockHistory}
 use Rattle.version_model.specs.declared.history.FallTold.{FallTold}
 use Rattle.version_model.specs.History.{Content, History, content_at, is_by_other, greatest_by, nothing_yet}
-use Rattle.version_model.specs.Effects.{change, append, pin, after, history_after}
+use Rattle.version_model.specs.Effects.{change, append, pin, after_act, history_after}
 use Rattle.version_model.specs.Legal.{IsNewestBy, MayFall, IsLegalIn, AreLegal, AreLegalFrom}
 use Rattle.token_protocol.specs.Acts as block
 use Rattle.token_protocol.specs.Acts.Act.{Wrote as WroteBlock, Read as ReadBlock, Synced as SyncedBlock, Fell as FellBlock, Back as BackBlock}
@@ -87,7 +87,7 @@ legal_here (Answered node item answer) h told s apart legal = tt
 
 -- ---- each act keeps histories seen
 
-act_shown : (a : Act) (h : History) (told : BlockId → List block.Act) → AllShown h told → IsApart a h → AllLegal a h told → AllShown (after a h) (λ b. told_with b h a (told b))
+act_shown : (a : Act) (h : History) (told : BlockId → List block.Act) → AllShown h told → IsApart a h → AllLegal a h told → AllShown (after_act a h) (λ b. told_with b h a (told b))
 act_shown (Wrote client q value) h told s apart legal b = go (same_block q b)
   where
     go : (y : Bool) → BlockShown b (if y then append (record { content = value; writer = client }) (h.of_block b) else h.of_block b) h.told
@@ -154,7 +154,7 @@ legal_before b h (Answered node item answer) told legal = legal
 
 legal_first : (b : BlockId) (h : History) (told : List block.Act) (acts : List Act) → block.LegalActs (told_from b h told acts) → block.LegalActs told
 legal_first b h told [] legal = legal
-legal_first b h told (a ∷ acts) legal = legal_before b h a told (legal_first b (after a h) (told_with b h a told) acts legal)
+legal_first b h told (a ∷ acts) legal = legal_before b h a told (legal_first b (after_act a h) (told_with b h a told) acts legal)
 
 -- what a list of acts leaves of this history
 record Leaves (h : History) (told : BlockId → List block.Act) (acts : List Act) : Type 0 where
@@ -164,8 +164,8 @@ record Leaves (h : History) (told : BlockId → List block.Act) (acts : List Act
 leaves : (acts : List Act) (h : History) (told : BlockId → List block.Act) → AllShown h told → AreApartFrom h acts → ((b : BlockId) → block.LegalActs (told_from b h (told b) acts)) → Leaves h told acts
 leaves [] h told s apart legal = record { legal = tt; shown = s }
 leaves (a ∷ acts) h told s apart legal =
-    let now : AllLegal a h told = λ b. legal_first b (after a h) (told_with b h a (told b)) acts (legal b) in
-    let rest = leaves acts (after a h) (λ b. told_with b h a (told b)) (act_shown a h told s apart.0 now) apart.1 legal in
+    let now : AllLegal a h told = λ b. legal_first b (after_act a h) (told_with b h a (told b)) acts (legal b) in
+    let rest = leaves acts (after_act a h) (λ b. told_with b h a (told b)) (act_shown a h told s apart.0 now) apart.1 legal in
     record { legal = (legal_here a h told s apart.0 now, rest.legal); shown = rest.shown }
 
 begun : AllShown nothing_yet (λ b. [])

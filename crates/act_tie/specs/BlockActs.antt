@@ -8,7 +8,7 @@ use Rattle.version_model.specs.declared.act.Act.TheVariants.{Wrote, Read, Synced
 use Rattle.version_model.specs.declared.act.Fall.{Fall}
 use Rattle.version_model.specs.declared.history.FallTold.{FallTold}
 use Rattle.version_model.specs.History.{History, greatest_by, nothing_yet}
-use Rattle.version_model.specs.Effects.{after, holds_flight}
+use Rattle.version_model.specs.Effects.{after_act, holds_flight}
 use Rattle.token_protocol.specs.Acts as block
 use Rattle.token_protocol.specs.Acts.Act.{Wrote as WroteBlock, Read as ReadBlock, Synced as SyncedBlock, Fell as FellBlock, Back as BackBlock}
 use Rattle.act_tie.specs.Number.{number}
@@ -45,7 +45,7 @@ told_with b h (Answered node item answer) told = told
 
 abbrev pub told_from : BlockId → History → List block.Act → List Act → List block.Act
 told_from b h told [] = told
-told_from b h told (a ∷ acts) = told_from b (after a h) (told_with b h a told) acts
+told_from b h told (a ∷ acts) = told_from b (after_act a h) (told_with b h a told) acts
 
 -- The acts of the block.
 abbrev pub acts_of : BlockId → List Act → List block.Act

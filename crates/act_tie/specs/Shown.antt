@@ -8,7 +8,7 @@ use Rattle.version_model.specs.declared.history.Version.{Version}
 use Rattle.version_model.specs.declared.history.BlockHistory.{BlockHistory}
 use Rattle.version_model.specs.declared.history.FallTold.{FallTold}
 use Rattle.version_model.specs.History.{History, nothing_yet}
-use Rattle.version_model.specs.Effects.{after}
+use Rattle.version_model.specs.Effects.{after_act}
 use Rattle.version_model.specs.Legal.{NamesNoBlockTwice}
 use Rattle.token_protocol.specs.Acts as block
 use Rattle.act_tie.specs.BlockActs.{fall_of}
@@ -28,7 +28,7 @@ IsApart (Answered node item answer) h = Unit {0}
 
 abbrev pub AreApartFrom : History → List Act → Type 0
 AreApartFrom h [] = Unit {0}
-AreApartFrom h (a ∷ acts) = IsApart a h × AreApartFrom (after a h) acts
+AreApartFrom h (a ∷ acts) = IsApart a h × AreApartFrom (after_act a h) acts
 
 abbrev pub FallsApart : List Act → Type 0
 FallsApart acts = AreApartFrom nothing_yet acts

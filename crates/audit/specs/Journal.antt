@@ -1,5 +1,5 @@
 -- A journal: its acts, line by line, or its first bad line.
-use Rattle.std.specs.Prelude.{◌≡◌, ℕ, ◌+◌, ◌==◌, Bool, true, false, ◌&&◌, ◌||◌, nat_lt, List, [], ◌∷◌, ◌++◌, length, slice_get, Option, Some, None, Result, Ok, Err, if◌then◌else◌, ⊤}
+use Rattle.std.specs.Prelude.{◌≡◌, ℕ, ◌+◌, ◌==◌, Bool, true, false, ◌&&◌, ◌||◌, nat_lt, List, [], ◌∷◌, ◌++◌, length, slice_get, Option, Some, None, Result, Ok, Err, if◌then◌else◌}
 use Rattle.script_text.specs.declared.refusal.Kind.{Kind}
 use Rattle.script_text.specs.declared.refusal.Kind.TheVariants.{TooLong}
 use Rattle.script_text.specs.declared.refusal.ScriptError.{ScriptError}
@@ -61,7 +61,7 @@ read_journal bytes = journal_from (length bytes) 0 1 (lines bytes) (record { act
 -- a fault is the first bad line
 abbrev pub IsBad : ScriptError → Result Journal BadLine → Type 0
 IsBad (errors.Bad number kind) read = read ≡ Err (record { line = number; kind = kind })
-IsBad errors.Memory read = ⊤
+IsBad errors.Memory read = Unit {0}
 
 -- what is answered is the journal or its first bad line, unless memory runs out
 abbrev pub AnswersJournal : Result Journal ScriptError → Result Journal BadLine → Type 0

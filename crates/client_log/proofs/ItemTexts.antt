@@ -12,7 +12,7 @@ use Rattle.xfs_base.specs.Limits.{segment_blocks}
 use Rattle.xfs_base.proofs.BlockOrder.{same_block_exact}
 use Rattle.segment_format.specs.declared.segment.Item.{Item}
 use Rattle.segment_format.specs.declared.segment.Item.TheVariants.{Block, Delta, Part}
-use Rattle.segment_format.specs.Format.{most, second_version, longest, is_within, IsWithin, is_row_count}
+use Rattle.segment_format.specs.Format.{most_items, second_version, longest, is_within, IsWithin, is_row_count}
 use Rattle.segment_format.specs.Rule.{KeepsRule, no_item, deltas_in, others_in}
 use Rattle.segment_format.specs.Text.{IsItem, IsRow}
 use Rattle.client_log.specs.declared.dirty.Change.{Change}
@@ -149,14 +149,14 @@ rules (Part slot rows ∷ is) = (λ n h. (rules is).0 (n + 1) h, λ block n h. f
 pub tested_have_text : (is : List Item) → has_text is ≡ true → HasText is
 tested_have_text is h =
     let all : Bool = list_all is_item is in
-    let others : Bool = nat_le (others_in is) most in
-    let deltas : Bool = nat_le (deltas_in is) most in
+    let others : Bool = nat_le (others_in is) most_items in
+    let deltas : Bool = nat_le (deltas_in is) most_items in
     let rule : Bool = keeps_rule None 0 is in
     let rest : (others && (deltas && rule)) ≡ true = both_right all (others && (deltas && rule)) h in
     let few : (deltas && rule) ≡ true = both_right others (deltas && rule) rest in
     record {
       each = all_items is (both_left all (others && (deltas && rule)) h);
-      others = le_of (others_in is) most (both_left others (deltas && rule) rest);
-      deltas = le_of (deltas_in is) most (both_left deltas rule few);
+      others = le_of (others_in is) most_items (both_left others (deltas && rule) rest);
+      deltas = le_of (deltas_in is) most_items (both_left deltas rule few);
       rule = (rules is).0 0 (both_right deltas rule few);
     }

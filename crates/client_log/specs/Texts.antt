@@ -6,15 +6,15 @@ use Rattle.xfs_base.specs.declared.entry.Place.{Place}
 use Rattle.xfs_base.specs.Blocks.{same_block}
 use Rattle.segment_format.specs.declared.segment.Item.{Item}
 use Rattle.segment_format.specs.declared.segment.Item.TheVariants.{Block, Delta, Part}
-use Rattle.segment_format.specs.Format.{most, second_version, is_log, is_length, is_row_count}
+use Rattle.segment_format.specs.Format.{most_items, second_version, is_log, is_length, is_row_count}
 use Rattle.segment_format.specs.Rule.{KeepsRule, no_item, deltas_in, others_in}
 use Rattle.segment_format.specs.Text.{IsItem}
 
 -- the limits and the rule on Deltas, as segment_format has them, of the items alone
 pub record HasText (items : List Item) : Type 0 where
   pub each : AllByRecursion (IsItem second_version) items
-  pub others : others_in items ≤ most
-  pub deltas : deltas_in items ≤ most
+  pub others : others_in items ≤ most_items
+  pub deltas : deltas_in items ≤ most_items
   pub rule : KeepsRule None 0 items
 
 -- ---- the same as a test
@@ -54,4 +54,4 @@ keeps_rule awaited number [] = is_none awaited
 keeps_rule awaited number (i ∷ is) = may_come awaited number i && keeps_rule (awaited_after i) (number + 1) is
 
 abbrev pub has_text : List Item → Bool
-has_text items = list_all is_item items && (nat_le (others_in items) most && (nat_le (deltas_in items) most && keeps_rule None 0 items))
+has_text items = list_all is_item items && (nat_le (others_in items) most_items && (nat_le (deltas_in items) most_items && keeps_rule None 0 items))

@@ -33,7 +33,7 @@ going_by p (Step step) = On (call_for (File p) step)
 going_by p (Reply answer) = Ends answer
 
 abbrev pub going : PlanState → Going
-going p = going_by p (plan.next p)
+going p = going_by p (plan.next_call p)
 
 -- the answer of a call that is one call on blocks
 abbrev pub answer_of : BlockAnswer → Answer
@@ -45,7 +45,7 @@ answer_of answer.Synced = Finished
 -- where a call stands once its call on blocks is answered
 abbrev pub after_answer : Plan → BlockAnswer → Going
 after_answer One a = Ends (answer_of a)
-after_answer (File p) a = going (plan.after p a)
+after_answer (File p) a = going (plan.after_answer p a)
 
 -- neither an item nor a client has a greater number
 abbrev pub may_make : ℕ → ℕ → Bool

@@ -154,8 +154,13 @@ fn open(alloc: Global, effects: &mut Effects, serving: Serving, number: u32) -> 
     ensures effects { OnOk result (effects.new ≡ effects.old ++ (opens serving number).outs) }
 {
     let mut serving = serving;
-    serving.open(alloc, effects, number)?;
-    Ok(Phase::Serving(serving))
+    match serving.open(alloc, effects, number) {
+        Ok(()) => Ok(Phase::Serving(serving)),
+        Err(error) => {
+            drop(serving);
+            Err(error)
+        }
+    }
 }
 
 // A client that serves crashes: what it may lose is acted.
@@ -163,9 +168,13 @@ fn crash_serving(alloc: Global, effects: &mut Effects, serving: Serving, number:
     ensures phase { IfOk result (λ phase. phase ≡ (serving_crashes serving number).state) }
     ensures effects { OnOk result (effects.new ≡ effects.old ++ (serving_crashes serving number).outs) }
 {
-    serving.fall(alloc, effects)?;
-    let lasting = what_outlives(serving);
-    crash(effects, lasting, number)
+    match serving.fall(alloc, effects) {
+        Ok(()) => crash(effects, what_outlives(serving), number),
+        Err(error) => {
+            drop(serving);
+            Err(error)
+        }
+    }
 }
 
 // All else is lost.

@@ -34,8 +34,13 @@ impl Actor for Client {
         let node = NodeId::Client(self.phase.lasting().number);
         let mut effects = Effects::new(alloc);
         let client = self.takes(alloc, &mut effects, what)?;
-        let (packets, acts) = effects.into_parts(alloc, node)?;
-        Ok((client, packets, acts))
+        match effects.into_parts(alloc, node) {
+            Ok((packets, acts)) => Ok((client, packets, acts)),
+            Err(error) => {
+                drop(client);
+                Err(error)
+            }
+        }
     }
 
     ghost no_clock = { client_sends_clock_0 };

@@ -1,6 +1,11 @@
 //! A client whose log is open again.
-ghost use Rattle.std.specs.Prelude.{◌≡◌, ◌++◌, IfOk, OnOk};
+ghost use Rattle.std.specs.Prelude.{◌≡◌, ◌++◌, ◌∷◌, IfOk, OnOk};
 ghost use Rattle.client_node.specs.Phases.{after_opening, back};
+ghost use Rattle.log_owner.specs.Sending.{pushes_all};
+ghost use Rattle.node_base.specs.Beginning.{answered, answers_unanswered};
+ghost use Rattle.node_base.specs.declared.effects.Effect.TheVariants.{Does};
+ghost use Rattle.version_model.specs.declared.act.Act.TheVariants.{Back};
+ghost use Rattle.version_model.specs.declared.answer.Answer.TheVariants as answer;
 
 use crate::{Lasting, Phase, Serving};
 use log_owner::sending::push_all;
@@ -8,7 +13,7 @@ use log_owner::{Opened, Progress};
 use node_base::Effects;
 use std::alloc::Global;
 use version_model::{Act, Answer};
-use xfs_base::Mem;
+use xfs_base::{List, Mem, SegName};
 
 /// The phase after an event of an opening.
 pub(crate) fn after(
@@ -50,12 +55,30 @@ fn back(
         feed,
         chain,
     } = opened;
+    let mut serving = Serving::back(alloc, lasting, cache, maps, promised, log, feed)?;
+    match say_back(alloc, effects, &mut serving, chain) {
+        Ok(()) => Ok(Phase::Serving(serving)),
+        Err(error) => {
+            drop(serving);
+            Err(error)
+        }
+    }
+}
+
+// That the client is back is acted, all slots are told of its log, and the restart is answered.
+fn say_back(
+    alloc: Global,
+    effects: &mut Effects,
+    serving: &mut Serving,
+    chain: List<SegName>,
+) -> Mem<()>
+    ensures serving { OnOk result (serving.new ≡ record serving.old { lasting = record serving.old.lasting { items = answered serving.old.lasting.items } }) }
+    ensures effects { OnOk result (effects.new ≡ effects.old ++ (Does (Back serving.old.lasting.number chain) ∷ (pushes_all serving.old.managers serving.old.feed ++ answers_unanswered serving.old.lasting.items.unanswered answer.Done))) }
+{
     effects.act(Act::Back {
-        client: lasting.number,
+        client: serving.lasting.number,
         chain,
     })?;
-    let mut serving = Serving::back(alloc, lasting, cache, maps, promised, log, feed)?;
     push_all(alloc, effects, &mut serving.feed, serving.managers)?;
-    serving.lasting.answer(effects, Answer::Done)?;
-    Ok(Phase::Serving(serving))
+    serving.lasting.answer(effects, Answer::Done)
 }

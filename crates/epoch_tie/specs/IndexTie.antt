@@ -21,7 +21,8 @@ pub record IndexTied (e : World) (a : IndexState) : Type 0 where
 
 -- At the start they are tied, once the first manager has become active at epoch 1 with nothing applied.
 abbrev pub IndexStarts : Type 0
-IndexStarts = (n first cleaner : ℕ) → IndexTied (start n first) (indexing.activates (new_block cleaner) 1 (λ l. 0) (record { version = 0; hop = 0; log = 0; seq = 0 }))
+IndexStarts =
+    (n first cleaner : ℕ) → IndexTied (start n first) (indexing.activates (new_block cleaner) 1 (λ l. 0) (record { version = 0; hop = 0; log = 0; seq = 0 }))
 
 -- An activation is at an epoch that has begun, at which nobody was active, and which the cleaner has promised.
 pub record MayBecomeActive (a : IndexState) (epoch : ℕ) : Type 0 where
@@ -43,7 +44,8 @@ MoveIndexed = (e : World) (a : IndexState) (m : ℕ) → IndexTied e a → Index
 
 -- Who is active now, or was when it sent a checkpoint or answered a Check, is active there in the index at every later moment.
 abbrev pub KnownIndexed : Type 0
-KnownIndexed = (n first : ℕ) (e v : World) (a : IndexState) (m : ℕ) → Steps (start n first) e → Steps e v → Active e m → IndexTied v a → a.active (e.manager m).epoch ≡ 1
+KnownIndexed =
+    (n first : ℕ) (e v : World) (a : IndexState) (m : ℕ) → Steps (start n first) e → Steps e v → Active e m → IndexTied v a → a.active (e.manager m).epoch ≡ 1
 
 -- The cleaner promises an epoch that is no lower: of a Poll, of a MapNews, of a Welcome, and of the Welcome with which it serves again.
 abbrev pub PollIndexed : Type 0

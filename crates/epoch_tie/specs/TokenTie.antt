@@ -47,7 +47,9 @@ ReportTied = (e : epochs.World) (t : tokens.World) (c end : ℕ) → TokensTied 
 
 -- A fall of a serving member, with the block clean or dirty.
 abbrev pub CrashTied : Type 0
-CrashTied = (e : epochs.World) (t : tokens.World) (c : ℕ) → TokensTied e t → TokensTied (crashes e c) (crashing.crashes_clean t c) × TokensTied (crashes e c) (crashing.crashes_dirty t c)
+CrashTied =
+    (e : epochs.World) (t : tokens.World) (c : ℕ) → TokensTied e t
+    → TokensTied (crashes e c) (crashing.crashes_clean t c) × TokensTied (crashes e c) (crashing.crashes_dirty t c)
 
 -- The begin of a restart is no step of tokens.
 abbrev pub RestartTied : Type 0
@@ -55,7 +57,8 @@ RestartTied = (e : epochs.World) (t : tokens.World) (c : ℕ) → TokensTied e t
 
 -- The end of a restart meets the token protocol's guard, but for the incarnation, of which the log speaks.
 abbrev pub ServeTied : Type 0
-ServeTied = (n first : ℕ) (e : epochs.World) (t : tokens.World) (c incarnation : ℕ) → Steps (epochs.start n first) e → TokensTied e t → c < e.members → MayServe e c
+ServeTied =
+    (n first : ℕ) (e : epochs.World) (t : tokens.World) (c incarnation : ℕ) → Steps (epochs.start n first) e → TokensTied e t → c < e.members → MayServe e c
     → (t.client c).incarnation < incarnation
     → crashing.MayRestart t c incarnation (e.member c).welcome
     × TokensTied (serves e c) (crashing.restarts_adopting t c incarnation (e.member c).welcome)

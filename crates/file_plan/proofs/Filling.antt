@@ -12,7 +12,7 @@ use Rattle.file_plan.specs.declared.node.Node.{Node}
 use Rattle.file_plan.specs.Names.{Name, Row, is_directory, bucket_number}
 use Rattle.file_plan.specs.Format.{bytes_in, content_of, overlaid, size_content, read_size, file_end}
 use Rattle.file_plan.specs.Calls.{size_block, block_size}
-use Rattle.file_plan.specs.Plan.{start, after, looked_at, filling, end_of, blocks_of, made_by}
+use Rattle.file_plan.specs.Plan.{start, after_answer, looked_at, filling, end_of, blocks_of, made_by}
 use Rattle.file_plan.specs.declared.state.PlanState.TheVariants.{Ends, Measures, Fills, Takes, Patches, Grows}
 use Rattle.file_plan.specs.declared.state.Job.TheVariants.{Puts}
 use Rattle.file_plan.specs.declared.state.Task.TheVariants.{Raises}
@@ -75,7 +75,7 @@ module _ (file : Ino) (end : ℕ) (Q : Post) (m : ℕ) where
       let zero_first : 0 < block_size = omega arith in
       let r : 0 + length (drop (block_size - low) bytes) ≤ block_size * n = omega (arith, e, within, first) in
       let s : blk + 1 + n ≤ size_block = omega (arith, room) in
-      written_at w file blk (w.ver file blk) value (λ a v. Comes (twice n m) (after (Patches file blk low bytes end (w.ver file blk) old) a) v Q) refl
+      written_at w file blk (w.ver file blk) value (λ a v. Comes (twice n m) (after_answer (Patches file blk low bytes end (w.ver file blk) old) a) v Q) refl
       (more (blk + 1) 0 (drop (block_size - low) bytes) (write w file blk value) zero_first r s
       (λ v f. q v (filled_more file blk low first data' bytes some w.value value (laid_over old low (take (block_size - low) bytes)) v.value f)))
 
@@ -187,7 +187,7 @@ module _ (kinds : Ino → Option Kind) (w : World) (sound : Sound kinds w.value)
             bound = fits;
             blocks = λ b n. subst (IsBlock end b) (sym (put_beside v.value file size_block (size_content end) file b n)) (filled.blocks end (λ _. omega arith) b n (raised size end b (w.value file b) (omega (arith, le)) (is.blocks b n)));
           } in
-          written_at v file size_block (v.ver file size_block) (size_content end) (λ a x. Comes 0 (after (Grows file end (v.ver file size_block)) a) x Q) refl
+          written_at v file size_block (v.ver file size_block) (size_content end) (λ a x. Comes 0 (after_answer (Grows file end (v.ver file size_block)) a) x Q) refl
           (put_meets_tree (overlaid ((tree_of w.value).bytes file) offset new) u end (λ i b h. put_other v.value file size_block (size_content end) i b h ∙ filled.others i b h) now
           (bytes_over w.value v.value u file size end offset new is filled now (λ b n. put_beside v.value file size_block (size_content end) file b n) (omega (arith, le))))
 

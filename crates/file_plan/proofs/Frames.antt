@@ -130,7 +130,7 @@ module _ (kinds : Ino → Option Kind) (t : Table) (sound : Sound kinds t) (dir 
 
   pub sound_now : Sound kinds with_rows
   sound_now = record {
-    top = sound.top;
+    root_is_directory = sound.root_is_directory;
     directories = λ d k i small. bucket_of d k i small (ino_cases d dir) (eq_cases k bucket);
     files = λ file k. let f = sound.files file k in (f.0, file_same t with_rows file f.0 (file_beside file (Some kind.File) k file_directory) f.1);
   }
@@ -225,7 +225,7 @@ no_file t file none = record {
 
 pub sound_kept : (kinds : Ino → Option Kind) (t : Table) (ino : Ino) (made : Kind) → Sound kinds t → IsFresh kinds t ino → Sound (kept_as kinds ino made) t
 sound_kept kinds t ino made sound fresh = record {
-  top = kept_else kinds ino made root (apart_kinds kinds root ino (Some kind.Directory) None sound.top fresh.nobody (some_nobody kind.Directory)) ∙ sound.top;
+  root_is_directory = kept_else kinds ino made root (apart_kinds kinds root ino (Some kind.Directory) None sound.root_is_directory fresh.nobody (some_nobody kind.Directory)) ∙ sound.root_is_directory;
   directories = λ d k i small. directory d k i small (ino_cases d ino);
   files = λ f i. file f i (ino_cases f ino);
 }

@@ -48,7 +48,7 @@ few_steps (call.Mv from to) h = omega (arith, h.0, h.1)
 
 nothing_sound : Sound root_alone nothing_written.value
 nothing_sound = record {
-  top = refl;
+  root_is_directory = refl;
   directories = λ dir bucket is small. ([], record { text = refl; rising = refl; each = tt });
   files = λ file is. (0, no_file nothing_written.value file (λ blk. refl));
 }

@@ -30,7 +30,7 @@ use Rattle.file_plan.specs.declared.state.Task.TheVariants.{Tells, Cuts, Raises,
 use Rattle.file_plan.specs.Calls.{root, block_size}
 use Rattle.file_plan.specs.Names.{Name, Row, name_cmp, same_node, is_directory, named, names_are_good}
 use Rattle.file_plan.specs.Format.{bytes_in, content_of, cut_of, rows_text, name_length, front_row, has_row, rest_of_rows, with_row, rows_from, in_order, read_rows, size_in, file_end}
-use Rattle.file_plan.specs.Plan.{walking, walking_path, walked_to, walked, filling, fetching, in_block, emptying, blocks_of, measured, gathering, insert_all, gathered, fits, entering, leaving, putting, end_of, needs_file, at_entry, unfound, looked_at, looked, entered, on_got, on_written, on_changed, on_synced, after, start_named, start}
+use Rattle.file_plan.specs.Plan.{walking, walking_path, walked_to, walked, filling, fetching, in_block, emptying, blocks_of, measured, gathering, insert_all, gathered, fits, entering, leaving, putting, end_of, needs_file, at_entry, unfound, looked_at, looked, entered, on_got, on_written, on_changed, on_synced, after_answer, start_named, start}
 use Rattle.file_plan.specs.Ranges.{IsInRange, IsAnswer}
 use Rattle.file_plan.proofs.Parsing.{row_length}
 use Rattle.file_plan.proofs.RowPlaces.{without_shorter}
@@ -314,7 +314,7 @@ in_synced (Empties ino blk left v) h = h
 in_synced (Closes ino v) h = tt
 in_synced (Gathers dir blk left rows) h = h
 
-pub in_after : (s : PlanState) (a : BlockAnswer) → IsAnswer a → IsInRange s → IsInRange (after s a)
+pub in_after : (s : PlanState) (a : BlockAnswer) → IsAnswer a → IsInRange s → IsInRange (after_answer s a)
 in_after s (Got ver value) is h = in_got s ver value is h
 in_after s (Written ver) is h = in_written s h
 in_after s Changed is h = in_changed s h

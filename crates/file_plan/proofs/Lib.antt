@@ -9,12 +9,14 @@ pub mod Listing
 pub mod Machine
 pub mod Making
 pub mod Measuring
+pub mod MoveOrder
 pub mod Moving
 pub mod Overlays
 pub mod Parsing
+pub mod RemovalOrder
 pub mod Removing
 pub mod Rewriting
 pub mod RowPlaces
 pub mod Versions
 pub mod Walks
-pub mod Writes
+pub mod WritesKept

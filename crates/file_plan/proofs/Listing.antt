@@ -140,7 +140,7 @@ module _ (kinds later : Ino → Option Kind) (w : World) (sound : Sound kinds w.
   list_found dir name rows ver (Some node) entry = list_node name node (is_directory node) refl entry
 
   lists : (path : List Name) → list_all is_good path ≡ true → Comes (length path + 8) (listing path) w (Owes later w.value (does_list (tree_of w.value) path))
-  lists [] good = gathers_all root sound.top
+  lists [] good = gathers_all root sound.root_is_directory
   lists (name ∷ rest) good =
       by_path kinds later w sound after Lists 8 IsDir (λ dir last. shown_of (tree_of w.value) ((tree_of w.value).entries dir last)) (λ dir last is _.
       looks kinds later w sound after Lists 8 (shown_of (tree_of w.value)) dir last is (λ rows bucket o e entry. list_found dir last rows (w.ver dir (bucket_number last)) o entry))

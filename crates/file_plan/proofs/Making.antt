@@ -10,7 +10,7 @@ use Rattle.file_plan.specs.declared.node.Node.{Node}
 use Rattle.file_plan.specs.Names.{Name, Row, name_cmp, is_good, bucket_number, named}
 use Rattle.file_plan.specs.Format.{content_of, rows_text}
 use Rattle.file_plan.specs.declared.state.Job.{Job}
-use Rattle.file_plan.specs.Plan.{start, after, looked_at, walking_path, entered, fits, made_by}
+use Rattle.file_plan.specs.Plan.{start, after_answer, looked_at, walking_path, entered, fits, made_by}
 use Rattle.file_plan.specs.declared.state.PlanState.TheVariants.{Ends, Enters}
 use Rattle.file_plan.specs.declared.state.Job.TheVariants.{Makes}
 use Rattle.file_plan.specs.Tree.{tree_of, IsEntry, IsBucket, Sound, answered, refused, at_path, entered_as, does_make, with_entry, Meets, kept_as}
@@ -27,7 +27,7 @@ use Rattle.file_plan.specs.declared.node.Kind.TheVariants as kind
 pub enters : (w : World) (dir : Ino) (name : Name) (ver : ℕ) (rows : List Row) (ino : Ino) (job : Job) (n : ℕ) (Q : Post) → w.ver dir (bucket_number name) ≡ ver
     → Comes n (entered job ino) (write w dir (bucket_number name) (content_of (rows_text rows))) Q → Comes (suc n) (Enters dir name ver rows ino job) w Q
 enters w dir name ver rows ino job n Q same h =
-    written_at w dir (bucket_number name) ver (content_of (rows_text rows)) (λ a v. Comes n (after (Enters dir name ver rows ino job) a) v Q) same h
+    written_at w dir (bucket_number name) ver (content_of (rows_text rows)) (λ a v. Comes n (after_answer (Enters dir name ver rows ino job) a) v Q) same h
 
 module _ (kinds : Ino → Option Kind) (w : World) (sound : Sound kinds w.value) where
   -- the table with an entry more holds the tree with it

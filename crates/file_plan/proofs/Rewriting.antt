@@ -16,7 +16,7 @@ module _ (kinds : Ino → Option Kind) (t : Table) (sound : Sound kinds t) (file
 
   pub sound_file : (size : ℕ) → IsFile u file size → Sound kinds u
   sound_file size now = record {
-    top = sound.top;
+    root_is_directory = sound.root_is_directory;
     directories = λ d k i small. let old = sound.directories d k i small in (old.0, subst (λ (v : Content). IsBucket kinds k v old.0) (sym (elsewhere d (Some kind.Directory) i directory_file k)) old.1);
     files = λ f i. by f i (ino_cases f file);
   }

@@ -23,7 +23,7 @@ use Rattle.file_plan.specs.declared.state.PlanState.{PlanState}
 use Rattle.file_plan.specs.declared.state.Job.{Job}
 use Rattle.file_plan.specs.declared.state.Task.{Task}
 use Rattle.file_plan.specs.Names.{same_node}
-use Rattle.file_plan.specs.Plan.{walking, walking_path, walked_to, walked, filling, fetching, emptying, blocks_of, measured, gathering, insert_all, gathered, fits, entering, leaving, end_of, putting, needs_file, at_entry, found, unfound, looked_at, looked, entered, on_got, on_written, on_changed, on_synced, after, next, start_named, start, after_all, plan, made_by}
+use Rattle.file_plan.specs.Plan.{walking, walking_path, walked_to, walked, filling, fetching, emptying, blocks_of, measured, gathering, insert_all, gathered, fits, entering, leaving, end_of, putting, needs_file, at_entry, found, unfound, looked_at, looked, entered, on_got, on_written, on_changed, on_synced, after_answer, next_call, start_named, start, after_all, plan, made_by}
 use Rattle.file_plan.specs.declared.state.PlanState.TheVariants.{Ends, Walks, Looks, Enters, Syncs, Measures, Fetches, Fills, Takes, Patches, Grows, Empties, Closes, Gathers}
 use Rattle.file_plan.specs.declared.state.Job.TheVariants.{Makes, Puts, Gets, Sizes, Lists, Removes, Moves, Links, Unlinks}
 use Rattle.file_plan.specs.declared.state.Task.TheVariants.{Tells, Cuts, Raises, Clears}
@@ -155,7 +155,7 @@ module _ (P : BlockId → ℕ → Type 0) where
 
 -- what is known stays known, and what is read is known from then on
 module _ (P R : BlockId → ℕ → Type 0) (kept : (block : BlockId) (ver : ℕ) → P block ver → R block ver) where
-  on_got_knows : (s : PlanState) (ver : ℕ) (value : Content) → ((block : BlockId) → next s ≡ Step (Get block) → R block ver) → Knows P s → Knows R (on_got s ver value)
+  on_got_knows : (s : PlanState) (ver : ℕ) (value : Content) → ((block : BlockId) → next_call s ≡ Step (Get block) → R block ver) → Knows P s → Knows R (on_got s ver value)
   on_got_knows (Ends answer) ver value new h = tt
   on_got_knows (Walks dir name onto rest job) ver value new h = knows_walked R name onto rest job _
   on_got_knows (Looks dir name job) ver value new h = knows_looked R dir name ver (new (block_at dir (bucket_number name)) refl) job _
@@ -219,7 +219,7 @@ module _ (P R : BlockId → ℕ → Type 0) (kept : (block : BlockId) (ver : ℕ
   on_synced_knows (Closes ino ver) h = kept _ _ h
   on_synced_knows (Gathers dir blk left rows) h = tt
 
-  after_knows : (s : PlanState) (a : BlockAnswer) → ((block : BlockId) (ver : ℕ) (old : Content) → next s ≡ Step (Get block) → a ≡ Got ver old → R block ver) → Knows P s → Knows R (after s a)
+  after_knows : (s : PlanState) (a : BlockAnswer) → ((block : BlockId) (ver : ℕ) (old : Content) → next_call s ≡ Step (Get block) → a ≡ Got ver old → R block ver) → Knows P s → Knows R (after_answer s a)
   after_knows s (Got ver value) new h = on_got_knows s ver value (λ block e. new block ver value e refl) h
   after_knows s (Written ver) new h = on_written_knows s h
   after_knows s Changed new h = on_changed_knows s h
@@ -229,11 +229,11 @@ module _ (P R : BlockId → ℕ → Type 0) (kept : (block : BlockId) (ver : ℕ
 
 module _ (s0 : PlanState) where
   abbrev Read : List BlockAnswer → BlockId → ℕ → Type 0
-  Read answers = HasRead (λ answers'. next (after_all s0 answers')) answers
+  Read answers = HasRead (λ answers'. next_call (after_all s0 answers')) answers
 
-  last : (answers : List BlockAnswer) (a : BlockAnswer) (s : PlanState) → after_all s (answers ++ a ∷ []) ≡ after (after_all s answers) a
+  last : (answers : List BlockAnswer) (a : BlockAnswer) (s : PlanState) → after_all s (answers ++ a ∷ []) ≡ after_answer (after_all s answers) a
   last [] a s = refl
-  last (b ∷ answers) a s = last answers a (after s b)
+  last (b ∷ answers) a s = last answers a (after_answer s b)
 
   one_more : (answers : List BlockAnswer) (a : BlockAnswer) → Knows (Read answers) (after_all s0 answers) → Knows (Read (answers ++ a ∷ [])) (after_all s0 (answers ++ a ∷ []))
   one_more answers a h =
@@ -248,7 +248,7 @@ module _ (s0 : PlanState) where
       subst (λ (as' : List BlockAnswer). Knows (Read as') (after_all s0 as')) (append_assoc front (a ∷ []) rest) (all_known rest (front ++ a ∷ []) (one_more front a h))
 
 -- a state that writes over a version keeps that version
-named_known : (P : BlockId → ℕ → Type 0) (s : PlanState) (block : BlockId) (ver : ℕ) (value : Content) → next s ≡ Step (PutAt block ver value) → Knows P s → P block ver
+named_known : (P : BlockId → ℕ → Type 0) (s : PlanState) (block : BlockId) (ver : ℕ) (value : Content) → next_call s ≡ Step (PutAt block ver value) → Knows P s → P block ver
 named_known P (Ends answer) block ver value e h = let no' : ⊥ = cc in absurd no'
 named_known P (Walks dir name onto rest job) block ver value e h = let no' : ⊥ = cc in absurd no'
 named_known P (Looks dir name job) block ver value e h = let no' : ⊥ = cc in absurd no'
@@ -284,7 +284,7 @@ over_reads c number client answers block ver value e =
 -- ---- a refused write
 
 -- a state whose write was refused reads the block
-reads_next : (s : PlanState) (block : BlockId) (ver : ℕ) (value : Content) → next s ≡ Step (PutAt block ver value) → next (on_changed s) ≡ Step (Get block)
+reads_next : (s : PlanState) (block : BlockId) (ver : ℕ) (value : Content) → next_call s ≡ Step (PutAt block ver value) → next_call (on_changed s) ≡ Step (Get block)
 reads_next (Ends answer) block ver value e = let no' : ⊥ = cc in absurd no'
 reads_next (Walks dir name onto rest job) block ver value e = let no' : ⊥ = cc in absurd no'
 reads_next (Looks dir name job) block ver value e = let no' : ⊥ = cc in absurd no'
@@ -303,4 +303,4 @@ reads_next (Gathers dir blk left rows) block ver value e = let no' : ⊥ = cc in
 pub reads_again : ReadsAgain
 reads_again c number client answers block ver value e =
     let s0 = start c (made_by number client) in
-    ap next (last s0 answers Changed s0) ∙ reads_next (after_all s0 answers) block ver value e
+    ap next_call (last s0 answers Changed s0) ∙ reads_next (after_all s0 answers) block ver value e

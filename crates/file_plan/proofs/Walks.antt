@@ -106,7 +106,7 @@ module _ (kinds later : Ino → Option Kind) (w : World) (sound : Sound kinds w.
       let e = over_is rest (suc n) in
       let le : over rest (suc n) ≤ length (name ∷ rest) + n = omega (arith, e) in
       more_steps (over rest (suc n)) (length (name ∷ rest) + n) (walking root name rest job) w Q le
-      (walks kinds w sound job (suc n) Q root name rest sound.top good (owed (place_of (tree_of w.value) root name rest)))
+      (walks kinds w sound job (suc n) Q root name rest sound.root_is_directory good (owed (place_of (tree_of w.value) root name rest)))
     where
       owed : (p : Place) → Placed kinds w job (suc n) (Owes later w.value (at_place (tree_of w.value) does p)) p
       owed (At dir last) = λ is fine. at dir last is fine

@@ -40,7 +40,8 @@ b = 98 ∷ []
 abbrev pub d : Name
 d = 100 ∷ []
 
--- `mk /a`, `put /a 0 "hi"`, `mkdir /d`, `mv /a /d/b`, of client 2 `get /d/b 0 9`, `size /a`, `ls /`; then `put /d/b 4 "!"`, `get /d/b 1 9`, `mk /d`, `get /d/b/a 0 1`,
+-- `mk /a`, `put /a 0 "hi"`, `mkdir /d`, `mv /a /d/b`, of client 2 `get /d/b 0 9`, `size /a`, `ls /`; then `put /d/b 4 "!"`, `get /d/b 1 9`, `mk /d`,
+-- `get /d/b/a 0 1`,
 -- `put /d 0 ""`, `put /d/b 1048576 "!"`, `mk /..`, `rm /d/b`, `size /d/b`, `ls /d`
 abbrev pub calls : List Item
 calls =

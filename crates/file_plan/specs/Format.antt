@@ -54,7 +54,8 @@ name_length bytes = get_or bytes 5 0
 
 -- the entry at the front
 abbrev pub front_row : List ℕ → Row
-front_row bytes = (take (name_length bytes) (drop 6 bytes), record { kind = kind_of (get_or bytes 0 0); ino = record { 0 = from_be_bytes w32 (take 4 (drop 1 bytes)) } })
+front_row bytes =
+    (take (name_length bytes) (drop 6 bytes), record { kind = kind_of (get_or bytes 0 0); ino = record { 0 = from_be_bytes w32 (take 4 (drop 1 bytes)) } })
 
 -- whether an entry stands at the front
 unfoldable pub has_row : List ℕ → Bool

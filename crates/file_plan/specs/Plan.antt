@@ -212,28 +212,28 @@ on_synced (Syncs dir name node) = Looks dir name (Unlinks node)
 on_synced s = s
 
 -- an answer that isn't one to the call that was made changes nothing
-abbrev pub after : PlanState → BlockAnswer → PlanState
-after s (Got ver value) = on_got s ver value
-after s (Written ver) = on_written s
-after s Changed = on_changed s
-after s Synced = on_synced s
+abbrev pub after_answer : PlanState → BlockAnswer → PlanState
+after_answer s (Got ver value) = on_got s ver value
+after_answer s (Written ver) = on_written s
+after_answer s Changed = on_changed s
+after_answer s Synced = on_synced s
 
-abbrev pub next : PlanState → Next
-next (Ends answer) = Reply answer
-next (Walks dir name onto rest job) = Step (Get (block_at dir (bucket_number name)))
-next (Looks dir name job) = Step (Get (block_at dir (bucket_number name)))
-next (Enters dir name ver rows ino job) = Step (PutAt (block_at dir (bucket_number name)) ver (content_of (rows_text rows)))
-next (Syncs dir name node) = Step Sync
-next (Measures ino task) = Step (Get (block_at ino size_block))
-next (Fetches ino blk low left got) = Step (Get (block_at ino blk))
-next (Fills ino blk bytes end) = Step (Put (block_at ino blk) (Some (take block_size bytes)))
-next (Takes ino blk low bytes end) = Step (Get (block_at ino blk))
-next (Patches ino blk low bytes end ver old) =
+abbrev pub next_call : PlanState → Next
+next_call (Ends answer) = Reply answer
+next_call (Walks dir name onto rest job) = Step (Get (block_at dir (bucket_number name)))
+next_call (Looks dir name job) = Step (Get (block_at dir (bucket_number name)))
+next_call (Enters dir name ver rows ino job) = Step (PutAt (block_at dir (bucket_number name)) ver (content_of (rows_text rows)))
+next_call (Syncs dir name node) = Step Sync
+next_call (Measures ino task) = Step (Get (block_at ino size_block))
+next_call (Fetches ino blk low left got) = Step (Get (block_at ino blk))
+next_call (Fills ino blk bytes end) = Step (Put (block_at ino blk) (Some (take block_size bytes)))
+next_call (Takes ino blk low bytes end) = Step (Get (block_at ino blk))
+next_call (Patches ino blk low bytes end ver old) =
     Step (PutAt (block_at ino blk) ver (content_of (overlaid (bytes_in old) low (take (block_size - low) bytes))))
-next (Grows ino end ver) = Step (PutAt (block_at ino size_block) ver (size_content end))
-next (Empties ino blk left ver) = Step (Put (block_at ino blk) None)
-next (Closes ino ver) = Step (PutAt (block_at ino size_block) ver None)
-next (Gathers dir blk left rows) = Step (Get (block_at dir blk))
+next_call (Grows ino end ver) = Step (PutAt (block_at ino size_block) ver (size_content end))
+next_call (Empties ino blk left ver) = Step (Put (block_at ino blk) None)
+next_call (Closes ino ver) = Step (PutAt (block_at ino size_block) ver None)
+next_call (Gathers dir blk left rows) = Step (Get (block_at dir blk))
 
 -- ---- the plan
 
@@ -260,8 +260,8 @@ start c ino = if names_are_good c then start_named c ino else refuses BadName
 
 abbrev pub after_all : PlanState → List BlockAnswer → PlanState
 after_all s [] = s
-after_all s (a ∷ answers) = after_all (after s a) answers
+after_all s (a ∷ answers) = after_all (after_answer s a) answers
 
 -- what a call does next, from the answers that it had
 abbrev pub plan : FileCall → ℕ → ℕ → List BlockAnswer → Next
-plan c number client answers = next (after_all (start c (made_by number client)) answers)
+plan c number client answers = next_call (after_all (start c (made_by number client)) answers)

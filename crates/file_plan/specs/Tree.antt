@@ -70,7 +70,7 @@ pub record IsFile (t : Table) (file : Ino) (size : ℕ) : Type 0 where
   pub blocks : (blk : ℕ) → blk ≢ size_block → IsBlock size blk (t file blk)
 
 pub record Sound (kinds : Ino → Option Kind) (t : Table) : Type 0 where
-  pub top : kinds root ≡ Some kind.Directory
+  pub root_is_directory : kinds root ≡ Some kind.Directory
   pub directories : (dir : Ino) (bucket : ℕ) → kinds dir ≡ Some kind.Directory → bucket < 8 → (rows : List Row) × IsBucket kinds bucket (t dir bucket) rows
   pub files : (file : Ino) → kinds file ≡ Some kind.File → (size : ℕ) × IsFile t file size
 

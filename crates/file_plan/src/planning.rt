@@ -3,7 +3,7 @@ ghost use Rattle.std.specs.Prelude.{◌≡◌, ◌-◌, ◌<◌, ◌≤◌, IfOk
 ghost use Rattle.file_plan.specs.Calls.{block_size};
 ghost use Rattle.file_plan.specs.Format.{bytes_in, content_of, overlaid};
 ghost use Rattle.file_plan.specs.Ranges.{IsInRange};
-ghost use Rattle.file_plan.specs.Plan.{made_by, start, after, next, plan};
+ghost use Rattle.file_plan.specs.Plan.{made_by, start, after_answer, next_call, plan};
 
 use crate::answered::answered;
 use crate::bucket::bucket_bytes;
@@ -66,7 +66,7 @@ impl FilePlan {
     /// The plan after one more answer. An answer that isn't one to the call that was made changes
     /// nothing.
     pub fn after(self, alloc: Global, answer: &BlockAnswer) -> Mem<FilePlan>
-        ensures { IfOk result (λ plan. plan ≡ after self answer.now) }
+        ensures { IfOk result (λ plan. plan ≡ after_answer self answer.now) }
     {
         Ok(FilePlan {
             state: answered(alloc, self.state, answer)?,
@@ -75,7 +75,7 @@ impl FilePlan {
 
     /// What the call does next: a call on blocks, or its answer.
     pub fn next(&self, alloc: Global) -> Mem<Next>
-        ensures { IfOk result (λ step. step ≡ next self.now) }
+        ensures { IfOk result (λ step. step ≡ next_call self.now) }
     {
         next_of(alloc, &self.state)
     }
@@ -85,7 +85,7 @@ impl Crosses for FilePlan {}
 
 fn next_of(alloc: Global, state: &PlanState) -> Mem<Next>
     requires { IsInRange state.now }
-    ensures { IfOk result (λ step. step ≡ next state.now) }
+    ensures { IfOk result (λ step. step ≡ next_call state.now) }
 {
     match state {
         PlanState::Ends(answer) => Ok(Next::Reply(answer.copy(alloc)?)),

@@ -1,5 +1,5 @@
 -- Any list of losses, one after the other.
-use Rattle.std.specs.Prelude.{◌≡◌, ℕ, ◌+◌, ◌<◌, ◌≤◌, ⊤, IsTrue, List, [], ◌∷◌, length, filter}
+use Rattle.std.specs.Prelude.{◌≡◌, ℕ, ◌+◌, ◌<◌, ◌≤◌, IsTrue, List, [], ◌∷◌, length, filter}
 use Rattle.group_map.specs.declared.group.Group.{Group}
 use Rattle.group_map.specs.GroupMapState.{GroupMapState}
 use Rattle.group_map.specs.Groups.{generation_at, is_hit, lost}
@@ -22,7 +22,7 @@ after_losses state (l ∷ ls) = after_losses (lost state l.server l.generation) 
 
 -- each loss meets that where it comes
 abbrev pub MayLoseAll : GroupMapState → List Loss → Type 0
-MayLoseAll state [] = ⊤
+MayLoseAll state [] = Unit {0}
 MayLoseAll state (l ∷ ls) = MayLose state l × MayLoseAll (lost state l.server l.generation) ls
 
 -- the second is the first at a later time: the same but for `current`, and current only if the first is

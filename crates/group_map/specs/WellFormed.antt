@@ -1,5 +1,5 @@
 -- What is true of every stripe group map.
-use Rattle.std.specs.Prelude.{◌≡◌, ℕ, ◌+◌, ◌≤◌, ⊤, IsTrue, List, [], ◌∷◌, All, length, map, nat_eq}
+use Rattle.std.specs.Prelude.{◌≡◌, ℕ, ◌+◌, ◌≤◌, IsTrue, List, [], ◌∷◌, All, length, map, nat_eq}
 use Rattle.std.specs.List.{list_any, IsDistinct}
 use Rattle.group_map.specs.declared.group.Group.{Group}
 use Rattle.group_map.specs.declared.group.Member.{Member}
@@ -20,7 +20,7 @@ pub record IsStripe (servers parity : ℕ) (members : List Member) : Type 0 wher
 
 -- the ids count up from this one
 abbrev pub IsNumbered : ℕ → List Group → Type 0
-IsNumbered id [] = ⊤
+IsNumbered id [] = Unit {0}
 IsNumbered id (g ∷ gs) = (g.id ≡ id) × IsNumbered (id + 1) gs
 
 -- while a group is current its members are at the generations that these servers have now

@@ -10,8 +10,8 @@ use Rattle.xfs_base.specs.Limits.{u32_end}
 use Rattle.xfs_base.specs.Steps.{Stepped, still}
 use Rattle.xfs_base.proofs.Booleans.{by_test}
 use Rattle.xfs_base.proofs.Members.{contains_nothing, contains_cases}
-use Rattle.group_rebuild.specs.declared.events.Out.{Out}
-use Rattle.group_rebuild.specs.declared.events.Out.TheVariants.{Fetch, Fill, Finished}
+use Rattle.group_rebuild.specs.declared.output.Out.{Out}
+use Rattle.group_rebuild.specs.declared.output.Out.TheVariants.{Fetch, Fill, Finished}
 use Rattle.group_rebuild.specs.declared.reads.Present.{Present}
 use Rattle.group_rebuild.specs.declared.wanted.Wanted.{Wanted}
 use Rattle.group_rebuild.specs.Counted.{count_of, names_in, Reply, after_replies, reading_after}

@@ -10,8 +10,8 @@ use Rattle.xfs_base.specs.declared.segment.SegName.{SegName}
 use Rattle.xfs_base.specs.Steps.{Stepped, still}
 use Rattle.xfs_base.proofs.Booleans.{by_test}
 use Rattle.xfs_base.proofs.Members.{contains_nothing, contains_cases}
-use Rattle.group_rebuild.specs.declared.events.Out.{Out}
-use Rattle.group_rebuild.specs.declared.events.Out.TheVariants.{Fetch, Fill, Finished}
+use Rattle.group_rebuild.specs.declared.output.Out.{Out}
+use Rattle.group_rebuild.specs.declared.output.Out.TheVariants.{Fetch, Fill, Finished}
 use Rattle.group_rebuild.specs.declared.reads.Present.{Present}
 use Rattle.group_rebuild.specs.declared.wanted.Wanted.{Wanted}
 use Rattle.group_rebuild.specs.Counted.{IsFilledFrom}
@@ -49,7 +49,7 @@ from_answer : (r : ReadsState) (present : Option Present) (ask server : ℕ) (to
 from_answer r None ask server told f e h = absurd (contains_nothing (fill f) h)
 from_answer r (Some p) ask server told f e h =
     by_test (λ (st : Stepped ReadsState Out). Contains st.outs (Fill f) → IsFilledFrom r server told f) ((ask == r.ask) && counts p server told) (judged r p.wanted (taken p.round server told) (state_of (taken p.round server told))) (still r)
-    (λ t k. let was = was_cut r p.wanted (taken p.round server told) (state_of (taken p.round server told)) f k in record { present = p; is = e; text = was.0; read = was.1; cut = was.2 })
+    (λ t k. let was = was_cut r p.wanted (taken p.round server told) (state_of (taken p.round server told)) f k in record { present = p; is_read = e; text = was.0; read = was.1; cut = was.2 })
     (λ t k. absurd (contains_nothing (fill f) k))
     h
 

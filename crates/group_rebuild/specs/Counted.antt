@@ -21,7 +21,7 @@ names_in r = r.filled + r.gone + count_of r.present + length r.left
 -- the stripe of that text.
 pub record IsFilledFrom (r : ReadsState) (server : ℕ) (told : Told) (f : Fragment) : Type 0 where
   pub present : Present
-  pub is : r.present ≡ Some present
+  pub is_read : r.present ≡ Some present
   pub text : List ℕ
   pub read : state_of (taken present.round server told) ≡ Read text
   pub cut : f ≡ refilled present.wanted text

@@ -11,8 +11,8 @@ use Rattle.xfs_base.specs.declared.segment.SegName.{SegName}
 use Rattle.xfs_base.specs.Limits.{u32_end}
 use Rattle.xfs_base.specs.Segments.{seg_cmp}
 use Rattle.xfs_base.specs.Steps.{Stepped, still, after}
-use Rattle.group_rebuild.specs.declared.events.Out.{Out}
-use Rattle.group_rebuild.specs.declared.events.Out.TheVariants.{Fetch, Fill, Finished}
+use Rattle.group_rebuild.specs.declared.output.Out.{Out}
+use Rattle.group_rebuild.specs.declared.output.Out.TheVariants.{Fetch, Fill, Finished}
 use Rattle.group_rebuild.specs.declared.reads.Present.{Present}
 use Rattle.group_rebuild.specs.declared.wanted.Wanted.{Wanted}
 use Rattle.group_rebuild.specs.Wanted.{IsWanted, refilled}

@@ -9,10 +9,10 @@ use Rattle.xfs_base.specs.declared.fragment.FragMeta.{FragMeta}
 use Rattle.xfs_base.specs.declared.segment.SegName.{SegName}
 use Rattle.xfs_base.specs.Segments.{seg_cmp}
 use Rattle.xfs_base.specs.Steps.{Stepped, still}
-use Rattle.group_rebuild.specs.declared.events.In.{In}
-use Rattle.group_rebuild.specs.declared.events.In.TheVariants as input
-use Rattle.group_rebuild.specs.declared.events.Out.{Out}
-use Rattle.group_rebuild.specs.declared.events.Out.TheVariants as out
+use Rattle.group_rebuild.specs.declared.input.In.{In}
+use Rattle.group_rebuild.specs.declared.input.In.TheVariants as input
+use Rattle.group_rebuild.specs.declared.output.Out.{Out}
+use Rattle.group_rebuild.specs.declared.output.Out.TheVariants as out
 use Rattle.group_rebuild.specs.RebuildState.{RebuildState}
 use Rattle.group_rebuild.specs.Reads as reads
 use Rattle.group_rebuild.specs.Reads.{ReadsState, at_first, go_on}

@@ -4,7 +4,7 @@ ghost use Rattle.std.specs.Prelude.{◌≡◌, ◌+◌, ◌≤◌, ℕ, List, Co
 ghost use Rattle.stripe_code.specs.declared.round.Told.{Told};
 ghost use Rattle.xfs_base.specs.declared.fragment.Fragment.{Fragment};
 ghost use Rattle.xfs_base.specs.Limits.{u32_end};
-ghost use Rattle.group_rebuild.specs.declared.events.Out.TheVariants.{Fill, Finished};
+ghost use Rattle.group_rebuild.specs.declared.output.Out.TheVariants.{Fill, Finished};
 ghost use Rattle.group_rebuild.specs.declared.wanted.Wanted.{Wanted};
 ghost use Rattle.group_rebuild.specs.Counted.{names_in, Reply, reading_after, IsFilledFrom};
 ghost use Rattle.group_rebuild.specs.Reads.{ReadsState, at_first, go_on, on_answer};

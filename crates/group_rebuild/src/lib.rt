@@ -3,12 +3,14 @@
 //! told what the servers list and answer, and says what to ask and what to fill in.
 #![tactic(auto)]
 
-pub mod events;
+pub mod input;
 pub mod laws;
+pub mod output;
 mod reads;
 pub mod rebuild;
 mod wanted;
 
-pub use events::{In, Out};
+pub use input::In;
 pub use laws::{each_name_is_counted, fills_are_cut};
+pub use output::Out;
 pub use rebuild::Rebuild;

@@ -1,12 +1,12 @@
 //! The reading of the wanted segments, one after the other.
 ghost use Rattle.std.specs.Prelude.{◌≡◌, ◌++◌, IfOk, OnOk, All, IsTrue, Some, None, map};
 ghost use Rattle.std.specs.Option.{ForSome};
-ghost use Rattle.group_rebuild.specs.declared.events.Out.TheVariants.{Fetch};
+ghost use Rattle.group_rebuild.specs.declared.output.Out.TheVariants.{Fetch};
 ghost use Rattle.group_rebuild.specs.Reads.{ReadsState, counts, fetches, go_on, judged, on_answer, on_tick, at_first};
 ghost use Rattle.group_rebuild.specs.Wanted.{IsWanted};
 ghost use Rattle.stripe_code.specs.Round.{asks, told_fits, taken, state_of};
 
-use crate::events::Out;
+use crate::output::Out;
 use crate::wanted::{Wanted, refilled};
 use std::alloc::Global;
 use std::collections::VecDeque;

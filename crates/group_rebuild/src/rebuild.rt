@@ -4,7 +4,8 @@ ghost use Rattle.std.specs.List.{list_any};
 ghost use Rattle.group_rebuild.specs.RebuildState.{started};
 ghost use Rattle.group_rebuild.specs.Transition.{awaited, listed_with, without, heard_from, awaits, lists, begun, on_listed, on_told, on_tick, transition};
 
-use crate::events::{In, Out};
+use crate::input::In;
+use crate::output::Out;
 use crate::reads::Reads;
 use crate::wanted::wanted_in;
 use group_map::GroupMap;

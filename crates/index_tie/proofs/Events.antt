@@ -142,12 +142,12 @@ module _ (part : ℕ) (holds : SegRef → Rows) where
   }
 
   -- what is above all rows is above the join
-  above_top : (b : BlockId) (f : Filed) (w : IndexState) (ver : ℕ) → IndexReached w → Tells b f w → 0 < ver → ((l q : ℕ) → (row_at f b l q).ver < ver) → w.top.version < ver
-  above_top b f w ver reached tells some above = by w.top.version refl
+  above_top : (b : BlockId) (f : Filed) (w : IndexState) (ver : ℕ) → IndexReached w → Tells b f w → 0 < ver → ((l q : ℕ) → (row_at f b l q).ver < ver) → w.joined.version < ver
+  above_top b f w ver reached tells some above = by w.joined.version refl
     where
-      by : (v : ℕ) → w.top.version ≡ v → w.top.version < ver
+      by : (v : ℕ) → w.joined.version ≡ v → w.joined.version < ver
       by zero none = omega arith
-      by (suc v) is = let j = (index_is_join_always w reached).all.its_version (omega arith) in let t = tells.version w.top.log w.top.seq in let a = above w.top.log w.top.seq in omega arith
+      by (suc v) is = let j = (index_is_join_always w reached).all.its_version (omega arith) in let t = tells.version w.joined.log w.joined.seq in let a = above w.joined.log w.joined.seq in omega arith
 
   pub client_files : (n : Net) (l : ℕ) (s : Segment) → Good part holds n → 0 < l → l < 9 → IsSegment l (suc (n.filed.head l)) s → ((b : BlockId) → slot_of b.ino.0 ≡ part → IsNewer b n.filed s) → Good part holds (record n { filed = with_segment n.filed l s })
   client_files n l s g some less is newer = filing n l s g some (omega arith) is (λ b inside i.

@@ -146,7 +146,7 @@ module _ (b : BlockId) (f : Filed) (w : IndexState) (l : ℕ) (s : Segment) wher
     version = put_at w.version l (suc (w.head l)) version;
     hop = put_at w.hop l (suc (w.head l)) hop;
     head = put w.head l (suc (w.head l));
-    top = top;
+    joined = top;
     version_log = version_log;
     version_seq = version_seq;
   }
@@ -194,7 +194,7 @@ clients_file b f w l s reached filed tells some is news = by (said_of s b).ver r
           steps = More Ended (Files_none l (record { named = some }));
           frame = refl;
           filed = let c = news.client in filed_more f l s filed some (omega arith) is;
-          tells = tells_more b f w l s 0 0 w.top w.version_log w.version_seq tells (sym none) (sym (ap (λ (e : Entry). e.hop) nothing));
+          tells = tells_more b f w l s 0 0 w.joined w.version_log w.version_seq tells (sym none) (sym (ap (λ (e : Entry). e.hop) nothing));
         }
     by (suc v) has =
         let version = (said_of s b).ver in
@@ -207,7 +207,7 @@ clients_file b f w l s reached filed tells some is news = by (said_of s b).ver r
           steps = More Ended (File l version (record { named = some; client = omega arith; new = news.new more }));
           frame = refl;
           filed = filed_more f l s filed some (omega arith) is;
-          tells = tells_more b f w l s version 0 u.top u.version_log u.version_seq tells refl (sym (news.first_hand more));
+          tells = tells_more b f w l s version 0 u.joined u.version_log u.version_seq tells refl (sym (news.first_hand more));
         }
 
 cleaner_files_at : (b : BlockId) (f : Filed) (w : IndexState) (s : Segment) → IsFiled f → Tells b f w → 0 < w.cleaner → w.cleaner ≤ 9 → IsSegment w.cleaner (suc (f.head w.cleaner)) s → (0 < (said_of s b).ver → IsCopy b f (said_of s b))
@@ -222,7 +222,7 @@ cleaner_files_at b f w s filed tells some most is copy = by (said_of s b).ver re
           steps = More Ended (Files_none w.cleaner (record { named = some }));
           frame = refl;
           filed = filed_more f w.cleaner s filed some most is;
-          tells = tells_more b f w w.cleaner s 0 0 w.top w.version_log w.version_seq tells (sym none) (sym (ap (λ (e : Entry). e.hop) nothing));
+          tells = tells_more b f w w.cleaner s 0 0 w.joined w.version_log w.version_seq tells (sym none) (sym (ap (λ (e : Entry). e.hop) nothing));
         }
     by (suc v) has =
         let c = copy (omega arith) in
@@ -239,7 +239,7 @@ cleaner_files_at b f w s filed tells some most is copy = by (said_of s b).ver re
           steps = More Ended (Copies l q (record { filed = omega arith; some = omega arith }));
           frame = refl;
           filed = filed_more f w.cleaner s filed some most is;
-          tells = tells_more b f w w.cleaner s (w.version l q) (suc (w.hop l q)) u.top w.version_log w.version_seq tells (its ∙ sym version) (ap suc (tells.hop l q) ∙ sym c.hop);
+          tells = tells_more b f w w.cleaner s (w.version l q) (suc (w.hop l q)) u.joined w.version_log w.version_seq tells (its ∙ sym version) (ap suc (tells.hop l q) ∙ sym c.hop);
         }
 
 pub cleaner_files : CleanerFiles

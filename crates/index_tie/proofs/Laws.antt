@@ -141,11 +141,11 @@ dropped_is_outdated b f w s place reached filed tells m lies dropped counted =
     let d = dead_stays_always w reached in
     let newer = d.stays l q e (d.counted l q dropped) counted m.active (sym exact.log) (sym exact.seq) in
     let top = (index_is_join_always w reached).all in
-    let is : w.version w.top.log w.top.seq ≡ w.top.version = top.its_version (omega arith) in
+    let is : w.version w.joined.log w.joined.seq ≡ w.joined.version = top.its_version (omega arith) in
     let row : (row_at f b named.log named.seq).ver ≡ (entry_at s b).ver = row_version (entry_at s b).ver refl in
     let here : w.version l q ≡ (row_at f b named.log named.seq).ver = tells.version l q ∙ ap (λ k. (row_at f b k q).ver) exact.log ∙ ap (λ k. (row_at f b named.log k).ver) exact.seq in
-    let there = tells.version w.top.log w.top.seq in
-    record { log = w.top.log; seq = w.top.seq; newer = omega arith }
+    let there = tells.version w.joined.log w.joined.seq in
+    record { log = w.joined.log; seq = w.joined.seq; newer = omega arith }
   where
     row_version : (v : ℕ) → (entry_at s b).ver ≡ v → (row_at f b (w.index s.epoch).log (w.index s.epoch).seq).ver ≡ (entry_at s b).ver
     row_version zero none = absurd (nowhere place (sym (ap (λ (x : Entry). x.place) (m.index.none none)) ∙ lies))
@@ -181,7 +181,7 @@ one_log w a x l q p some version hop = by (nat_lt a w.cleaner) (nat_lt l w.clean
 
 pub newest_is_kept : NewestIsKept
 newest_is_kept b f w l q reached filed tells n dropped =
-    let top = w.top in
+    let top = w.joined in
     let j = (index_is_join_always w reached).all in
     let place = rows_in_place_always w reached in
     let some = n.some in

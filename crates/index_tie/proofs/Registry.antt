@@ -22,8 +22,8 @@ use Rattle.checkpoint.specs.Laws.Event.{Written}
 use Rattle.checkpoint.specs.WriterState.{Rows}
 use Rattle.stripe_cleaner.specs.CleaningState.{CleaningState}
 use Rattle.stripe_cleaner.specs.Promises.{promised_at}
-use Rattle.takeover.specs.declared.events.In.{In as TakeoverIn}
-use Rattle.takeover.specs.declared.events.Out.TheVariants.{Active}
+use Rattle.takeover.specs.declared.input.In.{In as TakeoverIn}
+use Rattle.takeover.specs.declared.output.Out.TheVariants.{Active}
 use Rattle.takeover.specs.declared.source.Source.{Source}
 use Rattle.takeover.specs.Course.{Course, course_of, after_input, IsTakenOver}
 use Rattle.takeover.specs.ReadBack.{AreReadBack, told_by_all}

@@ -28,7 +28,7 @@ said_of s b = join (rows_of s) b
 -- A client's log files versions above all that were filed, and no copies.
 pub record IsNews (w : IndexState) (l : ℕ) (said : Entry) : Type 0 where
   pub client : l < 9
-  pub new : 0 < said.ver → w.top.version < said.ver
+  pub new : 0 < said.ver → w.joined.version < said.ver
   pub first_hand : 0 < said.ver → said.hop ≡ 0
 
 -- The cleaner's log files copies of filed rows, each at its version and one hop further.
@@ -40,7 +40,7 @@ pub record IsCopy (b : BlockId) (f : Filed) (said : Entry) : Type 0 where
 
 -- the index, but for what logs file
 abbrev pub unfiled : IndexState → IndexState
-unfiled w = record w { version = λ l q. 0; hop = λ l q. 0; head = λ l. 0; top = record { version = 0; hop = 0; log = 0; seq = 0 }; version_log = λ v. 0; version_seq = λ v. 0 }
+unfiled w = record w { version = λ l q. 0; hop = λ l q. 0; head = λ l. 0; joined = record { version = 0; hop = 0; log = 0; seq = 0 }; version_log = λ v. 0; version_seq = λ v. 0 }
 
 -- by steps of logs the index becomes one that tells what is filed now
 pub record Files (b : BlockId) (f : Filed) (w : IndexState) : Type 0 where

@@ -29,8 +29,8 @@ use Rattle.stripe_cleaner.specs.CleaningState.{CleaningState}
 use Rattle.stripe_cleaner.specs.CleaningState as job_state
 use Rattle.stripe_cleaner.specs.Promises.{promised_at}
 use Rattle.stripe_cleaner.specs.Transition as job
-use Rattle.takeover.specs.declared.events.In.{In as TakeoverIn}
-use Rattle.takeover.specs.declared.events.Out.TheVariants.{Active}
+use Rattle.takeover.specs.declared.input.In.{In as TakeoverIn}
+use Rattle.takeover.specs.declared.output.Out.TheVariants.{Active}
 use Rattle.takeover.specs.Course.{Course, course_of, after_input}
 use Rattle.takeover.specs.Reports.{end_of}
 use Rattle.takeover.specs.Transition as takeover

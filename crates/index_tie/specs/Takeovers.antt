@@ -10,8 +10,8 @@ use Rattle.xfs_base.specs.declared.token.Mode.{Mode}
 use Rattle.xfs_base.specs.Blocks.{slot_of}
 use Rattle.segment_format.specs.declared.segment.Segment.{Segment}
 use Rattle.delta_index.specs.Join.{join}
-use Rattle.takeover.specs.declared.events.In.{In}
-use Rattle.takeover.specs.declared.events.Out.TheVariants.{Active}
+use Rattle.takeover.specs.declared.input.In.{In}
+use Rattle.takeover.specs.declared.output.Out.TheVariants.{Active}
 use Rattle.takeover.specs.declared.report.Report.{Report}
 use Rattle.takeover.specs.Course.{Course, course_of, after_input}
 use Rattle.takeover.specs.ReadBack.{told_by_all}

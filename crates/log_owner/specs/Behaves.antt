@@ -1,5 +1,5 @@
 -- What an opening does by itself, whatever it is told.
-use Rattle.std.specs.Prelude.{◌≡◌, ⊤}
+use Rattle.std.specs.Prelude.{◌≡◌}
 use Rattle.std.specs.List.{AllByRecursion}
 use Rattle.log_owner.specs.declared.ended.Owner.{Owner}
 use Rattle.log_owner.specs.declared.opened.Progress.{Progress}
@@ -16,7 +16,7 @@ use Rattle.xfs_base.specs.declared.node.NodeId.{NodeId}
 use Rattle.xfs_base.specs.declared.node.NodeId.TheVariants.{Client, Manager, Server, Cleaner, Registry}
 
 abbrev pub IsServer : NodeId → Type 0
-IsServer (Server number) = ⊤
+IsServer (Server number) = Unit {0}
 IsServer (Client number) = ⊥
 IsServer (Manager number) = ⊥
 IsServer Cleaner = ⊥
@@ -60,7 +60,7 @@ MaySay owner to (body.CkptAck b) = ⊥
 
 -- It answers nothing; it acts only that segments are filed.
 abbrev pub MayAct : Act → Type 0
-MayAct (act.Filed seg) = ⊤
+MayAct (act.Filed seg) = Unit {0}
 MayAct (act.Wrote client block value) = ⊥
 MayAct (act.Read client block ver value) = ⊥
 MayAct (act.Synced client) = ⊥
@@ -72,15 +72,15 @@ MayAct (act.Answered node item answer) = ⊥
 
 abbrev pub MayDo : Owner → Effect → Type 0
 MayDo owner (effect.Send to body) = MaySay owner to body
-MayDo owner (effect.Lose seg) = ⊤
+MayDo owner (effect.Lose seg) = Unit {0}
 MayDo owner (effect.Does act) = MayAct act
 MayDo owner (effect.Answer item answer) = ⊥
 
 -- the opening is this owner's, where it goes on
 abbrev pub IsOf : Owner → Progress → Type 0
 IsOf owner (progress.Opening o) = o.known.owner ≡ owner
-IsOf owner (progress.Opened o) = ⊤
-IsOf owner (progress.Lost seg) = ⊤
+IsOf owner (progress.Opened o) = Unit {0}
+IsOf owner (progress.Lost seg) = Unit {0}
 
 pub record Behaves (owner : Owner) (w : Went) : Type 0 where
   pub does : AllByRecursion (MayDo owner) w.effects

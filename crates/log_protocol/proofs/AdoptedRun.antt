@@ -1,4 +1,5 @@
--- A run, as a term: a tail is restriped, the owner falls, a reopening adopts the tail and serves; then a segment is dropped, and a server is lost and fills its shelf again.
+-- A run, as a term: a tail is restriped, the owner falls, a reopening adopts the tail and serves; then a segment is dropped, and a server is lost and
+-- fills its shelf again.
 -- One server. Names 1 and 2 are the segments of seq 1 and 2, name 3 is the second attempt of seq 2, name 4 the opening segment of the second boot.
 use Rattle.std.proofs.Common.{◌≡◌, ℕ, suc, ◌-◌, ◌<◌, ◌≤◌, ◌==◌, if◌then◌else◌, ◌⊎◌, inl, inr, refl, sym, subst, arith}
 use Rattle.std.specs.Prelude.{nat_lt}

@@ -1,6 +1,7 @@
--- Counting the members that a flag names: fewer than all of them leave one that it doesn't. So the premise on losses follows where no more than the spare members were hurt.
+-- Counting the members that a flag names: fewer than all of them leave one that it doesn't. So the premise on losses follows where no more than the
+-- spare members were hurt.
 use Rattle.std.proofs.Common.{◌≡◌, ℕ, zero, suc, ◌<◌, ◌≤◌, refl, arith}
-use Rattle.log_protocol.specs.Counting.{count, FewHurt}
+use Rattle.log_protocol.specs.Counting.{count, NotAllHurt}
 use Rattle.log_protocol.specs.State.{State}
 use Rattle.log_protocol.specs.OpeningSteps.{Undoubted}
 
@@ -16,5 +17,5 @@ pub count_up : (f g : ℕ → ℕ) (n : ℕ) → ((i : ℕ) → i < n → f i �
 count_up f g zero up = omega arith
 count_up f g (suc n) up = let a = count_up f g n (λ i h. up i (omega arith)) in let b = up n (omega arith) in omega arith
 
-pub few_hurt : (w : State) → FewHurt w → Undoubted w
-few_hurt w few some above = some_unflagged w.hurt (w.member_count (w.line w.head)) (few some above)
+pub not_all_hurt : (w : State) → NotAllHurt w → Undoubted w
+not_all_hurt w few some above = some_unflagged w.hurt (w.member_count (w.line w.head)) (few some above)

@@ -1,4 +1,5 @@
--- A run, as a term: a tail reaches one of its two members, the owner falls, and its reopening discards the tail and writes in its place; then a manager's restart.
+-- A run, as a term: a tail reaches one of its two members, the owner falls, and its reopening discards the tail and writes in its place; then a
+-- manager's restart.
 -- Two servers. Names 1 and 2 are the segments of seq 1 (on server 0) and 2 (on both), name 3 the opening segment of the second boot, of seq 2 too.
 use Rattle.std.proofs.Common.{◌≡◌, ℕ, zero, suc, ◌-◌, ◌<◌, ◌≤◌, ◌==◌, if◌then◌else◌, inl, inr, refl, arith}
 use Rattle.std.specs.Prelude.{nat_lt}

@@ -1,4 +1,5 @@
--- The newest filed segment in the lists of an opening: where it isn't below the horizon that was taken, some list names it, and it is never the one that is discarded.
+-- The newest filed segment in the lists of an opening: where it isn't below the horizon that was taken, some list names it, and it is never the one
+-- that is discarded.
 use Rattle.std.proofs.Common.{◌≡◌, ℕ, ◌<◌, ◌≤◌, sym, subst, arith}
 use Rattle.log_protocol.specs.Packets.{FencedPacket}
 use Rattle.log_protocol.specs.State.{State}

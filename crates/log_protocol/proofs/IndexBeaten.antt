@@ -12,11 +12,11 @@ use Rattle.log_protocol.proofs.IndexPlaces.{named_beats}
 
 pub record IndexBeaten (w : IndexState) : Type 0 where
   -- in version,
-  pub below_version : (l q : ℕ) → w.beaten l q ≡ 1 → w.version l q ≤ w.top.version
+  pub below_version : (l q : ℕ) → w.beaten l q ≡ 1 → w.version l q ≤ w.joined.version
   -- of equal versions in hop,
-  pub below_hop : (l q : ℕ) → w.beaten l q ≡ 1 → w.version l q ≡ w.top.version → w.hop l q ≤ w.top.hop
+  pub below_hop : (l q : ℕ) → w.beaten l q ≡ 1 → w.version l q ≡ w.joined.version → w.hop l q ≤ w.joined.hop
   -- of equal hops in seq
-  pub below_seq : (l q : ℕ) → w.beaten l q ≡ 1 → 0 < w.version l q → w.version l q ≡ w.top.version → w.hop l q ≡ w.top.hop → w.top.seq < q
+  pub below_seq : (l q : ℕ) → w.beaten l q ≡ 1 → 0 < w.version l q → w.version l q ≡ w.joined.version → w.hop l q ≡ w.joined.hop → w.joined.seq < q
   -- it is filed
   pub beaten_filed : (l q : ℕ) → w.beaten l q ≡ 1 → q ≤ w.head l
   -- who answered Dead told of such a row,
@@ -28,9 +28,9 @@ pub record IndexBeaten (w : IndexState) : Type 0 where
 
 -- what an active manager answers Dead is below what it names, and so below the join
 record Below (w : IndexState) (l q : ℕ) : Type 0 where
-  version : w.version l q ≤ w.top.version
-  hop : w.version l q ≡ w.top.version → w.hop l q ≤ w.top.hop
-  seq : w.version l q ≡ w.top.version → w.hop l q ≡ w.top.hop → w.top.seq < q
+  version : w.version l q ≤ w.joined.version
+  hop : w.version l q ≡ w.joined.version → w.hop l q ≤ w.joined.hop
+  seq : w.version l q ≡ w.joined.version → w.hop l q ≡ w.joined.hop → w.joined.seq < q
   filed : q ≤ w.head l
 
 told_below : (w : IndexState) (d e l q : ℕ) → CanBeat w d e l q → IndexRows w → IndexBounds w → IndexJoins w → Below w l q
@@ -47,15 +47,15 @@ told_below w d e l q can rows bounds joins =
     let f = bounds.applied_filed e (w.index e).log in
     let its_version = j.its_version (omega arith) in
     let its_hop = j.its_hop (omega arith) in
-    let n = rows.top.newest (w.index e).log (w.index e).seq (omega arith) in
+    let n = rows.joined.newest (w.index e).log (w.index e).seq (omega arith) in
     record {
       version = omega arith;
-      hop = λ same. let h = b.hop (omega arith) in let k = rows.top.furthest (w.index e).log (w.index e).seq (omega arith) (omega arith) in omega arith;
+      hop = λ same. let h = b.hop (omega arith) in let k = rows.joined.furthest (w.index e).log (w.index e).seq (omega arith) (omega arith) in omega arith;
       seq = λ same same_hop.
           let h = b.hop (omega arith) in
-          let k = rows.top.furthest (w.index e).log (w.index e).seq (omega arith) (omega arith) in
+          let k = rows.joined.furthest (w.index e).log (w.index e).seq (omega arith) (omega arith) in
           let c = b.seq (omega arith) (omega arith) in
-          let m = rows.top.earliest (w.index e).log (w.index e).seq (omega arith) (omega arith) (omega arith) (omega arith) in
+          let m = rows.joined.earliest (w.index e).log (w.index e).seq (omega arith) (omega arith) (omega arith) (omega arith) in
           omega arith;
       filed = let g = bounds.applied_filed e l in omega arith;
     }

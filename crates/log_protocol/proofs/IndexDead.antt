@@ -27,12 +27,12 @@ pub record IndexDead (w : IndexState) : Type 0 where
   -- what is counted was told
   pub dead_told : (l q : ℕ) → 0 < w.dead_at l q → w.told (w.dead_at l q) l q ≡ 1
   -- a row of the cleaner's log beats it, unless a newer version is filed
-  pub beater_filed : (l q : ℕ) → 0 < w.dead_at l q → w.top.version ≤ w.version l q → w.beater l q ≤ w.head w.cleaner
-  pub beater_version : (l q : ℕ) → 0 < w.dead_at l q → w.top.version ≤ w.version l q → w.version w.cleaner (w.beater l q) ≡ w.version l q
-  pub beater_hop : (l q : ℕ) → 0 < w.dead_at l q → w.top.version ≤ w.version l q → w.hop l q ≤ w.hop w.cleaner (w.beater l q)
-  pub beater_seq : (l q : ℕ) → 0 < w.dead_at l q → w.top.version ≤ w.version l q → w.hop l q ≡ w.hop w.cleaner (w.beater l q) → w.beater l q < q
+  pub beater_filed : (l q : ℕ) → 0 < w.dead_at l q → w.joined.version ≤ w.version l q → w.beater l q ≤ w.head w.cleaner
+  pub beater_version : (l q : ℕ) → 0 < w.dead_at l q → w.joined.version ≤ w.version l q → w.version w.cleaner (w.beater l q) ≡ w.version l q
+  pub beater_hop : (l q : ℕ) → 0 < w.dead_at l q → w.joined.version ≤ w.version l q → w.hop l q ≤ w.hop w.cleaner (w.beater l q)
+  pub beater_seq : (l q : ℕ) → 0 < w.dead_at l q → w.joined.version ≤ w.version l q → w.hop l q ≡ w.hop w.cleaner (w.beater l q) → w.beater l q < q
   -- and it was filed before the cleaner promised more
-  pub beater_polled : (l q e : ℕ) → 0 < w.dead_at l q → w.top.version ≤ w.version l q → w.dead_at l q < e → e ≤ w.promised → w.beater l q ≤ w.polled e
+  pub beater_polled : (l q e : ℕ) → 0 < w.dead_at l q → w.joined.version ≤ w.version l q → w.dead_at l q < e → e ≤ w.promised → w.beater l q ≤ w.polled e
 
 -- a merge leaves what was answered Dead unnamed
 merged_same : (w : IndexState) (e : ℕ) (applied : ℕ → ℕ) (entry : Entry) → CanMerge w e applied entry → (l q : ℕ) → IndexRows w → IndexJoins w → IndexDead w → w.told e l q ≡ 1 → entry.log ≡ l → entry.seq ≡ q → ⊥
@@ -58,7 +58,7 @@ record Beaten (w : IndexState) (l q b : ℕ) : Type 0 where
   pub hop : w.hop l q ≤ w.hop w.cleaner b
   pub seq : w.hop l q ≡ w.hop w.cleaner b → b < q
 
-counted_beaten : (w : IndexState) (e l q : ℕ) → CanCount w e l q → IndexRows w → IndexBounds w → IndexJoins w → IndexDead w → w.top.version ≤ w.version l q → Beaten w l q (w.index e).seq
+counted_beaten : (w : IndexState) (e l q : ℕ) → CanCount w e l q → IndexRows w → IndexBounds w → IndexJoins w → IndexDead w → w.joined.version ≤ w.version l q → Beaten w l q (w.index e).seq
 counted_beaten w e l q can rows bounds joins dead top =
     let on = dead.told_active e l q can.told in
     let j = joins.each e on in
@@ -67,7 +67,7 @@ counted_beaten w e l q can rows bounds joins dead top =
     let v = b.version in
     let s = j.within (omega arith) in
     let f = bounds.applied_filed e (w.index e).log in
-    let n = rows.top.newest (w.index e).log (w.index e).seq (omega arith) in
+    let n = rows.joined.newest (w.index e).log (w.index e).seq (omega arith) in
     let a = j.its_version (omega arith) in
     let h = j.its_hop (omega arith) in
     let same : w.version l q ≡ (w.index e).version = omega arith in
@@ -91,7 +91,7 @@ copies_hop w l q x y filed = grind (arith, nat_tests)
 copies_head : (w : IndexState) (l q x : ℕ) → w.head x ≤ (copies w l q).head x
 copies_head w l q x = grind (arith, nat_tests)
 
-copies_top : (w : IndexState) (l q : ℕ) → w.top.version ≤ (copies w l q).top.version
+copies_top : (w : IndexState) (l q : ℕ) → w.joined.version ≤ (copies w l q).joined.version
 copies_top w l q = grind (arith, nat_tests)
 
 -- what was counted is filed
@@ -168,10 +168,10 @@ step_keeps_index_dead w u (Counts e l q can) rows bounds joins dead = record {
   told_some = λ x0 x1 x2 k0. grind (arith, nat_tests, dead.told_some x0 x1 x2);
   told_elsewhere = λ x0 x1 x2 k0 k1 k2. grind (arith, nat_tests, dead.told_elsewhere x0 x1 x2);
   dead_told = λ x0 x1 k0. grind (arith, nat_tests, dead.dead_told x0 x1);
-  beater_filed = λ x0 x1 k0 k1. grind (arith, nat_tests, dead.beater_filed x0 x1, λ (k : w.top.version ≤ w.version l q). (counted_beaten w e l q can rows bounds joins dead k).filed);
-  beater_version = λ x0 x1 k0 k1. grind (arith, nat_tests, dead.beater_version x0 x1, λ (k : w.top.version ≤ w.version l q). (counted_beaten w e l q can rows bounds joins dead k).version);
-  beater_hop = λ x0 x1 k0 k1. grind (arith, nat_tests, dead.beater_hop x0 x1, λ (k : w.top.version ≤ w.version l q). (counted_beaten w e l q can rows bounds joins dead k).hop);
-  beater_seq = λ x0 x1 k0 k1 k2. grind (arith, nat_tests, dead.beater_seq x0 x1, λ (k : w.top.version ≤ w.version l q). (counted_beaten w e l q can rows bounds joins dead k).seq);
+  beater_filed = λ x0 x1 k0 k1. grind (arith, nat_tests, dead.beater_filed x0 x1, λ (k : w.joined.version ≤ w.version l q). (counted_beaten w e l q can rows bounds joins dead k).filed);
+  beater_version = λ x0 x1 k0 k1. grind (arith, nat_tests, dead.beater_version x0 x1, λ (k : w.joined.version ≤ w.version l q). (counted_beaten w e l q can rows bounds joins dead k).version);
+  beater_hop = λ x0 x1 k0 k1. grind (arith, nat_tests, dead.beater_hop x0 x1, λ (k : w.joined.version ≤ w.version l q). (counted_beaten w e l q can rows bounds joins dead k).hop);
+  beater_seq = λ x0 x1 k0 k1 k2. grind (arith, nat_tests, dead.beater_seq x0 x1, λ (k : w.joined.version ≤ w.version l q). (counted_beaten w e l q can rows bounds joins dead k).seq);
   beater_polled = λ x0 x1 x2 k0 k1 k2 k3. grind (arith, nat_tests, dead.beater_polled x0 x1 x2, can.latest);
 }
 step_keeps_index_dead w u (Drops_row l q can) rows bounds joins dead = grind (arith, nat_tests)
@@ -180,7 +180,7 @@ pub new_block_index_dead : (cleaner : ℕ) → IndexDead (new_block cleaner)
 new_block_index_dead cleaner = grind (arith, nat_tests)
 
 -- who is active no earlier than the count names the row only where a newer version is filed
-stays_not : (w : IndexState) (l q e : ℕ) → IndexJoins w → IndexDead w → 0 < w.dead_at l q → w.dead_at l q ≤ e → w.active e ≡ 1 → (w.index e).log ≡ l → (w.index e).seq ≡ q → w.top.version ≤ w.version l q → ⊥
+stays_not : (w : IndexState) (l q e : ℕ) → IndexJoins w → IndexDead w → 0 < w.dead_at l q → w.dead_at l q ≤ e → w.active e ≡ 1 → (w.index e).log ≡ l → (w.index e).seq ≡ q → w.joined.version ≤ w.version l q → ⊥
 stays_not w l q e joins dead counted from on same_l same_q top = go (eq-or-lt_of_le from)
   where
     told : w.told (w.dead_at l q) l q ≡ 1
@@ -193,5 +193,5 @@ stays_not w l q e joins dead counted from on same_l same_q top = go (eq-or-lt_of
         let b = dead.active_reported e on in
         not_named w (w.applied e) (w.index e) l q w.cleaner (w.beater l q) (joins.each e on) (omega arith) (dead.told_some (w.dead_at l q) l q told) (dead.beater_version l q counted top) (dead.beater_hop l q counted top) (dead.beater_seq l q counted top) same_l same_q
 
-pub stays : (w : IndexState) (l q e : ℕ) → IndexJoins w → IndexDead w → 0 < w.dead_at l q → w.dead_at l q ≤ e → w.active e ≡ 1 → (w.index e).log ≡ l → (w.index e).seq ≡ q → w.version l q < w.top.version
+pub stays : (w : IndexState) (l q e : ℕ) → IndexJoins w → IndexDead w → 0 < w.dead_at l q → w.dead_at l q ≤ e → w.active e ≡ 1 → (w.index e).log ≡ l → (w.index e).seq ≡ q → w.version l q < w.joined.version
 stays w l q e joins dead counted from on same_l same_q = let n = stays_not w l q e joins dead counted from on same_l same_q in grind (arith)

@@ -36,18 +36,18 @@ pub index_always : (w : IndexState) → IndexReached w → IndexInvariant w
 index_always w run = index_run_keeps (new_block w.cleaner) w run (record { rows = new_block_index_rows w.cleaner; bounds = new_block_index_bounds w.cleaner; joins = new_block_index_joins w.cleaner; beaten = new_block_index_beaten w.cleaner; dead = new_block_index_dead w.cleaner })
 
 pub index_is_join_always : (w : IndexState) → IndexReached w → IndexIsJoin w
-index_is_join_always w run = let i = index_always w run in record { all = i.rows.top; each = i.joins.each; begun = i.bounds.active_begun }
+index_is_join_always w run = let i = index_always w run in record { all = i.rows.joined; each = i.joins.each; begun = i.bounds.active_begun }
 
 pub cleaning_loses_nothing_always : (w : IndexState) → IndexReached w → CleaningLosesNothing w
 cleaning_loses_nothing_always w run l q dropped some same_log same_seq =
     let i = index_always w run in
-    let top = i.rows.top in
+    let top = i.rows.joined in
     let dead = i.beaten.dead_beaten l q (i.beaten.dropped_dead l q dropped) in
     let a = i.beaten.below_version l q dead in
     let r = top.its_version (omega arith) in
     let s = top.its_hop (omega arith) in
-    let f : w.version w.top.log w.top.seq ≡ w.version l q = ap (λ z. w.version z w.top.seq) same_log ∙ ap (w.version l) same_seq in
-    let g : w.hop w.top.log w.top.seq ≡ w.hop l q = ap (λ z. w.hop z w.top.seq) same_log ∙ ap (w.hop l) same_seq in
+    let f : w.version w.joined.log w.joined.seq ≡ w.version l q = ap (λ z. w.version z w.joined.seq) same_log ∙ ap (w.version l) same_seq in
+    let g : w.hop w.joined.log w.joined.seq ≡ w.hop l q = ap (λ z. w.hop z w.joined.seq) same_log ∙ ap (w.hop l) same_seq in
     let z = i.beaten.below_seq l q dead some (omega arith) (omega arith) in
     omega arith
 

@@ -1,4 +1,5 @@
--- Places: two rows that tie stand in one log; what an index names beats every other row that it covers; and where no newer version is filed, it stands in the cleaner's log.
+-- Places: two rows that tie stand in one log; what an index names beats every other row that it covers; and where no newer version is filed, it
+-- stands in the cleaner's log.
 use Rattle.std.proofs.Common.{◌≡◌, ℕ, ◌<◌, ◌≤◌, ap, ◌∙◌, sym, arith}
 use Rattle.std.proofs.lemmas.Bool.Decides.{nat_tests}
 use Rattle.log_protocol.specs.IndexState.{Entry, IndexState, Joins}

@@ -24,7 +24,7 @@ pub record IndexRows (w : IndexState) : Type 0 where
   -- at one place
   pub one_seq : (l q : ℕ) → l < w.cleaner → 0 < w.version l q → w.version_seq (w.version l q) ≡ q
   -- the top is the join of all that is filed
-  pub top : Joins w.version w.hop w.head w.top
+  pub joined : Joins w.version w.hop w.head w.joined
 
 -- who copies a row is somebody
 copies_named : (w : IndexState) (l q : ℕ) → CanCopy w l q → IndexRows w → 0 < w.cleaner

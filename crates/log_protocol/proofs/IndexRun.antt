@@ -1,4 +1,5 @@
--- A run of the index of a block, as a term: two versions, an activation, a merge, a horizon, a Dead, its counting, a drop, a move, a promise, a second activation, a copy.
+-- A run of the index of a block, as a term: two versions, an activation, a merge, a horizon, a Dead, its counting, a drop, a move, a promise, a
+-- second activation, a copy.
 -- Log 1 is a client's, log 2 the cleaner's; the manager of epoch 1 is followed by that of epoch 2.
 use Rattle.std.proofs.Common.{◌≡◌, ℕ, suc, ◌≤◌, refl, arith}
 use Rattle.std.proofs.lemmas.Bool.Decides.{nat_tests}
@@ -69,7 +70,7 @@ u5 = keeps_horizon u4 (λ l. suc (u4.applied 1 l))
 s5 : IndexSteps u0 u5
 s5 = More s4 (Keeps (λ l. suc (u4.applied 1 l)) (record { rises = λ l. one_le (u4.applied 1) l; applied = λ l. same (λ m. suc (u4.applied 1 m)) l }))
 
-other : u5.top.seq ≡ 1 → ⊥
+other : u5.joined.seq ≡ 1 → ⊥
 other e = omega arith
 
 -- version 5 is answered Dead, which is counted, and is dropped

@@ -1,5 +1,6 @@
 -- Line: the filed segments are one line, one for each seq up to the head, and the names of the last boot that served stand to its head as their order says.
--- Stands on the shelves, and at the step that serves on Rising (Serving.antt has that step of the three groups of this layer). Holds while no doubtful opening has served.
+-- Stands on the shelves, and at the step that serves on Rising (Serving.antt has that step of the three groups of this layer). Holds while no
+-- doubtful opening has served.
 use Rattle.std.proofs.Common.{◌≡◌, ℕ, suc, ◌<◌, ◌≤◌, arith}
 use Rattle.std.proofs.lemmas.Bool.Decides.{nat_tests}
 use Rattle.log_protocol.specs.Packets.{StorePacket, StoredPacket, FragmentPacket, FencedPacket}

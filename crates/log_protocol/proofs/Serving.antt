@@ -1,4 +1,5 @@
--- The step that serves, at which the three groups of the line meet: where the premise on losses holds, what was read back is the line as far as the head, and beyond it the new line.
+-- The step that serves, at which the three groups of the line meet: where the premise on losses holds, what was read back is the line as far as the
+-- head, and beyond it the new line.
 use Rattle.std.proofs.Common.{◌≡◌, ℕ, zero, suc, ◌+◌, ◌-◌, ◌<◌, ◌≤◌, sym, ap, ◌∙◌, subst, arith}
 use Rattle.std.proofs.lemmas.Bool.Decides.{nat_tests}
 use Rattle.log_protocol.specs.State.{State}

@@ -1,4 +1,5 @@
--- The first layer of the invariant, shelves: what is booked, held, listed, remembered and filed. It holds in every run, whatever is lost, and stands on nothing but itself.
+-- The first layer of the invariant, shelves: what is booked, held, listed, remembered and filed. It holds in every run, whatever is lost, and stands
+-- on nothing but itself.
 use Rattle.std.proofs.Common.{ℕ}
 use Rattle.log_protocol.specs.State.{State, Names, new_log}
 use Rattle.log_protocol.specs.Step.{Step}

@@ -8,5 +8,5 @@ count f zero = 0
 count f (suc n) = min 1 (f n) + count f n
 
 -- fewer members of the head were hurt since the span began than it has, unless the horizon passed it before the span
-abbrev pub FewHurt : State → Type 0
-FewHurt w = 0 < w.head → w.span_low ≤ w.head → count w.hurt (w.member_count (w.line w.head)) < w.member_count (w.line w.head)
+abbrev pub NotAllHurt : State → Type 0
+NotAllHurt w = 0 < w.head → w.span_low ≤ w.head → count w.hurt (w.member_count (w.line w.head)) < w.member_count (w.line w.head)

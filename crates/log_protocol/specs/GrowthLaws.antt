@@ -6,7 +6,8 @@ use Rattle.log_protocol.specs.State.{State}
 abbrev pub SameNames : State → State → Type 0
 SameNames w u = (u.servers ≡ w.servers) × (u.seq_of ≡ w.seq_of) × (u.incarnation_of ≡ w.incarnation_of) × (u.attempt_of ≡ w.attempt_of)
 
--- The past stays: from w to a later u the book keeps each name with its text, group, prior and content, what is filed or dropped stays so, generations, horizons and boots never fall, and the line of a log that is still clean is only added to.
+-- The past stays: from w to a later u the book keeps each name with its text, group, prior and content, what is filed or dropped stays so,
+-- generations, horizons and boots never fall, and the line of a log that is still clean is only added to.
 pub record PastStays (w u : State) : Type 0 where
   pub text : (x : ℕ) → w.booked x ≡ 1 → (u.booked x ≡ 1) × (u.text_of x ≡ w.text_of x)
   pub member_count : (x : ℕ) → w.booked x ≡ 1 → u.member_count x ≡ w.member_count x
@@ -23,6 +24,7 @@ pub record PastStays (w u : State) : Type 0 where
   pub head : u.clean ≡ 1 → w.head ≤ u.head
   pub line : (q : ℕ) → u.clean ≡ 1 → q ≤ w.head → u.line q ≡ w.line q
 
--- The interval: a server that lacks a fragment at the end of an interval and isn't marked for it there, with one generation at both ends, has that generation and lacks the fragment at every moment between.
+-- The interval: a server that lacks a fragment at the end of an interval and isn't marked for it there, with one generation at both ends, has that
+-- generation and lacks the fragment at every moment between.
 abbrev pub LacksBetween : State → State → State → Type 0
 LacksBetween w m u = (v x : ℕ) → u.generation v ≡ w.generation v → u.holds v x ≡ 0 → (u.marked v x ≡ 1 → ⊥) → (m.generation v ≡ w.generation v) × (m.holds v x ≡ 1 → ⊥)

@@ -35,13 +35,14 @@ pub record RowsInPlace (w : IndexState) : Type 0 where
   -- a version stands at one place of the clients' logs
   pub one_place : (a x b y : ℕ) → a < w.cleaner → b < w.cleaner → 0 < w.version a x → w.version a x ≡ w.version b y → (a ≡ b) × (x ≡ y)
 
--- The index's past stays: from w to a later u what is filed keeps its row, and heads, the join, epochs, promises, what is applied and horizons only rise; what was answered, counted or dropped stays so.
+-- The index's past stays: from w to a later u what is filed keeps its row, and heads, the join, epochs, promises, what is applied and horizons only
+-- rise; what was answered, counted or dropped stays so.
 pub record IndexPastStays (w u : IndexState) : Type 0 where
   pub cleaner : u.cleaner ≡ w.cleaner
   pub head : (l : ℕ) → w.head l ≤ u.head l
   pub version : (l q : ℕ) → q ≤ w.head l → u.version l q ≡ w.version l q
   pub hop : (l q : ℕ) → q ≤ w.head l → u.hop l q ≡ w.hop l q
-  pub top : w.top.version ≤ u.top.version
+  pub joined : w.joined.version ≤ u.joined.version
   pub epoch : w.epoch ≤ u.epoch
   pub reigning : w.reigning ≤ u.reigning
   pub promised : w.promised ≤ u.promised

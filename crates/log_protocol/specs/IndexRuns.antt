@@ -19,8 +19,8 @@ pub record IndexMoved : Type 0 where
   pub horizon : state.floor 2 1 ≡ 3
   pub dropped : state.dropped 1 1 ≡ 1
   pub older : state.version 1 1 ≡ 5
-  pub newest : state.top.version ≡ 6
-  pub copied : state.top.hop ≡ 1
+  pub newest : state.joined.version ≡ 6
+  pub copied : state.joined.hop ≡ 1
 
 -- Every kind of step is taken.
 abbrev pub EveryIndexStepTaken : Type 0

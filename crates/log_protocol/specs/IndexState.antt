@@ -18,7 +18,7 @@ pub record IndexState : Type 0 where
   pub hop : ℕ → ℕ → ℕ
   pub head : ℕ → ℕ
   -- ghost: the join of all filed rows
-  pub top : Entry
+  pub joined : Entry
   -- the registry's epoch of the slot: one stay of one manager each
   pub epoch : ℕ
   -- by epoch: whether its manager was active, how far it applied each log, and its index
@@ -50,7 +50,7 @@ new_block cleaner = record {
   version = λ l q. 0;
   hop = λ l q. 0;
   head = λ l. 0;
-  top = record { version = 0; hop = 0; log = 0; seq = 0 };
+  joined = record { version = 0; hop = 0; log = 0; seq = 0 };
   epoch = 1;
   active = λ e. 0;
   applied = λ e l. 0;

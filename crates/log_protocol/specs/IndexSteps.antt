@@ -10,7 +10,7 @@ pub record CanFile (w : IndexState) (l version : ℕ) : Type 0 where
   pub named : 0 < l
   pub client : l < w.cleaner
   -- only an owner writes, and it writes above what was settled: the token law
-  pub new : w.top.version < version
+  pub new : w.joined.version < version
 
 abbrev pub files : IndexState → ℕ → ℕ → IndexState
 files w l version =
@@ -18,7 +18,7 @@ files w l version =
       version = put_at w.version l (suc (w.head l)) version;
       hop = put_at w.hop l (suc (w.head l)) 0;
       head = put w.head l (suc (w.head l));
-      top = record { version = version; hop = 0; log = l; seq = suc (w.head l) };
+      joined = record { version = version; hop = 0; log = l; seq = suc (w.head l) };
       version_log = put w.version_log version l;
       version_seq = put w.version_seq version (suc (w.head l));
     }
@@ -40,13 +40,13 @@ pub record CanCopy (w : IndexState) (l q : ℕ) : Type 0 where
 
 abbrev pub copies : IndexState → ℕ → ℕ → IndexState
 copies w l q =
-    let newer = nat_lt (w.version l q) w.top.version in
-    let further = nat_lt (w.hop l q) w.top.hop in
+    let newer = nat_lt (w.version l q) w.joined.version in
+    let further = nat_lt (w.hop l q) w.joined.hop in
     record w {
       version = put_at w.version w.cleaner (suc (w.head w.cleaner)) (w.version l q);
       hop = put_at w.hop w.cleaner (suc (w.head w.cleaner)) (suc (w.hop l q));
       head = put w.head w.cleaner (suc (w.head w.cleaner));
-      top = if newer then w.top else if further then w.top else record { version = w.version l q; hop = suc (w.hop l q); log = w.cleaner; seq = suc (w.head w.cleaner) };
+      joined = if newer then w.joined else if further then w.joined else record { version = w.version l q; hop = suc (w.hop l q); log = w.cleaner; seq = suc (w.head w.cleaner) };
     }
 
 -- the manager of an epoch is active, with this much applied and this index

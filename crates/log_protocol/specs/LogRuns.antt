@@ -6,11 +6,13 @@ use Rattle.log_protocol.specs.StepKinds.{Kind, kinds}
 use Rattle.log_protocol.specs.StepKinds.Kind.{Accept, Accept_again, Begin, Crash, Cut, Delete, Drop, Fence, Fill, Hear, Learn, Lose, Note, Open, Pick_kept, Pick_none, Pick_prior, Raise, Restart, Restripe, Seal, Send, Serve, Settle, Tell}
 use Rattle.log_protocol.specs.LogLaws.{Reached}
 
--- the first boot files a segment, writes the next, restripes it and falls; the second boot adopts that one, while a horizon passes the segment before it, and serves; then a segment is dropped, and a server lost and filled again
+-- the first boot files a segment, writes the next, restripes it and falls; the second boot adopts that one, while a horizon passes the segment before
+-- it, and serves; then a segment is dropped, and a server lost and filled again
 abbrev pub adopted_steps : List Kind
 adopted_steps = Seal ∷ Send ∷ Accept ∷ Note ∷ Settle ∷ Seal ∷ Restripe ∷ Send ∷ Accept ∷ Accept_again ∷ Crash ∷ Begin ∷ Fence ∷ Pick_kept ∷ Raise ∷ Cut ∷ Open ∷ Send ∷ Accept ∷ Note ∷ Serve ∷ Drop ∷ Delete ∷ Tell ∷ Lose ∷ Hear ∷ Learn ∷ Fill ∷ []
 
--- A tail is restriped, the owner falls, and its reopening adopts the later attempt and serves, while the horizon passes a segment that it has read. Then this segment
+-- A tail is restriped, the owner falls, and its reopening adopts the later attempt and serves, while the horizon passes a segment that it has read.
+-- Then this segment
 -- is dropped and deleted, and a server loses its disk, is heard and learned of, and fills its shelf again.
 pub record TailAdopted : Type 0 where
   pub state : State
@@ -37,7 +39,8 @@ pub record TailAdopted : Type 0 where
 abbrev pub discarded_steps : List Kind
 discarded_steps = Seal ∷ Send ∷ Accept ∷ Note ∷ Settle ∷ Seal ∷ Send ∷ Accept ∷ Crash ∷ Begin ∷ Fence ∷ Fence ∷ Pick_prior ∷ Open ∷ Send ∷ Accept ∷ Note ∷ Serve ∷ Crash ∷ Restart ∷ []
 
--- A tail that one of its members never held is discarded: the opening segment takes its place, after the segment before it. A restart in the form of a manager's follows.
+-- A tail that one of its members never held is discarded: the opening segment takes its place, after the segment before it. A restart in the form of
+-- a manager's follows.
 pub record TailDiscarded : Type 0 where
   pub served : State
   pub reached : Reached served

@@ -12,7 +12,8 @@ pub record Missed (before after : State) (v generation x : ℕ) : Type 0 where
   pub in_generation : at.generation v ≡ generation
   pub lacks : at.holds v x ≡ 0
 
--- Two rounds over a segment: the first began after `since` and ended at m, the second began after m and ended at u; more members than `spare` answered Missing in both, each in one generation.
+-- Two rounds over a segment: the first began after `since` and ended at m, the second began after m and ended at u; more members than `spare`
+-- answered Missing in both, each in one generation.
 pub record MissedTwice (since m u : State) (x spare : ℕ) : Type 0 where
   -- which members those are, and in which generation each answered
   pub member : ℕ → ℕ

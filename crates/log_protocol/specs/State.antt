@@ -15,7 +15,8 @@ pub record State : Type 0 where
   pub generation : ℕ → ℕ
   pub registry_generation : ℕ → ℕ
   pub owner_generation : ℕ → ℕ
-  -- the shelves, by server and name: whether a fragment is held, the text of the segment that it was cut from, its index, and whether the name is marked as deleted
+  -- the shelves, by server and name: whether a fragment is held, the text of the segment that it was cut from, its index, and whether the name is
+  -- marked as deleted
   pub holds : ℕ → ℕ → ℕ
   pub kept_text : ℕ → ℕ → ℕ
   pub kept_index : ℕ → ℕ → ℕ

@@ -10,7 +10,8 @@ pub record NamesNew (w : State) : Type 0 where
   pub restriped : (x count : ℕ) (server : ℕ → ℕ) → CanRestripe w x count server → w.booked x ≡ 1 → ⊥
   pub opened : (x count : ℕ) (server : ℕ → ℕ) → CanOpen w x count server → w.booked x ≡ 1 → ⊥
 
--- Serving files what was read: after an opening that serves, what is filed is what was, the opening segment, and what was read back from `lowest` on, each at its seq.
+-- Serving files what was read: after an opening that serves, what is filed is what was, the opening segment, and what was read back from `lowest` on,
+-- each at its seq.
 pub record FilesWhatWasRead (w : State) (path : ℕ → ℕ) (lowest sure : ℕ) : Type 0 where
   pub read : (q : ℕ) → lowest ≤ q → q < w.opening_seq → ((serves w path lowest sure).filed (path q) ≡ 1) × (w.seq_of (path q) ≡ q)
   pub opening : (serves w path lowest sure).filed w.flight ≡ 1
@@ -35,6 +36,7 @@ pub record LacksHead (w : State) (i : ℕ) : Type 0 where
   pub lacks : w.holds (w.member_server (w.line w.head) i) (w.line w.head) ≡ 0
   pub kept : w.dropped (w.line w.head) ≡ 0
 
--- Hurt is earned: over a step, a member of the head that is hurt in a span was so before, or lacks its fragment now, and the head isn't dropped. A head that the horizon passed before the span isn't spoken of.
+-- Hurt is earned: over a step, a member of the head that is hurt in a span was so before, or lacks its fragment now, and the head isn't dropped. A
+-- head that the horizon passed before the span isn't spoken of.
 abbrev pub HurtEarned : State → State → Type 0
 HurtEarned w u = (i : ℕ) → InSpan u → 0 < u.head → u.span_low ≤ u.head → 0 < u.hurt i → HurtBefore w u i ⊎ LacksHead u i

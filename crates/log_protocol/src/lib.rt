@@ -21,7 +21,7 @@ ghost use Rattle.log_protocol.specs.GrowthLaws.{PastStays, LacksBetween, SameNam
 ghost use Rattle.log_protocol.specs.LogRuns.{TailAdopted, TailDiscarded, EmptyOpened, EveryStepTaken};
 ghost use Rattle.log_protocol.specs.PickRule.{gather, best, SameLists};
 ghost use Rattle.log_protocol.specs.NamesAsNumbers.{code_seq, code_incarnation, code_attempt, Decodes};
-ghost use Rattle.log_protocol.specs.Counting.{FewHurt};
+ghost use Rattle.log_protocol.specs.Counting.{NotAllHurt};
 ghost use Rattle.log_protocol.specs.LossLaws.{MissedTwice, Whole, ReadBy, TornBetween};
 ghost use Rattle.log_protocol.specs.IndexState.{Entry, IndexState, Joins};
 ghost use Rattle.log_protocol.specs.IndexLaws.{IndexReached, IndexIsJoin, CleaningLosesNothing, DeadStays, HorizonStays};
@@ -72,7 +72,7 @@ pub fn undoubted_runs_are_clean()
 /// Few losses keep an opening undoubted: where fewer members of the newest filed segment were hurt since the span
 /// began than it has, the premise on losses is met.
 pub fn few_losses_are_undoubted()
-    ensures undoubted { (w : State) → FewHurt w → Undoubted w }
+    ensures undoubted { (w : State) → NotAllHurt w → Undoubted w }
 {}
 
 /// A hurt member is one that lacks the head: in a clean log a member of the head that is of the generation that its

@@ -1,6 +1,6 @@
 -- The chain hangs together: what an opening that reads it back keeps true, at each input.
 use Rattle.std.proofs.Common.{◌≡◌, ℕ, ◌+◌, ◌≤◌, ◌&&◌, List, [], ◌∷◌, ◌++◌, map, Option, Some, None, refl, sym, ap, ◌∙◌, subst, arith}
-use Rattle.std.specs.Prelude.{◌==◌, ⊤, reverse, nat_lt, length}
+use Rattle.std.specs.Prelude.{◌==◌, reverse, nat_lt, length}
 use Rattle.std.specs.List.{AllByRecursion}
 use Rattle.std.proofs.lemmas.Bool.{or_parts, ltb-false}
 use Rattle.std.proofs.lemmas.List.{reverse-reverse, reverse-append}
@@ -70,7 +70,7 @@ record SoFar (log : LogId) (b : Backward) : Type 0 where
 
 -- the reading looks for what is read next
 abbrev LooksFor : LogId → End → Option ReadingState → Type 0
-LooksFor log e None = ⊤
+LooksFor log e None = Unit {0}
 LooksFor log e (Some r) = r.target ≡ target_at log e
 
 record IsBack (log : LogId) (b : Backward) (r : Option ReadingState) : Type 0 where
@@ -79,11 +79,11 @@ record IsBack (log : LogId) (b : Backward) (r : Option ReadingState) : Type 0 wh
   looks : LooksFor log b.next r
 
 abbrev IsStage : LogId → Stage → Type 0
-IsStage log Hails = ⊤
-IsStage log (Gathers lists) = ⊤
-IsStage log (Asks lists) = ⊤
+IsStage log Hails = Unit {0}
+IsStage log (Gathers lists) = Unit {0}
+IsStage log (Asks lists) = Unit {0}
 IsStage log (Reads b r) = IsBack log b r
-IsStage log Over = ⊤
+IsStage log Over = Unit {0}
 
 record IsOpening (log : LogId) (o : Opening) : Type 0 where
   of_log : o.log ≡ log

@@ -1,6 +1,6 @@
 -- The log goes on behind the start that was picked: what is read and told at each input has that start.
 use Rattle.std.proofs.Common.{◌≡◌, ℕ, ◌+◌, true, ◌&&◌, List, [], ◌∷◌, ◌++◌, map, Option, Some, None, inl, inr, ◌⊎◌, refl, arith}
-use Rattle.std.specs.Prelude.{◌==◌, ⊤, length}
+use Rattle.std.specs.Prelude.{◌==◌, length}
 use Rattle.std.specs.List.{AllByRecursion}
 use Rattle.std.proofs.lemmas.Bool.{eqb-true}
 use Rattle.group_map.specs.declared.group.Group.{Group}
@@ -35,18 +35,18 @@ none_left (x ∷ xs) h = absurd (let e : length (x ∷ xs) ≡ 0 = eqb-true (len
 -- of whatever starts and lists are meant
 module _ (Q : End → Type 0) (A : List Listing → Type 0) where
   abbrev Stands : Stage → Type 0
-  Stands Hails = ⊤
-  Stands (Gathers lists) = ⊤
+  Stands Hails = Unit {0}
+  Stands (Gathers lists) = Unit {0}
   Stands (Asks lists) = A lists
   Stands (Reads b r) = Q b.start
-  Stands Over = ⊤
+  Stands Over = Unit {0}
 
   abbrev Says : Out → Type 0
-  Says (Hello ask) = ⊤
-  Says (Fence server) = ⊤
-  Says (Fetch server name ask) = ⊤
+  Says (Hello ask) = Unit {0}
+  Says (Fence server) = Unit {0}
+  Says (Fetch server name ask) = Unit {0}
   Says (Chain segments end prior) = Q end
-  Says (Lost name) = ⊤
+  Says (Lost name) = Unit {0}
 
   -- what is read and what is told starts so
   record From (d : Done) : Type 0 where

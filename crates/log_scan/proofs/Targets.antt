@@ -1,6 +1,6 @@
 -- A reading keeps what it looks for, and what it reads has that name.
 use Rattle.std.proofs.Common.{◌≡◌, ℕ, true, cond, ◌&&◌, Option, Some, None, refl, arith}
-use Rattle.std.specs.Prelude.{Result, Ok, Err, ⊤}
+use Rattle.std.specs.Prelude.{Result, Ok, Err}
 use Rattle.std.proofs.lemmas.Bool.Decides.{nat_tests}
 use Rattle.group_map.specs.GroupMapState.{GroupMapState}
 use Rattle.segment_format.specs.declared.seg_error.SegError.{SegError}
@@ -30,11 +30,11 @@ one_name a b h =
 
 -- a segment that is read has this name
 abbrev pub ReadsName : SegName → Next → Type 0
-ReadsName name Wait = ⊤
-ReadsName name Ask = ⊤
-ReadsName name Again = ⊤
+ReadsName name Wait = Unit {0}
+ReadsName name Ask = Unit {0}
+ReadsName name Again = Unit {0}
 ReadsName name (Read s) = s.name ≡ name
-ReadsName name Lost = ⊤
+ReadsName name Lost = Unit {0}
 
 pub record KeepsTarget (r : ReadingState) (step : Step) : Type 0 where
   pub same : step.state.target ≡ r.target

@@ -1,5 +1,5 @@
 -- What is claimed of every opening: what is picked, from where it is read back, and how the chain hangs together.
-use Rattle.std.specs.Prelude.{◌≡◌, ℕ, ◌≤◌, ◌⊎◌, ⊤, Contains, List, [], ◌∷◌, Some, max, reverse}
+use Rattle.std.specs.Prelude.{◌≡◌, ℕ, ◌≤◌, ◌⊎◌, Contains, List, [], ◌∷◌, Some, max, reverse}
 use Rattle.std.specs.List.{AllByRecursion}
 use Rattle.segment_format.specs.declared.segment.Segment.{Segment}
 use Rattle.xfs_base.specs.declared.fragment.FragMeta.{FragMeta}
@@ -37,7 +37,7 @@ pub record IsPicked (low : ℕ) (lists : List Listing) (picked : FragMeta) : Typ
 -- Newest first: the end names the first segment, and each segment names the next as the one before it, whose number is one
 -- lower.
 abbrev pub AreLinked : LogId → End → List Segment → Type 0
-AreLinked log end [] = ⊤
+AreLinked log end [] = Unit {0}
 AreLinked log end (s ∷ rest) = (s.name ≡ name_at log end) × (1 ≤ end.seq) × AreLinked log (end_below s) rest
 
 -- the segments in rising order hang together from the end down, none has a number above it, and the prior that is told is the end's
@@ -47,11 +47,11 @@ pub record IsLinked (log : LogId) (segments : List Segment) (end : End) (prior :
   pub prior_is : prior ≡ prior_at end
 
 abbrev pub TellsLinked : LogId → Out → Type 0
-TellsLinked log (Hello ask) = ⊤
-TellsLinked log (Fence server) = ⊤
-TellsLinked log (Fetch server name ask) = ⊤
+TellsLinked log (Hello ask) = Unit {0}
+TellsLinked log (Fence server) = Unit {0}
+TellsLinked log (Fetch server name ask) = Unit {0}
 TellsLinked log (Chain segments end prior) = IsLinked log segments end prior
-TellsLinked log (Lost name) = ⊤
+TellsLinked log (Lost name) = Unit {0}
 
 -- an opening that began so and took these inputs, newest first
 abbrev pub state_after : ScanState → List In → ScanState
@@ -80,16 +80,16 @@ IsStartFrom o Over input end = ⊥
 -- the lists of all servers are in when the registry is asked for the Welcome by which it is picked, and stay as they are until
 -- then; while the chain is read its start is the one that was picked
 abbrev pub KeepsStart : ScanState → In → Stage → Type 0
-KeepsStart s input Hails = ⊤
-KeepsStart s input (Gathers lists) = ⊤
+KeepsStart s input Hails = Unit {0}
+KeepsStart s input (Gathers lists) = Unit {0}
 KeepsStart s input (Asks lists) = (s.stage ≡ Asks lists) ⊎ (awaited s.opening.groups lists ≡ [])
 KeepsStart s input (Reads b r) = IsStartFrom s.opening s.stage input b.start
-KeepsStart s input Over = ⊤
+KeepsStart s input Over = Unit {0}
 
 -- and the log goes on behind it
 abbrev pub TellsStart : ScanState → In → Out → Type 0
-TellsStart s input (Hello ask) = ⊤
-TellsStart s input (Fence server) = ⊤
-TellsStart s input (Fetch server name ask) = ⊤
+TellsStart s input (Hello ask) = Unit {0}
+TellsStart s input (Fence server) = Unit {0}
+TellsStart s input (Fetch server name ask) = Unit {0}
 TellsStart s input (Chain segments end prior) = IsStartFrom s.opening s.stage input end
-TellsStart s input (Lost name) = ⊤
+TellsStart s input (Lost name) = Unit {0}

@@ -10,7 +10,7 @@ use Rattle.xfs_base.specs.declared.segment.SegName.{SegName}
 use Rattle.client_log.specs.declared.output.Out.TheVariants.{Send, Settled}
 use Rattle.segment_format.specs.Text.{text_of}
 use Rattle.log_tie.specs.Setting.{name_of, Setting, fragment_of}
-use Rattle.log_tie.specs.Seen.{Topped, Book, StoreSeen, AllSaid, log_filed, ByOwner, Goes}
+use Rattle.log_tie.specs.Seen.{EndFollows, Book, StoreSeen, AllSaid, log_filed, ByOwner, Goes}
 
 pub steps_through : (w v u : State) → Steps w v → Steps v u → Steps w u
 steps_through w v u s Done = s
@@ -64,15 +64,15 @@ module _ (g : Setting) where
   filed_right (Send f m ∷ os) more name is = filed_right os more name is
   filed_right (Settled end rows ∷ os) more name is = inr (filed_right os more name is)
 
-  topped_through : (w v u : State) (outs more : List Out) → Topped g w v outs → Topped g v u more → Topped g w u (outs ++ more)
-  topped_through w v u outs more (inl e) (inl f) = inl (f ∙ e)
-  topped_through w v u outs more (inr is) (inl f) = inr (filed_left outs more _ (subst (λ z. In (name_of g z) (log_filed g.log outs)) (sym f) is))
-  topped_through w v u outs more a (inr is) = inr (filed_right outs more _ is)
+  end_follows_through : (w v u : State) (outs more : List Out) → EndFollows g w v outs → EndFollows g v u more → EndFollows g w u (outs ++ more)
+  end_follows_through w v u outs more (inl e) (inl f) = inl (f ∙ e)
+  end_follows_through w v u outs more (inr is) (inl f) = inr (filed_left outs more _ (subst (λ z. In (name_of g z) (log_filed g.log outs)) (sym f) is))
+  end_follows_through w v u outs more a (inr is) = inr (filed_right outs more _ is)
 
   module _ (P : State → (ℕ → Segment) → Type 0) where
     -- nothing happens
     pub goes_nowhere : (w : State) (book : ℕ → Segment) → Book g w book → P w book → Goes g w book P []
-    goes_nowhere w book paged shows = record { world = w; later = book; steps = Done; frame = by_nothing g w book; paged = paged; shows = shows; said = tt; top = inl refl }
+    goes_nowhere w book paged shows = record { world = w; later = book; steps = Done; frame = by_nothing g w book; paged = paged; shows = shows; said = tt; end_follows = inl refl }
 
     -- some steps, and then others
     pub goes_through : (Q : State → (ℕ → Segment) → Type 0) (w : State) (book : ℕ → Segment) (outs more : List Out) (t : Goes g w book Q outs) → Goes g t.world t.later P more → Goes g w book P (outs ++ more)
@@ -84,5 +84,5 @@ module _ (g : Setting) where
       paged = u.paged;
       shows = u.shows;
       said = said_both u.world u.later outs more (said_on t.world u.world t.later u.later outs u.frame t.said) u.said;
-      top = topped_through w t.world u.world outs more t.top u.top;
+      end_follows = end_follows_through w t.world u.world outs more t.end_follows u.end_follows;
     }

@@ -236,7 +236,7 @@ module _ (g : Setting) (w : State) (book : ℕ → Segment) (fixed : Fixed g w) 
       chain_filed g w book fixed paged lowest sure s.end.seq shown.read.next chain shown.read.opening shown.read.from shown.read.chained,
     );
     said = ((w.flight, here, sym end.1, end.2), tt);
-    top = inr (inl (λ i. record { log = g.log; seq = end.1 i; pass = (sym end.2) i }));
+    end_follows = inr (inl (λ i. record { log = g.log; seq = end.1 i; pass = (sym end.2) i }));
   }
     where
       lowest : ℕ
@@ -292,11 +292,11 @@ module _ (g : Setting) (chain : List Segment) where
       paged = t.paged;
       shows = inl (aloft_writes t.world t.later s f h (λ x is. (t.frame.booked x is, t.frame.segment x is)) t.paged t.shows);
       said = t.said;
-      top = t.top;
+      end_follows = t.end_follows;
     }
 
     nothing : (s : LogState) → WritingShown g w book chain s → To w book (still s)
-    nothing s h = record { world = w; later = book; steps = Done; frame = record { others = refl; booked = λ x is. is; segment = λ x is. refl; stores = λ p is. is; filed = λ x is. is; calm = λ none c. c }; paged = paged; shows = inl h; said = tt; top = inl refl }
+    nothing s h = record { world = w; later = book; steps = Done; frame = record { others = refl; booked = λ x is. is; segment = λ x is. refl; stores = λ p is. is; filed = λ x is. is; calm = λ none c. c }; paged = paged; shows = inl h; said = tt; end_follows = inl refl }
 
     by_test : (t : Bool) (d e : log.Done) → (t ≡ true → To w book d) → (t ≡ false → To w book e) → To w book (cond t d e)
     by_test true d e h k = h refl
@@ -326,7 +326,7 @@ module _ (g : Setting) (chain : List Segment) where
 
         settling : Goes g w book (λ v later. Serves g v later (log.landed s f) × AllFiled g v chain) (Settled (end_from f.segment) (rows_of f.segment) ∷ []) → To w book (after (Settled (end_from f.segment) (rows_of f.segment) ∷ []) (log.if_full (log.landed s f)))
         settling t = subst (λ (d : log.Done). To w book (after (Settled (end_from f.segment) (rows_of f.segment) ∷ []) d)) (sym lands)
-            (record { world = t.world; later = t.later; steps = t.steps; frame = t.frame; paged = t.paged; shows = inr t.shows; said = t.said; top = t.top })
+            (record { world = t.world; later = t.later; steps = t.steps; frame = t.frame; paged = t.paged; shows = inr t.shows; said = t.said; end_follows = t.end_follows })
 
     looks_goes : (before s : LogState) (f : FlightState) → WritingShown g w book chain before → WritingShown g w book chain s → Flying g book f s.inc s.end.seq (w.booked w.flight) w.flight w.noted → (g.doubts ≡ false → w.pick_low ≤ w.head → Undoubted w)
         → To w book (log.looked_at before s f)
@@ -359,7 +359,7 @@ module _ (g : Setting) (chain : List Segment) where
             flying = h.flying;
           });
           said = t.said;
-          top = inl refl;
+          end_follows = inl refl;
         }
 
   module _ (w : State) (book : ℕ → Segment) (fixed : Fixed g w) (paged : Book g w book) (reached : Reached w) where

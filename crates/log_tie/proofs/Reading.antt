@@ -43,7 +43,7 @@ use Rattle.log_protocol.proofs.Induction.{always}
 use Rattle.log_tie.specs.Setting.{Setting, Stripe, name_of, point}
 use Rattle.log_tie.specs.Seen.{Page, Book, Fixed}
 use Rattle.log_tie.specs.Openings.{Chained, AllFrom}
-use Rattle.log_tie.specs.Scans.{Asked, asked_by, Gathering, LooksFor, ReadingShown, StageShown, ScanShown, Gives, Scanned}
+use Rattle.log_tie.specs.Scans.{Asked, asked_by, Gathering, LooksFor, ReadingShown, StageShown, ScanShown, OutShown, Scanned}
 use Rattle.log_tie.specs.Rounds.{IsSpelled, RoundShown}
 use Rattle.log_tie.proofs.Names.{coded, point_some}
 use Rattle.log_tie.proofs.Rounds.{ToldSeen, answered_shown, new_shown}
@@ -117,7 +117,7 @@ module _ (g : Setting) (v : State) (book : ℕ → Segment) (hellos : List Asked
   -- ---- what is said
 
   -- nothing that asks the registry or tells a chain
-  pub sees_quiet : (o : Opening) (stage : Stage) (outs : List Out) → Framed o → asked_by v.incarnation v.low outs hellos ≡ hellos → AllByRecursion (Gives g v book o.groups) outs → StageShown g v book hellos o stage → Sees (goes o stage outs)
+  pub sees_quiet : (o : Opening) (stage : Stage) (outs : List Out) → Framed o → asked_by v.incarnation v.low outs hellos ≡ hellos → AllByRecursion (OutShown g v book o.groups) outs → StageShown g v book hellos o stage → Sees (goes o stage outs)
   sees_quiet o stage outs f same gives h = record {
     shown = subst (λ hs. ScanShown g v book hs (record { opening = o; stage = stage })) (sym same) (record { log = f.log; inc = f.inc; horizon = f.horizon; asked = f.asked; stage = h });
     gives = gives;
@@ -130,7 +130,7 @@ module _ (g : Setting) (v : State) (book : ℕ → Segment) (hellos : List Asked
   asked_fetches name ask [] = refl
   asked_fetches name ask (s ∷ ss) = asked_fetches name ask ss
 
-  gives_fetches : (o : Opening) (name : SegName) (ask : ℕ) (servers : List ℕ) → AllByRecursion (Gives g v book o.groups) (map (λ server. Fetch server name ask) servers)
+  gives_fetches : (o : Opening) (name : SegName) (ask : ℕ) (servers : List ℕ) → AllByRecursion (OutShown g v book o.groups) (map (λ server. Fetch server name ask) servers)
   gives_fetches o name ask [] = tt
   gives_fetches o name ask (s ∷ ss) = (tt, gives_fetches o name ask ss)
 
@@ -138,7 +138,7 @@ module _ (g : Setting) (v : State) (book : ℕ → Segment) (hellos : List Asked
   asked_fences [] = refl
   asked_fences (s ∷ ss) = asked_fences ss
 
-  gives_fences : (o : Opening) (servers : List ℕ) → AllByRecursion (Gives g v book o.groups) (fences servers)
+  gives_fences : (o : Opening) (servers : List ℕ) → AllByRecursion (OutShown g v book o.groups) (fences servers)
   gives_fences o [] = tt
   gives_fences o (s ∷ ss) = (tt, gives_fences o ss)
 
@@ -171,13 +171,13 @@ module _ (g : Setting) (v : State) (book : ℕ → Segment) (hellos : List Asked
 
   -- a reading is seen alike after a question
   asked_reading : (o : Opening) (ask : ℕ) (b : Backward) → ReadingShown g v book o b → ReadingShown g v book (record o { ask = ask }) b
-  asked_reading o ask b h = record { phase = h.phase; mapped = record { map = h.mapped.map; is = h.mapped.is; whole = h.mapped.whole; known = h.mapped.known }; base = h.base; opening = h.opening; low = h.low; past = h.past; from = h.from; chained = h.chained; seq = h.seq; grouped = h.grouped }
+  asked_reading o ask b h = record { phase = h.phase; mapped = record { map = h.mapped.map; taken = h.mapped.taken; whole = h.mapped.whole; known = h.mapped.known }; base = h.base; opening = h.opening; low = h.low; past = h.past; from = h.from; chained = h.chained; seq = h.seq; grouped = h.grouped }
 
   -- all lists are in: the registry is asked
   pub asks_new : (o : Opening) (lists : List Listing) (bound : ℕ) → Framed o → Gathering g v book o bound lists → ((u : ℕ) → 0 < u → u < suc g.servers → has_list u lists ≡ true) → bound ≤ v.low → v.begin_low ≤ bound → Sees (asks_anew o (Asks lists))
   asks_new o lists bound f k every past begun = sees_anew o (Asks lists) f (record {
     bound = bound;
-    gathering = record { phase = k.phase; phantom = k.phantom; mapped = record { map = k.mapped.map; is = k.mapped.is; whole = k.mapped.whole; known = k.mapped.known }; kept = k.kept };
+    gathering = record { phase = k.phase; phantom = k.phantom; mapped = record { map = k.mapped.map; taken = k.mapped.taken; whole = k.mapped.whole; known = k.mapped.known }; kept = k.kept };
     every = every;
     past = past;
     begun = begun;
@@ -196,7 +196,7 @@ module _ (g : Setting) (v : State) (book : ℕ → Segment) (hellos : List Asked
     gives = (
       (
         h.mapped.map,
-        h.mapped.is,
+        h.mapped.taken,
         record {
           phase = h.phase;
           map = h.mapped.whole.seen.whole;
@@ -212,7 +212,7 @@ module _ (g : Setting) (v : State) (book : ℕ → Segment) (hellos : List Asked
   begins_shown : (o : Opening) (b : Backward) (group : Option Group) → known_group o.groups b.next.group ≡ group → Framed o → ReadingShown g v book o b → is_bottom o.low b.next ≡ false → Sees (begins_in o b group)
   begins_shown o b None of f h more = sees_anew o (Reads b None) f (asked_reading o (o.ask + 1) b h, more, tt)
   begins_shown o b (Some group) of f h more =
-      let known : group_of h.mapped.map b.next.group ≡ Some group = ap (λ (gs : Option GroupMapState). known_group gs b.next.group) (sym h.mapped.is) ∙ of in
+      let known : group_of h.mapped.map b.next.group ≡ Some group = ap (λ (gs : Option GroupMapState). known_group gs b.next.group) (sym h.mapped.taken) ∙ of in
       let named = h.mapped.whole.named b.next.group group known in
       sees_fetches (drawn o) b (reading.begun (target_at o.log b.next) group (o.ask + 1)) (framed_drawn o (o.ask + 1) (omega arith) f) (
         asked_reading o (o.ask + 1) b h,

@@ -67,7 +67,7 @@ module _ (g : Setting) (w : State) (book : ℕ → Segment) (hellos : List Asked
 
   -- by these steps
   goes_by : (v : State) (d : Done) → Steps w v → ByOwner g w v book book → Book g v book → v.end ≡ w.end → Sees g v book hellos d → To d
-  goes_by v d steps by pages same shows = record { world = v; later = book; steps = steps; frame = by; paged = pages; shows = shows; said = tt; top = inl same }
+  goes_by v d steps by pages same shows = record { world = v; later = book; steps = steps; frame = by; paged = pages; shows = shows; said = tt; end_follows = inl same }
 
   -- by none
   goes_still : (d : Done) → Sees g w book hellos d → To d
@@ -89,7 +89,7 @@ module _ (g : Setting) (w : State) (book : ℕ → Segment) (hellos : List Asked
     goes_learned d shows = goes_by learned d learning (record { others = refl; booked = λ x is. is; segment = λ x is. refl; stores = λ p is. is; filed = λ x is. is; calm = λ none c. c }) paged refl shows
 
     mapped_there : Mapped g learned (Some m)
-    mapped_there = record { map = m; is = refl; whole = whole; known = λ u. refl }
+    mapped_there = record { map = m; taken = refl; whole = whole; known = λ u. refl }
 
     phantom_there : Phantom w → Phantom learned
     phantom_there p = record { generation = p.generation; listed = p.listed; nothing = p.nothing; sent = p.sent }
@@ -147,7 +147,7 @@ module _ (g : Setting) (w : State) (book : ℕ → Segment) (hellos : List Asked
         cut_reading : ReadingShown g cut book risen b
         cut_reading = record {
           phase = h.phase;
-          mapped = record { map = m; is = refl; whole = whole; known = λ u. refl };
+          mapped = record { map = m; taken = refl; whole = whole; known = λ u. refl };
           base = h.base;
           opening = h.opening;
           low = refl;
@@ -219,7 +219,7 @@ module _ (g : Setting) (w : State) (book : ℕ → Segment) (hellos : List Asked
         none_goes : counting (max o.low least) lists ≡ [] → To (follows risen (read_from (end_of_none (max o.low least - 1))))
         none_goes none = from_start (picks_none learned (max o.low least)) (end_of_none (max o.low least - 1))
             (More learning (Picks_none lists_of (max o.low least) (picks_nothing g learned book learned_fixed paged learned_reached m whole k.bound (max o.low least) lists gathering.kept gathering.phantom k.every k.begun later risen_known gathering.phase none)))
-            (record { others = refl; booked = λ x is. is; segment = λ x is. refl; stores = λ p is. is; filed = λ x is. is; calm = λ none c. c }) paged refl refl (record { map = m; is = refl; whole = whole; known = λ u. refl }) refl (let a = low_some in omega arith) refl refl refl refl none_named
+            (record { others = refl; booked = λ x is. is; segment = λ x is. refl; stores = λ p is. is; filed = λ x is. is; calm = λ none c. c }) paged refl refl (record { map = m; taken = refl; whole = whole; known = λ u. refl }) refl (let a = low_some in omega arith) refl refl refl refl none_named
           where
             none_named : IsGrouped g book w.booked (end_of_none (max o.low least - 1))
             none_named y is named = let a = (paged y is).boot in let b = ap (λ (n : SegName). n.pass.inc) named in absurd (omega arith)
@@ -245,14 +245,14 @@ module _ (g : Setting) (w : State) (book : ℕ → Segment) (hellos : List Asked
           kept_goes : is_torn lists b.name group.members ≡ false → To (follows risen (read_from (end_at b)))
           kept_goes none = from_start (picks_kept learned (max o.low least) one.number) (end_at b)
               (More learning (Picks_kept lists_of (max o.low least) one.number (keeps_it g learned book learned_fixed paged learned_reached m whole k.bound (max o.low least) lists gathering.kept gathering.phantom k.every k.begun later risen_known b one group of gathering.phase none)))
-              (record { others = refl; booked = λ x is. is; segment = λ x is. refl; stores = λ p is. is; filed = λ x is. is; calm = λ none c. c }) paged refl refl (record { map = m; is = refl; whole = whole; known = λ u. refl })
+              (record { others = refl; booked = λ x is. is; segment = λ x is. refl; stores = λ p is. is; filed = λ x is. is; calm = λ none c. c }) paged refl refl (record { map = m; taken = refl; whole = whole; known = λ u. refl })
               (sym (point_some g b.name.seq b.name.pass some_inc ∙ (ap (λ (z : SegName). g.code z.seq z.pass.inc z.pass.att) one.named ∙ coded g one.number))) (let a = seq in omega arith) refl refl refl refl kept_grouped
 
           prior_goes : is_torn lists b.name group.members ≡ true → To (follows risen (read_from (end_before b)))
           prior_goes torn = let l = torn_lacks lists b.name group.members torn in
               from_start (picks_prior learned (max o.low least) one.number) (end_before b)
               (More learning (Picks_prior lists_of (max o.low least) one.number l.place (discards_it g learned book learned_fixed paged learned_reached m whole k.bound (max o.low least) lists gathering.kept gathering.phantom k.every k.begun later risen_known b one group of gathering.phase l)))
-              (record { others = refl; booked = λ x is. is; segment = λ x is. refl; stores = λ p is. is; filed = λ x is. is; calm = λ none c. c }) paged refl refl (record { map = m; is = refl; whole = whole; known = λ u. refl })
+              (record { others = refl; booked = λ x is. is; segment = λ x is. refl; stores = λ p is. is; filed = λ x is. is; calm = λ none c. c }) paged refl refl (record { map = m; taken = refl; whole = whole; known = λ u. refl })
               (page.after ∙ ap (λ (z : FragMeta). point g (z.name.seq - 1) z.prior.pass) (sym one.is)) (let a = (always w reached).shelf.priors.seq_some one.number one.booked in let q = seq in omega arith) refl refl refl refl prior_grouped
 
           start_goes : To (follows risen (read_from (start_in lists b group)))
@@ -297,7 +297,7 @@ module _ (g : Setting) (w : State) (book : ℕ → Segment) (hellos : List Asked
 
   module _ (o : Opening) (lists : List Listing) (l : Listing) (h : ScanShown g w book hellos (record { opening = o; stage = Gathers lists })) (seen : FencedSeen g w book l.server w.incarnation l.generation l.held) where
     count : server_count o.groups ≡ g.servers
-    count = let a : server_count o.groups ≡ h.stage.mapped.map.servers = ap server_count h.stage.mapped.is in let b = h.stage.mapped.whole.size in omega arith
+    count = let a : server_count o.groups ≡ h.stage.mapped.map.servers = ap server_count h.stage.mapped.taken in let b = h.stage.mapped.whole.size in omega arith
 
     listed_then : (a b c : Bool) → a ≡ true → b ≡ true → (a && (b && not c)) ≡ false → c ≡ true
     listed_then a b true p q e = refl

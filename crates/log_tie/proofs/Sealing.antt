@@ -48,7 +48,7 @@ module _ (g : Setting) (w : State) (book : ℕ → Segment) (fixed : Fixed g w) 
         paged = pages;
         shows = shows t.all;
         said = t.said;
-        top = inl same_end;
+        end_follows = inl same_end;
       }
 
   module _ (reached : Reached w) (s : LogState) where

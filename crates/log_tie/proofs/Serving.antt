@@ -34,7 +34,7 @@ use Rattle.xfs_base.specs.Blocks.{same_block}
 use Rattle.xfs_base.specs.Limits.{segment_blocks}
 use Rattle.xfs_base.proofs.Booleans.{contrary, and_first, by_test as pick}
 use Rattle.log_tie.specs.Setting.{Setting, present_at}
-use Rattle.log_tie.specs.Seen.{Topped, Book, Flying, FlightShown, Serves, ByOwner, Goes, Fixed, Others, others_of, Standing}
+use Rattle.log_tie.specs.Seen.{EndFollows, Book, Flying, FlightShown, Serves, ByOwner, Goes, Fixed, Others, others_of, Standing}
 use Rattle.log_tie.specs.Inputs.{StoredSeen, MapSeen, TakesInputs}
 use Rattle.log_tie.proofs.Names.{one_name, one_number}
 use Rattle.log_protocol.specs.Tables.{put}
@@ -132,7 +132,7 @@ module _ (g : Setting) where
           paged = paged;
           shows = record { writes = record { log = h.writes.log; inc = h.writes.inc; some = h.writes.some; map = h.writes.map; known = h.writes.known }; phase = h.phase; end = h.end; end_seq = h.end_seq; flight = h.flight };
           said = t.said;
-          top = inl refl;
+          end_follows = inl refl;
         }
 
   module _ (w : State) (book : ℕ → Segment) (fixed : Fixed g w) (paged : Book g w book) (reached : Reached w) where
@@ -173,9 +173,9 @@ module _ (g : Setting) where
 
   -- some steps of the owner before
   pub goes_after : (P : State → (ℕ → Segment) → Type 0) (w v : State) (book : ℕ → Segment) (outs : List Out) → Steps w v → ByOwner g w v book book → v.end ≡ w.end → Goes g v book P outs → Goes g w book P outs
-  goes_after P w v book outs steps by same t = record { world = t.world; later = t.later; steps = steps_through w v t.world steps t.steps; frame = by_through g w v t.world book book t.later by t.frame; paged = t.paged; shows = t.shows; said = t.said; top = after_end t.top }
+  goes_after P w v book outs steps by same t = record { world = t.world; later = t.later; steps = steps_through w v t.world steps t.steps; frame = by_through g w v t.world book book t.later by t.frame; paged = t.paged; shows = t.shows; said = t.said; end_follows = after_end t.end_follows }
     where
-      after_end : Topped g v t.world outs → Topped g w t.world outs
+      after_end : EndFollows g v t.world outs → EndFollows g w t.world outs
       after_end (inl e) = inl (e ∙ same)
       after_end (inr is) = inr is
 

@@ -30,7 +30,7 @@ use Rattle.log_tie.proofs.Booking.{with_page, page_here, page_there, booked_stat
 use Rattle.log_tie.proofs.Sealing.{launch, nothing_noted}
 
 pub goes_map : (g : Setting) (w : State) (book : ℕ → Segment) (P Q : State → (ℕ → Segment) → Type 0) (outs : List Out) → ((v : State) (later : ℕ → Segment) → P v later → Q v later) → Goes g w book P outs → Goes g w book Q outs
-goes_map g w book P Q outs k t = record { world = t.world; later = t.later; steps = t.steps; frame = t.frame; paged = t.paged; shows = k t.world t.later t.shows; said = t.said; top = t.top }
+goes_map g w book P Q outs k t = record { world = t.world; later = t.later; steps = t.steps; frame = t.frame; paged = t.paged; shows = k t.world t.later t.shows; said = t.said; end_follows = t.end_follows }
 
 either : (a b : Bool) → (a || b) ≡ true → (a ≡ true) ⊎ (b ≡ true)
 either true b h = inl refl
@@ -157,7 +157,7 @@ module _ (g : Setting) (w : State) (book : ℕ → Segment) (fixed : Fixed g w) 
 
   -- it waits on
   pub waits_goes : (f : FlightState) → Writes g w s → FlyingHere f → Goes g w book (Aloft s f) []
-  waits_goes f writes h = record { world = w; later = book; steps = Done; frame = record { others = refl; booked = λ x is. is; segment = λ x is. refl; stores = λ p is. is; filed = λ x is. is; calm = λ none c. c }; paged = paged; shows = record { writes = writes; flying = h; standing = refl }; said = tt; top = inl refl }
+  waits_goes f writes h = record { world = w; later = book; steps = Done; frame = record { others = refl; booked = λ x is. is; segment = λ x is. refl; stores = λ p is. is; filed = λ x is. is; calm = λ none c. c }; paged = paged; shows = record { writes = writes; flying = h; standing = refl }; said = tt; end_follows = inl refl }
 
   -- each member is noted or lost
   pub settled_there : (f : FlightState) → Writes g w s → FlyingHere f → all_done s.groups f.noted f.group.members 0 ≡ true → Settled w
@@ -202,7 +202,7 @@ module _ (g : Setting) (w : State) (book : ℕ → Segment) (fixed : Fixed g w) 
       flight = refl;
     };
     said = ((w.flight, here, sym end.1, end.2), tt);
-    top = inr (inl (λ i. record { log = g.log; seq = end.1 i; pass = (sym end.2) i }));
+    end_follows = inr (inl (λ i. record { log = g.log; seq = end.1 i; pass = (sym end.2) i }));
   }
     where
       put_one : (x : ℕ) → w.filed x ≡ 1 → (settles w).filed x ≡ 1

@@ -51,7 +51,7 @@ module _ (g : Setting) (w u : State) (book : ℕ → Segment) (hellos : List Ask
   mapped_stays : (o : Opening) → Mapped g w o.groups → Mapped g u o.groups
   mapped_stays o m = record {
     map = m.map;
-    is = m.is;
+    taken = m.taken;
     whole = record {
       seen = record { whole = m.whole.seen.whole; past = λ v. (let a = m.whole.seen.past v in let b = by.registry v in omega arith) };
       size = m.whole.size;

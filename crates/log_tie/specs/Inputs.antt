@@ -37,5 +37,6 @@ Brings g w Tick = Unit {0}
 -- Each input of a serving owner's log is taken by steps of the owner.
 abbrev pub TakesInputs : Type 0
 TakesInputs =
-    (g : Setting) (w : State) (book : ℕ → Segment) (s : LogState) (input : inputs.In) → Fixed g w → Reached w → Book g w book → Serves g w book s → Brings g w input
+    (g : Setting) (w : State) (book : ℕ → Segment) (s : LogState) (input : inputs.In) → Fixed g w → Reached w → Book g w book → Serves g w book s
+    → Brings g w input
     → Goes g w book (λ v later. Serves g v later (transition s input).state) (transition s input).outs

@@ -105,7 +105,7 @@ pub record Phantom (w : State) : Type 0 where
 -- the map that the owner took
 pub record Mapped (g : Setting) (w : State) (groups : Option GroupMapState) : Type 0 where
   pub map : GroupMapState
-  pub is : groups ≡ Some map
+  pub taken : groups ≡ Some map
   pub whole : WholeMap g w.registry_generation map
   pub known : (v : ℕ) → w.owner_generation v ≡ present_at map v
 
@@ -158,12 +158,12 @@ pub record ScanShown (g : Setting) (w : State) (book : ℕ → Segment) (hellos 
   pub stage : StageShown g w book hellos s.opening s.stage
 
 -- where a chain is told, all is read back
-abbrev pub Gives : Setting → State → (ℕ → Segment) → Option GroupMapState → Out → Type 0
-Gives g w book groups (Hello ask) = Unit {0}
-Gives g w book groups (Fence server) = Unit {0}
-Gives g w book groups (Fetch server name ask) = Unit {0}
-Gives g w book groups (Chain segments end prior) = (m : GroupMapState) × (groups ≡ Some m) × ReadShown g w book end segments m
-Gives g w book groups (Lost name) = Unit {0}
+abbrev pub OutShown : Setting → State → (ℕ → Segment) → Option GroupMapState → Out → Type 0
+OutShown g w book groups (Hello ask) = Unit {0}
+OutShown g w book groups (Fence server) = Unit {0}
+OutShown g w book groups (Fetch server name ask) = Unit {0}
+OutShown g w book groups (Chain segments end prior) = (m : GroupMapState) × (groups ≡ Some m) × ReadShown g w book end segments m
+OutShown g w book groups (Lost name) = Unit {0}
 
 -- ---- the laws
 
@@ -179,12 +179,13 @@ BringsScan g w book hellos s Tick = Unit {0}
 -- the opening is seen as it is after the input, and what it tells is read back
 pub record Scanned (g : Setting) (w : State) (book : ℕ → Segment) (hellos : List Asked) (s : ScanState) (outs : List Out) : Type 0 where
   pub shown : ScanShown g w book (asked_by w.incarnation w.low outs hellos) s
-  pub gives : AllByRecursion (Gives g w book s.opening.groups) outs
+  pub gives : AllByRecursion (OutShown g w book s.opening.groups) outs
 
 -- Each input of an opening is taken by steps of the owner, where what is booked can be read back.
 abbrev pub ScanTakes : Type 0
 ScanTakes =
-    (g : Setting) (w : State) (book : ℕ → Segment) (hellos : List Asked) (s : ScanState) (input : inputs.In) → Fixed g w → Reached w → Book g w book → IsSpelled g book w.booked → ScanShown g w book hellos s → BringsScan g w book hellos s input
+    (g : Setting) (w : State) (book : ℕ → Segment) (hellos : List Asked) (s : ScanState) (input : inputs.In) → Fixed g w → Reached w → Book g w book
+    → IsSpelled g book w.booked → ScanShown g w book hellos s → BringsScan g w book hellos s input
     → Goes g w book (λ v later. Scanned g v later hellos (transition s input).state (transition s input).outs) []
 
 -- A restart: the owner's next boot, in which server 0 is asked at once; all else is as it was.
@@ -199,7 +200,8 @@ pub record Restarted (g : Setting) (w : State) (book : ℕ → Segment) (hellos 
 -- An owner that is down begins to open its log by steps; no question of its next boot was asked, and server 0 holds nothing.
 abbrev pub ScanStarts : Type 0
 ScanStarts =
-    (g : Setting) (w : State) (book : ℕ → Segment) (hellos : List Asked) → Fixed g w → Reached w → Book g w book → w.phase ≡ 0 → ((x : ℕ) → w.holds 0 x ≡ 0) → ((a : Asked) → In a hellos → a.inc ≤ w.incarnation)
+    (g : Setting) (w : State) (book : ℕ → Segment) (hellos : List Asked) → Fixed g w → Reached w → Book g w book → w.phase ≡ 0
+    → ((x : ℕ) → w.holds 0 x ≡ 0) → ((a : Asked) → In a hellos → a.inc ≤ w.incarnation)
     → Restarted g w book hellos
 
 -- what others leave as it was while a log is opened
@@ -238,4 +240,6 @@ pub record ByOthers (w u : State) : Type 0 where
 
 -- What others do leaves an opening as it is seen.
 abbrev pub ScanStays : Type 0
-ScanStays = (g : Setting) (w u : State) (book : ℕ → Segment) (hellos : List Asked) (s : ScanState) → ByOthers w u → ScanShown g w book hellos s → ScanShown g u book hellos s
+ScanStays =
+    (g : Setting) (w u : State) (book : ℕ → Segment) (hellos : List Asked) (s : ScanState) → ByOthers w u → ScanShown g w book hellos s
+    → ScanShown g u book hellos s

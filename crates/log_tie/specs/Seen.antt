@@ -31,7 +31,8 @@ pub record Page (g : Setting) (x : ℕ) (s : Segment) (text count : ℕ) (server
 
 -- the book: of each booked name the segment
 abbrev pub Book : Setting → State → (ℕ → Segment) → Type 0
-Book g w book = (x : ℕ) → w.booked x ≡ 1 → Page g x (book x) (w.text_of x) (w.member_count x) (w.member_server x) (w.member_generation x) (w.prior_of x) (w.content_of x)
+Book g w book =
+    (x : ℕ) → w.booked x ≡ 1 → Page g x (book x) (w.text_of x) (w.member_count x) (w.member_server x) (w.member_generation x) (w.prior_of x) (w.content_of x)
 
 -- a segment in flight
 pub record Flying (g : Setting) (book : ℕ → Segment) (f : FlightState) (inc seq booked flight : ℕ) (noted : ℕ → ℕ) : Type 0 where
@@ -135,8 +136,8 @@ pub record ByOwner (g : Setting) (w v : State) (book later : ℕ → Segment) : 
   pub calm : g.doubts ≡ false → w.clean ≡ 1 → v.clean ≡ 1
 
 -- the end stays, or is what was filed
-abbrev pub Topped : Setting → State → State → List Out → Type 0
-Topped g w v outs = (v.end ≡ w.end) ⊎ In (name_of g v.end) (log_filed g.log outs)
+abbrev pub EndFollows : Setting → State → State → List Out → Type 0
+EndFollows g w v outs = (v.end ≡ w.end) ⊎ In (name_of g v.end) (log_filed g.log outs)
 
 -- By steps of the owner the state becomes one in which P holds, with a book, and in which what is given was sent.
 pub record Goes (g : Setting) (w : State) (book : ℕ → Segment) (P : State → (ℕ → Segment) → Type 0) (outs : List Out) : Type 0 where
@@ -147,7 +148,7 @@ pub record Goes (g : Setting) (w : State) (book : ℕ → Segment) (P : State �
   pub paged : Book g world later
   pub shows : P world later
   pub said : AllSaid g world.booked later world.stores world.filed outs
-  pub top : Topped g w world outs
+  pub end_follows : EndFollows g w world outs
 
 -- what is known of every state that a run of machines shows
 pub record Fixed (g : Setting) (w : State) : Type 0 where
@@ -167,4 +168,5 @@ pub record Standing : Type 0 where
   pub clean : ℕ
 
 abbrev pub standing_of : State → Standing
-standing_of w = record { phase = w.phase; end = w.end; base = w.base; opening_seq = w.opening_seq; read_low = w.read_low; pick_low = w.pick_low; clean = w.clean }
+standing_of w =
+    record { phase = w.phase; end = w.end; base = w.base; opening_seq = w.opening_seq; read_low = w.read_low; pick_low = w.pick_low; clean = w.clean }

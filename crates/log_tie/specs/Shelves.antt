@@ -95,9 +95,12 @@ Owes g w book v s Loses = s.generation < u32_end
 
 -- what it answers is told there: a Stored, a Fragment, a Fenced with what is held
 abbrev pub Tells : Setting → State → (ℕ → Segment) → ℕ → ShelfState → Deed → Type 0
-Tells g u book v s (Stores f generation) = is_of_log g f.meta.name ≡ true → is_stored s f generation ≡ true → (x : ℕ) × (f.meta.name ≡ name_of g x) × In (record { name = x; index = f.meta.index; generation = generation }) u.storeds
+Tells g u book v s (Stores f generation) =
+    is_of_log g f.meta.name ≡ true → is_stored s f generation ≡ true
+    → (x : ℕ) × (f.meta.name ≡ name_of g x) × In (record { name = x; index = f.meta.index; generation = generation }) u.storeds
 Tells g u book v s (Fetches name) =
-    (f : Fragment) → is_of_log g name ≡ true → held_at s.held name ≡ Some f → (x : ℕ) × (i : ℕ) × (u.booked x ≡ 1) × (name ≡ name_of g x) × (f ≡ fragment_of g (book x) i) × In (record { name = x; text = u.text_of x }) u.fragments
+    (f : Fragment) → is_of_log g name ≡ true → held_at s.held name ≡ Some f
+    → (x : ℕ) × (i : ℕ) × (u.booked x ≡ 1) × (name ≡ name_of g x) × (f ≡ fragment_of g (book x) i) × In (record { name = x; text = u.text_of x }) u.fragments
 Tells g u book v s (Fences inc) = (packet : FencedPacket) × In packet u.fenceds × (packet.from ≡ v) × (packet.incarnation ≡ inc) × (packet.generation ≡ s.generation) × ((x : ℕ) → packet.listed x ≡ flag (is_held s (name_of g x)))
 Tells g u book v s (Deletes name) = Unit {0}
 Tells g u book v s (Fills f) = Unit {0}
@@ -140,4 +143,6 @@ pub record Did (g : Setting) (w : State) (book : ℕ → Segment) (v : ℕ) (s :
 
 -- Whatever is done to a shelf is done by steps of its server.
 abbrev pub TakesDeeds : Type 0
-TakesDeeds = (g : Setting) (w : State) (book : ℕ → Segment) (v : ℕ) (s : ShelfState) (deed : Deed) → Reached w → Book g w book → ShelfShown g w book v s → Owes g w book v s deed → Did g w book v s deed
+TakesDeeds =
+    (g : Setting) (w : State) (book : ℕ → Segment) (v : ℕ) (s : ShelfState) (deed : Deed) → Reached w → Book g w book → ShelfShown g w book v s
+    → Owes g w book v s deed → Did g w book v s deed

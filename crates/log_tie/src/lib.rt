@@ -14,7 +14,8 @@ pub fn log_inputs()
     ensures { TakesInputs }
 {}
 
-/// A log that is opened again, once all of it is read back: its opening segment is written by a step of the opening, and each input that it then takes is a list
+/// A log that is opened again, once all of it is read back: its opening segment is written by a step of the opening, and each input that it then
+/// takes is a list
 /// of steps, until the segment has settled, the owner serves and all that was read back is filed. Where no restart is doubtful the premise on losses is asked
 /// for (the 1996 paper, on recovery).
 pub fn opening_inputs()
@@ -24,12 +25,14 @@ pub fn opening_inputs()
 
 /// Whatever is done to a server's shelf is done by steps of that server: a Store is kept or found held, a Fetch is answered with a fragment of the booked
 /// segment, a Fence with what is held, a name is deleted, a rebuild fills in, a disk is lost. Asked of the world are that Stores and what a rebuild read were
-/// sent, that what is deleted was dropped, that a Fence is of a boot that began, and that generations don't end. No guard asks for the fences that a shelf keeps.
+/// sent, that what is deleted was dropped, that a Fence is of a boot that began, and that generations don't end. No guard asks for the fences that a
+/// shelf keeps.
 pub fn shelf_deeds()
     ensures { TakesDeeds }
 {}
 
-/// A log that is opened again, from the restart until all of it is read back: each input of its opening is a list of steps: maps are learned, what the lists name
+/// A log that is opened again, from the restart until all of it is read back: each input of its opening is a list of steps: maps are learned, what
+/// the lists name
 /// is picked, kept or passed over, reading back is cut at later horizons; and where the opening tells its chain, all is read back. What others do meanwhile
 /// leaves it as it is seen. Asked of the world are that
 /// lists, fragments and answers of the registry were sent, that maps of groups are the registry's and whole, and that each booked segment has a text and names

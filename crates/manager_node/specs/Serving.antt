@@ -12,8 +12,8 @@ use Rattle.node_base.specs.declared.maps.Maps.{Maps}
 use Rattle.node_base.specs.Known.{names_known}
 use Rattle.node_base.specs.Maps.{at_start, fits, is_older, taken}
 use Rattle.node_base.specs.Room.{has_room}
-use Rattle.takeover.specs.declared.events.In.{In}
-use Rattle.takeover.specs.declared.events.In.TheVariants as input
+use Rattle.takeover.specs.declared.input.In.{In}
+use Rattle.takeover.specs.declared.input.In.TheVariants as input
 use Rattle.wire_msg.specs.declared.body.Body.{Body}
 use Rattle.wire_msg.specs.declared.body.Body.TheVariants as body
 use Rattle.wire_msg.specs.declared.cleaning.Check.{Check}

@@ -9,8 +9,8 @@ use Rattle.manager_map.specs.declared.entry.SlotEntry.{SlotEntry}
 use Rattle.manager_map.specs.Slots.{start_entries, entry_at}
 use Rattle.node_base.specs.declared.effects.Effect.{Effect}
 use Rattle.node_base.specs.declared.questions.Questions.{Questions}
-use Rattle.takeover.specs.declared.events.In.{In}
-use Rattle.takeover.specs.declared.events.In.TheVariants as input
+use Rattle.takeover.specs.declared.input.In.{In}
+use Rattle.takeover.specs.declared.input.In.TheVariants as input
 use Rattle.token_manager.specs.Index.{pages_of}
 use Rattle.token_manager.specs.Recalls.{applied_of}
 use Rattle.token_manager.specs.SlotState.{SlotState}

@@ -14,10 +14,10 @@ use Rattle.node_base.specs.declared.questions.Questions.{Questions}
 use Rattle.node_base.specs.Asking.{number_for, asked_as, drawn_for}
 use Rattle.takeover.specs.TakeState.{started}
 use Rattle.takeover.specs.Transition.{transition}
-use Rattle.takeover.specs.declared.events.In.{In}
-use Rattle.takeover.specs.declared.events.In.TheVariants as input
-use Rattle.takeover.specs.declared.events.Out.{Out}
-use Rattle.takeover.specs.declared.events.Out.TheVariants as out
+use Rattle.takeover.specs.declared.input.In.{In}
+use Rattle.takeover.specs.declared.input.In.TheVariants as input
+use Rattle.takeover.specs.declared.output.Out.{Out}
+use Rattle.takeover.specs.declared.output.Out.TheVariants as out
 use Rattle.token_manager.specs.Transition.{started as slot_started}
 use Rattle.manager_node.specs.declared.slot_phase.SlotPhase.{SlotPhase}
 use Rattle.manager_node.specs.declared.slot_phase.SlotPhase.TheVariants as phase
@@ -69,6 +69,10 @@ heard (phase.Broken epoch seg) given = still (phase.Broken epoch seg)
 -- it takes an input, and what it says is done
 unfoldable pub takes : Asker → ℕ → In → Done
 takes a slot given = says_each slot (record a { phase = (heard a.phase given).state }) (heard a.phase given).outs
+
+-- newer groups
+abbrev pub told_groups : GroupMapState → In
+told_groups groups = input.Maps groups
 
 abbrev pub is_poll : Out → Bool
 is_poll (out.Poll to) = true

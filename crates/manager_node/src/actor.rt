@@ -17,8 +17,13 @@ impl Actor for Manager {
         let mut effects = Effects::new(alloc);
         let peers = self.peers;
         let phase = self.happens(alloc, &mut effects, what)?;
-        let (packets, acts) = effects.into_parts(alloc, node)?;
-        Ok((Manager { peers, phase }, packets, acts))
+        match effects.into_parts(alloc, node) {
+            Ok((packets, acts)) => Ok((Manager { peers, phase }, packets, acts)),
+            Err(error) => {
+                drop(phase);
+                Err(error)
+            }
+        }
     }
 
     ghost no_clock = { manager_sends_clock_0 };

@@ -125,13 +125,24 @@ fn serving_wish(
     match wish {
         Wish::Crash => crash(effects, serving.lasting, number),
         Wish::Restart => {
-            effects.answer(number, Answer::Up)?;
-            Ok(Phase::Serving(serving))
+            // It is dropped by a call, here and below, so that each part of it is dropped in one proof.
+            match effects.answer(number, Answer::Up) {
+                Ok(()) => Ok(Phase::Serving(serving)),
+                Err(error) => {
+                    drop(serving);
+                    Err(error)
+                }
+            }
         }
         Wish::Checkpoint => {
             let mut serving = serving;
-            serving.on_checkpoint(alloc, effects, number)?;
-            Ok(Phase::Serving(serving))
+            match serving.on_checkpoint(alloc, effects, number) {
+                Ok(()) => Ok(Phase::Serving(serving)),
+                Err(error) => {
+                    drop(serving);
+                    Err(error)
+                }
+            }
         }
     }
 }

@@ -129,8 +129,14 @@ fn on_packet(
         }
         Phase::Serving(serving) => {
             let mut serving = serving;
-            serving.hear(alloc, effects, peers.clients, packet)?;
-            Ok(Phase::Serving(serving))
+            // It is dropped by a call, here and below, so that each part of it is dropped in one proof.
+            match serving.hear(alloc, effects, peers.clients, packet) {
+                Ok(()) => Ok(Phase::Serving(serving)),
+                Err(error) => {
+                    drop(serving);
+                    Err(error)
+                }
+            }
         }
     }
 }
@@ -179,8 +185,13 @@ fn on_welcome(
     let maps = Maps::forgotten(peers.servers);
     let groups = welcome.news.groups.copy(alloc)?;
     let mut serving = Serving::again(alloc, lasting, maps, groups)?;
-    serving.on_news(alloc, effects, peers.clients, &welcome.news)?;
-    Ok(Phase::Serving(serving))
+    match serving.on_news(alloc, effects, peers.clients, &welcome.news) {
+        Ok(()) => Ok(Phase::Serving(serving)),
+        Err(error) => {
+            drop(serving);
+            Err(error)
+        }
+    }
 }
 
 // Time passes.
@@ -197,8 +208,13 @@ fn on_time(alloc: Global, effects: &mut Effects, phase: Phase) -> Mem<Phase>
         }
         Phase::Serving(serving) => {
             let mut serving = serving;
-            serving.on_tick(alloc, effects)?;
-            Ok(Phase::Serving(serving))
+            match serving.on_tick(alloc, effects) {
+                Ok(()) => Ok(Phase::Serving(serving)),
+                Err(error) => {
+                    drop(serving);
+                    Err(error)
+                }
+            }
         }
     }
 }

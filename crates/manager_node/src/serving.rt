@@ -74,12 +74,13 @@ impl Serving {
     ) -> Mem<Serving>
         ensures { IfOk result (λ serving. serving ≡ begun lasting maps slots groups) }
     {
-        let log = lasting.log();
+        let name = lasting.log();
+        let writer = Writer::start(alloc, name)?;
         Ok(Serving {
             maps,
             slots,
-            log: Log::start(alloc, log, lasting.inc, NO_END, groups)?,
-            writer: Writer::start(alloc, log)?,
+            log: Log::start(alloc, name, lasting.inc, NO_END, groups)?,
+            writer,
             dones: 0,
             checkpoint: None,
             lasting,

@@ -310,7 +310,7 @@ impl SlotTable {
         Ok(())
     }
 
-    #[tactic(auto, unfolding(crate::specs::SlotTable::regroups))]
+    #[tactic(auto, unfolding(crate::specs::SlotTable::takes))]
     fn regroup_one(
         &mut self,
         alloc: Global,
@@ -323,8 +323,10 @@ impl SlotTable {
         ensures questions { OnOk result (questions.new ≡ (regroups groups.now (table_asker self.old questions.old) slot).state.questions) }
         ensures effects { OnOk result (effects.new ≡ effects.old ++ (regroups groups.now (table_asker self.old questions.old) slot).outs) }
     {
-        let input = takeover::In::Maps(groups.copy(alloc)?);
-        self.take(alloc, effects, questions, slot, input)
+        match self.phases.get_mut(usize::from(slot)) {
+            Some(phase) => takeovers::regroup(alloc, effects, questions, phase, slot, groups),
+            None => Ok(()),
+        }
     }
 
     /// The maps tell of slots, in order.

@@ -3,7 +3,7 @@ ghost use Rattle.std.specs.Prelude.{◌≡◌, ◌++◌, ◌∷◌, [], IfOk, On
 ghost use Rattle.takeover.specs.Course.{StartsSlot};
 ghost use Rattle.node_base.specs.Asking.{number_for, asked_as, drawn_for};
 ghost use Rattle.log_owner.specs.Sending.{fetch};
-ghost use Rattle.manager_node.specs.Takeovers.{asker, fetches, says, says_each, heard, takes, is_poll, is_wanted, kept_of, asks_again, on_report, phase_of};
+ghost use Rattle.manager_node.specs.Takeovers.{asker, fetches, says, says_each, heard, takes, is_poll, is_wanted, kept_of, asks_again, on_report, phase_of, told_groups};
 
 use crate::slot_phase::{Active, SlotPhase, Taking};
 use group_map::GroupMap;
@@ -77,6 +77,33 @@ pub(crate) fn take(
 {
     let outs = outs_of(alloc, phase, input)?;
     say_each(alloc, effects, questions, phase, slot, outs)
+}
+
+/// A takeover that is under way hears of newer groups, which are copied for it alone.
+#[tactic(auto, unfolding(crate::specs::Takeovers::takes, crate::specs::Takeovers::heard, crate::specs::Takeovers::says_each))]
+pub(crate) fn regroup(
+    alloc: Global,
+    effects: &mut Effects,
+    questions: &mut Questions,
+    phase: &mut SlotPhase,
+    slot: u8,
+    groups: &GroupMap,
+) -> Mem<()>
+    ensures state { OnOk result (phase.new ≡ (takes (asker phase.old questions.old) slot (told_groups groups.now)).state.phase) }
+    ensures questions { OnOk result (questions.new ≡ (takes (asker phase.old questions.old) slot (told_groups groups.now)).state.questions) }
+    ensures effects { OnOk result (effects.new ≡ effects.old ++ (takes (asker phase.old questions.old) slot (told_groups groups.now)).outs) }
+{
+    if !phase.is_taking() {
+        return Ok(());
+    }
+    take(
+        alloc,
+        effects,
+        questions,
+        phase,
+        slot,
+        In::Maps(groups.copy(alloc)?),
+    )
 }
 
 /// Time passes: a takeover's polls are sent again, or what else it asks.

@@ -17,7 +17,7 @@ use Rattle.token_client.specs.declared.output.Out.TheVariants.{Want, Gave, Suppl
 use Rattle.token_client.specs.Held.{is_dirty, is_asking, must_ask, is_wanted, is_answer, may_write, is_settled_by, may_end_fetch, may_evict, asked, asked_again, copied, fetch_ended, written, version_settled, let_go, unasked, unfetched, promise_dropped, put_off, given_up}
 use Rattle.token_client.specs.Laws.{IsSound}
 use Rattle.token_client.specs.State.{TokensState, held_of, with_held, is_in_slot}
-use Rattle.token_client.specs.Transition.{Done, ask, on_need, accepts, is_promised, on_supplied, serves, supplies, on_forwarded, refetch, give, can_refetch, recalled_above, was_answered, recalled_again, recalled, on_recalled, on_wrote, on_settled, on_fetched, on_evict, on_reask, on_quit, fetched_in, raised, ask_copy, may_promise, on_promise, is_spent, repeated, ask_again, wanted_in, on_tick}
+use Rattle.token_client.specs.Transition.{Done, new_want, on_need, accepts, is_promised, on_supplied, serves, supplies, on_forwarded, refetch, give, can_refetch, recalled_above, was_answered, recalled_again, recalled, on_recalled, on_wrote, on_settled, on_fetched, on_evict, on_reask, on_quit, fetched_in, raised, ask_copy, may_promise, on_promise, is_spent, repeated, ask_again, wanted_in, on_tick}
 use Rattle.token_client.proofs.Promises.{Each, Each-weaker, IsFetched, agrees-itself, dropped-known, fetched-facts}
 use Rattle.token_client.proofs.Tables.{held_of-put_itself, put_each, put_same}
 use Rattle.node_tie.proofs.AsksBlock.{Need, Suits, WantSuits, asked-suits, asked_again-suits, copied-suits, fetch_ended-suits, fetch_needed, given_up-suits, let_go-suits, promise_dropped-suits, put_off-suits, unasked-suits, unfetched-suits, version_settled-suits, written-suits}
@@ -54,8 +54,8 @@ module _ (n : Need) where
   pub put-suits : (s : TokensState) → AllSuit n s → (block : BlockId) (g : Held) → Suits n block g → AllSuit n (with_held s block g)
   put-suits s p block g here = put_each (Suits n) block g s.blocks here p
 
-  ask-quiet : (s : TokensState) (block : BlockId) (mode : Mode) → Each IsQuiet (ask s block mode).outs
-  unfolding ask
+  ask-quiet : (s : TokensState) (block : BlockId) (mode : Mode) → Each IsQuiet (new_want s block mode).outs
+  unfolding new_want
   ask-quiet s block mode =
       let h : Held = held_of s.blocks block in
       by_test (λ (d : Done). Each IsQuiet d.outs) (nat_lt s.req (2 ^ 32 - 1))
@@ -64,8 +64,8 @@ module _ (n : Need) where
 
   -- a want of what is needed may be opened, where the mode that is held is below
   ask-suits : (s : TokensState) → AllSuit n s → (block : BlockId) (mode : Mode) → n ≡ Some (block, mode) → allows (held_of s.blocks block).mode mode ≡ false
-      → AllSuit n (ask s block mode).state
-  unfolding ask
+      → AllSuit n (new_want s block mode).state
+  unfolding new_want
   ask-suits s p block mode is above =
       let h : Held = held_of s.blocks block in
       by_test (λ (d : Done). AllSuit n d.state) (nat_lt s.req (2 ^ 32 - 1))
@@ -76,7 +76,7 @@ module _ (n : Need) where
   ask_copy-quiet s block = ask-quiet s block Copy
 
   ask-goes_on : (s : TokensState) → AllSuit n s → (block : BlockId) (mode : Mode) → n ≡ Some (block, mode) → allows (held_of s.blocks block).mode mode ≡ false
-      → GoesOn n (ask s block mode)
+      → GoesOn n (new_want s block mode)
   ask-goes_on s p block mode is above = record { suits = ask-suits s p block mode is above; quiet = ask-quiet s block mode }
 
   module _ (s : TokensState) (sound : IsSound s) (p : AllSuit n s) where
@@ -90,7 +90,7 @@ module _ (n : Need) where
     unfolding on_need
     on_need-goes_on block mode is =
         let h : Held = held_of s.blocks block in
-        by_test (GoesOn n) (must_ask h mode) (ask s block mode) (still s)
+        by_test (GoesOn n) (must_ask h mode) (new_want s block mode) (still s)
         (λ t. ask-goes_on s p block mode is (not_true (allows h.mode mode) (and_second (not (is_asking h) && is_none h.giving) (not (allows h.mode mode)) t)))
         (λ t. stays)
 
@@ -130,7 +130,7 @@ module _ (n : Need) where
     refetch-goes_on block =
         let h : Held = held_of s.blocks block in
         let dropped : TokensState = with_held s block (unfetched h) in
-        by_test (GoesOn n) (is_some h.fetch) (ask dropped block Copy) (still s)
+        by_test (GoesOn n) (is_some h.fetch) (new_want dropped block Copy) (still s)
         (λ t.
         ask-goes_on dropped (put-suits s p block (unfetched h) (unfetched-suits n block h (p block))) block Copy
         (fetch_needed n block h.fetch (p block).fetch t)
@@ -179,7 +179,7 @@ module _ (n : Need) where
     unfolding on_reask
     on_reask-goes_on block =
         let h : Held = held_of s.blocks block in
-        by_test (GoesOn n) (is_some h.fetch) (ask s block Copy) (still s)
+        by_test (GoesOn n) (is_some h.fetch) (new_want s block Copy) (still s)
         (λ t. ask-goes_on s p block Copy (fetch_needed n block h.fetch (p block).fetch t) (fetched_below block t)) (λ t. stays)
 
     pub on_quit-goes_on : (block : BlockId) → GoesOn n (on_quit s block)
@@ -260,8 +260,8 @@ module _ (n : Need) where
   abbrev IsFree : TokensState → BlockId → Type 0
   IsFree s b = (n ≡ Some (b, Copy)) × (is_held (held_of s.blocks b).mode ≡ false)
 
-  ask-free : (s : TokensState) (block b : BlockId) → IsFree s b → IsFree (ask s block Copy).state b
-  unfolding ask
+  ask-free : (s : TokensState) (block b : BlockId) → IsFree s b → IsFree (new_want s block Copy).state b
+  unfolding new_want
   ask-free s block b free =
       let g : Held = asked (held_of s.blocks block) (s.req + 1) Copy in
       by_test (λ (d : Done). IsFree d.state b) (nat_lt s.req (2 ^ 32 - 1))
@@ -271,7 +271,7 @@ module _ (n : Need) where
   asks-suit : (s : TokensState) → AllSuit n s → (blocks : List BlockId) → Each (IsFree s) blocks → AllSuit n (steps ask_copy s blocks).state
   asks-suit s p [] free = p
   asks-suit s p (b ∷ bs) free =
-      let t : TokensState = (ask s b Copy).state in
+      let t : TokensState = (new_want s b Copy).state in
       asks-suit t (ask-suits s p b Copy free.0.0 free.0.1) bs (Each-weaker (IsFree s) (IsFree t) (λ c. ask-free s b c) bs free.1)
 
   module _ (s : TokensState) (sound : IsSound s) (p : AllSuit n s) (slot epoch : ℕ) where

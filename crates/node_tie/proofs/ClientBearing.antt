@@ -21,7 +21,7 @@ use Rattle.token_client.specs.declared.input.In.TheVariants.{Need, Granted, Supp
 use Rattle.token_client.specs.declared.output.Out.TheVariants as output
 use Rattle.token_client.specs.Held.{is_dirty, is_asking, must_ask, may_write, is_settled_by, may_end_fetch, may_evict, asked, asked_again, owned, copied, copy_granted, grant_taken, fetch_ended, written, version_settled, let_go, unasked, unfetched, promise_dropped, gives_after, put_off, given_up}
 use Rattle.token_client.specs.State.{TokensState, held_of, with_held, is_in_slot}
-use Rattle.token_client.specs.Transition.{Done, accepts, is_promised, ask, on_need, grant_next, on_granted, on_supplied, serves, supplies, on_forwarded, refetch, give, can_refetch, recalled_above, was_answered, recalled_again, recalled, on_recalled, on_wrote, on_settled, on_fetched, on_evict, on_reask, on_quit, fetched_in, dropped_in, raised, ask_copy, may_promise, on_promise, is_spent, repeated, ask_again, wanted_in, on_tick, transition}
+use Rattle.token_client.specs.Transition.{Done, accepts, is_promised, new_want, on_need, grant_next, on_granted, on_supplied, serves, supplies, on_forwarded, refetch, give, can_refetch, recalled_above, was_answered, recalled_again, recalled, on_recalled, on_wrote, on_settled, on_fetched, on_evict, on_reask, on_quit, fetched_in, dropped_in, raised, ask_copy, may_promise, on_promise, is_spent, repeated, ask_again, wanted_in, on_tick, transition}
 use Rattle.token_client.proofs.Promises.{dropped-known}
 use Rattle.token_client.proofs.Tables.{put_each}
 
@@ -62,8 +62,8 @@ module _ (P : BlockId → Option Giving → Type 0) (E : List ℕ → Type 0) (l
   bears_steps step one s [] h = h
   bears_steps step one s (x ∷ xs) h = bears_steps step one (step s x).state xs (one s x h)
 
-  pub ask-bears : (s : TokensState) (block : BlockId) (mode : Mode) → Bears s → Bears (ask s block mode).state
-  unfolding ask
+  pub ask-bears : (s : TokensState) (block : BlockId) (mode : Mode) → Bears s → Bears (new_want s block mode).state
+  unfolding new_want
   ask-bears s block mode h =
       let g : Held = asked (held_of s.blocks block) (s.req + 1) mode in
       by_test (λ (d : Done). Bears d.state) (nat_lt s.req (2 ^ 32 - 1))
@@ -72,7 +72,7 @@ module _ (P : BlockId → Option Giving → Type 0) (E : List ℕ → Type 0) (l
 
   on_need-bears : (s : TokensState) (block : BlockId) (mode : Mode) → Bears s → Bears (on_need s block mode).state
   unfolding on_need
-  on_need-bears s block mode h = by_test (λ (d : Done). Bears d.state) (must_ask (held_of s.blocks block) mode) (ask s block mode) (still s)
+  on_need-bears s block mode h = by_test (λ (d : Done). Bears d.state) (must_ask (held_of s.blocks block) mode) (new_want s block mode) (still s)
       (λ t. ask-bears s block mode h) (λ t. h)
 
   granted-bears : (block : BlockId) (h : Held) (stamp : Stamp) (mode : Mode) (entry : Entry) → P block h.giving
@@ -113,7 +113,7 @@ module _ (P : BlockId → Option Giving → Type 0) (E : List ℕ → Type 0) (l
   unfolding refetch
   refetch-bears s block h =
       let dropped : TokensState = with_held s block (unfetched (held_of s.blocks block)) in
-      by_test (λ (d : Done). Bears d.state) (is_some (held_of s.blocks block).fetch) (ask dropped block Copy) (still s)
+      by_test (λ (d : Done). Bears d.state) (is_some (held_of s.blocks block).fetch) (new_want dropped block Copy) (still s)
       (λ t. ask-bears dropped block Copy (bears_with s h block (unfetched (held_of s.blocks block)) (h.giving block))) (λ t. h)
 
   module _ (none : (b : BlockId) → P b None) where
@@ -213,7 +213,7 @@ module _ (P : BlockId → Option Giving → Type 0) (E : List ℕ → Type 0) (l
 
   on_reask-bears : (s : TokensState) (block : BlockId) → Bears s → Bears (on_reask s block).state
   unfolding on_reask
-  on_reask-bears s block h = by_test (λ (d : Done). Bears d.state) (is_some (held_of s.blocks block).fetch) (ask s block Copy) (still s)
+  on_reask-bears s block h = by_test (λ (d : Done). Bears d.state) (is_some (held_of s.blocks block).fetch) (new_want s block Copy) (still s)
       (λ t. ask-bears s block Copy h) (λ t. h)
 
   on_quit-bears : (s : TokensState) (block : BlockId) → Bears s → Bears (on_quit s block).state

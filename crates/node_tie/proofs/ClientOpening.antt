@@ -6,7 +6,7 @@ use Rattle.std.proofs.lemmas.Bool.Decides.{nat_tests}
 use Rattle.std.proofs.lemmas.List.{get_or-set_same, get_or-set_other}
 use Rattle.std.proofs.lemmas.List.Elements.{All-from_recursion, All-weaker}
 use Rattle.std.proofs.Math.ListN.{length-set}
-use Rattle.log_owner.specs.Behaves.{MaySay, MayDo}
+use Rattle.log_owner.specs.Behaves.{MayAct, MaySay, MayDo}
 use Rattle.log_owner.specs.declared.ended.Owner.{Owner}
 use Rattle.log_owner.specs.declared.opening.Stage.{Stage}
 use Rattle.log_owner.specs.declared.opening.Stage.TheVariants as stage
@@ -17,13 +17,16 @@ use Rattle.node_base.specs.declared.effects.Effect.{Effect}
 use Rattle.node_base.specs.declared.effects.Effect.TheVariants.{Send, Answer, Lose, Does}
 use Rattle.node_base.specs.Shape.{are_from}
 use Rattle.token_client.specs.State.{epoch_of}
+use Rattle.version_model.specs.declared.act.Act.{Act}
+use Rattle.version_model.specs.declared.act.Act.TheVariants as act
 use Rattle.wire_msg.specs.declared.body.Body.{Body}
 use Rattle.wire_msg.specs.declared.body.Body.TheVariants as body
 use Rattle.xfs_base.proofs.Booleans.{by_test, and_first, and_second}
 use Rattle.xfs_base.specs.declared.news.SlotNews.{SlotNews}
 use Rattle.xfs_base.specs.declared.node.NodeId.{NodeId}
+use Rattle.node_tie.specs.CleanerEvents.{Bounded}
 use Rattle.node_tie.specs.ClientEvents.{AwaitsFirst}
-use Rattle.node_tie.specs.Sight.{ClientDoes, ClientSends}
+use Rattle.node_tie.specs.Sight.{ClientDoes, ClientSends, IsNoFall}
 use Rattle.node_tie.proofs.ClientFrames.{Plain}
 
 -- ---- what it says
@@ -63,11 +66,15 @@ module _ (part c life : ℕ) (owner : Owner) (same : owner.inc ≡ life) where
   may_say to (body.CkptDone m) h = h
   may_say to (body.CkptAck m) h = h
 
+  no_fall : (a : Act) → MayAct a → IsNoFall a
+  no_fall (act.Fell client flight falls) h = h
+  no_fall _ h = tt
+
   may_do : (e : Effect) → MayDo owner e → ClientDoes part [] c life e
   may_do (Send to b) h = may_say to b h
   may_do (Answer item answer) h = tt
   may_do (Lose seg) h = tt
-  may_do (Does act) h = tt
+  may_do (Does a) h = no_fall a h
 
   pub plain_does : (es : List Effect) → AllByRecursion (MayDo owner) es → Plain part c life es
   plain_does es h = All-weaker (MayDo owner) (ClientDoes part [] c life) may_do es (All-from_recursion (MayDo owner) es h)
@@ -82,12 +89,6 @@ awaits_there (stage.Settling s) h = h
 pub awaits_here : (at : Stage) → promising.AwaitsFirst at → AwaitsFirst at
 awaits_here (stage.Scanning s) h = h
 awaits_here (stage.Settling s) h = h
-
--- eight epochs, and that of the slot within these bounds
-pub record Bounded (part low high : ℕ) (p : Promised) : Type 0 where
-  pub eight : length p.epochs ≡ 8
-  pub rises : low ≤ epoch_of p.epochs part
-  pub within : epoch_of p.epochs part ≤ high
 
 module _ (part low high : ℕ) (small : part < 8) where
   -- what is said of the slot is within them
@@ -110,7 +111,7 @@ module _ (part low high : ℕ) (small : part < 8) where
       (λ t. length-set p.epochs news.slot news.epoch ∙ e) (λ t. e)
 
   -- the slot is promised
-  promise_here : (p : Promised) (news : SlotNews) → length p.epochs ≡ 8 → news.slot ≡ part → Says news → Bounded part low high (promise p news)
+  pub promise_here : (p : Promised) (news : SlotNews) → length p.epochs ≡ 8 → news.slot ≡ part → Says news → Bounded part low high (promise p news)
   promise_here p news e is says =
       by_test (Bounded part low high) (nat_lt news.slot 8)
       (record { epochs = slice_set p.epochs news.slot news.epoch; managers = manager_set p.managers news.slot news.manager }) p
@@ -140,7 +141,7 @@ module _ (part low high : ℕ) (small : part < 8) where
       })
       (λ t. h)
 
-  promise_keeps : (p : Promised) (news : SlotNews) → Says news → Bounded part low high p → Bounded part low high (promise p news)
+  pub promise_keeps : (p : Promised) (news : SlotNews) → Says news → Bounded part low high p → Bounded part low high (promise p news)
   promise_keeps p news says h = by_slot (news.slot == part) refl
     where
       by_slot : (t : Bool) → (news.slot == part) ≡ t → Bounded part low high (promise p news)

@@ -1,5 +1,5 @@
 -- Each event of a client is seen in the small world.
-use Rattle.std.proofs.Common.{◌≡◌, ◌≤◌, ◌<◌, ◌⊎◌, ℕ, ◌+◌, ◌==◌, ◌&&◌, true, false, cond, List, [], ◌∷◌, ◌++◌, Option, Some, None, length, nat_lt, refl, sym, ap, subst, ◌∙◌, arith, inl, inr}
+use Rattle.std.proofs.Common.{◌≡◌, ◌≤◌, ◌<◌, ◌⊎◌, ℕ, ◌+◌, ◌==◌, ◌&&◌, true, false, cond, List, [], ◌∷◌, ◌++◌, Option, Some, None, length, nat_lt, refl, sym, ap, subst, ◌∙◌, arith, inl, inr, map}
 use Rattle.std.specs.List.{AllByRecursion, list_all}
 use Rattle.std.proofs.lemmas.Bool.Decides.{nat_tests}
 use Rattle.std.proofs.lemmas.List.Elements.{All-nil, All-cons, All-append, recursion_from_All}
@@ -9,7 +9,7 @@ use Rattle.client_node.specs.declared.phase.Phase.{Phase}
 use Rattle.client_node.specs.declared.phase.Phase.TheVariants.{Down, Opening, Serving as Serves}
 use Rattle.client_node.specs.declared.serving.Serving.{Serving}
 use Rattle.client_node.specs.Packets as packets
-use Rattle.client_node.specs.Phases.{Went_to, falls, crashed, next_life, owner_of, restarted, back, after_opening, opened_on, answers, opens, serves_on, wish_of, wish_at, down_begins, opening_begins, serving_begins, lasting_of, with_begun, item_begins, begins_item, on_begin, then_runs, on_deliver, on_time, delivers, happens, phase_room, client_room}
+use Rattle.client_node.specs.Phases.{Went_to, fall_of, falls, crashed, served, next_life, owner_of, restarted, back, after_opening, opened_on, answers, opens, serves_on, wish_of, wish_at, down_begins, opening_begins, serving_begins, lasting_of, with_begun, item_begins, begins_item, on_begin, then_runs, on_deliver, on_time, delivers, happens, phase_room, client_room}
 use Rattle.client_node.specs.Sends.{gives}
 use Rattle.log_owner.specs.Behaves.{IsOf, Behaves}
 use Rattle.log_owner.specs.declared.ended.Owner.{Owner}
@@ -33,12 +33,14 @@ use Rattle.node_base.specs.Nodes.{has_node}
 use Rattle.node_base.specs.Room.{has_room}
 use Rattle.node_base.specs.Shape.{is_well_formed, are_from, is_slot_news, has_logs, has_slot}
 use Rattle.token_client.specs.declared.held.Giving.{Giving}
-use Rattle.token_client.specs.State.{TokensState, epoch_of, started as fresh_tokens}
+use Rattle.token_client.specs.Held.{is_dirty}
+use Rattle.token_client.specs.State.{TokensState, dirty_in, epoch_of, held_of, started as fresh_tokens}
 use Rattle.token_law.specs.Net.{Net}
 use Rattle.token_law.specs.Net.Happens.{Crashes, Returns}
 use Rattle.token_law.specs.Net.Runs.{Begun, On}
-use Rattle.token_protocol.specs.Basics.{put}
+use Rattle.token_protocol.specs.Basics.{put, In}
 use Rattle.version_model.specs.declared.act.Act.TheVariants.{Back}
+use Rattle.version_model.specs.declared.act.Fall.{Fall}
 use Rattle.version_model.specs.declared.answer.Answer.{Answer}
 use Rattle.version_model.specs.declared.answer.Answer.TheVariants as answer
 use Rattle.version_model.specs.declared.work.Work.{Work}
@@ -52,10 +54,12 @@ use Rattle.xfs_base.proofs.Booleans.{by_test, and_first, and_second}
 use Rattle.xfs_base.specs.declared.news.SlotNews.{SlotNews}
 use Rattle.xfs_base.specs.Limits.{u32_end}
 use Rattle.xfs_base.specs.Steps.{still, after}
-use Rattle.node_tie.specs.ClientEvents.{AwaitsFirst, SeesServing, SeesDown, Raises, SeesOpening, ClientAgrees, PromisesWithin, ClientStands, GetsBody, ClientGets, BeginsLater, ClientGoes, ClientOwed, ClientTakes}
+use Rattle.node_tie.specs.ClientEvents.{AwaitsFirst, SeesServing, SeesDown, Raises, SeesOpening, ClientAgrees, PromisesWithin, ClientStands, GetsBody, ClientGets, BeginsLater, SaysBack, ClientDid, ClientGoes, ClientOwed, ClientTakes}
+use Rattle.node_tie.specs.CleanerEvents.{Bounded}
 use Rattle.node_tie.specs.Sight.{ClientDoes}
+use Rattle.node_tie.proofs.ClientFalls.{all_did, falls_dirty}
 use Rattle.node_tie.proofs.ClientFrames as frames
-use Rattle.node_tie.proofs.ClientOpening.{Bounded, Says, awaits_here, awaits_there, plain_does, welcome_promises}
+use Rattle.node_tie.proofs.ClientOpening.{Says, awaits_here, awaits_there, plain_does, welcome_promises}
 use Rattle.node_tie.proofs.ClientServing as serving
 use Rattle.node_tie.proofs.ClientTaking.{put_here, put_there}
 use Rattle.node_tie.proofs.ClientTokens as tokens
@@ -84,25 +88,31 @@ module _ (members part most c : ℕ) (small : part < 8) (pos : 0 < c) (less : c 
   begins_same (Serves s) = tt
 
   stays_so : (p q : Phase) (outs : List Effect) → ClientAgrees part c n q → epoch_of (n.tokens c).epochs part ≤ most → PromisesWithin part most q
-      → (lasting_of p).inc ≤ (lasting_of q).inc → BeginsLater p q
+      → (lasting_of p).inc ≤ (lasting_of q).inc → BeginsLater p q → SaysBack c outs p q
       → frames.Plain part c (lasting_of q).inc outs → ClientGoes members part most c n p q outs
-  stays_so p q outs agrees within promises later begins plain = record {
+  stays_so p q outs agrees within promises later begins back plain = record {
     next = n;
     runs = Begun;
     agrees = agrees;
     others = λ d other. (refl, refl);
     slots = λ e. refl;
     grows = λ x h. h;
-    does = frames.all_more part c (lasting_of q).inc [] n.sent (λ x none. absurd none) outs plain;
+    does = all_did part c n n.sent (lasting_of q).inc q outs (frames.all_more part c (lasting_of q).inc [] n.sent (λ x none. absurd none) outs plain);
     within = within;
     promises = promises;
     later = later;
     begins = begins;
-    stands = λ both. refl;
+    stands = λ away. refl;
+    back = back;
   }
 
+  back_same : (p : Phase) (outs : List Effect) → SaysBack c outs p p
+  back_same (Down l) outs = tt
+  back_same (Opening l o) outs = tt
+  back_same (Serves s) outs = tt
+
   still_so : (p : Phase) → ClientAgrees part c n p → ClientStands part most c n p → Goes p (still p)
-  still_so p agrees h = stays_so p p [] agrees h.within h.promises (omega arith) (begins_same p) (All-nil (ClientDoes part [] c (lasting_of p).inc))
+  still_so p agrees h = stays_so p p [] agrees h.within h.promises (omega arith) (begins_same p) (back_same p []) (All-nil (ClientDoes part [] c (lasting_of p).inc))
 
   answered_one : (life : ℕ) (number : ℕ) (a : Answer) → frames.Plain part c life (Answers number a ∷ [])
   answered_one life number a = All-cons (ClientDoes part [] c life) (Answers number a) [] tt (All-nil (ClientDoes part [] c life))
@@ -117,13 +127,13 @@ module _ (members part most c : ℕ) (small : part < 8) (pos : 0 < c) (less : c 
         let later : l.inc < life.inc = raised (record l { items = begun l.items }) number room in
         stays_so (Down l) (restarted servers life).state w.effects
         (record { up = sees.up; number = sees.number; inc = (let k : (n.tokens c).inc ≤ l.inc = sees.inc in omega arith); owner = refl; promised = inl refl })
-        h.within (inl refl) (omega arith) later (plain_does part c life.inc (owner_of life) refl w.effects
+        h.within (inl refl) (omega arith) later tt (plain_does part c life.inc (owner_of life) refl w.effects
         (behaving.begin_so (owner_of life) servers life.questions).does)
 
     down_answers : (number : ℕ) (a : Answer) → Goes (Down l) (answers (Down (record l { items = begun l.items })) number a)
     down_answers number a =
         stays_so (Down l) (Down (record l { items = begun l.items })) (Answers number a ∷ []) (record { up = sees.up; number = sees.number; inc = sees.inc })
-        h.within tt (omega arith) tt (answered_one l.inc number a)
+        h.within tt (omega arith) tt tt (answered_one l.inc number a)
 
     down_begins_so : (servers number : ℕ) (w : Option Work) → has_room l.inc ≡ true
         → Goes (Down l) (down_begins servers (record l { items = begun l.items }) number (wish_of w))
@@ -146,13 +156,13 @@ module _ (members part most c : ℕ) (small : part < 8) (pos : 0 < c) (less : c 
     opening_answers : (number : ℕ) (a : Answer) → Goes (Opening l o) (answers (Opening (record l { items = begun l.items }) o) number a)
     opening_answers number a =
         stays_so (Opening l o) (Opening (record l { items = begun l.items }) o) (Answers number a ∷ [])
-        (record { up = sees.up; number = sees.number; inc = sees.inc; owner = sees.owner; promised = sees.promised }) h.within h.promises (omega arith) tt
+        (record { up = sees.up; number = sees.number; inc = sees.inc; owner = sees.owner; promised = sees.promised }) h.within h.promises (omega arith) tt tt
         (answered_one l.inc number a)
 
     opening_begins_so : (number : ℕ) (w : Option Work) → Goes (Opening l o) (opening_begins (record l { items = begun l.items }) o number (wish_of w))
     opening_begins_so number (Some (work.Crash node)) =
         stays_so (Opening l o) (crashed (record l { items = begun l.items }) number).state (crashed (record l { items = begun l.items }) number).outs
-        (record { up = sees.up; number = sees.number; inc = (let k : (n.tokens c).inc < l.inc = sees.inc in omega arith) }) h.within tt (omega arith) tt
+        (record { up = sees.up; number = sees.number; inc = (let k : (n.tokens c).inc < l.inc = sees.inc in omega arith) }) h.within tt (omega arith) tt tt
         (crashed_plain l.inc (begun l.items).unanswered number)
     opening_begins_so number (Some (work.Restart node)) = opening_answers number answer.Up
     opening_begins_so number (Some _) = opening_answers number answer.Down
@@ -189,18 +199,24 @@ module _ (members part most c : ℕ) (small : part < 8) (pos : 0 < c) (less : c 
           others = λ d other. (put_there n.tokens c fresh d other, put_there n.up c true d other);
           slots = λ e. refl;
           grows = λ x h. h;
-          does = frames.all_more part c l.inc [] n.sent (λ x none. absurd none) (effects ++ said)
+          does = all_did part c n n.sent l.inc (Serves (served (record l { questions = q }) capacity r)) (effects ++ said)
+              (frames.all_more part c l.inc [] n.sent (λ x none. absurd none) (effects ++ said)
               (All-append (ClientDoes part [] c l.inc) effects said plain (All-cons (ClientDoes part [] c l.inc) _ _ tt
               (All-append (ClientDoes part [] c l.inc) (pushes_all r.promised.managers r.feed) (answers_unanswered l.items.unanswered answer.Done)
               (tokens.plain_pushes_all part c l.inc r.promised.managers r.feed)
-              (tokens.plain_answers part c l.inc l.items.unanswered answer.Done))));
+              (tokens.plain_answers part c l.inc l.items.unanswered answer.Done)))));
           within = subst (λ (t : TokensState). epoch_of t.epochs part ≤ most) (sym (put_here n.tokens c fresh)) kept.within;
           promises = tt;
           later = omega arith;
           begins = tt;
-          stands = λ both. absurd both;
+          stands = λ away. absurd away;
+          back = (r.chain, subst (λ k. In (Does (Back k r.chain)) (effects ++ said)) sees.number (behind (Does (Back l.number r.chain)) effects said (inl refl)));
         }
       where
+        behind : (x : Effect) (xs ys : List Effect) → In x ys → In x (xs ++ ys)
+        behind x [] ys is = is
+        behind x (y ∷ xs) ys is = inr (behind x xs ys is)
+
         none_given : (g : Giving) → {A : Type 0} → None ≡ Some g → A
         none_given g is = absurd (cc)
 
@@ -215,7 +231,7 @@ module _ (members part most c : ℕ) (small : part < 8) (pos : 0 < c) (less : c 
         by_progress (progress.Opening q) its kept =
             stays_so (Opening l o) (Opening (record l { questions = w.questions }) q) (w.effects ++ [])
             (record { up = sees.up; number = sees.number; inc = sees.inc; owner = ap (λ (x : Owner). x.inc) its ∙ sees.owner; promised = raises q kept })
-            h.within (within q kept) (omega arith) tt
+            h.within (within q kept) (omega arith) tt tt
             (All-append (ClientDoes part [] c l.inc) w.effects [] plain (All-nil (ClientDoes part [] c l.inc)))
           where
             raises : (q : openings.Opening) → promising.Opens Kept q → AwaitsFirst q.stage ⊎ Raises part c n q
@@ -229,7 +245,7 @@ module _ (members part most c : ℕ) (small : part < 8) (pos : 0 < c) (less : c 
         by_progress (progress.Lost seg) its kept =
             stays_so (Opening l o) (Down (record l { questions = w.questions; items = answered l.items }))
             (w.effects ++ answers_unanswered l.items.unanswered (answer.Lost seg))
-            (record { up = sees.up; number = sees.number; inc = (let k : (n.tokens c).inc < l.inc = sees.inc in omega arith) }) h.within tt (omega arith) tt
+            (record { up = sees.up; number = sees.number; inc = (let k : (n.tokens c).inc < l.inc = sees.inc in omega arith) }) h.within tt (omega arith) tt tt
             (All-append (ClientDoes part [] c l.inc) w.effects _ plain (tokens.plain_answers part c l.inc l.items.unanswered (answer.Lost seg)))
 
     -- a Welcome promises within the bounds
@@ -277,8 +293,7 @@ module _ (members part most c : ℕ) (small : part < 8) (pos : 0 < c) (less : c 
     crashed_so : (number : ℕ) → Goes (Serves s) (after (falls begun_serving ∷ []) (crashed begun_serving.lasting number))
     crashed_so number =
         let next : Net = record n { up = put n.up c false } in
-        let outs : List Effect = falls begun_serving ∷ (answers_unanswered begun_serving.lasting.items.unanswered answer.Cut ++ Answers number
-        answer.Done ∷ []) in
+        let after_falls : List Effect = answers_unanswered begun_serving.lasting.items.unanswered answer.Cut ++ Answers number answer.Done ∷ [] in
         record {
           next = next;
           runs = On Begun (Crashes c pos less sees.up);
@@ -286,18 +301,23 @@ module _ (members part most c : ℕ) (small : part < 8) (pos : 0 < c) (less : c 
           others = λ d other. (refl, put_there n.up c false d other);
           slots = λ e. refl;
           grows = λ x k. k;
-          does = frames.all_more part c s.lasting.inc [] n.sent (λ x none. absurd none) outs
-              (All-cons (ClientDoes part [] c s.lasting.inc) _ _ tt
+          does = All-cons (ClientDid part c n n.sent s.lasting.inc (crashed begun_serving.lasting number).state) _ _ (sees.number, tt, dirty_ones)
+              (all_did part c n n.sent s.lasting.inc (crashed begun_serving.lasting number).state after_falls
+              (frames.all_more part c s.lasting.inc [] n.sent (λ x none. absurd none) after_falls
               (All-append (ClientDoes part [] c s.lasting.inc) (answers_unanswered begun_serving.lasting.items.unanswered answer.Cut)
               (Answers number answer.Done ∷ [])
-              (tokens.plain_answers part c s.lasting.inc begun_serving.lasting.items.unanswered answer.Cut) (answered_one s.lasting.inc number answer.Done)));
+              (tokens.plain_answers part c s.lasting.inc begun_serving.lasting.items.unanswered answer.Cut) (answered_one s.lasting.inc number answer.Done))));
           within = h.within;
           promises = tt;
           later = omega arith;
           begins = tt;
-          stands = λ both. absurd both;
+          stands = λ away. refl;
+          back = tt;
         }
       where
+        dirty_ones : (f : Fall) → In f (map (fall_of begun_serving) (dirty_in s.tokens.blocks)) → is_dirty (held_of (n.tokens c).blocks f.block) ≡ true
+        dirty_ones f is = subst (λ (t : TokensState). is_dirty (held_of t.blocks f.block) ≡ true) (sym sees.tokens) (falls_dirty begun_serving h.asks.sound.sorted f is)
+
         fallen : (n.tokens c).inc ≤ s.lasting.inc
         fallen = (let e : (n.tokens c).inc ≡ s.lasting.inc = ap (λ (t : TokensState). t.inc) sees.tokens ∙ sees.inc in omega arith)
 

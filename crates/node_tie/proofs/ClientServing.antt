@@ -37,6 +37,7 @@ use Rattle.node_tie.specs.Asks.{AsksForCall}
 use Rattle.node_tie.specs.ClientEvents.{SeesServing, ClientStands, GetsBody, ClientGets, ClientGoes}
 use Rattle.node_tie.specs.Sight.{ClientDoes}
 use Rattle.node_tie.proofs.ClientBlocks as blocks
+use Rattle.node_tie.proofs.ClientFalls.{all_did}
 use Rattle.node_tie.proofs.ClientFlights as flights
 use Rattle.node_tie.proofs.ClientFrames as frames
 use Rattle.node_tie.proofs.ClientHears as hearing
@@ -175,10 +176,12 @@ module _ (members part most c : ℕ) (n : Net) (s : Serving) where
     others = p.grown.others;
     slots = p.grown.slots;
     grows = p.grown.grows;
-    does = subst (λ k. All (ClientDoes part p.next.sent c k) d.outs) (sym p.stands.inc_is) p.does;
+    does = all_did part c n p.next.sent d.state.lasting.inc (Serves d.state) d.outs
+        (subst (λ k. All (ClientDoes part p.next.sent c k) d.outs) (sym p.stands.inc_is) p.does);
     within = subst (λ (t : TokensState). epoch_of t.epochs part ≤ most) (sym p.stands.tokens) p.stands.bears.promised.within;
     promises = tt;
     later = (let e : d.state.lasting.inc ≡ s.lasting.inc = p.stands.inc_is in omega arith);
     begins = tt;
-    stands = λ both. absurd both;
+    stands = λ away. absurd away;
+    back = tt;
   }

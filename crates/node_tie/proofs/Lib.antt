@@ -13,6 +13,7 @@ pub mod CleanerEvents
 pub mod CleanerJob
 pub mod ClientBearing
 pub mod ClientBlocks
+pub mod ClientFalls
 pub mod ClientFlights
 pub mod ClientFrames
 pub mod ClientHears

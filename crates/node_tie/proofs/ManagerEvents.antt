@@ -116,8 +116,8 @@ module _ (members part most j : ℕ) (exists : part < 8) (n : Net) where
     tokens = h.goes.tokens;
     up = h.goes.up;
     slots = h.goes.slots;
-    entered = λ e z some none. let t = h.goes.entered e z some none in let at = taking_is (phase_at s.slots part) e t in let up = h.goes.rises in
-        (t, refl, omega arith);
+    entered = λ e z some none. let t = h.goes.entered e z some none in let at = taking_is (phase_at s.slots part) e t.0 in let up = h.goes.rises in
+        (t.0, refl, omega arith, t.1);
     taken = λ e k. ⊎_elim (λ was. inl (was, h.lives)) (λ new. inr (new.0, new.1)) (h.goes.held e k);
     rises = λ _ _. h.goes.rises;
     within = h.within;
@@ -286,7 +286,7 @@ module _ (members part most j : ℕ) (exists : part < 8) (n : Net) where
         tokens = h.goes.tokens;
         up = h.goes.up;
         slots = λ e other. h.goes.slots e (λ held. other (subst (λ p. HeldAt p e) (unknown_at part) held));
-        entered = λ e z some no. absurd (subst (λ p. TakingAt p e) (unknown_at part) (h.goes.entered e z some no));
+        entered = λ e z some no. absurd (subst (λ p. TakingAt p e) (unknown_at part) (h.goes.entered e z some no).0);
         taken = λ e k. ⊎_elim (λ was. absurd (subst (λ p. HeldAt p e) (unknown_at part) was)) (λ new. let above = new.1 in inr (new.0, omega arith))
             (h.goes.held e k);
         rises = λ was _. contrary was;

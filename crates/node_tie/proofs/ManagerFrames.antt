@@ -12,13 +12,16 @@ use Rattle.manager_node.specs.declared.slot_phase.SlotPhase.TheVariants as phase
 use Rattle.node_tie.specs.ManagerEvents.{HeldAt, ReportKnown, PhaseAgrees, ManagerAgrees, slot_in}
 use Rattle.node_tie.proofs.ManagerMoves.{Grows}
 
-module _ (members part : ℕ) (n m : Net) (grows : Grows n m) where
+up_to : (a b c : ℕ) → a ≤ b → b ≤ c → a ≤ c
+up_to a b c h g = omega arith
+
+module _ (members part : ℕ) (n m : Net) (grows : Grows n m) (promises : n.promised ≤ m.promised) where
   report_on : (epoch : ℕ) (node : NodeId) (held : List (BlockId × Mode)) → ReportKnown members part n epoch node held
       → ReportKnown members part m epoch node held
   report_on epoch (Client c) held known = (known.0, known.1, grows _ known.2)
   report_on epoch (Manager c) held known = tt
   report_on epoch (Server c) held known = tt
-  report_on epoch Cleaner held known = tt
+  report_on epoch Cleaner held known = up_to epoch n.promised m.promised known promises
   report_on epoch Registry held known = tt
 
   phase_on : (p : SlotPhase) → ((e : ℕ) → HeldAt p e → m.slots e ≡ n.slots e) → PhaseAgrees members part n p → PhaseAgrees members part m p

@@ -1,5 +1,5 @@
 -- Parts of an event of a manager, one after another: what they make of the small world and of the manager's slot, and what they do.
-use Rattle.std.proofs.Common.{◌≡◌, ℕ, ◌≤◌, ◌<◌, List, [], ◌∷◌, ◌++◌, ◌⊎◌, inl, inr, ⊎_elim, Option, Some, None, refl, sym, ap, ◌∙◌, arith}
+use Rattle.std.proofs.Common.{◌≡◌, ℕ, ◌≤◌, ◌<◌, List, [], ◌∷◌, ◌++◌, ◌⊎◌, inl, inr, ⊎_elim, Option, Some, None, refl, sym, ap, subst, ◌∙◌, arith}
 use Rattle.std.specs.List.{AllByRecursion}
 use Rattle.node_base.specs.declared.effects.Effect.{Effect}
 use Rattle.node_base.specs.declared.effects.Effect.TheVariants.{Send, Answer, Lose, Does}
@@ -11,6 +11,7 @@ use Rattle.manager_node.specs.Slots.{epoch_of}
 use Rattle.manager_node.specs.declared.slot_phase.SlotPhase.{SlotPhase}
 use Rattle.manager_node.specs.declared.slot_phase.SlotPhase.TheVariants as phase
 use Rattle.token_law.specs.Net.{Net, Packet, Runs}
+use Rattle.token_law.proofs.Promises.{promised_stays}
 use Rattle.token_law.specs.Net.Runs.{Begun, On}
 use Rattle.token_manager.specs.SlotState.{SlotState}
 use Rattle.token_protocol.specs.Basics.{In}
@@ -79,7 +80,7 @@ module _ (members part most life : ℕ) where
   does_on n m grows (Send to b) h = sends_on n m grows to b h
   does_on n m grows (Answer item answer) h = tt
   does_on n m grows (Lose seg) h = tt
-  does_on n m grows (Does act) h = tt
+  does_on n m grows (Does act) h = h
 
   pub done_on : (n m : Net) → Grows n m → (outs : List Effect) → AllDone n outs → AllDone m outs
   done_on n m grows outs h = all_weaker (DoesAt n) (DoesAt m) (does_on n m grows) outs h
@@ -92,7 +93,7 @@ module _ (members part most life : ℕ) where
     pub up : m.up ≡ n.up
     pub epoch : epoch_of q ≡ epoch_of p
     pub slots : (e : ℕ) → (HeldAt p e → ⊥) → m.slots e ≡ n.slots e
-    pub entered : (e : ℕ) (z : SlotState) → m.slots e ≡ Some z → n.slots e ≡ None → TakingAt p e
+    pub entered : (e : ℕ) (z : SlotState) → m.slots e ≡ Some z → n.slots e ≡ None → TakingAt p e × (e ≤ n.promised)
     pub taking : (e : ℕ) → TakingAt q e → TakingAt p e
     pub held : (e : ℕ) → HeldAt q e → HeldAt p e
     pub grows : Grows n m
@@ -150,8 +151,8 @@ module _ (members part most life : ℕ) where
     does = all_both (DoesAt o) outs more (done_on m o u.grows outs t.does) u.does;
   }
     where
-      by : (e : ℕ) (z : SlotState) (o_ : Option SlotState) → m.slots e ≡ o_ → o.slots e ≡ Some z → n.slots e ≡ None → TakingAt p e
-      by e z None is some none = t.taking e (u.entered e z some is)
+      by : (e : ℕ) (z : SlotState) (o_ : Option SlotState) → m.slots e ≡ o_ → o.slots e ≡ Some z → n.slots e ≡ None → TakingAt p e × (e ≤ n.promised)
+      by e z None is some none = (let h = u.entered e z some is in (t.taking e h.0, subst (λ k. e ≤ k) (promised_stays members part n m t.runs) h.1))
       by e z (Some y) is some none = t.entered e y is none
 
   -- ---- the slot gets a later epoch, where nothing happens in the small world: these epochs are named
@@ -180,7 +181,7 @@ module _ (members part most life : ℕ) where
     pub up : m.up ≡ n.up
     pub rises : epoch_of p ≤ epoch_of q
     pub slots : (e : ℕ) → (HeldAt p e → ⊥) → m.slots e ≡ n.slots e
-    pub entered : (e : ℕ) (z : SlotState) → m.slots e ≡ Some z → n.slots e ≡ None → TakingAt p e
+    pub entered : (e : ℕ) (z : SlotState) → m.slots e ≡ Some z → n.slots e ≡ None → TakingAt p e × (e ≤ n.promised)
     pub held : (e : ℕ) → HeldAt q e → HeldAt p e ⊎ (named e × (epoch_of p < e))
     pub grows : Grows n m
     pub does : AllDone m outs

@@ -110,7 +110,20 @@ is_polled clients c pos less =
     subst (λ k. In (Client k) (polled clients)) before (in_front (client_after (c - 1)) (map client_after (range_with_len 0 clients)) (Cleaner ∷ [])
     (in_range 0 clients (c - 1) (omega arith) (omega arith)))
 
+cleaner_polled : (clients : ℕ) → In Cleaner (polled clients)
+cleaner_polled clients = behind (map client_after (range_with_len 0 clients))
+  where
+    behind : (nodes : List NodeId) → In Cleaner (nodes ++ Cleaner ∷ [])
+    behind [] = inl refl
+    behind (x ∷ nodes) = inr (behind nodes)
+
 module _ (members part : ℕ) (n : Net) where
+  -- once all have reported, the cleaner has promised the epoch
+  pub cleaner_promised : (s : TakeState) (e : ℕ) → awaited s ≡ [] → ((r : Heard) → In r s.reports → ReportKnown members part n e r.from r.held) → e ≤ n.promised
+  cleaner_promised s e none known =
+      let r = heard_is s.reports Cleaner (all_heard s.reports (polled s.clients) Cleaner none (cleaner_polled s.clients)) in
+      subst (λ node. ReportKnown members part n e node r.0.held) r.2 (known r.0 r.1)
+
   abbrev IsClient : ℕ → Type 0
   IsClient c = (0 < c) × (c < members)
 

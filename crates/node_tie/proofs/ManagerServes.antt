@@ -13,8 +13,8 @@ use Rattle.log_owner.specs.Sending.{server_in}
 use Rattle.node_base.specs.declared.effects.Effect.{Effect}
 use Rattle.node_base.specs.Known.{names_known}
 use Rattle.node_base.specs.Maps.{fits, is_older, taken}
-use Rattle.takeover.specs.declared.events.In.{In as Input}
-use Rattle.takeover.specs.declared.events.In.TheVariants as input
+use Rattle.takeover.specs.declared.input.In.{In as Input}
+use Rattle.takeover.specs.declared.input.In.TheVariants as input
 use Rattle.takeover.specs.declared.report.Report.{Report as Heard}
 use Rattle.token_law.specs.Net.{Net}
 use Rattle.token_protocol.specs.Basics.{In}

@@ -15,8 +15,8 @@ use Rattle.xfs_base.specs.Steps.{Stepped, steps}
 use Rattle.group_map.specs.GroupMapState.{GroupMapState}
 use Rattle.node_base.specs.declared.effects.Effect.{Effect}
 use Rattle.node_base.specs.declared.questions.Questions.{Questions}
-use Rattle.takeover.specs.declared.events.In.{In as Input}
-use Rattle.takeover.specs.declared.events.In.TheVariants as input
+use Rattle.takeover.specs.declared.input.In.{In as Input}
+use Rattle.takeover.specs.declared.input.In.TheVariants as input
 use Rattle.takeover.specs.declared.report.Report.{Report as Heard}
 use Rattle.token_law.specs.Net.{Net}
 use Rattle.wire_msg.specs.declared.cleaning.Check.{Check}

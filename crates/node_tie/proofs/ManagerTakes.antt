@@ -29,10 +29,10 @@ use Rattle.xfs_base.specs.declared.segment.End.{End}
 use Rattle.xfs_base.specs.declared.segment.SegName.{SegName}
 use Rattle.xfs_base.specs.declared.token.Mode.{Mode}
 use Rattle.xfs_base.proofs.Booleans.{contrary, by_test, and_second, or_first, or_second}
-use Rattle.takeover.specs.declared.events.In.{In as Input}
-use Rattle.takeover.specs.declared.events.In.TheVariants as input
-use Rattle.takeover.specs.declared.events.Out.{Out}
-use Rattle.takeover.specs.declared.events.Out.TheVariants.{Poll, Fetch, Active, Lost}
+use Rattle.takeover.specs.declared.input.In.{In as Input}
+use Rattle.takeover.specs.declared.input.In.TheVariants as input
+use Rattle.takeover.specs.declared.output.Out.{Out}
+use Rattle.takeover.specs.declared.output.Out.TheVariants.{Poll, Fetch, Active, Lost}
 use Rattle.takeover.specs.declared.report.Report.{Report}
 use Rattle.takeover.specs.declared.source.Present.{Present}
 use Rattle.takeover.specs.declared.source.Source.{Source}

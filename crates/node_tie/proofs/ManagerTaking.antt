@@ -16,10 +16,10 @@ use Rattle.group_map.specs.GroupMapState.{GroupMapState}
 use Rattle.node_base.specs.declared.effects.Effect.{Effect}
 use Rattle.node_base.specs.declared.questions.Asked.{Asked}
 use Rattle.node_base.specs.declared.questions.Questions.{Questions}
-use Rattle.takeover.specs.declared.events.In.{In as Input}
-use Rattle.takeover.specs.declared.events.In.TheVariants as input
-use Rattle.takeover.specs.declared.events.Out.{Out}
-use Rattle.takeover.specs.declared.events.Out.TheVariants as out
+use Rattle.takeover.specs.declared.input.In.{In as Input}
+use Rattle.takeover.specs.declared.input.In.TheVariants as input
+use Rattle.takeover.specs.declared.output.Out.{Out}
+use Rattle.takeover.specs.declared.output.Out.TheVariants as out
 use Rattle.takeover.specs.declared.report.Report.{Report as Heard}
 use Rattle.takeover.specs.Reports.{beliefs_of, applied_of}
 use Rattle.takeover.specs.TakeState.{TakeState, started}
@@ -42,7 +42,7 @@ use Rattle.manager_node.specs.Takeovers.{Asker, asker, Done, fetches, says, says
 use Rattle.node_tie.specs.ManagerEvents.{HeldAt, ReportKnown, TakingAgrees, PhaseAgrees, OtherAgrees, ReportGets, NewsGets}
 use Rattle.node_tie.proofs.ManagerActive.{put_here, put_there, some_none, Event, event_staying, event_same, Other}
 use Rattle.node_tie.proofs.ManagerMoves.{held_is, DoesAt, Stays, Rises, stays_same, stays_then, rises_of, all_both}
-use Rattle.node_tie.proofs.ManagerReports.{activates}
+use Rattle.node_tie.proofs.ManagerReports.{activates, cleaner_promised}
 use Rattle.node_tie.proofs.ManagerTakes.{IsPlain, ArePlain, Hands, Brings, took, tick_said, kept_plain}
 
 -- what a question of a takeover, and a lost segment, leave true of a slot
@@ -143,7 +143,8 @@ module _ (members part most life : ℕ) where
           up = refl;
           epoch = of;
           slots = λ k other. put_there n.slots e (Some z) k (λ same. other (sym (same ∙ of)));
-          entered = put_each (λ k o. (y : SlotState) → o ≡ Some y → n.slots k ≡ None → t.epoch ≡ k) n.slots e (Some z) (λ y _ _. sym of)
+          entered = put_each (λ k o. (y : SlotState) → o ≡ Some y → n.slots k ≡ None → (t.epoch ≡ k) × (k ≤ n.promised)) n.slots e (Some z)
+              (λ y _ _. (sym of, subst (λ x. x ≤ n.promised) (sym of) (cleaner_promised members part n t.take t.epoch hands.reported agrees.reported)))
               (λ k other y some none. absurd (some_none y (sym some ∙ none)));
           taking = λ k h. absurd h;
           held = λ k h. sym of ∙ h;
@@ -222,7 +223,7 @@ module _ (members part most life : ℕ) where
       of_node (Client c) g same = (g.0, g.1, subst (λ e. In (ReportSent c e report.held) n.sent) same (g.2 of))
       of_node (Manager c) g same = tt
       of_node (Server c) g same = tt
-      of_node Cleaner g same = tt
+      of_node Cleaner g same = subst (λ e. e ≤ n.promised) same (g of)
       of_node Registry g same = tt
 
       known : (node : NodeId) → ReportGets part n members node report → report.epoch ≡ epoch_of p → (r : Heard)

@@ -23,8 +23,8 @@ use Rattle.wire_msg.specs.declared.storage.Store.{Store}
 use Rattle.xfs_base.specs.declared.node.NodeId.{NodeId}
 use Rattle.xfs_base.specs.declared.node.NodeId.TheVariants.{Client, Manager, Server, Cleaner, Registry}
 use Rattle.xfs_base.specs.declared.segment.SegName.{SegName}
-use Rattle.node_tie.specs.Sight.{ClientDoes, CleanerSends}
-use Rattle.node_tie.specs.StoreEvents.{Says}
+use Rattle.node_tie.specs.CleanerEvents.{CleanerDoes}
+use Rattle.node_tie.specs.Sight.{ClientDoes}
 use Rattle.node_tie.proofs.StoreFrames.{all_weaker}
 
 -- what an opening of this owner may do has the property
@@ -87,10 +87,10 @@ client_opening part sent c life owner low = record {
   filed = λ seg. tt;
 }
 
--- the cleaner
-pub cleaner_opening : (owner : Owner) → OpeningMay owner (Says CleanerSends)
-cleaner_opening owner = record {
-  hello = λ m is. tt;
+-- the cleaner, in an incarnation that it may say
+pub cleaner_opening : (part promised life : ℕ) (owner : Owner) → owner.inc ≤ life → OpeningMay owner (CleanerDoes part promised life)
+cleaner_opening part promised life owner low = record {
+  hello = λ m is. omega arith;
   fence = λ n m. tt;
   fetch = λ n m. tt;
   store = λ n m. tt;

@@ -11,7 +11,7 @@ use Rattle.node_base.specs.Beginning.{begun, next_item, work_at}
 use Rattle.node_base.specs.Nodes.{others}
 use Rattle.node_base.specs.Room.{has_room}
 use Rattle.node_base.specs.Shape.{is_well_formed}
-use Rattle.registry.specs.Board.{Made, step}
+use Rattle.registry.specs.Board.{Made, transition}
 use Rattle.registry.specs.BoardState.{BoardState}
 use Rattle.registry.specs.declared.input.In.TheVariants as board
 use Rattle.registry.specs.declared.output.Out.{Out}
@@ -34,7 +34,7 @@ use Rattle.xfs_base.specs.Steps.{still}
 use Rattle.node_tie.specs.RegistryEvents.{manager_in, inc_in, RegistrySound, HearsHello, RegistrySends, RegistryDoes, BoardGoes, RegistryGoes, RegistryBegins}
 use Rattle.node_tie.proofs.RegistryBoard.{goes_still, goes_manager, manager_heard, goes_server, goes_reassigned, goes_done}
 use Rattle.node_tie.proofs.RegistryNews.{news_are}
-use Rattle.node_tie.proofs.StoreFrames.{all_append, all_map, all_flat_map, packets_do, packets_from}
+use Rattle.node_tie.proofs.StoreFrames.{all_append, all_map, all_flat_map, none_falls, packets_do, packets_from}
 
 -- the incarnations that the event has managers tell of
 abbrev ToldIn : Do → ℕ → ℕ → Type 0
@@ -67,11 +67,11 @@ module _ (part : ℕ) (below : part < 8) (r : RegistryNode) (sound : RegistrySou
   slot_given : (node : RegistryNode) → node.board ≡ r.board → node.peers ≡ r.peers → (number slot manager : ℕ) → GoesTo (on_move node number slot manager)
   unfolding on_move
   slot_given node same peers number slot manager =
-      let made : Made = step node.board (board.Reassign slot manager) in
+      let made : Made = transition node.board (board.Reassign slot manager) in
       let next : RegistryNode = record node { board = made.state } in
       record {
         board =
-            subst (λ (b : BoardState). BoardGoes part (ToldIn what) r.board (step b (board.Reassign slot manager)).state) (sym same)
+            subst (λ (b : BoardState). BoardGoes part (ToldIn what) r.board (transition b (board.Reassign slot manager)).state) (sym same)
             (goes_reassigned part (ToldIn what) r.board sound low slot manager);
         peers = peers;
         does = all_flat_map (RegistryDoes part what made.state) (moved next number) (one_moved next number) made.outs;
@@ -84,22 +84,22 @@ module _ (part : ℕ) (below : part < 8) (r : RegistryNode) (sound : RegistrySou
   one_changed node (Epoch epoch) = tt
   one_changed node (Kept epoch) = tt
 
-  hello_goes : (from : NodeId) (m : Hello) → HearsHello what from m.inc → BoardGoes part (ToldIn what) r.board (step r.board (board.Hello from m.inc)).state
+  hello_goes : (from : NodeId) (m : Hello) → HearsHello what from m.inc → BoardGoes part (ToldIn what) r.board (transition r.board (board.Hello from m.inc)).state
   hello_goes (Client n) m hears = goes_still part (ToldIn what) r.board sound
   hello_goes (Manager n) m hears = goes_manager part (ToldIn what) r.board sound low n m.inc hears
   hello_goes (Server n) m hears = goes_server part (ToldIn what) r.board sound n m.inc
   hello_goes Cleaner m hears = goes_still part (ToldIn what) r.board sound
   hello_goes Registry m hears = goes_still part (ToldIn what) r.board sound
 
-  hello_kept : (from : NodeId) (m : Hello) (manager : ℕ) → from ≡ Manager manager → m.inc ≤ inc_in (step r.board (board.Hello from m.inc)).state manager
+  hello_kept : (from : NodeId) (m : Hello) (manager : ℕ) → from ≡ Manager manager → m.inc ≤ inc_in (transition r.board (board.Hello from m.inc)).state manager
   hello_kept from m manager is =
-      subst (λ (n : NodeId). m.inc ≤ inc_in (step r.board (board.Hello n m.inc)).state manager) (sym is)
+      subst (λ (n : NodeId). m.inc ≤ inc_in (transition r.board (board.Hello n m.inc)).state manager) (sym is)
       (manager_heard part (ToldIn what) r.board sound low manager m.inc)
 
   hello_answered : (from : NodeId) (m : Hello) → HearsHello what from m.inc → GoesTo (on_hello r from m)
   unfolding on_hello
   hello_answered from m hears =
-      let made : Made = step r.board (board.Hello from m.inc) in
+      let made : Made = transition r.board (board.Hello from m.inc) in
       let next : RegistryNode = record r { board = made.state } in
       record {
         board = hello_goes from m hears;
@@ -120,7 +120,7 @@ module _ (part : ℕ) (below : part < 8) (r : RegistryNode) (sound : RegistrySou
   checkpoint_kept : (from : NodeId) (m : CkptDone) → GoesTo (on_done r from m)
   unfolding on_done
   checkpoint_kept from m =
-      let made : Made = step r.board (board.Done m.slot m.epoch m.parts m.horizon) in
+      let made : Made = transition r.board (board.Done m.slot m.epoch m.parts m.horizon) in
       record {
         board = goes_done part (ToldIn what) r.board sound m.slot m.epoch m.parts m.horizon;
         peers = refl;
@@ -190,6 +190,7 @@ module _ (part : ℕ) (below : part < 8) (r : RegistryNode) (sound : RegistrySou
         sends =
             packets_do (λ (p : Packet). RegistrySends part what next p.to p.body) (RegistryDoes part what next) Registry (λ to said does. does)
             (takes r what).outs goes.does;
+        acts = none_falls (RegistryDoes part what next) Registry (λ act is. is) (takes r what).outs goes.does;
       }
 
 -- ---- the start

@@ -6,10 +6,10 @@ use Rattle.std.specs.Prelude.{◌==◌}
 use Rattle.fragment_store.specs.Calls.{store_refused, on_fence as fenced_at}
 use Rattle.fragment_store.specs.ShelfState.{ShelfState, fence_of, held_at}
 use Rattle.group_map.specs.GroupMapState.{GroupMapState}
-use Rattle.group_rebuild.specs.declared.events.In.{In}
-use Rattle.group_rebuild.specs.declared.events.In.TheVariants as input
-use Rattle.group_rebuild.specs.declared.events.Out.{Out}
-use Rattle.group_rebuild.specs.declared.events.Out.TheVariants as out
+use Rattle.group_rebuild.specs.declared.input.In.{In}
+use Rattle.group_rebuild.specs.declared.input.In.TheVariants as input
+use Rattle.group_rebuild.specs.declared.output.Out.{Out}
+use Rattle.group_rebuild.specs.declared.output.Out.TheVariants as out
 use Rattle.group_rebuild.specs.Transition.{transition}
 use Rattle.node_base.specs.Beginning.{answers_unanswered, begun, next_item, work_at}
 use Rattle.node_base.specs.Known.{names_known}
@@ -44,8 +44,8 @@ use Rattle.xfs_base.specs.declared.segment.SegName.{SegName}
 use Rattle.xfs_base.specs.Segments.{pass_cmp}
 use Rattle.xfs_base.specs.Steps.{still}
 use Rattle.node_tie.specs.Sight.{ServerSends}
-use Rattle.node_tie.specs.StoreEvents.{Says, AllSay, PacketsSay}
-use Rattle.node_tie.proofs.StoreFrames.{all_append, all_steps, answers_say, packets_say, packets_from}
+use Rattle.node_tie.specs.StoreEvents.{NoneFalls, Says, AllSay, PacketsSay}
+use Rattle.node_tie.proofs.StoreFrames.{all_append, all_steps, answers_say, none_falls, packets_say, packets_from}
 
 -- each effect of the step is no packet, or one that a server sends
 abbrev ServerDoes : Done → Type 0
@@ -229,8 +229,11 @@ taken_so : (node : Node) (what : Do) → ServerDoes (takes node what)
 taken_so node what = by_test ServerDoes (is_far_from_ends node) (on_event node what) (still node) (λ t. happens node what) (λ t. tt)
 
 -- whatever happens to a server, its packets are such as servers send
-pub server_sends : (node : Node) (what : Do) → PacketsSay ServerSends (server_step node what).packets
-server_sends node what = packets_say ServerSends (Server node.number) (takes node what).outs (taken_so node what)
+pub server_sends : (node : Node) (what : Do) → PacketsSay ServerSends (server_step node what).packets × NoneFalls (server_step node what).acts
+server_sends node what = (
+  packets_say ServerSends (Server node.number) (takes node what).outs (taken_so node what),
+  none_falls (Says ServerSends) (Server node.number) (λ act is. is) (takes node what).outs (taken_so node what),
+)
 
 pub server_from : (node : Node) (what : Do) → All (λ (p : Packet). p.from ≡ Server node.number) (server_step node what).packets
 server_from node what = packets_from (Server node.number) (takes node what).outs

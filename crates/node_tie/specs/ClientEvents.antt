@@ -12,11 +12,16 @@ use Rattle.log_owner.specs.declared.opening.Stage as stages
 use Rattle.log_owner.specs.declared.opening.Stage.TheVariants as stage
 use Rattle.log_scan.specs.declared.stage.Stage.TheVariants as scan
 use Rattle.node_base.specs.declared.effects.Effect.{Effect}
+use Rattle.node_base.specs.declared.effects.Effect.TheVariants.{Send, Answer, Lose, Does}
 use Rattle.token_client.specs.declared.held.Giving.{Giving}
+use Rattle.token_client.specs.Held.{is_dirty}
 use Rattle.token_client.specs.State.{epoch_of, held_of, is_in_slot}
 use Rattle.token_law.specs.Net.{Net, Packet, Runs, opening}
 use Rattle.token_law.specs.Net.Packet.{RecallSent}
 use Rattle.token_protocol.specs.Basics.{In}
+use Rattle.version_model.specs.declared.act.Act.{Act}
+use Rattle.version_model.specs.declared.act.Act.TheVariants as act
+use Rattle.version_model.specs.declared.act.Fall.{Fall}
 use Rattle.version_model.specs.declared.work.Work.{Work}
 use Rattle.wire_msg.specs.declared.body.Body.{Body}
 use Rattle.wire_msg.specs.declared.body.Body.TheVariants as body
@@ -26,10 +31,11 @@ use Rattle.wire_msg.specs.declared.packet.Packet as packets
 use Rattle.wire_msg.specs.declared.registry.Welcome.{Welcome}
 use Rattle.xfs_base.specs.declared.block.BlockId.{BlockId}
 use Rattle.xfs_base.specs.declared.news.SlotNews.{SlotNews}
+use Rattle.xfs_base.specs.declared.segment.SegName.{SegName}
 use Rattle.xfs_base.specs.declared.node.NodeId.TheVariants.{Client}
 use Rattle.xfs_base.specs.declared.setup.Setup.{Setup}
 use Rattle.node_tie.specs.AskingEvents.{PhaseAsks}
-use Rattle.node_tie.specs.Sight.{ClientDoes, GrantSeen, ForwardSeen, RecallSeen, SupplySeen, PollSeen}
+use Rattle.node_tie.specs.Sight.{ClientSends, GrantSeen, ForwardSeen, RecallSeen, SupplySeen, PollSeen}
 
 -- ---- how a client is seen
 
@@ -129,15 +135,34 @@ BeginsLater (Serves s) (Opening next o) = s.lasting.inc < next.inc
 BeginsLater (Serves s) (Down next) = Unit {0}
 BeginsLater (Serves s) (Serves next) = Unit {0}
 
--- an opening goes on
-abbrev pub BothOpening : Phase → Phase → Type 0
-BothOpening (Opening l o) (Opening next q) = Unit {0}
-BothOpening (Opening l o) (Down next) = ⊥
-BothOpening (Opening l o) (Serves s) = ⊥
-BothOpening (Down l) p = ⊥
-BothOpening (Serves s) p = ⊥
+-- a client doesn't serve
+abbrev pub IsAway : Phase → Type 0
+IsAway (Down l) = Unit {0}
+IsAway (Opening l o) = Unit {0}
+IsAway (Serves s) = ⊥
 
--- The small world runs on to a net in which the client is seen as it is then, and all that it sends was sent.
+-- one that serves again does the act Back
+abbrev pub SaysBack : ℕ → List Effect → Phase → Phase → Type 0
+SaysBack c outs (Down l) (Serves s) = ⊥
+SaysBack c outs (Opening l o) (Serves s) = (chain : List SegName) × In (Does (act.Back c chain)) outs
+SaysBack c outs (Serves r) (Serves s) = Unit {0}
+SaysBack c outs p (Down l) = Unit {0}
+SaysBack c outs p (Opening l o) = Unit {0}
+
+module _ (part c : ℕ) (n : Net) (sent : List Packet) (life : ℕ) (p' : Phase) where
+  -- a client falls itself, with blocks that were dirty, and then it doesn't serve
+  abbrev pub ClientActs : Act → Type 0
+  ClientActs (act.Fell client flight falls) = (client ≡ c) × IsAway p' × ((f : Fall) → In f falls → is_dirty (held_of (n.tokens c).blocks f.block) ≡ true)
+  ClientActs _ = Unit {0}
+
+  -- what it sends was sent, in the end, and what it acts is right
+  abbrev pub ClientDid : Effect → Type 0
+  ClientDid (Send to m) = ClientSends part sent c life to m
+  ClientDid (Answer item answer) = Unit {0}
+  ClientDid (Lose seg) = Unit {0}
+  ClientDid (Does a) = ClientActs a
+
+-- The small world runs on to a net in which the client is seen as it is then, all that it sends was sent, and what it acts is right.
 pub record ClientGoes (members part most c : ℕ) (n : Net) (p p' : Phase) (outs : List Effect) : Type 0 where
   pub next : Net
   pub runs : Runs members part n next
@@ -145,13 +170,14 @@ pub record ClientGoes (members part most c : ℕ) (n : Net) (p p' : Phase) (outs
   pub others : (d : ℕ) → (d ≡ c → ⊥) → (next.tokens d ≡ n.tokens d) × (next.up d ≡ n.up d)
   pub slots : (e : ℕ) → next.slots e ≡ n.slots e
   pub grows : (x : Packet) → In x n.sent → In x next.sent
-  pub does : All (ClientDoes part next.sent c (lasting_of p').inc) outs
+  pub does : All (ClientDid part c n next.sent (lasting_of p').inc p') outs
   pub within : epoch_of (next.tokens c).epochs part ≤ most
   pub promises : PromisesWithin part most p'
   pub later : (lasting_of p).inc ≤ (lasting_of p').inc
   pub begins : BeginsLater p p'
-  -- while an opening goes on, what is left of the client's last tokens stands still
-  pub stands : BothOpening p p' → next.tokens c ≡ n.tokens c
+  -- what is left of the last tokens of a client that doesn't serve stands still
+  pub stands : IsAway p' → next.tokens c ≡ n.tokens c
+  pub back : SaysBack c outs p p'
 
 -- what the world owes an event
 abbrev pub ClientOwed : (part most c : ℕ) → Net → Phase → Do → Type 0

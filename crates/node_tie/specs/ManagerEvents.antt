@@ -72,12 +72,12 @@ HeldAt (phase.Away epoch) e = ⊥
 HeldAt (phase.Broken epoch seg) e = ⊥
 
 module _ (members part : ℕ) (n : Net) where
-  -- a report of a client was sent, in the epoch of the takeover
+  -- a report of a client was sent, in the epoch of the takeover; the cleaner has promised that epoch where it reports
   abbrev pub ReportKnown : ℕ → NodeId → List (BlockId × Mode) → Type 0
   ReportKnown epoch (Client c) held = (0 < c) × (c < members) × In (ReportSent c epoch held) n.sent
   ReportKnown epoch (Manager c) held = Unit {0}
   ReportKnown epoch (Server c) held = Unit {0}
-  ReportKnown epoch Cleaner held = Unit {0}
+  ReportKnown epoch Cleaner held = epoch ≤ n.promised
   ReportKnown epoch Registry held = Unit {0}
 
   -- a takeover of the slot
@@ -163,12 +163,12 @@ module _ (part : ℕ) (n : Net) where
   GaveGets Cleaner m = Unit {0}
   GaveGets Registry m = Unit {0}
 
-  -- a report is of one of the clients
+  -- a report is of one of the clients, or the cleaner has promised its epoch
   abbrev pub ReportGets : ℕ → NodeId → Report → Type 0
   ReportGets members (Client c) m = (0 < c) × (c < members) × ReportSeen part n.sent c m
   ReportGets members (Manager c) m = Unit {0}
   ReportGets members (Server c) m = Unit {0}
-  ReportGets members Cleaner m = Unit {0}
+  ReportGets members Cleaner m = m.slot ≡ part → m.epoch ≤ n.promised
   ReportGets members Registry m = Unit {0}
 
 module _ (part most j : ℕ) (n : Net) where
@@ -261,9 +261,9 @@ pub record ManagerGoes (members part most j : ℕ) (n : Net) (p : Phase) (what :
   pub up : next.up ≡ n.up
   -- only the slot that the manager takes over or manages changes: where it is away at an epoch, another one manages the slot at it
   pub slots : (e : ℕ) → (HeldAt (slot_in part p) e → ⊥) → next.slots e ≡ n.slots e
-  -- a manager that becomes active in the small world had the slot under takeover
+  -- a manager that becomes active in the small world had the slot under takeover, and the cleaner has promised its epoch
   pub entered : (e : ℕ) (z : SlotState) → next.slots e ≡ Some z → n.slots e ≡ None
-      → TakingAt (slot_in part p) e × (is_serving w.state ≡ true) × (e ≤ epoch_in part w.state)
+      → TakingAt (slot_in part p) e × (is_serving w.state ≡ true) × (e ≤ epoch_in part w.state) × (e ≤ n.promised)
   -- what it takes over or manages it did before in this life, or is given now, at a later epoch
   pub taken : (e : ℕ) → HeldAt (slot_in part w.state) e
       → (HeldAt (slot_in part p) e × ((lasting_of w.state).inc ≡ (lasting_of p).inc)) ⊎ (Names part j e what × (epoch_in part p < e))

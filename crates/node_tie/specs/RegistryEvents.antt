@@ -21,6 +21,7 @@ use Rattle.xfs_base.specs.declared.news.SlotNews.{SlotNews}
 use Rattle.xfs_base.specs.declared.node.NodeId.{NodeId}
 use Rattle.xfs_base.specs.declared.node.NodeId.TheVariants.{Manager, Registry}
 use Rattle.xfs_base.specs.declared.setup.Setup.{Setup}
+use Rattle.node_tie.specs.Sight.{IsNoFall}
 
 -- ---- what the registry keeps
 
@@ -90,7 +91,7 @@ module _ (part : ℕ) (what : Do) (b : BoardState) where
   RegistryDoes (Send to said) = RegistrySends to said
   RegistryDoes (Answer item answer) = Unit {0}
   RegistryDoes (Lose seg) = Unit {0}
-  RegistryDoes (Does act) = Unit {0}
+  RegistryDoes (Does act) = IsNoFall act
 
 -- ---- all of it
 
@@ -115,6 +116,7 @@ pub record RegistryGoes (part : ℕ) (r : RegistryNode) (what : Do) : Type 0 whe
   pub peers : (registry_step r what).node.peers ≡ r.peers
   pub from : All (λ (p : Packet). p.from ≡ Registry) (registry_step r what).packets
   pub sends : All (λ (p : Packet). RegistrySends part what (registry_step r what).node.board p.to p.body) (registry_step r what).packets
+  pub acts : All IsNoFall (registry_step r what).acts
 
 -- the registry at the start of a run of so many managers
 pub record RegistryBegins (part managers : ℕ) (r : RegistryNode) : Type 0 where

@@ -6,6 +6,8 @@ use Rattle.token_client.specs.State.{is_in_slot}
 use Rattle.token_law.specs.Net.{Packet}
 use Rattle.token_law.specs.Net.Packet.{WantSent, GrantSent, RecallSent, GaveSent, ForwardSent, SupplySent, ReportSent}
 use Rattle.token_protocol.specs.Basics.{In}
+use Rattle.version_model.specs.declared.act.Act.{Act}
+use Rattle.version_model.specs.declared.act.Act.TheVariants as act
 use Rattle.wire_msg.specs.declared.body.Body.{Body}
 use Rattle.wire_msg.specs.declared.body.Body.TheVariants as body
 use Rattle.wire_msg.specs.declared.deltas.Poll.{Poll}
@@ -19,6 +21,13 @@ use Rattle.wire_msg.specs.declared.tokens.Want.{Want}
 use Rattle.xfs_base.specs.declared.block.BlockId.{BlockId}
 use Rattle.xfs_base.specs.declared.node.NodeId.{NodeId}
 use Rattle.xfs_base.specs.declared.node.NodeId.TheVariants.{Client, Manager, Server, Cleaner, Registry}
+
+-- ---- acts
+
+-- an act that is no fall of a client
+abbrev pub IsNoFall : Act → Type 0
+IsNoFall (act.Fell client flight falls) = ⊥
+IsNoFall _ = Unit {0}
 
 -- ---- packets about tokens of the slot, as the small world has them
 
@@ -84,7 +93,7 @@ module _ (part : ℕ) (sent : List Packet) where
   ClientDoes c life (Send to m) = ClientSends c life to m
   ClientDoes c life (Answer item answer) = Unit {0}
   ClientDoes c life (Lose seg) = Unit {0}
-  ClientDoes c life (Does act) = Unit {0}
+  ClientDoes c life (Does a) = IsNoFall a
 
   -- a manager sends grants, forwards and recalls; polls up to this epoch of the slot; and what takeovers and checkpoints need; it says Hello in this
   -- incarnation at most
@@ -111,7 +120,7 @@ module _ (part : ℕ) (sent : List Packet) where
   ManagerDoes most life (Send to m) = ManagerSends most life to m
   ManagerDoes most life (Answer item answer) = Unit {0}
   ManagerDoes most life (Lose seg) = Unit {0}
-  ManagerDoes most life (Does act) = Unit {0}
+  ManagerDoes most life (Does a) = IsNoFall a
 
 -- a server sends what it holds and did, and what a rebuild asks
 abbrev pub ServerSends : Body → Type 0
@@ -126,16 +135,18 @@ ServerSends (body.List m) = Unit {0}
 ServerSends (body.Hello m) = Unit {0}
 ServerSends _ = ⊥
 
--- the cleaner sends reports and what its log and its job need
-abbrev pub CleanerSends : Body → Type 0
-CleanerSends (body.Report m) = Unit {0}
-CleanerSends (body.Deltas m) = Unit {0}
-CleanerSends (body.Store m) = Unit {0}
-CleanerSends (body.Fetch m) = Unit {0}
-CleanerSends (body.Fence m) = Unit {0}
-CleanerSends (body.List m) = Unit {0}
-CleanerSends (body.Delete m) = Unit {0}
-CleanerSends (body.Check m) = Unit {0}
-CleanerSends (body.UsageAsk m) = Unit {0}
-CleanerSends (body.Hello m) = Unit {0}
-CleanerSends _ = ⊥
+module _ (part promised life : ℕ) where
+  -- the cleaner reports epochs of the slot up to the one that it has promised; it sends what its log and its job need; it says Hello in this incarnation
+  -- at most
+  abbrev pub CleanerSends : Body → Type 0
+  CleanerSends (body.Report m) = m.slot ≡ part → m.epoch ≤ promised
+  CleanerSends (body.Deltas m) = Unit {0}
+  CleanerSends (body.Store m) = Unit {0}
+  CleanerSends (body.Fetch m) = Unit {0}
+  CleanerSends (body.Fence m) = Unit {0}
+  CleanerSends (body.List m) = Unit {0}
+  CleanerSends (body.Delete m) = Unit {0}
+  CleanerSends (body.Check m) = Unit {0}
+  CleanerSends (body.UsageAsk m) = Unit {0}
+  CleanerSends (body.Hello m) = m.inc ≤ life
+  CleanerSends _ = ⊥

@@ -4,10 +4,11 @@
 #![tactic(auto)]
 
 ghost use Rattle.node_tie.specs.AskingEvents.{StartsAsking, EventsKeepAsking};
+ghost use Rattle.node_tie.specs.CleanerEvents.{CleanerStarts, CleanerTakes};
 ghost use Rattle.node_tie.specs.ClientEvents.{ClientStarts, ClientTakes};
 ghost use Rattle.node_tie.specs.ManagerEvents.{FirstManagerAgrees, ManagerEventGoes};
 ghost use Rattle.node_tie.specs.RegistryEvents.{RegistryEventGoes, RegistryStarts};
-ghost use Rattle.node_tie.specs.StoreEvents.{CleanerSays, ServersSay};
+ghost use Rattle.node_tie.specs.StoreEvents.{ServersSay};
 
 /// A client asks for at most one block, the one that its open call needs, in the mode that it needs
 /// (the 1996 paper, on cache consistency).
@@ -45,10 +46,14 @@ pub fn manager_events_are_seen()
 /// - `start`: the registry has epoch 1 of each slot, and each manager in its first incarnation.
 /// - `events`: an event leaves a slot as it was or gives it anew under the next epoch; a manager that tells
 ///   of a later incarnation has its slots given anew; what the registry sends tells of its present maps.
-/// - `servers`, `cleaner`: they send nothing of tokens and no maps.
+/// - `servers`: they send nothing of tokens and no maps, and none of their acts is a client's fall.
+/// - `cleaner_start`: the cleaner has promised epoch 1 of each slot.
+/// - `cleaner`: what it has promised of a slot doesn't fall, also over a restart, and it reports no later epoch; it
+///   sends nothing else of tokens and no maps, and none of its acts is a client's fall.
 pub fn other_events_are_seen()
     ensures start { RegistryStarts }
     ensures events { RegistryEventGoes }
     ensures servers { ServersSay }
-    ensures cleaner { CleanerSays }
+    ensures cleaner_start { CleanerStarts }
+    ensures cleaner { CleanerTakes }
 {}

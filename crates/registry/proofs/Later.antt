@@ -24,7 +24,7 @@ use Rattle.registry.specs.declared.checkpoint.Checkpoint.{Checkpoint}
 use Rattle.registry.specs.declared.input.In.{In}
 use Rattle.registry.specs.declared.input.In.TheVariants.{Hello, Reassign, Done}
 use Rattle.registry.specs.BoardState.{BoardState}
-use Rattle.registry.specs.Board.{Made, step, inc_of, has_room, may_lose, hears_manager, manager_restarted, manager_hello, hears_server, server_lost, server_hello, can_move, moved, reassign, is_kept, checkpointed, keep, done}
+use Rattle.registry.specs.Board.{Made, transition, inc_of, has_room, may_lose, hears_manager, manager_restarted, manager_hello, hears_server, server_lost, server_hello, can_move, moved, reassign, is_kept, checkpointed, keep, done}
 use Rattle.registry.specs.Checkpoints.{no_lower, covers_kept, horizon_at, places}
 use Rattle.registry.specs.Slots.{all_slots, entry_of, raise_one, can_rise}
 use Rattle.registry.specs.Laws.{after_all, AreLater, IsLater}
@@ -230,7 +230,7 @@ module _ (s : BoardState) where
       (λ _. by_test Leads (is_kept s slot epoch horizon) (keep s slot epoch parts horizon) (record { state = s; outs = _ })
       (λ h. later_keep slot epoch parts horizon (and_second ((entry_of s.entries slot).epoch == epoch) (covers_kept s.checkpoints slot horizon) h)) (λ _. later_itself s))
 
-  later_step : (input : In) → Leads (step s input)
+  later_step : (input : In) → Leads (transition s input)
   later_step (Hello (Client n) inc) = later_itself s
   later_step (Hello (Manager n) inc) = later_manager n inc
   later_step (Hello (Server n) inc) = later_server n inc
@@ -240,4 +240,4 @@ module _ (s : BoardState) where
   later_step (Done slot epoch parts horizon) = later_done slot epoch parts horizon
 
 pub later_all : (s : BoardState) (inputs : List In) → IsLater s (after_all s inputs)
-later_all s inputs = steps_keep step (IsLater s) (λ t input h. later_both s t (step t input).state h (later_step t input)) s inputs (later_itself s)
+later_all s inputs = steps_keep transition (IsLater s) (λ t input h. later_both s t (transition t input).state h (later_step t input)) s inputs (later_itself s)

@@ -78,7 +78,9 @@ moved s slot manager = record s { version = s.version + 1; entries = after_move 
 
 unfoldable pub reassign : BoardState → ℕ → ℕ → Made
 reassign s slot manager =
-    if can_move s slot then record { state = moved s slot manager; outs = Changed ∷ Epoch (entry_at (after_move s.entries slot manager) slot).epoch ∷ [] } else still s
+    if can_move s slot
+    then record { state = moved s slot manager; outs = Changed ∷ Epoch (entry_at (after_move s.entries slot manager) slot).epoch ∷ [] }
+    else still s
 
 -- ---- a checkpoint that is written
 
@@ -87,21 +89,24 @@ abbrev pub is_kept : BoardState → ℕ → ℕ → List ℕ → Bool
 is_kept s slot epoch horizon = ((entry_of s.entries slot).epoch == epoch) && covers_kept s.checkpoints slot horizon
 
 abbrev pub checkpointed : BoardState → ℕ → List SegRef → List ℕ → BoardState
-checkpointed s slot parts horizon = record s { version = s.version + 1; checkpoints = slice_set s.checkpoints slot (record { parts = parts; horizon = horizon }) }
+checkpointed s slot parts horizon =
+    record s { version = s.version + 1; checkpoints = slice_set s.checkpoints slot (record { parts = parts; horizon = horizon }) }
 
 unfoldable pub keep : BoardState → ℕ → ℕ → List SegRef → List ℕ → Made
 keep s slot epoch parts horizon = if s.version == 4294967295 then still s else record { state = checkpointed s slot parts horizon; outs = Kept epoch ∷ [] }
 
 unfoldable pub done : BoardState → ℕ → ℕ → List SegRef → List ℕ → Made
 done s slot epoch parts horizon =
-    if nat_lt 7 slot then still s else (if is_kept s slot epoch horizon then keep s slot epoch parts horizon else record { state = s; outs = Kept (entry_of s.entries slot).epoch ∷ [] })
+    if nat_lt 7 slot
+    then still s
+    else (if is_kept s slot epoch horizon then keep s slot epoch parts horizon else record { state = s; outs = Kept (entry_of s.entries slot).epoch ∷ [] })
 
 -- ---- all inputs
 
-abbrev pub step : BoardState → In → Made
-step s (Hello node inc) = hello s node inc
-step s (Reassign slot manager) = reassign s slot manager
-step s (Done slot epoch parts horizon) = done s slot epoch parts horizon
+abbrev pub transition : BoardState → In → Made
+transition s (Hello node inc) = hello s node inc
+transition s (Reassign slot manager) = reassign s slot manager
+transition s (Done slot epoch parts horizon) = done s slot epoch parts horizon
 
 abbrev pub started : Setup → BoardState
 started setup = record {

@@ -5,13 +5,13 @@ use Rattle.group_map.specs.Groups.{generation_at}
 use Rattle.manager_map.specs.declared.entry.SlotEntry.{SlotEntry}
 use Rattle.manager_map.specs.Slots.{entry_at}
 use Rattle.registry.specs.BoardState.{BoardState}
-use Rattle.registry.specs.Board.{step, inc_of}
+use Rattle.registry.specs.Board.{transition, inc_of}
 use Rattle.registry.specs.Checkpoints.{horizon_at}
 use Rattle.registry.specs.declared.input.In.{In}
 
 -- the state after any inputs, in order
 abbrev pub after_all : BoardState → List In → BoardState
-after_all s inputs = (steps step s inputs).state
+after_all s inputs = (steps transition s inputs).state
 
 -- the second entries may follow the first: no epoch is lower, and under one epoch a slot has one manager
 pub record AreLater (old new : List SlotEntry) : Type 0 where

@@ -3,7 +3,7 @@ ghost use Rattle.std.specs.Prelude.{◌≡◌, ◌+◌, ◌≤◌, ◌++◌, ℕ
 ghost use Rattle.std.specs.List.{IsDistinct};
 ghost use Rattle.group_map.specs.Sizes.{IsParity, bad_size};
 ghost use Rattle.group_map.specs.WellFormed.{IsServer};
-ghost use Rattle.registry.specs.Board.{inc_of, has_room, may_lose, hears_manager, manager_hello, hears_server, server_hello, hello, can_move, reassign, is_kept, keep, done, step, started, slot_news, all_news};
+ghost use Rattle.registry.specs.Board.{inc_of, has_room, may_lose, hears_manager, manager_hello, hears_server, server_hello, hello, can_move, reassign, is_kept, keep, done, transition, started, slot_news, all_news};
 
 use crate::checkpoint::{Checkpoint, covers_kept, first_checkpoints, horizon_at, parts_at};
 use crate::input::In;
@@ -156,8 +156,8 @@ impl Board {
     /// a version, an epoch or the ids of groups could not rise, nothing changes and nothing is sent. A
     /// slot above 7 and a horizon of other than nine numbers change nothing.
     pub fn take(&mut self, alloc: Global, input: In) -> Mem<List<Out>>
-        ensures state { OnOk result (self.new ≡ (step self.old input).state) }
-        ensures outs { IfOk result (λ outs. outs ≡ (step self.old input).outs) }
+        ensures state { OnOk result (self.new ≡ (transition self.old input).state) }
+        ensures outs { IfOk result (λ outs. outs ≡ (transition self.old input).outs) }
     {
         let mut outs = List::new(alloc);
         match input {

@@ -49,7 +49,7 @@ record Rest (s : Script) (p : Place) (before : ℕ) : Type 0 where
   setup : s.setup ≡ p.setup
   asked : AreAsked p.setup before p.room items
 
-within : (total n end : ℕ) → (IsPast total n end → ⊥) → n ≤ 20000
+within : (total n end : ℕ) → (IsPast (record { total = total; number = n; end = end }) → ⊥) → n ≤ 20000
 within total n end h = not_above n (λ l. h (inl l))
   where
     not_above : (m : ℕ) → (20000 < m → ⊥) → m ≤ 20000

@@ -36,7 +36,7 @@ accepts total n at [] p q t m g w =
 accepts total n at (l ∷ ls) p q t m g w =
     ((λ x. not_past x), g.0, g.1, accepts total (n + 1) (at + (length l + 1)) ls g.0 q t (omega (arith, m)) g.2 w)
   where
-    not_past : IsPast total n (at + (length l + 1)) → ⊥
+    not_past : IsPast (record { total = total; number = n; end = at + (length l + 1) }) → ⊥
     not_past (inl x) = omega (arith, x, m)
     not_past (inr x) = omega (arith, x.0, t)
 

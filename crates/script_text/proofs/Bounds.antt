@@ -29,7 +29,7 @@ one_more n l p q (inr (s, inr (w, b, after, work, i, e))) =
     let g : length (p.items ++ item_at n after work ∷ []) ≡ length p.items + 1 = length-append p.items (item_at n after work ∷ []) in
     omega (arith, f, g)
 
-not_many : (total n end : ℕ) → (IsPast total n end → ⊥) → n ≤ 20000
+not_many : (total n end : ℕ) → (IsPast (record { total = total; number = n; end = end }) → ⊥) → n ≤ 20000
 not_many total n end h = not_above n (λ l. h (inl l))
   where
     not_above : (m : ℕ) → (20000 < m → ⊥) → m ≤ 20000

@@ -150,25 +150,25 @@ line_bad : (n : ℕ) (l : List ℕ) (p : Place) (k : Kind) → IsBad l p k → r
 line_bad n l p k (f, h, b) = ap (λ t. if t then Ok p else read_words n p (words l)) f ∙ words_bad n p (words l) k (h, b)
 
 -- the limits
-past_true : (total n end : ℕ) → is_past total n end ≡ true → IsPast total n end
+past_true : (total n end : ℕ) → is_past total n end ≡ true → IsPast (record { total = total; number = n; end = end })
 past_true total n end e = at_tests (nat_lt 20000 n) (nat_lt 1048576 total) (nat_lt 1048576 end) refl refl refl e
   where
     lt_true : (a b : ℕ) → nat_lt a b ≡ true → a < b
     lt_true a b e = grind (arith, nat_tests, e)
 
-    at_tests : (a b c : Bool) → nat_lt 20000 n ≡ a → nat_lt 1048576 total ≡ b → nat_lt 1048576 end ≡ c → (a || b && c) ≡ true → IsPast total n end
+    at_tests : (a b c : Bool) → nat_lt 20000 n ≡ a → nat_lt 1048576 total ≡ b → nat_lt 1048576 end ≡ c → (a || b && c) ≡ true → IsPast (record { total = total; number = n; end = end })
     at_tests true b c f g h e = inl (lt_true _ _ f)
     at_tests false true true f g h e = inr (lt_true _ _ g, lt_true _ _ h)
     at_tests false true false f g h e = absurd (grind (arith, e))
     at_tests false false c f g h e = absurd (grind (arith, e))
 
-past_false : (total n end : ℕ) → is_past total n end ≡ false → IsPast total n end → ⊥
+past_false : (total n end : ℕ) → is_past total n end ≡ false → IsPast (record { total = total; number = n; end = end }) → ⊥
 past_false total n end e p = at_tests p
   where
     lt_test : (a b : ℕ) → a < b → nat_lt a b ≡ true
     lt_test a b e = grind (arith, nat_tests, e)
 
-    at_tests : IsPast total n end → ⊥
+    at_tests : IsPast (record { total = total; number = n; end = end }) → ⊥
     at_tests (inl l) = true_false (is_past total n end) (rw (lt_test _ _ l) refl) e
     at_tests (inr (l, m)) = true_false (is_past total n end) (or_right (nat_lt 20000 n) _ (rw (lt_test _ _ l, lt_test _ _ m) refl)) e
       where
@@ -176,14 +176,14 @@ past_false total n end e p = at_tests p
         or_right true b e = refl
         or_right false b e = e
 
-not_past : (total n end : ℕ) → (IsPast total n end → ⊥) → is_past total n end ≡ false
+not_past : (total n end : ℕ) → (IsPast (record { total = total; number = n; end = end }) → ⊥) → is_past total n end ≡ false
 not_past total n end h = at_test (is_past total n end) refl
   where
     at_test : (t : Bool) → is_past total n end ≡ t → t ≡ false
     at_test true e = absurd (h (past_true total n end e))
     at_test false e = refl
 
-is_past_true : (total n end : ℕ) → IsPast total n end → is_past total n end ≡ true
+is_past_true : (total n end : ℕ) → IsPast (record { total = total; number = n; end = end }) → is_past total n end ≡ true
 is_past_true total n end p = at_test (is_past total n end) refl
   where
     at_test : (t : Bool) → is_past total n end ≡ t → t ≡ true

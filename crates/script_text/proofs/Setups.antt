@@ -13,7 +13,7 @@ use Rattle.script_text.specs.declared.stage.Place.{Place}
 use Rattle.script_text.specs.declared.setup_lines.Said.{Said}
 use Rattle.script_text.specs.declared.setup_lines.Said.TheVariants as said
 use Rattle.script_text.specs.Words.{first, behind, is_end}
-use Rattle.script_text.specs.Script.{Gives, AreDifferent, IsGroup, NamesGroup, AddsGroup, AddsActs, AddsSetup, is_setup_word}
+use Rattle.script_text.specs.Script.{SaysNumber, AreDifferent, IsGroup, NamesGroup, AddsGroup, AddsActs, AddsSetup, is_setup_word}
 use Rattle.script_text.specs.Reading.{number_in, number_for, if_new, new_server, servers_from, enough_for, group_of, saying, or_else, group_said, acts_said, said_at, behind_said}
 use Rattle.script_text.proofs.Pieces.{number_read, number_spelled}
 
@@ -24,7 +24,7 @@ two_words (w ∷ []) e f = absurd (grind (arith, e))
 two_words (w ∷ v ∷ []) e f = refl
 two_words (w ∷ v ∷ u ∷ ws) e f = absurd (grind (arith, f))
 
-for_tests : (name : List ℕ) (a b n : ℕ) (ws : List (List ℕ)) (s t u : Bool) → bytes_eq (first ws) name ≡ s → is_end (behind ws) ≡ t → is_end (behind (behind ws)) ≡ u → (if s && not t && u then number_in a b (first (behind ws)) else None) ≡ Some n → Gives name a b ws n
+for_tests : (name : List ℕ) (a b n : ℕ) (ws : List (List ℕ)) (s t u : Bool) → bytes_eq (first ws) name ≡ s → is_end (behind ws) ≡ t → is_end (behind (behind ws)) ≡ u → (if s && not t && u then number_in a b (first (behind ws)) else None) ≡ Some n → SaysNumber name a b ws n
 for_tests name a b n ws true false true e f g h =
     let x = number_read a b n (first (behind ws)) h in
     let y = (bytes_eq-Decides (first ws) name).0 e in
@@ -33,10 +33,10 @@ for_tests name a b n ws true false false e f g h = absurd (grind (arith, h))
 for_tests name a b n ws true true u e f g h = absurd (grind (arith, h))
 for_tests name a b n ws false t u e f g h = absurd (grind (arith, h))
 
-for_read : (name : List ℕ) (a b n : ℕ) (ws : List (List ℕ)) → number_for name a b ws ≡ Some n → Gives name a b ws n
+for_read : (name : List ℕ) (a b n : ℕ) (ws : List (List ℕ)) → number_for name a b ws ≡ Some n → SaysNumber name a b ws n
 for_read name a b n ws h = for_tests name a b n ws (bytes_eq (first ws) name) (is_end (behind ws)) (is_end (behind (behind ws))) refl refl refl h
 
-for_given : (name : List ℕ) (a b n : ℕ) (ws : List (List ℕ)) → b < 2 ^ 32 → Gives name a b ws n → number_for name a b ws ≡ Some n
+for_given : (name : List ℕ) (a b n : ℕ) (ws : List (List ℕ)) → b < 2 ^ 32 → SaysNumber name a b ws n → number_for name a b ws ≡ Some n
 for_given name a b n ws l (e, x, y) =
     let t : bytes_eq name name ≡ true = (bytes_eq-Decides name name).1 refl in
     rw e (rw t (number_spelled a b n (decimal n) ((omega arith, refl), x, y)))
@@ -253,12 +253,12 @@ acts_said_read p ws s e = at_tests (bytes_eq (first ws) (codes "acts")) (is_end 
 acts_said_given : (p q : Place) (ws : List (List ℕ)) → AddsActs p ws q → (s : Said) × (acts_said ws ≡ Some s) × (q ≡ behind_said p s)
 acts_said_given p q ws (e, f) = (said.Acts, rw e refl, f)
 
-number_said_read : (name : List ℕ) (a b : ℕ) (f : ℕ → Said) (ws : List (List ℕ)) (s : Said) → saying f (number_for name a b ws) ≡ Some s → (n : ℕ) × Gives name a b ws n × (s ≡ f n)
+number_said_read : (name : List ℕ) (a b : ℕ) (f : ℕ → Said) (ws : List (List ℕ)) (s : Said) → saying f (number_for name a b ws) ≡ Some s → (n : ℕ) × SaysNumber name a b ws n × (s ≡ f n)
 number_said_read name a b f ws s e =
     let r = saying_some f (number_for name a b ws) s e in
     (r.0, for_read name a b r.0 ws r.1, r.2)
 
-number_said_given : (name : List ℕ) (a b n : ℕ) (f : ℕ → Said) (ws : List (List ℕ)) → b < 2 ^ 32 → Gives name a b ws n → saying f (number_for name a b ws) ≡ Some (f n)
+number_said_given : (name : List ℕ) (a b n : ℕ) (f : ℕ → Said) (ws : List (List ℕ)) → b < 2 ^ 32 → SaysNumber name a b ws n → saying f (number_for name a b ws) ≡ Some (f n)
 number_said_given name a b n f ws l g = ap (λ o. saying f o) (for_given name a b n ws l g)
 
 or_some : (a b : Option Said) (s : Said) → or_else a b ≡ Some s → (a ≡ Some s) ⊎ ((a ≡ None) × (b ≡ Some s))

@@ -1,5 +1,5 @@
 -- What private functions answer: what is read, or the kind of what is at fault, unless memory runs out.
-use Rattle.std.specs.Prelude.{◌≡◌, Bool, true, if◌then◌else◌, Result, Ok, Err, Option, Some, None, ⊤}
+use Rattle.std.specs.Prelude.{◌≡◌, Bool, true, if◌then◌else◌, Result, Ok, Err, Option, Some, None}
 use Rattle.script_text.specs.declared.refusal.Kind.{Kind}
 use Rattle.script_text.specs.declared.refusal.LineError.{LineError}
 use Rattle.script_text.specs.declared.refusal.LineError.TheVariants.{Bad, Memory}
@@ -7,7 +7,7 @@ use Rattle.script_text.specs.declared.refusal.LineError.TheVariants.{Bad, Memory
 -- a fault is the one that reading gives
 abbrev pub Fails : {X : Type 0} → LineError → Result X Kind → Type 0
 Fails (Bad k) read = read ≡ Err k
-Fails Memory read = ⊤
+Fails Memory read = Unit {0}
 
 -- the answer is what reading gives
 abbrev pub Answers : {X : Type 0} → Result X LineError → Result X Kind → Type 0

@@ -1,6 +1,6 @@
 -- How a line is read, as functions: what private functions of this crate say of their answers. That they read what the grammar
 -- says, and nothing else, is proved in proofs/.
-use Rattle.std.specs.Prelude.{◌≡◌, ℕ, ◌+◌, ◌-◌, ◌*◌, ◌<◌, ◌==◌, min, nat_lt, nat_le, Bool, true, false, not, ◌&&◌, ◌||◌, List, [], ◌∷◌, ◌++◌, length, codes, Option, Some, None, Result, Ok, Err, if◌then◌else◌, ⊤}
+use Rattle.std.specs.Prelude.{◌≡◌, ℕ, ◌+◌, ◌-◌, ◌*◌, ◌<◌, ◌==◌, min, nat_lt, nat_le, Bool, true, false, not, ◌&&◌, ◌||◌, List, [], ◌∷◌, ◌++◌, length, codes, Option, Some, None, Result, Ok, Err, if◌then◌else◌}
 use denote.Ref.{Bor}
 use Rattle.std.specs.List.{list_any, repeat, position, slice_get}
 use Rattle.std.specs.Str.{bytes_eq}
@@ -94,11 +94,11 @@ hex_value b = if nat_le 48 b && nat_le b 57 then Some (b - 48) else if nat_le 97
 -- the mark of a second digit has a first one
 abbrev pub IsMark : Mark → Type 0
 IsMark (mark.Low h) = h < 16
-IsMark m = ⊤
+IsMark m = Unit {0}
 
 abbrev pub IsTurn : Turn → Type 0
 IsTurn (turns.Goes m) = IsMark m
-IsTurn t = ⊤
+IsTurn t = Unit {0}
 
 -- what a byte does: at a byte of the text, behind a backslash, at the first and at the second digit
 abbrev pub turn_at : Mark → ℕ → Turn
@@ -417,13 +417,13 @@ refused n line_errors.Memory = errors.Memory
 -- a script or a fault is the one that reading gives
 abbrev pub Faults : ScriptError → Result Script Fault → Type 0
 Faults (errors.Bad n k) read = read ≡ Err (record { line = n; kind = k })
-Faults errors.Memory read = ⊤
+Faults errors.Memory read = Unit {0}
 
 abbrev pub AnswersScript : Result Script ScriptError → Result Script Fault → Type 0
 AnswersScript (Ok s) read = read ≡ Ok s
 AnswersScript (Err e) read = Faults e read
 
 -- the call leads to the place that reading gives, or fails as it does
-abbrev pub LeadsTo : Result ⊤ LineError → Place → Result Place Kind → Type 0
+abbrev pub LeadsTo : Result (Unit {0}) LineError → Place → Result Place Kind → Type 0
 LeadsTo (Ok u) place read = read ≡ Ok place
 LeadsTo (Err e) place read = Fails e read

@@ -1,5 +1,5 @@
 -- Which bytes are which script, and which line is the first bad one.
-use Rattle.std.specs.Prelude.{◌≡◌, ◌≢◌, ◌⊎◌, ℕ, ◌+◌, ◌-◌, ◌≤◌, ◌<◌, ◌^◌, ◌==◌, Bool, true, false, not, ◌&&◌, ◌||◌, List, [], ◌∷◌, ◌++◌, length, map, codes, Option, Some, None, ⊤, if◌then◌else◌}
+use Rattle.std.specs.Prelude.{◌≡◌, ◌≢◌, ◌⊎◌, ℕ, ◌+◌, ◌-◌, ◌≤◌, ◌<◌, ◌^◌, ◌==◌, Bool, true, false, not, ◌&&◌, ◌||◌, List, [], ◌∷◌, ◌++◌, length, map, codes, Option, Some, None, if◌then◌else◌}
 use Rattle.std.specs.Bool.{MatchBool}
 use Rattle.std.specs.List.{list_any, AllByRecursion}
 use Rattle.std.specs.Str.{bytes_eq}
@@ -69,12 +69,12 @@ IsBadItem c ws k =
     ⊎ ((f : Form) × IsOfForm ws f × IsFaulty c ws f k)
 
 -- a line of the setup that gives a number of these to a name
-abbrev pub Gives : List ℕ → ℕ → ℕ → List (List ℕ) → ℕ → Type 0
-Gives name least most ws n = (ws ≡ name ∷ decimal n ∷ []) × (least ≤ n) × (n ≤ most)
+abbrev pub SaysNumber : List ℕ → ℕ → ℕ → List (List ℕ) → ℕ → Type 0
+SaysNumber name least most ws n = (ws ≡ name ∷ decimal n ∷ []) × (least ≤ n) × (n ≤ most)
 
 -- no two of these are the same
 abbrev pub AreDifferent : List ℕ → Type 0
-AreDifferent [] = ⊤
+AreDifferent [] = Unit {0}
 AreDifferent (n ∷ ns) = AllByRecursion (λ m. m ≢ n) ns × AreDifferent ns
 
 -- servers that a group of this parity may have, of so many
@@ -103,17 +103,17 @@ AddsActs p ws q = (ws ≡ codes "acts" ∷ []) × (q ≡ record p { stage = stag
 
 -- a line of the setup, where it may stand, and what it adds
 abbrev pub AddsSetup : Stage → Place → List (List ℕ) → Place → Type 0
-AddsSetup stage.Version p ws q = (n : ℕ) × Gives (codes "xfs") 1 1 ws n × (q ≡ record p { stage = stage.Clients })
+AddsSetup stage.Version p ws q = (n : ℕ) × SaysNumber (codes "xfs") 1 1 ws n × (q ≡ record p { stage = stage.Clients })
 AddsSetup stage.Clients p ws q =
-    (n : ℕ) × Gives (codes "clients") 1 8 ws n × (q ≡ record p { stage = stage.Managers; setup = record p.setup { clients = n } })
+    (n : ℕ) × SaysNumber (codes "clients") 1 8 ws n × (q ≡ record p { stage = stage.Managers; setup = record p.setup { clients = n } })
 AddsSetup stage.Managers p ws q =
-    (n : ℕ) × Gives (codes "managers") 1 4 ws n × (q ≡ record p { stage = stage.Servers; setup = record p.setup { managers = n } })
+    (n : ℕ) × SaysNumber (codes "managers") 1 4 ws n × (q ≡ record p { stage = stage.Servers; setup = record p.setup { managers = n } })
 AddsSetup stage.Servers p ws q =
-    (n : ℕ) × Gives (codes "servers") 3 12 ws n × (q ≡ record p { stage = stage.FirstGroup; setup = record p.setup { servers = n } })
+    (n : ℕ) × SaysNumber (codes "servers") 3 12 ws n × (q ≡ record p { stage = stage.FirstGroup; setup = record p.setup { servers = n } })
 AddsSetup stage.FirstGroup p ws q = AddsGroup p ws q
 AddsSetup stage.Groups p ws q =
     AddsGroup p ws q
-    ⊎ ((n : ℕ) × Gives (codes "cache") 1 1024 ws n × (q ≡ record p { stage = stage.Cached; setup = record p.setup { cache = n } }))
+    ⊎ ((n : ℕ) × SaysNumber (codes "cache") 1 1024 ws n × (q ≡ record p { stage = stage.Cached; setup = record p.setup { cache = n } }))
     ⊎ AddsActs p ws q
 AddsSetup stage.Cached p ws q = AddsActs p ws q
 AddsSetup stage.Items p ws q = ⊥
@@ -170,10 +170,15 @@ IsBad line p k =
     × ((((is_whole p.stage && not (is_setup_word (first (words line)))) ≡ false) × (k ≡ BadSetup))
     ⊎ (((is_whole p.stage && not (is_setup_word (first (words line)))) ≡ true) × IsBadItem (at_place p) (words line) k))
 
--- of an input of so many bytes, the line of this number, which ends at this place with its line feed, is past a limit: it is
--- line 20,001 or later, or it has the first byte too many or stands behind it
-abbrev pub IsPast : ℕ → ℕ → ℕ → Type 0
-IsPast total n end = (20000 < n) ⊎ (1048576 < total) × (1048576 < end)
+-- a line of an input: how many bytes the input has, the number of the line, and the byte at which it ends with its line feed
+pub record LineEnd : Type 0 where
+  pub total : ℕ
+  pub number : ℕ
+  pub end : ℕ
+
+-- the line is past a limit: it is line 20,001 or later, or it has the first byte too many or stands behind it
+abbrev pub IsPast : LineEnd → Type 0
+IsPast line = (20000 < line.number) ⊎ (1048576 < line.total) × (1048576 < line.end)
 
 -- the place at the first line: nothing is said yet, a client caches 64 clean blocks where no line says another number, and texts
 -- may have 64 MiB
@@ -216,7 +221,7 @@ abbrev pub Accepts : Bool → ℕ → ℕ → ℕ → List (List ℕ) → Place 
 Accepts live total n at [] p s =
     (is_whole p.stage ≡ true) × (open_crash live p.items ≡ None) × (s ≡ record { setup = p.setup; lines = p.items })
 Accepts live total n at (l ∷ ls) p s =
-    (IsPast total n (at + (length l + 1)) → ⊥)
+    (IsPast (record { total = total; number = n; end = at + (length l + 1) }) → ⊥)
     × (q : Place) × Leads n l p q × Accepts live total (n + 1) (at + (length l + 1)) ls q s
 
 -- of these lines the first bad one has the number m and is bad of kind k: the setup is not whole at their end, a crash stays
@@ -226,9 +231,9 @@ Refuses live total n at [] p m k =
     ((is_whole p.stage ≡ false) × (m ≡ n) × (k ≡ BadSetup))
     ⊎ ((is_whole p.stage ≡ true) × (open_crash live p.items ≡ Some m) × (k ≡ Unclosed))
 Refuses live total n at (l ∷ ls) p m k =
-    (IsPast total n (at + (length l + 1)) × (m ≡ n) × (k ≡ TooLong))
-    ⊎ ((IsPast total n (at + (length l + 1)) → ⊥) × IsBad l p k × (m ≡ n))
-    ⊎ ((IsPast total n (at + (length l + 1)) → ⊥) × (q : Place) × Leads n l p q × Refuses live total (n + 1) (at + (length l + 1)) ls q m k)
+    (IsPast (record { total = total; number = n; end = at + (length l + 1) }) × (m ≡ n) × (k ≡ TooLong))
+    ⊎ ((IsPast (record { total = total; number = n; end = at + (length l + 1) }) → ⊥) × IsBad l p k × (m ≡ n))
+    ⊎ ((IsPast (record { total = total; number = n; end = at + (length l + 1) }) → ⊥) × (q : Place) × Leads n l p q × Refuses live total (n + 1) (at + (length l + 1)) ls q m k)
 
 -- the bytes are this script
 abbrev pub IsScriptOf : Bool → List ℕ → Script → Type 0
@@ -241,4 +246,4 @@ IsFirstBad live bytes number kind = Refuses live (length bytes) 1 0 (lines bytes
 -- a refusal names the first bad line and its kind; want of memory needs no cause
 abbrev pub HasCause : Bool → List ℕ → ScriptError → Type 0
 HasCause live bytes (Bad number kind) = IsFirstBad live bytes number kind
-HasCause live bytes Memory = ⊤
+HasCause live bytes Memory = Unit {0}

@@ -1,5 +1,5 @@
 -- What a part of a line spells, and when it is at fault: its form is looked at first, and then its limit.
-use Rattle.std.specs.Prelude.{◌≡◌, ◌≢◌, ◌⊎◌, ℕ, ◌<◌, ◌≤◌, ◌^◌, min, List, [], ◌∷◌, ◌++◌, length, ⊤}
+use Rattle.std.specs.Prelude.{◌≡◌, ◌≢◌, ◌⊎◌, ℕ, ◌<◌, ◌≤◌, ◌^◌, min, List, [], ◌∷◌, ◌++◌, length}
 use Rattle.std.specs.List.{AllByRecursion}
 use Rattle.std.specs.Fmt.{decimal}
 use Rattle.xfs_base.specs.Blocks.{IsRaw}
@@ -46,7 +46,7 @@ Spells part.Raw word n = IsNumber word n × IsRaw n
 Spells part.Path word names = IsPath word names
 Spells part.BlockText word text = SpellsText word text × (0 < length text)
 Spells part.FileText word text = SpellsText word text
-Spells p word v = ⊤
+Spells p word v = Unit {0}
 
 -- there is a node of this number, of so many
 abbrev pub IsOneOf : ℕ → ℕ → Type 0
@@ -61,7 +61,7 @@ IsWithin c part.Board n = IsOneOf 3 n
 IsWithin c part.Path names = length names ≤ 16
 IsWithin c part.BlockText text = length text ≤ min 8192 c.room
 IsWithin c part.FileText text = length text ≤ min 65536 c.room
-IsWithin c p v = ⊤
+IsWithin c p v = Unit {0}
 
 -- the kind of a malformed part
 abbrev pub form_fault : Part → Kind
@@ -93,7 +93,7 @@ IsFault c p word k =
 
 -- the words are good for these parts, from left to right, and spell these
 abbrev pub Mean : Context → (ps : List Part) → List (List ℕ) → Meanings ps → Type 0
-Mean c [] ws v = ⊤
+Mean c [] ws v = Unit {0}
 Mean c (p ∷ ps) ws v = Means c p (piece_of p ws) v.0 × Mean c ps (behind_part p ws) v.1
 
 -- the first part at fault, from left to right, is at fault for this reason

@@ -21,6 +21,15 @@ fn bad(line: u32, kind: Kind) -> Result<usize, ScriptError> {
     Err(ScriptError::Bad(line, kind))
 }
 
+/// So many bytes, each of them this one.
+fn many(alloc: Global, byte: u8, count: u32) -> Mem<Vec<u8>> {
+    let mut bytes = Vec::new(alloc);
+    for _ in 0..count {
+        bytes.push(byte)?;
+    }
+    Ok(bytes)
+}
+
 #[test]
 fn each_kind_of_bad_line(rt: HostRuntime) -> Mem<()> {
     let alloc = rt.alloc();
@@ -145,5 +154,14 @@ fn each_kind_of_bad_line(rt: HostRuntime) -> Mem<()> {
     for line in setup {
         assert!(rt; told(alloc, SETUP, line, false)? == bad(6, Kind::BadSetup));
     }
+    // an input has 20,000 lines and 1,048,576 bytes at most
+    let empty = many(alloc, b'\n', 19_995)?;
+    assert!(rt; told(alloc, SETUP, &empty, false)? == Ok(0));
+    let empty = many(alloc, b'\n', 19_996)?;
+    assert!(rt; told(alloc, SETUP, &empty, false)? == bad(20_001, Kind::TooLong));
+    let comment = many(alloc, b'#', 1_048_527)?;
+    assert!(rt; told(alloc, SETUP, &comment, false)? == Ok(0));
+    let comment = many(alloc, b'#', 1_048_528)?;
+    assert!(rt; told(alloc, SETUP, &comment, false)? == bad(6, Kind::TooLong));
     Ok(())
 }

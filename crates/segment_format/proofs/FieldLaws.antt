@@ -14,7 +14,7 @@ use Rattle.xfs_base.specs.declared.segment.Prior.{Prior}
 use Rattle.xfs_base.specs.declared.segment.SegName.{SegName}
 use Rattle.segment_format.specs.declared.head.Head.{Head}
 use Rattle.segment_format.specs.declared.seg_error.SegError.TheVariants.{BadMark, BadVersion, BadLength}
-use Rattle.segment_format.specs.Format.{first_version, second_version, most, longest, mark, is_mark, is_within, IsWithin, is_log, IsLog, is_version, IsVersion, is_length, IsLength}
+use Rattle.segment_format.specs.Format.{first_version, second_version, most_items, longest, mark, is_mark, is_within, IsWithin, is_log, IsLog, is_version, IsVersion, is_length, IsLength}
 use Rattle.segment_format.specs.Ranges.{FitsBlock, FitsPass, FitsName, FitsPrior, FitsPlace, FitsRow}
 use Rattle.segment_format.specs.Reading.{number, raw, checked}
 use Rattle.segment_format.specs.ReadingFields.{block_at, log_at, pass_at, name_at, prior_at, mark_at, head_at, value_at, place_at, flagged_at, row_at, rows_at}
@@ -147,14 +147,14 @@ version-reader =
     (λ n v. (omega (arith, v.1), true_within first_version second_version n v))
 
 abbrev pub OfHead : Head → Type 0
-OfHead h = IsVersion h.version × OfName h.name × FitsPrior h.prior × (h.group < 2 ^ 32) × (h.count ≤ most + most)
+OfHead h = IsVersion h.version × OfName h.name × FitsPrior h.prior × (h.group < 2 ^ 32) × (h.count ≤ most_items + most_items)
 
-count-reader : IsReader (checked (number w16) (λ n. leb n (most + most)) BadLength) (to_be_bytes w16) (λ n. n ≤ most + most)
+count-reader : IsReader (checked (number w16) (λ n. leb n (most_items + most_items)) BadLength) (to_be_bytes w16) (λ n. n ≤ most_items + most_items)
 count-reader =
-    as-reader (checked-reader (λ n. leb n (most + most)) BadLength number16)
+    as-reader (checked-reader (λ n. leb n (most_items + most_items)) BadLength number16)
     (λ n v. refl)
-    (λ n v. le_true n (most + most) v.1)
-    (λ n v. (omega (arith, v), true_le n (most + most) v))
+    (λ n v. le_true n (most_items + most_items) v.1)
+    (λ n v. (omega (arith, v), true_le n (most_items + most_items) v))
 
 pub head-reader : IsReader head_at head_text OfHead
 unfolding head_at

@@ -11,7 +11,7 @@ use Rattle.segment_format.specs.declared.segment.Item.{Item}
 use Rattle.segment_format.specs.declared.segment.Item.TheVariants.{Block, Delta, Part}
 use Rattle.segment_format.specs.declared.seen.Seen.{Seen}
 use Rattle.segment_format.specs.declared.seg_error.SegError.TheVariants.{BadKind, BadLength, BadRef}
-use Rattle.segment_format.specs.Format.{most, IsWithin, is_row_count, IsRowCount}
+use Rattle.segment_format.specs.Format.{most_items, IsWithin, is_row_count, IsRowCount}
 use Rattle.segment_format.specs.Ranges.{FitsBlock, FitsRow, FitsItem}
 use Rattle.segment_format.specs.Reading.{number, checked}
 use Rattle.segment_format.specs.ReadingItems.{kind_at, block_item_at, delta_item_at, part_item_at, body_at, item_at}
@@ -248,19 +248,19 @@ true_none (Some x) h = absurd cc
 
 -- what is seen lets this item come
 abbrev pub Joins : Seen → Item → Type 0
-Joins seen (Block block value) = (seen.others < most) × (seen.awaited ≡ None)
-Joins seen (Delta block ver hop item) = (seen.deltas < most) × (answers seen.awaited block item ≡ true)
-Joins seen (Part slot rows) = (seen.others < most) × (seen.awaited ≡ None)
+Joins seen (Block block value) = (seen.others < most_items) × (seen.awaited ≡ None)
+Joins seen (Delta block ver hop item) = (seen.deltas < most_items) × (answers seen.awaited block item ≡ true)
+Joins seen (Part slot rows) = (seen.others < most_items) × (seen.awaited ≡ None)
 
 joins_to : (seen : Seen) (x : Item) → OfKind seen (kind_of x) → follows seen.awaited x ≡ true → Joins seen x
-joins_to seen (Block block value) v f = (lt_true seen.others most v.1, none_true seen.awaited v.2)
-joins_to seen (Delta block ver hop item) v f = (lt_true seen.deltas most v.1, f)
-joins_to seen (Part slot rows) v f = (lt_true seen.others most v.1, none_true seen.awaited v.2)
+joins_to seen (Block block value) v f = (lt_true seen.others most_items v.1, none_true seen.awaited v.2)
+joins_to seen (Delta block ver hop item) v f = (lt_true seen.deltas most_items v.1, f)
+joins_to seen (Part slot rows) v f = (lt_true seen.others most_items v.1, none_true seen.awaited v.2)
 
 joins_from : (seen : Seen) (x : Item) → Joins seen x → OfKind seen (kind_of x) × (follows seen.awaited x ≡ true)
-joins_from seen (Block block value) j = (((omega arith, omega arith), true_lt seen.others most j.0, true_none seen.awaited j.1), refl)
-joins_from seen (Delta block ver hop item) j = (((omega arith, omega arith), true_lt seen.deltas most j.0, refl), j.1)
-joins_from seen (Part slot rows) j = (((omega arith, omega arith), true_lt seen.others most j.0, true_none seen.awaited j.1), refl)
+joins_from seen (Block block value) j = (((omega arith, omega arith), true_lt seen.others most_items j.0, true_none seen.awaited j.1), refl)
+joins_from seen (Delta block ver hop item) j = (((omega arith, omega arith), true_lt seen.deltas most_items j.0, refl), j.1)
+joins_from seen (Part slot rows) j = (((omega arith, omega arith), true_lt seen.others most_items j.0, true_none seen.awaited j.1), refl)
 
 pub item-reader : (version : ℕ) (seen : Seen) → IsReader (item_at version seen) item_text (λ x. FullItem version x × Joins seen x)
 unfolding item_at

@@ -10,16 +10,16 @@ use Rattle.segment_format.specs.declared.segment.Item.TheVariants.{Block, Delta,
 use Rattle.segment_format.specs.declared.seen.Seen.{Seen}
 use Rattle.segment_format.specs.declared.seg_error.SegError.{SegError}
 use Rattle.segment_format.specs.declared.seg_error.SegError.TheVariants.{BadRef}
-use Rattle.segment_format.specs.Reading.{Reader, next, ◌>>=◌, gives, Fails}
+use Rattle.segment_format.specs.Reading.{Reader, read_on, ◌>>=◌, gives, Fails}
 use Rattle.segment_format.specs.ReadingFields.{row_at, rows_at}
 use Rattle.segment_format.specs.ReadingItems.{item_at, items_at}
 use Rattle.segment_format.specs.Rule.{after}
 
 -- what was read before, and what is still read
 abbrev pub with_front : {A : Type 0} → List A → Result (List A × Fields) SegError → Result (List A × Fields) SegError
-with_front front read = next read (λ xs. gives (front ++ xs))
+with_front front read = read_on read (λ xs. gives (front ++ xs))
 
-regroup : {A : Type 0} (front : List A) (x : A) (read : Result (List A × Fields) SegError) → with_front front (next read (λ xs. gives (x ∷ xs))) ≡ with_front (front ++ x ∷ []) read
+regroup : {A : Type 0} (front : List A) (x : A) (read : Result (List A × Fields) SegError) → with_front front (read_on read (λ xs. gives (x ∷ xs))) ≡ with_front (front ++ x ∷ []) read
 regroup front x (Ok r) = ap (λ xs. Ok (xs, r.1)) (simp append_assoc)
 regroup front x (Err e) = refl
 
@@ -27,9 +27,9 @@ fails_on : {A : Type 0} (e : SegError) (front : List A) (read total : Result (Li
 fails_on e front read total (inl m) so_far = inl m
 fails_on e front read total (inr h) so_far = inr (sym so_far ∙ ap (with_front front) h)
 
-fails_in : {A B : Type 0} (e : SegError) (read : Result (A × Fields) SegError) (q : A → Reader B) → Fails e read → Fails e (next read q)
+fails_in : {A B : Type 0} (e : SegError) (read : Result (A × Fields) SegError) (q : A → Reader B) → Fails e read → Fails e (read_on read q)
 fails_in e read q (inl m) = inl m
-fails_in e read q (inr h) = inr (ap (λ r. next r q) h)
+fails_in e read q (inr h) = inr (ap (λ r. read_on r q) h)
 
 -- ---- rows
 

@@ -10,7 +10,7 @@ use Rattle.std.proofs.lemmas.Nat.{be_bytes_2, be_bytes_4, be_bytes_8, from_be_by
 use Rattle.xfs_base.specs.Fields.{Fields}
 use Rattle.segment_format.specs.declared.seg_error.SegError.{SegError}
 use Rattle.segment_format.specs.declared.seg_error.SegError.TheVariants.{Short}
-use Rattle.segment_format.specs.Reading.{Reader, next, ◌>>=◌, gives, past, raw, number, judged, checked}
+use Rattle.segment_format.specs.Reading.{Reader, read_on, ◌>>=◌, gives, past, raw, number, judged, checked}
 
 abbrev pub IsBytes : List ℕ → Type 0
 IsBytes bytes = (i : ℕ) → get_or bytes i 0 < 256
@@ -57,7 +57,7 @@ ok_is {A = A} x y f g e =
     (ap (λ (q : A × Fields). q.0) p, ap (λ (q : A × Fields). q.1) p)
 
 -- the step that did not fail
-next_ok : {A B : Type 0} (r : Result (A × Fields) SegError) (q : A → Reader B) (y : B × Fields) → next r q ≡ Ok y → (x : A × Fields) × (r ≡ Ok x) × (q x.0 x.1 ≡ Ok y)
+next_ok : {A B : Type 0} (r : Result (A × Fields) SegError) (q : A → Reader B) (y : B × Fields) → read_on r q ≡ Ok y → (x : A × Fields) × (r ≡ Ok x) × (q x.0 x.1 ≡ Ok y)
 next_ok (Ok x) q y e = (x, refl, e)
 next_ok (Err d) q y e = absurd cc
 
@@ -94,8 +94,8 @@ then-reader {A = A} {B = B} {p = p} {q = q} {t = t} {u = u} {V = V} {W = W} firs
       let a = first b in
       let one = hp.again a (u b ++ rest) at v.0 in
       let two = (hq a v.0).again b rest (at + length (t a)) v.1 in
-      ap (λ (l : List ℕ). next (p (record { left = l; at = at })) q) (append_assoc (t a) (u b) rest)
-      ∙ ap (λ (r : Result (A × Fields) SegError). next r q) one ∙ two ∙ ap (λ (n : ℕ). ok b (record { left = rest; at = n })) (places at (t a) (u b));
+      ap (λ (l : List ℕ). read_on (p (record { left = l; at = at })) q) (append_assoc (t a) (u b) rest)
+      ∙ ap (λ (r : Result (A × Fields) SegError). read_on r q) one ∙ two ∙ ap (λ (n : ℕ). ok b (record { left = rest; at = n })) (places at (t a) (u b));
 }
 
 pub gives-reader : {B : Type 0} (c : B) → IsReader (gives c) (λ b. []) (λ b. b ≡ c)
@@ -136,15 +136,15 @@ OfCons V W [] = ⊥
 OfCons V W (x ∷ xs) = V x × W x xs
 
 cons-again : {A : Type 0} {p : Reader A} {q : A → Reader (List A)} {t : A → List ℕ} {V : A → Type 0} {W : A → List A → Type 0} → IsReader p t V → ((a : A) → V a → IsReader (q a) (flat_map t) (W a)) → (b : List A) (rest : List ℕ) (at : ℕ) → OfCons V W b
-    → next (p (record { left = flat_map t b ++ rest; at = at })) (λ x. q x >>= λ xs. gives (x ∷ xs)) ≡ Ok (b, record { left = rest; at = at + length (flat_map t b) })
+    → read_on (p (record { left = flat_map t b ++ rest; at = at })) (λ x. q x >>= λ xs. gives (x ∷ xs)) ≡ Ok (b, record { left = rest; at = at + length (flat_map t b) })
 cons-again hp hq [] rest at v = absurd v
 cons-again {A = A} {p = p} {q = q} {t = t} hp hq (x ∷ xs) rest at v =
     let k : A → Reader (List A) = λ y. q y >>= λ ys. gives (y ∷ ys) in
     let regroup : flat_map t (x ∷ xs) ++ rest ≡ t x ++ (flat_map t xs ++ rest) = ap (λ (l : List ℕ). l ++ rest) (flat_map-cons t x xs) ∙ append_assoc (t x) (flat_map t xs) rest in
     let far : at + length (t x) + length (flat_map t xs) ≡ at + length (flat_map t (x ∷ xs)) = places at (t x) (flat_map t xs) ∙ ap (λ (l : List ℕ). at + length l) (sym (flat_map-cons t x xs)) in
-    ap (λ (l : List ℕ). next (p (record { left = l; at = at })) k) regroup
-    ∙ ap (λ (r : Result (A × Fields) SegError). next r k) (hp.again x (flat_map t xs ++ rest) at v.0)
-    ∙ ap (λ (r : Result (List A × Fields) SegError). next r (λ ys. gives (x ∷ ys))) ((hq x v.0).again xs rest (at + length (t x)) v.1)
+    ap (λ (l : List ℕ). read_on (p (record { left = l; at = at })) k) regroup
+    ∙ ap (λ (r : Result (A × Fields) SegError). read_on r k) (hp.again x (flat_map t xs ++ rest) at v.0)
+    ∙ ap (λ (r : Result (List A × Fields) SegError). read_on r (λ ys. gives (x ∷ ys))) ((hq x v.0).again xs rest (at + length (t x)) v.1)
     ∙ ap (λ (n : ℕ). ok (x ∷ xs) (record { left = rest; at = n })) far
 
 pub cons-reader : {A : Type 0} {p : Reader A} {q : A → Reader (List A)} {t : A → List ℕ} {V : A → Type 0} {W : A → List A → Type 0} → IsReader p t V → ((a : A) → V a → IsReader (q a) (flat_map t) (W a))

@@ -16,7 +16,7 @@ use Rattle.segment_format.specs.declared.seen.Awaited.{Awaited}
 use Rattle.segment_format.specs.declared.seen.Seen.{Seen}
 use Rattle.segment_format.specs.declared.seg_error.SegError.{SegError}
 use Rattle.segment_format.specs.declared.seg_error.SegError.TheVariants.{BadVersion, BadRef, Trailing}
-use Rattle.segment_format.specs.Format.{first_version, second_version, longest, most, mark, IsVersion}
+use Rattle.segment_format.specs.Format.{first_version, second_version, longest, most_items, mark, IsVersion}
 use Rattle.segment_format.specs.Ranges.{FitsItem, Fits}
 use Rattle.segment_format.specs.ReadingItems.{items_at, parts_at, segment_at, ended, answer_of}
 use Rattle.segment_format.specs.Rule.{KeepsRule, deltas_in, others_in, nothing_seen, after, no_item, answers}
@@ -77,9 +77,9 @@ end_rule (Some a) n r = absurd r
 -- ---- items
 
 abbrev OfItems : ℕ → ℕ → Seen → List Item → Type 0
-OfItems version n seen items = (length items ≡ n) × AllByRecursion (FullItem version) items × KeepsRule seen.awaited (seen.others + seen.deltas) items × (seen.others + others_in items ≤ most) × (seen.deltas + deltas_in items ≤ most)
+OfItems version n seen items = (length items ≡ n) × AllByRecursion (FullItem version) items × KeepsRule seen.awaited (seen.others + seen.deltas) items × (seen.others + others_in items ≤ most_items) × (seen.deltas + deltas_in items ≤ most_items)
 
-none_to : (version : ℕ) (seen : Seen) (items : List Item) → seen.others ≤ most → seen.deltas ≤ most → items ≡ [] → is_none seen.awaited ≡ true → OfItems version 0 seen items
+none_to : (version : ℕ) (seen : Seen) (items : List Item) → seen.others ≤ most_items → seen.deltas ≤ most_items → items ≡ [] → is_none seen.awaited ≡ true → OfItems version 0 seen items
 none_to version seen [] o d e h = (refl, tt, rule_end seen.awaited (seen.others + seen.deltas) h, omega arith, omega arith)
 none_to version seen (x ∷ xs) o d e h = absurd cc
 
@@ -90,10 +90,10 @@ none_from version seen (x ∷ xs) h = absurd (omega (arith, h.0))
 abbrev Next : ℕ → Seen → Item → Type 0
 Next version seen x = FullItem version x × Joins seen x
 
-next_bounds : (version : ℕ) (seen : Seen) (x : Item) → Next version seen x → seen.others ≤ most → seen.deltas ≤ most → ((after x seen).others ≤ most) × ((after x seen).deltas ≤ most)
-next_bounds version seen (Block block value) v o d = let lt : seen.others < most = v.1.0 in (omega arith, d)
-next_bounds version seen (Delta block ver hop item) v o d = let lt : seen.deltas < most = v.1.0 in (o, omega arith)
-next_bounds version seen (Part slot rows) v o d = let lt : seen.others < most = v.1.0 in (omega arith, d)
+next_bounds : (version : ℕ) (seen : Seen) (x : Item) → Next version seen x → seen.others ≤ most_items → seen.deltas ≤ most_items → ((after x seen).others ≤ most_items) × ((after x seen).deltas ≤ most_items)
+next_bounds version seen (Block block value) v o d = let lt : seen.others < most_items = v.1.0 in (omega arith, d)
+next_bounds version seen (Delta block ver hop item) v o d = let lt : seen.deltas < most_items = v.1.0 in (o, omega arith)
+next_bounds version seen (Part slot rows) v o d = let lt : seen.others < most_items = v.1.0 in (omega arith, d)
 
 cons_to : (version n : ℕ) (seen : Seen) (x : Item) (xs : List Item) → Next version seen x → OfItems version n (after x seen) xs → OfItems version (suc n) seen (x ∷ xs)
 cons_to version n seen (Block block value) xs v h =
@@ -125,7 +125,7 @@ of_cons_from : (version n : ℕ) (seen : Seen) (items : List Item) → OfItems v
 of_cons_from version n seen [] h = absurd (omega (arith, h.0))
 of_cons_from version n seen (x ∷ xs) h = cons_from version n seen x xs h
 
-items-reader : (version n : ℕ) (seen : Seen) → seen.others ≤ most → seen.deltas ≤ most → IsReader (items_at version seen n) (flat_map item_text) (OfItems version n seen)
+items-reader : (version n : ℕ) (seen : Seen) → seen.others ≤ most_items → seen.deltas ≤ most_items → IsReader (items_at version seen n) (flat_map item_text) (OfItems version n seen)
 unfolding items_at
 items-reader version zero seen o d =
     as-reader (checked-reader (λ none. is_none seen.awaited) BadRef (gives-reader []))

@@ -10,8 +10,8 @@ use Rattle.segment_format.specs.declared.segment.Item.TheVariants.{Block, Delta,
 use Rattle.segment_format.specs.declared.seg_error.SegError.{SegError}
 use Rattle.segment_format.specs.declared.seg_error.SegError.TheVariants.{Short, BadMark, BadVersion, BadKind, BadLength, BadRef}
 use Rattle.segment_format.specs.Answers.{place, IsShort}
-use Rattle.segment_format.specs.Format.{most, is_mark, is_log, is_version, is_length, is_row_count}
-use Rattle.segment_format.specs.Reading.{Reader, next, ◌>>=◌, gives, past, raw, number, judged, checked}
+use Rattle.segment_format.specs.Format.{most_items, is_mark, is_log, is_version, is_length, is_row_count}
+use Rattle.segment_format.specs.Reading.{Reader, read_on, ◌>>=◌, gives, past, raw, number, judged, checked}
 use Rattle.segment_format.specs.ReadingFields.{block_at, log_at, pass_at, name_at, prior_at, mark_at, head_at, value_at, place_at, flagged_at, row_at, rows_at}
 use Rattle.segment_format.specs.ReadingItems.{kind_at, block_item_at, delta_item_at, part_item_at, body_at, item_at, items_at, parts_at, segment_at}
 use Rattle.segment_format.specs.Rule.{nothing_seen, after, is_kind, has_room, may_come, follows}
@@ -35,16 +35,16 @@ pub record IsSteady {A : Type 0} (p : Reader A) : Type 0 where
   pub stays : (f : Fields) (more : List ℕ) → Stays more (p f) (p (with_more more f))
   pub ends : (f : Fields) → Ends f (p f)
 
-next-stays : {A B : Type 0} (q : A → Reader B) → ((a : A) → IsSteady (q a)) → (more : List ℕ) (r r' : Result (A × Fields) SegError) → Stays more r r' → Stays more (next r q) (next r' q)
-next-stays {A = A} q hq more (Ok x) r' h = subst (λ (z : Result (A × Fields) SegError). Stays more (q x.0 x.1) (next z q)) (sym h) ((hq x.0).stays x.1 more)
+next-stays : {A B : Type 0} (q : A → Reader B) → ((a : A) → IsSteady (q a)) → (more : List ℕ) (r r' : Result (A × Fields) SegError) → Stays more r r' → Stays more (read_on r q) (read_on r' q)
+next-stays {A = A} q hq more (Ok x) r' h = subst (λ (z : Result (A × Fields) SegError). Stays more (q x.0 x.1) (read_on z q)) (sym h) ((hq x.0).stays x.1 more)
 next-stays q hq more (Err e) r' (inl s) = inl s
-next-stays {A = A} q hq more (Err e) r' (inr h) = inr (ap (λ (z : Result (A × Fields) SegError). next z q) h)
+next-stays {A = A} q hq more (Err e) r' (inr h) = inr (ap (λ (z : Result (A × Fields) SegError). read_on z q) h)
 
 ends_along : {A : Type 0} (f g : Fields) (r : Result (A × Fields) SegError) → g.at + length g.left ≡ f.at + length f.left → Ends g r → Ends f r
 ends_along f g (Ok x) e h = h ∙ e
 ends_along f g (Err d) e h = omega (arith, e, h)
 
-next-ends : {A B : Type 0} (q : A → Reader B) → ((a : A) → IsSteady (q a)) → (f : Fields) (r : Result (A × Fields) SegError) → Ends f r → Ends f (next r q)
+next-ends : {A B : Type 0} (q : A → Reader B) → ((a : A) → IsSteady (q a)) → (f : Fields) (r : Result (A × Fields) SegError) → Ends f r → Ends f (read_on r q)
 next-ends q hq f (Ok x) h = ends_along f x.1 (q x.0 x.1) h ((hq x.0).ends x.1)
 next-ends q hq f (Err e) h = h
 
@@ -141,7 +141,7 @@ head-steady =
     (λ version. then-steady name-steady
     (λ name. then-steady prior-steady
     (λ prior. then-steady (number-steady w32)
-    (λ group. then-steady (checked-steady (λ n. leb n (most + most)) BadLength (λ at. refl) (number-steady w16))
+    (λ group. then-steady (checked-steady (λ n. leb n (most_items + most_items)) BadLength (λ at. refl) (number-steady w16))
     (λ count. gives-steady (record { version = version; name = name; prior = prior; group = group; count = count }))))))
 
 value-steady : (version : ℕ) → IsSteady (value_at version)

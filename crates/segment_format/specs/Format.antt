@@ -18,8 +18,8 @@ abbrev pub header_length : ℕ
 header_length = 35
 
 -- the most items that are Block or Part, and the most that are Delta
-abbrev pub most : ℕ
-most = segment_blocks
+abbrev pub most_items : ℕ
+most_items = segment_blocks
 
 -- the three bytes that begin each segment: x F S
 abbrev pub mark : List ℕ

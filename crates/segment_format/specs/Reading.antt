@@ -10,13 +10,13 @@ abbrev pub Reader : Type 0 → Type 0
 Reader A = Fields → Result (A × Fields) SegError
 
 -- one reader after the other
-abbrev pub next : {A B : Type 0} → Result (A × Fields) SegError → (A → Reader B) → Result (B × Fields) SegError
-next (Ok x) q = q x.0 x.1
-next (Err e) q = Err e
+abbrev pub read_on : {A B : Type 0} → Result (A × Fields) SegError → (A → Reader B) → Result (B × Fields) SegError
+read_on (Ok x) q = q x.0 x.1
+read_on (Err e) q = Err e
 
 infixl 10 ◌>>=◌
 abbrev pub ◌>>=◌ : {A B : Type 0} → Reader A → (A → Reader B) → Reader B
-(p >>= q) f = next (p f) q
+(p >>= q) f = read_on (p f) q
 
 -- nothing is read
 abbrev pub gives : {A : Type 0} → A → Reader A

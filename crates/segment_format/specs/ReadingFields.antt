@@ -10,7 +10,7 @@ use Rattle.xfs_base.specs.declared.segment.Prior.{Prior}
 use Rattle.xfs_base.specs.declared.segment.SegName.{SegName}
 use Rattle.segment_format.specs.declared.head.Head.{Head}
 use Rattle.segment_format.specs.declared.seg_error.SegError.TheVariants.{BadMark, BadVersion, BadLength}
-use Rattle.segment_format.specs.Format.{most, is_mark, is_log, is_version, is_length}
+use Rattle.segment_format.specs.Format.{most_items, is_mark, is_log, is_version, is_length}
 use Rattle.segment_format.specs.Reading.{Reader, ◌>>=◌, gives, raw, number, checked}
 
 unfoldable pub block_at : Reader BlockId
@@ -53,7 +53,7 @@ head_at = do
   name ← name_at
   prior ← prior_at
   group ← number w32
-  count ← checked (number w16) (λ n. nat_le n (most + most)) BadLength
+  count ← checked (number w16) (λ n. nat_le n (most_items + most_items)) BadLength
   gives (record { version = version; name = name; prior = prior; group = group; count = count })
 
 -- a block's value, in a text of this version: its length, and so many bytes

@@ -6,7 +6,7 @@ use Rattle.segment_format.specs.declared.segment.Item.{Item}
 use Rattle.segment_format.specs.declared.segment.Item.TheVariants.{Block, Delta, Part}
 use Rattle.segment_format.specs.declared.seen.Awaited.{Awaited}
 use Rattle.segment_format.specs.declared.seen.Seen.{Seen}
-use Rattle.segment_format.specs.Format.{most, is_within}
+use Rattle.segment_format.specs.Format.{most_items, is_within}
 
 -- the item of a Delta of an Absent version
 abbrev pub no_item : ℕ
@@ -53,7 +53,7 @@ is_kind kind = is_within 1 3 kind
 
 -- the limits leave room for one more of this kind
 abbrev pub has_room : Seen → ℕ → Bool
-has_room seen kind = if kind == 2 then nat_lt seen.deltas most else nat_lt seen.others most
+has_room seen kind = if kind == 2 then nat_lt seen.deltas most_items else nat_lt seen.others most_items
 
 -- a Delta may come always, and the others where none has to
 abbrev pub may_come : Seen → ℕ → Bool

@@ -12,7 +12,7 @@ use Rattle.segment_format.specs.declared.head.Head.{Head}
 use Rattle.segment_format.specs.declared.segment.Item.{Item}
 use Rattle.segment_format.specs.declared.segment.Item.TheVariants.{Block, Delta, Part}
 use Rattle.segment_format.specs.declared.segment.Segment.{Segment}
-use Rattle.segment_format.specs.Format.{first_version, second_version, longest, most, mark, IsLog, IsLength, IsRowCount}
+use Rattle.segment_format.specs.Format.{first_version, second_version, longest, most_items, mark, IsLog, IsLength, IsRowCount}
 use Rattle.segment_format.specs.Rule.{KeepsRule, deltas_in, others_in}
 
 abbrev pub block_text : BlockId → List ℕ
@@ -85,8 +85,8 @@ IsItem version (Part slot rows) = (slot < 8) × IsRowCount (length rows) × AllB
 pub record KeepsLimits (s : Segment) : Type 0 where
   pub log : IsLog s.name.log.0
   pub items : AllByRecursion (IsItem second_version) s.items
-  pub others : others_in s.items ≤ most
-  pub deltas : deltas_in s.items ≤ most
+  pub others : others_in s.items ≤ most_items
+  pub deltas : deltas_in s.items ≤ most_items
   pub rule : KeepsRule None 0 s.items
 
 -- ---- the relation

@@ -15,10 +15,10 @@ use Rattle.node_base.specs.Asking.{number_for, asked_as, drawn_for, own_of}
 use Rattle.node_base.specs.Beginning.{answered, answers_unanswered}
 use Rattle.fragment_store.specs.Calls.{on_fill, barred}
 use Rattle.group_rebuild.specs.Transition.{transition}
-use Rattle.group_rebuild.specs.declared.events.In.{In}
-use Rattle.group_rebuild.specs.declared.events.In.TheVariants as input
-use Rattle.group_rebuild.specs.declared.events.Out.{Out}
-use Rattle.group_rebuild.specs.declared.events.Out.TheVariants as out
+use Rattle.group_rebuild.specs.declared.input.In.{In}
+use Rattle.group_rebuild.specs.declared.input.In.TheVariants as input
+use Rattle.group_rebuild.specs.declared.output.Out.{Out}
+use Rattle.group_rebuild.specs.declared.output.Out.TheVariants as out
 use Rattle.store_nodes.specs.declared.server.Rebuilding.{Rebuilding}
 use Rattle.store_nodes.specs.declared.server.Server.{Server as Node}
 

@@ -25,7 +25,7 @@ use Rattle.node_base.specs.Effects.{packets_of, acts_of, sends_to}
 use Rattle.node_base.specs.Nodes.{peers_of, others}
 use Rattle.node_base.specs.Room.{has_room}
 use Rattle.node_base.specs.Shape.{is_well_formed}
-use Rattle.registry.specs.Board.{started as first_board, step, all_news}
+use Rattle.registry.specs.Board.{started as first_board, transition, all_news}
 use Rattle.registry.specs.BoardState.{BoardState}
 use Rattle.registry.specs.declared.input.In.TheVariants as board
 use Rattle.registry.specs.declared.output.Out.{Out}
@@ -61,7 +61,7 @@ after_move node number stepped =
     record { state = record node { board = stepped.state }; outs = flat_map (moved (record node { board = stepped.state }) number) stepped.outs }
 
 unfoldable pub on_move : RegistryNode → ℕ → ℕ → ℕ → Done
-on_move node number slot manager = after_move node number (step node.board (board.Reassign slot manager))
+on_move node number slot manager = after_move node number (transition node.board (board.Reassign slot manager))
 
 -- ---- a node asks for the maps, and may tell of a restart or a loss
 
@@ -82,7 +82,7 @@ after_hello node from hello stepped =
     record { state = record node { board = stepped.state }; outs = welcomes (record node { board = stepped.state }) from hello stepped.outs }
 
 unfoldable pub on_hello : RegistryNode → NodeId → Hello → Done
-on_hello node from hello = after_hello node from hello (step node.board (board.Hello from hello.inc))
+on_hello node from hello = after_hello node from hello (transition node.board (board.Hello from hello.inc))
 
 -- ---- a manager has written a checkpoint
 
@@ -96,7 +96,7 @@ abbrev pub after_done : RegistryNode → NodeId → CkptDone → Stepped BoardSt
 after_done node from done stepped = record { state = record node { board = stepped.state }; outs = flat_map (kept from done) stepped.outs }
 
 unfoldable pub on_done : RegistryNode → NodeId → CkptDone → Done
-on_done node from done = after_done node from done (step node.board (board.Done done.slot done.epoch done.parts done.horizon))
+on_done node from done = after_done node from done (transition node.board (board.Done done.slot done.epoch done.parts done.horizon))
 
 -- ---- all events
 

@@ -40,7 +40,7 @@ use Rattle.fragment_store.specs.ShelfState.{ShelfState, new_shelf, held_at, fenc
 use Rattle.group_map.specs.GroupMapState.{GroupMapState}
 use Rattle.group_map.specs.Groups.{started as first_groups}
 use Rattle.group_rebuild.specs.RebuildState.{started}
-use Rattle.group_rebuild.specs.declared.events.In.TheVariants as input
+use Rattle.group_rebuild.specs.declared.input.In.TheVariants as input
 use Rattle.store_nodes.specs.declared.server.Server.{Server as Node}
 use Rattle.store_nodes.specs.declared.server.Wish.{Wish}
 use Rattle.store_nodes.specs.declared.server.Wish.TheVariants.{Lose, Rebuild, Other}

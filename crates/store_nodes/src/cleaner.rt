@@ -51,8 +51,13 @@ impl Actor for Cleaner {
         let Cleaner { peers, phase } = self;
         let mut effects = Effects::new(alloc);
         let phase = takes(alloc, &mut effects, peers, phase, what)?;
-        let (packets, acts) = effects.into_parts(alloc, NodeId::Cleaner)?;
-        Ok((Cleaner { peers, phase }, packets, acts))
+        match effects.into_parts(alloc, NodeId::Cleaner) {
+            Ok((packets, acts)) => Ok((Cleaner { peers, phase }, packets, acts)),
+            Err(error) => {
+                drop(phase);
+                Err(error)
+            }
+        }
     }
 
     ghost no_clock = { cleaner_sends_clock_0 };
@@ -285,8 +290,13 @@ fn answer(effects: &mut Effects, phase: Phase, number: u32, answer: Answer) -> M
     ensures phase { IfOk result (λ p. p ≡ (answers phase number answer).state) }
     ensures effects { OnOk result (effects.new ≡ effects.old ++ (answers phase number answer).outs) }
 {
-    effects.answer(number, answer)?;
-    Ok(phase)
+    match effects.answer(number, answer) {
+        Ok(()) => Ok(phase),
+        Err(error) => {
+            drop(phase);
+            Err(error)
+        }
+    }
 }
 
 // The cleaner crashes: the item that is open is cut.

@@ -12,7 +12,7 @@ use Rattle.stripe_code.specs.declared.reading.Stage.TheVariants.{Asking, Between
 use Rattle.stripe_code.specs.declared.round.RoundState.{RoundState}
 use Rattle.stripe_code.specs.declared.round.RoundState.TheVariants as round
 use Rattle.stripe_code.specs.declared.round.Told.{Told}
-use Rattle.stripe_code.specs.Course.{Event, Answered, Alike, Course, step, after_step, course, MissedTwice, Decides, IsLostExactly}
+use Rattle.stripe_code.specs.Course.{Event, Answered, Alike, Course, transition, after_step, course, MissedTwice, Decides, IsLostExactly}
 use Rattle.stripe_code.specs.Lost.{missing_twice, are_gone}
 use Rattle.stripe_code.specs.Reading.{ReadingState, Step, begun, on_answer, on_confirmed, counts, judged, read_as, ends, goes_on, segment_found}
 use Rattle.stripe_code.specs.Round.{RoundSoFar, has_answered, taken, state_of}
@@ -93,14 +93,14 @@ module _ (spare : ℕ) where
   goes_holds r ended ask Doubted is same kept says = record { same = same; kept = kept; says = tt }
   goes_holds r ended ask Over is same kept says = record { same = same; kept = kept; says = subst (λ (s : Stage). Says spare s ended) (sym is) says }
 
-  step_holds : (c : Course) (e : Event) → Holds spare c → Holds spare (after_step (step c.reading e) c.ended)
+  step_holds : (c : Course) (e : Event) → Holds spare c → Holds spare (after_step (transition c.reading e) c.ended)
   unfolding on_confirmed
   step_holds c (Answered groups ask server told) h = answer_holds c groups ask server told h
   step_holds c (Alike ask) h = goes_holds c.reading c.ended ask c.reading.stage refl h.same h.kept h.says
 
   course_holds : (c : Course) (events : List Event) → Holds spare c → Holds spare (course c events)
   course_holds c [] h = h
-  course_holds c (e ∷ es) h = course_holds (after_step (step c.reading e) c.ended) es (step_holds c e h)
+  course_holds c (e ∷ es) h = course_holds (after_step (transition c.reading e) c.ended) es (step_holds c e h)
 
   decides : (r : ReadingState) (ended : List (List (ℕ × ℕ))) (ask : ℕ) (stage : Stage) → Says spare stage ended → Decides stage (goes_on r ask stage).next (MissedTwice spare ended)
   decides r ended ask Asking says = refl

@@ -11,14 +11,15 @@ use Rattle.stripe_code.specs.declared.target.Target.{Target}
 use Rattle.stripe_code.specs.Lost.{missing_twice}
 use Rattle.stripe_code.specs.Reading.{ReadingState, Step, begun, on_answer, on_confirmed}
 
--- a server told something in answer to a question, where the reader knew these groups; or the reader's own question was answered alike, and a further one is drawn
+-- a server told something in answer to a question, where the reader knew these groups; or the reader's own question was answered alike, and a further
+-- one is drawn
 pub data Event : Type 0 where
   Answered : GroupMapState → ℕ → ℕ → Told → Event
   Alike : ℕ → Event
 
-abbrev pub step : ReadingState → Event → Step
-step r (Answered groups ask server told) = on_answer r groups ask server told
-step r (Alike ask) = on_confirmed r ask
+abbrev pub transition : ReadingState → Event → Step
+transition r (Answered groups ask server told) = on_answer r groups ask server told
+transition r (Alike ask) = on_confirmed r ask
 
 -- the reading, and the pairs that were Missing in each round that ended without the segment, the last round first
 pub record Course : Type 0 where
@@ -37,7 +38,7 @@ after_step s ended = record { reading = s.state; ended = ended_after s.next s.st
 
 abbrev pub course : Course → List Event → Course
 course c [] = c
-course c (e ∷ es) = course (after_step (step c.reading e) c.ended) es
+course c (e ∷ es) = course (after_step (transition c.reading e) c.ended) es
 
 abbrev pub course_of : Target → Group → ℕ → List Event → Course
 course_of target group ask events = course (record { reading = begun target group ask; ended = [] }) events
@@ -55,7 +56,8 @@ Decides Between next missed = (next ≡ Ask) × (missed → ⊥)
 Decides Doubted next missed = (next ≡ Lost) × missed
 Decides Over next missed = next ≡ Wait
 
--- Over any course: where the reader's own question is out and is answered alike, the segment is lost exactly where the last two rounds missed it; else a further round begins. While a round is on, or when all is over, nothing is lost.
+-- Over any course: where the reader's own question is out and is answered alike, the segment is lost exactly where the last two rounds missed it;
+-- else a further round begins. While a round is on, or when all is over, nothing is lost.
 abbrev pub IsLostExactly : Type 0
 IsLostExactly = (target : Target) (group : Group) (ask next : ℕ) (events : List Event) →
-    let c = course_of target group ask events in Decides c.reading.stage (step c.reading (Alike next)).next (MissedTwice group.parity c.ended)
+    let c = course_of target group ask events in Decides c.reading.stage (transition c.reading (Alike next)).next (MissedTwice group.parity c.ended)

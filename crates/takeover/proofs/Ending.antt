@@ -9,8 +9,8 @@ use Rattle.stripe_code.specs.declared.round.Told.TheVariants as told
 use Rattle.xfs_base.specs.declared.node.NodeId.{NodeId}
 use Rattle.xfs_base.specs.Steps.{still}
 use Rattle.xfs_base.proofs.Booleans.{contrary, by_test, and_second}
-use Rattle.takeover.specs.declared.events.In.{In}
-use Rattle.takeover.specs.declared.events.In.TheVariants as input
+use Rattle.takeover.specs.declared.input.In.{In}
+use Rattle.takeover.specs.declared.input.In.TheVariants as input
 use Rattle.takeover.specs.declared.report.Report.{Report}
 use Rattle.takeover.specs.declared.source.Present.{Present}
 use Rattle.takeover.specs.Course.{IsOver}

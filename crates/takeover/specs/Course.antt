@@ -15,10 +15,10 @@ use Rattle.xfs_base.specs.declared.entry.Entry.{Entry}
 use Rattle.xfs_base.specs.declared.news.SlotNews.{SlotNews}
 use Rattle.xfs_base.specs.declared.token.Mode.{Mode}
 use Rattle.xfs_base.specs.Limits.{u32_end}
-use Rattle.takeover.specs.declared.events.In.{In}
-use Rattle.takeover.specs.declared.events.In.TheVariants as input
-use Rattle.takeover.specs.declared.events.Out.{Out}
-use Rattle.takeover.specs.declared.events.Out.TheVariants.{Poll, Fetch, Active, Lost}
+use Rattle.takeover.specs.declared.input.In.{In}
+use Rattle.takeover.specs.declared.input.In.TheVariants as input
+use Rattle.takeover.specs.declared.output.Out.{Out}
+use Rattle.takeover.specs.declared.output.Out.TheVariants.{Poll, Fetch, Active, Lost}
 use Rattle.takeover.specs.declared.source.Present.{Present}
 use Rattle.takeover.specs.ReadBack.{Read, nothing_read, and_read, AreReadBack, told_by_all}
 use Rattle.takeover.specs.Reports.{applied_of, beliefs_of}

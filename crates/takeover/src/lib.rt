@@ -4,14 +4,16 @@
 //! the nodes report and the servers answer, and says what to ask.
 #![tactic(auto)]
 
-pub mod events;
+pub mod input;
 pub mod laws;
+pub mod output;
 mod reads;
 mod report;
 mod rows;
 mod source;
 pub mod take;
 
-pub use events::{In, Out};
+pub use input::In;
 pub use laws::{index_is_the_join, nothing_comes_after_the_end};
+pub use output::Out;
 pub use take::Take;

@@ -4,7 +4,7 @@ ghost use Rattle.stripe_code.specs.Reading.{on_answer};
 ghost use Rattle.takeover.specs.Transition.{can_ask, reads, asks, sought, go_on, active, handed, with_chain, goes_on_from, has_read, lost, again, judged_as, told_in};
 
 use crate::Take;
-use crate::events::Out;
+use crate::output::Out;
 use crate::report::{applied_of, beliefs_of};
 use crate::rows::{Row, is_index, join, told_of};
 use crate::source::{Present, Source, add_fetches};

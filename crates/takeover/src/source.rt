@@ -4,7 +4,7 @@ ghost use Rattle.std.specs.List.{flat_map, range_with_len};
 ghost use Rattle.takeover.specs.Sources.{part_source, log_sources, sources_of, is_none, prior_of, goes_back, back_from};
 ghost use Rattle.takeover.specs.Transition.{target_of, waits_in, unanswered, fetches};
 
-use crate::events::Out;
+use crate::output::Out;
 use crate::report::{Report, end_of, horizon_at};
 use segment_format::Segment;
 use std::alloc::Global;

@@ -4,7 +4,8 @@ ghost use Rattle.takeover.specs.Course.{StartsSlot};
 ghost use Rattle.takeover.specs.TakeState.{started};
 ghost use Rattle.takeover.specs.Transition.{can_ask, awaited, awaits, begun_if_all, on_report, on_told, waiting, on_maps, polls, on_tick, transition};
 
-use crate::events::{In, Out};
+use crate::input::In;
+use crate::output::Out;
 use crate::report::{Report, awaited_of, is_among};
 use crate::rows::Row;
 use crate::source::{Present, Source, sources_of};

@@ -26,15 +26,15 @@ use Rattle.token_client.specs.declared.output.Out.TheVariants.{Want}
 use Rattle.token_client.specs.Held.{unknown, is_asking, asked, unfetched, promise_dropped}
 use Rattle.token_client.specs.Laws.{IsSound, IsSoundBlock}
 use Rattle.token_client.specs.State.{TokensState, held_of, with_held, epoch_of, is_in_slot}
-use Rattle.token_client.specs.Transition.{Done, ask, is_promised, refetch, give, can_refetch, recalled_above, recalled_again, recalled, on_recalled, fetched_in, dropped_in, all_dropped_in, raised, ask_copy, may_promise, on_promise, is_spent, ask_again, wanted_in, on_tick}
+use Rattle.token_client.specs.Transition.{Done, new_want, is_promised, refetch, give, can_refetch, recalled_above, recalled_again, recalled, on_recalled, fetched_in, dropped_in, all_dropped_in, raised, ask_copy, may_promise, on_promise, is_spent, ask_again, wanted_in, on_tick}
 use Rattle.token_client.proofs.Tables.{InOrder, held_of-put_itself, put_same, in_order-changed, held_of-changed}
 use Rattle.token_client.proofs.Follows.{Follows, follows_still, follows_through, follows_steps, follows_less}
 use Rattle.token_client.proofs.SoundBlocks.{asks_by_fetch, asks_less, unheld_is_unowned, unfetched-sound, promise_dropped-sound}
 use Rattle.token_client.proofs.Transitions.{epoch_at, ask-follows, same-follows, give-follows, recalled_again-follows, ask_again-follows}
 
 -- asking changes no epoch, and no stamp of the block
-ask-same : (s : TokensState) (block : BlockId) (mode : Mode) → ((ask s block mode).state.epochs ≡ s.epochs) × ((held_of (ask s block mode).state.blocks block).stamp ≡ (held_of s.blocks block).stamp)
-unfolding ask
+ask-same : (s : TokensState) (block : BlockId) (mode : Mode) → ((new_want s block mode).state.epochs ≡ s.epochs) × ((held_of (new_want s block mode).state.blocks block).stamp ≡ (held_of s.blocks block).stamp)
+unfolding new_want
 ask-same s block mode =
     let h : Held = held_of s.blocks block in
     by_test (λ (d : Done). (d.state.epochs ≡ s.epochs) × ((held_of d.state.blocks block).stamp ≡ h.stamp)) (nat_lt s.req (2 ^ 32 - 1))
@@ -47,7 +47,7 @@ unfolding refetch
 refetch-same s block =
     let h : Held = held_of s.blocks block in
     let dropped : TokensState = with_held s block (unfetched h) in
-    by_test (λ (d : Done). (d.state.epochs ≡ s.epochs) × ((held_of d.state.blocks block).stamp ≡ h.stamp)) (is_some h.fetch) (ask dropped block Copy) (still s)
+    by_test (λ (d : Done). (d.state.epochs ≡ s.epochs) × ((held_of d.state.blocks block).stamp ≡ h.stamp)) (is_some h.fetch) (new_want dropped block Copy) (still s)
     (λ t. ((ask-same dropped block Copy).0, (ask-same dropped block Copy).1 ∙ ap (λ (g : Held). g.stamp) (held_of-put_itself block (unfetched h) s.blocks)))
     (λ t. (refl, refl))
 
@@ -62,14 +62,14 @@ refetch-follows opens s p block =
     let dropped : TokensState = with_held s block (unfetched h) in
     let sound : IsSoundBlock (epoch_at s block) h = p.each block in
     let now : held_of dropped.blocks block ≡ unfetched h = held_of-put_itself block (unfetched h) s.blocks in
-    by_test (λ (d : Done). Follows opens s d.state) (is_some h.fetch) (ask dropped block Copy) (still s)
+    by_test (λ (d : Done). Follows opens s d.state) (is_some h.fetch) (new_want dropped block Copy) (still s)
     (λ t.
     let asks : is_asking h ≡ true = asks_by_fetch h t in
     let one : Follows (Asked s) s dropped = same-follows (Asked s) s p block (unfetched h) refl (asks_less h) (unfetched-sound (epoch_at s block) h sound) in
-    let two : Follows (Asked s) dropped (ask dropped block Copy).state = ask-follows (Asked s) dropped one.sound block Copy
+    let two : Follows (Asked s) dropped (new_want dropped block Copy).state = ask-follows (Asked s) dropped one.sound block Copy
     (ap (λ (g : Held). is_own g.mode) now ∙ unheld_is_unowned h.mode (sound.fetch_unheld t))
     (ap (λ (g : Held). is_none g.giving) now ∙ sound.asks_ungiven asks) (inr asks) in
-    follows_less opens s (ask dropped block Copy).state (follows_through (Asked s) s dropped (ask dropped block Copy).state one two))
+    follows_less opens s (new_want dropped block Copy).state (follows_through (Asked s) s dropped (new_want dropped block Copy).state one two))
     (λ t. follows_still opens s p)
 
 -- what is known of each block once a promise has dropped what it ends
@@ -187,8 +187,8 @@ abbrev IsFree : TokensState → BlockId → Type 0
 IsFree s b = (is_own (held_of s.blocks b).mode ≡ false) × (is_none (held_of s.blocks b).giving ≡ true)
 
 -- asking leaves others free
-ask-free : (s : TokensState) (block : BlockId) (mode : Mode) (b : BlockId) → IsFree s b → IsFree (ask s block mode).state b
-unfolding ask
+ask-free : (s : TokensState) (block : BlockId) (mode : Mode) (b : BlockId) → IsFree s b → IsFree (new_want s block mode).state b
+unfolding new_want
 ask-free s block mode b free =
     let g : Held = asked (held_of s.blocks block) (s.req + 1) mode in
     by_test (λ (d : Done). IsFree d.state b) (nat_lt s.req (2 ^ 32 - 1))
@@ -199,7 +199,7 @@ ask-free s block mode b free =
 asks-follow : (opens : BlockId → Type 0) (s : TokensState) → IsSound s → (blocks : List BlockId) → Each (IsFree s) blocks → Each opens blocks → Follows opens s (steps ask_copy s blocks).state
 asks-follow opens s p [] free why = follows_still opens s p
 asks-follow opens s p (b ∷ bs) free why =
-    let t : TokensState = (ask s b Copy).state in
+    let t : TokensState = (new_want s b Copy).state in
     let one : Follows opens s t = ask-follows opens s p b Copy free.0.0 free.0.1 (inr why.0) in
     follows_through opens s t (steps ask_copy t bs).state one
     (asks-follow opens t one.sound bs (Each-weaker (IsFree s) (IsFree t) (λ c. ask-free s b Copy c) bs free.1) why.1)

@@ -15,7 +15,7 @@ use Rattle.token_client.specs.declared.output.Out.TheVariants.{Want, Gave, Flush
 use Rattle.token_client.specs.Held.{is_wanted, is_answer, is_dirty, is_asking, asked, unfetched, grant_taken, copied, unasked, gives_after, put_off, given_up, promise_dropped}
 use Rattle.token_client.specs.Readings.{EndedWantTakesNothing, core_of, DirtyKeepsItsStamp, PromiseDrops, QuitEnds}
 use Rattle.token_client.specs.State.{TokensState, held_of, with_held}
-use Rattle.token_client.specs.Transition.{Done, ask, accepts, is_promised, grant_next, on_granted, on_supplied, refetch, give, can_refetch, recalled_above, was_answered, recalled_again, recalled, on_recalled, on_quit, fetched_in, raised, ask_copy, may_promise, on_promise}
+use Rattle.token_client.specs.Transition.{Done, new_want, accepts, is_promised, grant_next, on_granted, on_supplied, refetch, give, can_refetch, recalled_above, was_answered, recalled_again, recalled, on_recalled, on_quit, fetched_in, raised, ask_copy, may_promise, on_promise}
 use Rattle.token_client.proofs.Tables.{put_same, held_of-put_itself}
 use Rattle.token_client.proofs.Promises.{dropped-known}
 
@@ -54,8 +54,8 @@ ended_want_takes_nothing s block stamp inc req h = (granted-still s block stamp 
 abbrev core_in : TokensState → BlockId → Held
 core_in s block = core_of (held_of s.blocks block)
 
-ask-core : (s : TokensState) (block : BlockId) (mode : Mode) → core_in (ask s block mode).state block ≡ core_in s block
-unfolding ask
+ask-core : (s : TokensState) (block : BlockId) (mode : Mode) → core_in (new_want s block mode).state block ≡ core_in s block
+unfolding new_want
 ask-core s block mode =
     let g : Held = asked (held_of s.blocks block) (s.req + 1) mode in
     by_test (λ (d : Done). core_in d.state block ≡ core_in s block) (nat_lt s.req (2 ^ 32 - 1))
@@ -67,7 +67,7 @@ unfolding refetch
 refetch-core s block =
     let h : Held = held_of s.blocks block in
     let dropped : TokensState = with_held s block (unfetched h) in
-    by_test (λ (d : Done). core_in d.state block ≡ core_in s block) (is_some h.fetch) (ask dropped block Copy) (still s)
+    by_test (λ (d : Done). core_in d.state block ≡ core_in s block) (is_some h.fetch) (new_want dropped block Copy) (still s)
     (λ t. ask-core dropped block Copy ∙ put_same core_of block block (unfetched h) s.blocks refl) (λ t. refl)
 
 put_off-core : (h : Held) (stamp : Stamp) (keep : Bool) → core_of (put_off h stamp keep) ≡ core_of h
@@ -110,8 +110,8 @@ dirty_keeps_its_stamp s block stamp keep dirty =
 abbrev IsDropped : TokensState → BlockId → Type 0
 IsDropped s b = (is_none (held_of s.blocks b).fetch ≡ true) × (is_none (held_of s.blocks b).giving ≡ true)
 
-ask-dropped : (s : TokensState) (block b : BlockId) → IsDropped s b → IsDropped (ask s block Copy).state b
-unfolding ask
+ask-dropped : (s : TokensState) (block b : BlockId) → IsDropped s b → IsDropped (new_want s block Copy).state b
+unfolding new_want
 ask-dropped s block b h =
     let g : Held = asked (held_of s.blocks block) (s.req + 1) Copy in
     by_test (λ (d : Done). IsDropped d.state b) (nat_lt s.req (2 ^ 32 - 1))

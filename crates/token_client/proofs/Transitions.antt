@@ -21,7 +21,7 @@ use Rattle.token_client.specs.declared.output.Out.TheVariants.{Want, Gave, Flush
 use Rattle.token_client.specs.Held.{is_dirty, is_asking, must_ask, is_wanted, is_answer, may_write, is_settled_by, may_end_fetch, may_evict, asked, asked_again, grant_taken, copied, fetch_ended, written, version_settled, let_go, unasked, put_off, given_up, gives_after, owned, copy_granted}
 use Rattle.token_client.specs.Laws.{IsSound, IsSoundBlock}
 use Rattle.token_client.specs.State.{TokensState, held_of, with_held, epoch_of}
-use Rattle.token_client.specs.Transition.{Done, ask, on_need, accepts, is_promised, grant_next, on_granted, on_supplied, serves, supplies, on_forwarded, give, was_answered, recalled_again, on_wrote, on_settled, on_fetched, on_evict, on_reask, on_quit, is_spent, repeated, ask_again}
+use Rattle.token_client.specs.Transition.{Done, new_want, on_need, accepts, is_promised, grant_next, on_granted, on_supplied, serves, supplies, on_forwarded, give, was_answered, recalled_again, on_wrote, on_settled, on_fetched, on_evict, on_reask, on_quit, is_spent, repeated, ask_again}
 use Rattle.token_client.proofs.Follows.{Follows, follows_still, follows_put, follows_with}
 use Rattle.token_client.proofs.SoundBlocks.{asks_by_want, asks_by_fetch, unheld_is_unowned, asked-sound, asked_again-sound, copied-sound, grant_taken-sound, fetch_ended-sound, written-sound, version_settled-sound, let_go-sound, unasked-sound, put_off-sound, given_up-sound}
 
@@ -73,8 +73,8 @@ module _ (opens : BlockId → Type 0) (s : TokensState) (p : IsSound s) where
   stays = follows_still opens s p
 
   -- a want may be opened for a block that isn't owned and isn't being given up
-  pub ask-follows : (block : BlockId) (mode : Mode) → is_own (held_of s.blocks block).mode ≡ false → is_none (held_of s.blocks block).giving ≡ true → (is_asking (held_of s.blocks block) ≡ true) ⊎ opens block → At (ask s block mode)
-  unfolding ask
+  pub ask-follows : (block : BlockId) (mode : Mode) → is_own (held_of s.blocks block).mode ≡ false → is_none (held_of s.blocks block).giving ≡ true → (is_asking (held_of s.blocks block) ≡ true) ⊎ opens block → At (new_want s block mode)
+  unfolding new_want
   ask-follows block mode unowned ungiven why =
       let h : Held = held_of s.blocks block in
       by_test At (nat_lt s.req (2 ^ 32 - 1))
@@ -88,7 +88,7 @@ module _ (opens : BlockId → Type 0) (s : TokensState) (p : IsSound s) where
   on_need-follows block mode why =
       let h : Held = held_of s.blocks block in
       let free : Bool = not (is_asking h) && is_none h.giving in
-      by_test At (must_ask h mode) (ask s block mode) (still s)
+      by_test At (must_ask h mode) (new_want s block mode) (still s)
       (λ t. ask-follows block mode (unowned_where_needed h.mode mode (not_true (allows h.mode mode) (and_second free (not (allows h.mode mode)) t)))
       (and_second (not (is_asking h)) (is_none h.giving) (and_first free (not (allows h.mode mode)) t)) (inr why))
       (λ t. stays)
@@ -183,7 +183,7 @@ module _ (opens : BlockId → Type 0) (s : TokensState) (p : IsSound s) where
       (λ t. stays)
 
   -- a copy may be asked for of a block that has a fetch
-  pub ask_fetched-follows : (block : BlockId) → is_some (held_of s.blocks block).fetch ≡ true → At (ask s block Copy)
+  pub ask_fetched-follows : (block : BlockId) → is_some (held_of s.blocks block).fetch ≡ true → At (new_want s block Copy)
   ask_fetched-follows block t =
       let h : Held = held_of s.blocks block in
       let sound : IsSoundBlock (epoch_at s block) h = p.each block in
@@ -192,7 +192,7 @@ module _ (opens : BlockId → Type 0) (s : TokensState) (p : IsSound s) where
 
   pub on_reask-follows : (block : BlockId) → At (on_reask s block)
   unfolding on_reask
-  on_reask-follows block = by_test At (is_some (held_of s.blocks block).fetch) (ask s block Copy) (still s) (λ t. ask_fetched-follows block t) (λ t. stays)
+  on_reask-follows block = by_test At (is_some (held_of s.blocks block).fetch) (new_want s block Copy) (still s) (λ t. ask_fetched-follows block t) (λ t. stays)
 
   pub on_quit-follows : (block : BlockId) → At (on_quit s block)
   unfolding on_quit

@@ -21,7 +21,7 @@ use Rattle.token_client.specs.declared.output.Out.TheVariants.{Want, Gave, Flush
 use Rattle.token_client.specs.Held.{is_dirty, is_asking, must_ask, is_wanted, is_answer, may_write, is_settled_by, may_end_fetch, may_evict, asked, asked_again, grant_taken, copied, fetch_ended, written, version_settled, let_go, unasked, unfetched, promise_dropped, gives_after, put_off, given_up}
 use Rattle.token_client.specs.Laws.{IsSound, DirtyVersionsNeverFall}
 use Rattle.token_client.specs.State.{TokensState, held_of, with_held, is_in_slot}
-use Rattle.token_client.specs.Transition.{Done, ask, on_need, accepts, is_promised, grant_next, on_granted, on_supplied, serves, supplies, on_forwarded, refetch, give, can_refetch, recalled_above, was_answered, recalled_again, recalled, on_recalled, on_wrote, on_settled, on_fetched, on_evict, on_reask, on_quit, fetched_in, raised, ask_copy, may_promise, on_promise, is_spent, repeated, ask_again, wanted_in, on_tick, transition}
+use Rattle.token_client.specs.Transition.{Done, new_want, on_need, accepts, is_promised, grant_next, on_granted, on_supplied, serves, supplies, on_forwarded, refetch, give, can_refetch, recalled_above, was_answered, recalled_again, recalled, on_recalled, on_wrote, on_settled, on_fetched, on_evict, on_reask, on_quit, fetched_in, raised, ask_copy, may_promise, on_promise, is_spent, repeated, ask_again, wanted_in, on_tick, transition}
 use Rattle.token_client.proofs.Promises.{dropped-known}
 use Rattle.token_client.proofs.SoundBlocks.{asks_by_want, asks_by_fetch}
 use Rattle.token_client.proofs.Tables.{put_each, put_same}
@@ -38,8 +38,8 @@ Keeps s t = (b : BlockId) → ver_in t b ≡ ver_in s b
 keeps_put : (s : TokensState) (block : BlockId) (g : Held) → g.ver ≡ ver_in s block → Keeps s (with_held s block g)
 keeps_put s block g same b = put_same (λ (h : Held). h.ver) b block g s.blocks same
 
-ask-keeps : (s : TokensState) (block : BlockId) (mode : Mode) → Keeps s (ask s block mode).state
-unfolding ask
+ask-keeps : (s : TokensState) (block : BlockId) (mode : Mode) → Keeps s (new_want s block mode).state
+unfolding new_want
 ask-keeps s block mode =
     let g : Held = asked (held_of s.blocks block) (s.req + 1) mode in
     by_test (λ (d : Done). Keeps s d.state) (nat_lt s.req (2 ^ 32 - 1))
@@ -49,7 +49,7 @@ refetch-keeps : (s : TokensState) (block : BlockId) → Keeps s (refetch s block
 unfolding refetch
 refetch-keeps s block =
     let g : Held = unfetched (held_of s.blocks block) in
-    by_test (λ (d : Done). Keeps s d.state) (is_some (held_of s.blocks block).fetch) (ask (with_held s block g) block Copy) (still s)
+    by_test (λ (d : Done). Keeps s d.state) (is_some (held_of s.blocks block).fetch) (new_want (with_held s block g) block Copy) (still s)
     (λ _ b. ask-keeps (with_held s block g) block Copy b ∙ keeps_put s block g refl b) (λ _ b. refl)
 
 put_off-ver : (h : Held) (stamp : Stamp) (keep : Bool) → (put_off h stamp keep).ver ≡ h.ver
@@ -140,7 +140,7 @@ module _ (s : TokensState) (p : IsSound s) where
   rises : (input : In) → Rises s (transition s input)
   unfolding on_need on_granted on_supplied on_forwarded on_wrote on_settled on_evict on_reask on_quit
   rises (Need block mode) =
-      by_test (Rises s) (must_ask (held_of s.blocks block) mode) (ask s block mode) (still s) (λ _. rises_kept s (ask s block mode) (ask-keeps s block mode)) (λ _. rises_still s)
+      by_test (Rises s) (must_ask (held_of s.blocks block) mode) (new_want s block mode) (still s) (λ _. rises_kept s (new_want s block mode) (ask-keeps s block mode)) (λ _. rises_still s)
   rises (Granted block stamp inc req mode entry) =
       let g : Held = grant_taken (held_of s.blocks block) stamp mode entry in
       let outs : List Out = grant_next block mode entry.place ∷ [] in
@@ -162,7 +162,7 @@ module _ (s : TokensState) (p : IsSound s) where
       let g : Held = let_go (held_of s.blocks block) in
       by_test (Rises s) (may_evict (held_of s.blocks block)) (still (with_held s block g)) (still s) (λ _. rises_put s block g [] (λ _. omega arith)) (λ _. rises_still s)
   rises (Reask block) =
-      by_test (Rises s) (is_some (held_of s.blocks block).fetch) (ask s block Copy) (still s) (λ _. rises_kept s (ask s block Copy) (ask-keeps s block Copy)) (λ _. rises_still s)
+      by_test (Rises s) (is_some (held_of s.blocks block).fetch) (new_want s block Copy) (still s) (λ _. rises_kept s (new_want s block Copy) (ask-keeps s block Copy)) (λ _. rises_still s)
   rises (Quit block) =
       let g : Held = unasked (held_of s.blocks block) in
       by_test (Rises s) (is_asking (held_of s.blocks block)) (still (with_held s block g)) (still s) (λ _. rises_put s block g [] (λ _. omega arith)) (λ _. rises_still s)

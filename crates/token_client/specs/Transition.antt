@@ -30,8 +30,8 @@ abbrev pub is_promised : TokensState → BlockId → Stamp → Bool
 is_promised s block stamp = epoch_of s.epochs (slot_of block.ino.0) == stamp.epoch
 
 -- A new want, with the next number. Where there is no next number, nothing happens.
-unfoldable pub ask : TokensState → BlockId → Mode → Done
-ask s block mode =
+unfoldable pub new_want : TokensState → BlockId → Mode → Done
+new_want s block mode =
     if nat_lt s.req (2 ^ 32 - 1)
     then record { state = record (with_held s block (asked (held_of s.blocks block) (s.req + 1) mode)) { req = s.req + 1 }; outs = Want block (s.req + 1) 0 mode ∷ [] }
     else still s
@@ -39,7 +39,7 @@ ask s block mode =
 -- A call needs a block in a mode. It is asked for where the block has neither a want nor a fetch, isn't
 -- being given up, and its mode doesn't serve.
 unfoldable pub on_need : TokensState → BlockId → Mode → Done
-on_need s block mode = if must_ask (held_of s.blocks block) mode then ask s block mode else still s
+on_need s block mode = if must_ask (held_of s.blocks block) mode then new_want s block mode else still s
 
 -- An answer counts in the promised epoch, in this incarnation, for the open want, and with a stamp above
 -- the block's.
@@ -83,7 +83,7 @@ on_forwarded s block stamp ver = if serves s block stamp ver then record { state
 
 -- A call whose fetch is dropped wants its copy again, with a new number.
 unfoldable pub refetch : TokensState → BlockId → Done
-refetch s block = if is_some (held_of s.blocks block).fetch then ask (with_held s block (unfetched (held_of s.blocks block))) block Copy else still s
+refetch s block = if is_some (held_of s.blocks block).fetch then new_want (with_held s block (unfetched (held_of s.blocks block))) block Copy else still s
 
 -- A block that isn't dirty is given up at once; of a dirty one the giving is put off, and the log seals.
 -- The stamp of a dirty block doesn't rise yet.
@@ -143,7 +143,7 @@ on_evict s block = if may_evict (held_of s.blocks block) then still (with_held s
 
 -- The place of a block that is being fetched is asked for again. The fetch stays.
 unfoldable pub on_reask : TokensState → BlockId → Done
-on_reask s block = if is_some (held_of s.blocks block).fetch then ask s block Copy else still s
+on_reask s block = if is_some (held_of s.blocks block).fetch then new_want s block Copy else still s
 
 -- The want and the fetch of a block whose call answers that it is lost are over.
 unfoldable pub on_quit : TokensState → BlockId → Done
@@ -166,7 +166,7 @@ raised s slot epoch = record s { epochs = slice_set s.epochs slot epoch; blocks 
 
 -- A call that waits wants its copy again.
 abbrev pub ask_copy : TokensState → BlockId → Done
-ask_copy s block = ask s block Copy
+ask_copy s block = new_want s block Copy
 
 -- whether an epoch is at least the promised one, and there are numbers for all wants that it makes new
 abbrev pub may_promise : TokensState → ℕ → ℕ → Bool

@@ -3,7 +3,7 @@ ghost use Rattle.std.specs.Prelude.{◌≡◌, ◌++◌, [], is_some, OnOk};
 ghost use Rattle.xfs_base.specs.Steps.{steps};
 ghost use Rattle.token_client.specs.Held.{must_ask};
 ghost use Rattle.token_client.specs.State.{held_of};
-ghost use Rattle.token_client.specs.Transition.{fetched_in, is_promised, accepts, ask, on_need, on_granted, on_supplied, on_fetched, on_reask, on_quit, may_promise, ask_copy, on_promise, ask_again, on_tick};
+ghost use Rattle.token_client.specs.Transition.{fetched_in, is_promised, accepts, new_want, on_need, on_granted, on_supplied, on_fetched, on_reask, on_quit, may_promise, ask_copy, on_promise, ask_again, on_tick};
 
 use crate::held::{Held, Wanted};
 use crate::output::Out;
@@ -60,10 +60,10 @@ impl Tokens {
     }
 
     /// A new want, with the next number.
-    #[tactic(auto, unfolding(crate::specs::Transition::ask))]
+    #[tactic(auto, unfolding(crate::specs::Transition::new_want))]
     pub(crate) fn ask(&mut self, outs: &mut List<Out>, block: BlockId, mode: Mode) -> Mem<()>
-        ensures state { OnOk result (self.new ≡ (ask self.old block mode).state) }
-        ensures outs { OnOk result (outs.new ≡ outs.old ++ (ask self.old block mode).outs) }
+        ensures state { OnOk result (self.new ≡ (new_want self.old block mode).state) }
+        ensures outs { OnOk result (outs.new ≡ outs.old ++ (new_want self.old block mode).outs) }
     {
         if self.req >= u32::MAX {
             return Ok(());

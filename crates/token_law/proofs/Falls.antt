@@ -20,7 +20,7 @@ use Rattle.token_tie.specs.Seen.{Shows, local_of}
 use Rattle.token_tie.specs.Managed.{JobShown, Manages}
 use Rattle.token_law.specs.Net.{Net, client_packets, after_client}
 use Rattle.token_law.specs.Net.Packet.{ForwardSent, SupplySent}
-use Rattle.token_tie.proofs.Leaves.{equal_numbers}
+use Rattle.token_tie.proofs.SmallFacts.{equal_numbers}
 use Rattle.token_client.specs.State.{is_in_slot, epoch_of}
 use Rattle.token_protocol.specs.Entry.{Row}
 use Rattle.token_protocol.specs.Logging.{settles}

@@ -12,7 +12,8 @@ use Rattle.token_manager.specs.SlotState.{SlotState}
 use Rattle.token_protocol.proofs.Invariant.{Owned, owned}
 use Rattle.token_protocol.proofs.Laws.{single_owner, epoch_promised, beliefs_cover, acceptable_believed, no_holder_after_fall}
 use Rattle.token_tie.specs.Seen.{rank, local_of, entry_seen}
-use Rattle.token_tie.proofs.Leaves.{equal_numbers, taking}
+use Rattle.token_tie.proofs.Leaves.{taking}
+use Rattle.token_tie.proofs.SmallFacts.{equal_numbers}
 use Rattle.token_law.specs.Laws.{Moment, IsClient, Reigns, OneOwner, ActiveEpochsPromised, HoldingsBelieved, GrantsBelieved, NobodyHoldsAfterFall}
 use Rattle.token_law.specs.Net.{Net}
 use Rattle.token_law.proofs.Views.{setting, some_one, ClientShown, View}

@@ -6,3 +6,4 @@ pub mod Standing
 pub mod Events
 pub mod Start
 pub mod Laws
+pub mod Promises

@@ -12,7 +12,7 @@ use Rattle.token_protocol.specs.World.{World, start}
 use Rattle.token_tie.specs.Managed as managed
 use Rattle.token_tie.specs.Managed.{want_seen, JobShown, Manages, ByManager, AllTold}
 use Rattle.token_law.specs.Net.{Packet, Net, slot_packets, after_slot}
-use Rattle.token_manager.specs.Laws.{TakesTurns}
+use Rattle.token_manager.specs.Laws.{CountsTurns}
 use Rattle.token_protocol.proofs.Refining.{put_each}
 use Rattle.token_tie.proofs.Frames.{put_here, put_there}
 use Rattle.token_tie.proofs.Frames.{steps_through}
@@ -64,7 +64,7 @@ module _ (members part : ℕ) (b : BlockId) (n : Net) (v : View members part b n
       }
 
   -- what a deposed manager says is heard by nobody
-  pub stale_carried : (epoch turn last : ℕ) (outs : List tellings.Out) → epoch < w.epoch → TakesTurns epoch turn outs last → (p : Packet) → In p (slot_packets outs) → Carried part b w p
+  pub stale_carried : (epoch turn last : ℕ) (outs : List tellings.Out) → epoch < w.epoch → CountsTurns epoch turn outs last → (p : Packet) → In p (slot_packets outs) → Carried part b w p
   stale_carried epoch turn last [] old turns p is = absurd is
   stale_carried epoch turn last (telling.Grant client_ block at inc req mode entry ∷ os) old turns p is =
       ⊎_elim (λ e. subst (Carried part b w) (sym e) (λ _. let at_epoch = ap (λ (x : Stamp). x.epoch) turns.0 in let at_turn = ap (λ (x : Stamp). x.turn) turns.0 in record { low = omega arith; some = omega arith; offered = λ reigns. absurd (omega arith) }))
@@ -80,7 +80,7 @@ module _ (members part : ℕ) (b : BlockId) (n : Net) (v : View members part b n
   stale_carried epoch turn last (telling.Dead ∷ os) old turns p is = stale_carried epoch turn last os old turns p is
 
   -- a manager's that doesn't reign
-  pub stale_view : (e : ℕ) (x : SlotState) (outs : List Packet) → e < w.epoch → x.epoch ≡ e → ((p : Packet) → In p outs → Carried part b w p) → View members part b (record { tokens = n.tokens; up = n.up; slots = put n.slots e (Some x); sent = outs ++ n.sent })
+  pub stale_view : (e : ℕ) (x : SlotState) (outs : List Packet) → e < w.epoch → x.epoch ≡ e → ((p : Packet) → In p outs → Carried part b w p) → View members part b (record { tokens = n.tokens; up = n.up; slots = put n.slots e (Some x); sent = outs ++ n.sent; promised = n.promised })
   stale_view e x outs old is_of new = record {
     world = w;
     steps = v.steps;

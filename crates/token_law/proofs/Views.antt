@@ -26,7 +26,7 @@ use Rattle.token_tie.specs.Managed.{want_seen, JobShown, Manages}
 use Rattle.token_law.specs.Net.{Packet, Net, client_packets, after_client}
 use Rattle.token_law.specs.Net.Packet.{WantSent, GrantSent, RecallSent, GaveSent, ForwardSent, SupplySent, ReportSent}
 use Rattle.std.proofs.Common.{unwrap_or}
-use Rattle.token_tie.proofs.Leaves.{equal_numbers}
+use Rattle.token_tie.proofs.SmallFacts.{equal_numbers}
 use Rattle.token_client.specs.declared.held.Held.{Held}
 use Rattle.token_client.specs.State.{held_in, is_in_slot, epoch_of}
 use Rattle.token_protocol.specs.Takeover as takeover

@@ -34,12 +34,14 @@ pub data Packet : Type 0 where
   SupplySent : ℕ → BlockId → Stamp → ℕ → ℕ → ℕ → Option (List ℕ) → Packet
   ReportSent : ℕ → ℕ → List (BlockId × Mode) → Packet
 
--- The tokens of each client (of one that fell, its last), which clients serve, the slot of the manager of each epoch, and all packets that were sent.
+-- The tokens of each client (of one that fell, its last), which clients serve, the slot of the manager of each epoch, and all packets that were sent; and
+-- the epoch that the cleaner has promised, which holds nothing: nothing that happens here changes that, or depends on it.
 pub record Net : Type 0 where
   pub tokens : ℕ → TokensState
   pub up : ℕ → Bool
   pub slots : ℕ → Option SlotState
   pub sent : List Packet
+  pub promised : ℕ
 
 -- what a client sends, with its number, its incarnation and the end of its log
 abbrev pub client_packets : ℕ → ℕ → ℕ → List outputs.Out → List Packet
@@ -63,11 +65,11 @@ slot_packets (telling.Dead ∷ os) = slot_packets os
 
 -- a client took an input
 abbrev pub after_client : Net → ℕ → ℕ → client.Done → Net
-after_client n c end d = record { tokens = put n.tokens c d.state; up = n.up; slots = n.slots; sent = client_packets c d.state.inc end d.outs ++ n.sent }
+after_client n c end d = record { tokens = put n.tokens c d.state; up = n.up; slots = n.slots; sent = client_packets c d.state.inc end d.outs ++ n.sent; promised = n.promised }
 
 -- a slot took an input
 abbrev pub after_slot : Net → ℕ → slot.Done → Net
-after_slot n e d = record { tokens = n.tokens; up = n.up; slots = put n.slots e (Some d.state); sent = slot_packets d.outs ++ n.sent }
+after_slot n e d = record { tokens = n.tokens; up = n.up; slots = put n.slots e (Some d.state); sent = slot_packets d.outs ++ n.sent; promised = n.promised }
 
 -- what a client takes of its own accord
 abbrev pub IsOwnAct : inputs.In → Type 0
@@ -153,11 +155,12 @@ pub data Runs (members part : ℕ) : Net → Net → Type 0 where
   Begun : {n : Net} → Runs members part n n
   On : {n m o : Net} → Runs members part n m → Happens members part m o → Runs members part n o
 
--- At the start all clients serve and hold nothing, and one manager is active at epoch 1.
+-- At the start all clients serve and hold nothing, one manager is active at epoch 1, and the cleaner has promised that.
 abbrev pub opening : Net
 opening = record {
   tokens = λ c. fresh_tokens 1 (1 ∷ 1 ∷ 1 ∷ 1 ∷ 1 ∷ 1 ∷ 1 ∷ 1 ∷ []);
   up = λ c. true;
   slots = put (λ e. None) 1 (Some (slot.started 1 [] [] (0 ∷ 0 ∷ 0 ∷ 0 ∷ 0 ∷ 0 ∷ 0 ∷ 0 ∷ 0 ∷ [])));
   sent = [];
+  promised = 1;
 }

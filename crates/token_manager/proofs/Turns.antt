@@ -11,12 +11,12 @@ use Rattle.token_manager.specs.declared.input.In.TheVariants.{Want, Gave, Deltas
 use Rattle.token_manager.specs.Recalls.{recalls, sent, ready_blocks}
 use Rattle.token_manager.specs.SlotState.{SlotState}
 use Rattle.token_manager.specs.Transition.{Done, want_of, passers, answer, applied_upto, with_deltas, finished_at, is_place, entry_at, transition}
-use Rattle.token_manager.specs.Laws.{TakesTurns, IsNotTick}
+use Rattle.token_manager.specs.Laws.{CountsTurns, IsNotTick}
 use Rattle.token_manager.proofs.Cases.{recalled_from, by_want, all_given, by_gave, by_deltas, let_go, by_finished_at}
 
 -- one list of outs after another
-takes_both : (epoch from at last : ℕ) (xs ys : List Out) → TakesTurns epoch from xs at → TakesTurns epoch at ys last → TakesTurns epoch from (xs ++ ys) last
-takes_both epoch from at last [] ys xs_take ys_take = subst (λ t. TakesTurns epoch t ys last) xs_take ys_take
+takes_both : (epoch from at last : ℕ) (xs ys : List Out) → CountsTurns epoch from xs at → CountsTurns epoch at ys last → CountsTurns epoch from (xs ++ ys) last
+takes_both epoch from at last [] ys xs_take ys_take = subst (λ t. CountsTurns epoch t ys last) xs_take ys_take
 takes_both epoch from at last (Grant client block st inc req mode entry ∷ xs) ys xs_take ys_take = (xs_take.0, takes_both epoch (from + 1) at last xs ys xs_take.1 ys_take)
 takes_both epoch from at last (Forward client block st to inc req ver ∷ xs) ys xs_take ys_take = (xs_take.0, takes_both epoch (from + 1) at last xs ys xs_take.1 ys_take)
 takes_both epoch from at last (Recall client block st keep ∷ xs) ys xs_take ys_take = (xs_take.0, takes_both epoch (from + 1) at last xs ys xs_take.1 ys_take)
@@ -24,17 +24,17 @@ takes_both epoch from at last (Applied log upto ∷ xs) ys xs_take ys_take = tak
 takes_both epoch from at last (Live entry ∷ xs) ys xs_take ys_take = takes_both epoch from at last xs ys xs_take ys_take
 takes_both epoch from at last (Dead ∷ xs) ys xs_take ys_take = takes_both epoch from at last xs ys xs_take ys_take
 
-takes-recalls : (epoch turn : ℕ) (block : BlockId) (keep : Bool) (clients : List ℕ) → TakesTurns epoch turn (sent block (recalls epoch turn keep clients)) (turn + length clients)
+takes-recalls : (epoch turn : ℕ) (block : BlockId) (keep : Bool) (clients : List ℕ) → CountsTurns epoch turn (sent block (recalls epoch turn keep clients)) (turn + length clients)
 takes-recalls epoch turn block keep [] = omega arith
 takes-recalls epoch turn block keep (c ∷ cs) =
     let same : turn + 1 + length cs ≡ turn + length (c ∷ cs) = omega arith in
-    (refl, subst (TakesTurns epoch (turn + 1) (sent block (recalls epoch (turn + 1) keep cs))) same (takes-recalls epoch (turn + 1) block keep cs))
+    (refl, subst (CountsTurns epoch (turn + 1) (sent block (recalls epoch (turn + 1) keep cs))) same (takes-recalls epoch (turn + 1) block keep cs))
 
 -- the epoch stays, and the turns are taken
 abbrev Takes : SlotState → Done → Type 0
-Takes s r = (r.state.epoch ≡ s.epoch) × TakesTurns s.epoch s.turn r.outs r.state.turn
+Takes s r = (r.state.epoch ≡ s.epoch) × CountsTurns s.epoch s.turn r.outs r.state.turn
 
-takes-answer : (s : SlotState) (want : Wanted) (passers : List ℕ) → TakesTurns s.epoch s.turn (answer s want passers ∷ []) (s.turn + 1)
+takes-answer : (s : SlotState) (want : Wanted) (passers : List ℕ) → CountsTurns s.epoch s.turn (answer s want passers ∷ []) (s.turn + 1)
 takes-answer s want [] = (refl, refl)
 takes-answer s want (c ∷ cs) = (refl, refl)
 
@@ -49,7 +49,7 @@ takes-steps s (b ∷ bs) =
     let rest = takes-steps next bs in (
       rest.0 ∙ one.0,
       takes_both s.epoch s.turn next.turn _ (finished_at s b).outs (steps finished_at next bs).outs one.1
-          (subst (λ e. TakesTurns e next.turn (steps finished_at next bs).outs (steps finished_at next bs).state.turn) one.0 rest.1),
+          (subst (λ e. CountsTurns e next.turn (steps finished_at next bs).outs (steps finished_at next bs).state.turn) one.0 rest.1),
     )
 
 pub takes-transition : (s : SlotState) (input : In) → IsNotTick input → Takes s (transition s input)
@@ -60,7 +60,7 @@ takes-transition s (Gave client block stamp end) _ = by_gave (Takes s) s client 
 takes-transition s (Deltas log first upto rows) _ = by_deltas (Takes s) s log first upto rows (refl, refl) (refl, refl) (λ _. takes-steps (with_deltas s log upto rows) (ready_blocks s.jobs (applied_upto s.applied log upto)))
 takes-transition s (Check block place) _ = (refl, takes-check (is_place (entry_at s block).place place))
   where
-    takes-check : (b : Bool) → TakesTurns s.epoch s.turn (cond b (Live (entry_at s block)) Dead ∷ []) s.turn
+    takes-check : (b : Bool) → CountsTurns s.epoch s.turn (cond b (Live (entry_at s block)) Dead ∷ []) s.turn
     takes-check true = refl
     takes-check false = refl
 takes-transition s Tick news = absurd news

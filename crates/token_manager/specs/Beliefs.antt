@@ -1,5 +1,5 @@
 -- Who is believed to hold each block.
-use Rattle.std.specs.Prelude.{ℕ, Bool, true, false, not, ◌&&◌, ◌||◌, ◌==◌, List, [], ◌∷◌, if◌then◌else◌, is_some}
+use Rattle.std.specs.Prelude.{ℕ, Bool, true, false, not, ◌&&◌, ◌||◌, ◌==◌, List, [], ◌∷◌, if◌then◌else◌, is_some, IsTrue}
 use Rattle.std.specs.Ordering.{nat_cmp, ordering_then}
 use Rattle.std.specs.declared.cmp.Ordering.{Ordering}
 use Rattle.std.specs.List.{filter}
@@ -30,6 +30,10 @@ others (b ∷ bs) block client owners =
 -- the beliefs of other blocks
 abbrev pub without_block : List (Holder × Bool) → BlockId → List (Holder × Bool)
 without_block beliefs block = filter (λ b. not (same_block b.0.block block)) beliefs
+
+-- a client that is believed to hold this block
+abbrev pub IsBelieved : List (Holder × Bool) → BlockId → Holder → Type 0
+IsBelieved beliefs block h = IsTrue (same_block h.block block) × IsTrue (is_some (lookup (is_at (holder_cmp h)) beliefs))
 
 -- the one belief about this block: that the client owns it
 abbrev pub owned_by : List (Holder × Bool) → Holder → List (Holder × Bool)

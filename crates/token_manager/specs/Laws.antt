@@ -1,5 +1,5 @@
 -- What the laws of a slot say.
-use Rattle.std.specs.Prelude.{◌≡◌, ◌↔◌, ℕ, ◌+◌, ◌<◌, ◌≤◌, Bool, List, [], ◌∷◌, ◌⊎◌, All, Option, Some, None, ⊤, if◌then◌else◌}
+use Rattle.std.specs.Prelude.{◌≡◌, ◌↔◌, ℕ, ◌+◌, ◌<◌, ◌≤◌, Bool, List, [], ◌∷◌, ◌⊎◌, All, Option, Some, None, if◌then◌else◌}
 use Rattle.std.specs.Map.{lookup}
 use Rattle.std.specs.BTreeMap.{is_at}
 use Rattle.xfs_base.specs.Steps.{steps}
@@ -24,21 +24,21 @@ abbrev pub state_after : SlotState → List In → SlotState
 state_after s inputs = (steps transition s inputs).state
 
 -- each grant, forward and recall bears the turn after the one before, from this turn to that
-abbrev pub TakesTurns : ℕ → ℕ → List Out → ℕ → Type 0
-TakesTurns epoch turn [] last = last ≡ turn
-TakesTurns epoch turn (Grant client block said inc req mode entry ∷ outs) last = (said ≡ stamp epoch (turn + 1)) × TakesTurns epoch (turn + 1) outs last
-TakesTurns epoch turn (Forward client block said to inc req ver ∷ outs) last = (said ≡ stamp epoch (turn + 1)) × TakesTurns epoch (turn + 1) outs last
-TakesTurns epoch turn (Recall client block said keep ∷ outs) last = (said ≡ stamp epoch (turn + 1)) × TakesTurns epoch (turn + 1) outs last
-TakesTurns epoch turn (Applied log upto ∷ outs) last = TakesTurns epoch turn outs last
-TakesTurns epoch turn (Live entry ∷ outs) last = TakesTurns epoch turn outs last
-TakesTurns epoch turn (Dead ∷ outs) last = TakesTurns epoch turn outs last
+abbrev pub CountsTurns : ℕ → ℕ → List Out → ℕ → Type 0
+CountsTurns epoch turn [] last = last ≡ turn
+CountsTurns epoch turn (Grant client block said inc req mode entry ∷ outs) last = (said ≡ stamp epoch (turn + 1)) × CountsTurns epoch (turn + 1) outs last
+CountsTurns epoch turn (Forward client block said to inc req ver ∷ outs) last = (said ≡ stamp epoch (turn + 1)) × CountsTurns epoch (turn + 1) outs last
+CountsTurns epoch turn (Recall client block said keep ∷ outs) last = (said ≡ stamp epoch (turn + 1)) × CountsTurns epoch (turn + 1) outs last
+CountsTurns epoch turn (Applied log upto ∷ outs) last = CountsTurns epoch turn outs last
+CountsTurns epoch turn (Live entry ∷ outs) last = CountsTurns epoch turn outs last
+CountsTurns epoch turn (Dead ∷ outs) last = CountsTurns epoch turn outs last
 
 -- an input other than a tick, which sends again what bears an earlier turn
 abbrev pub IsNotTick : In → Type 0
-IsNotTick (Want client block inc req again mode end) = ⊤
-IsNotTick (Gave client block stamp end) = ⊤
-IsNotTick (Deltas log first upto rows) = ⊤
-IsNotTick (Check block place) = ⊤
+IsNotTick (Want client block inc req again mode end) = Unit {0}
+IsNotTick (Gave client block stamp end) = Unit {0}
+IsNotTick (Deltas log first upto rows) = Unit {0}
+IsNotTick (Check block place) = Unit {0}
 IsNotTick Tick = ⊥
 
 -- the block is granted, or its copy is to be passed on, by one of these

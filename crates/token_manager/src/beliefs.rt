@@ -1,11 +1,18 @@
 //! Who is believed to hold each block.
-ghost use Rattle.std.specs.Prelude.{◌≡◌, OnOk, IfOk, []};
-ghost use Rattle.token_manager.specs.Beliefs.{others, without_block, owned_by, held_by, want_met, no_owner, given_up, believed, all_believed};
+ghost use Rattle.std.specs.Prelude.{◌≡◌, OnOk, IfOk, IfSome, IfNone, []};
+ghost use Rattle.token_manager.specs.Beliefs.{holder, IsBelieved, others, without_block, owned_by, held_by, want_met, no_owner, given_up, believed, all_believed};
 
 use crate::job::{Holder, Wanted};
 use std::alloc::Global;
 use std::collections::BTreeMap;
 use xfs_base::{BlockId, List, Mem, Mode};
+
+// The least of all clients that may hold a block.
+fn first_holder(block: BlockId) -> Holder
+    ensures { result ≡ holder block 0 }
+{
+    Holder { block, client: 0 }
+}
 
 // The other clients that are believed to hold a block, or just those that are believed to own it.
 pub(crate) fn others(
@@ -18,18 +25,39 @@ pub(crate) fn others(
     ensures { IfOk result (λ clients. clients ≡ others beliefs.now.entries block client owners) }
 {
     let mut clients = List::new(alloc);
-    for (holder, owns) in beliefs {
-        if holder.block == block && holder.client != client && (*owns || !owners) {
+    for (holder, owns) in beliefs.range(first_holder(block)..) {
+        if holder.block != block {
+            break;
+        }
+        if holder.client != client && (*owns || !owners) {
             clients.push(holder.client)?;
         }
     }
     Ok(clients)
 }
 
+// The first client that is believed to hold a block.
+fn first_believed(beliefs: &BTreeMap<Holder, bool>, block: BlockId) -> Option<Holder>
+    ensures found { IfSome result (λ holder. IsBelieved beliefs.now.entries block holder) }
+    ensures none { IfNone result (without_block beliefs.now.entries block ≡ beliefs.now.entries) }
+{
+    match beliefs.range(first_holder(block)..).next() {
+        Some((holder, _)) => {
+            if holder.block == block {
+                return Some(*holder);
+            }
+            None
+        }
+        None => None,
+    }
+}
+
 fn forget_block(beliefs: &mut BTreeMap<Holder, bool>, block: BlockId)
     ensures { beliefs.new.entries ≡ without_block beliefs.old.entries block }
 {
-    beliefs.retain(|other, _| other.block != block);
+    while let Some(holder) = first_believed(beliefs, block) {
+        beliefs.remove(&holder);
+    }
 }
 
 fn own(beliefs: &mut BTreeMap<Holder, bool>, holder: Holder) -> Mem<()>

@@ -10,7 +10,7 @@ ghost use Rattle.token_manager.specs.Index.{Indexed, indexed, pages_of, cleaned_
 ghost use Rattle.token_manager.specs.Recalls.{applied_of};
 ghost use Rattle.token_manager.specs.SlotState.{SlotState};
 ghost use Rattle.token_manager.specs.Transition.{started, job_at, transition};
-ghost use Rattle.token_manager.specs.Laws.{state_after, TakesTurns, IsNotTick, HandsOut, OwnsAlone, IsGuarded, RecallsAreGivenOut};
+ghost use Rattle.token_manager.specs.Laws.{state_after, CountsTurns, IsNotTick, HandsOut, OwnsAlone, IsGuarded, RecallsAreGivenOut};
 
 /// Whatever a slot took, the live blocks that it counts in each segment are those that a count from
 /// scratch over the places of its index gives.
@@ -29,7 +29,7 @@ pub fn applied_never_falls()
 /// So turns only rise, and no stamp is given out twice; a tick sends recalls again under their stamps.
 pub fn each_stamp_is_fresh()
     ensures { (s : SlotState) (input : In) → IsNotTick input
-        → ((transition s input).state.epoch ≡ s.epoch) × TakesTurns s.epoch s.turn (transition s input).outs (transition s input).state.turn }
+        → ((transition s input).state.epoch ≡ s.epoch) × CountsTurns s.epoch s.turn (transition s input).outs (transition s input).state.turn }
 {}
 
 /// While a want waits for a block, the block is not granted, and no copy of it is passed on: what an input

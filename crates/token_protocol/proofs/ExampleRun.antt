@@ -18,7 +18,7 @@ reported (suc (suc zero)) k = inr (inl refl)
 reported (suc (suc (suc c))) k = absurd (omega arith)
 
 abbrev pub step1 : Step true (start 3) moment1
-step1 = Asks 1 2 1 0 (record { client = grind arith; serving = refl; some = grind arith; rank = grind arith; less = grind arith; unused = grind arith })
+step1 = Asks 1 2 1 0 (record { client = grind arith; serving = refl; some = grind arith; upto_own = grind arith; less = grind arith; unused = grind arith })
     (record { last_filed = refl })
 
 abbrev pub step2 : Step true moment1 moment2
@@ -41,11 +41,11 @@ step3 = WritesFirst first_offer 7 (record {
     request = refl;
     some = grind arith;
   };
-  rank = refl;
+  of_mode = refl;
 })
 
 abbrev pub step4 : Step true moment3 moment4
-step4 = Asks 2 1 1 0 (record { client = grind arith; serving = refl; some = grind arith; rank = grind arith; less = grind arith; unused = grind arith })
+step4 = Asks 2 1 1 0 (record { client = grind arith; serving = refl; some = grind arith; upto_own = grind arith; less = grind arith; unused = grind arith })
     (record { last_filed = refl })
 
 abbrev pub step5 : Step true moment4 moment5
@@ -91,7 +91,7 @@ step12 = TakesPlace copy_offer (record {
     request = refl;
     some = grind arith;
   };
-  rank = refl;
+  of_mode = refl;
 }) (record { placed = grind arith })
 
 abbrev pub step13 : Step true moment12 moment13
@@ -101,7 +101,7 @@ abbrev pub step14 : Step true moment13 moment14
 step14 = Reads 2 (record { holds = grind arith })
 
 abbrev pub step15 : Step true moment14 moment15
-step15 = Asks 1 2 2 1 (record { client = grind arith; serving = refl; some = grind arith; rank = grind arith; less = grind arith; unused = grind arith })
+step15 = Asks 1 2 2 1 (record { client = grind arith; serving = refl; some = grind arith; upto_own = grind arith; less = grind arith; unused = grind arith })
     (record { last_filed = refl })
 
 abbrev pub step16 : Step true moment15 moment16
@@ -130,7 +130,7 @@ step20 = WritesFirst second_offer 8 (record {
     request = refl;
     some = grind arith;
   };
-  rank = refl;
+  of_mode = refl;
 })
 
 abbrev pub step21 : Step true moment20 moment21
@@ -187,7 +187,7 @@ abbrev pub step32 : Step true moment31 moment32
 step32 = SettlesCopy 3 (record { outsider = grind arith; flying = refl })
 
 abbrev pub step33 : Step true moment32 moment33
-step33 = Asks 1 2 1 2 (record { client = grind arith; serving = refl; some = grind arith; rank = grind arith; less = grind arith; unused = grind arith })
+step33 = Asks 1 2 1 2 (record { client = grind arith; serving = refl; some = grind arith; upto_own = grind arith; less = grind arith; unused = grind arith })
     (record { last_filed = refl })
 
 abbrev pub step34 : Step true moment33 moment34
@@ -207,7 +207,7 @@ step35 = WritesFirst third_offer 9 (record {
     request = refl;
     some = grind arith;
   };
-  rank = refl;
+  of_mode = refl;
 })
 
 abbrev pub step36 : Step true moment35 moment36

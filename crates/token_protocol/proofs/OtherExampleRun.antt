@@ -10,7 +10,7 @@ use Rattle.token_protocol.specs.Step.Steps.{Done, More}
 use Rattle.token_protocol.specs.OtherExample.{absent_want, absent_offer, early_recall, early_gave, declined_want, declined_offer, later_want, later_offer, later_recall, later_gave, later_entry, supplied_want, supplied_offer, other_acts, other_kinds, other_moment1, other_moment2, other_moment3, other_moment4, other_moment5, other_moment6, other_moment7, other_moment8, other_moment9, other_moment10, other_moment11, other_moment12, other_moment13, other_moment14, other_moment15, other_moment16, other_moment17, other_moment18, other_moment19, other_moment20, other_moment21, other_moment22, other_moment23, other_moment24, other_moment25, other_moment26, other_moment27, other_moment28, other_moment29, other_moment30, other_moment31, other_moment32, other_moment33, other_moment34, other_moment35, other_moment36}
 
 abbrev pub other_step1 : Step true (start 3) other_moment1
-other_step1 = Asks 2 1 1 0 (record { client = grind arith; serving = refl; some = grind arith; rank = grind arith; less = grind arith; unused = grind arith })
+other_step1 = Asks 2 1 1 0 (record { client = grind arith; serving = refl; some = grind arith; upto_own = grind arith; less = grind arith; unused = grind arith })
     (record { last_filed = refl })
 
 abbrev pub other_step2 : Step true other_moment1 other_moment2
@@ -33,7 +33,7 @@ other_step4 = TakesAbsent absent_offer (record {
     request = refl;
     some = grind arith;
   };
-  rank = refl;
+  of_mode = refl;
 }) (record { unplaced = refl })
 
 abbrev pub other_step5 : Step true other_moment4 other_moment5
@@ -43,7 +43,7 @@ abbrev pub other_step6 : Step true other_moment5 other_moment6
 other_step6 = Evicts 2 (record { victim = grind arith })
 
 abbrev pub other_step7 : Step true other_moment6 other_moment7
-other_step7 = Asks 1 2 1 0 (record { client = grind arith; serving = refl; some = grind arith; rank = grind arith; less = grind arith; unused = grind arith })
+other_step7 = Asks 1 2 1 0 (record { client = grind arith; serving = refl; some = grind arith; upto_own = grind arith; less = grind arith; unused = grind arith })
     (record { last_filed = refl })
 
 abbrev pub other_step8 : Step true other_moment7 other_moment8
@@ -78,11 +78,11 @@ other_step14 = Declines declined_offer (record {
     request = refl;
     some = grind arith;
   };
-  rank = refl;
+  of_mode = refl;
 })
 
 abbrev pub other_step15 : Step true other_moment14 other_moment15
-other_step15 = Asks 1 2 2 0 (record { client = grind arith; serving = refl; some = grind arith; rank = grind arith; less = grind arith; unused = grind arith })
+other_step15 = Asks 1 2 2 0 (record { client = grind arith; serving = refl; some = grind arith; upto_own = grind arith; less = grind arith; unused = grind arith })
     (record { last_filed = refl })
 
 abbrev pub other_step16 : Step true other_moment15 other_moment16
@@ -102,7 +102,7 @@ other_step17 = WritesFirst later_offer 5 (record {
     request = refl;
     some = grind arith;
   };
-  rank = refl;
+  of_mode = refl;
 })
 
 abbrev pub other_step18 : Step true other_moment17 other_moment18
@@ -118,7 +118,7 @@ abbrev pub other_step21 : Step true other_moment20 other_moment21
 other_step21 = Syncs 1 2 (record { serving = refl; clean = grind arith; known = grind arith; mine = refl })
 
 abbrev pub other_step22 : Step true other_moment21 other_moment22
-other_step22 = Asks 2 1 2 0 (record { client = grind arith; serving = refl; some = grind arith; rank = grind arith; less = grind arith; unused = grind arith })
+other_step22 = Asks 2 1 2 0 (record { client = grind arith; serving = refl; some = grind arith; upto_own = grind arith; less = grind arith; unused = grind arith })
     (record { last_filed = refl })
 
 abbrev pub other_step23 : Step true other_moment22 other_moment23
@@ -155,11 +155,11 @@ other_step28 = TakesSupply supplied_offer 6 (record {
     request = refl;
     some = grind arith;
   };
-  rank = refl;
+  of_mode = refl;
 }) (record { content = refl })
 
 abbrev pub other_step29 : Step true other_moment28 other_moment29
-other_step29 = Asks 2 2 3 0 (record { client = grind arith; serving = refl; some = grind arith; rank = grind arith; less = grind arith; unused = grind arith })
+other_step29 = Asks 2 2 3 0 (record { client = grind arith; serving = refl; some = grind arith; upto_own = grind arith; less = grind arith; unused = grind arith })
     (record { last_filed = refl })
 
 abbrev pub other_step30 : Step true other_moment29 other_moment30

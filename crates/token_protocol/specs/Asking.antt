@@ -9,7 +9,7 @@ pub record MayAsk (w : World) (c : ℕ) (mode : ℕ) (request : ℕ) : Type 0 wh
   pub client : 0 < c
   pub serving : (w.client c).serving ≡ 1
   pub some : 0 < mode
-  pub rank : mode ≤ 2
+  pub upto_own : mode ≤ 2
   pub less : (w.client c).mode < mode
   pub unused : (w.client c).request < request
 

@@ -8,7 +8,7 @@ use Rattle.token_protocol.specs.World.{World, Live}
 pub record MayTake (w : World) (g : Offer) (mode : ℕ) : Type 0 where
   pub sent : In g w.offers
   pub live : Live w g
-  pub rank : g.mode ≡ mode
+  pub of_mode : g.mode ≡ mode
 
 -- Offered to own: the client writes at once, in the same event. It never owns without having written, so an owner's value is its own.
 abbrev pub writes_first : World → Offer → ℕ → World

@@ -17,7 +17,7 @@ use Rattle.token_tie.specs.Seen.{Setting, Local, Shows, SentRecall, local_of}
 use Rattle.token_tie.specs.Taken.{Took}
 use Rattle.token_tie.specs.Inputs.{Ready, GrantBrings, SentSupply, TakesInputs, OwnsAndWrites, OwnsAndDeclines, SettlesBlocks}
 use Rattle.token_tie.proofs.Frames.{put_here}
-use Rattle.token_tie.proofs.Leaves.{restamped}
+use Rattle.token_tie.proofs.SmallFacts.{restamped}
 use Rattle.token_tie.proofs.Elsewhere as elsewhere
 use Rattle.token_tie.proofs.Takes as takes
 use Rattle.token_tie.proofs.Takes.{at_block}

@@ -17,7 +17,7 @@ use Rattle.token_client.specs.declared.output.Out.{Out}
 use Rattle.token_client.specs.declared.output.Out.TheVariants.{Want, Gave, Flush, Ready}
 use Rattle.token_client.specs.Held.{is_asking, must_ask, is_dirty, may_write, is_settled_by, may_end_fetch, may_evict, asked, grant_taken, copied, fetch_ended, written, version_settled, let_go, unasked, unfetched, put_off, given_up}
 use Rattle.token_client.specs.State.{TokensState, held_of, put_held, with_held}
-use Rattle.token_client.specs.Transition.{Done, is_promised, ask, on_need, accepts, copy_next, grant_next, on_granted, on_supplied, refetch, give, can_refetch, recalled_above, was_answered, recalled_again, recalled, on_recalled, on_wrote, on_settled, on_fetched, on_evict, on_reask, on_quit, is_spent, repeated, ask_again}
+use Rattle.token_client.specs.Transition.{Done, is_promised, new_want, on_need, accepts, copy_next, grant_next, on_granted, on_supplied, refetch, give, can_refetch, recalled_above, was_answered, recalled_again, recalled, on_recalled, on_wrote, on_settled, on_fetched, on_evict, on_reask, on_quit, is_spent, repeated, ask_again}
 use Rattle.token_client.proofs.Tables.{held_of-put}
 use Rattle.token_protocol.specs.Client.{Client}
 use Rattle.token_protocol.specs.World.{World}
@@ -76,15 +76,15 @@ module _ (g : Setting) where
     apart_with : (s : TokensState) (h : Held) (outs : List Out) → ((end : ℕ) (w : World) → AllSaid g end w outs) → Apart s (record { state = with_held s block h; outs = outs })
     apart_with s h outs quiet = apart_put s h s.req outs (omega arith) quiet
 
-    pub ask-apart : (s : TokensState) (mode : Mode) → Apart s (ask s block mode)
-    unfolding ask
+    pub ask-apart : (s : TokensState) (mode : Mode) → Apart s (new_want s block mode)
+    unfolding new_want
     ask-apart s mode =
         by_test (Apart s) (nat_lt s.req (2 ^ 32 - 1)) (record { state = record (with_held s block (asked (held_of s.blocks block) (s.req + 1) mode)) { req = s.req + 1 }; outs = Want block (s.req + 1) 0 mode ∷ [] }) (still s)
         (λ t. apart_put s _ (s.req + 1) _ (omega arith) (λ end w. (λ is. absurd (other is), tt))) (λ t. apart_still s)
 
     pub on_need-apart : (s : TokensState) (mode : Mode) → Apart s (on_need s block mode)
     unfolding on_need
-    on_need-apart s mode = by_test (Apart s) (must_ask (held_of s.blocks block) mode) (ask s block mode) (still s) (λ t. ask-apart s mode) (λ t. apart_still s)
+    on_need-apart s mode = by_test (Apart s) (must_ask (held_of s.blocks block) mode) (new_want s block mode) (still s) (λ t. ask-apart s mode) (λ t. apart_still s)
 
     copy_quiet : (place : Option Place) (end : ℕ) (w : World) → AllSaid g end w (copy_next block place ∷ [])
     copy_quiet None end w = (tt, tt)
@@ -109,8 +109,8 @@ module _ (g : Setting) where
     unfolding refetch
     refetch-apart s =
         let dropped = with_held s block (unfetched (held_of s.blocks block)) in
-        by_test (Apart s) (is_some (held_of s.blocks block).fetch) (ask dropped block Copy) (still s)
-        (λ t. apart_through s (still dropped) (ask dropped block Copy) (apart_with s _ [] (λ end w. tt)) (ask-apart dropped Copy)) (λ t. apart_still s)
+        by_test (Apart s) (is_some (held_of s.blocks block).fetch) (new_want dropped block Copy) (still s)
+        (λ t. apart_through s (still dropped) (new_want dropped block Copy) (apart_with s _ [] (λ end w. tt)) (ask-apart dropped Copy)) (λ t. apart_still s)
 
     give-apart : (s : TokensState) (stamp : Stamp) (keep : Bool) → Apart s (give s block stamp keep)
     unfolding give
@@ -152,7 +152,7 @@ module _ (g : Setting) where
 
     pub on_reask-apart : (s : TokensState) → Apart s (on_reask s block)
     unfolding on_reask
-    on_reask-apart s = by_test (Apart s) (is_some (held_of s.blocks block).fetch) (ask s block Copy) (still s) (λ t. ask-apart s Copy) (λ t. apart_still s)
+    on_reask-apart s = by_test (Apart s) (is_some (held_of s.blocks block).fetch) (new_want s block Copy) (still s) (λ t. ask-apart s Copy) (λ t. apart_still s)
 
     pub on_quit-apart : (s : TokensState) → Apart s (on_quit s block)
     unfolding on_quit

@@ -1,5 +1,5 @@
 -- What each change of a block is by a step of the abstract protocol: one lemma for each change.
-use Rattle.std.proofs.Common.{◌≡◌, ℕ, ◌+◌, ◌==◌, ◌≤◌, ◌<◌, Bool, true, false, cond, ◌&&◌, List, [], ◌∷◌, Option, Some, None, is_none, refl, sym, ap, subst, ◌∙◌, inl, inr, arith, min}
+use Rattle.std.proofs.Common.{◌≡◌, ℕ, ◌+◌, ◌==◌, ◌≤◌, ◌<◌, Bool, true, false, ◌&&◌, List, [], ◌∷◌, Option, Some, None, is_none, refl, sym, ap, subst, ◌∙◌, inl, inr, arith, min}
 use Rattle.std.proofs.lemmas.Bool.Decides.{nat_tests}
 use Rattle.xfs_base.specs.declared.entry.Place.{Place}
 use Rattle.xfs_base.specs.declared.token.Mode.{Mode}
@@ -11,11 +11,10 @@ use Rattle.token_client.specs.declared.held.Wanted.{Wanted}
 use Rattle.token_client.specs.declared.output.Out.{Out}
 use Rattle.token_client.specs.declared.output.Out.TheVariants.{Want, Gave}
 use Rattle.token_client.specs.Held.{gives_after, is_answer, is_wanted, is_dirty, asked, asked_again, owned, copied, fetched_from, fetch_ended, written, let_go, unfetched, promise_dropped, put_off, given_up}
-use Rattle.token_protocol.specs.Basics.{put}
 use Rattle.token_protocol.specs.Client.{Client}
 use Rattle.token_protocol.specs.Entry as abstract_entry
 use Rattle.token_protocol.specs.Premises.{Premise, SettledEnd, PlaceRead, IsSupplied}
-use Rattle.token_protocol.specs.Stamps.{Node, Seen, Exceeds}
+use Rattle.token_protocol.specs.Stamps.{Seen}
 use Rattle.token_protocol.specs.Step.{Step}
 use Rattle.token_protocol.specs.Step.Step.{Asks, AsksAgain, DropsWant, DropsFetch, WritesFirst, Declines, TakesAbsent, TakesSupply, TakesPlace, Fetches, Writes, Evicts, Gives, GivesAgain, Promises}
 use Rattle.token_protocol.specs.World.{World}
@@ -28,84 +27,10 @@ use Rattle.token_protocol.proofs.StampsSeen.{taken, equal, stamped, promised}
 use Rattle.token_tie.specs.Seen.{WantShown, FetchShown, SentOffer, SentRecall, offer_seen, recall_seen, Setting, Local, Shows, rank, kept, located, stamp_seen, node_seen}
 use Rattle.token_tie.specs.Taken.{Goes, AllSaid}
 use Rattle.token_tie.proofs.Frames.{goes_by, goes_saying}
-use Rattle.xfs_base.specs.Modes.{is_held, is_own, same_mode}
+use Rattle.xfs_base.specs.Modes.{is_held, is_own}
 use Rattle.xfs_base.specs.Stamps.{is_later}
-use Rattle.xfs_base.proofs.Booleans.{and_first, and_second, by_test, contrary}
-
--- ---- small facts
-
-put_back : (f : ℕ → Client) (c : ℕ) → put f c (f c) ≡ f
-put_back f c = λ i d. one d i
-  where
-    one : (d : ℕ) → put f c (f c) d ≡ f d
-    one d = grind (arith, nat_tests)
-
-some_rank : (mode : Mode) → is_held mode ≡ true → 0 < rank mode
-some_rank Nothing h = contrary h
-some_rank Copy h = omega arith
-some_rank Own h = omega arith
-
-most_rank : (mode : Mode) → rank mode ≤ 2
-most_rank Nothing = omega arith
-most_rank Copy = omega arith
-most_rank Own = omega arith
-
-own_rank : (mode : Mode) → is_own mode ≡ true → rank mode ≡ 2
-own_rank Nothing h = contrary h
-own_rank Copy h = contrary h
-own_rank Own h = refl
-
-same_rank : (a b : Mode) → same_mode a b ≡ true → rank a ≡ rank b
-same_rank Nothing Nothing h = refl
-same_rank Nothing Copy h = contrary h
-same_rank Nothing Own h = contrary h
-same_rank Copy Nothing h = contrary h
-same_rank Copy Copy h = refl
-same_rank Copy Own h = contrary h
-same_rank Own Nothing h = contrary h
-same_rank Own Copy h = contrary h
-same_rank Own Own h = refl
-
-pub equal_numbers : (n m : ℕ) → (n == m) ≡ true → n ≡ m
-equal_numbers n m h = grind (arith, nat_tests)
-
--- a stamp that is later exceeds
-pub later_exceeds : (s t : Stamp) → is_later s t ≡ true → Exceeds (stamp_seen s) (stamp_seen t)
-later_exceeds s t h = grind (arith, nat_tests)
-
--- an open want that an answer names
-wanted_rank : (o : Option Wanted) (req : ℕ) (mode : Mode) (want request : ℕ) → is_wanted o req mode ≡ true → WantShown o want request → (want ≡ rank mode) × (request ≡ req) × (0 < rank mode)
-wanted_rank None req mode want request named shown = contrary named
-wanted_rank (Some v) req mode want request named shown =
-    let same : rank v.mode ≡ rank mode = same_rank v.mode mode (and_second (v.req == req) (same_mode v.mode mode) named) in
-    let some : 0 < rank v.mode = some_rank v.mode shown.2 in
-    (shown.0 ∙ same, shown.1 ∙ equal_numbers v.req req (and_first (v.req == req) (same_mode v.mode mode) named), omega arith)
-
--- the same stamp and promise are seen of a client that differs elsewhere
-pub restamped : (n : Node) (x y : Client) (e : ℕ) → y.promised ≡ x.promised → y.stamp ≡ x.stamp → Seen n x e → Seen n y e
-restamped n x y e p q s = record { promised = p ∙ s.promised; past = s.past; now = λ h. q ∙ s.now h; old = λ h. q ∙ s.old h }
-
-given_rank : (mode : Mode) (keep t : Bool) → (keep && is_held mode) ≡ t → min (rank mode) (kept keep) ≡ cond t 1 0
-given_rank mode keep true h = one mode keep h
-  where
-    one : (mode : Mode) (keep : Bool) → (keep && is_held mode) ≡ true → min (rank mode) (kept keep) ≡ 1
-    one Nothing true h = contrary h
-    one Copy true h = refl
-    one Own true h = refl
-    one mode false h = contrary h
-given_rank mode keep false h = none mode keep h
-  where
-    none : (mode : Mode) (keep : Bool) → (keep && is_held mode) ≡ false → min (rank mode) (kept keep) ≡ 0
-    none Nothing true h = refl
-    none Copy true h = contrary (sym h)
-    none Own true h = contrary (sym h)
-    none Nothing false h = refl
-    none Copy false h = refl
-    none Own false h = refl
-
-unfetching : (o : Option Fetch) (fetching : ℕ) (entry : abstract_entry.Entry) → is_none o ≡ true → FetchShown o fetching entry → FetchShown o 0 entry
-unfetching None fetching entry none shown = refl
-unfetching (Some f) fetching entry none shown = contrary none
+use Rattle.xfs_base.proofs.Booleans.{and_first, and_second, by_test}
+use Rattle.token_tie.proofs.SmallFacts.{put_back, some_rank, most_rank, own_rank, equal_numbers, later_exceeds, wanted_rank, restamped, given_rank, unfetching}
 
 module _ (logs : Bool) (g : Setting) (end : ℕ) (w : World) where
   abbrev here : Client
@@ -178,7 +103,7 @@ module _ (logs : Bool) (g : Setting) (end : ℕ) (w : World) where
       let known = s.mode in let counted = s.counted in
       goes_by logs g end w (asks w g.client (rank mode) (l.req + 1) end) _ _ (record here { want = rank mode; request = l.req + 1 })
       (Asks g.client (rank mode) (l.req + 1) end
-      (record { client = s.client; serving = s.serving; some = some_rank mode some; rank = most_rank mode; less = omega arith; unused = omega arith }) settled)
+      (record { client = s.client; serving = s.serving; some = some_rank mode some; upto_own = most_rank mode; less = omega arith; unused = omega arith }) settled)
       refl refl (λ p is. inr is) (λ y is. is)
       (record {
         client = s.client;
@@ -239,7 +164,7 @@ module _ (logs : Bool) (g : Setting) (end : ℕ) (w : World) where
         record {
           sent = sent.offered seen.1;
           live = record { heard = seen.0; newer = seen.2; wanted = want.0; incarnation = s.incarnation ∙ sym s.boot ∙ sym boot; request = want.1; some = want.2 };
-          rank = refl;
+          of_mode = refl;
         },
       )
 

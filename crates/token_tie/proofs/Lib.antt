@@ -7,6 +7,7 @@ pub mod Leaves
 pub mod Managing
 pub mod Promising
 pub mod Recalling
+pub mod SmallFacts
 pub mod Takes
 pub mod TakingOver
 pub mod Wanting

@@ -13,7 +13,7 @@ use Rattle.token_client.specs.declared.held.Held.{Held}
 use Rattle.token_client.specs.declared.output.Out.TheVariants.{Want}
 use Rattle.token_client.specs.Held.{asked, promise_dropped}
 use Rattle.token_client.specs.State.{TokensState, held_of, with_held, epoch_of, is_in_slot}
-use Rattle.token_client.specs.Transition.{Done, ask, fetched_in, all_dropped_in, raised, ask_copy, may_promise, on_promise, is_spent, ask_again, wanted_in, on_tick}
+use Rattle.token_client.specs.Transition.{Done, new_want, fetched_in, all_dropped_in, raised, ask_copy, may_promise, on_promise, is_spent, ask_again, wanted_in, on_tick}
 use Rattle.token_client.proofs.Tables.{put_same}
 use Rattle.token_client.proofs.Promises.{dropped-known, Each, Each-weaker, IsFetched, fetched-facts, agrees-itself}
 use Rattle.token_protocol.specs.Premises.{Premise, SettledEnd}
@@ -22,7 +22,8 @@ use Rattle.token_tie.specs.Seen.{Setting, Local, Shows, local_of}
 use Rattle.token_tie.specs.Taken.{Goes, Took}
 use Rattle.token_tie.specs.Inputs as laws
 use Rattle.token_tie.proofs.Frames.{goes_nowhere, goes_through, shown_on, end_on}
-use Rattle.token_tie.proofs.Leaves.{equal_numbers, promises-goes, drops_promised-goes}
+use Rattle.token_tie.proofs.Leaves.{promises-goes, drops_promised-goes}
+use Rattle.token_tie.proofs.SmallFacts.{equal_numbers}
 use Rattle.token_tie.proofs.Elsewhere.{apart_took, ask-apart, ask_again-apart}
 use Rattle.token_tie.proofs.Takes.{at_block, unheld_rank, ask-there, ask_again-there}
 use Rattle.xfs_base.specs.Modes.{is_held}
@@ -30,7 +31,7 @@ use Rattle.xfs_base.proofs.Booleans.{and_first, and_second, by_test}
 
 -- asking for another block, or for this one, leaves this one's mode
 ask-mode : (g : Setting) (u : TokensState) (block : BlockId) → (held_of (ask_copy u block).state.blocks g.block).mode ≡ (held_of u.blocks g.block).mode
-unfolding ask
+unfolding new_want
 ask-mode g u block =
     by_test (λ (d : Done). (held_of d.state.blocks g.block).mode ≡ (held_of u.blocks g.block).mode) (nat_lt u.req (2 ^ 32 - 1))
     (record { state = record (with_held u block (asked (held_of u.blocks block) (u.req + 1) Copy)) { req = u.req + 1 }; outs = Want block (u.req + 1) 0 Copy ∷ [] }) (still u)

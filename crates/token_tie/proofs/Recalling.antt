@@ -7,7 +7,7 @@ use Rattle.token_client.specs.declared.held.Held.{Held}
 use Rattle.token_client.specs.declared.output.Out.TheVariants.{Want, Gave, Flush}
 use Rattle.token_client.specs.Held.{is_dirty, asked, unfetched, put_off, given_up}
 use Rattle.token_client.specs.State.{TokensState, held_of, with_held}
-use Rattle.token_client.specs.Transition.{Done, is_promised, ask, refetch, give, can_refetch, recalled_above, was_answered, recalled_again, recalled, on_recalled}
+use Rattle.token_client.specs.Transition.{Done, is_promised, new_want, refetch, give, can_refetch, recalled_above, was_answered, recalled_again, recalled, on_recalled}
 use Rattle.token_client.proofs.Tables.{held_of-put_itself}
 use Rattle.token_protocol.specs.Basics.{In}
 use Rattle.token_protocol.specs.Premises.{Premise, SettledEnd}
@@ -16,7 +16,8 @@ use Rattle.token_tie.specs.Seen.{Setting, Local, Shows, SentRecall, recall_seen,
 use Rattle.token_tie.specs.Taken.{ByClient, Goes, Took}
 use Rattle.token_tie.specs.Inputs as laws
 use Rattle.token_tie.proofs.Frames.{goes_nowhere, goes_through, shown_on, epoch_on, end_on}
-use Rattle.token_tie.proofs.Leaves.{equal_numbers, drops_fetch-goes, put_off-goes, gives-goes, gives_again-goes, asks-goes}
+use Rattle.token_tie.proofs.Leaves.{drops_fetch-goes, put_off-goes, gives-goes, gives_again-goes, asks-goes}
+use Rattle.token_tie.proofs.SmallFacts.{equal_numbers}
 use Rattle.token_tie.proofs.Takes.{unheld_rank, lifted}
 use Rattle.xfs_base.specs.Stamps.{is_later}
 use Rattle.xfs_base.proofs.Booleans.{and_first, and_second, by_test, contrary}
@@ -71,7 +72,7 @@ module _ (logs : Bool) (g : Setting) (end : ℕ) where
 
     -- a Recall above the stamp: a fetch is dropped and asked for again, and then the block is given
     recalled_above-here : (stamp : Stamp) (keep : Bool) → SentRecall g.client w stamp keep → stamp.epoch ≡ l.promised → is_later stamp h.stamp ≡ true → At (recalled_above s g.block stamp keep)
-    unfolding recalled_above refetch ask
+    unfolding recalled_above refetch new_want
     recalled_above-here stamp keep sent same later =
         let p = r.shows.stamps.promised in
         let high = r.promised in
@@ -83,7 +84,7 @@ module _ (logs : Bool) (g : Setting) (end : ℕ) where
         let outs = Want g.block (s.req + 1) 0 Copy ∷ [] in
         let Given : Done → Type 0 = λ (d : Done). At (after d.outs (give d.state g.block stamp keep)) in
         by_test At (can_refetch s g.block) (after (refetch s g.block).outs (give (refetch s g.block).state g.block stamp keep)) (still s)
-        (λ room. by_test Given (is_some h.fetch) (ask dropped g.block Copy) (still s)
+        (λ room. by_test Given (is_some h.fetch) (new_want dropped g.block Copy) (still s)
         (λ some. by_test Given (nat_lt s.req (2 ^ 32 - 1)) (record { state = u; outs = outs }) (still dropped)
         (λ _.
         let m = record l { held = unfetched h } in

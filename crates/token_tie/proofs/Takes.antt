@@ -18,7 +18,7 @@ use Rattle.token_client.specs.declared.output.Out.{Out}
 use Rattle.token_client.specs.declared.output.Out.TheVariants.{Want, Read, Ready}
 use Rattle.token_client.specs.Held.{is_asking, must_ask, is_answer, is_wanted, is_dirty, may_write, is_settled_by, may_end_fetch, may_evict, asked, asked_again, owned, copy_granted, grant_taken, copied, fetch_ended, written, version_settled, let_go, unasked}
 use Rattle.token_client.specs.State.{TokensState, held_of, with_held}
-use Rattle.token_client.specs.Transition.{Done, is_promised, ask, on_need, accepts, copy_next, grant_next, on_granted, on_supplied, serves, supplies, on_forwarded, on_wrote, on_settled, on_fetched, on_evict, on_reask, on_quit, is_spent, repeated, ask_again}
+use Rattle.token_client.specs.Transition.{Done, is_promised, new_want, on_need, accepts, copy_next, grant_next, on_granted, on_supplied, serves, supplies, on_forwarded, on_wrote, on_settled, on_fetched, on_evict, on_reask, on_quit, is_spent, repeated, ask_again}
 use Rattle.token_client.proofs.SoundBlocks.{asks_by_want}
 use Rattle.token_client.proofs.Tables.{held_of-put_itself}
 use Rattle.token_protocol.specs.Premises.{Premise, SettledEnd, PlaceRead}
@@ -82,8 +82,8 @@ module _ (logs : Bool) (g : Setting) (end : ℕ) where
 
   -- a want is asked, in any state that is shown
   pub ask-there : (v : World) (u : TokensState) (mode : Mode) → Shows g v.epoch (local_of u g.block) (v.client g.client) → Premise logs (SettledEnd v g.client end) → is_held mode ≡ true → rank (held_of u.blocks g.block).mode < rank mode
-      → Took logs g end v (ask u g.block mode)
-  unfolding ask
+      → Took logs g end v (new_want u g.block mode)
+  unfolding new_want
   ask-there v u mode shows settled_ some less =
       let m = local_of u g.block in
       by_test (Took logs g end v) (nat_lt u.req (2 ^ 32 - 1)) (record { state = record (with_held u g.block (asked m.held (u.req + 1) mode)) { req = u.req + 1 }; outs = Want g.block (u.req + 1) 0 mode ∷ [] }) (still u)
@@ -113,13 +113,13 @@ module _ (logs : Bool) (g : Setting) (end : ℕ) where
     stays : At (still s)
     stays = goes_nowhere logs g end w l r.shows
 
-    asks-here : (mode : Mode) → is_held mode ≡ true → rank h.mode < rank mode → At (ask s g.block mode)
+    asks-here : (mode : Mode) → is_held mode ≡ true → rank h.mode < rank mode → At (new_want s g.block mode)
     asks-here mode some less = ask-there w s mode r.shows r.settled some less
 
     pub on_need-here : (mode : Mode) → At (on_need s g.block mode)
     unfolding on_need
     on_need-here mode =
-        by_test At (must_ask h mode) (ask s g.block mode) (still s)
+        by_test At (must_ask h mode) (new_want s g.block mode) (still s)
         (λ t. let n = needed h.mode mode (not_true (allows h.mode mode) (and_second (not (is_asking h) && is_none h.giving) (not (allows h.mode mode)) t)) in asks-here mode n.0 n.1)
         (λ t. stays)
 
@@ -240,7 +240,7 @@ module _ (logs : Bool) (g : Setting) (end : ℕ) where
 
     pub on_reask-here : At (on_reask s g.block)
     unfolding on_reask
-    on_reask-here = by_test At (is_some h.fetch) (ask s g.block Copy) (still s) (λ t. asks-here Copy refl (let z = unheld_rank h.mode ((r.sound.each g.block).fetch_unheld t) in omega arith)) (λ t. stays)
+    on_reask-here = by_test At (is_some h.fetch) (new_want s g.block Copy) (still s) (λ t. asks-here Copy refl (let z = unheld_rank h.mode ((r.sound.each g.block).fetch_unheld t) in omega arith)) (λ t. stays)
 
     pub on_quit-here : At (on_quit s g.block)
     unfolding on_quit

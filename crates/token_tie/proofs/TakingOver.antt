@@ -27,7 +27,7 @@ use Rattle.token_manager.proofs.Shares.{holder_cmp_total, holder_laws, belief}
 use Rattle.token_protocol.proofs.StampsSeen.{activated}
 use Rattle.token_tie.specs.Seen.{ValueShown, rank, node_seen}
 use Rattle.token_tie.specs.Epochs.{SuppliesNewest, RestartShows, ActivationShows, ActivationManages, reported, all_reported, ReportsBelieved}
-use Rattle.token_tie.proofs.Leaves.{equal_numbers}
+use Rattle.token_tie.proofs.SmallFacts.{equal_numbers}
 use Rattle.xfs_base.specs.Modes.{is_held, is_nothing, is_own, same_mode}
 use Rattle.token_client.proofs.Tables.{InOrder}
 use Rattle.xfs_base.proofs.Booleans.{and_first, and_second, by_test, contrary}

@@ -39,7 +39,7 @@ by_block b P here there block =
 
 -- what is reached is sound
 pub reached_sound : (s : SlotState) → Reached s → Sound s
-reached_sound s r = subst Sound (sym r.is) (steps_keep transition Sound sound-transition (started r.epoch r.index r.beliefs r.applied) r.taken (sound-start r.epoch r.index r.beliefs r.applied r.alone))
+reached_sound s r = subst Sound (sym r.reached) (steps_keep transition Sound sound-transition (started r.epoch r.index r.beliefs r.applied) r.taken (sound-start r.epoch r.index r.beliefs r.applied r.alone))
 
 -- what isn't dropped wants something, finds no want that waits, and names an end that is applied
 pub kept_all : (a b c : Bool) → (a || b || c) ≡ false → (a ≡ false) × (b ≡ false) × (c ≡ false)

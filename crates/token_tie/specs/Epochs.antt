@@ -28,7 +28,8 @@ use Rattle.std.specs.Map.{keys_of}
 -- A client that serves a supplies Forward the history's value of that version, where holders have the newest.
 abbrev pub SuppliesNewest : Type 0
 SuppliesNewest =
-    (g : Setting) (w : World) (s : TokensState) (stamp : Stamp) (ver : ℕ) (value : Option (List ℕ)) → Shows g w.epoch (local_of s g.block) (w.client g.client) → (0 < (w.client g.client).mode → HasNewest w g.client)
+    (g : Setting) (w : World) (s : TokensState) (stamp : Stamp) (ver : ℕ) (value : Option (List ℕ))
+    → Shows g w.epoch (local_of s g.block) (w.client g.client) → (0 < (w.client g.client).mode → HasNewest w g.client)
     → serves s g.block stamp ver ≡ true → (held_of s.blocks g.block).value ≡ Some value → (g.number value ≡ w.value_at ver) × (ver ≡ w.newest)
 
 -- A client that fell and returns starts anew: nothing is asked or held, under its new incarnation and promise.
@@ -59,5 +60,6 @@ all_reported rows (c ∷ cs) = reported c (rows c) ++ all_reported rows cs
 -- What each client holds of a block of the slot is believed of it.
 abbrev pub ReportsBelieved : Type 0
 ReportsBelieved =
-    (slot : ℕ) (blocks : ℕ → List (BlockId × Held)) (cs : List ℕ) (b : BlockId) (c : ℕ) → ((d : ℕ) → IsStrictlySortedBy block_cmp (keys_of (blocks d))) → is_in_slot slot b ≡ true → Contains cs c
+    (slot : ℕ) (blocks : ℕ → List (BlockId × Held)) (cs : List ℕ) (b : BlockId) (c : ℕ)
+    → ((d : ℕ) → IsStrictlySortedBy block_cmp (keys_of (blocks d))) → is_in_slot slot b ≡ true → Contains cs c
     → rank (held_of (blocks c) b).mode ≤ share_of (all_believed [] (all_reported (λ d. held_in slot (blocks d)) cs)) b c

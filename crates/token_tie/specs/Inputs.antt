@@ -59,29 +59,37 @@ Brings logs g w s Tick = Unit {0}
 
 -- Each input is taken by steps of the client.
 abbrev pub TakesInputs : Type 0
-TakesInputs = (logs : Bool) (g : Setting) (end : ℕ) (w : World) (s : TokensState) (input : inputs.In) → Ready logs g end w s → Brings logs g w s input → Took logs g end w (transition s input)
+TakesInputs =
+    (logs : Bool) (g : Setting) (end : ℕ) (w : World) (s : TokensState) (input : inputs.In) → Ready logs g end w s → Brings logs g w s input
+    → Took logs g end w (transition s input)
 
 -- a grant to own, and the write of the waiting call
 abbrev pub granted_and_wrote : TokensState → Stamp → ℕ → ℕ → BlockId → Entry → Option (List ℕ) → Done
-granted_and_wrote s stamp inc req block entry value = after (on_granted s block stamp inc req Own entry).outs (on_wrote (on_granted s block stamp inc req Own entry).state block value)
+granted_and_wrote s stamp inc req block entry value =
+    after (on_granted s block stamp inc req Own entry).outs (on_wrote (on_granted s block stamp inc req Own entry).state block value)
 
 -- An accepted grant to own, with the write that it was wanted for, is one step.
 abbrev pub OwnsAndWrites : Type 0
 OwnsAndWrites =
-    (logs : Bool) (g : Setting) (end : ℕ) (w : World) (s : TokensState) (stamp : Stamp) (inc req : ℕ) (entry : Entry) (value : Option (List ℕ)) → Ready logs g end w s → SentOffer g.client w stamp inc req Own (entry_seen entry)
-    → accepts s g.block stamp inc req Own ≡ true → nat_lt entry.ver (2 ^ 64 - 1) ≡ true → Took logs g end w (granted_and_wrote s stamp inc req g.block entry value)
+    (logs : Bool) (g : Setting) (end : ℕ) (w : World) (s : TokensState) (stamp : Stamp) (inc req : ℕ) (entry : Entry) (value : Option (List ℕ))
+    → Ready logs g end w s → SentOffer g.client w stamp inc req Own (entry_seen entry)
+    → accepts s g.block stamp inc req Own ≡ true → nat_lt entry.ver (2 ^ 64 - 1) ≡ true
+    → Took logs g end w (granted_and_wrote s stamp inc req g.block entry value)
 
 -- a grant to own, let go unwritten
 abbrev pub granted_and_evicted : TokensState → Stamp → ℕ → ℕ → BlockId → Entry → Done
-granted_and_evicted s stamp inc req block entry = after (on_granted s block stamp inc req Own entry).outs (on_evict (on_granted s block stamp inc req Own entry).state block)
+granted_and_evicted s stamp inc req block entry =
+    after (on_granted s block stamp inc req Own entry).outs (on_evict (on_granted s block stamp inc req Own entry).state block)
 
 abbrev pub OwnsAndDeclines : Type 0
 OwnsAndDeclines =
-    (logs : Bool) (g : Setting) (end : ℕ) (w : World) (s : TokensState) (stamp : Stamp) (inc req : ℕ) (entry : Entry) → Ready logs g end w s → SentOffer g.client w stamp inc req Own (entry_seen entry)
+    (logs : Bool) (g : Setting) (end : ℕ) (w : World) (s : TokensState) (stamp : Stamp) (inc req : ℕ) (entry : Entry) → Ready logs g end w s
+    → SentOffer g.client w stamp inc req Own (entry_seen entry)
     → accepts s g.block stamp inc req Own ≡ true → Took logs g end w (granted_and_evicted s stamp inc req g.block entry)
 
 -- A segment is settled: the log's step is seen in what the tokens take of it.
 abbrev pub SettlesBlocks : Type 0
 SettlesBlocks =
-    (logs : Bool) (g : Setting) (end : ℕ) (w : World) (s : TokensState) (ver : ℕ) → Ready logs g end w s → MaySettle w g.client → Premise logs (SegmentFlying w g.client) → (flying_row w g.client).version ≡ ver → ver ≤ (held_of s.blocks g.block).ver
+    (logs : Bool) (g : Setting) (end : ℕ) (w : World) (s : TokensState) (ver : ℕ) → Ready logs g end w s → MaySettle w g.client
+    → Premise logs (SegmentFlying w g.client) → (flying_row w g.client).version ≡ ver → ver ≤ (held_of s.blocks g.block).ver
     → Step logs w (settles w g.client) × Shows g w.epoch (local_of (on_settled s g.block ver).state g.block) ((settles w g.client).client g.client)

@@ -24,7 +24,7 @@ pub record Reached (s : SlotState) : Type 0 where
   pub applied : List ℕ
   pub taken : List inputs.In
   pub alone : OwnsAlone (started epoch index beliefs applied).beliefs
-  pub is : s ≡ state_after (started epoch index beliefs applied) taken
+  pub reached : s ≡ state_after (started epoch index beliefs applied) taken
 
 -- what the world owes each input: that a Want or Gave was sent, and that Deltas tell what their log filed
 abbrev pub Brings : Bool → BlockId → World → SlotState → inputs.In → Type 0
@@ -36,4 +36,6 @@ Brings logs b w s Tick = Unit {0}
 
 -- Each input of a slot is taken by steps of the manager.
 abbrev pub SlotTakes : Type 0
-SlotTakes = (logs : Bool) (b : BlockId) (w : World) (s : SlotState) (input : inputs.In) → Reached s → Manages b s w → Brings logs b w s input → Runs logs b w (transition s input)
+SlotTakes =
+    (logs : Bool) (b : BlockId) (w : World) (s : SlotState) (input : inputs.In) → Reached s → Manages b s w → Brings logs b w s input
+    → Runs logs b w (transition s input)

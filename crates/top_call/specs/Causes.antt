@@ -10,6 +10,6 @@ abbrev pub Rose : ℕ → ℕ → Type 0
 Rose before now = next_count before ≤ now
 
 -- the count does not fall, and rose where the call failed
-pub record HasCause {T E : Type 0} (before now : ℕ) (result : Result T E) : Type 0 where
+pub record CountsFaults {T E : Type 0} (before now : ℕ) (result : Result T E) : Type 0 where
   pub later : before ≤ now
   pub failed : OnErr result (Rose before now)

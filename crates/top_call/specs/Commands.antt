@@ -1,5 +1,5 @@
 -- What the words after the program's name ask for.
-use Rattle.std.specs.Prelude.{◌≤◌, ⊤, ℕ, Bool, true, false, List, [], ◌∷◌, codes, Option, Some, None, if◌then◌else◌}
+use Rattle.std.specs.Prelude.{◌≤◌, ℕ, Bool, true, false, List, [], ◌∷◌, codes, Option, Some, None, if◌then◌else◌}
 use Rattle.std.specs.Str.{bytes_eq}
 use Rattle.script_text.specs.Reading.{number_in}
 use Rattle.top_call.specs.declared.command.Command.{Command}
@@ -48,8 +48,8 @@ reads (Some Audit) = true
 
 -- a script that is drawn has at most 2,000 turns
 abbrev pub HasFewTurns : Option Command → Type 0
-HasFewTurns None = ⊤
-HasFewTurns (Some Run) = ⊤
+HasFewTurns None = Unit {0}
+HasFewTurns (Some Run) = Unit {0}
 HasFewTurns (Some (Gen drawn)) = drawn.turns ≤ 2000
 HasFewTurns (Some (Big drawn)) = drawn.turns ≤ 2000
-HasFewTurns (Some Audit) = ⊤
+HasFewTurns (Some Audit) = Unit {0}

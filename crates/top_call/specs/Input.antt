@@ -1,5 +1,5 @@
 -- What reading an input to its end gives.
-use Rattle.std.specs.Prelude.{◌≡◌, ℕ, List, take, Option, Some, None, ⊤}
+use Rattle.std.specs.Prelude.{◌≡◌, ℕ, List, take, Option, Some, None}
 
 -- the most that is read
 abbrev pub limit : ℕ
@@ -7,5 +7,5 @@ limit = 1048577
 
 -- the input, read to its end or to the limit, where the source tells it
 abbrev pub ReadWhole : Option (List ℕ) → List ℕ → Type 0
-ReadWhole None text = ⊤
+ReadWhole None text = Unit {0}
 ReadWhole (Some all) text = text ≡ take limit all

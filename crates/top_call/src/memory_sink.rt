@@ -2,7 +2,7 @@
 ghost use Rattle.std.specs.Prelude.{◌≡◌, ◌<◌, ◌≤◌, ◌+◌, ◌-◌, ◌^◌, ◌++◌, ◌↔◌, [], IsErr, Some, IfOk, length, take, true};
 ghost use Rattle.std.specs.Io.{WritesAtMost};
 ghost use Rattle.std.specs.Io.KnownBytes.{WriteAppends};
-ghost use Rattle.top_call.specs.Causes.{Rose, HasCause, next_count};
+ghost use Rattle.top_call.specs.Causes.{Rose, CountsFaults, next_count};
 ghost use Rattle.top_call.specs.Memory.{is_named, taken_of};
 
 use crate::Sink;
@@ -75,7 +75,7 @@ impl Sink for MemSink {
     fn write(&mut self, piece: &[u8]) -> Result<usize, Failed>
         ensures bound { WritesAtMost result piece.now }
         ensures bytes { WriteAppends (Some self.old.written) (Some self.new.written) result piece.now }
-        ensures cause { HasCause self.old.faults self.new.faults result }
+        ensures cause { CountsFaults self.old.faults self.new.faults result }
         ensures nothing { IfOk result (λ n. n ≡ 0 → 0 < length piece.now → Rose self.old.faults self.new.faults) }
         // It fails exactly where the call's number is named, and else takes all that it may.
         ensures named { IsErr result ↔ (is_named (next_count self.old.calls) self.old.fails ≡ true) }

@@ -3,7 +3,7 @@ ghost use Rattle.std.specs.Prelude.{◌≡◌, ◌<◌, ◌≤◌, ◌+◌, ◌-
 ghost use Rattle.std.specs.List.{list_any};
 ghost use Rattle.std.specs.Io.{ReadsAtMost};
 ghost use Rattle.std.specs.Io.KnownBytes.{ReadConsumes};
-ghost use Rattle.top_call.specs.Causes.{HasCause, next_count};
+ghost use Rattle.top_call.specs.Causes.{CountsFaults, next_count};
 ghost use Rattle.top_call.specs.Memory.{is_named};
 
 use crate::Source;
@@ -74,7 +74,7 @@ impl Source for MemSource {
     fn read(&mut self, into: &mut [u8]) -> Result<usize, Failed>
         ensures bound { ReadsAtMost result into.new }
         ensures bytes { ReadConsumes (Some self.old.left) (Some self.new.left) result into.new }
-        ensures cause { HasCause self.old.faults self.new.faults result }
+        ensures cause { CountsFaults self.old.faults self.new.faults result }
         // It fails exactly where the call's number is named, and else gives all that it may.
         ensures named { IsErr result ↔ (is_named (next_count self.old.calls) self.old.fails ≡ true) }
         ensures gives { IfOk result (λ n. n ≡ min (min (length self.old.left) (length into.new)) self.old.piece) }

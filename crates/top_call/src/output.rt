@@ -1,7 +1,7 @@
 //! Writing a whole text.
 ghost use Rattle.std.specs.Prelude.{◌≡◌, ◌<◌, ◌≤◌, [], length, take, IfOk, OnOk, OnErr};
 ghost use Rattle.std.specs.Io.KnownBytes.{Appends};
-ghost use Rattle.top_call.specs.Causes.{HasCause};
+ghost use Rattle.top_call.specs.Causes.{CountsFaults};
 ghost use Rattle.top_call.specs.Output.{AppendsFront};
 
 use crate::Sink;
@@ -13,7 +13,7 @@ pub fn write_turn<K: Sink>(sink: &mut K, piece: &[u8]) -> Result<usize, Failed>
     ensures took { IfOk result (λ n. (0 < n) × (n ≤ length piece.now)) }
     ensures wrote { IfOk result (λ n. Appends (K.written sink.old) (K.written sink.new) (take n piece.now)) }
     ensures nothing { OnErr result (Appends (K.written sink.old) (K.written sink.new) []) }
-    ensures cause { HasCause (K.faults sink.old) (K.faults sink.new) result }
+    ensures cause { CountsFaults (K.faults sink.old) (K.faults sink.new) result }
 {
     let taken = sink.write(piece)?;
     if taken == 0 {
@@ -27,7 +27,7 @@ pub fn write_turn<K: Sink>(sink: &mut K, piece: &[u8]) -> Result<usize, Failed>
 pub fn write_output<K: Sink>(sink: &mut K, text: &[u8]) -> Result<(), Failed>
     ensures ok { OnOk result (Appends (K.written sink.old) (K.written sink.new) text.now) }
     ensures front { OnErr result (AppendsFront (K.written sink.old) (K.written sink.new) text.now) }
-    ensures cause { HasCause (K.faults sink.old) (K.faults sink.new) result }
+    ensures cause { CountsFaults (K.faults sink.old) (K.faults sink.new) result }
 {
     let mut done = 0;
     while done < text.len() {

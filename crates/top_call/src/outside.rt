@@ -3,7 +3,7 @@ ghost use Rattle.std.specs.Prelude.{◌≡◌, ◌<◌, ◌≤◌, List, ℕ, le
 ghost use Rattle.std.specs.declared.option.Option.{Option};
 ghost use Rattle.std.specs.Io.{ReadsAtMost, WritesAtMost};
 ghost use Rattle.std.specs.Io.KnownBytes.{ReadConsumes, WriteAppends};
-ghost use Rattle.top_call.specs.Causes.{Rose, HasCause};
+ghost use Rattle.top_call.specs.Causes.{Rose, CountsFaults};
 
 use xfs_base::Failed;
 
@@ -22,7 +22,7 @@ pub trait Source {
     fn read(&mut self, into: &mut [u8]) -> Result<usize, Failed>
         ensures bound { ReadsAtMost result into.new }
         ensures bytes { ReadConsumes (left self.old) (left self.new) result into.new }
-        ensures cause { HasCause (faults self.old) (faults self.new) result };
+        ensures cause { CountsFaults (faults self.old) (faults self.new) result };
 }
 
 /// Where bytes are written. A sink means the bytes written, where it tells them, and how often a write
@@ -40,6 +40,6 @@ pub trait Sink {
     fn write(&mut self, piece: &[u8]) -> Result<usize, Failed>
         ensures bound { WritesAtMost result piece.now }
         ensures bytes { WriteAppends (written self.old) (written self.new) result piece.now }
-        ensures cause { HasCause (faults self.old) (faults self.new) result }
+        ensures cause { CountsFaults (faults self.old) (faults self.new) result }
         ensures nothing { IfOk result (λ n. n ≡ 0 → 0 < length piece.now → Rose (faults self.old) (faults self.new)) };
 }

@@ -1,5 +1,5 @@
 -- Any list of shifts, and how many live blocks they leave to each segment.
-use Rattle.std.specs.Prelude.{ℕ, ◌<◌, List, [], ◌∷◌, Option, ⊤, sum_by}
+use Rattle.std.specs.Prelude.{ℕ, ◌<◌, List, [], ◌∷◌, Option, sum_by}
 use Rattle.std.specs.Option.{ForSome}
 use Rattle.xfs_base.specs.declared.segment.SegName.{SegName}
 use Rattle.usage_table.specs.Counts.{count_of, blocks_at, after_shift}
@@ -16,7 +16,7 @@ after_shifts counts (shift ∷ shifts) = after_shifts (after_shift counts shift.
 
 -- each shift finds a live block in the segment from which it takes one
 abbrev pub AreSound : List (SegName × ℕ) → List Shift → Type 0
-AreSound counts [] = ⊤
+AreSound counts [] = Unit {0}
 AreSound counts (shift ∷ shifts) =
     ForSome shift.from (λ seg. 0 < count_of counts seg) × AreSound (after_shift counts shift.from shift.to) shifts
 

@@ -54,20 +54,20 @@ settle chain (t ∷ ts) h = settle chain ts (settle_falls (holds_flight chain t.
 
 -- a write adds a version; a read of another's version and a sync pin; a fall waits until its client is back; no other act
 -- changes a history (the 1996 paper, "Cache Consistency": consistency is per block, and a revoked owner flushes its changes)
-abbrev pub after : Act → History → History
-after (Wrote client block value) h = change block (append (record { content = value; writer = client })) h
-after (Read client block ver value) h =
+abbrev pub after_act : Act → History → History
+after_act (Wrote client block value) h = change block (append (record { content = value; writer = client })) h
+after_act (Read client block ver value) h =
     if is_by_other client ver (h.of_block block).versions then change block (pin ver) h else h
-after (Synced client) h =
+after_act (Synced client) h =
     record h { of_block = λ b. pin_all client (h.of_block b) }
-after (Fell client flight falls) h = tell client (record { flight = flight; falls = falls }) h
-after (Back client chain) h = clear client (settle chain (h.told client) h)
-after (Lost node seg) h = h
-after (Filed seg) h = h
-after (Dropped seg) h = h
-after (Answered node item answer) h = h
+after_act (Fell client flight falls) h = tell client (record { flight = flight; falls = falls }) h
+after_act (Back client chain) h = clear client (settle chain (h.told client) h)
+after_act (Lost node seg) h = h
+after_act (Filed seg) h = h
+after_act (Dropped seg) h = h
+after_act (Answered node item answer) h = h
 
 -- the histories that a list of acts leaves
 abbrev pub history_after : List Act → History → History
 history_after [] h = h
-history_after (a ∷ rest) h = history_after rest (after a h)
+history_after (a ∷ rest) h = history_after rest (after_act a h)

@@ -8,7 +8,7 @@ use Rattle.version_model.specs.declared.act.Fall.{Fall}
 use Rattle.version_model.specs.History.{Version, BlockHistory, History, content_at, nothing_yet}
 use Rattle.version_model.specs.declared.verdict.Verdict.{Verdict}
 use Rattle.version_model.specs.declared.verdict.Verdict.TheVariants.{Legal, Illegal}
-use Rattle.version_model.specs.Effects.{after, history_after}
+use Rattle.version_model.specs.Effects.{after_act, history_after}
 
 -- the newest version is by this client
 abbrev pub IsNewestBy : ℕ → List Version → Type 0
@@ -45,7 +45,7 @@ IsLegalIn (Answered node item answer) h = Unit {0}
 -- each act is legal in the history that the acts before it leave
 abbrev pub AreLegalFrom : History → List Act → Type 0
 AreLegalFrom h [] = Unit {0}
-AreLegalFrom h (a ∷ rest) = IsLegalIn a h × AreLegalFrom (after a h) rest
+AreLegalFrom h (a ∷ rest) = IsLegalIn a h × AreLegalFrom (after_act a h) rest
 
 -- the same of all acts of a run
 abbrev pub AreLegal : List Act → Type 0

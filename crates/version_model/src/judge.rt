@@ -2,7 +2,7 @@
 ghost use Rattle.std.specs.Prelude.{◌≡◌, ◌↔◌, ℕ, false, drop, IfOk, OnOk, IsTrue};
 ghost use Rattle.std.specs.List.{AllByRecursion};
 ghost use Rattle.xfs_base.specs.Blocks.{same_block};
-ghost use Rattle.version_model.specs.Effects.{after};
+ghost use Rattle.version_model.specs.Effects.{after_act};
 ghost use Rattle.version_model.specs.Legal.{IsLegalIn, IsVerdict, MayFall, NamesNoBlockTwice};
 ghost use Rattle.version_model.specs.Shown.{shown};
 
@@ -73,7 +73,7 @@ impl Histories {
 
     /// The histories after one act more.
     fn take(&mut self, alloc: Global, act: &Act) -> Mem<()>
-        ensures { OnOk result (shown self.new ≡ after act.now (shown self.old)) }
+        ensures { OnOk result (shown self.new ≡ after_act act.now (shown self.old)) }
     {
         match act {
             Act::Wrote {

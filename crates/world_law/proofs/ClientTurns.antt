@@ -10,10 +10,12 @@ use Rattle.node_base.specs.declared.effects.Effect.{Effect}
 use Rattle.node_base.specs.Effects.{packets_of}
 use Rattle.node_tie.proofs.ManagerFrames.{manager_on}
 use Rattle.node_tie.specs.AskingEvents.{PhaseAsks}
-use Rattle.node_tie.specs.ClientEvents.{ClientAgrees, ClientGoes, ClientStands, WelcomeRises}
-use Rattle.node_tie.specs.Sight.{ClientDoes, ClientSends}
+use Rattle.node_tie.specs.CleanerEvents.{CleanerStands, CleanerWelcomed}
+use Rattle.node_tie.specs.ClientEvents.{ClientAgrees, ClientDid, ClientGoes, ClientStands, WelcomeRises}
+use Rattle.node_tie.specs.Sight.{ClientSends}
 use Rattle.store_nodes.specs.declared.registry_node.RegistryNode.{RegistryNode}
 use Rattle.token_client.specs.State.{TokensState, epoch_of}
+use Rattle.token_law.proofs.Promises.{any_promise, promised_stays, with_promise}
 use Rattle.token_law.specs.Net.{Net}
 use Rattle.token_protocol.specs.Basics.{put, In}
 use Rattle.token_protocol.proofs.Refining.{put_each}
@@ -79,6 +81,9 @@ module _ (k : Cluster) (part : ℕ) (RegistrySound : RegistryNode → Type 0) (n
   abbrev sent_now : List Packet
   sent_now = sent ++ map (sent_at clock) (packets_of (Client (lasting_of (s.client c).phase).number) w.outs)
 
+  promised : go.next.promised ≡ s.net.promised
+  promised = promised_stays (members k part) part s.net go.next go.runs
+
   grown : Grown k part s client_scene
   grown = record {
     sent = go.grows;
@@ -91,6 +96,9 @@ module _ (k : Cluster) (part : ℕ) (RegistrySound : RegistryNode → Type 0) (n
     welcomes = λ d m. put_each (λ d (x : ClientNode). m.inc ≤ life_of_client s d → WelcomeRises part (epoch_now k part s) d s.net (s.client d).phase m → WelcomeRises part (epoch_now k part s) d go.next x.phase m)
         s.client c after_node (λ life h. welcome_after part (epoch_now k part s) c s.net (s.client c).phase w.state (members k part) w.outs go m life h)
         (λ d other life h. welcome_frame part (epoch_now k part s) d s.net go.next (go.others d other).0 (s.client d).phase m h) d;
+    cleans = omega arith;
+    promises = omega arith;
+    cleaner = λ m life h. subst (λ x. CleanerWelcomed part x (epoch_now k part s) s.cleaner.phase m) (sym promised) h;
   }
 
   placed : Placed k part nodes_now sent_now client_scene
@@ -100,13 +108,13 @@ module _ (k : Cluster) (part : ℕ) (RegistrySound : RegistryNode → Type 0) (n
         (λ d other pos less. there k nodes (Client c) p at (any.Client after_node) (Client d) (λ same. other (ap number same)) ∙ st.placed.clients d pos less);
     managers = λ j pos most. there k nodes (Client c) p at (any.Client after_node) (Manager j) (λ same. absurd (cc)) ∙ st.placed.managers j pos most;
     servers = λ n pos most. (let h = st.placed.servers n pos most in (h.0, there k nodes (Client c) p at (any.Client after_node) (Server n) (λ same. absurd (cc)) ∙ h.1));
-    cleaner = (st.placed.cleaner.0, there k nodes (Client c) p at (any.Client after_node) Cleaner (λ same. absurd (cc)) ∙ st.placed.cleaner.1);
+    cleaner = there k nodes (Client c) p at (any.Client after_node) Cleaner (λ same. absurd (cc)) ∙ st.placed.cleaner;
     registry = there k nodes (Client c) p at (any.Client after_node) Registry (λ same. absurd (cc)) ∙ st.placed.registry;
   }
 
   sees : (j : ℕ) → 0 < j → j ≤ k.managers → ManagerSees k part client_scene j (s.manager j).phase
   sees j pos most = (let h = st.managers j pos most in record {
-    agrees = manager_on (members k part) part s.net go.next go.grows j (s.manager j).phase (λ e held. go.slots e) h.agrees;
+    agrees = manager_on (members k part) part s.net go.next go.grows (let same = promised in omega arith) j (s.manager j).phase (λ e held. go.slots e) h.agrees;
     within = h.within;
     owns = h.owns;
     fresh = h.fresh;
@@ -116,7 +124,7 @@ module _ (k : Cluster) (part : ℕ) (RegistrySound : RegistryNode → Type 0) (n
 
   new_facts : (q : Packet) → In q (map (sent_at clock) (packets_of (Client (lasting_of (s.client c).phase).number) w.outs)) → Fact k part client_scene q
   new_facts q h =
-      sends (Client (lasting_of (s.client c).phase).number) clock (ClientDoes part go.next.sent c (lasting_of w.state).inc) (Fact k part client_scene)
+      sends (Client (lasting_of (s.client c).phase).number) clock (ClientDid part c s.net go.next.sent (lasting_of w.state).inc w.state) (Fact k part client_scene)
       (λ to m does. fact_of (lasting_of (s.client c).phase).number (number_is part c s.net (s.client c).phase (st.clients c some within).0) to m does) w.outs go.does q h
     where
       life_here : life_of_client client_scene c ≡ (lasting_of w.state).inc
@@ -130,7 +138,7 @@ module _ (k : Cluster) (part : ℕ) (RegistrySound : RegistryNode → Type 0) (n
 
   pub client_turn : Stands k part nodes_now sent_now RegistrySound client_scene
   client_turn = record {
-    runs = runs_on (members k part) part _ s.net go.next st.runs go.runs;
+    runs = runs_on (members k part) part _ (with_promise 1 s.net) (with_promise 1 go.next) st.runs (any_promise (members k part) part 1 s.net go.next go.runs);
     placed = placed;
     sound = st.sound;
     clients = put_each (λ d (x : ClientNode). 0 < d → d < members k part → ClientAgrees part d go.next x.phase × ClientStands part (epoch_now k part s) d go.next x.phase) s.client c after_node
@@ -138,10 +146,11 @@ module _ (k : Cluster) (part : ℕ) (RegistrySound : RegistryNode → Type 0) (n
         (λ d other pos less. (let h = st.clients d pos less in let o = go.others d other in
         (client_frame part d s.net go.next o.0 o.1 go.grows (s.client d).phase h.0, stands_frame part (epoch_now k part s) (epoch_now k part s) d s.net go.next (omega arith) o.0 (s.client d).phase h.1)));
     managers = sees;
+    cleaner = subst (λ x. (x ≤ epoch_now k part s) × CleanerStands part x (epoch_now k part s) s.cleaner.phase) (sym promised) st.cleaner;
     peers = st.peers;
     current = st.current;
     some = st.some;
     before = st.before;
-    entered = λ e z there_. st.entered e z (sym (go.slots e) ∙ there_);
+    entered = λ e z there_. (let h = st.entered e z (sym (go.slots e) ∙ there_) in (h.0, h.1, h.2, h.3, subst (λ x. e ≤ x) (sym promised) h.4));
     facts = λ q h. ⊎_elim (λ old. fact_stays k part s client_scene grown q (st.facts q old)) (λ new. new_facts q new) (in_append sent _ q h);
   }

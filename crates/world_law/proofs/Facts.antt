@@ -1,8 +1,9 @@
 -- What holds of a packet goes on to hold, as the small world and the registry go on.
 use Rattle.std.proofs.Common.{◌≡◌, ℕ, ◌≤◌, ◌<◌, List, refl, sym, subst, ◌∙◌, arith}
 use Rattle.std.proofs.Common.{Bool, true, false, nat_le}
+use Rattle.node_tie.specs.CleanerEvents.{CleanerWelcomed}
 use Rattle.node_tie.specs.ClientEvents.{WelcomeRises}
-use Rattle.node_tie.specs.Sight.{ClientSends, ManagerSends, GrantSeen, ForwardSeen, RecallSeen, SupplySeen}
+use Rattle.node_tie.specs.Sight.{CleanerSends, ClientSends, ManagerSends, GrantSeen, ForwardSeen, RecallSeen, SupplySeen}
 use Rattle.token_law.specs.Net.{Packet as NetPacket}
 use Rattle.token_protocol.specs.Basics.{In}
 use Rattle.wire_msg.specs.declared.body.Body.{Body}
@@ -15,7 +16,7 @@ use Rattle.wire_msg.specs.declared.tokens.Recall.{Recall}
 use Rattle.wire_msg.specs.declared.tokens.Supply.{Supply}
 use Rattle.world_base.specs.declared.cluster.Cluster.{Cluster}
 use Rattle.world_law.proofs.Numbers.{le_of, lt_of}
-use Rattle.world_law.proofs.Standing.{AllTold, ClientWelcomed, Fact, ManagerWelcomed, NewsTold, RegistrySends, Scene, SentBy, Welcomed, epoch_now, life_of_client, life_of_manager, life_told}
+use Rattle.world_law.proofs.Standing.{AllTold, ClientWelcomed, Fact, ManagerWelcomed, NewsTold, RegistrySends, Scene, SentBy, Welcomed, epoch_now, life_of_cleaner, life_of_client, life_of_manager, life_told}
 use Rattle.xfs_base.specs.declared.news.SlotNews.{SlotNews}
 use Rattle.xfs_base.specs.declared.node.NodeId.{NodeId}
 use Rattle.xfs_base.specs.declared.node.NodeId.TheVariants.{Client, Manager, Server, Cleaner, Registry}
@@ -122,6 +123,19 @@ module _ (part : ℕ) (xs ys : List NetPacket) (grows : (x : NetPacket) → In x
   manager_stays most more life later rise less to (body.CkptDone m) h = tt
   manager_stays most more life later rise less to (body.CkptAck m) h = absurd h
 
+pub cleaner_stays : (part promised more life later : ℕ) → promised ≤ more → life ≤ later → (m : Body) → CleanerSends part promised life m → CleanerSends part more later m
+cleaner_stays part promised more life later rise less (body.Report m) h = λ same. up_to m.epoch promised more (h same) rise
+cleaner_stays part promised more life later rise less (body.Hello m) h = up_to m.inc life later h less
+cleaner_stays part promised more life later rise less (body.Deltas m) h = tt
+cleaner_stays part promised more life later rise less (body.Store m) h = tt
+cleaner_stays part promised more life later rise less (body.Fetch m) h = tt
+cleaner_stays part promised more life later rise less (body.Fence m) h = tt
+cleaner_stays part promised more life later rise less (body.List m) h = tt
+cleaner_stays part promised more life later rise less (body.Delete m) h = tt
+cleaner_stays part promised more life later rise less (body.Check m) h = tt
+cleaner_stays part promised more life later rise less (body.UsageAsk m) h = tt
+cleaner_stays part promised more life later rise less _ h = absurd h
+
 -- ---- all packets
 
 module _ (k : Cluster) (part : ℕ) where
@@ -136,6 +150,10 @@ module _ (k : Cluster) (part : ℕ) where
     pub new : (e : ℕ) → epoch_now k part s < e → e ≤ epoch_now k part t → life_told t (t.lord e) ≤ t.since e
     pub welcomes : (c : ℕ) (m : Welcome) → m.inc ≤ life_of_client s c → WelcomeRises part (epoch_now k part s) c s.net (s.client c).phase m
         → WelcomeRises part (epoch_now k part t) c t.net (t.client c).phase m
+    pub cleans : life_of_cleaner s ≤ life_of_cleaner t
+    pub promises : s.net.promised ≤ t.net.promised
+    pub cleaner : (m : Welcome) → m.inc ≤ life_of_cleaner s → CleanerWelcomed part s.net.promised (epoch_now k part s) s.cleaner.phase m
+        → CleanerWelcomed part t.net.promised (epoch_now k part t) t.cleaner.phase m
 
   module _ (s t : Scene) (g : Grown s t) where
     news_stays : (news : SlotNews) → NewsTold k part s news → NewsTold k part t news
@@ -167,7 +185,7 @@ module _ (k : Cluster) (part : ℕ) where
     welcomed_stays (Client c) m all h = client_welcomed_stays c m h
     welcomed_stays (Manager j) m all h = manager_welcomed_stays j m all h
     welcomed_stays (Server n) m all h = tt
-    welcomed_stays Cleaner m all h = tt
+    welcomed_stays Cleaner m all h = record { life = up_to _ _ _ h.life g.cleans; rises = g.cleaner m h.life h.rises }
     welcomed_stays Registry m all h = tt
 
     registry_stays : (to : NodeId) (m : Body) → RegistrySends k part s to m → RegistrySends k part t to m
@@ -209,7 +227,7 @@ module _ (k : Cluster) (part : ℕ) where
     sent_stays (Manager j) to m h =
         (h.0, h.1, manager_stays part s.net.sent t.net.sent g.sent (epoch_now k part s) (epoch_now k part t) (life_of_manager s j) (life_of_manager t j) g.epochs (g.reigns j) to m h.2)
     sent_stays (Server n) to m h = h
-    sent_stays Cleaner to m h = h
+    sent_stays Cleaner to m h = cleaner_stays part s.net.promised t.net.promised (life_of_cleaner s) (life_of_cleaner t) g.promises g.cleans m h
     sent_stays Registry to m h = registry_stays to m h
 
     pub fact_stays : (p : Packet) → Fact k part s p → Fact k part t p

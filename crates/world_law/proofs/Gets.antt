@@ -5,6 +5,7 @@ use Rattle.manager_node.specs.declared.lasting.Lasting.{Lasting as Kept}
 use Rattle.manager_node.specs.declared.phase.Phase.{Phase as ManagerPhase}
 use Rattle.manager_node.specs.declared.phase.Phase.TheVariants.{Down, Waiting, Serving as Serves}
 use Rattle.manager_node.specs.declared.serving.Serving.{Serving}
+use Rattle.node_tie.specs.CleanerEvents.{CleanerGets, NewsLow}
 use Rattle.node_tie.specs.ClientEvents.{ClientGets, GetsBody, NewsWithin}
 use Rattle.node_tie.specs.ManagerEvents.{AllNewsGets, GaveGets, ManagerGets, ReportGets, ServingGets, WaitingGets, WantGets, epoch_in}
 use Rattle.node_tie.specs.Sight.{ForwardSeen, GrantSeen, PollSeen, RecallSeen, SupplySeen}
@@ -36,7 +37,7 @@ all_in K xs each = λ i d less. each (get_or xs i d) (in_get xs i d less)
 module _ (k : Cluster) (part : ℕ) (s : Scene) where
   -- ---- who may have sent it
 
-  grant_told : (from to : NodeId) (m : Grant) → SentBy k part s from to (body.Grant m) → GrantSeen part s.net.sent to m
+  pub grant_told : (from to : NodeId) (m : Grant) → SentBy k part s from to (body.Grant m) → GrantSeen part s.net.sent to m
   grant_told (Client c) to m h = absurd h.2
   grant_told (Manager j) to m h = h.2
   grant_told (Server n) to m h = absurd h
@@ -90,6 +91,9 @@ module _ (k : Cluster) (part : ℕ) (s : Scene) where
   news_within : (c : ℕ) (slots : List SlotNews) → AllTold k part s slots → NewsWithin part (epoch_now k part s) c s.net slots
   news_within c slots all = all_in (λ news. news.slot ≡ part → news.epoch ≤ epoch_now k part s) slots (λ news is same. (all.each news is same).within)
 
+  news_low : (slots : List SlotNews) → AllTold k part s slots → NewsLow part s.net.promised (epoch_now k part s) slots
+  news_low slots all = all_in (λ news. news.slot ≡ part → news.epoch ≤ epoch_now k part s) slots (λ news is same. (all.each news is same).within)
+
   client_body : (c : ℕ) (from to : NodeId) (m : Body) → SentBy k part s from to m → to ≡ Client c → GetsBody part (epoch_now k part s) c s.net (s.client c).phase m
   client_body c from to (body.Want m) h same = tt
   client_body c from to (body.Grant m) h same = subst (λ x. GrantSeen part s.net.sent x m) same (grant_told from to m h)
@@ -127,6 +131,17 @@ module _ (k : Cluster) (part : ℕ) (s : Scene) where
   pub client_gets : (c : ℕ) (q : Packet) → Fact k part s q → q.to ≡ Client c → ClientGets part (epoch_now k part s) c s.net (s.client c).phase q
   client_gets c q fact same = client_body c q.from q.to q.body fact same
 
+  -- ---- the cleaner
+
+  cleaner_body : (from to : NodeId) (m : Body) → SentBy k part s from to m → to ≡ Cleaner → CleanerGets part s.net.promised (epoch_now k part s) s.cleaner.phase m
+  cleaner_body from to (body.Poll m) h same = poll_told from to m h
+  cleaner_body from to (body.MapNews m) h same = news_low m.slots (news_told from to m h)
+  cleaner_body from to (body.Welcome m) h same = (let w = welcome_told from to m h in (news_low m.news.slots w.0, (subst (λ x. Welcomed k part s x m) same w.1).rises))
+  cleaner_body from to _ h same = tt
+
+  pub cleaner_gets : (q : Packet) → Fact k part s q → q.to ≡ Cleaner → CleanerGets part s.net.promised (epoch_now k part s) s.cleaner.phase q.body
+  cleaner_gets q fact same = cleaner_body q.from q.to q.body fact same
+
   -- ---- a manager
 
   free : (e : ℕ) → ((z : SlotState) → s.net.slots e ≡ Some z → ⊥) → s.net.slots e ≡ None
@@ -150,13 +165,13 @@ module _ (k : Cluster) (part : ℕ) (s : Scene) where
   report_gets (Client c) to m h = h
   report_gets (Manager c) to m h = tt
   report_gets (Server c) to m h = tt
-  report_gets Cleaner to m h = tt
+  report_gets Cleaner to m h = h
   report_gets Registry to m h = tt
 
   -- what was entered, its slot's lord was in that life
   abbrev pub Entered : Type 0
   Entered = (e : ℕ) (z : SlotState) → s.net.slots e ≡ Some z
-      → (e ≤ epoch_now k part s) × (0 < s.lord e) × (s.lord e ≤ k.managers) × PastAt k part (s.manager (s.lord e)).phase (s.since e) e
+      → (e ≤ epoch_now k part s) × (0 < s.lord e) × (s.lord e ≤ k.managers) × PastAt k part (s.manager (s.lord e)).phase (s.since e) e × (e ≤ s.net.promised)
 
   module _ (entered : Entered) (j : ℕ) where
     -- nobody has entered an epoch that is new to the manager that it is given to

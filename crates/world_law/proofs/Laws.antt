@@ -1,22 +1,30 @@
 -- Every run of the nodes has one owner: each event keeps a moment standing to the small world of each slot, in which a block has one owner at most.
 use Rattle.std.proofs.Common.{◌≡◌, ℕ, zero, suc, ◌+◌, ◌<◌, true, List, [], ◌∷◌, ◌++◌, Option, None, Some, map, take, slice_get, slice_set, unwrap_or, refl, sym, ap, subst, ◌∙◌, arith}
 use Rattle.std.specs.List.{fold}
+use Rattle.std.proofs.lemmas.List.Elements.{recursion_from_All}
 use Rattle.client_node.specs.declared.phase.Phase.{Phase}
 use Rattle.client_node.specs.declared.phase.Phase.TheVariants.{Down, Opening, Serving as Serves}
-use Rattle.client_node.specs.Phases.{takes}
+use Rattle.client_node.specs.Phases.{lasting_of, takes}
 use Rattle.core_world.specs.AnyNode.{any_start, any_step}
 use Rattle.core_world.specs.declared.any_node.AnyNode.{AnyNode}
 use Rattle.core_world.specs.declared.any_node.AnyNode.TheVariants as any
 use Rattle.manager_node.specs.Events.{happens}
+use Rattle.manager_node.specs.Phases as managers
+use Rattle.node_tie.proofs.StoreFrames.{none_falls}
 use Rattle.node_tie.specs.AskingEvents.{EventsKeepAsking, PhaseAsks, StartsAsking}
+use Rattle.node_tie.specs.CleanerEvents.{CleanerDoes, CleanerGoes, CleanerOwed, CleanerStarts, CleanerTakes}
 use Rattle.node_tie.specs.ClientEvents.{ClientAgrees, ClientGoes, ClientOwed, ClientStands, ClientTakes}
 use Rattle.node_tie.specs.ManagerEvents.{FirstManagerAgrees, ManagerEventGoes, ManagerGoes, EventGets as ManagerEventGets}
 use Rattle.node_tie.specs.RegistryEvents.{RegistryEventGoes, RegistryGoes, RegistrySound, RegistryStarts}
-use Rattle.node_tie.specs.StoreEvents.{CleanerSays, ServersSay}
+use Rattle.node_tie.specs.Sight.{ManagerDoes}
+use Rattle.node_tie.specs.StoreEvents.{ServersSay}
+use Rattle.store_nodes.specs.CleanerEvents as cleaners
 use Rattle.store_nodes.specs.declared.server.Server.{Server as ServerNode}
 use Rattle.token_client.specs.State.{TokensState, held_of}
+use Rattle.token_law.proofs.Promises.{with_promise}
 use Rattle.token_law.specs.Laws.{IsClient, OneOwner}
 use Rattle.token_protocol.specs.Basics.{In}
+use Rattle.version_model.specs.declared.act.Act.{Act}
 use Rattle.wire_msg.specs.declared.packet.Do.{Do}
 use Rattle.wire_msg.specs.declared.packet.Do.TheVariants.{Begin, Deliver, Tick}
 use Rattle.wire_msg.specs.declared.packet.Packet.{Packet}
@@ -31,9 +39,10 @@ use Rattle.world_base.specs.Events.{node_of, what_of}
 use Rattle.world_base.specs.NextWorld.{next_world, sent_at, start_world}
 use Rattle.world_base.specs.Runs.{IsRun, Leads, MayHappen}
 use Rattle.world_law.proofs.ClientTurns.{client_scene, client_turn}
-use Rattle.world_law.proofs.Gets.{client_gets, manager_gets}
+use Rattle.world_law.proofs.Falls.{FallsStand, client_falls, falls_stay}
+use Rattle.world_law.proofs.Gets.{client_gets, cleaner_gets, manager_gets}
 use Rattle.world_law.proofs.ManagerTurns.{delivered, manager_scene, manager_turn}
-use Rattle.world_law.proofs.OtherTurns.{cleaner_turn, server_turn}
+use Rattle.world_law.proofs.OtherTurns.{cleaner_scene, cleaner_turn, server_turn}
 use Rattle.world_law.proofs.Places.{Behind, behind}
 use Rattle.world_law.proofs.RegistryTurns.{registry_scene, registry_turn, slot_below}
 use Rattle.world_law.proofs.Sent.{was_sent}
@@ -58,23 +67,26 @@ pub record NodeLaws : Type 0 where
   pub begins : RegistryStarts
   pub registry : RegistryEventGoes
   pub server : ServersSay
-  pub cleaner : CleanerSays
+  pub cleaner_starts : CleanerStarts
+  pub cleaner : CleanerTakes
 
 pub one_node : {X : Type 0} (a b : X) → Some a ≡ Some b → a ≡ b
 one_node a b same = ap (λ o. unwrap_or o a) same
 
 module _ (laws : NodeLaws) (k : Cluster) (part : ℕ) (of_eight : part < 8) where
-  abbrev pub Good : List AnyNode → List Packet → Type 0
-  Good nodes sent = (s : Scene) × Stands k part nodes sent RegistrySound s
+  abbrev pub Good : List AnyNode → List Packet → List Act → Type 0
+  Good nodes sent acts = (s : Scene) × Stands k part nodes sent RegistrySound s × FallsStand (members k part) s.net acts
 
-  module _ (nodes : List AnyNode) (sent : List Packet) (s : Scene) (st : Stands k part nodes sent RegistrySound s) (place clock : ℕ) (what : Do) where
+  module _ (nodes : List AnyNode) (sent : List Packet) (acts : List Act) (s : Scene) (st : Stands k part nodes sent RegistrySound s) (falls : FallsStand (members k part) s.net acts) (place clock : ℕ) (what : Do) where
     abbrev After : AnyNode → Type 0
-    After node = Good (slice_set nodes place (any_step node what).node) (sent ++ map (sent_at clock) (any_step node what).packets)
+    After node = Good (slice_set nodes place (any_step node what).node) (sent ++ map (sent_at clock) (any_step node what).packets) (acts ++ (any_step node what).acts)
 
     client_after : (c : ℕ) → ((q : Packet) → what ≡ Deliver q → Fact k part s q × (q.to ≡ Client c)) → place_of k (Client c) ≡ Some place → (node : AnyNode) → slice_get nodes place ≡ Some node → After node
     client_after c fact at node is = subst After (one_node (any.Client (s.client c)) node (sym here ∙ is)) (
       client_scene k part RegistrySound nodes sent s st c place clock b.some less at here (takes (s.client c) what) go asks,
       client_turn k part RegistrySound nodes sent s st c place clock b.some less at here (takes (s.client c) what) go asks,
+      client_falls (members k part) part (epoch_now k part s) c b.some less s.net (Client (lasting_of (s.client c).phase).number) acts falls
+          (s.client c).phase (takes (s.client c) what).state (takes (s.client c) what).outs go agreed.0,
     )
       where
         b : Behind 0 k.clients c place
@@ -104,6 +116,9 @@ module _ (laws : NodeLaws) (k : Cluster) (part : ℕ) (of_eight : part < 8) wher
     manager_after j fact at node is = subst After (one_node (any.Manager (s.manager j)) node (sym here ∙ is)) (
       manager_scene k part RegistrySound nodes sent s st j place clock b.some b.within at here what fact (happens (s.manager j) what) go,
       manager_turn k part RegistrySound nodes sent s st j place clock b.some b.within at here what fact (happens (s.manager j) what) go,
+      falls_stay (members k part) s.net go.next acts _ go.tokens go.up
+          (none_falls (ManagerDoes part go.next.sent (epoch_now k part s) (managers.lasting_of (happens (s.manager j) what).state).inc) (Manager (managers.lasting_of (s.manager j).phase).number) (λ a is. is) (happens (s.manager j) what).outs
+          (recursion_from_All (ManagerDoes part go.next.sent (epoch_now k part s) (managers.lasting_of (happens (s.manager j) what).state).inc) (happens (s.manager j) what).outs go.does)) falls,
     )
       where
         b : Behind k.clients k.managers j place
@@ -125,7 +140,7 @@ module _ (laws : NodeLaws) (k : Cluster) (part : ℕ) (of_eight : part < 8) wher
 
     server_after : (n : ℕ) → place_of k (Server n) ≡ Some place → (node : AnyNode) → slice_get nodes place ≡ Some node → After node
     server_after n at node is = subst After (one_node (any.Server there.0) node (sym here ∙ is))
-        (s, server_turn k part RegistrySound nodes sent s st place clock what n at there.0 here (laws.server there.0 what))
+        (s, server_turn k part RegistrySound nodes sent s st place clock what n at there.0 here (laws.server there.0 what).0, falls_stay (members k part) s.net s.net acts _ refl refl (laws.server there.0 what).1 falls)
       where
         b : Behind (k.clients + k.managers) k.servers n place
         b = behind (k.clients + k.managers) k.servers n place at
@@ -136,16 +151,32 @@ module _ (laws : NodeLaws) (k : Cluster) (part : ℕ) (of_eight : part < 8) wher
         here : slice_get nodes place ≡ Some (any.Server there.0)
         here = sym (ap (node_in nodes) at) ∙ there.1
 
-    cleaner_after : place_of k Cleaner ≡ Some place → (node : AnyNode) → slice_get nodes place ≡ Some node → After node
-    cleaner_after at node is = subst After (one_node (any.Cleaner st.placed.cleaner.0) node (sym here ∙ is))
-        (s, cleaner_turn k part RegistrySound nodes sent s st place clock what at st.placed.cleaner.0 here (laws.cleaner st.placed.cleaner.0 what))
+    cleaner_after : ((q : Packet) → what ≡ Deliver q → Fact k part s q × (q.to ≡ Cleaner)) → place_of k Cleaner ≡ Some place → (node : AnyNode) → slice_get nodes place ≡ Some node → After node
+    cleaner_after fact at node is = subst After (one_node (any.Cleaner s.cleaner) node (sym here ∙ is)) (
+      cleaner_scene k part RegistrySound nodes sent s st place clock at here went go,
+      cleaner_turn k part RegistrySound nodes sent s st place clock at here went go,
+      falls_stay (members k part) s.net (record s.net { promised = go.next }) acts _ refl refl
+          (none_falls (CleanerDoes part go.next (cleaners.lasting_of went.state).inc) Cleaner (λ a is. is) went.outs
+          (recursion_from_All (CleanerDoes part go.next (cleaners.lasting_of went.state).inc) went.outs go.does)) falls,
+    )
       where
-        here : slice_get nodes place ≡ Some (any.Cleaner st.placed.cleaner.0)
-        here = sym (ap (node_in nodes) at) ∙ st.placed.cleaner.1
+        here : slice_get nodes place ≡ Some (any.Cleaner s.cleaner)
+        here = sym (ap (node_in nodes) at) ∙ st.placed.cleaner
+
+        went : cleaners.Went_to
+        went = cleaners.takes s.cleaner.peers s.cleaner.phase what
+
+        gets : (x : Do) → what ≡ x → CleanerOwed part s.net.promised (epoch_now k part s) s.cleaner.phase x
+        gets Begin same = tt
+        gets Tick same = tt
+        gets (Deliver q) same = (let f = fact q same in cleaner_gets k part s q f.0 f.1)
+
+        go : CleanerGoes part s.net.promised (epoch_now k part s) s.cleaner.phase went.state went.outs
+        go = laws.cleaner part s.net.promised (epoch_now k part s) of_eight st.cleaner.0 s.cleaner what st.cleaner.1 (gets what refl)
 
     registry_after : ((q : Packet) → what ≡ Deliver q → Fact k part s q) → place_of k Registry ≡ Some place → (node : AnyNode) → slice_get nodes place ≡ Some node → After node
     registry_after fact at node is = subst After (one_node (any.Registry s.registry) node (sym here ∙ is))
-        (registry_scene k part nodes sent s st place clock at here what fact go, registry_turn k part nodes sent s st place clock at here what fact go)
+        (registry_scene k part nodes sent s st place clock at here what fact go, registry_turn k part nodes sent s st place clock at here what fact go, falls_stay (members k part) s.net s.net acts _ refl refl go.acts falls)
       where
         here : slice_get nodes place ≡ Some (any.Registry s.registry)
         here = sym (ap (node_in nodes) at) ∙ st.placed.registry
@@ -157,7 +188,7 @@ module _ (laws : NodeLaws) (k : Cluster) (part : ℕ) (of_eight : part < 8) wher
     node_after (Client c) fact at node is = client_after c fact at node is
     node_after (Manager j) fact at node is = manager_after j fact at node is
     node_after (Server n) fact at node is = server_after n at node is
-    node_after Cleaner fact at node is = cleaner_after at node is
+    node_after Cleaner fact at node is = cleaner_after fact at node is
     node_after Registry fact at node is = registry_after (λ q same. (fact q same).0) at node is
 
   -- what an event delivers was sent, to the node that it happens to
@@ -169,14 +200,17 @@ module _ (laws : NodeLaws) (k : Cluster) (part : ℕ) (of_eight : part < 8) wher
       (let is : packet ≡ q = delivered packet q gets in
       (facts q (subst (λ xs. In q xs) same (was_sent w.sent q (subst (λ x. MayHappen w (events.Deliver x)) is may))), ap (λ (x : Packet). x.to) (sym is)))
 
-  pub event_keeps : (w : World AnyNode) → w.cluster ≡ k → (event : Event) → MayHappen w event → Good w.nodes w.sent → Good (next_world any_step w event).nodes (next_world any_step w event).sent
+  pub event_keeps : (w : World AnyNode) → w.cluster ≡ k → (event : Event) → MayHappen w event → Good w.nodes w.sent w.acts → Good (next_world any_step w event).nodes (next_world any_step w event).sent (next_world any_step w event).acts
   event_keeps w cluster event may good = next_keeps any_step Good w event good
-      (λ place node clock at is. node_after w.nodes w.sent good.0 good.1 place clock (what_of event) (node_of event) (delivered_fact w.sent good.0 good.1.facts w refl event may)
+      (λ place node clock at is. node_after w.nodes w.sent w.acts good.0 good.1 good.2 place clock (what_of event) (node_of event) (delivered_fact w.sent good.0 good.1.facts w refl event may)
       (subst (λ c. place_of c (node_of event) ≡ Some place) cluster at) node is)
 
+  abbrev pub GoodWorld : World AnyNode → Type 0
+  GoodWorld w = Good w.nodes w.sent w.acts
+
   -- so does each front of a run
-  pub front_keeps : (events_ : List Event) (count : ℕ) (w end : World AnyNode) → w.cluster ≡ k → Leads any_step w events_ end → Good w.nodes w.sent
-      → ((fold (next_world any_step) w (take count events_)).cluster ≡ k) × Good (fold (next_world any_step) w (take count events_)).nodes (fold (next_world any_step) w (take count events_)).sent
+  pub front_keeps : (events_ : List Event) (count : ℕ) (w end : World AnyNode) → w.cluster ≡ k → Leads any_step w events_ end → Good w.nodes w.sent w.acts
+      → ((fold (next_world any_step) w (take count events_)).cluster ≡ k) × GoodWorld (fold (next_world any_step) w (take count events_))
   front_keeps [] zero w end cluster leads good = (cluster, good)
   front_keeps [] (suc count) w end cluster leads good = (cluster, good)
   front_keeps (event ∷ more) zero w end cluster leads good = (cluster, good)
@@ -208,16 +242,16 @@ module _ (laws : NodeLaws) (k : Cluster) (part : ℕ) (of_eight : part < 8) wher
 
 -- each moment of a run stands to the small world of each slot
 pub front : (laws : NodeLaws) (e : Estate AnyNode) → IsSetup e.script.setup → IsRun any_step any_start e.script e.events e.world → (count part : ℕ) (of_eight : part < 8)
-    → ((moment e count).cluster ≡ cluster_of e.script.setup) × Good laws (cluster_of e.script.setup) part of_eight (moment e count).nodes (moment e count).sent
+    → ((moment e count).cluster ≡ cluster_of e.script.setup) × GoodWorld laws (cluster_of e.script.setup) part of_eight (moment e count)
 unfolding start_world
 front laws e setup run count part of_eight =
     front_keeps laws (cluster_of e.script.setup) part of_eight e.events count (start_world any_start e.script) e.world refl run
-    (start_scene laws.starts_asking laws.first_manager laws.begins e.script setup.managers.0 part of_eight, start_stands laws.starts_asking laws.first_manager laws.begins e.script setup.managers.0 part of_eight)
+    (start_scene laws.starts_asking laws.first_manager laws.cleaner_starts laws.begins e.script setup.managers.0 part of_eight, start_stands laws.starts_asking laws.first_manager laws.cleaner_starts laws.begins e.script setup.managers.0 part of_eight, λ b c names. absurd names.among)
 
 module _ (laws : NodeLaws) (small : OneOwner) where
-  one_owner_now : (w : World AnyNode) (k : Cluster) → w.cluster ≡ k → ((part : ℕ) (of_eight : part < 8) → Good laws k part of_eight w.nodes w.sent) → HasOneOwner w
+  one_owner_now : (w : World AnyNode) (k : Cluster) → w.cluster ≡ k → ((part : ℕ) (of_eight : part < 8) → GoodWorld laws k part of_eight w) → HasOneOwner w
   one_owner_now w k cluster good b c d s t at_c at_d own held =
-      small (members k part) part now.net b (record { run = st.runs; inside = itself part }) c d x.client y.client x.up y.up
+      small (members k part) part (with_promise 1 now.net) b (record { run = st.runs; inside = itself part }) c d x.client y.client x.up y.up
       (subst (λ (t : TokensState). is_own (held_of t.blocks b).mode ≡ true) (sym x.tokens) own) (subst (λ (t : TokensState). is_held (held_of t.blocks b).mode ≡ true) (sym y.tokens) held)
     where
       part : ℕ

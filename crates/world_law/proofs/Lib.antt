@@ -11,6 +11,8 @@ pub mod ManagerTurns
 pub mod RegistryTurns
 pub mod OtherTurns
 pub mod Start
+pub mod Falls
 pub mod Laws
+pub mod Fallen
 pub mod Managers
 pub mod Numbers

@@ -11,10 +11,12 @@ use Rattle.manager_node.specs.declared.slot_phase.SlotPhase.TheVariants as phase
 use Rattle.manager_node.specs.Phases.{Went_to, lasting_of}
 use Rattle.node_base.specs.Effects.{packets_of}
 use Rattle.node_tie.proofs.ManagerFrames.{manager_on}
+use Rattle.node_tie.specs.CleanerEvents.{CleanerStands, CleanerWelcomed}
 use Rattle.node_tie.specs.ManagerEvents.{HeldAt, ManagerAgrees, ManagerGoes, NamedBy, NamedIn, Names, TakingAt, epoch_in, is_serving, is_waiting, slot_in}
 use Rattle.node_tie.specs.Sight.{ManagerDoes, ManagerSends}
 use Rattle.store_nodes.specs.declared.registry_node.RegistryNode.{RegistryNode}
 use Rattle.token_client.specs.State.{TokensState}
+use Rattle.token_law.proofs.Promises.{any_promise, promised_stays, with_promise}
 use Rattle.token_law.specs.Net.{Net}
 use Rattle.token_manager.specs.SlotState.{SlotState}
 use Rattle.token_protocol.specs.Basics.{put, In}
@@ -115,6 +117,9 @@ module _ (k : Cluster) (part : ℕ) (RegistrySound : RegistryNode → Type 0) (n
   up_same : (c : ℕ) → go.next.up c ≡ s.net.up c
   up_same c = ap (λ (f : ℕ → Bool). f c) go.up
 
+  promised : go.next.promised ≡ s.net.promised
+  promised = promised_stays (members k part) part s.net go.next go.runs
+
   grown : Grown k part s manager_scene
   grown = record {
     sent = go.grows;
@@ -125,6 +130,9 @@ module _ (k : Cluster) (part : ℕ) (RegistrySound : RegistryNode → Type 0) (n
     given = λ e within. (refl, refl);
     new = λ e less within. absurd (omega arith);
     welcomes = λ c m life h. welcome_frame part (epoch_now k part s) c s.net go.next (tokens_same c) (s.client c).phase m h;
+    cleans = omega arith;
+    promises = omega arith;
+    cleaner = λ m life h. subst (λ x. CleanerWelcomed part x (epoch_now k part s) s.cleaner.phase m) (sym promised) h;
   }
 
   placed : Placed k part nodes_now sent_now manager_scene
@@ -134,7 +142,7 @@ module _ (k : Cluster) (part : ℕ) (RegistrySound : RegistryNode → Type 0) (n
         (λ _ _. here k nodes (Manager j) p at (any.Manager after_node) (any.Manager (s.manager j)) is)
         (λ d other pos less. there k nodes (Manager j) p at (any.Manager after_node) (Manager d) (λ same. other (ap number same)) ∙ st.placed.managers d pos less);
     servers = λ n pos less. (let h = st.placed.servers n pos less in (h.0, there k nodes (Manager j) p at (any.Manager after_node) (Server n) (λ same. absurd (cc)) ∙ h.1));
-    cleaner = (st.placed.cleaner.0, there k nodes (Manager j) p at (any.Manager after_node) Cleaner (λ same. absurd (cc)) ∙ st.placed.cleaner.1);
+    cleaner = there k nodes (Manager j) p at (any.Manager after_node) Cleaner (λ same. absurd (cc)) ∙ st.placed.cleaner;
     registry = there k nodes (Manager j) p at (any.Manager after_node) Registry (λ same. absurd (cc)) ∙ st.placed.registry;
   }
 
@@ -255,7 +263,7 @@ module _ (k : Cluster) (part : ℕ) (RegistrySound : RegistryNode → Type 0) (n
 
   sees_others : (d : ℕ) → (d ≡ j → ⊥) → 0 < d → d ≤ k.managers → ManagerSees k part manager_scene d (s.manager d).phase
   sees_others d other pos less = (let h = st.managers d pos less in record {
-    agrees = manager_on (members k part) part s.net go.next go.grows d (s.manager d).phase
+    agrees = manager_on (members k part) part s.net go.next go.grows (let same = promised in omega arith) d (s.manager d).phase
         (λ e held. go.slots e (λ mine. other (sym (h.owns e held).0 ∙ (sees.owns e mine).0))) h.agrees;
     within = h.within;
     owns = h.owns;
@@ -286,13 +294,13 @@ module _ (k : Cluster) (part : ℕ) (RegistrySound : RegistryNode → Type 0) (n
           (one_of (is_serving before))
 
   entered_after : (e : ℕ) (z : SlotState) → go.next.slots e ≡ Some z
-      → (e ≤ epoch_now k part s) × (0 < s.lord e) × (s.lord e ≤ k.managers) × PastAt k part (put s.manager j after_node (s.lord e)).phase (s.since e) e
+      → (e ≤ epoch_now k part s) × (0 < s.lord e) × (s.lord e ≤ k.managers) × PastAt k part (put s.manager j after_node (s.lord e)).phase (s.since e) e × (e ≤ go.next.promised)
   entered_after e z there_ = by_slot (s.net.slots e) refl
     where
-      by_slot : (o : Option SlotState) → s.net.slots e ≡ o → (e ≤ epoch_now k part s) × (0 < s.lord e) × (s.lord e ≤ k.managers) × PastAt k part (put s.manager j after_node (s.lord e)).phase (s.since e) e
+      by_slot : (o : Option SlotState) → s.net.slots e ≡ o → (e ≤ epoch_now k part s) × (0 < s.lord e) × (s.lord e ≤ k.managers) × PastAt k part (put s.manager j after_node (s.lord e)).phase (s.since e) e × (e ≤ go.next.promised)
       by_slot (Some y) old =
           let h = st.entered e y old in
-          (h.0, h.1, h.2, put_each (λ d (x : ManagerNode). PastAt k part (s.manager d).phase (s.since e) e → PastAt k part x.phase (s.since e) e) s.manager j after_node (past_after (s.since e) e) (λ d other q. q) (s.lord e) h.3)
+          (h.0, h.1, h.2, put_each (λ d (x : ManagerNode). PastAt k part (s.manager d).phase (s.since e) e → PastAt k part x.phase (s.since e) e) s.manager j after_node (past_after (s.since e) e) (λ d other q. q) (s.lord e) h.3, subst (λ x. e ≤ x) (sym promised) h.4)
       by_slot None none =
           let g = go.entered e z there_ none in
           let o = sees.owns e (taking_held (slot_in part before) e g.0) in
@@ -302,6 +310,7 @@ module _ (k : Cluster) (part : ℕ) (RegistrySound : RegistryNode → Type 0) (n
             subst (λ x. x ≤ k.managers) (sym o.0) most,
             subst (λ x. PastAt k part (put s.manager j after_node x).phase (s.since e) e) (sym o.0)
                 (subst (λ (x : ManagerNode). PastAt k part x.phase (s.since e) e) (sym (put_here s.manager j after_node)) (inr (o.1 ∙ sym (same_life g.1), been_of k part w.state e g.1 g.2))),
+            subst (λ x. e ≤ x) (sym promised) g.3,
           )
 
   new_facts : (q : Packet) → In q (map (sent_at clock) (packets_of (Manager (lasting_of before).number) w.outs)) → Fact k part manager_scene q
@@ -320,12 +329,13 @@ module _ (k : Cluster) (part : ℕ) (RegistrySound : RegistryNode → Type 0) (n
 
   pub manager_turn : Stands k part nodes_now sent_now RegistrySound manager_scene
   manager_turn = record {
-    runs = runs_on (members k part) part _ s.net go.next st.runs go.runs;
+    runs = runs_on (members k part) part _ (with_promise 1 s.net) (with_promise 1 go.next) st.runs (any_promise (members k part) part 1 s.net go.next go.runs);
     placed = placed;
     sound = st.sound;
     clients = λ c pos less. (let h = st.clients c pos less in
         (client_frame part c s.net go.next (tokens_same c) (up_same c) go.grows (s.client c).phase h.0, stands_frame part (epoch_now k part s) (epoch_now k part s) c s.net go.next (omega arith) (tokens_same c) (s.client c).phase h.1));
     managers = put_each (λ d (x : ManagerNode). 0 < d → d ≤ k.managers → ManagerSees k part manager_scene d x.phase) s.manager j after_node (λ _ _. sees_after) sees_others;
+    cleaner = subst (λ x. (x ≤ epoch_now k part s) × CleanerStands part x (epoch_now k part s) s.cleaner.phase) (sym promised) st.cleaner;
     peers = put_each (λ d (x : ManagerNode). 0 < d → d ≤ k.managers → x.peers.clients + 1 ≡ members k part) s.manager j after_node (st.peers j) (λ d other. st.peers d);
     current = st.current;
     some = st.some;

@@ -8,28 +8,42 @@ use Rattle.manager_node.specs.declared.phase.Phase.{Phase}
 use Rattle.manager_node.specs.declared.phase.Phase.TheVariants.{Down, Waiting, Serving as Serves}
 use Rattle.manager_node.specs.declared.slot_phase.SlotPhase.{SlotPhase}
 use Rattle.manager_node.specs.declared.slot_phase.SlotPhase.TheVariants as phase
+use Rattle.log_owner.specs.declared.promised.Promised.{Promised}
 use Rattle.node_base.specs.Setups.{IsSetup}
+use Rattle.node_tie.specs.CleanerEvents.{CleanerStands}
 use Rattle.node_tie.specs.ManagerEvents.{HeldAt, PhaseAgrees, SameButPages, phase_at, slot_in}
 use Rattle.node_tie.specs.RegistryEvents.{RegistrySound}
+use Rattle.node_tie.specs.Sight.{GrantSeen}
+use Rattle.store_nodes.specs.declared.cleaner.Phase.{Phase as CleanerPhase}
+use Rattle.store_nodes.specs.declared.cleaner.Phase.TheVariants as cleaners
 use Rattle.token_client.specs.State.{TokensState, epoch_of, held_of, is_in_slot}
-use Rattle.token_law.specs.Laws.{ActiveEpochsPromised, HoldingsBelieved}
+use Rattle.token_client.specs.Transition.{accepts}
+use Rattle.token_law.proofs.Promises.{with_promise}
+use Rattle.token_law.specs.Laws.{ActiveEpochsPromised, GrantsBelieved, HoldingsBelieved, Reigns}
 use Rattle.token_manager.specs.Laws.{share_of}
 use Rattle.token_manager.specs.SlotState.{SlotState}
+use Rattle.token_protocol.specs.Basics.{In}
 use Rattle.token_tie.specs.Seen.{rank}
+use Rattle.wire_msg.specs.declared.body.Body.{Body}
+use Rattle.wire_msg.specs.declared.body.Body.TheVariants as body
 use Rattle.wire_msg.specs.declared.packet.Packet.{Packet}
+use Rattle.wire_msg.specs.declared.tokens.Grant.{Grant}
 use Rattle.world_base.specs.Cluster.{cluster_of, place_of}
 use Rattle.world_base.specs.declared.cluster.Cluster.{Cluster}
 use Rattle.world_base.specs.declared.estate.Estate.{Estate}
 use Rattle.world_base.specs.declared.world.World.{World}
 use Rattle.world_base.specs.Runs.{IsRun}
+use Rattle.world_law.proofs.Gets.{grant_told}
 use Rattle.world_law.proofs.Laws.{NodeLaws, ServesThere, front, one_node, serves_there}
 use Rattle.world_law.proofs.Places.{behind}
 use Rattle.world_law.proofs.RegistryTurns.{held_known}
-use Rattle.world_law.proofs.Standing.{ManagerSees, Scene, Stands, epoch_now, members}
-use Rattle.world_law.specs.Managers.{EveryRunHasOneManager, HasOneManager, active_at, active_in, active_of, epoch_at, epoch_by}
+use Rattle.world_law.proofs.Sent.{was_sent}
+use Rattle.world_law.proofs.Standing.{ManagerSees, Scene, SentBy, Stands, epoch_now, members}
+use Rattle.world_law.specs.Managers.{EveryRunHasOneManager, HasOneManager, active_at, active_in, active_of, epoch_at, epoch_by, promised_in, promised_of}
 use Rattle.world_law.specs.Owners.{moment, node_in, tokens_at, tokens_of}
 use Rattle.xfs_base.specs.declared.block.BlockId.{BlockId}
-use Rattle.xfs_base.specs.declared.node.NodeId.TheVariants.{Client, Manager, Registry}
+use Rattle.xfs_base.specs.declared.node.NodeId.{NodeId}
+use Rattle.xfs_base.specs.declared.node.NodeId.TheVariants.{Client, Cleaner, Manager, Registry}
 
 module _ (k : Cluster) (part : ℕ) (nodes : List AnyNode) (sent : List Packet) (s : Scene) (st : Stands k part nodes sent RegistrySound s) where
   -- a manager that manages the slot manages it in the small world
@@ -63,7 +77,7 @@ module _ (k : Cluster) (part : ℕ) (nodes : List AnyNode) (sent : List Packet) 
           let b = behind k.clients k.managers j p at in
           by_phase (s.manager j).phase (st.managers j b.some b.within) (sym (ap (active_of part) (st.placed.managers j b.some b.within)) ∙ is)
 
-module _ (laws : NodeLaws) (small_promised : ActiveEpochsPromised) (small_believed : HoldingsBelieved) (e : Estate AnyNode) (setup : IsSetup e.script.setup) (run : IsRun any_step any_start e.script e.events e.world)
+module _ (laws : NodeLaws) (small_promised : ActiveEpochsPromised) (small_believed : HoldingsBelieved) (small_acceptable : GrantsBelieved) (e : Estate AnyNode) (setup : IsSetup e.script.setup) (run : IsRun any_step any_start e.script e.events e.world)
     (count part : ℕ) (of_eight : part < 8) where
   abbrev w : World AnyNode
   w = moment e count
@@ -99,18 +113,45 @@ module _ (laws : NodeLaws) (small_promised : ActiveEpochsPromised) (small_believ
       itself : (n : ℕ) → (n == n) ≡ true
       itself n = grind (arith, nat_tests)
 
+  -- the manager at the registry's epoch is the one that reigns in the small world
+  newest : (j : ℕ) (s : SlotState) (at_j : active_at w part j ≡ Some s) → s.epoch ≡ epoch_at w part → Reigns (with_promise 1 now.net) s.epoch (managed j s at_j).slot
+  newest j s at_j is = record {
+    active = (managed j s at_j).there;
+    latest = λ i z there. (let h = (st.entered i z there).0 in let r = registry_epoch in omega arith);
+  }
+
+  -- a Grant that was sent to a client was sent there
+  granted : (c : ℕ) (packet : Packet) (m : Grant) → In packet w.sent → packet.to ≡ Client c → packet.body ≡ body.Grant m → GrantSeen part now.net.sent (Client c) m
+  granted c packet m sent to is = grant_told k part now packet.from (Client c) m
+      (subst (λ (x : Body). SentBy k part now packet.from (Client c) x) is (subst (λ (x : NodeId). SentBy k part now packet.from x packet.body) to (st.facts packet sent)))
+
+  -- the cleaner has promised what was entered
+  cleaner_above : (j : ℕ) (s : SlotState) (p : Promised) → There k part w.nodes w.sent now st j s → promised_of (node_in w.nodes (place_of k Cleaner)) ≡ Some p → s.epoch ≤ epoch_of p.epochs part
+  cleaner_above j s p x serves = by_phase now.cleaner.phase st.cleaner.1 (sym (ap promised_of st.placed.cleaner) ∙ serves)
+    where
+      by_phase : (q : CleanerPhase) → CleanerStands part now.net.promised (epoch_now k part now) q → promised_in q ≡ Some p → s.epoch ≤ epoch_of p.epochs part
+      by_phase (cleaners.Down l) stands none = absurd (cc)
+      by_phase (cleaners.Opening l o) stands none = absurd (cc)
+      by_phase (cleaners.Serving e) stands has =
+          subst (λ (y : Promised). s.epoch ≤ epoch_of y.epochs part) (one_node e.promised p has) (subst (λ y. s.epoch ≤ y) (sym stands.is) (st.entered s.epoch x.slot x.there).4)
+
   pub has_one : HasOneManager w part
   has_one = record {
     one = λ j i s t at_j at_i same. sym (managed j s at_j).lord ∙ (ap now.lord same ∙ (managed i t at_i).lord);
     below = λ j s at_j. subst (λ x. s.epoch ≤ x) (sym registry_epoch) (managed j s at_j).below;
     promised = λ j c s t at_j at_c. (let x = managed j s at_j in let y = served c t at_c in
-        subst (λ (z : TokensState). s.epoch ≤ epoch_of z.epochs part) y.tokens (small_promised (members k part) part now.net some_block (record { run = st.runs; inside = of_slot }) s.epoch x.slot x.there c y.client));
-    believed = λ j c s t b at_j newest at_c inside. (let x = managed j s at_j in let y = served c t at_c in
+        subst (λ (z : TokensState). s.epoch ≤ epoch_of z.epochs part) y.tokens (small_promised (members k part) part (with_promise 1 now.net) some_block (record { run = st.runs; inside = of_slot }) s.epoch x.slot x.there c y.client));
+    cleaner_promised = λ j s p at_j serves. (let x = managed j s at_j in cleaner_above j s p x (subst (λ cl. promised_of (node_in w.nodes (place_of cl Cleaner)) ≡ Some p) same_cluster serves));
+    believed = λ j c s t b at_j latest at_c inside. (let x = managed j s at_j in let y = served c t at_c in
         subst (λ (z : TokensState). rank (held_of z.blocks b).mode ≤ share_of s.beliefs b c) y.tokens
         (subst (λ beliefs. rank (held_of (now.net.tokens c).blocks b).mode ≤ share_of beliefs b c) (ap (λ (z : SlotState). z.beliefs) x.same)
-        (small_believed (members k part) part now.net b (record { run = st.runs; inside = inside }) s.epoch x.slot
-        (record { active = x.there; latest = λ i z there. (let h = (st.entered i z there).0 in let a = newest in let r = registry_epoch in omega arith) }) c y.client y.up)));
+        (small_believed (members k part) part (with_promise 1 now.net) b (record { run = st.runs; inside = inside }) s.epoch x.slot (newest j s at_j latest) c y.client y.up)));
+    acceptable = λ j c s t packet m at_j latest at_c sent to is inside accepted. (let x = managed j s at_j in let y = served c t at_c in
+        subst (λ beliefs. rank m.mode ≤ share_of beliefs m.block c) (ap (λ (z : SlotState). z.beliefs) x.same)
+        (small_acceptable (members k part) part (with_promise 1 now.net) m.block (record { run = st.runs; inside = inside }) s.epoch x.slot (newest j s at_j latest) c y.client y.up
+        m.stamp m.inc m.req m.mode m.entry (granted c packet m (was_sent w.sent packet sent) to is inside)
+        (subst (λ (z : TokensState). accepts z m.block m.stamp m.inc m.req m.mode ≡ true) (sym y.tokens) accepted)));
   }
 
-pub every_run_one_manager : NodeLaws → ActiveEpochsPromised → HoldingsBelieved → EveryRunHasOneManager
-every_run_one_manager laws small_promised small_believed e setup run count part of_eight = has_one laws small_promised small_believed e setup run count part of_eight
+pub every_run_one_manager : NodeLaws → ActiveEpochsPromised → HoldingsBelieved → GrantsBelieved → EveryRunHasOneManager
+every_run_one_manager laws small_promised small_believed small_acceptable e setup run count part of_eight = has_one laws small_promised small_believed small_acceptable e setup run count part of_eight

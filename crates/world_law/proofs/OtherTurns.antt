@@ -1,32 +1,42 @@
--- A server or the cleaner that has its turn: the moment after it stands to the same small world.
-use Rattle.std.proofs.Common.{◌≡◌, ◌⊎◌, ⊎_elim, ℕ, ◌==◌, true, false, List, ◌++◌, Some, map, slice_get, slice_set, inl, inr, refl, sym, ap, subst, ◌∙◌, arith}
+-- A server or the cleaner that has its turn: the moment after it stands to the same small world, but for what the cleaner has promised.
+use Rattle.std.specs.Prelude.{All}
+use Rattle.std.proofs.Common.{◌≡◌, ◌⊎◌, ⊎_elim, ℕ, ◌≤◌, ◌<◌, ◌==◌, true, false, List, ◌++◌, Some, map, slice_get, slice_set, inl, inr, refl, sym, ap, subst, ◌∙◌, arith}
 use Rattle.std.proofs.lemmas.Bool.Decides.{nat_tests}
 use Rattle.core_world.specs.declared.any_node.AnyNode.{AnyNode}
 use Rattle.core_world.specs.declared.any_node.AnyNode.TheVariants as any
-use Rattle.node_tie.proofs.CleanerEvents.{cleaner_from}
+use Rattle.node_base.specs.declared.effects.Effect.{Effect}
+use Rattle.node_base.specs.Effects.{packets_of}
+use Rattle.node_tie.proofs.ManagerFrames.{manager_on}
 use Rattle.node_tie.proofs.StoreServer.{server_from}
-use Rattle.node_tie.specs.Sight.{CleanerSends, ServerSends}
+use Rattle.node_tie.specs.CleanerEvents.{CleanerDoes, CleanerGoes, CleanerWelcomed}
+use Rattle.node_tie.specs.Sight.{ServerSends}
 use Rattle.node_tie.specs.StoreEvents.{PacketsSay}
-use Rattle.store_nodes.specs.CleanerEvents.{cleaner_step}
+use Rattle.store_nodes.specs.CleanerEvents.{Went_to, lasting_of}
 use Rattle.store_nodes.specs.declared.cleaner.Cleaner.{Cleaner as CleanerNode}
+use Rattle.store_nodes.specs.declared.cleaner.Phase.{Phase}
+use Rattle.store_nodes.specs.declared.cleaner.Phase.TheVariants.{Down, Opening, Serving as Serves}
 use Rattle.store_nodes.specs.declared.registry_node.RegistryNode.{RegistryNode}
 use Rattle.store_nodes.specs.declared.server.Server.{Server as ServerNode}
 use Rattle.store_nodes.specs.ServerEvents.{server_step}
 use Rattle.token_protocol.specs.Basics.{In}
 use Rattle.wire_msg.specs.declared.packet.Do.{Do}
 use Rattle.wire_msg.specs.declared.packet.Packet.{Packet}
+use Rattle.wire_msg.specs.declared.registry.Welcome.{Welcome}
 use Rattle.world_base.specs.Cluster.{place_of}
 use Rattle.world_base.specs.declared.cluster.Cluster.{Cluster}
 use Rattle.world_base.specs.NextWorld.{sent_at}
-use Rattle.world_law.proofs.ClientTurns.{number}
+use Rattle.world_law.proofs.ClientTurns.{number, welcome_frame}
+use Rattle.world_law.proofs.Facts.{Grown, fact_stays}
+use Rattle.world_law.proofs.Frames.{client_frame, stands_frame}
 use Rattle.world_law.proofs.Nodes.{here, there}
-use Rattle.world_law.proofs.Sent.{at_clock, in_append}
-use Rattle.world_law.proofs.Standing.{Fact, Placed, Scene, SentBy, Stands}
+use Rattle.world_law.proofs.Sent.{at_clock, in_append, sends}
+use Rattle.world_law.proofs.Standing.{Fact, ManagerSees, Placed, Scene, SentBy, Stands, epoch_now, members}
 use Rattle.world_law.specs.Owners.{node_in}
+use Rattle.xfs_base.specs.declared.news.SlotNews.{SlotNews}
 use Rattle.xfs_base.specs.declared.node.NodeId.{NodeId}
 use Rattle.xfs_base.specs.declared.node.NodeId.TheVariants.{Client, Manager, Server, Cleaner, Registry}
 
-equal_or_not : (n m : ℕ) → (n ≡ m) ⊎ (n ≡ m → ⊥)
+pub equal_or_not : (n m : ℕ) → (n ≡ m) ⊎ (n ≡ m → ⊥)
 equal_or_not n m = elim (n == m) as (λ t. (n == m) ≡ t → (n ≡ m) ⊎ (n ≡ m → ⊥)) [ true ↦ λ h. inl (same n m h) | false ↦ λ h. inr (λ e. grind (arith, nat_tests)) ] refl
   where
     same : (n m : ℕ) → (n == m) ≡ true → n ≡ m
@@ -41,6 +51,7 @@ module _ (k : Cluster) (part : ℕ) (RegistrySound : RegistryNode → Type 0) (n
     sound = st.sound;
     clients = st.clients;
     managers = st.managers;
+    cleaner = st.cleaner;
     peers = st.peers;
     current = st.current;
     some = st.some;
@@ -79,30 +90,92 @@ module _ (k : Cluster) (part : ℕ) (RegistrySound : RegistryNode → Type 0) (n
             ))
             (λ other. (let h = st.placed.servers m pos less in (h.0, others (Server m) (λ same. other (ap number same)) ∙ h.1)))
             (equal_or_not m n);
-        cleaner = (st.placed.cleaner.0, others Cleaner (λ same. absurd (cc)) ∙ st.placed.cleaner.1);
+        cleaner = others Cleaner (λ same. absurd (cc)) ∙ st.placed.cleaner;
         registry = others Registry (λ same. absurd (cc)) ∙ st.placed.registry;
       }
 
-  -- ---- the cleaner
+-- ---- the cleaner
 
-  pub cleaner_turn : place_of k Cleaner ≡ Some p → (cleaner : CleanerNode) → slice_get nodes p ≡ Some (any.Cleaner cleaner) → PacketsSay CleanerSends (cleaner_step cleaner what).packets
-      → Stands k part (slice_set nodes p (any.Cleaner (cleaner_step cleaner what).node)) (sent ++ map (sent_at clock) (cleaner_step cleaner what).packets) RegistrySound s
-  cleaner_turn at cleaner is says = stands_so now (map (sent_at clock) (cleaner_step cleaner what).packets) placed
-      (λ q h. at_clock clock (λ x. (x.from ≡ Cleaner) × CleanerSends x.body) (Fact k part s)
-      (λ x both. subst (λ (y : NodeId). SentBy k part s y x.to x.body) (sym both.0) both.1)
-      (cleaner_step cleaner what).packets (λ i d less. (cleaner_from cleaner what i d less, says i d less)) q h)
-    where
-      now : List AnyNode
-      now = slice_set nodes p (any.Cleaner (cleaner_step cleaner what).node)
+-- a Welcome of a life that the cleaner had says nothing of one that begins, and what it owes to an opening stands still with that
+module _ (part promised most : ℕ) where
+  cleaner_after : (p q : Phase) (outs : List Effect) (go : CleanerGoes part promised most p q outs) (m : Welcome) → m.inc ≤ (lasting_of p).inc → CleanerWelcomed part promised most p m → CleanerWelcomed part go.next most q m
+  cleaner_after p (Down next) outs go m life h = tt
+  cleaner_after p (Serves e) outs go m life h = tt
+  cleaner_after (Down l) (Opening next o) outs go m life h = λ same. (let later = go.begins in absurd (omega arith))
+  cleaner_after (Serves e) (Opening next o) outs go m life h = λ same. (let later = go.begins in absurd (omega arith))
+  cleaner_after (Opening l o) (Opening next x) outs go m life h = λ same. (let later = go.later in let now : m.inc ≡ l.inc = omega arith in
+      subst (λ y. All (λ (news : SlotNews). news.slot ≡ part → y ≤ news.epoch) m.news.slots) (sym (go.keeps tt)) (h now))
 
-      others : (x : NodeId) → (x ≡ Cleaner → ⊥) → node_in now (place_of k x) ≡ node_in nodes (place_of k x)
-      others x differs = there k nodes Cleaner p at (any.Cleaner (cleaner_step cleaner what).node) x differs
+module _ (k : Cluster) (part : ℕ) (RegistrySound : RegistryNode → Type 0) (nodes : List AnyNode) (sent : List Packet) (s : Scene) (st : Stands k part nodes sent RegistrySound s) (p clock : ℕ)
+    (at : place_of k Cleaner ≡ Some p) (is : slice_get nodes p ≡ Some (any.Cleaner s.cleaner)) (w : Went_to) (go : CleanerGoes part s.net.promised (epoch_now k part s) s.cleaner.phase w.state w.outs) where
+  abbrev after_node : CleanerNode
+  after_node = record s.cleaner { phase = w.state }
 
-      placed : Placed k part now (sent ++ map (sent_at clock) (cleaner_step cleaner what).packets) s
-      placed = record {
-        clients = λ c pos less. others (Client c) (λ same. absurd (cc)) ∙ st.placed.clients c pos less;
-        managers = λ j pos less. others (Manager j) (λ same. absurd (cc)) ∙ st.placed.managers j pos less;
-        servers = λ n pos less. (let h = st.placed.servers n pos less in (h.0, others (Server n) (λ same. absurd (cc)) ∙ h.1));
-        cleaner = ((cleaner_step cleaner what).node, here k nodes Cleaner p at (any.Cleaner (cleaner_step cleaner what).node) (any.Cleaner cleaner) is);
-        registry = others Registry (λ same. absurd (cc)) ∙ st.placed.registry;
-      }
+  abbrev pub cleaner_scene : Scene
+  cleaner_scene = record s { net = record s.net { promised = go.next }; cleaner = after_node }
+
+  abbrev nodes_now : List AnyNode
+  nodes_now = slice_set nodes p (any.Cleaner after_node)
+
+  abbrev sent_now : List Packet
+  sent_now = sent ++ map (sent_at clock) (packets_of Cleaner w.outs)
+
+  grown : Grown k part s cleaner_scene
+  grown = record {
+    sent = λ x h. h;
+    lives = λ c. omega arith;
+    reigns = λ j. omega arith;
+    epochs = omega arith;
+    told = λ j. omega arith;
+    given = λ e low. (refl, refl);
+    new = λ e less most. absurd (omega arith);
+    welcomes = λ c m life h. welcome_frame part (epoch_now k part s) c s.net cleaner_scene.net refl (s.client c).phase m h;
+    cleans = go.later;
+    promises = go.rises;
+    cleaner = λ m life h. cleaner_after part s.net.promised (epoch_now k part s) s.cleaner.phase w.state w.outs go m life h;
+  }
+
+  others : (x : NodeId) → (x ≡ Cleaner → ⊥) → node_in nodes_now (place_of k x) ≡ node_in nodes (place_of k x)
+  others x differs = there k nodes Cleaner p at (any.Cleaner after_node) x differs
+
+  placed : Placed k part nodes_now sent_now cleaner_scene
+  placed = record {
+    clients = λ c pos less. others (Client c) (λ same. absurd (cc)) ∙ st.placed.clients c pos less;
+    managers = λ j pos less. others (Manager j) (λ same. absurd (cc)) ∙ st.placed.managers j pos less;
+    servers = λ n pos less. (let h = st.placed.servers n pos less in (h.0, others (Server n) (λ same. absurd (cc)) ∙ h.1));
+    cleaner = here k nodes Cleaner p at (any.Cleaner after_node) (any.Cleaner s.cleaner) is;
+    registry = others Registry (λ same. absurd (cc)) ∙ st.placed.registry;
+  }
+
+  sees : (j : ℕ) → 0 < j → j ≤ k.managers → ManagerSees k part cleaner_scene j (s.manager j).phase
+  sees j pos most = (let h = st.managers j pos most in record {
+    agrees = manager_on (members k part) part s.net cleaner_scene.net (λ x sent_. sent_) go.rises j (s.manager j).phase (λ e held. refl) h.agrees;
+    within = h.within;
+    owns = h.owns;
+    fresh = h.fresh;
+    known = h.known;
+    told = h.told;
+  })
+
+  new_facts : (q : Packet) → In q (map (sent_at clock) (packets_of Cleaner w.outs)) → Fact k part cleaner_scene q
+  new_facts q h = sends Cleaner clock (CleanerDoes part go.next (lasting_of w.state).inc) (Fact k part cleaner_scene) (λ to m does. does) w.outs go.does q h
+
+  up_to : (a b c : ℕ) → a ≤ b → b ≤ c → a ≤ c
+  up_to a b c h g = omega arith
+
+  pub cleaner_turn : Stands k part nodes_now sent_now RegistrySound cleaner_scene
+  cleaner_turn = record {
+    runs = st.runs;
+    placed = placed;
+    sound = st.sound;
+    clients = λ c pos less. (let h = st.clients c pos less in
+        (client_frame part c s.net cleaner_scene.net refl refl (λ x sent_. sent_) (s.client c).phase h.0, stands_frame part (epoch_now k part s) (epoch_now k part s) c s.net cleaner_scene.net (omega arith) refl (s.client c).phase h.1));
+    managers = sees;
+    cleaner = (go.within, go.stands);
+    peers = st.peers;
+    current = st.current;
+    some = st.some;
+    before = st.before;
+    entered = λ e z there_. (let h = st.entered e z there_ in (h.0, h.1, h.2, h.3, up_to e s.net.promised go.next h.4 go.rises));
+    facts = λ q h. ⊎_elim (λ old. fact_stays k part s cleaner_scene grown q (st.facts q old)) (λ new. new_facts q new) (in_append sent _ q h);
+  }

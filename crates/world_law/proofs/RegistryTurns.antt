@@ -1,5 +1,5 @@
 -- The registry that has its turn: a slot may be given anew, and the moment after it stands to the same small world.
-use Rattle.std.proofs.Common.{◌≡◌, ⊎_elim, ℕ, ◌+◌, ◌≤◌, ◌<◌, List, ◌++◌, Some, map, slice_get, slice_set, refl, sym, ap, subst, ◌∙◌, arith}
+use Rattle.std.proofs.Common.{◌≡◌, ⊎_elim, ℕ, ◌+◌, ◌≤◌, ◌<◌, List, ◌++◌, Some, map, slice_get, slice_set, inl, inr, refl, sym, ap, subst, ◌∙◌, arith}
 use Rattle.std.proofs.Math.Nat.{mod-lt}
 use Rattle.client_node.specs.declared.phase.Phase.{Phase as ClientPhase}
 use Rattle.client_node.specs.declared.phase.Phase.TheVariants as clients
@@ -9,9 +9,12 @@ use Rattle.manager_node.specs.declared.slot_phase.SlotPhase.{SlotPhase}
 use Rattle.manager_node.specs.declared.slot_phase.SlotPhase.TheVariants as phase
 use Rattle.manager_node.specs.Phases as manager_phases
 use Rattle.manager_node.specs.Slots.{epoch_of as slot_epoch}
+use Rattle.node_tie.specs.CleanerEvents.{CleanerStands, CleanerWelcomed}
 use Rattle.node_tie.specs.ClientEvents.{WelcomeRises}
 use Rattle.node_tie.specs.ManagerEvents.{HeldAt, slot_in}
 use Rattle.node_tie.specs.RegistryEvents.{HearsHello, NewsAre, RegistryGoes, RegistrySends, RegistrySound, Welcomes, epoch_in, inc_in, manager_in}
+use Rattle.store_nodes.specs.declared.cleaner.Phase.{Phase as CleanerPhase}
+use Rattle.store_nodes.specs.declared.cleaner.Phase.TheVariants as cleaners
 use Rattle.store_nodes.specs.declared.registry_node.RegistryNode.{RegistryNode}
 use Rattle.store_nodes.specs.RegistryEvents.{registry_step}
 use Rattle.token_client.specs.State.{epoch_of}
@@ -34,7 +37,7 @@ use Rattle.world_law.proofs.Gets.{all_in}
 use Rattle.world_law.proofs.Nodes.{here, there}
 use Rattle.world_law.proofs.Numbers.{one_way}
 use Rattle.world_law.proofs.Sent.{at_clock, in_all, in_append, in_list}
-use Rattle.world_law.proofs.Standing.{AllTold, Fact, ManagerSees, Placed, Scene, SentBy, Stands, Welcomed, PastAt, epoch_now, life_of_client, life_of_manager, life_told, manager_now, members, RegistrySends as Sends}
+use Rattle.world_law.proofs.Standing.{AllTold, Fact, ManagerSees, Placed, Scene, SentBy, Stands, Welcomed, PastAt, epoch_now, life_of_cleaner, life_of_client, life_of_manager, life_told, manager_now, members, RegistrySends as Sends}
 use Rattle.xfs_base.specs.Blocks.{slot_of}
 use Rattle.xfs_base.specs.declared.news.SlotNews.{SlotNews}
 use Rattle.xfs_base.specs.declared.node.NodeId.{NodeId}
@@ -47,6 +50,20 @@ welcome_more : (part most more c : ℕ) (s : Scene) (p : ClientPhase) (m : Welco
 welcome_more part most more c s (clients.Down l) m h = tt
 welcome_more part most more c s (clients.Opening l o) m h = h
 welcome_more part most more c s (clients.Serving v) m h = tt
+
+told_more : (part promised most more : ℕ) (p : CleanerPhase) (m : Welcome) → CleanerWelcomed part promised most p m → CleanerWelcomed part promised more p m
+told_more part promised most more (cleaners.Down l) m h = tt
+told_more part promised most more (cleaners.Opening l o) m h = h
+told_more part promised most more (cleaners.Serving e) m h = tt
+
+-- what the cleaner has promised, it has promised under a later epoch too
+cleaner_more : (part promised most more : ℕ) → most ≤ more → (p : CleanerPhase) → CleanerStands part promised most p → CleanerStands part promised more p
+cleaner_more part promised most more rise (cleaners.Down l) h = tt
+cleaner_more part promised most more rise (cleaners.Opening l o) h = record {
+  owner = h.owner;
+  promises = ⊎_elim (λ first. inl first) (λ r. inr (record { eight = r.eight; rises = r.rises; within = (let w = r.within in omega arith) })) h.promises;
+}
+cleaner_more part promised most more rise (cleaners.Serving e) h = record { eight = h.eight; is = h.is }
 
 -- the epoch at which a manager holds the slot is the one that it knows
 pub held_known : (p : SlotPhase) (e : ℕ) → HeldAt p e → slot_epoch p ≡ e
@@ -109,6 +126,9 @@ module _ (k : Cluster) (part : ℕ) (nodes : List AnyNode) (sent : List Packet) 
     given = λ e low. (lord_stays e low, since_stays e low);
     new = new_given;
     welcomes = λ c m life h. welcome_more part old new c s (s.client c).phase m h;
+    cleans = omega arith;
+    promises = omega arith;
+    cleaner = λ m life h. told_more part s.net.promised old new s.cleaner.phase m h;
   }
 
   placed : Placed k part nodes_now sent_now registry_scene
@@ -116,7 +136,7 @@ module _ (k : Cluster) (part : ℕ) (nodes : List AnyNode) (sent : List Packet) 
     clients = λ c pos less. there k nodes Registry p at (any.Registry after_node) (Client c) (λ same. absurd (cc)) ∙ st.placed.clients c pos less;
     managers = λ j pos less. there k nodes Registry p at (any.Registry after_node) (Manager j) (λ same. absurd (cc)) ∙ st.placed.managers j pos less;
     servers = λ n pos less. (let h = st.placed.servers n pos less in (h.0, there k nodes Registry p at (any.Registry after_node) (Server n) (λ same. absurd (cc)) ∙ h.1));
-    cleaner = (st.placed.cleaner.0, there k nodes Registry p at (any.Registry after_node) Cleaner (λ same. absurd (cc)) ∙ st.placed.cleaner.1);
+    cleaner = there k nodes Registry p at (any.Registry after_node) Cleaner (λ same. absurd (cc)) ∙ st.placed.cleaner;
     registry = here k nodes Registry p at (any.Registry after_node) (any.Registry s.registry) is;
   }
 
@@ -139,6 +159,15 @@ module _ (k : Cluster) (part : ℕ) (nodes : List AnyNode) (sent : List Packet) 
       by_what Tick gets h = absurd h
       by_what (Deliver q) gets h =
           (let f = subst (λ b. SentBy k part s (Client c) q.to b) h.said (subst (λ n. SentBy k part s n q.to q.body) h.from (fact q gets)) in (f.0, f.1, subst (λ i. i ≤ life_of_client s c) h.told f.2))
+
+  hello_of_cleaner : (inc : ℕ) → HearsHello what Cleaner inc → inc ≤ life_of_cleaner s
+  hello_of_cleaner inc h = by_what what refl h
+    where
+      by_what : (x : Do) → what ≡ x → HearsHello x Cleaner inc → inc ≤ life_of_cleaner s
+      by_what Begin gets h = absurd h
+      by_what Tick gets h = absurd h
+      by_what (Deliver q) gets h =
+          (let f = subst (λ b. SentBy k part s Cleaner q.to b) h.said (subst (λ n. SentBy k part s n q.to q.body) h.from (fact q gets)) in subst (λ i. i ≤ life_of_cleaner s) h.told f)
 
   -- ---- managers
 
@@ -192,7 +221,13 @@ module _ (k : Cluster) (part : ℕ) (nodes : List AnyNode) (sent : List Packet) 
         subst (λ y. m.inc ≤ put s.since new (inc_in after_node.board lord) y) (sym t.0) (subst (λ y. m.inc ≤ y) (sym (put_here s.since new (inc_in after_node.board lord))) (subst (λ y. m.inc ≤ inc_in after_node.board y) (sym mine ∙ t.1) (w.kept j refl))));
   }
   welcomed (Server n) m w = tt
-  welcomed Cleaner m w = tt
+  welcomed Cleaner m w = record { life = hello_of_cleaner m.inc w.heard; rises = by_phase s.cleaner.phase }
+    where
+      by_phase : (q : CleanerPhase) → CleanerWelcomed part s.net.promised new q m
+      by_phase (cleaners.Down l) = tt
+      by_phase (cleaners.Serving e) = tt
+      by_phase (cleaners.Opening l o) = λ same. all_in (λ x. x.slot ≡ part → s.net.promised ≤ x.epoch) m.news.slots
+          (λ x among of_part. let t = tells m.news w.news x among of_part in let e = t.0 in let a = st.cleaner.0 in let b = rises in omega arith)
   welcomed Registry m w = tt
 
   says : (to : NodeId) (m : Body) → RegistrySends part what after_node.board to m → Sends k part registry_scene to m
@@ -242,6 +277,7 @@ module _ (k : Cluster) (part : ℕ) (nodes : List AnyNode) (sent : List Packet) 
     sound = go.board.sound;
     clients = λ c pos less. (let h = st.clients c pos less in (h.0, stands_frame part old new c s.net s.net rises refl (s.client c).phase h.1));
     managers = sees;
+    cleaner = ((let a = st.cleaner.0 in let b = rises in omega arith), cleaner_more part s.net.promised old new rises s.cleaner.phase st.cleaner.1);
     peers = st.peers;
     current = (put_here s.lord new lord, put_here s.since new (inc_in after_node.board lord) ∙ ap (inc_in after_node.board) (sym (put_here s.lord new lord) ∙ put_here s.lord new lord));
     some = (let a = st.some in let b = rises in omega arith);
@@ -253,6 +289,7 @@ module _ (k : Cluster) (part : ℕ) (nodes : List AnyNode) (sent : List Packet) 
       subst (λ x. 0 < x) (sym (lord_stays e h.0)) h.1,
       subst (λ x. x ≤ k.managers) (sym (lord_stays e h.0)) h.2,
       subst (λ x. PastAt k part (s.manager x).phase (put s.since new (inc_in after_node.board lord) e) e) (sym (lord_stays e h.0)) (subst (λ x. PastAt k part (s.manager (s.lord e)).phase x e) (sym (since_stays e h.0)) h.3),
+      h.4,
     ));
     facts = λ q h. ⊎_elim (λ old_. fact_stays k part s registry_scene grown q (st.facts q old_)) (λ new_. new_facts q new_) (in_append sent _ q h);
   }

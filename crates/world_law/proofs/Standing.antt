@@ -1,5 +1,5 @@
--- How a moment of a run stands to a moment of the small world of one slot: each client and manager is seen there, each packet about tokens was sent there,
--- and who was given which epoch, in which incarnation, is told beside it.
+-- How a moment of a run stands to a moment of the small world of one slot: each client and manager is seen there, and the promise of the cleaner, each packet
+-- about tokens was sent there, and who was given which epoch, in which incarnation, is told beside it.
 use Rattle.std.proofs.Common.{◌≡◌, ◌⊎◌, ℕ, ◌+◌, ◌≤◌, ◌<◌, true, List, Some}
 use Rattle.client_node.specs.declared.client.Client.{Client as ClientNode}
 use Rattle.client_node.specs.Phases as clients
@@ -9,14 +9,17 @@ use Rattle.manager_node.specs.declared.manager.Manager.{Manager as ManagerNode}
 use Rattle.manager_node.specs.declared.phase.Phase.{Phase as ManagerPhase}
 use Rattle.manager_node.specs.declared.phase.Phase.TheVariants as managing
 use Rattle.manager_node.specs.Phases as managers
+use Rattle.node_tie.specs.CleanerEvents.{CleanerStands, CleanerWelcomed}
 use Rattle.node_tie.specs.ClientEvents.{ClientAgrees, ClientStands, WelcomeRises}
 use Rattle.node_tie.specs.ManagerEvents.{ManagerAgrees, HeldAt, epoch_in, slot_in, is_serving}
 use Rattle.node_tie.specs.Sight.{ClientSends, CleanerSends, ManagerSends, ServerSends}
 use Rattle.registry.specs.Board.{inc_of}
 use Rattle.registry.specs.Slots.{entry_of}
+use Rattle.store_nodes.specs.CleanerEvents as cleaners
 use Rattle.store_nodes.specs.declared.cleaner.Cleaner.{Cleaner as CleanerNode}
 use Rattle.store_nodes.specs.declared.registry_node.RegistryNode.{RegistryNode}
 use Rattle.store_nodes.specs.declared.server.Server.{Server as ServerNode}
+use Rattle.token_law.proofs.Promises.{with_promise}
 use Rattle.token_law.specs.Net.{Net, Runs, opening}
 use Rattle.token_manager.specs.SlotState.{SlotState}
 use Rattle.token_protocol.specs.Basics.{In}
@@ -36,6 +39,7 @@ pub record Scene : Type 0 where
   pub net : Net
   pub client : ℕ → ClientNode
   pub manager : ℕ → ManagerNode
+  pub cleaner : CleanerNode
   pub registry : RegistryNode
   pub lord : ℕ → ℕ
   pub since : ℕ → ℕ
@@ -45,6 +49,9 @@ life_of_client s c = (clients.lasting_of (s.client c).phase).inc
 
 abbrev pub life_of_manager : Scene → ℕ → ℕ
 life_of_manager s j = (managers.lasting_of (s.manager j).phase).inc
+
+abbrev pub life_of_cleaner : Scene → ℕ
+life_of_cleaner s = (cleaners.lasting_of s.cleaner.phase).inc
 
 -- the incarnation of a manager that the registry knows of
 abbrev pub life_told : Scene → ℕ → ℕ
@@ -85,11 +92,16 @@ module _ (k : Cluster) (part : ℕ) where
     pub later : (news : SlotNews) → In news m.news.slots → news.slot ≡ part → (e : ℕ) → news.epoch < e → e ≤ epoch_now s → s.lord e ≡ j → m.inc ≤ s.since e
     pub own : (news : SlotNews) → In news m.news.slots → news.slot ≡ part → news.manager ≡ j → m.inc ≤ s.since news.epoch
 
+  -- a Welcome to the cleaner is of an incarnation that it had, and names no earlier epoch than it promised before
+  pub record CleanerTold (s : Scene) (m : Welcome) : Type 0 where
+    pub life : m.inc ≤ life_of_cleaner s
+    pub rises : CleanerWelcomed part s.net.promised (epoch_now s) s.cleaner.phase m
+
   abbrev pub Welcomed : Scene → NodeId → Welcome → Type 0
   Welcomed s (Client c) m = ClientWelcomed s c m
   Welcomed s (Manager j) m = ManagerWelcomed s j m
   Welcomed s (Server n) m = Unit {0}
-  Welcomed s Cleaner m = Unit {0}
+  Welcomed s Cleaner m = CleanerTold s m
   Welcomed s Registry m = Unit {0}
 
   -- the registry sends maps, and what it keeps of checkpoints
@@ -104,7 +116,7 @@ module _ (k : Cluster) (part : ℕ) where
   SentBy s (Client c) to m = (0 < c) × (c < members) × ClientSends part s.net.sent c (life_of_client s c) to m
   SentBy s (Manager j) to m = (0 < j) × (j ≤ k.managers) × ManagerSends part s.net.sent (epoch_now s) (life_of_manager s j) to m
   SentBy s (Server n) to m = ServerSends m
-  SentBy s Cleaner to m = CleanerSends m
+  SentBy s Cleaner to m = CleanerSends part s.net.promised (life_of_cleaner s) m
   SentBy s Registry to m = RegistrySends s to m
 
   abbrev pub Fact : Scene → Packet → Type 0
@@ -140,15 +152,17 @@ module _ (k : Cluster) (part : ℕ) where
       pub clients : (c : ℕ) → 0 < c → c < members → node_in nodes (place_of k (Client c)) ≡ Some (any.Client (s.client c))
       pub managers : (j : ℕ) → 0 < j → j ≤ k.managers → node_in nodes (place_of k (Manager j)) ≡ Some (any.Manager (s.manager j))
       pub servers : (n : ℕ) → 0 < n → n ≤ k.servers → (server : ServerNode) × (node_in nodes (place_of k (Server n)) ≡ Some (any.Server server))
-      pub cleaner : (cleaner : CleanerNode) × (node_in nodes (place_of k Cleaner) ≡ Some (any.Cleaner cleaner))
+      pub cleaner : node_in nodes (place_of k Cleaner) ≡ Some (any.Cleaner s.cleaner)
       pub registry : node_in nodes (place_of k Registry) ≡ Some (any.Registry s.registry)
 
     pub record Stands (RegistrySound : RegistryNode → Type 0) (s : Scene) : Type 0 where
-      pub runs : Runs members part opening s.net
+      pub runs : Runs members part opening (with_promise 1 s.net)
       pub placed : Placed s
       pub sound : RegistrySound s.registry
       pub clients : (c : ℕ) → 0 < c → c < members → ClientAgrees part c s.net (s.client c).phase × ClientStands part (epoch_now s) c s.net (s.client c).phase
       pub managers : (j : ℕ) → 0 < j → j ≤ k.managers → ManagerSees s j (s.manager j).phase
+      -- the cleaner has promised an epoch that the slot had
+      pub cleaner : (s.net.promised ≤ epoch_now s) × CleanerStands part s.net.promised (epoch_now s) s.cleaner.phase
       pub peers : (j : ℕ) → 0 < j → j ≤ k.managers → (s.manager j).peers.clients + 1 ≡ members
       -- the newest epoch was given to the slot's manager, in the incarnation that the registry knows
       pub current : (s.lord (epoch_now s) ≡ manager_now s) × (s.since (epoch_now s) ≡ life_told s (manager_now s))
@@ -156,5 +170,5 @@ module _ (k : Cluster) (part : ℕ) where
       -- no epoch was given in an incarnation that the registry didn't know
       pub before : (e : ℕ) → 0 < e → e ≤ epoch_now s → s.since e ≤ life_told s (s.lord e)
       pub entered : (e : ℕ) (z : SlotState) → s.net.slots e ≡ Some z
-          → (e ≤ epoch_now s) × (0 < s.lord e) × (s.lord e ≤ k.managers) × PastAt (s.manager (s.lord e)).phase (s.since e) e
+          → (e ≤ epoch_now s) × (0 < s.lord e) × (s.lord e ≤ k.managers) × PastAt (s.manager (s.lord e)).phase (s.since e) e × (e ≤ s.net.promised)
       pub facts : (p : Packet) → In p sent → Fact s p

@@ -13,10 +13,12 @@ use Rattle.manager_node.specs.Events.{first_manager}
 use Rattle.manager_node.specs.declared.slot_phase.SlotPhase.TheVariants as phase
 use Rattle.manager_node.specs.Slots.{first_active}
 use Rattle.node_tie.specs.AskingEvents.{StartsAsking}
+use Rattle.node_tie.specs.CleanerEvents.{CleanerStarts}
 use Rattle.node_tie.specs.ClientEvents.{ClientAgrees}
 use Rattle.node_tie.specs.ManagerEvents.{FirstManagerAgrees, HeldAt}
 use Rattle.node_tie.specs.RegistryEvents.{RegistryBegins, RegistrySound, manager_in}
 use Rattle.script_text.specs.declared.script.Script.{Script}
+use Rattle.store_nodes.specs.CleanerEvents.{cleaner_start}
 use Rattle.store_nodes.specs.RegistryEvents.{registry_start}
 use Rattle.token_client.specs.State.{epoch_of}
 use Rattle.token_law.specs.Net.{opening}
@@ -68,7 +70,7 @@ place_there first count number some most = ap (λ t. cond t (Some (first + numbe
     both : (a c : ℕ) → 0 < a → a ≤ c → (nat_lt 0 a && nat_le a c) ≡ true
     both a c some most = grind (arith, nat_tests)
 
-module _ (first_asks : StartsAsking) (first_agrees : FirstManagerAgrees) (begins : (part : ℕ) → part < 8 → (setup : Setup) (items : List Work) → RegistryBegins part setup.managers (registry_start setup items))
+module _ (first_asks : StartsAsking) (first_agrees : FirstManagerAgrees) (cleaner_starts : CleanerStarts) (begins : (part : ℕ) → part < 8 → (setup : Setup) (items : List Work) → RegistryBegins part setup.managers (registry_start setup items))
     (script : Script) (managers : 1 ≤ script.setup.managers) (part : ℕ) (of_eight : part < 8) where
   abbrev k : Cluster
   k = cluster_of script.setup
@@ -81,6 +83,7 @@ module _ (first_asks : StartsAsking) (first_agrees : FirstManagerAgrees) (begins
     net = opening;
     client = λ c. first_client c script.setup (items_of script.lines (Client c));
     manager = λ j. first_manager j script.setup (items_of script.lines (Manager j));
+    cleaner = cleaner_start script.setup (items_of script.lines Cleaner);
     registry = registry_start script.setup (items_of script.lines Registry);
     lord = λ e. manager_in (registry_start script.setup (items_of script.lines Registry)).board part;
     since = λ e. 1;
@@ -91,7 +94,7 @@ module _ (first_asks : StartsAsking) (first_agrees : FirstManagerAgrees) (begins
     clients = λ c some less. first_stands script (Client c) (0 + c - 1) (place_there 0 script.setup.clients c some (omega arith));
     managers = λ j some most. first_stands script (Manager j) (script.setup.clients + j - 1) (place_there script.setup.clients script.setup.managers j some most);
     servers = λ n some most. (_, first_stands script (Server n) (script.setup.clients + script.setup.managers + n - 1) (place_there (script.setup.clients + script.setup.managers) script.setup.servers n some most));
-    cleaner = (_, first_stands script Cleaner (script.setup.clients + script.setup.managers + script.setup.servers) refl);
+    cleaner = first_stands script Cleaner (script.setup.clients + script.setup.managers + script.setup.servers) refl;
     registry = first_stands script Registry (script.setup.clients + script.setup.managers + script.setup.servers + 1) refl;
   }
 
@@ -133,16 +136,17 @@ module _ (first_asks : StartsAsking) (first_agrees : FirstManagerAgrees) (begins
 
   entered : (e : ℕ) (z : SlotState) → opening.slots e ≡ Some z
       → (e ≤ epoch_now k part start_scene) × (0 < manager_now k part start_scene) × (manager_now k part start_scene ≤ script.setup.managers)
-      × PastAt k part (first_manager (manager_now k part start_scene) script.setup (items_of script.lines (Manager (manager_now k part start_scene)))).phase 1 e
+      × PastAt k part (first_manager (manager_now k part start_scene) script.setup (items_of script.lines (Manager (manager_now k part start_scene)))).phase 1 e × (e ≤ 1)
   entered = put_each
       (λ e o. (z : SlotState) → o ≡ Some z → (e ≤ epoch_now k part start_scene) × (0 < manager_now k part start_scene) × (manager_now k part start_scene ≤ script.setup.managers)
-      × PastAt k part (first_manager (manager_now k part start_scene) script.setup (items_of script.lines (Manager (manager_now k part start_scene)))).phase 1 e)
+      × PastAt k part (first_manager (manager_now k part start_scene) script.setup (items_of script.lines (Manager (manager_now k part start_scene)))).phase 1 e × (e ≤ 1))
       (λ e. None) 1 (opening.slots 1)
       (λ z is. (
         let b = begun.epoch in omega arith,
         one_of_them.0,
         one_of_them.1,
         inr (refl, (let f = (first_agrees (members k part) part (manager_now k part start_scene) script.setup (items_of script.lines (Manager (manager_now k part start_scene))) of_eight).epoch in omega arith)),
+        omega arith,
       ))
       (λ e other z is. absurd (cc))
 
@@ -153,6 +157,7 @@ module _ (first_asks : StartsAsking) (first_agrees : FirstManagerAgrees) (begins
     sound = begun.sound;
     clients = λ c some less. (client_agrees c, record { asks = first_asks c script.setup (items_of script.lines (Client c)); within = (let a = first_epoch part in let b = begun.epoch in omega arith); promises = tt });
     managers = λ j some most. sees j some;
+    cleaner = ((let b = begun.epoch in omega arith), cleaner_starts part (epoch_now k part start_scene) of_eight script.setup (items_of script.lines Cleaner));
     peers = λ j some most. refl;
     current = (refl, sym (begun.incarnations (manager_now k part start_scene)));
     some = (let b = begun.epoch in omega arith);

@@ -3,6 +3,8 @@ ghost use Rattle.std.specs.Prelude.{◌≡◌, false, IfSome, map, string_bytes}
 ghost use Rattle.core_world.specs.AnyNode.{any_step, any_start};
 ghost use Rattle.top_call.specs.Claim.{writing, reading, Claim};
 ghost use Rattle.top_call.specs.Commands.{command_of, reads};
+ghost use Rattle.world_law.specs.Fallen.{NobodyHoldsThroughout};
+ghost use Rattle.world_law.specs.Managers.{OneManagerThroughout};
 ghost use Rattle.world_law.specs.Owners.{OneOwnerThroughout};
 
 use core_world::AnyNode;
@@ -10,12 +12,14 @@ use std::alloc::Global;
 use std::sync::Wait;
 use std::thread::Threads;
 use top_call::{Outcome, Sink, Source, answer};
-use world_law::every_run_has_one_owner;
+use world_law::{every_run_has_one_manager, every_run_has_one_owner, what_fell_is_held_by_nobody};
 use xfs_base::Gate;
 
 /// The program for all words but those that start threads. `README.md` lists the statuses, and
 /// `docs/PROMISES.md` says what the claim promises. Where a run was played, no block had two owners at any of
-/// its moments, nor another holder beside an owner, whatever was lost, repeated or reordered (`one_owner`).
+/// its moments, nor another holder beside an owner, whatever was lost, repeated or reordered (`one_owner`); no
+/// slot had two managers at one epoch (`one_manager`); and nobody held what a client fell with that wasn't back
+/// (`nobody_holds`).
 pub fn solo<S: Source, K: Sink>(
     alloc: Global,
     words: &[String],
@@ -25,8 +29,12 @@ pub fn solo<S: Source, K: Sink>(
     ensures claim { Claim any_step any_start (command_of (map string_bytes words.now)) (reading S.left S.faults source.old source.new) (writing K.written K.faults sink.old sink.new) result }
     ensures untouched { reads (command_of (map string_bytes words.now)) ≡ false → source.new ≡ source.old }
     ensures one_owner { IfSome result.estate OneOwnerThroughout }
+    ensures one_manager { IfSome result.estate OneManagerThroughout }
+    ensures nobody_holds { IfSome result.estate NobodyHoldsThroughout }
 {
     every_run_has_one_owner();
+    every_run_has_one_manager();
+    what_fell_is_held_by_nobody();
     answer(alloc, words, source, sink)
 }
 
@@ -43,6 +51,8 @@ pub fn xfs<R: Threads + Wait + Sync, S: Source, K: Sink, G: Gate>(
     ensures claim { Claim any_step any_start (command_of (map string_bytes words.now)) (reading S.left S.faults source.old source.new) (writing K.written K.faults sink.old sink.new) result }
     ensures untouched { reads (command_of (map string_bytes words.now)) ≡ false → source.new ≡ source.old }
     ensures one_owner { IfSome result.estate OneOwnerThroughout }
+    ensures one_manager { IfSome result.estate OneManagerThroughout }
+    ensures nobody_holds { IfSome result.estate NobodyHoldsThroughout }
 {
     solo(alloc, words, source, sink)
 }

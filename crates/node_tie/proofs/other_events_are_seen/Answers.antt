@@ -1,4 +1,4 @@
-use Rattle.node_tie.proofs.CleanerEvents.{cleaner_sends}
+use Rattle.node_tie.proofs.CleanerEvents.{cleaner_starts, cleaner_takes}
 use Rattle.node_tie.proofs.RegistryNode.{registry_begins, registry_goes}
 use Rattle.node_tie.proofs.StoreServer.{server_sends}
 use Rattle.node_tie.proofs.other_events_are_seen.Goals as goal
@@ -8,5 +8,6 @@ returns c = record {
   start = registry_begins;
   events = registry_goes;
   servers = server_sends;
-  cleaner = cleaner_sends;
+  cleaner_start = cleaner_starts;
+  cleaner = cleaner_takes;
 }

@@ -12,6 +12,7 @@ returns c = record {
     begins = c.other_events_are_seen.ensures.start;
     registry = c.other_events_are_seen.ensures.events;
     server = c.other_events_are_seen.ensures.servers;
+    cleaner_starts = c.other_events_are_seen.ensures.cleaner_start;
     cleaner = c.other_events_are_seen.ensures.cleaner;
   }) c.tokens_keep_their_word.ensures.one_owner;
 }

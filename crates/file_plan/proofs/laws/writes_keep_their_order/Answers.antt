@@ -1,4 +1,5 @@
-use Rattle.file_plan.proofs.Writes.{removes_entry_first, adds_before_it_removes}
+use Rattle.file_plan.proofs.MoveOrder.{adds_before_it_removes}
+use Rattle.file_plan.proofs.RemovalOrder.{removes_entry_first}
 use Rattle.file_plan.proofs.laws.writes_keep_their_order.Goals as goal
 
 pub returns : goal.returns

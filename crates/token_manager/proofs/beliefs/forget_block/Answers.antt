@@ -1,7 +1,10 @@
-use Rattle.std.proofs.Common.{not, rules}
-use Rattle.std.proofs.lemmas.Map.Made.{filter_same_pairs}
-use Rattle.xfs_base.specs.Blocks.{same_block}
+-- A belief about the block that goes leaves those about other blocks.
+use Rattle.std.proofs.Common.{◌∙◌, ap}
+use Rattle.token_manager.specs.Beliefs.{without_block}
+use Rattle.token_manager.proofs.Together.{without_removed}
 use Rattle.token_manager.proofs.beliefs.forget_block.Goals as goal
 
-pub returns : goal.returns
-returns c = filter_same_pairs _ (λ b. not (same_block b.0.block c.args.block)) _ (λ k v b w f' t. search rules) _ _ c.retain.ensures.filtered
+pub loop-holder-preserved : goal.loop-holder-preserved
+loop-holder-preserved c =
+    let here = c.in-Some.ensures.found.0 in
+    ap (λ es. without_block es c.args.block) c.remove.ensures.entries ∙ without_removed c.in-Some.holder c.args.block c.loop-holder.beliefs.entries here ∙ c.loop-holder.invariant

@@ -1,4 +1,5 @@
--- The reigning manager believes at least what each client holds, fetches, may take or has reported, and believes one owner. Depends on: bookkeeping, giving, reporting.
+-- The reigning manager believes at least what each client holds, fetches, may take or has reported, and believes one owner. Depends on: bookkeeping,
+-- giving, reporting.
 use Rattle.std.proofs.Common.{◌≡◌, ◌+◌, ◌<◌, ◌≤◌, ℕ, Bool, arith}
 use Rattle.std.proofs.lemmas.Bool.Decides.{nat_tests}
 use Rattle.token_protocol.specs.Basics.{In}

@@ -1,4 +1,7 @@
-use Rattle.xfs_top.proofs.Owners.{played_has_one_owner}
+use Rattle.world_law.specs.Fallen.{NobodyHoldsThroughout}
+use Rattle.world_law.specs.Managers.{OneManagerThroughout}
+use Rattle.world_law.specs.Owners.{OneOwnerThroughout}
+use Rattle.xfs_top.proofs.Runs.{played_has}
 use Rattle.xfs_top.proofs.top.solo.Goals as goal
 
 pub returns-clause-claim : goal.returns-clause-claim
@@ -8,4 +11,10 @@ pub returns-clause-untouched : goal.returns-clause-untouched
 returns-clause-untouched g c = c.answer.ensures.untouched
 
 pub returns-clause-one_owner : goal.returns-clause-one_owner
-returns-clause-one_owner g c = played_has_one_owner c.every_run_has_one_owner.ensures.one_owner c.answer.result.estate c.answer.ensures.claim.run
+returns-clause-one_owner g c = played_has OneOwnerThroughout c.every_run_has_one_owner.ensures.one_owner c.answer.result.estate c.answer.ensures.claim.run
+
+pub returns-clause-one_manager : goal.returns-clause-one_manager
+returns-clause-one_manager g c = played_has OneManagerThroughout c.every_run_has_one_manager.ensures.one_manager c.answer.result.estate c.answer.ensures.claim.run
+
+pub returns-clause-nobody_holds : goal.returns-clause-nobody_holds
+returns-clause-nobody_holds g c = played_has NobodyHoldsThroughout c.what_fell_is_held_by_nobody.ensures.nobody c.answer.result.estate c.answer.ensures.claim.run

@@ -8,3 +8,9 @@ returns-clause-untouched g c = c.solo.ensures.untouched
 
 pub returns-clause-one_owner : goal.returns-clause-one_owner
 returns-clause-one_owner g c = c.solo.ensures.one_owner
+
+pub returns-clause-one_manager : goal.returns-clause-one_manager
+returns-clause-one_manager g c = c.solo.ensures.one_manager
+
+pub returns-clause-nobody_holds : goal.returns-clause-nobody_holds
+returns-clause-nobody_holds g c = c.solo.ensures.nobody_holds

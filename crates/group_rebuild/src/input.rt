@@ -1,4 +1,4 @@
-//! What a rebuild is told, and what it says.
+//! What a rebuild is told.
 use group_map::GroupMap;
 use xfs_base::{Crosses, FragMeta, Fragment, List, SegName};
 
@@ -40,19 +40,4 @@ pub enum In {
     Tick,
 }
 
-/// What a rebuild says.
-#[derive(Drop)]
-pub enum Out {
-    /// Ask this server for what it holds.
-    List(u8),
-    /// Ask this server for its fragment of a segment, by the question of this number.
-    Fetch(u8, SegName, u32),
-    /// Fill this fragment in.
-    Fill(Fragment),
-    /// It is over: so many fragments were filled in, and so many names are gone.
-    Finished(u32, u32),
-}
-
 impl Crosses for In {}
-
-impl Crosses for Out {}

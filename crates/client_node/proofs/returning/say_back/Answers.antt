@@ -1,9 +1,10 @@
 use Rattle.std.proofs.Common.{◌≡◌, ◌++◌, ◌∷◌, [], List, ap, ◌∙◌, append_assoc}
+use Rattle.std.proofs.lemmas.Result.{on_ok_weaker}
 use Rattle.log_owner.specs.Sending.{pushes_all}
 use Rattle.node_base.specs.Beginning.{answers_unanswered}
 use Rattle.node_base.specs.declared.effects.Effect.{Effect}
 use Rattle.version_model.specs.declared.answer.Answer.TheVariants as answer
-use Rattle.client_node.proofs.returning.back.Goals as goal
+use Rattle.client_node.proofs.returning.say_back.Goals as goal
 
 -- what is done one after the other is done together
 joined : (a : List Effect) (x : Effect) (b c e1 e2 e3 : List Effect) → e1 ≡ a ++ x ∷ [] → e2 ≡ e1 ++ b → e3 ≡ e2 ++ c → e3 ≡ a ++ x ∷ (b ++ c)
@@ -11,7 +12,6 @@ joined a x b c e1 e2 e3 p q r = r ∙ ap (λ u. u ++ c) (q ∙ ap (λ u. u ++ b)
 
 pub returns-clause-effects : goal.returns-clause-effects
 returns-clause-effects c =
-    let made = c.in_ok-serving.ensures in
-    joined _ _ _ _ _ _ _ c.in_ok-act.ensures
-    (c.in_ok-push_all.ensures.effects ∙ ap (λ s. c.act.new.self ++ pushes_all s.managers s.feed) made)
-    (c.in_ok-answer.ensures.effects ∙ ap (λ s. c.push_all.new.effects ++ answers_unanswered s.lasting.items.unanswered answer.Done) made)
+    on_ok_weaker c.answer.result
+    (λ last. joined _ _ _ _ _ _ _ c.in_ok-act.ensures c.in_ok-push_all.ensures.effects last)
+    c.answer.ensures.effects
