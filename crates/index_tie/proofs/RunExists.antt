@@ -17,9 +17,9 @@ use Rattle.segment_format.specs.Rows.{rows_of}
 use Rattle.checkpoint.specs.WriterState.{Rows}
 use Rattle.delta_index.specs.Index.{entry_of}
 use Rattle.delta_index.proofs.IndexJoin.{index_join}
-use Rattle.takeover.specs.declared.events.In.{In as TakeoverIn}
-use Rattle.takeover.specs.declared.events.In.TheVariants.{Report}
-use Rattle.takeover.specs.declared.events.Out.TheVariants.{Active}
+use Rattle.takeover.specs.declared.input.In.{In as TakeoverIn}
+use Rattle.takeover.specs.declared.input.In.TheVariants.{Report}
+use Rattle.takeover.specs.declared.output.Out.TheVariants.{Active}
 use Rattle.takeover.specs.Course.{Course, course_of, after_input}
 use Rattle.takeover.specs.Reports as reports
 use Rattle.takeover.specs.Reports.{no_end, end_of, same_node, writer_of}
