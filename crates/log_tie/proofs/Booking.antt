@@ -1,6 +1,7 @@
 -- A name that is booked: its page is that of the segment that is launched, and the others stay.
-use Rattle.std.proofs.Common.{◌≡◌, ℕ, suc, ◌-◌, ◌<◌, ◌==◌, Bool, true, false, cond, if◌then◌else◌, length, refl, sym, ap, subst, ◌∙◌}
+use Rattle.std.proofs.Common.{◌≡◌, ◌⊎◌, inl, inr, ℕ, suc, ◌-◌, ◌<◌, ◌==◌, Bool, true, false, cond, if◌then◌else◌, length, refl, sym, ap, subst, ◌∙◌}
 use Rattle.log_protocol.specs.State.{State}
+use Rattle.log_protocol.specs.Tables.{put}
 use Rattle.log_protocol.specs.OwnerSteps.{Group, books}
 use Rattle.segment_format.specs.declared.segment.Segment.{Segment}
 use Rattle.segment_format.specs.Text.{text_of}
@@ -21,6 +22,14 @@ page_here book x s = by (x == x) (itself x)
     by : (t : Bool) → t ≡ true → cond t s (book x) ≡ s
     by true e = refl
     by false e = contrary e
+
+-- a name that is booked with another was so before, or is that one
+pub books_one : (w : State) (x y : ℕ) → put w.booked x 1 y ≡ 1 → (w.booked y ≡ 1) ⊎ (y ≡ x)
+books_one w x y = by (y == x) refl
+  where
+    by : (t : Bool) → (y == x) ≡ t → cond t 1 (w.booked y) ≡ 1 → (w.booked y ≡ 1) ⊎ (y ≡ x)
+    by true e h = inr (equal y x e)
+    by false e h = inl h
 
 pub page_there : (w : State) (book : ℕ → Segment) (x : ℕ) (s : Segment) → (w.booked x ≡ 1 → ⊥) → (y : ℕ) → w.booked y ≡ 1 → with_page book x s y ≡ book y
 page_there w book x s new y booked = by (y == x) refl

@@ -1,5 +1,5 @@
 -- Steps of the owner, one after another, and what they leave alone.
-use Rattle.std.proofs.Common.{ℕ, List, [], ◌∷◌, ◌++◌, refl, sym, ap, subst, ◌∙◌, inl, inr}
+use Rattle.std.proofs.Common.{◌≡◌, ⊎_elim, ℕ, List, [], ◌∷◌, ◌++◌, refl, sym, ap, subst, ◌∙◌, inl, inr}
 use Rattle.log_protocol.specs.Tables.{In}
 use Rattle.log_protocol.specs.State.{State}
 use Rattle.log_protocol.specs.Step.{Step, Steps}
@@ -72,15 +72,16 @@ module _ (g : Setting) where
   module _ (P : State → (ℕ → Segment) → Type 0) where
     -- nothing happens
     pub goes_nowhere : (w : State) (book : ℕ → Segment) → Book g w book → P w book → Goes g w book P []
-    goes_nowhere w book paged shows = record { world = w; later = book; steps = Done; frame = by_nothing g w book; paged = paged; shows = shows; said = tt; end_follows = inl refl }
+    goes_nowhere w book paged shows = record { world = w; later = book; steps = Done; frame = by_nothing g w book; fresh = λ x is. inl is; paged = paged; shows = shows; said = tt; end_follows = inl refl }
 
-    -- some steps, and then others
-    pub goes_through : (Q : State → (ℕ → Segment) → Type 0) (w : State) (book : ℕ → Segment) (outs more : List Out) (t : Goes g w book Q outs) → Goes g t.world t.later P more → Goes g w book P (outs ++ more)
-    goes_through Q w book outs more t u = record {
+    -- some steps, which book nothing, and then others
+    pub goes_through : (Q : State → (ℕ → Segment) → Type 0) (w : State) (book : ℕ → Segment) (outs more : List Out) (t : Goes g w book Q outs) → ((x : ℕ) → t.world.booked x ≡ 1 → w.booked x ≡ 1) → Goes g t.world t.later P more → Goes g w book P (outs ++ more)
+    goes_through Q w book outs more t same u = record {
       world = u.world;
       later = u.later;
       steps = steps_through w t.world u.world t.steps u.steps;
       frame = by_through g w t.world u.world book t.later u.later t.frame u.frame;
+      fresh = λ x is. ⊎_elim (λ old. inl (same x old)) inr (u.fresh x is);
       paged = u.paged;
       shows = u.shows;
       said = said_both u.world u.later outs more (said_on t.world u.world t.later u.later outs u.frame t.said) u.said;

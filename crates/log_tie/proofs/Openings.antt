@@ -36,7 +36,7 @@ use Rattle.log_tie.specs.Seen.{Book, Flying, Serves, ByOwner, Goes, Fixed, Stand
 use Rattle.log_tie.specs.Inputs.{StoredSeen, MapSeen}
 use Rattle.log_tie.specs.Openings.{Chained, AllFrom, ChainShown, ReadShown, WritingShown, AllFiled, OpeningShown, OpensByStep, OpeningTakes}
 use Rattle.log_tie.proofs.Names.{itself, one_name, one_number, some_number, name_coded}
-use Rattle.log_tie.proofs.Booking.{with_page, page_here, page_there, booked_state, stripe_group, booked_pages}
+use Rattle.log_tie.proofs.Booking.{books_one, with_page, page_here, page_there, booked_state, stripe_group, booked_pages}
 use Rattle.log_tie.proofs.Sending.{sent_all}
 use Rattle.log_tie.proofs.Sealing.{launch, nothing_noted}
 use Rattle.log_tie.proofs.Settling.{Aloft, restriped_goes, waits_goes, settled_there, flight_end}
@@ -51,7 +51,7 @@ back w (suc k) = w.prior_of (back w k)
 abbrev pub path : State → ℕ → ℕ
 path w q = back w (w.opening_seq - suc q)
 
-path_read : (w : State) (lowest : ℕ) → w.pick_low ≤ lowest → lowest ≤ w.read_low → ReadBack w (path w) lowest
+pub path_read : (w : State) (lowest : ℕ) → w.pick_low ≤ lowest → lowest ≤ w.read_low → ReadBack w (path w) lowest
 path_read w lowest picked cut = record {
   picked = picked;
   cut = cut;
@@ -66,7 +66,7 @@ path_read w lowest picked cut = record {
     deeper q below = omega arith
 
 module _ (g : Setting) where
-  back_chained : (w : State) (book : ℕ → Segment) (top x : ℕ) (ts : List Segment) → Chained g w book top x ts → x ≡ back w (length ts)
+  pub back_chained : (w : State) (book : ℕ → Segment) (top x : ℕ) (ts : List Segment) → Chained g w book top x ts → x ≡ back w (length ts)
   back_chained w book top x [] h = h
   back_chained w book top x (t ∷ ts) h = sym h.3 ∙ ap w.prior_of (back_chained w book top h.0 ts h.5)
 
@@ -143,7 +143,7 @@ module _ (g : Setting) (w : State) (book : ℕ → Segment) (fixed : Fixed g w) 
       → Goes g w book (λ v later. WritingShown g v later chain (log.writes (started g.log w.incarnation start m) []).state) (log.writes (started g.log w.incarnation start m) []).outs
   unfolding log.launched
   opens_goes start chain m shown =
-      launch g w book fixed paged _ v later f x (More Done (Opens x _ _ _ can)) by refl pages booked (sym here) stripe (λ stores. record {
+      launch g w book fixed paged _ v later f x (More Done (Opens x _ _ _ can)) by (books_one w x) refl pages booked (sym here) stripe (λ stores. record {
         writes = record { log = refl; inc = refl; some = some; map = shown.map; known = shown.known };
         phase = refl;
         clear = refl;
@@ -224,6 +224,7 @@ module _ (g : Setting) (w : State) (book : ℕ → Segment) (fixed : Fixed g w) 
     later = book;
     steps = More Done (ServesStep (path w) lowest sure (record { writing = shown.phase; settled = settled_there g w book fixed paged reached s f shown.writes h all; undoubted = premise; read = path_read w lowest shown.read.picked shown.read.cut }));
     frame = record { others = refl; booked = λ x is. is; segment = λ x is. refl; stores = λ p is. is; filed = λ x is. stays x is; calm = λ none c. ap (λ z. if z == 1 then w.clean else 0) (is_sure none) ∙ c };
+    fresh = λ x is. inl is;
     paged = paged;
     shows = (
       record {
@@ -263,6 +264,10 @@ module _ (g : Setting) (chain : List Segment) where
   abbrev To : State → (ℕ → Segment) → log.Done → Type 0
   To w book d = Goes g w book (OpeningShown g chain d.state) d.outs
 
+  -- where the opening ends by it, and no restart may be doubtful, the premise on losses is asked for
+  abbrev Owed : State → (ℕ → Segment) → log.Done → Type 0
+  Owed w book d = (g.doubts ≡ false → d.state.flight ≡ None → w.pick_low ≤ w.head → Undoubted w) → To w book d
+
   -- a restart is sure where none may be doubtful
   abbrev sure_when : Bool → ℕ
   sure_when true = 0
@@ -289,6 +294,7 @@ module _ (g : Setting) (chain : List Segment) where
       later = t.later;
       steps = t.steps;
       frame = t.frame;
+      fresh = t.fresh;
       paged = t.paged;
       shows = inl (aloft_writes t.world t.later s f h (λ x is. (t.frame.booked x is, t.frame.segment x is)) t.paged t.shows);
       said = t.said;
@@ -296,29 +302,29 @@ module _ (g : Setting) (chain : List Segment) where
     }
 
     nothing : (s : LogState) → WritingShown g w book chain s → To w book (still s)
-    nothing s h = record { world = w; later = book; steps = Done; frame = record { others = refl; booked = λ x is. is; segment = λ x is. refl; stores = λ p is. is; filed = λ x is. is; calm = λ none c. c }; paged = paged; shows = inl h; said = tt; end_follows = inl refl }
+    nothing s h = record { world = w; later = book; steps = Done; frame = record { others = refl; booked = λ x is. is; segment = λ x is. refl; stores = λ p is. is; filed = λ x is. is; calm = λ none c. c }; fresh = λ x is. inl is; paged = paged; shows = inl h; said = tt; end_follows = inl refl }
 
-    by_test : (t : Bool) (d e : log.Done) → (t ≡ true → To w book d) → (t ≡ false → To w book e) → To w book (cond t d e)
+    by_test : (t : Bool) (d e : log.Done) → (t ≡ true → Owed w book d) → (t ≡ false → Owed w book e) → Owed w book (cond t d e)
     by_test true d e h k = h refl
     by_test false d e h k = k refl
 
-    follows_goes : (s : LogState) (f : FlightState) → WritingShown g w book chain s → Flying g book f s.inc s.end.seq (w.booked w.flight) w.flight w.noted → (g.doubts ≡ false → w.pick_low ≤ w.head → Undoubted w) → To w book (log.followed s f (fate_of s.groups f))
+    follows_goes : (s : LogState) (f : FlightState) → WritingShown g w book chain s → Flying g book f s.inc s.end.seq (w.booked w.flight) w.flight w.noted → Owed w book (log.followed s f (fate_of s.groups f))
     unfolding log.restriped log.settled log.launched log.if_full
-    follows_goes s f h flying premise = pick Follows (nat_lt f.group.parity (lost_count s.groups f.group.members)) Restripe _
-        (λ t. aloft_goes s _ _ h (restriped_goes g w book fixed paged reached s f h.writes flying))
+    follows_goes s f h flying = pick Follows (nat_lt f.group.parity (lost_count s.groups f.group.members)) Restripe _
+        (λ t premise. aloft_goes s _ _ h (restriped_goes g w book fixed paged reached s f h.writes flying))
         (λ t. pick Follows (all_done s.groups f.noted f.group.members 0) Settle Wait
-        (λ all. settling (serves_goes g w book fixed paged reached chain s f (sure_when g.doubts) h flying all (sure_premise g.doubts refl) is_sure))
-        (λ all. aloft_goes s f [] h (waits_goes g w book fixed paged reached s f h.writes flying)))
+        (λ all premise. settling (serves_goes g w book fixed paged reached chain s f (sure_when g.doubts) h flying all (sure_premise g.doubts refl (λ none. premise none (ap (λ (d : log.Done). d.state.flight) lands))) is_sure))
+        (λ all premise. aloft_goes s f [] h (waits_goes g w book fixed paged reached s f h.writes flying)))
       where
         Follows : Fate → Type 0
-        Follows fate = To w book (log.followed s f fate)
+        Follows fate = Owed w book (log.followed s f fate)
 
         is_sure : g.doubts ≡ false → sure_when g.doubts ≡ 1
         is_sure none = ap sure_when none
 
-        sure_premise : (b : Bool) → g.doubts ≡ b → sure_when b ≡ 1 → w.pick_low ≤ w.head → Undoubted w
-        sure_premise true e one = absurd (omega arith)
-        sure_premise false e one = premise e
+        sure_premise : (b : Bool) → g.doubts ≡ b → (g.doubts ≡ false → w.pick_low ≤ w.head → Undoubted w) → sure_when b ≡ 1 → w.pick_low ≤ w.head → Undoubted w
+        sure_premise true e premise one = absurd (omega arith)
+        sure_premise false e premise one = premise e
 
         -- nothing waits, so nothing is sealed behind it
         lands : log.if_full (log.landed s f) ≡ still (log.landed s f)
@@ -326,12 +332,11 @@ module _ (g : Setting) (chain : List Segment) where
 
         settling : Goes g w book (λ v later. Serves g v later (log.landed s f) × AllFiled g v chain) (Settled (end_from f.segment) (rows_of f.segment) ∷ []) → To w book (after (Settled (end_from f.segment) (rows_of f.segment) ∷ []) (log.if_full (log.landed s f)))
         settling t = subst (λ (d : log.Done). To w book (after (Settled (end_from f.segment) (rows_of f.segment) ∷ []) d)) (sym lands)
-            (record { world = t.world; later = t.later; steps = t.steps; frame = t.frame; paged = t.paged; shows = inr t.shows; said = t.said; end_follows = t.end_follows })
+            (record { world = t.world; later = t.later; steps = t.steps; frame = t.frame; fresh = t.fresh; paged = t.paged; shows = inr (t.shows.0, t.shows.1, refl); said = t.said; end_follows = t.end_follows })
 
-    looks_goes : (before s : LogState) (f : FlightState) → WritingShown g w book chain before → WritingShown g w book chain s → Flying g book f s.inc s.end.seq (w.booked w.flight) w.flight w.noted → (g.doubts ≡ false → w.pick_low ≤ w.head → Undoubted w)
-        → To w book (log.looked_at before s f)
+    looks_goes : (before s : LogState) (f : FlightState) → WritingShown g w book chain before → WritingShown g w book chain s → Flying g book f s.inc s.end.seq (w.booked w.flight) w.flight w.noted → Owed w book (log.looked_at before s f)
     unfolding log.looked_at
-    looks_goes before s f was h flying premise = by_test (log.can_follow s f (fate_of s.groups f)) _ _ (λ t. follows_goes s f h flying premise) (λ t. nothing before was)
+    looks_goes before s f was h flying = by_test (log.can_follow s f (fate_of s.groups f)) _ _ (λ t. follows_goes s f h flying) (λ t premise. nothing before was)
 
     chained_same : (stores : List StorePacket) (top x : ℕ) (ts : List Segment) → Chained g w book top x ts → Chained g (record w { stores = stores }) book top x ts
     chained_same stores top x [] c = c
@@ -347,6 +352,7 @@ module _ (g : Setting) (chain : List Segment) where
           later = book;
           steps = t.steps;
           frame = record { others = refl; booked = λ x is. is; segment = λ x is. refl; stores = t.grown; filed = λ x is. is; calm = λ none c. c };
+          fresh = λ x is. inl is;
           paged = paged;
           shows = inl (record {
             writes = record { log = h.writes.log; inc = h.writes.inc; some = h.writes.some; map = h.writes.map; known = h.writes.known };
@@ -363,17 +369,17 @@ module _ (g : Setting) (chain : List Segment) where
         }
 
   module _ (w : State) (book : ℕ → Segment) (fixed : Fixed g w) (paged : Book g w book) (reached : Reached w) where
-    acked_goes : (s : LogState) (name : SegName) (index generation : ℕ) → WritingShown g w book chain s → (g.doubts ≡ false → w.pick_low ≤ w.head → Undoubted w) → StoredSeen g w.storeds name index generation → To w book (log.on_acked s name index generation)
+    acked_goes : (s : LogState) (name : SegName) (index generation : ℕ) → WritingShown g w book chain s → StoredSeen g w.storeds name index generation → Owed w book (log.on_acked s name index generation)
     unfolding log.on_acked
-    acked_goes s name index generation h premise seen =
-        subst (λ o. To w book (elim o [ None ↦ still s | Some f ↦ if log.is_of f name index generation then log.looked_at s s (log.noting f index) else still s ])) (sym h.is_flight)
-        (by_test w book fixed paged reached (log.is_of h.flight name index generation) _ _ (λ t. noting t) (λ t. nothing w book fixed paged reached s h))
+    acked_goes s name index generation h seen =
+        subst (λ o. Owed w book (elim o [ None ↦ still s | Some f ↦ if log.is_of f name index generation then log.looked_at s s (log.noting f index) else still s ])) (sym h.is_flight)
+        (by_test w book fixed paged reached (log.is_of h.flight name index generation) _ _ (λ t. noting t) (λ t premise. nothing w book fixed paged reached s h))
       where
         v : State
         v = notes w (record { name = seen.number; index = index; generation = generation })
 
-        noting : log.is_of h.flight name index generation ≡ true → To w book (log.looked_at s s (log.noting h.flight index))
-        noting t =
+        noting : log.is_of h.flight name index generation ≡ true → Owed w book (log.looked_at s s (log.noting h.flight index))
+        noting t premise =
             let same : seen.number ≡ w.flight = one_number g seen.number w.flight (sym seen.named ∙ (one_name name h.flight.segment.name (and_first (same_name name h.flight.segment.name) _ t)
             ∙ (ap (λ (z : Segment). z.name) h.flying.segment ∙ (paged w.flight h.flying.is_booked).named))) in
             let step : Steps w v = More Done (Notes (record { name = seen.number; index = index; generation = generation }) (record { sent = seen.sent; flying = h.flying.some; named = same })) in
@@ -387,18 +393,18 @@ module _ (g : Setting) (chain : List Segment) where
               is_flight = h.is_flight;
               flying = record { some = h.flying.some; is_booked = h.flying.is_booked; segment = h.flying.segment; stripe = h.flying.stripe; own = h.flying.own; next = h.flying.next; notes = noted_still g h.flight.noted w.noted index h.flying.notes };
             } in
-            goes_after g _ w v book _ step (record { others = refl; booked = λ x is. is; segment = λ x is. refl; stores = λ p is. is; filed = λ x is. is; calm = λ none c. c }) refl
+            goes_after g _ w v book _ step (record { others = refl; booked = λ x is. is; segment = λ x is. refl; stores = λ p is. is; filed = λ x is. is; calm = λ none c. c }) (λ x is. is) refl
             (looks_goes v book (record { servers = fixed.servers; seq_of = fixed.seq_of; incarnation_of = fixed.incarnation_of; attempt_of = fixed.attempt_of }) paged (reached_by w v reached step refl) s s (log.noting h.flight index) there there
             (record { some = h.flying.some; is_booked = h.flying.is_booked; segment = h.flying.segment; stripe = h.flying.stripe; own = h.flying.own; next = h.flying.next; notes = noted_more g h.flight.noted w.noted index h.flying.notes }) premise)
 
-    maps_goes : (s : LogState) (m : GroupMapState) → WritingShown g w book chain s → (g.doubts ≡ false → w.pick_low ≤ w.head → Undoubted w) → MapSeen g w.registry_generation m → To w book (log.on_maps s m)
+    maps_goes : (s : LogState) (m : GroupMapState) → WritingShown g w book chain s → MapSeen g w.registry_generation m → Owed w book (log.on_maps s m)
     unfolding log.on_maps log.looked_at
-    maps_goes s m h premise seen =
-        subst (λ o. To w book (elim o [ None ↦ still (record s { groups = m }) | Some f ↦ log.looked_at s (record s { groups = m }) f ])) (sym h.is_flight)
+    maps_goes s m h seen =
+        subst (λ o. Owed w book (elim o [ None ↦ still (record s { groups = m }) | Some f ↦ log.looked_at s (record s { groups = m }) f ])) (sym h.is_flight)
         (by_test w book fixed paged reached (log.can_follow (record s { groups = m }) h.flight (fate_of m h.flight)) _ _
-        (λ t. goes_after g _ w v book _ step (record { others = refl; booked = λ x is. is; segment = λ x is. refl; stores = λ p is. is; filed = λ x is. is; calm = λ none c. c }) refl
+        (λ t premise. goes_after g _ w v book _ step (record { others = refl; booked = λ x is. is; segment = λ x is. refl; stores = λ p is. is; filed = λ x is. is; calm = λ none c. c }) (λ x is. is) refl
         (follows_goes v book (record { servers = fixed.servers; seq_of = fixed.seq_of; incarnation_of = fixed.incarnation_of; attempt_of = fixed.attempt_of }) paged (reached_by w v reached step refl) (record s { groups = m }) h.flight there h.flying premise))
-        (λ t. nothing w book fixed paged reached s h))
+        (λ t premise. nothing w book fixed paged reached s h))
       where
         v : State
         v = learns w (present_at m)
@@ -431,6 +437,6 @@ pub opening_takes : OpeningTakes
 opening_takes g w book chain s (Put block entry value) fixed reached paged h premise brings = absurd brings
 opening_takes g w book chain s (Parts items) fixed reached paged h premise brings = absurd brings
 opening_takes g w book chain s Seal fixed reached paged h premise brings = absurd brings
-opening_takes g w book chain s (Acked name index generation) fixed reached paged h premise brings = acked_goes g chain w book fixed paged reached s name index generation h premise brings
-opening_takes g w book chain s (Maps m) fixed reached paged h premise brings = maps_goes g chain w book fixed paged reached s m h premise brings
+opening_takes g w book chain s (Acked name index generation) fixed reached paged h premise brings = acked_goes g chain w book fixed paged reached s name index generation h brings premise
+opening_takes g w book chain s (Maps m) fixed reached paged h premise brings = maps_goes g chain w book fixed paged reached s m h brings premise
 opening_takes g w book chain s Tick fixed reached paged h premise brings = tick_goes g chain w book fixed paged reached s h

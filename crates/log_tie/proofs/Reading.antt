@@ -117,7 +117,7 @@ module _ (g : Setting) (v : State) (book : ℕ → Segment) (hellos : List Asked
   -- ---- what is said
 
   -- nothing that asks the registry or tells a chain
-  pub sees_quiet : (o : Opening) (stage : Stage) (outs : List Out) → Framed o → asked_by v.incarnation v.low outs hellos ≡ hellos → AllByRecursion (OutShown g v book o.groups) outs → StageShown g v book hellos o stage → Sees (goes o stage outs)
+  pub sees_quiet : (o : Opening) (stage : Stage) (outs : List Out) → Framed o → asked_by v.incarnation v.low outs hellos ≡ hellos → AllByRecursion (OutShown g v book o) outs → StageShown g v book hellos o stage → Sees (goes o stage outs)
   sees_quiet o stage outs f same gives h = record {
     shown = subst (λ hs. ScanShown g v book hs (record { opening = o; stage = stage })) (sym same) (record { log = f.log; inc = f.inc; horizon = f.horizon; asked = f.asked; stage = h });
     gives = gives;
@@ -130,7 +130,7 @@ module _ (g : Setting) (v : State) (book : ℕ → Segment) (hellos : List Asked
   asked_fetches name ask [] = refl
   asked_fetches name ask (s ∷ ss) = asked_fetches name ask ss
 
-  gives_fetches : (o : Opening) (name : SegName) (ask : ℕ) (servers : List ℕ) → AllByRecursion (OutShown g v book o.groups) (map (λ server. Fetch server name ask) servers)
+  gives_fetches : (o : Opening) (name : SegName) (ask : ℕ) (servers : List ℕ) → AllByRecursion (OutShown g v book o) (map (λ server. Fetch server name ask) servers)
   gives_fetches o name ask [] = tt
   gives_fetches o name ask (s ∷ ss) = (tt, gives_fetches o name ask ss)
 
@@ -138,7 +138,7 @@ module _ (g : Setting) (v : State) (book : ℕ → Segment) (hellos : List Asked
   asked_fences [] = refl
   asked_fences (s ∷ ss) = asked_fences ss
 
-  gives_fences : (o : Opening) (servers : List ℕ) → AllByRecursion (OutShown g v book o.groups) (fences servers)
+  gives_fences : (o : Opening) (servers : List ℕ) → AllByRecursion (OutShown g v book o) (fences servers)
   gives_fences o [] = tt
   gives_fences o (s ∷ ss) = (tt, gives_fences o ss)
 
@@ -171,7 +171,7 @@ module _ (g : Setting) (v : State) (book : ℕ → Segment) (hellos : List Asked
 
   -- a reading is seen alike after a question
   asked_reading : (o : Opening) (ask : ℕ) (b : Backward) → ReadingShown g v book o b → ReadingShown g v book (record o { ask = ask }) b
-  asked_reading o ask b h = record { phase = h.phase; mapped = record { map = h.mapped.map; taken = h.mapped.taken; whole = h.mapped.whole; known = h.mapped.known }; base = h.base; opening = h.opening; low = h.low; past = h.past; from = h.from; chained = h.chained; seq = h.seq; grouped = h.grouped }
+  asked_reading o ask b h = record { phase = h.phase; mapped = record { map = h.mapped.map; taken = h.mapped.taken; whole = h.mapped.whole; known = h.mapped.known }; base = h.base; begun = h.begun; opening = h.opening; low = h.low; past = h.past; from = h.from; chained = h.chained; seq = h.seq; grouped = h.grouped }
 
   -- all lists are in: the registry is asked
   pub asks_new : (o : Opening) (lists : List Listing) (bound : ℕ) → Framed o → Gathering g v book o bound lists → ((u : ℕ) → 0 < u → u < suc g.servers → has_list u lists ≡ true) → bound ≤ v.low → v.begin_low ≤ bound → Sees (asks_anew o (Asks lists))
@@ -192,16 +192,18 @@ module _ (g : Setting) (v : State) (book : ℕ → Segment) (hellos : List Asked
 
   pub chain_told : (o : Opening) (b : Backward) → Framed o → ReadingShown g v book o b → Sees (goes o Over (chain_of b ∷ []))
   chain_told o b f h = record {
-    shown = record { log = f.log; inc = f.inc; horizon = f.horizon; asked = f.asked; stage = tt };
+    shown = record { log = f.log; inc = f.inc; horizon = f.horizon; asked = f.asked; stage = h.phase };
     gives = (
       (
         h.mapped.map,
         h.mapped.taken,
+        h.low,
         record {
           phase = h.phase;
           map = h.mapped.whole.seen.whole;
           known = h.mapped.known;
           base = h.base;
+          grouped = h.begun;
           read = record { opening = h.opening; lowest = v.pick_low; picked = omega arith; cut = h.past; from = h.from; next = point g b.next.seq b.next.pass; chained = h.chained };
         },
       ),
@@ -238,6 +240,7 @@ module _ (g : Setting) (v : State) (book : ℕ → Segment) (hellos : List Asked
       phase = h.phase;
       mapped = h.mapped;
       base = h.base;
+      begun = h.begun;
       opening = h.opening;
       low = h.low;
       past = h.past;
@@ -290,7 +293,7 @@ module _ (g : Setting) (v : State) (book : ℕ → Segment) (hellos : List Asked
     goes_shown o b r next.Ask f h more looks shown name later owed = sees_fetches (record o { ask = r.ask }) b r (framed_drawn o r.ask later f) (asked_reading o r.ask b h, more, (looks, shown))
     goes_shown o b r next.Again f h more looks shown name later owed = sees_anew o (Reads b (Some r)) f (asked_reading o (o.ask + 1) b h, more, (looks, shown))
     goes_shown o b r (next.Read s) f h more looks shown name later owed = let y = owed s refl in follows_shown o (with_segment b s) f (segment_read o b s y.0 h more (name ∙ looks) y.1 y.2)
-    goes_shown o b r next.Lost f h more looks shown name later owed = sees_quiet o Over (Lost r.target.seg.name ∷ []) f refl (tt, tt) tt
+    goes_shown o b r next.Lost f h more looks shown name later owed = sees_quiet o Over (Lost r.target.seg.name ∷ []) f refl (tt, tt) h.phase
 
     -- a step of the reading, of which what is read is booked
     step_shown : (o : Opening) (b : Backward) (r : ReadingState) (step : Step) → StepFits r o.ask step → Framed o → ReadingShown g v book o b → is_bottom o.low b.next ≡ false → r.target.seg.name ≡ name_at g.log b.next → RoundShown g book v.booked b.next step.state.round

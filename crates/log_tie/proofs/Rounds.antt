@@ -132,9 +132,10 @@ module _ (g : Setting) (w : State) (book : ℕ → Segment) (paged : Book g w bo
   pub record Reads (r : RoundSoFar) : Type 0 where
     pub number : ℕ
     pub booked : w.booked number ≡ 1
+    pub named : (book number).name ≡ name_at g.log e
     pub text : joined (parts_in r.n r.answers) r.parity (unwrap_or (len_in r.answers) 0) ≡ text_of (book number)
 
-  enough_reads : (r : RoundSoFar) → Shown r → IsGrouped g book w.booked e → is_enough r ≡ true → Reads r
+  pub enough_reads : (r : RoundSoFar) → Shown r → IsGrouped g book w.booked e → is_enough r ≡ true → Reads r
   enough_reads r shown grouped enough = by (held_first r.answers shown.told)
     where
       few : ((i : ℕ) → bytes_in i r.answers ≡ None) → ⊥
@@ -148,6 +149,7 @@ module _ (g : Setting) (w : State) (book : ℕ → Segment) (paged : Book g w bo
           record {
             number = y;
             booked = h.piece.2;
+            named = named;
             text = ap (λ o. joined (parts_in r.n r.answers) r.parity (unwrap_or o 0)) (h.long ∙ ap (λ (z : Fragment). Some z.meta.len) h.piece.3) ∙ joined_is y h.piece.2 named (grouped y h.piece.2 named) r shown enough;
           }
 

@@ -38,7 +38,7 @@ use Rattle.log_tie.specs.Setting.{Setting, present_at, point}
 use Rattle.log_tie.specs.Seen.{Page, Book, Fixed, ByOwner, Goes}
 use Rattle.log_tie.specs.Openings.{Chained}
 use Rattle.log_tie.specs.Rounds.{IsSpelled, IsGrouped}
-use Rattle.log_tie.specs.Scans.{Asked, WholeMap, Answered, FencedSeen, ListKept, AllListed, Phantom, Mapped, Gathering, Asking, LooksFor, ReadingShown, StageShown, ScanShown, Scanned, ScanTakes, ScanStarts}
+use Rattle.log_tie.specs.Scans.{Asked, WholeMap, Answered, FencedSeen, ListKept, AllListed, Phantom, Mapped, Gathering, Asking, LooksFor, ReadingShown, StageShown, ScanShown, Scanned, BooksNothing, PicksAtHorizon, ScanTakes, ScanStarts}
 use Rattle.log_tie.proofs.Names.{equal, itself, one_number, coded, point_some}
 use Rattle.log_tie.proofs.Listings.{range_has, none_filtered, has_more, torn_lacks, le_test, test_le}
 use Rattle.log_tie.proofs.Picks.{list_of, picks_nothing, Best, the_best, keeps_it, discards_it, nothing_newest}
@@ -63,15 +63,22 @@ all_more g w book bound (x ∷ xs) l all k fresh = (record { seen = all.0.seen; 
 
 module _ (g : Setting) (w : State) (book : ℕ → Segment) (hellos : List Asked) (fixed : Fixed g w) (reached : Reached w) (paged : Book g w book) (spelled : IsSpelled g book w.booked) where
   abbrev To : Done → Type 0
-  To d = Goes g w book (λ v later. Scanned g v later hellos d.state d.outs) []
+  To d = Goes g w book (λ v later. Scanned g v later hellos d.state d.outs × BooksNothing w v × PicksAtHorizon w v) []
 
   -- by these steps
-  goes_by : (v : State) (d : Done) → Steps w v → ByOwner g w v book book → Book g v book → v.end ≡ w.end → Sees g v book hellos d → To d
-  goes_by v d steps by pages same shows = record { world = v; later = book; steps = steps; frame = by; paged = pages; shows = shows; said = tt; end_follows = inl same }
+  goes_by : (v : State) (d : Done) → Steps w v → ByOwner g w v book book → BooksNothing w v → PicksAtHorizon w v → Book g v book → v.end ≡ w.end → Sees g v book hellos d → To d
+  goes_by v d steps by back picks pages same shows = record { world = v; later = book; steps = steps; frame = by; fresh = λ x is. inl (back x is); paged = pages; shows = (shows, back, picks); said = tt; end_follows = inl same }
+
+  -- nothing was picked
+  no_pick : (v : State) → v.phase ≡ w.phase → v.pick_low ≡ w.pick_low → PicksAtHorizon w v
+  no_pick v same low = record { begins = λ a b. absurd (clash a b same); stays = λ a. low }
+    where
+      clash : w.phase ≡ 1 → v.phase ≡ 2 → v.phase ≡ w.phase → ⊥
+      clash a b c = omega arith
 
   -- by none
   goes_still : (d : Done) → Sees g w book hellos d → To d
-  goes_still d shows = goes_by w d Still (record { others = refl; booked = λ x is. is; segment = λ x is. refl; stores = λ p is. is; filed = λ x is. is; calm = λ none c. c }) paged refl shows
+  goes_still d shows = goes_by w d Still (record { others = refl; booked = λ x is. is; segment = λ x is. refl; stores = λ p is. is; filed = λ x is. is; calm = λ none c. c }) (λ x is. is) (no_pick _ refl refl) paged refl shows
 
   framed_of : (o : Opening) (stage : Stage) → ScanShown g w book hellos (record { opening = o; stage = stage }) → Framed g w book hellos o
   framed_of o stage h = record { log = h.log; inc = h.inc; horizon = h.horizon; asked = h.asked }
@@ -86,7 +93,7 @@ module _ (g : Setting) (w : State) (book : ℕ → Segment) (hellos : List Asked
     learning = More Still (Learns (present_at m) (record { known = whole.seen.past }))
 
     goes_learned : (d : Done) → Sees g learned book hellos d → To d
-    goes_learned d shows = goes_by learned d learning (record { others = refl; booked = λ x is. is; segment = λ x is. refl; stores = λ p is. is; filed = λ x is. is; calm = λ none c. c }) paged refl shows
+    goes_learned d shows = goes_by learned d learning (record { others = refl; booked = λ x is. is; segment = λ x is. refl; stores = λ p is. is; filed = λ x is. is; calm = λ none c. c }) (λ x is. is) (no_pick _ refl refl) paged refl shows
 
     mapped_there : Mapped g learned (Some m)
     mapped_there = record { map = m; taken = refl; whole = whole; known = λ u. refl }
@@ -109,7 +116,7 @@ module _ (g : Setting) (w : State) (book : ℕ → Segment) (hellos : List Asked
     chained_there top x (t ∷ ts) h = (h.0, h.1, h.2, h.3, h.4, chained_there top h.0 ts h.5)
 
     reading_there : (o : Opening) (b : Backward) → ReadingShown g w book o b → ReadingShown g learned book (record o { groups = Some m }) b
-    reading_there o b h = record { phase = h.phase; mapped = mapped_there; base = h.base; opening = h.opening; low = h.low; past = h.past; from = h.from; chained = chained_there _ _ _ h.chained; seq = h.seq; grouped = h.grouped }
+    reading_there o b h = record { phase = h.phase; mapped = mapped_there; base = h.base; begun = h.begun; opening = h.opening; low = h.low; past = h.past; from = h.from; chained = chained_there _ _ _ h.chained; seq = h.seq; grouped = h.grouped }
 
     framed_there : (o : Opening) → Framed g w book hellos o → Framed g learned book hellos (record o { groups = Some m })
     framed_there o f = record { log = f.log; inc = f.inc; horizon = f.horizon; asked = f.asked }
@@ -119,7 +126,7 @@ module _ (g : Setting) (w : State) (book : ℕ → Segment) (hellos : List Asked
     stage_there o (Gathers lists) h = gathering_there o w.low lists h
     stage_there o (Asks lists) h = record { bound = h.bound; gathering = gathering_there o h.bound lists h.gathering; every = h.every; past = h.past; begun = h.begun; after = h.after }
     stage_there o (Reads b r) h = (reading_there o b h.0, h.1, h.2)
-    stage_there o Over h = tt
+    stage_there o Over h = h
 
     maps_goes : (o : Opening) (stage : Stage) → ScanShown g w book hellos (record { opening = o; stage = stage }) → To (stays (record o { groups = Some m }) stage)
     maps_goes o stage h = goes_learned (stays (record o { groups = Some m }) stage) (sees_still g learned book hellos (record o { groups = Some m }) stage (framed_there o (framed_of o stage h)) (stage_there o stage h.stage))
@@ -149,6 +156,7 @@ module _ (g : Setting) (w : State) (book : ℕ → Segment) (hellos : List Asked
           phase = h.phase;
           mapped = record { map = m; taken = refl; whole = whole; known = λ u. refl };
           base = h.base;
+          begun = h.begun;
           opening = h.opening;
           low = refl;
           past = (let a = h.past in let c = h.low in omega arith);
@@ -167,7 +175,7 @@ module _ (g : Setting) (w : State) (book : ℕ → Segment) (hellos : List Asked
 
         goes_cut : (d : Done) → Sees g cut book hellos d → To d
         goes_cut d shows = goes_by cut d (More learning (Cuts (max o.low least) (record { rises = (let a = h.low in omega arith); known = risen_known })))
-            (record { others = refl; booked = λ x is. is; segment = λ x is. refl; stores = λ p is. is; filed = λ x is. is; calm = λ none c. c }) paged refl shows
+            (record { others = refl; booked = λ x is. is; segment = λ x is. refl; stores = λ p is. is; filed = λ x is. is; calm = λ none c. c }) (λ x is. is) (no_pick _ refl refl) paged refl shows
 
         cut_fixed : Fixed g cut
         cut_fixed = record { servers = fixed.servers; seq_of = fixed.seq_of; incarnation_of = fixed.incarnation_of; attempt_of = fixed.attempt_of }
@@ -209,17 +217,17 @@ module _ (g : Setting) (w : State) (book : ℕ → Segment) (hellos : List Asked
         BestOne b = Best g learned book learned_fixed paged learned_reached m whole k.bound (max o.low least) lists gathering.kept gathering.phantom k.every k.begun later risen_known b
 
         -- from a start
-        from_start : (v : State) (start : End) → Steps w v → ByOwner g w v book book → Book g v book → v.end ≡ w.end → v.phase ≡ 2 → Mapped g v (Some m) → v.base ≡ point g start.seq start.pass → v.opening_seq ≡ start.seq + 1 → v.read_low ≡ max o.low least → v.pick_low ≡ v.read_low
+        from_start : (v : State) (start : End) → Steps w v → ByOwner g w v book book → BooksNothing w v → Book g v book → v.end ≡ w.end → v.phase ≡ 2 → Mapped g v (Some m) → v.base ≡ point g start.seq start.pass → v.opening_seq ≡ start.seq + 1 → v.read_low ≡ max o.low least → v.pick_low ≡ v.read_low
             → v.incarnation ≡ w.incarnation → v.low ≡ w.low → IsGrouped g book v.booked start → To (follows risen (read_from start))
-        from_start v start steps by pages end phase mapped base opening low picked inc horizon grouped = goes_by v (follows risen (read_from start)) steps by pages end
+        from_start v start steps by back pages end phase mapped base opening low picked inc horizon grouped = goes_by v (follows risen (read_from start)) steps by back (record { begins = λ a b. picked; stays = λ a. absurd (let p = k.gathering.phase in omega arith) }) pages end
             (follows_shown g v book hellos risen (read_from start)
             (record { log = f.log; inc = f.inc ∙ sym inc; horizon = (let a = risen_known in omega arith); asked = λ a is boot. f.asked a is (boot ∙ inc) })
-            (record { phase = phase; mapped = mapped; base = base; opening = opening; low = low; past = omega arith; from = tt; chained = sym base; seq = omega arith; grouped = grouped }))
+            (record { phase = phase; mapped = mapped; base = base; opening = opening; low = low; past = omega arith; from = tt; chained = sym base; seq = omega arith; grouped = grouped; begun = grouped }))
 
         none_goes : counting (max o.low least) lists ≡ [] → To (follows risen (read_from (end_of_none (max o.low least - 1))))
         none_goes none = from_start (picks_none learned (max o.low least)) (end_of_none (max o.low least - 1))
             (More learning (Picks_none lists_of (max o.low least) (picks_nothing g learned book learned_fixed paged learned_reached m whole k.bound (max o.low least) lists gathering.kept gathering.phantom k.every k.begun later risen_known gathering.phase none)))
-            (record { others = refl; booked = λ x is. is; segment = λ x is. refl; stores = λ p is. is; filed = λ x is. is; calm = λ none c. c }) paged refl refl (record { map = m; taken = refl; whole = whole; known = λ u. refl }) refl (let a = low_some in omega arith) refl refl refl refl none_named
+            (record { others = refl; booked = λ x is. is; segment = λ x is. refl; stores = λ p is. is; filed = λ x is. is; calm = λ none c. c }) (λ x is. is) paged refl refl (record { map = m; taken = refl; whole = whole; known = λ u. refl }) refl (let a = low_some in omega arith) refl refl refl refl none_named
           where
             none_named : IsGrouped g book w.booked (end_of_none (max o.low least - 1))
             none_named y is named = let a = (paged y is).boot in let b = ap (λ (n : SegName). n.pass.inc) named in absurd (omega arith)
@@ -245,14 +253,14 @@ module _ (g : Setting) (w : State) (book : ℕ → Segment) (hellos : List Asked
           kept_goes : is_torn lists b.name group.members ≡ false → To (follows risen (read_from (end_at b)))
           kept_goes none = from_start (picks_kept learned (max o.low least) one.number) (end_at b)
               (More learning (Picks_kept lists_of (max o.low least) one.number (keeps_it g learned book learned_fixed paged learned_reached m whole k.bound (max o.low least) lists gathering.kept gathering.phantom k.every k.begun later risen_known b one group of gathering.phase none)))
-              (record { others = refl; booked = λ x is. is; segment = λ x is. refl; stores = λ p is. is; filed = λ x is. is; calm = λ none c. c }) paged refl refl (record { map = m; taken = refl; whole = whole; known = λ u. refl })
+              (record { others = refl; booked = λ x is. is; segment = λ x is. refl; stores = λ p is. is; filed = λ x is. is; calm = λ none c. c }) (λ x is. is) paged refl refl (record { map = m; taken = refl; whole = whole; known = λ u. refl })
               (sym (point_some g b.name.seq b.name.pass some_inc ∙ (ap (λ (z : SegName). g.code z.seq z.pass.inc z.pass.att) one.named ∙ coded g one.number))) (let a = seq in omega arith) refl refl refl refl kept_grouped
 
           prior_goes : is_torn lists b.name group.members ≡ true → To (follows risen (read_from (end_before b)))
           prior_goes torn = let l = torn_lacks lists b.name group.members torn in
               from_start (picks_prior learned (max o.low least) one.number) (end_before b)
               (More learning (Picks_prior lists_of (max o.low least) one.number l.place (discards_it g learned book learned_fixed paged learned_reached m whole k.bound (max o.low least) lists gathering.kept gathering.phantom k.every k.begun later risen_known b one group of gathering.phase l)))
-              (record { others = refl; booked = λ x is. is; segment = λ x is. refl; stores = λ p is. is; filed = λ x is. is; calm = λ none c. c }) paged refl refl (record { map = m; taken = refl; whole = whole; known = λ u. refl })
+              (record { others = refl; booked = λ x is. is; segment = λ x is. refl; stores = λ p is. is; filed = λ x is. is; calm = λ none c. c }) (λ x is. is) paged refl refl (record { map = m; taken = refl; whole = whole; known = λ u. refl })
               (page.after ∙ ap (λ (z : FragMeta). point g (z.name.seq - 1) z.prior.pass) (sym one.is)) (let a = (always w reached).shelf.priors.seq_some one.number one.booked in let q = seq in omega arith) refl refl refl refl prior_grouped
 
           start_goes : To (follows risen (read_from (start_in lists b group)))

@@ -19,11 +19,11 @@ use Rattle.client_log.specs.LogState.{FlightState, LogState, is_noted, none_note
 use Rattle.client_log.specs.Transition as log
 use Rattle.xfs_base.proofs.Booleans.{contrary}
 use Rattle.log_tie.specs.Setting.{Setting, stripe_of_group, server_of, point, IsStripe}
-use Rattle.log_tie.specs.Seen.{Book, Serves, ByOwner, Goes, Fixed}
+use Rattle.log_tie.specs.Seen.{Book, Serves, ByOwner, BooksItsFlight, Goes, Fixed}
 use Rattle.log_tie.proofs.Names.{some_number, name_coded}
 use Rattle.log_tie.proofs.Frames.{steps_through}
 use Rattle.log_tie.proofs.Sending.{sent_all}
-use Rattle.log_tie.proofs.Booking.{with_page, page_here, page_there, booked_state, stripe_group, booked_pages}
+use Rattle.log_tie.proofs.Booking.{books_one, with_page, page_here, page_there, booked_state, stripe_group, booked_pages}
 
 -- nothing is noted of a segment that was written just now
 pub nothing_noted : (i : ℕ) → is_noted none_noted i ≡ false
@@ -37,14 +37,15 @@ nothing_noted i = none 8 i
 module _ (g : Setting) (w : State) (book : ℕ → Segment) (fixed : Fixed g w) (paged : Book g w book) where
   -- a state with a new name booked: what is shown once its Stores were sent
   -- (v is the state after the step that booked, u the same with the Stores)
-  pub launch : (P : State → (ℕ → Segment) → Type 0) (v : State) (later : ℕ → Segment) (f : FlightState) (x : ℕ) → Steps w v → ByOwner g w v book later → v.end ≡ w.end → Book g v later → v.booked x ≡ 1 → f.segment ≡ later x → stripe_of_group f.group ≡ g.stripe (later x).group
+  pub launch : (P : State → (ℕ → Segment) → Type 0) (v : State) (later : ℕ → Segment) (f : FlightState) (x : ℕ) → Steps w v → ByOwner g w v book later → BooksItsFlight w v → v.end ≡ w.end → Book g v later → v.booked x ≡ 1 → f.segment ≡ later x → stripe_of_group f.group ≡ g.stripe (later x).group
       → ((stores : List StorePacket) → P (record v { stores = stores }) later) → Goes g w book P (log.all_sends f)
-  launch P v later f x steps by same_end pages booked segment stripe shows =
+  launch P v later f x steps by fresh same_end pages booked segment stripe shows =
       let t = sent_all g v later f x booked segment stripe pages in record {
         world = record v { stores = t.all };
         later = later;
         steps = steps_through w v _ steps t.steps;
         frame = record { others = by.others; booked = by.booked; segment = by.segment; stores = λ p is. t.grown p (by.stores p is); filed = by.filed; calm = by.calm };
+        fresh = fresh;
         paged = pages;
         shows = shows t.all;
         said = t.said;
@@ -62,7 +63,7 @@ module _ (g : Setting) (w : State) (book : ℕ → Segment) (fixed : Fixed g w) 
     pub writes_goes : (items : List Item) → Serves g w book s → w.flight ≡ 0 → (dirty : List _) → Goes g w book (λ v later. Serves g v later (log.writes (record s { dirty = dirty }) items).state) (log.writes (record s { dirty = dirty }) items).outs
     unfolding log.launched
     writes_goes items shown idle dirty =
-        launch _ v later f x (More Done (Seals x _ _ _ _ can)) by refl pages booked (sym here) (sym (is.named) ∙ ap (λ (z : Segment). g.stripe z.group) (sym here)) (λ stores. record {
+        launch _ v later f x (More Done (Seals x _ _ _ _ can)) by (books_one w x) refl pages booked (sym here) (sym (is.named) ∙ ap (λ (z : Segment). g.stripe z.group) (sym here)) (λ stores. record {
           writes = record { log = shown.writes.log; inc = shown.writes.inc; some = shown.writes.some; map = shown.writes.map; known = shown.writes.known };
           phase = shown.phase;
           end = shown.end;

@@ -38,6 +38,7 @@ use Rattle.log_tie.specs.Seen.{EndFollows, Book, Flying, FlightShown, Serves, By
 use Rattle.log_tie.specs.Inputs.{StoredSeen, MapSeen, TakesInputs}
 use Rattle.log_tie.proofs.Names.{one_name, one_number}
 use Rattle.log_protocol.specs.Tables.{put}
+use Rattle.log_protocol.proofs.Induction.{always}
 use Rattle.log_tie.proofs.Frames.{steps_through, by_through, goes_nowhere, goes_through}
 use Rattle.log_tie.proofs.Sending.{sent_all}
 use Rattle.log_tie.proofs.Sealing.{writes_goes}
@@ -129,6 +130,7 @@ module _ (g : Setting) where
           later = book;
           steps = t.steps;
           frame = record { others = refl; booked = λ x is. is; segment = λ x is. refl; stores = t.grown; filed = λ x is. is; calm = λ none c. c };
+          fresh = λ x is. inl is;
           paged = paged;
           shows = record { writes = record { log = h.writes.log; inc = h.writes.inc; some = h.writes.some; map = h.writes.map; known = h.writes.known }; phase = h.phase; end = h.end; end_seq = h.end_seq; flight = h.flight };
           said = t.said;
@@ -151,8 +153,12 @@ module _ (g : Setting) where
         after_it : LogState
         after_it = log.landed s f
 
+        -- nothing is in flight behind a settled segment, so nothing was booked
+        nothing_flies : (t : Goes g w book (ServesAs after_it) (Settled (end_from f.segment) (rows_of f.segment) ∷ [])) (x : ℕ) → t.world.booked x ≡ 1 → x ≡ t.world.flight → w.booked x ≡ 1
+        nothing_flies t x is e = let a = (always t.world (reached_by w t.world reached t.steps t.frame.others)).shelf.texts.booked_name x is in let b = t.shows.flight in absurd (omega arith)
+
         settling : Goes g w book (ServesAs after_it) (Settled (end_from f.segment) (rows_of f.segment) ∷ []) → To w book (after (Settled (end_from f.segment) (rows_of f.segment) ∷ []) (log.if_full after_it))
-        settling t = goes_through g (ServesAs (log.if_full after_it).state) (ServesAs after_it) w book _ _ t
+        settling t = goes_through g (ServesAs (log.if_full after_it).state) (ServesAs after_it) w book _ _ t (λ x is. ⊎_elim (λ old. old) (λ e. nothing_flies t x is e) (t.fresh x is))
             (full_goes t.world t.later (fixed_by g w t.world fixed t.frame.others) t.paged (reached_by w t.world reached t.steps t.frame.others) after_it t.shows)
 
     -- settling is looked at
@@ -172,8 +178,8 @@ module _ (g : Setting) where
   noted_still noted table index old i h = let was = old i h in grind (arith, nat_tests)
 
   -- some steps of the owner before
-  pub goes_after : (P : State → (ℕ → Segment) → Type 0) (w v : State) (book : ℕ → Segment) (outs : List Out) → Steps w v → ByOwner g w v book book → v.end ≡ w.end → Goes g v book P outs → Goes g w book P outs
-  goes_after P w v book outs steps by same t = record { world = t.world; later = t.later; steps = steps_through w v t.world steps t.steps; frame = by_through g w v t.world book book t.later by t.frame; paged = t.paged; shows = t.shows; said = t.said; end_follows = after_end t.end_follows }
+  pub goes_after : (P : State → (ℕ → Segment) → Type 0) (w v : State) (book : ℕ → Segment) (outs : List Out) → Steps w v → ByOwner g w v book book → ((x : ℕ) → v.booked x ≡ 1 → w.booked x ≡ 1) → v.end ≡ w.end → Goes g v book P outs → Goes g w book P outs
+  goes_after P w v book outs steps by back same t = record { world = t.world; later = t.later; steps = steps_through w v t.world steps t.steps; frame = by_through g w v t.world book book t.later by t.frame; fresh = λ x is. ⊎_elim (λ old. inl (back x old)) inr (t.fresh x is); paged = t.paged; shows = t.shows; said = t.said; end_follows = after_end t.end_follows }
     where
       after_end : EndFollows g v t.world outs → EndFollows g w t.world outs
       after_end (inl e) = inl (e ∙ same)
@@ -202,7 +208,7 @@ module _ (g : Setting) where
                 ∙ (ap (λ (z : Segment). z.name) shown.segment ∙ (paged w.flight shown.is_booked).named))) in
                 let v : State = notes w (record { name = seen.number; index = index; generation = generation }) in
                 let step : Steps w v = More Done (Notes (record { name = seen.number; index = index; generation = generation }) (record { sent = seen.sent; flying = shown.some; named = same })) in
-                goes_after _ w v book _ step (record { others = refl; booked = λ x is. is; segment = λ x is. refl; stores = λ p is. is; filed = λ x is. is; calm = λ none c. c }) refl
+                goes_after _ w v book _ step (record { others = refl; booked = λ x is. is; segment = λ x is. refl; stores = λ p is. is; filed = λ x is. is; calm = λ none c. c }) (λ x is. is) refl
                 (looks_goes v book (record { servers = fixed.servers; seq_of = fixed.seq_of; incarnation_of = fixed.incarnation_of; attempt_of = fixed.attempt_of }) paged (reached_by w v reached step refl) s (log.noting f index)
                 (record {
                   writes = record { log = h.writes.log; inc = h.writes.inc; some = h.writes.some; map = h.writes.map; known = h.writes.known };
@@ -236,9 +242,9 @@ module _ (g : Setting) where
 
         by : (o : Option FlightState) → s.flight ≡ o → FlightShown g book o s.inc s.end.seq (w.booked w.flight) w.flight w.noted
             → To w book (elim o [ None ↦ still (record s { groups = m }) | Some f ↦ log.looked_at s (record s { groups = m }) f ])
-        by None e shown = goes_after _ w v book [] step frame refl (nothing v book fixed_there paged (reached_by w v reached step refl) (record s { groups = m }) shown_there)
+        by None e shown = goes_after _ w v book [] step frame (λ x is. is) refl (nothing v book fixed_there paged (reached_by w v reached step refl) (record s { groups = m }) shown_there)
         by (Some f) e shown = by_test w book fixed paged reached s (log.can_follow (record s { groups = m }) f (fate_of m f)) _ _
-            (λ t. goes_after _ w v book _ step frame refl (follows_goes v book fixed_there paged (reached_by w v reached step refl) (record s { groups = m }) f shown_there shown))
+            (λ t. goes_after _ w v book _ step frame (λ x is. is) refl (follows_goes v book fixed_there paged (reached_by w v reached step refl) (record s { groups = m }) f shown_there shown))
             (λ t. nothing w book fixed paged reached s h)
 
 pub takes_inputs : TakesInputs

@@ -26,11 +26,11 @@ use Rattle.xfs_base.proofs.Booleans.{contrary, and_first, and_second}
 use Rattle.log_tie.specs.Setting.{Setting, Stripe, server_of, generation_of, present_at, name_of, point, IsStripe}
 use Rattle.log_tie.specs.Seen.{Page, Book, Flying, Writes, Serves, ByOwner, Goes, Fixed, standing_of}
 use Rattle.log_tie.proofs.Names.{coded, some_number, name_coded, point_some}
-use Rattle.log_tie.proofs.Booking.{with_page, page_here, page_there, booked_state, stripe_group, booked_pages}
+use Rattle.log_tie.proofs.Booking.{books_one, with_page, page_here, page_there, booked_state, stripe_group, booked_pages}
 use Rattle.log_tie.proofs.Sealing.{launch, nothing_noted}
 
 pub goes_map : (g : Setting) (w : State) (book : ℕ → Segment) (P Q : State → (ℕ → Segment) → Type 0) (outs : List Out) → ((v : State) (later : ℕ → Segment) → P v later → Q v later) → Goes g w book P outs → Goes g w book Q outs
-goes_map g w book P Q outs k t = record { world = t.world; later = t.later; steps = t.steps; frame = t.frame; paged = t.paged; shows = k t.world t.later t.shows; said = t.said; end_follows = t.end_follows }
+goes_map g w book P Q outs k t = record { world = t.world; later = t.later; steps = t.steps; frame = t.frame; fresh = t.fresh; paged = t.paged; shows = k t.world t.later t.shows; said = t.said; end_follows = t.end_follows }
 
 either : (a b : Bool) → (a || b) ≡ true → (a ≡ true) ⊎ (b ≡ true)
 either true b h = inl refl
@@ -76,7 +76,7 @@ module _ (g : Setting) (w : State) (book : ℕ → Segment) (fixed : Fixed g w) 
       → Goes g w book (Aloft s (log.flown (log.next_attempt f.segment.name) f.segment.prior f.segment.items (log.group_for s.groups s.log.0 f.segment.name.seq))) (log.restriped s f).outs
   unfolding log.restriped log.launched
   restriped_goes f writes h =
-      launch g w book fixed paged _ v later f' x (More Done (Restripes x _ _ _ can)) by refl pages booked (sym here) (sym is.named ∙ ap (λ (z : Segment). g.stripe z.group) (sym here)) (λ stores. record {
+      launch g w book fixed paged _ v later f' x (More Done (Restripes x _ _ _ can)) by (books_one w x) refl pages booked (sym here) (sym is.named ∙ ap (λ (z : Segment). g.stripe z.group) (sym here)) (λ stores. record {
         writes = record { log = writes.log; inc = writes.inc; some = writes.some; map = writes.map; known = writes.known };
         flying = record {
           some = can.named;
@@ -157,7 +157,7 @@ module _ (g : Setting) (w : State) (book : ℕ → Segment) (fixed : Fixed g w) 
 
   -- it waits on
   pub waits_goes : (f : FlightState) → Writes g w s → FlyingHere f → Goes g w book (Aloft s f) []
-  waits_goes f writes h = record { world = w; later = book; steps = Done; frame = record { others = refl; booked = λ x is. is; segment = λ x is. refl; stores = λ p is. is; filed = λ x is. is; calm = λ none c. c }; paged = paged; shows = record { writes = writes; flying = h; standing = refl }; said = tt; end_follows = inl refl }
+  waits_goes f writes h = record { world = w; later = book; steps = Done; frame = record { others = refl; booked = λ x is. is; segment = λ x is. refl; stores = λ p is. is; filed = λ x is. is; calm = λ none c. c }; fresh = λ x is. inl is; paged = paged; shows = record { writes = writes; flying = h; standing = refl }; said = tt; end_follows = inl refl }
 
   -- each member is noted or lost
   pub settled_there : (f : FlightState) → Writes g w s → FlyingHere f → all_done s.groups f.noted f.group.members 0 ≡ true → Settled w
@@ -193,6 +193,7 @@ module _ (g : Setting) (w : State) (book : ℕ → Segment) (fixed : Fixed g w) 
     later = book;
     steps = More Done (Settles (record { serving = shown.phase; flying = h.some; settled = settled_there f shown.writes h all }));
     frame = record { others = refl; booked = λ x is. is; segment = λ x is. refl; stores = λ p is. is; filed = λ x is. put_one x is; calm = λ none c. c };
+    fresh = λ x is. inl is;
     paged = paged;
     shows = record {
       writes = record { log = shown.writes.log; inc = shown.writes.inc; some = shown.writes.some; map = shown.writes.map; known = shown.writes.known };

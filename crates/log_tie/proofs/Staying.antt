@@ -74,6 +74,7 @@ module _ (g : Setting) (w u : State) (book : ℕ → Segment) (hellos : List Ask
     phase = phase_same 2 h.phase;
     mapped = mapped_stays o h.mapped;
     base = same (λ z. z.base ≡ point g b.start.seq b.start.pass) h.base;
+    begun = same (λ z. IsGrouped g book z.booked b.start) h.begun;
     opening = same (λ z. z.opening_seq ≡ b.start.seq + 1) h.opening;
     low = same (λ z. z.read_low ≡ o.low) h.low;
     past = same (λ z. z.pick_low ≤ z.read_low) h.past;
@@ -98,7 +99,7 @@ module _ (g : Setting) (w u : State) (book : ℕ → Segment) (hellos : List Ask
   stage_stays o (Gathers lists) h = gathering_stays o w.low u.low lists by.low h
   stage_stays o (Asks lists) h = asking_stays o lists h
   stage_stays o (Reads b r) h = (reading_stays o b h.0, h.1, same (λ z. LooksFor g book z.booked b.next r) h.2)
-  stage_stays o Over h = tt
+  stage_stays o Over h = phase_same 2 h
 
 pub scan_stays : ScanStays
 scan_stays g w u book hellos s by h = record {

@@ -1,5 +1,5 @@
 -- How a log that is opened again is seen, from the moment at which all of it is read back until its owner serves.
-use Rattle.std.specs.Prelude.{◌≡◌, ℕ, ◌+◌, ◌≤◌, ◌⊎◌, true, false, List, [], ◌∷◌, Some, length}
+use Rattle.std.specs.Prelude.{◌≡◌, ℕ, ◌+◌, ◌≤◌, ◌⊎◌, true, false, List, [], ◌∷◌, Some, None, length}
 use Rattle.xfs_base.specs.declared.segment.End.{End}
 use Rattle.segment_format.specs.declared.segment.Segment.{Segment}
 use Rattle.group_map.specs.GroupMapState.{GroupMapState}
@@ -13,6 +13,7 @@ use Rattle.log_protocol.specs.State.{State}
 use Rattle.log_tie.specs.Setting.{Setting, present_at, name_of, point, IsMap}
 use Rattle.log_tie.specs.Seen.{Book, Flying, Writes, Serves, Fixed, Goes}
 use Rattle.log_tie.specs.Inputs.{StoredSeen, MapSeen}
+use Rattle.log_tie.specs.Rounds.{IsGrouped}
 
 -- What was read back, the lowest first, as links down from the base: x is the name before them.
 abbrev pub Chained : Setting → State → (ℕ → Segment) → ℕ → ℕ → List Segment → Type 0
@@ -40,6 +41,7 @@ pub record ReadShown (g : Setting) (w : State) (book : ℕ → Segment) (start :
   pub map : IsMap g groups
   pub known : (v : ℕ) → w.owner_generation v ≡ present_at groups v
   pub base : w.base ≡ point g start.seq start.pass
+  pub grouped : IsGrouped g book w.booked start
   pub read : ChainShown g w book start.seq chain
 
 -- the opening segment is in flight, and nothing else waits
@@ -58,15 +60,14 @@ abbrev pub AllFiled : Setting → State → List Segment → Type 0
 AllFiled g w [] = Unit {0}
 AllFiled g w (t ∷ ts) = ((x : ℕ) × (t.name ≡ name_of g x) × (w.filed x ≡ 1)) × AllFiled g w ts
 
--- the opening segment is still in flight, or it has settled: then the owner serves, and all that was read back is filed
+-- the opening segment is still in flight, or it has settled: then the owner serves with nothing in flight, and all that was read back is filed
 abbrev pub OpeningShown : Setting → List Segment → LogState → State → (ℕ → Segment) → Type 0
-OpeningShown g chain s v later = WritingShown g v later chain s ⊎ (Serves g v later s × AllFiled g v chain)
+OpeningShown g chain s v later = WritingShown g v later chain s ⊎ (Serves g v later s × AllFiled g v chain × (s.flight ≡ None))
 
 -- The opening segment, which has no items, is written by a step of the opening.
 abbrev pub OpensByStep : Type 0
 OpensByStep =
-    (g : Setting) (w : State) (book : ℕ → Segment) (start : End) (chain : List Segment) (groups : GroupMapState) → Fixed g w → Reached w
-    → Book g w book → ReadShown g w book start chain groups → has_next start.seq ≡ true
+    (g : Setting) (w : State) (book : ℕ → Segment) (start : End) (chain : List Segment) (groups : GroupMapState) → Fixed g w → Reached w → Book g w book → ReadShown g w book start chain groups → has_next start.seq ≡ true
     → Goes g w book (λ v later. WritingShown g v later chain (transition (started g.log w.incarnation start groups) (Parts [])).state) (transition (started g.log w.incarnation start groups) (Parts [])).outs
 
 -- what the world owes each input of an opening's log; it takes no others
@@ -78,10 +79,9 @@ BringsOpening g w (Acked name index generation) = StoredSeen g w.storeds name in
 BringsOpening g w (Maps m) = MapSeen g w.registry_generation m
 BringsOpening g w Tick = Unit {0}
 
--- Each input of a log that is opened is taken by steps of the opening; where no restart is doubtful, the premise on losses is asked for.
+-- Each input of a log that is opened is taken by steps of the opening; where no restart is doubtful, the premise on losses is
+-- asked for where the opening ends.
 abbrev pub OpeningTakes : Type 0
 OpeningTakes =
-    (g : Setting) (w : State) (book : ℕ → Segment) (chain : List Segment) (s : LogState) (input : inputs.In) → Fixed g w → Reached w → Book g w book
-    → WritingShown g w book chain s
-    → (g.doubts ≡ false → w.pick_low ≤ w.head → Undoubted w) → BringsOpening g w input
-    → Goes g w book (OpeningShown g chain (transition s input).state) (transition s input).outs
+    (g : Setting) (w : State) (book : ℕ → Segment) (chain : List Segment) (s : LogState) (input : inputs.In) → Fixed g w → Reached w → Book g w book → WritingShown g w book chain s
+    → (g.doubts ≡ false → (transition s input).state.flight ≡ None → w.pick_low ≤ w.head → Undoubted w) → BringsOpening g w input → Goes g w book (OpeningShown g chain (transition s input).state) (transition s input).outs

@@ -134,6 +134,7 @@ pub record ReadingShown (g : Setting) (w : State) (book : ℕ → Segment) (o : 
   pub phase : w.phase ≡ 2
   pub mapped : Mapped g w o.groups
   pub base : w.base ≡ point g b.start.seq b.start.pass
+  pub begun : IsGrouped g book w.booked b.start
   pub opening : w.opening_seq ≡ b.start.seq + 1
   pub low : w.read_low ≡ o.low
   pub past : w.pick_low ≤ w.read_low
@@ -147,7 +148,7 @@ StageShown g w book hellos o Hails = (w.phase ≡ 1) × Phantom w
 StageShown g w book hellos o (Gathers lists) = Gathering g w book o w.low lists
 StageShown g w book hellos o (Asks lists) = Asking g w book hellos o lists
 StageShown g w book hellos o (Reads b r) = ReadingShown g w book o b × (is_bottom o.low b.next ≡ false) × LooksFor g book w.booked b.next r
-StageShown g w book hellos o Over = Unit {0}
+StageShown g w book hellos o Over = w.phase ≡ 2
 
 -- An opening of the log in the owner's boot: no question of that boot has a number above its last one's.
 pub record ScanShown (g : Setting) (w : State) (book : ℕ → Segment) (hellos : List Asked) (s : ScanState) : Type 0 where
@@ -157,13 +158,13 @@ pub record ScanShown (g : Setting) (w : State) (book : ℕ → Segment) (hellos 
   pub asked : (a : Asked) → In a hellos → a.inc ≡ w.incarnation → a.ask ≤ s.opening.ask
   pub stage : StageShown g w book hellos s.opening s.stage
 
--- where a chain is told, all is read back
-abbrev pub OutShown : Setting → State → (ℕ → Segment) → Option GroupMapState → Out → Type 0
-OutShown g w book groups (Hello ask) = Unit {0}
-OutShown g w book groups (Fence server) = Unit {0}
-OutShown g w book groups (Fetch server name ask) = Unit {0}
-OutShown g w book groups (Chain segments end prior) = (m : GroupMapState) × (groups ≡ Some m) × ReadShown g w book end segments m
-OutShown g w book groups (Lost name) = Unit {0}
+-- where a chain is told, all is read back, down to the horizon that the opening took last
+abbrev pub OutShown : Setting → State → (ℕ → Segment) → Opening → Out → Type 0
+OutShown g w book o (Hello ask) = Unit {0}
+OutShown g w book o (Fence server) = Unit {0}
+OutShown g w book o (Fetch server name ask) = Unit {0}
+OutShown g w book o (Chain segments end prior) = (m : GroupMapState) × (o.groups ≡ Some m) × (w.read_low ≡ o.low) × ReadShown g w book end segments m
+OutShown g w book o (Lost name) = Unit {0}
 
 -- ---- the laws
 
@@ -179,14 +180,22 @@ BringsScan g w book hellos s Tick = Unit {0}
 -- the opening is seen as it is after the input, and what it tells is read back
 pub record Scanned (g : Setting) (w : State) (book : ℕ → Segment) (hellos : List Asked) (s : ScanState) (outs : List Out) : Type 0 where
   pub shown : ScanShown g w book (asked_by w.incarnation w.low outs hellos) s
-  pub gives : AllByRecursion (OutShown g w book s.opening.groups) outs
+  pub gives : AllByRecursion (OutShown g w book s.opening) outs
+
+-- nothing is booked while a log is read back
+abbrev pub BooksNothing : State → State → Type 0
+BooksNothing w v = (x : ℕ) → v.booked x ≡ 1 → w.booked x ≡ 1
+
+-- what is picked is picked by the horizon that the opening took last, once
+pub record PicksAtHorizon (w v : State) : Type 0 where
+  pub begins : w.phase ≡ 1 → v.phase ≡ 2 → v.pick_low ≡ v.read_low
+  pub stays : w.phase ≡ 2 → v.pick_low ≡ w.pick_low
 
 -- Each input of an opening is taken by steps of the owner, where what is booked can be read back.
 abbrev pub ScanTakes : Type 0
 ScanTakes =
-    (g : Setting) (w : State) (book : ℕ → Segment) (hellos : List Asked) (s : ScanState) (input : inputs.In) → Fixed g w → Reached w → Book g w book
-    → IsSpelled g book w.booked → ScanShown g w book hellos s → BringsScan g w book hellos s input
-    → Goes g w book (λ v later. Scanned g v later hellos (transition s input).state (transition s input).outs) []
+    (g : Setting) (w : State) (book : ℕ → Segment) (hellos : List Asked) (s : ScanState) (input : inputs.In) → Fixed g w → Reached w → Book g w book → IsSpelled g book w.booked → ScanShown g w book hellos s → BringsScan g w book hellos s input
+    → Goes g w book (λ v later. Scanned g v later hellos (transition s input).state (transition s input).outs × BooksNothing w v × PicksAtHorizon w v) []
 
 -- A restart: the owner's next boot, in which server 0 is asked at once; all else is as it was.
 pub record Restarted (g : Setting) (w : State) (book : ℕ → Segment) (hellos : List Asked) : Type 0 where
@@ -200,8 +209,7 @@ pub record Restarted (g : Setting) (w : State) (book : ℕ → Segment) (hellos 
 -- An owner that is down begins to open its log by steps; no question of its next boot was asked, and server 0 holds nothing.
 abbrev pub ScanStarts : Type 0
 ScanStarts =
-    (g : Setting) (w : State) (book : ℕ → Segment) (hellos : List Asked) → Fixed g w → Reached w → Book g w book → w.phase ≡ 0
-    → ((x : ℕ) → w.holds 0 x ≡ 0) → ((a : Asked) → In a hellos → a.inc ≤ w.incarnation)
+    (g : Setting) (w : State) (book : ℕ → Segment) (hellos : List Asked) → Fixed g w → Reached w → Book g w book → w.phase ≡ 0 → ((x : ℕ) → w.holds 0 x ≡ 0) → ((a : Asked) → In a hellos → a.inc ≤ w.incarnation)
     → Restarted g w book hellos
 
 -- what others leave as it was while a log is opened
@@ -240,6 +248,4 @@ pub record ByOthers (w u : State) : Type 0 where
 
 -- What others do leaves an opening as it is seen.
 abbrev pub ScanStays : Type 0
-ScanStays =
-    (g : Setting) (w u : State) (book : ℕ → Segment) (hellos : List Asked) (s : ScanState) → ByOthers w u → ScanShown g w book hellos s
-    → ScanShown g u book hellos s
+ScanStays = (g : Setting) (w u : State) (book : ℕ → Segment) (hellos : List Asked) (s : ScanState) → ByOthers w u → ScanShown g w book hellos s → ScanShown g u book hellos s

@@ -139,12 +139,17 @@ pub record ByOwner (g : Setting) (w v : State) (book later : ℕ → Segment) : 
 abbrev pub EndFollows : Setting → State → State → List Out → Type 0
 EndFollows g w v outs = (v.end ≡ w.end) ⊎ In (name_of g v.end) (log_filed g.log outs)
 
+-- what was booked is what is in flight now
+abbrev pub BooksItsFlight : State → State → Type 0
+BooksItsFlight w v = (x : ℕ) → v.booked x ≡ 1 → (w.booked x ≡ 1) ⊎ (x ≡ v.flight)
+
 -- By steps of the owner the state becomes one in which P holds, with a book, and in which what is given was sent.
 pub record Goes (g : Setting) (w : State) (book : ℕ → Segment) (P : State → (ℕ → Segment) → Type 0) (outs : List Out) : Type 0 where
   pub world : State
   pub later : ℕ → Segment
   pub steps : Steps w world
   pub frame : ByOwner g w world book later
+  pub fresh : BooksItsFlight w world
   pub paged : Book g world later
   pub shows : P world later
   pub said : AllSaid g world.booked later world.stores world.filed outs

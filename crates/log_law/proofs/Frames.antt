@@ -1,0 +1,197 @@
+-- What others do leaves the owner as it is seen.
+use Rattle.std.proofs.Common.{◌≡◌, ℕ, suc, ◌+◌, ◌≤◌, List, [], ◌∷◌, refl, sym, subst, arith}
+use Rattle.segment_format.specs.declared.segment.Segment.{Segment}
+use Rattle.client_log.specs.LogState.{LogState}
+use Rattle.log_protocol.specs.Packets.{StorePacket, StoredPacket, FragmentPacket, FencedPacket}
+use Rattle.log_protocol.specs.State.{State}
+use Rattle.log_protocol.specs.Tables.{In}
+use Rattle.log_tie.specs.Setting.{Setting, present_at, point}
+use Rattle.log_tie.specs.Seen.{Page, Book, Flying, FlightShown, Writes, Serves, Fixed}
+use Rattle.log_tie.specs.Openings.{Chained, WritingShown}
+use Rattle.log_tie.specs.Rounds.{IsSpelled, IsGrouped}
+use Rattle.log_tie.specs.Scans.{Asked, Opener, opener_of, ByOthers}
+use Rattle.log_law.specs.Net.{Owner}
+use Rattle.log_law.specs.Net.Owner.{Down, Opening, Writing, Serving}
+use Rattle.log_law.proofs.Below.{Below}
+use Rattle.log_law.proofs.Views.{Behind, Flown, OwnerShown}
+use Rattle.log_law.proofs.Growing.{Later}
+
+-- all that is the owner's, or of the book
+pub record Seat : Type 0 where
+  pub servers : ℕ
+  pub seq_of : ℕ → ℕ
+  pub incarnation_of : ℕ → ℕ
+  pub attempt_of : ℕ → ℕ
+  pub owner_generation : ℕ → ℕ
+  pub booked : ℕ → ℕ
+  pub text_of : ℕ → ℕ
+  pub member_count : ℕ → ℕ
+  pub member_server : ℕ → ℕ → ℕ
+  pub member_generation : ℕ → ℕ → ℕ
+  pub prior_of : ℕ → ℕ
+  pub content_of : ℕ → ℕ
+  pub filed : ℕ → ℕ
+  pub stores : List StorePacket
+  pub incarnation : ℕ
+  pub phase : ℕ
+  pub end : ℕ
+  pub flight : ℕ
+  pub noted : ℕ → ℕ
+  pub base : ℕ
+  pub opening_seq : ℕ
+  pub read_low : ℕ
+  pub pick_low : ℕ
+  pub begin_low : ℕ
+  pub span_low : ℕ
+  pub spanning : ℕ
+  pub served : ℕ
+  pub clean : ℕ
+  pub line : ℕ → ℕ
+  pub head : ℕ
+
+abbrev pub seat_of : State → Seat
+seat_of w = record {
+  servers = w.servers;
+  seq_of = w.seq_of;
+  incarnation_of = w.incarnation_of;
+  attempt_of = w.attempt_of;
+  owner_generation = w.owner_generation;
+  booked = w.booked;
+  text_of = w.text_of;
+  member_count = w.member_count;
+  member_server = w.member_server;
+  member_generation = w.member_generation;
+  prior_of = w.prior_of;
+  content_of = w.content_of;
+  filed = w.filed;
+  stores = w.stores;
+  incarnation = w.incarnation;
+  phase = w.phase;
+  end = w.end;
+  flight = w.flight;
+  noted = w.noted;
+  base = w.base;
+  opening_seq = w.opening_seq;
+  read_low = w.read_low;
+  pick_low = w.pick_low;
+  begin_low = w.begin_low;
+  span_low = w.span_low;
+  spanning = w.spanning;
+  served = w.served;
+  clean = w.clean;
+  line = w.line;
+  head = w.head;
+}
+
+-- Servers, the registry or the cleaner stepped: the owner and the book are as they were, what was sent or dropped stays so, generations and horizons rise.
+pub record Apart (w u : State) : Type 0 where
+  pub seat : seat_of u ≡ seat_of w
+  pub storeds : (p : StoredPacket) → In p w.storeds → In p u.storeds
+  pub fragments : (p : FragmentPacket) → In p w.fragments → In p u.fragments
+  pub fenceds : (p : FencedPacket) → In p w.fenceds → In p u.fenceds
+  pub dropped : (x : ℕ) → w.dropped x ≡ 1 → u.dropped x ≡ 1
+  pub registry : (v : ℕ) → w.registry_generation v ≤ u.registry_generation v
+  pub low : w.low ≤ u.low
+
+module _ (g : Setting) (w u : State) (book : ℕ → Segment) (by : Apart w u) where
+  -- what holds of the seat there holds here
+  pub same : (P : Seat → Type 0) → P (seat_of w) → P (seat_of u)
+  same P h = subst P (sym by.seat) h
+
+  pub later_apart : Later w u book book
+  later_apart = record {
+    booked = same (λ o. (x : ℕ) → w.booked x ≡ 1 → o.booked x ≡ 1) (λ x is. is);
+    segment = λ x is. refl;
+    stores = same (λ o. (p : StorePacket) → In p w.stores → In p o.stores) (λ p is. is);
+    storeds = by.storeds;
+    fragments = by.fragments;
+    fenceds = by.fenceds;
+    dropped = by.dropped;
+    registry = by.registry;
+    incarnation = same (λ o. w.incarnation ≤ o.incarnation) (omega arith);
+    low = by.low;
+  }
+
+  pub fixed_apart : Fixed g w → Fixed g u
+  fixed_apart f = record {
+    servers = same (λ o. o.servers ≡ suc g.servers) f.servers;
+    seq_of = same (λ o. o.seq_of ≡ g.seq_of) f.seq_of;
+    incarnation_of = same (λ o. o.incarnation_of ≡ g.incarnation_of) f.incarnation_of;
+    attempt_of = same (λ o. o.attempt_of ≡ g.attempt_of) f.attempt_of;
+  }
+
+  pub paged_apart : Book g w book → Book g u book
+  paged_apart paged = same (λ o. (x : ℕ) → o.booked x ≡ 1 → Page g x (book x) (o.text_of x) (o.member_count x) (o.member_server x) (o.member_generation x) (o.prior_of x) (o.content_of x)) paged
+
+  pub spelled_apart : IsSpelled g book w.booked → IsSpelled g book u.booked
+  spelled_apart s = same (λ o. IsSpelled g book o.booked) s
+
+  pub flown_apart : (flown : List Segment) → Flown w book flown → Flown u book flown
+  flown_apart flown f = record {
+    all = same (λ o. (x : ℕ) → o.booked x ≡ 1 → In (book x) flown) f.all;
+    booked = same (λ o. (s : Segment) → In s flown → (x : ℕ) × (o.booked x ≡ 1) × (s ≡ book x)) f.booked;
+  }
+
+  -- ---- the owner
+
+  writes_apart : (s : LogState) → Writes g w s → Writes g u s
+  writes_apart s h = record { log = h.log; inc = same (λ o. s.inc ≡ o.incarnation) h.inc; some = h.some; map = h.map; known = same (λ o. (v : ℕ) → o.owner_generation v ≡ present_at s.groups v) h.known }
+
+  behind_apart : (s : LogState) → Behind g w book s → Behind g u book s
+  behind_apart s b = record { ran = b.ran; grouped = same (λ o. IsGrouped g book o.booked s.end) b.grouped }
+
+  serves_apart : (s : LogState) → Serves g w book s → Serves g u book s
+  serves_apart s h = record {
+    writes = writes_apart s h.writes;
+    phase = same (λ o. o.phase ≡ 4) h.phase;
+    end = same (λ o. o.end ≡ point g s.end.seq s.end.pass) h.end;
+    end_seq = same (λ o. g.seq_of o.end ≡ s.end.seq) h.end_seq;
+    flight = same (λ o. FlightShown g book s.flight s.inc s.end.seq (o.booked o.flight) o.flight o.noted) h.flight;
+  }
+
+  chained_apart : (top x : ℕ) (ts : List Segment) → Chained g w book top x ts → Chained g u book top x ts
+  chained_apart top x [] h = same (λ o. x ≡ o.base) h
+  chained_apart top x (t ∷ ts) h = (h.0, same (λ o. o.booked h.0 ≡ 1) h.1, h.2, same (λ o. o.prior_of h.0 ≡ x) h.3, h.4, chained_apart top h.0 ts h.5)
+
+  writing_apart : (chain : List Segment) (s : LogState) → WritingShown g w book chain s → WritingShown g u book chain s
+  writing_apart chain s h = record {
+    writes = writes_apart s h.writes;
+    phase = same (λ o. o.phase ≡ 3) h.phase;
+    clear = h.clear;
+    base = same (λ o. o.base ≡ point g s.end.seq s.end.pass) h.base;
+    read = record {
+      opening = same (λ o. o.opening_seq ≡ s.end.seq + 1) h.read.opening;
+      lowest = h.read.lowest;
+      picked = same (λ o. o.pick_low ≤ h.read.lowest) h.read.picked;
+      cut = same (λ o. h.read.lowest ≤ o.read_low) h.read.cut;
+      from = h.read.from;
+      next = h.read.next;
+      chained = chained_apart _ _ _ h.read.chained;
+    };
+    flight = h.flight;
+    is_flight = h.is_flight;
+    flying = same (λ o. Flying g book h.flight s.inc s.end.seq (o.booked o.flight) o.flight o.noted) h.flying;
+  }
+
+  by_others : ByOthers w u
+  by_others = record { opener = same (λ o. opener_of_seat o ≡ opener_of w) refl; fenceds = by.fenceds; registry = by.registry; low = by.low }
+    where
+      opener_of_seat : Seat → Opener
+      opener_of_seat o = record {
+        incarnation = o.incarnation;
+        phase = o.phase;
+        begin_low = o.begin_low;
+        base = o.base;
+        opening_seq = o.opening_seq;
+        read_low = o.read_low;
+        pick_low = o.pick_low;
+        owner_generation = o.owner_generation;
+        booked = o.booked;
+        prior_of = o.prior_of;
+      }
+
+  pub owner_apart : Below → (hellos : List Asked) (o : Owner) → OwnerShown g w book hellos o → OwnerShown g u book hellos o
+  owner_apart k hellos Down h = same (λ o. o.phase ≡ 0) h
+  owner_apart k hellos (Opening s) h = k.machines.stays g w u book hellos s by_others h
+  owner_apart k hellos (Writing chain s) h = (writing_apart chain s h.0, behind_apart s h.1)
+  owner_apart k hellos (Serving s) h = (serves_apart s h.0, behind_apart s h.1)

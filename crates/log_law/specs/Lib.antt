@@ -1,0 +1,4 @@
+pub mod Net
+pub mod Events
+pub mod Restarts
+pub mod Laws
