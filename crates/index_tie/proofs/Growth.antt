@@ -26,13 +26,13 @@ use Rattle.index_tie.proofs.Tables.{put_each, first_of}
 pub rows_stay : (f g : Filed) (l q : ℕ) → IsMore f g → q ≤ f.head l → rows_at g l q ≡ rows_at f l q
 rows_stay f g l q more most =
     let head = more.head l in
-    by (nat_lt 0 q) (nat_le q (g.head l)) (nat_le q (f.head l)) (grind (arith, nat_tests)) (grind (arith, nat_tests))
+    by (nat_lt 0 q) (nat_le q (g.head l)) (nat_le q (f.head l)) (λ h. grind (arith, nat_tests, h)) (grind (arith, nat_tests)) (grind (arith, nat_tests))
   where
-    by : (some here there : Bool) → here ≡ true → there ≡ true → cond (some && here) (rows_of (g.segment l q)) [] ≡ cond (some && there) (rows_of (f.segment l q)) []
-    by true true true _ _ = ap rows_of (more.segment l q most)
-    by false true true _ _ = refl
-    by some false there h _ = absurd (cc)
-    by some here false _ h = absurd (cc)
+    by : (some here there : Bool) → (some ≡ true → 0 < q) → here ≡ true → there ≡ true → cond (some && here) (rows_of (g.segment l q)) [] ≡ cond (some && there) (rows_of (f.segment l q)) []
+    by true true true from _ _ = ap rows_of (more.segment l q (from refl) most)
+    by false true true from _ _ = refl
+    by some false there from h _ = absurd (cc)
+    by some here false from _ h = absurd (cc)
 
 pub row_stays : (b : BlockId) (f g : Filed) (l q : ℕ) → IsMore f g → q ≤ f.head l → row_at g b l q ≡ row_at f b l q
 row_stays b f g l q more most = ap (λ r. join r b) (rows_stay f g l q more most)
@@ -107,7 +107,7 @@ deltas_stay b f g l first upto rows more t = record {
 pub more_is_filed : MoreIsFiled
 more_is_filed f l s = record {
   head = put_each (λ m n. f.head m ≤ n) f.head l (suc (f.head l)) (omega arith) (λ m other. omega arith);
-  segment = λ m q most. by m q most (m == l) (q == suc (f.head l)) (λ a c. grind (arith, nat_tests));
+  segment = λ m q some most. by m q most (m == l) (q == suc (f.head l)) (λ a c. grind (arith, nat_tests));
 }
   where
     by : (m q : ℕ) → q ≤ f.head m → (t u : Bool) → (t ≡ true → u ≡ true → ⊥) → cond t (cond u s (f.segment m q)) (f.segment m q) ≡ f.segment m q

@@ -40,7 +40,7 @@ dropped_stays b f g dropped more_dropped name more drops k =
     let q = name.seq in
     let head = more.head l in
     let filed = k.within.filed in
-    let same : g.segment l q ≡ f.segment l q = more.segment l q filed in
+    let same : g.segment l q ≡ f.segment l q = more.segment l q k.within.some filed in
     let its : is_filed_name g name ≡ is_filed_name f name = ap (λ (s : Segment). same_name name s.name) same in
     let has : has_block b g name ≡ has_block b f name = ap (λ (s : Segment). list_any (same_block b) (blocks_of s.items)) same in
     record { within = record { some = k.within.some; filed = omega arith }; is = λ is any. drops l q (k.is (sym its ∙ is) (sym has ∙ any)) }
@@ -53,7 +53,7 @@ known_stays b f g dead more_dead dropped more_dropped (Checking j segment checks
     let q = name.seq in
     let head = more.head l in
     let filed = k.within.filed in
-    let same : g.segment l q ≡ f.segment l q = more.segment l q filed in
+    let same : g.segment l q ≡ f.segment l q = more.segment l q k.within.some filed in
     let its : is_filed_name g name ≡ is_filed_name f name = ap (λ (s : Segment). same_name name s.name) same in
     let has : has_block b g name ≡ has_block b f name = ap (λ (s : Segment). list_any (same_block b) (blocks_of s.items)) same in
     record {

@@ -9,8 +9,10 @@ mod Growth
 mod Jobs
 mod JobsStay
 mod Laws
+mod Lines
 mod Registry
 mod Rows
+mod RunExists
 mod Runs
 mod Slots
 mod Tables

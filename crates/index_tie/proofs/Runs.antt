@@ -77,7 +77,7 @@ nothing_joins upto = record {
   its_hop = λ some. absurd (omega arith);
 }
 
-one_at : (k : ℕ) → k < 9 → get_or ones k 0 ≡ 1
+pub one_at : (k : ℕ) → k < 9 → get_or ones k 0 ≡ 1
 one_at zero h = refl
 one_at (suc zero) h = refl
 one_at (suc (suc zero)) h = refl
@@ -89,17 +89,17 @@ one_at (suc (suc (suc (suc (suc (suc (suc zero))))))) h = refl
 one_at (suc (suc (suc (suc (suc (suc (suc (suc zero)))))))) h = refl
 one_at (suc (suc (suc (suc (suc (suc (suc (suc (suc k))))))))) h = absurd (omega arith)
 
-Zeros : List ℕ → Type 0
+pub Zeros : List ℕ → Type 0
 Zeros [] = Unit {0}
 Zeros (x ∷ xs) = (x ≡ 0) × Zeros xs
 
-zero_at : (xs : List ℕ) → Zeros xs → (k : ℕ) → get_or xs k 0 ≡ 0
+pub zero_at : (xs : List ℕ) → Zeros xs → (k : ℕ) → get_or xs k 0 ≡ 0
 unfolding Zeros
 zero_at [] z k = refl
 zero_at (x ∷ xs) z zero = z.0
 zero_at (x ∷ xs) z (suc k) = zero_at xs z.1 k
 
-all_zeros : Zeros zeros
+pub all_zeros : Zeros zeros
 unfolding Zeros
 all_zeros = (refl, (refl, (refl, (refl, (refl, (refl, (refl, (refl, (refl, tt)))))))))
 
@@ -111,7 +111,7 @@ module _ (any : ℕ → ℕ → Segment) (b : BlockId) where
   abbrev none_filed : Filed
   none_filed = record { head = λ l. 0; segment = any }
 
-  no_row : (l q : ℕ) → row_at none_filed b l q ≡ no_entry
+  pub no_row : (l q : ℕ) → row_at none_filed b l q ≡ no_entry
   no_row l q = by_filed (λ rows. join rows b ≡ no_entry) none_filed l q (λ some most. absurd (omega arith)) refl
 
   begun_tells : Tells b none_filed begun_state

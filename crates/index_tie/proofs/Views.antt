@@ -85,8 +85,8 @@ module _ (part : ℕ) (holds : SegRef → Rows) (b : BlockId) where
         omega arith;
   }
 
-  same_test : (f g : Filed) (name : SegName) → IsMore f g → name.seq ≤ f.head name.log.0 → is_filed_name g name ≡ is_filed_name f name
-  same_test f g name more most = ap (λ (s : Segment). same_name name s.name) (more.segment name.log.0 name.seq most)
+  same_test : (f g : Filed) (name : SegName) → IsMore f g → IsWithin f name → is_filed_name g name ≡ is_filed_name f name
+  same_test f g name more within = ap (λ (s : Segment). same_name name s.name) (more.segment name.log.0 name.seq within.some within.filed)
 
   row_later : (f g : Filed) (entry : Entry) → IsMore f g → IsRow b f entry → IsRow b g entry
   row_later f g entry more r =
@@ -105,12 +105,12 @@ module _ (part : ℕ) (holds : SegRef → Rows) (b : BlockId) where
   sound_later n m w v (Checked number k place d) t s = (
     asked_later n m w v number place.seg.name d t s.0,
     λ at is. ap (λ (e : Entry). e.place) (row_stays b n.filed m.filed place.seg.name.log.0 place.seg.name.seq t.more s.0.within.filed)
-        ∙ s.1 at (sym (same_test n.filed m.filed place.seg.name t.more s.0.within.filed) ∙ is),
+        ∙ s.1 at (sym (same_test n.filed m.filed place.seg.name t.more s.0.within) ∙ is),
   )
   sound_later n m w v (AnsweredLive k entry) t s = λ at. row_later n.filed m.filed entry t.more (s at)
   sound_later n m w v (AnsweredDead number k name d e) t s = (
     asked_later n m w v number name d t s.0,
-    λ at is low. t.past.told e name.log.0 name.seq (s.1 at (sym (same_test n.filed m.filed name t.more s.0.within.filed) ∙ is) low),
+    λ at is low. t.past.told e name.log.0 name.seq (s.1 at (sym (same_test n.filed m.filed name t.more s.0.within) ∙ is) low),
   )
 
   pub all_later : (n m : Net) (w v : IndexState) (ps : List Packet) → Later n m w v → AllByRecursion (Sound n w) ps → AllByRecursion (Sound m v) ps
@@ -159,7 +159,7 @@ pub record Good (part : ℕ) (holds : SegRef → Rows) (n : Net) : Type 0 where
   pub views : (b : BlockId) → slot_of b.ino.0 ≡ part → View part holds b n
 
 pub same_filed : (f : Filed) → IsMore f f
-same_filed f = record { head = λ l. omega arith; segment = λ l q most. refl }
+same_filed f = record { head = λ l. omega arith; segment = λ l q some most. refl }
 
 pub tells_same : (b : BlockId) (f : Filed) (w v : IndexState) → v.cleaner ≡ w.cleaner → ((l : ℕ) → v.head l ≡ w.head l) → ((l q : ℕ) → v.version l q ≡ w.version l q) → ((l q : ℕ) → v.hop l q ≡ w.hop l q) → Tells b f w → Tells b f v
 tells_same b f w v cleaner head version hop t = record {

@@ -49,7 +49,8 @@ LiveIsFiled = (b : BlockId) (f : Filed) (w : IndexState) (s : SlotState) (place 
 abbrev pub MovesAreCopies : Type 0
 MovesAreCopies = (b : BlockId) (f : Filed) (entry said : Entry) → IsRow b f entry → said.ver ≡ (moved_once entry).ver → said.hop ≡ (moved_once entry).hop → IsCopy b f said
 
--- A Dead is a beat: where an active manager answers Dead for the place of a filed row below a horizon that an epoch up to its own had kept, its entry is elsewhere.
+-- A Dead is a beat: where an active manager answers Dead for the place of a filed row, below a horizon that an epoch up to its own had kept, its entry is
+-- elsewhere.
 abbrev pub DeadsAreBeats : Type 0
 DeadsAreBeats =
     (b : BlockId) (f : Filed) (w : IndexState) (s : SlotState) (place : Place) (d l q : ℕ) → IndexReached w → IsFiled f → Tells b f w → Manages b f w s → (row_at f b l q).place ≡ Some place → d ≤ s.epoch → q < w.floor d l

@@ -63,7 +63,7 @@ CleanerFiles =
 -- more is filed, and what was filed is as it was
 pub record IsMore (f g : Filed) : Type 0 where
   pub head : (l : ℕ) → f.head l ≤ g.head l
-  pub segment : (l q : ℕ) → q ≤ f.head l → g.segment l q ≡ f.segment l q
+  pub segment : (l q : ℕ) → 0 < q → q ≤ f.head l → g.segment l q ≡ f.segment l q
 
 -- what is known of the manager of an epoch is as it was
 pub record IsKept (e : ℕ) (w v : IndexState) : Type 0 where

@@ -6,5 +6,6 @@ pub mod Checkpoints
 pub mod Feeds
 pub mod Cleaning
 pub mod Laws
+pub mod Lines
 pub mod Net
 pub mod NetLaws

@@ -35,3 +35,19 @@ abbrev pub ReigningIsOutdated : Type 0
 ReigningIsOutdated =
     (part : ℕ) (holds : SegRef → Rows) (n : Net) (b : BlockId) (e : ℕ) (s : SlotState) (place : Place) → Moment part holds n b → n.slots e ≡ Some s → ((d : ℕ) (t : SlotState) → n.slots d ≡ Some t → d ≤ e) → (entry_at s b).place ≡ Some place
     → In place.seg.name n.deleted → is_filed_name n.filed place.seg.name ≡ true → has_block b n.filed place.seg.name ≡ true → IsOutdated b n.filed (entry_at s b)
+
+-- A run that exists: a checkpoint of epoch 1 is kept, the slot moves, the cleaner promises and reports, a manager takes the slot over at epoch 2, a client
+-- files a version of the block, and the new manager is told of it.
+pub record TakenOver : Type 0 where
+  pub any : ℕ → ℕ → Segment
+  pub holds : SegRef → Rows
+  pub net : Net
+  pub run : Runs 0 holds (opening any) net
+  pub block : BlockId
+  pub inside : slot_of block.ino.0 ≡ 0
+  pub deposed : SlotState
+  pub present : SlotState
+  pub was : net.slots 1 ≡ Some deposed
+  pub is : net.slots 2 ≡ Some present
+  pub knows_nothing : (entry_at deposed block).ver ≡ 0
+  pub knows : (entry_at present block).ver ≡ 1

@@ -8,7 +8,8 @@ ghost use Rattle.index_tie.specs.Cleaning.{LiveIsFiled, MovesAreCopies, DeadsAre
 ghost use Rattle.index_tie.specs.Feeds.{RangesTellWhatIsFiled};
 ghost use Rattle.index_tie.specs.Growth.{ClientsFile, CleanerFiles, SlotsStay, PartsStay, DeltasStay, MoreIsFiled};
 ghost use Rattle.index_tie.specs.Laws.{IndexesAreJoins, PlacesAreExact, DroppedIsOutdated, NewestIsKept};
-ghost use Rattle.index_tie.specs.NetLaws.{EachIndexIsTheJoin, NewestIsNeverDeleted, ReigningIsOutdated};
+ghost use Rattle.index_tie.specs.Lines.{LinesAreFiled, LinesAreLinked, FiledNamesAreEnds, FeedsAreFed, LinesGrow};
+ghost use Rattle.index_tie.specs.NetLaws.{EachIndexIsTheJoin, NewestIsNeverDeleted, ReigningIsOutdated, TakenOver};
 ghost use Rattle.index_tie.specs.Slots.{AppliesAreMerges};
 ghost use Rattle.index_tie.specs.Takeovers.{TakeoversAreActivations};
 
@@ -42,6 +43,21 @@ pub fn what_is_seen_stays()
 pub fn logs_file()
     ensures clients { ClientsFile }
     ensures cleaner { CleanerFiles }
+{}
+
+/// What stands on the lines of clean logs is what the index is told of.
+///
+/// - `filed`: it is filed, each segment under its log and seq.
+/// - `linked`: above the least horizon each segment names the one before it.
+/// - `ends`: the end of a filed name is one of the filed segments.
+/// - `feeds`: a serving owner's feed was told of it, above its base.
+/// - `grow`: lines only grow.
+pub fn lines_are_filed()
+    ensures filed { LinesAreFiled }
+    ensures linked { LinesAreLinked }
+    ensures ends { FiledNamesAreEnds }
+    ensures feeds { FeedsAreFed }
+    ensures grow { LinesGrow }
 {}
 
 /// What is told of a range is the join of its rows: the ranges of a log's feed tell of each block of their slot what the log filed in them.
@@ -102,4 +118,9 @@ pub fn cleaning_loses_nothing()
     ensures joins { EachIndexIsTheJoin }
     ensures kept { NewestIsNeverDeleted }
     ensures outdated { ReigningIsOutdated }
+{}
+
+/// The small world has a run in which a checkpoint is kept, the slot is taken over, and its new manager is told of what a client files.
+pub fn a_run_exists()
+    ensures { TakenOver }
 {}
