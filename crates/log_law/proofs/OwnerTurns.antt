@@ -166,7 +166,7 @@ module _ (k : Below) (g : Setting) (n : Net) (h : View g n) where
     paged = h.paged;
     shows = refl;
     said = tt;
-    top = inl refl;
+    end_follows = inl refl;
   }
 
   pub crash_view : Next g n h (record n { owner = Down })
