@@ -1,0 +1,13 @@
+pub mod Asking
+pub mod Blocks
+pub mod Caching
+pub mod Unsettled
+pub mod Events
+pub mod Fetching
+pub mod Giving
+pub mod Groups
+pub mod Maps
+pub mod Standing
+pub mod Unserving
+pub mod Empty
+pub mod Grouped
