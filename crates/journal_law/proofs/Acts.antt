@@ -1,16 +1,16 @@
 -- The line of an act that can be told is read as that act.
-use Rattle.std.proofs.Common.{◌≡◌, ℕ, ◌+◌, ◌==◌, Bool, true, false, not, ◌&&◌, List, [], ◌∷◌, ◌++◌, length, length-append, codes, map, refl, sym, ◌∙◌, ap, arith, Option, Some, None, Result, Ok, Err}
+use Rattle.std.proofs.Common.{◌≡◌, ℕ, ◌+◌, Bool, true, not, List, [], ◌∷◌, ◌++◌, length, length-append, codes, map, refl, sym, ◌∙◌, ap, arith, Option, Some, Result, Ok}
 use Rattle.std.specs.Fmt.{decimal}
 use Rattle.std.specs.List.{AllByRecursion, list_all}
-use Rattle.act_text.specs.Acts.{act_text, line_of, flight_text, fall_text}
+use Rattle.act_text.specs.Acts.{flight_text, fall_text}
 use Rattle.act_text.specs.Pieces.{value_text, block_text, node_text, segment_text}
-use Rattle.audit.specs.Acts.{read_client, read_block, read_version, read_value, read_flight, read_fall, read_segment, read_writer, read_each, act_of, act_by, read_act}
+use Rattle.audit.specs.Acts.{read_client, read_block, read_version, read_value, read_flight, read_fall, read_segment, read_writer, read_each, act_by, read_act}
 use Rattle.audit.specs.Shapes.{is_fall, is_segment, fits, if_fits, shape_of}
 use Rattle.audit.specs.declared.shape.Verb.{Verb}
 use Rattle.audit.specs.declared.shape.Verb.TheVariants as verbs
 use Rattle.script_text.proofs.Parts.{joined_parted, not_end}
 use Rattle.script_text.specs.Outcome.{◌>>=◌}
-use Rattle.script_text.specs.Words.{Lacks, words, joined, is_end}
+use Rattle.script_text.specs.Words.{words, joined, is_end}
 use Rattle.script_text.specs.declared.refusal.Kind.{Kind}
 use Rattle.version_model.specs.declared.act.Act.{Act}
 use Rattle.version_model.specs.declared.act.Act.TheVariants as acts

@@ -1,5 +1,5 @@
 -- A journal is read line by line as its acts, and judged by them.
-use Rattle.std.proofs.Common.{◌≡◌, ℕ, zero, suc, ◌+◌, ◌-◌, ◌<◌, ◌≤◌, Bool, true, false, nat_lt, ◌&&◌, List, [], ◌∷◌, ◌++◌, length, map, slice_get, refl, sym, ◌∙◌, ap, subst, arith, Option, Some, None, Result, Ok, Err, if◌then◌else◌, append-nil, append_assoc}
+use Rattle.std.proofs.Common.{◌≡◌, ℕ, zero, suc, ◌+◌, ◌-◌, ◌≤◌, Bool, true, false, nat_lt, ◌&&◌, List, [], ◌∷◌, ◌++◌, length, map, slice_get, refl, sym, ◌∙◌, ap, subst, arith, Option, Some, None, Result, Ok, Err, if◌then◌else◌, append-nil, append_assoc}
 use Rattle.std.specs.List.{AllByRecursion}
 use Rattle.std.proofs.lemmas.Bool.Decides.{nat_tests}
 use Rattle.act_text.specs.Acts.{line_of}
@@ -16,8 +16,8 @@ use Rattle.version_model.specs.declared.act.Act.{Act}
 use Rattle.version_model.specs.declared.act.Act.TheVariants as acts
 use Rattle.version_model.specs.declared.verdict.Verdict.{Verdict}
 use Rattle.version_model.specs.declared.verdict.Verdict.TheVariants.{Legal, Illegal}
-use Rattle.journal_law.specs.Told.{IsTold, IsLineOf}
-use Rattle.journal_law.specs.Journals.{Entry, Tells, Other, IsEntry, entry_text, journal_text, act_in, acts_in, number_in, numbers_from, IsJournal, journal_of, JournalsAreReadAsPrinted, IsOnLine, JudgesByLine, VerdictsAreOnTheActs}
+use Rattle.journal_law.specs.Told.{IsTold}
+use Rattle.journal_law.specs.Journals.{Entry, Tells, Other, IsEntry, entry_text, journal_text, act_in, acts_in, numbers_from, journal_of, JournalsAreReadAsPrinted, IsOnLine, JudgesByLine, VerdictsAreOnTheActs}
 use Rattle.journal_law.proofs.Parts.{then_read}
 use Rattle.journal_law.proofs.Lines.{act_line, line_is, line_lacks}
 use Rattle.journal_law.proofs.Acts.{line_read}

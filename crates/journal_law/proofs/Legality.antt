@@ -1,17 +1,17 @@
 -- Answers neither change a history nor can they be illegal: the acts that have a line are legal exactly where all acts are.
-use Rattle.std.proofs.Common.{◌≡◌, ℕ, zero, suc, Bool, true, false, not, List, [], ◌∷◌, take, slice_get, refl, sym, ◌∙◌, ap, subst, arith, Option, Some, None, cond}
+use Rattle.std.proofs.Common.{◌≡◌, ℕ, zero, suc, Bool, true, false, not, List, [], ◌∷◌, take, slice_get, refl, sym, subst, arith, Some, None, cond}
 use Rattle.transcript.specs.Replies.{is_answer}
 use Rattle.transcript.specs.Text.{text_of}
 use Rattle.version_model.specs.Effects.{after_act, history_after}
 use Rattle.version_model.specs.History.{History, nothing_yet}
-use Rattle.version_model.specs.Legal.{IsLegalIn, AreLegal, AreLegalFrom}
+use Rattle.version_model.specs.Legal.{IsLegalIn, AreLegalFrom}
 use Rattle.version_model.specs.declared.act.Act.{Act}
 use Rattle.version_model.specs.declared.act.Act.TheVariants as acts
 use Rattle.version_model.specs.declared.verdict.Verdict.{Verdict}
 use Rattle.version_model.specs.declared.verdict.Verdict.TheVariants.{Legal, Illegal}
 use Rattle.world_base.specs.declared.estate.Estate.{Estate}
 use Rattle.journal_law.specs.Journals.{JudgesByLine}
-use Rattle.journal_law.specs.Runs.{told, IsPrintedRun, SaysOfAll, IsSaidOfTheRun}
+use Rattle.journal_law.specs.Runs.{told, SaysOfAll, IsSaidOfTheRun}
 use Rattle.journal_law.proofs.Runs.{run_judged}
 
 answer_legal : (a : Act) (h : History) → is_answer a ≡ true → IsLegalIn a h

@@ -1,10 +1,10 @@
 -- The words of the lines of acts.
-use Rattle.std.proofs.Common.{◌≡◌, ◌≢◌, ℕ, ◌<◌, ◌≤◌, List, [], ◌∷◌, ◌++◌, codes, map, refl, sym, ◌∙◌, ap, arith, Option, Some, None, append-nil, append_assoc}
+use Rattle.std.proofs.Common.{◌≡◌, ℕ, ◌≤◌, List, [], ◌∷◌, ◌++◌, codes, map, refl, ◌∙◌, ap, arith, Option, Some, None, append-nil, append_assoc}
 use Rattle.std.specs.Fmt.{decimal}
 use Rattle.std.specs.List.{AllByRecursion}
-use Rattle.act_text.specs.Acts.{act_text, line_of, flight_text, fall_text, falls_text, chain_text}
+use Rattle.act_text.specs.Acts.{line_of, flight_text, fall_text, falls_text, chain_text}
 use Rattle.act_text.specs.Pieces.{value_text, block_text, node_text, writer_of, segment_text}
-use Rattle.script_print.proofs.Bytes.{all_join, lacks_test, text_lacks}
+use Rattle.script_print.proofs.Bytes.{lacks_join, lacks_test, text_lacks}
 use Rattle.script_print.specs.Printing.{spaced}
 use Rattle.script_text.proofs.Parts.{parted_cut, parted_whole}
 use Rattle.script_text.specs.Words.{Lacks, words}
@@ -78,13 +78,6 @@ chain_spaced (s ∷ ss) = ap (λ x. 32 ∷ (segment_text s ++ x)) (chain_spaced 
 spaced_words : (w : List ℕ) (ws : List (List ℕ)) → Plain w → AllByRecursion Plain ws → words (w ++ spaced ws) ≡ w ∷ ws
 spaced_words w [] p ps = ap words (append-nil w) ∙ parted_whole 32 w (no_space w p)
 spaced_words w (v ∷ vs) p ps = parted_cut 32 w (v ++ spaced vs) (no_space w p) ∙ ap (λ x. w ∷ x) (spaced_words v vs ps.0 ps.1)
-
-spaced_feeds : (ws : List (List ℕ)) → AllByRecursion Plain ws → Lacks 10 (spaced ws)
-spaced_feeds [] ps = tt
-spaced_feeds (w ∷ ws) ps = ((λ e. omega (arith, e)), join w (spaced ws) (no_feed w ps.0) (spaced_feeds ws ps.1))
-  where
-    join : (xs ys : List ℕ) → Lacks 10 xs → Lacks 10 ys → Lacks 10 (xs ++ ys)
-    join xs ys a b = all_join (λ b. b ≢ 10) xs ys a b
 
 -- ---- the line of each act
 
@@ -162,7 +155,7 @@ dropped_words seg = ap (λ ws. codes "a" ∷ codes "dropped" ∷ ws) (parted_who
 -- ---- no line feed
 
 pub join_lacks : (xs ys : List ℕ) → Lacks 10 xs → Lacks 10 ys → Lacks 10 (xs ++ ys)
-join_lacks xs ys a b = all_join (λ b. b ≢ 10) xs ys a b
+join_lacks xs ys a b = lacks_join 10 xs ys a b
 
 behind_space : (ys : List ℕ) → Lacks 10 ys → Lacks 10 (32 ∷ ys)
 behind_space ys l = ((λ e. omega (arith, e)), l)

@@ -1,11 +1,11 @@
 -- Whatever a line is, an act that is read of it is one that can be told.
-use Rattle.std.proofs.Common.{◌≡◌, ℕ, ◌+◌, ◌<◌, ◌≤◌, ◌^◌, ◌==◌, nat_le, nat_lt, Bool, true, false, ◌&&◌, List, [], ◌∷◌, length, drop, codes, refl, sym, ◌∙◌, ap, subst, arith, inl, Option, Some, None, Result, Ok, Err, if◌then◌else◌}
+use Rattle.std.proofs.Common.{◌≡◌, ℕ, ◌<◌, ◌≤◌, ◌^◌, ◌==◌, nat_le, nat_lt, Bool, true, false, ◌&&◌, List, [], ◌∷◌, length, drop, codes, refl, subst, arith, inl, Option, Some, None, Result, Ok, Err, if◌then◌else◌}
 use Rattle.std.specs.Fmt.{decimal}
 use Rattle.std.specs.List.{AllByRecursion}
 use Rattle.std.specs.Str.{bytes_eq}
 use Rattle.std.specs.Str.Parse.{digits_value}
 use Rattle.std.proofs.lemmas.Bool.Decides.{nat_tests}
-use Rattle.audit.specs.Acts.{read_number, read_counted, long_of, read_long, read_node, read_client, first_is, read_writer, read_block, log_of, segment_at, read_segment, read_version, value_of, read_value, read_flight, read_fall, read_each, act_of, act_by, read_act}
+use Rattle.audit.specs.Acts.{read_number, read_counted, long_of, read_long, read_node, read_client, first_is, read_writer, read_block, log_of, segment_at, read_segment, read_version, value_of, read_value, read_flight, read_fall, read_each, act_of, act_by}
 use Rattle.audit.specs.Shapes.{front, back, shape_of}
 use Rattle.audit.specs.declared.shape.Verb.{Verb}
 use Rattle.audit.specs.declared.shape.Verb.TheVariants as verbs
@@ -27,7 +27,7 @@ use Rattle.xfs_base.specs.declared.block.BlockId.{BlockId}
 use Rattle.xfs_base.specs.declared.node.NodeId.{NodeId}
 use Rattle.xfs_base.specs.declared.node.NodeId.TheVariants as nodes
 use Rattle.xfs_base.specs.declared.segment.SegName.{SegName}
-use Rattle.journal_law.specs.Told.{IsCount, IsClient, IsBlock, IsVersion, AreBytes, IsContent, IsSegment, IsFlight, IsFall, IsTold, NoOtherActIsRead}
+use Rattle.journal_law.specs.Told.{IsCount, IsClient, IsBlock, IsVersion, IsContent, IsSegment, IsFlight, IsFall, IsTold, NoOtherActIsRead}
 
 abbrev good : {X : Type 0} → X → Result X Kind
 good x = Ok x

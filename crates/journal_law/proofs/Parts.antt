@@ -1,5 +1,5 @@
 -- The parts of a line are read as they are written.
-use Rattle.std.proofs.Common.{◌≡◌, ℕ, ◌+◌, ◌-◌, ◌<◌, ◌≤◌, ◌^◌, ◌==◌, nat_le, nat_lt, Bool, true, false, ◌&&◌, List, [], ◌∷◌, ◌++◌, length, codes, drop, refl, sym, ◌∙◌, ap, arith, Option, Some, None, Result, Ok, Err, if◌then◌else◌, append_assoc}
+use Rattle.std.proofs.Common.{◌≡◌, ℕ, ◌-◌, ◌<◌, ◌≤◌, ◌^◌, ◌==◌, nat_le, nat_lt, Bool, true, false, List, [], ◌∷◌, ◌++◌, length, codes, refl, sym, ◌∙◌, ap, arith, Option, Some, None, Result, Ok, if◌then◌else◌, append_assoc}
 use Rattle.std.specs.Fmt.{decimal}
 use Rattle.std.specs.Str.{bytes_eq}
 use Rattle.std.specs.Str.Parse.{digits_value}
@@ -9,14 +9,14 @@ use Rattle.std.proofs.lemmas.Fmt.{digits_value-decimal}
 use Rattle.std.proofs.lemmas.Slice.Eq.{bytes_eq-Decides}
 use Rattle.act_text.specs.Acts.{flight_text, fall_text}
 use Rattle.act_text.specs.Pieces.{value_text, block_text, node_text, writer_of, segment_text}
-use Rattle.audit.specs.Acts.{read_number, read_counted, long_of, read_long, read_node, read_client, read_writer, first_is, read_block, log_of, segment_at, read_segment, read_version, value_of, read_value, read_flight, read_fall}
+use Rattle.audit.specs.Acts.{read_number, read_counted, long_of, read_long, read_node, read_client, read_writer, read_block, log_of, segment_at, read_segment, read_version, value_of, read_value, read_flight, read_fall}
 use Rattle.audit.specs.Shapes.{front, back}
 use Rattle.script_print.proofs.Bytes.{lacks_join, text_written}
 use Rattle.script_print.specs.Printing.{text_body}
 use Rattle.script_text.proofs.Judged.{judge_good}
 use Rattle.script_text.proofs.Texts.{written_read}
 use Rattle.script_text.proofs.WordLemmas.{own, number_decimal}
-use Rattle.script_text.specs.Outcome.{◌>>=◌, judge, or_fault}
+use Rattle.script_text.specs.Outcome.{◌>>=◌, or_fault}
 use Rattle.script_text.specs.Reading.{number_of, quoted_text, is_one_of}
 use Rattle.script_text.specs.Text.{quoted}
 use Rattle.script_text.specs.Words.{Lacks}
@@ -28,8 +28,8 @@ use Rattle.xfs_base.specs.declared.block.BlockId.{BlockId}
 use Rattle.xfs_base.specs.declared.node.NodeId.{NodeId}
 use Rattle.xfs_base.specs.declared.node.NodeId.TheVariants as nodes
 use Rattle.xfs_base.specs.declared.segment.SegName.{SegName}
-use Rattle.journal_law.specs.Told.{IsCount, IsClient, IsBlock, IsVersion, AreBytes, IsContent, IsSegment, IsFlight, IsFall}
-use Rattle.journal_law.proofs.Bytes.{Begins, and_true, decimal_begins, begins_join, decimal_lacks, no_word, front_of, back_of}
+use Rattle.journal_law.specs.Told.{IsCount, IsClient, IsBlock, IsVersion, IsContent, IsSegment, IsFlight, IsFall}
+use Rattle.journal_law.proofs.Bytes.{and_true, decimal_begins, begins_join, decimal_lacks, no_word, front_of, back_of}
 
 -- what follows on what is read
 pub then_read : {X Y : Type 0} (r : Result X Kind) (x : X) (f : X → Result Y Kind) → r ≡ Ok x → (r >>= f) ≡ f x

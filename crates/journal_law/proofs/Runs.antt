@@ -1,39 +1,33 @@
 -- The text of a run is a journal: lines of answers, the acts that are no answers, and the end line.
-use Rattle.std.proofs.Common.{◌≡◌, ◌≢◌, ℕ, zero, suc, ◌+◌, ◌<◌, ◌≤◌, Bool, true, false, not, ◌||◌, List, [], ◌∷◌, ◌++◌, length, map, filter, take, slice_get, codes, refl, sym, ◌∙◌, ap, subst, arith, Option, Some, None, Ok, cond, if◌then◌else◌, append-nil, append_assoc}
+use Rattle.std.proofs.Common.{◌≡◌, ◌≢◌, ℕ, zero, suc, ◌≤◌, Bool, true, false, not, List, [], ◌∷◌, ◌++◌, length, map, slice_get, codes, refl, sym, ◌∙◌, ap, subst, arith, Option, Some, None, Ok, cond, append-nil, append_assoc}
 use Rattle.std.specs.Fmt.{decimal}
 use Rattle.std.specs.List.{AllByRecursion}
 use Rattle.act_text.specs.Acts.{act_text, acts_text, line_of}
 use Rattle.act_text.specs.Answers.{fault_word, more_names, names_text, answer_text}
-use Rattle.act_text.specs.Pieces.{block_text, node_text, writer_of, log_seq_text, value_text, quoted_text}
+use Rattle.act_text.specs.Pieces.{block_text, node_text, writer_of, log_seq_text, value_text}
 use Rattle.audit.specs.Journal.{begins_end, is_skipped, read_journal, IsAudited}
 use Rattle.script_print.proofs.Bytes.{lacks_test, text_lacks}
 use Rattle.script_text.specs.Words.{Lacks}
 use Rattle.script_text.specs.declared.script.Line.{Line}
-use Rattle.transcript.specs.Replies.{Table, is_answer, answer_by, answer_at, replies_of, reply_of, items_in, open_items}
-use Rattle.transcript.specs.Text.{number_of, fall_text, fell_text, answered_text, reply_text, item_text, line_text, lines_text, end_text, asked_text, items_text, text_of}
+use Rattle.transcript.specs.Replies.{Table, is_answer, answer_by, replies_of, reply_of, items_in, open_items}
+use Rattle.transcript.specs.Text.{number_of, fall_text, fell_text, answered_text, reply_text, item_text, lines_text, end_text, asked_text, items_text, text_of}
 use Rattle.transcript.specs.declared.falls.Fallen.{Fallen}
 use Rattle.transcript.specs.declared.replies.Reply.{Reply}
-use Rattle.version_model.specs.Effects.{after_act, history_after}
-use Rattle.version_model.specs.History.{History, nothing_yet}
-use Rattle.version_model.specs.Legal.{IsLegalIn, AreLegal, AreLegalFrom, IsVerdict, IsFirstIllegal}
 use Rattle.version_model.specs.declared.act.Act.{Act}
 use Rattle.version_model.specs.declared.act.Act.TheVariants as acts
 use Rattle.version_model.specs.declared.answer.Answer.{Answer}
 use Rattle.version_model.specs.declared.answer.Answer.TheVariants as answers
 use Rattle.version_model.specs.declared.answer.FileFault.{FileFault}
 use Rattle.version_model.specs.declared.answer.FileFault.TheVariants as faults
-use Rattle.version_model.specs.declared.verdict.Verdict.{Verdict}
-use Rattle.version_model.specs.declared.verdict.Verdict.TheVariants.{Legal, Illegal}
 use Rattle.world_base.specs.Items.{actor_of}
 use Rattle.world_base.specs.declared.estate.Estate.{Estate}
-use Rattle.xfs_base.specs.declared.block.BlockId.{BlockId}
 use Rattle.xfs_base.specs.declared.node.NodeId.{NodeId}
 use Rattle.xfs_base.specs.declared.segment.SegName.{SegName}
 use Rattle.journal_law.specs.Told.{IsTold}
-use Rattle.journal_law.specs.Journals.{Entry, Tells, Other, IsEntry, entry_text, journal_text, acts_in, numbers_from, IsJournal, journal_of, JudgesByLine}
-use Rattle.journal_law.specs.Runs.{IsOneLine, IsPrinted, told, IsPrintedRun, IsReadAsPrinted, IsJudgedByItsActs, SaysOfAll, IsSaidOfTheRun}
-use Rattle.journal_law.proofs.Bytes.{IsDigit, Begins, Plain, or_true, and_true, digit_test, decimal_begins, decimal_plain, plain_lacks}
-use Rattle.journal_law.proofs.Lines.{join_lacks, value_lacks, block_plain, node_plain, version_plain}
+use Rattle.journal_law.specs.Journals.{Entry, Tells, Other, IsEntry, entry_text, journal_text, acts_in, numbers_from, IsJournal, JudgesByLine}
+use Rattle.journal_law.specs.Runs.{IsOneLine, IsPrinted, told, IsPrintedRun, IsReadAsPrinted, IsJudgedByItsActs}
+use Rattle.journal_law.proofs.Bytes.{Begins, or_true, digit_test, decimal_begins, decimal_plain, plain_lacks, begins_join}
+use Rattle.journal_law.proofs.Lines.{join_lacks, value_lacks, block_plain, node_plain}
 use Rattle.journal_law.proofs.Journals.{journals_read, verdicts}
 
 -- ---- lines of answers have no line feed
@@ -43,9 +37,6 @@ number_lacks n = plain_lacks 10 (decimal n) (omega arith) (decimal_plain n)
 
 marked_lacks : (mark n : ℕ) → mark ≢ 10 → Lacks 10 (mark ∷ decimal n)
 marked_lacks mark n h = (h, number_lacks n)
-
-behind_lacks : (word rest : List ℕ) → Lacks 10 word → Lacks 10 rest → Lacks 10 (word ++ rest)
-behind_lacks word rest a b = join_lacks word rest a b
 
 more_lack : (names : List (List ℕ)) → AllByRecursion (Lacks 10) names → Lacks 10 (more_names names)
 more_lack [] a = tt
@@ -125,16 +116,12 @@ digit_skipped : (bs : List ℕ) → Begins bs → is_skipped bs ≡ true
 digit_skipped [] b = absurd b
 digit_skipped (x ∷ bs) b = or_true (begins_end (x ∷ bs)) (digit_test x b)
 
-digits_before : (bs rest : List ℕ) → Begins bs → Begins (bs ++ rest)
-digits_before [] rest b = absurd b
-digits_before (x ∷ bs) rest b = b
-
 abbrev reply_line : ℕ → List ℕ → List ℕ
 reply_line n reply = decimal n ++ 32 ∷ reply
 
 reply_entry : (n : ℕ) (reply : List ℕ) → Lacks 10 reply → IsEntry (Other (reply_line n reply))
 reply_entry n reply l =
-    (join_lacks (decimal n) (32 ∷ reply) (number_lacks n) ((λ e. omega (arith, e)), l), digit_skipped (reply_line n reply) (digits_before (decimal n) (32 ∷ reply) (decimal_begins n)))
+    (join_lacks (decimal n) (32 ∷ reply) (number_lacks n) ((λ e. omega (arith, e)), l), digit_skipped (reply_line n reply) (begins_join (decimal n) (32 ∷ reply) (decimal_begins n)))
 
 module _ (deeds : List Act) (table : Table) where
   abbrev item_reply : NodeId → ℕ → List ℕ

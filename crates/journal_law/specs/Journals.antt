@@ -1,5 +1,5 @@
 -- Journals of such acts, with lines among them that tell no act, and the verdict on them.
-use Rattle.std.specs.Prelude.{◌≡◌, ◌↔◌, ℕ, ◌+◌, ◌-◌, ◌≤◌, true, List, [], ◌∷◌, ◌++◌, length, slice_get, Option, Some, None, Ok}
+use Rattle.std.specs.Prelude.{◌≡◌, ℕ, ◌+◌, ◌-◌, ◌≤◌, true, List, [], ◌∷◌, ◌++◌, length, slice_get, Option, Some, None, Ok}
 use Rattle.std.specs.List.{AllByRecursion, filter_map}
 use Rattle.act_text.specs.Acts.{act_text, line_of}
 use Rattle.audit.specs.Journal.{is_skipped, read_journal, IsAudited}
