@@ -1,0 +1,9 @@
+mod Acts
+mod Bytes
+mod Journals
+mod Legality
+mod Lines
+mod Others
+mod Parts
+mod Runs
+mod Shapes

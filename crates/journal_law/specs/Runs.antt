@@ -1,0 +1,56 @@
+-- The text of a run is a journal of the run's acts.
+use Rattle.std.specs.Prelude.{◌≡◌, ℕ, ◌≤◌, true, not, List, length, filter, Ok}
+use Rattle.std.specs.List.{AllByRecursion}
+use Rattle.audit.specs.Journal.{read_journal, IsAudited}
+use Rattle.script_text.specs.Words.{Lacks}
+use Rattle.transcript.specs.Replies.{is_answer}
+use Rattle.transcript.specs.Text.{text_of}
+use Rattle.version_model.specs.Legal.{AreLegal}
+use Rattle.version_model.specs.declared.act.Act.{Act}
+use Rattle.version_model.specs.declared.act.Act.TheVariants as acts
+use Rattle.version_model.specs.declared.answer.Answer.{Answer}
+use Rattle.version_model.specs.declared.answer.Answer.TheVariants as answers
+use Rattle.version_model.specs.declared.verdict.Verdict.{Verdict}
+use Rattle.version_model.specs.declared.verdict.Verdict.TheVariants.{Legal, Illegal}
+use Rattle.world_base.specs.declared.estate.Estate.{Estate}
+use Rattle.journal_law.specs.Journals.{JudgesByLine}
+use Rattle.journal_law.specs.Told.{IsTold}
+
+-- an answer of one line: no name of a listing has a line feed
+abbrev pub IsOneLine : Answer → Type 0
+IsOneLine (answers.Names names) = AllByRecursion (Lacks 10) names
+IsOneLine answer = Unit {0}
+
+-- an act that has a line and can be told, or an answer, which the line of its item tells
+abbrev pub IsPrinted : Act → Type 0
+IsPrinted (acts.Answered node item answer) = IsOneLine answer
+IsPrinted act = IsTold act
+
+-- the acts that have a line
+abbrev pub told : List Act → List Act
+told acts = filter (λ a. not (is_answer a)) acts
+
+-- whether all acts of a run are legal, answers among them, is as the verdict says
+abbrev pub SaysOfAll : List Act → Verdict → Type 0
+SaysOfAll acts (Legal count) = AreLegal acts
+SaysOfAll acts (Illegal number) = ¬ AreLegal acts
+
+module _ {N : Type 0} where
+  -- the script asks for the acts, each can be told, and the text is not too long
+  pub record IsPrintedRun (e : Estate N) : Type 0 where
+    pub asked : e.script.setup.acts ≡ true
+    pub acts : AllByRecursion IsPrinted e.world.acts
+    pub short : length (text_of e) ≤ 1048576
+
+  -- The text of such a run is read as all its acts that are no answers, in their order.
+  abbrev pub IsReadAsPrinted : Estate N → Type 0
+  IsReadAsPrinted e = IsPrintedRun e → (numbers : List ℕ) × (read_journal (text_of e) ≡ Ok (record { acts = told e.world.acts; lines = numbers }))
+
+  -- What is said of it is the verdict on these acts, which names the line of the first that is not legal.
+  abbrev pub IsJudgedByItsActs : Estate N → Type 0
+  IsJudgedByItsActs e =
+      IsPrintedRun e → (verdict : Verdict) → IsAudited (text_of e) verdict → JudgesByLine (text_of e) (told e.world.acts) verdict
+
+  -- What is said of it is so of all acts of the run.
+  abbrev pub IsSaidOfTheRun : Estate N → Type 0
+  IsSaidOfTheRun e = IsPrintedRun e → (verdict : Verdict) → IsAudited (text_of e) verdict → SaysOfAll e.world.acts verdict
