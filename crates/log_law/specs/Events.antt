@@ -131,7 +131,7 @@ pub data Happens (g : Setting) : Net → Net → Type 0 where
   -- an opening takes an input
   Opens : {n : Net} (s : ScanState) (i : scan_ins.In) → n.owner ≡ Opening s → CameToScan g n i → CanStart g n.inc (scan.transition s i) → Happens g n (after_scan g n s (scan.transition s i))
   -- the owner falls, and restarts in its next boot
-  Crashes : {n : Net} → Happens g n (record n { owner = Down })
+  Crashes : {n : Net} → Happens g n (record n { owner = Down; feed = [] })
   Restarts : {n : Net} → n.owner ≡ Down → Happens g n (record n { inc = suc n.inc; owner = Opening (started g.log (suc n.inc)) })
   -- something is done to a server's shelf
   Serves : {n : Net} (v : ℕ) (deed : Deed) → 0 < v → CameToServer g n v deed
