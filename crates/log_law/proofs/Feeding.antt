@@ -59,7 +59,7 @@ passes g p q y some e = by (p.inc == 0) e
 settled_filed : (l : LogId) (end : End) (outs : List Out) → settled_ends outs ≡ end ∷ [] → In (record { log = l; seq = end.seq; pass = end.pass }) (log_filed l outs)
 settled_filed l end [] e = absurd cc
 settled_filed l end (Send f m ∷ os) e = settled_filed l end os e
-settled_filed l end (Settled e' rows ∷ os) e = inl (λ i. record { log = l; seq = (first_of (e i)).seq; pass = (first_of (e i)).pass })
+settled_filed l end (Settled e' rows ∷ os) e = inl (λ i. record { log = l; seq = (first_of (sym e i)).seq; pass = (first_of (sym e i)).pass })
   where
     first_of : List End → End
     first_of [] = end
@@ -258,15 +258,15 @@ module _ (k : Below) (g : Setting) (none : g.doubts ≡ false) (n : Net) (h : Vi
   pub now_fed : (o : Net) → Happens g n o → Next g n h o → Fed o
   now_fed o (Acts s i is came texts) t serving name among above =
       ⊎_elim (λ new. in_left (log_filed g.log (log.transition s i).outs) n.feed name new) (λ old. in_right (log_filed g.log (log.transition s i).outs) n.feed name (fed (ap is_serving is) name old above)) (in_either (log_filed g.log (log.transition s i).outs) n.filed name among)
-  now_fed o (Writes chain s i is came texts) t = writes_fed chain s i is t
+  now_fed o (Writes chain s i is came texts) t serving name among above = writes_fed chain s i is t serving name among above
   now_fed o (Opens s i is came can) t serving name among above = contrary (sym (scans_not s (scan.transition s i)) ∙ serving)
   now_fed o Crashes t serving name among above = contrary serving
   now_fed o (Restarts is) t serving name among above = contrary serving
-  now_fed o (Serves v deed some came) t = fed
-  now_fed o (Bars v l pass) t = fed
-  now_fed o (Lists v) t = fed
-  now_fed o (Hears v generation up reached) t = fed
+  now_fed o (Serves server deed some came) t serving name among above = fed serving name among above
+  now_fed o (Bars server l pass) t serving name among above = fed serving name among above
+  now_fed o (Lists server) t serving name among above = fed serving name among above
+  now_fed o (Hears server generation up reached) t serving name among above = fed serving name among above
   now_fed o (Raises low name up is below) t serving m among above = fed serving m among (let a = up in omega arith)
-  now_fed o (Publishes m whole) t = fed
-  now_fed o (Welcomes inc ask news m is low whole) t = fed
-  now_fed o (Drops lists meta is among below) t = fed
+  now_fed o (Publishes m whole) t serving name among above = fed serving name among above
+  now_fed o (Welcomes inc ask news m is low whole) t serving name among above = fed serving name among above
+  now_fed o (Drops lists meta is among_them below) t serving name among above = fed serving name among above
