@@ -1,6 +1,6 @@
 -- A serving owner's feed has each filed segment from the least horizon on: what was read back goes down to it.
 use Rattle.xfs_base.specs.declared.segment.Pass.{Pass}
-use Rattle.std.proofs.Common.{◌≡◌, ⊎_elim, ℕ, zero, suc, ◌+◌, ◌-◌, ◌≤◌, ◌<◌, ◌⊎◌, ◌==◌, Bool, true, false, nat_lt, List, [], ◌∷◌, ◌++◌, length, Option, Some, None, refl, sym, ap, subst, ◌∙◌, inl, inr, arith, if◌then◌else◌}
+use Rattle.std.proofs.Common.{◌≡◌, ⊎_elim, ℕ, suc, ◌+◌, ◌-◌, ◌≤◌, ◌<◌, ◌⊎◌, ◌==◌, Bool, true, false, nat_lt, List, [], ◌∷◌, ◌++◌, length, Option, Some, None, refl, sym, ap, subst, ◌∙◌, inl, inr, arith, if◌then◌else◌}
 use Rattle.std.proofs.lemmas.Bool.Decides.{nat_tests}
 use Rattle.xfs_base.specs.declared.segment.End.{End}
 use Rattle.xfs_base.specs.declared.segment.LogId.{LogId}
@@ -31,7 +31,7 @@ use Rattle.log_law.specs.Events.{Happens}
 use Rattle.log_law.specs.Events.Happens.{Acts, Writes, Opens, Crashes, Restarts, Serves, Bars, Lists, Hears, Raises, Publishes, Welcomes, Drops}
 use Rattle.log_law.specs.Restarts.{is_serving}
 use Rattle.log_law.proofs.Below.{Below}
-use Rattle.log_law.proofs.Views.{OwnerShown, Behind, IsFiled, View}
+use Rattle.log_law.proofs.Views.{OwnerShown, Behind, View}
 use Rattle.log_law.proofs.Next.{Next}
 use Rattle.log_law.proofs.Moves.{in_left, in_right}
 

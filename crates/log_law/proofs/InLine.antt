@@ -2,14 +2,13 @@
 use Rattle.log_law.specs.Restarts.{is_serving}
 use Rattle.log_law.proofs.Feeding.{passes}
 use Rattle.log_law.proofs.Always.{begins_seen}
-use Rattle.std.proofs.Common.{◌≡◌, ℕ, suc, ◌-◌, ◌==◌, ◌<◌, Bool, true, false, if◌then◌else◌, sym, ap, ◌∙◌, arith, refl}
-use Rattle.xfs_base.specs.declared.segment.Pass.{Pass}
+use Rattle.std.proofs.Common.{◌≡◌, ℕ, suc, ◌-◌, ◌<◌, false, sym, ap, ◌∙◌, arith, refl}
 use Rattle.xfs_base.specs.declared.segment.SegName.{SegName}
 use Rattle.segment_format.specs.declared.segment.Segment.{Segment}
 use Rattle.log_protocol.specs.LogLaws as laws
 use Rattle.log_protocol.specs.Tables.{In}
-use Rattle.log_tie.specs.Setting.{Setting, name_of, point}
-use Rattle.log_tie.proofs.Names.{one_number, name_coded}
+use Rattle.log_tie.specs.Setting.{Setting, name_of}
+use Rattle.log_tie.proofs.Names.{one_number}
 use Rattle.log_law.specs.Net.{Net, opening}
 use Rattle.log_law.specs.Laws.{OneLine, LogsStayInLine, TheFeedIsWhole}
 use Rattle.log_law.proofs.Below.{Below}

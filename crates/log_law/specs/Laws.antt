@@ -2,7 +2,7 @@
 use Rattle.log_law.specs.Net.Owner.{Writing, Serving}
 use Rattle.client_log.specs.LogState.{FlightState, LogState}
 use Rattle.log_law.specs.Restarts.{IsSureRun, last_flight}
-use Rattle.std.specs.Prelude.{◌≡◌, ℕ, ◌<◌, ◌⊎◌, true, length, Some, suc, false, ◌≤◌, List}
+use Rattle.std.specs.Prelude.{◌≡◌, ℕ, ◌<◌, ◌⊎◌, length, Some, suc, false, ◌≤◌, List}
 use Rattle.xfs_base.specs.declared.fragment.Fragment.{Fragment}
 use Rattle.xfs_base.specs.declared.segment.SegName.{SegName}
 use Rattle.segment_format.specs.declared.segment.Segment.{Segment}
