@@ -51,7 +51,7 @@ WritesText d = IfSome d.state.flight (λ f. IsWritten f.segment)
 
 -- a log can start behind the end that an opening tells: its number has one after it, and the opening segment has a text
 abbrev pub StartsWith : Setting → ℕ → scan.Done → Told → Type 0
-StartsWith g inc d t = (has_next t.end.seq ≡ true) × ((m : GroupMapState) → WritesText (first_write g inc t.end m))
+StartsWith g inc d t = (has_next t.end.seq ≡ true) × IfSome d.state.opening.groups (λ m. WritesText (first_write g inc t.end m))
 
 abbrev pub CanStart : Setting → ℕ → scan.Done → Type 0
 CanStart g inc d = IfSome (chain_in d.outs) (StartsWith g inc d)

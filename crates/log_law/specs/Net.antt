@@ -48,8 +48,8 @@ pub data Owner : Type 0 where
   Serving : LogState → Owner
 
 -- The shelves and what the registry knows of their generations, the least horizon of the log, and the owner with its incarnation; all packets that were
--- sent, the names that were filed and dropped, and those whose rows the owner's feed has. To state the laws, also all segments that were ever in flight, and the horizon by which the last opening picked
--- where the log goes on.
+-- sent, the names that were filed and dropped, and those whose rows the owner's feed has. To state the laws, also all segments that were ever in flight,
+-- and the horizon by which the last opening picked where the log goes on.
 pub record Net : Type 0 where
   pub shelves : ℕ → ShelfState
   pub registry : ℕ → ℕ
