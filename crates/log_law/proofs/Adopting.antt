@@ -120,4 +120,4 @@ module _ (k : Below) (g : Setting) (none : g.doubts ≡ false) (first : Net) (se
           more x y e = grind (arith, nat_tests)
 
 pub a_reopening_adopts : Below → AReopeningAdopts
-a_reopening_adopts k g n none m sure chain s e t among = adopted k g none (opening g m.map) refl n m.run (along k g none (opening g m.map) refl (begins_seen k g m.map m.whole) n m.run sure) chain s e t among
+a_reopening_adopts k g n none m sure chain s e t among = adopted k g none (opening g m.map) refl n m.run (along k g none (opening g m.map) refl (begins_seen k g m.map m.whole) (λ serving name is above. absurd is) n m.run sure) chain s e t among

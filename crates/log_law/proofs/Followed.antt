@@ -1,4 +1,5 @@
 -- Along a run of which no restart was doubtful: a member of the newest segment that is hurt lacked its fragment at a moment of the span.
+use Rattle.log_law.proofs.Feeding.{Fed, now_fed}
 use Rattle.log_law.proofs.Flights.{FlightKept, now_kept, first_kept}
 use Rattle.log_protocol.specs.Tables.{In}
 use Rattle.log_law.proofs.Always.{keeps}
@@ -280,17 +281,19 @@ pub record Along (k : Below) (g : Setting) (none : g.doubts ≡ false) (first : 
   pub view : View g n
   pub followed : Followed k g none first serves n run view
   pub flown : FlightKept g view.w (last_flight run)
+  pub fed : Fed n
 
-pub along : (k : Below) (g : Setting) (none : g.doubts ≡ false) (first : Net) (serves : is_serving first.owner ≡ true) → View g first → (n : Net) (run : Runs g first n) → IsSureRun run → Along k g none first serves n run
-along k g none first serves seen n Begun s = record {
+pub along : (k : Below) (g : Setting) (none : g.doubts ≡ false) (first : Net) (serves : is_serving first.owner ≡ true) → View g first → Fed first → (n : Net) (run : Runs g first n) → IsSureRun run → Along k g none first serves n run
+along k g none first serves seen fed n Begun s = record {
   view = seen;
   followed = record { fallen = λ down some. absurd (not_down first.owner serves down); hurt = λ i span some low member hurt. absurd (let p = serving_phase g first seen serves in let q = span.not_serving in omega arith) };
   flown = first_kept g k first seen (seen.calm none) serves;
+  fed = fed;
 }
-along k g none first serves seen n (On {m = m} run happens) s = on (along k g none first serves seen m run s.0)
+along k g none first serves seen fed n (On {m = m} run happens) s = on (along k g none first serves seen fed m run s.0)
   where
     on : Along k g none first serves m run → Along k g none first serves n (On run happens)
-    on b = record { view = t.view; followed = record { fallen = now_fallen k g none first serves m run b.view b.followed n happens t; hurt = now_hurt k g none first serves m run b.view b.followed n happens t }; flown = now_kept g k m b.view n t (t.view.calm none) (last_flight run) b.flown }
+    on b = record { view = t.view; followed = record { fallen = now_fallen k g none first serves m run b.view b.followed n happens t; hurt = now_hurt k g none first serves m run b.view b.followed n happens t }; flown = now_kept g k m b.view n t (t.view.calm none) (last_flight run) b.flown; fed = now_fed k g none m b.view b.fed n happens t }
       where
         t : Next g m b.view n
         t = keeps k g m n b.view happens (λ calm restart low. sure k g none first serves m run b.view b.followed n restart (s.1 restart) low)

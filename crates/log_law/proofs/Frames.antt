@@ -1,5 +1,5 @@
 -- What others do leaves the owner as it is seen.
-use Rattle.std.proofs.Common.{◌≡◌, ℕ, suc, ◌+◌, ◌≤◌, List, [], ◌∷◌, refl, sym, subst, arith}
+use Rattle.std.proofs.Common.{◌≡◌, ℕ, suc, ◌+◌, ◌≤◌, List, [], ◌∷◌, refl, sym, subst, arith, ◌⊎◌, ◌<◌, length}
 use Rattle.segment_format.specs.declared.segment.Segment.{Segment}
 use Rattle.client_log.specs.LogState.{LogState}
 use Rattle.log_protocol.specs.Packets.{StorePacket, StoredPacket, FragmentPacket, FencedPacket}
@@ -167,6 +167,7 @@ module _ (g : Setting) (w u : State) (book : ℕ → Segment) (by : Apart w u) w
       from = h.read.from;
       next = h.read.next;
       chained = chained_apart _ _ _ h.read.chained;
+      bottom = same (λ o. (h.read.next ≡ 0) ⊎ (s.end.seq < o.read_low + length chain)) h.read.bottom;
     };
     flight = h.flight;
     is_flight = h.is_flight;

@@ -19,6 +19,7 @@ mod Calmer
 mod Wholeness
 mod Hurting
 mod Flights
+mod Feeding
 mod Followed
 mod InLine
 mod Adopting

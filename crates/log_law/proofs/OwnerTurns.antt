@@ -169,8 +169,8 @@ module _ (k : Below) (g : Setting) (n : Net) (h : View g n) where
     end_follows = inl refl;
   }
 
-  pub crash_view : Next g n h (record n { owner = Down })
-  crash_view = next k g n h (λ v later. v.phase ≡ 0) [] crash (record n { owner = Down }) h.hellos [] (record {
+  pub crash_view : Next g n h (record n { owner = Down; feed = [] })
+  crash_view = next k g n h (λ v later. v.phase ≡ 0) [] crash (record n { owner = Down; feed = [] }) h.hellos [] (record {
     keeps = record { shelves = refl; registry = refl; low = refl; inc = refl; dropped = refl };
     spelled = h.spelled;
     flown = record { all = h.flown.all; booked = h.flown.booked };

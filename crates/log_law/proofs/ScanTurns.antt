@@ -32,7 +32,7 @@ use Rattle.log_tie.specs.Scans.{Asked, asked_by, StageShown, ScanShown, OutShown
 use Rattle.log_law.specs.Net.{Net, Told, is_reading, picked_by, scan_packets, chain_in, first_write, scans_on, after_told, after_scan, log_packets}
 use Rattle.log_law.specs.Net.Packet.{FragmentSent, FencedSent, MapSent, WelcomeSent}
 use Rattle.log_law.specs.Net.Owner.{Opening}
-use Rattle.log_law.specs.Events.{StartsWith, CanStart, CameToScan}
+use Rattle.log_law.specs.Events.{StartsWith, CanStart, CameToScan, WritesText}
 use Rattle.log_law.proofs.Below.{Below}
 use Rattle.log_law.proofs.Views.{FragmentSeen, WelcomeSeen, OwnerShown, StagePicked, Behind, View, PickShown}
 use Rattle.log_law.proofs.Growing.{spelled_on}
@@ -215,6 +215,9 @@ module _ (k : Below) (g : Setting) (n : Net) (h : View g n) (s : ScanState) (i :
     e = subst (λ inc. Goes g t.world t.later (λ v later. WritingShown g v later told.segments (first_write g inc told.end r.map).state) (first_write g inc told.end r.map).outs) incs
         (k.machines.opens g t.world t.later told.end told.segments r.map on.fixed on.reached t.paged r.read can.0)
 
+    first_text : WritesText first
+    first_text = subst (λ groups. IfSome groups (λ m. WritesText (first_write g n.inc told.end m))) r.is can.1
+
     behind : Behind g t.world t.later started
     behind = record { ran = ran_first g.log n.inc told.end r.map; grouped = r.read.grouped }
 
@@ -236,11 +239,11 @@ module _ (k : Below) (g : Setting) (n : Net) (h : View g n) (s : ScanState) (i :
     abbrev started_view : View g (after_told g n s d (Some told) (Some r.map))
     started_view = moved k g (scans_on n s d) on Q first.outs e (after_told g n s d (Some told) (Some r.map)) hellos (log_packets first.outs) (record {
       keeps = record { shelves = refl; registry = refl; low = refl; inc = refl; dropped = refl };
-      spelled = now_spelled k g t.world t.later on.reached t.paged on.spelled started (log_in.Parts []) Q first.outs e behind before (can.1 r.map) after;
-      flown = now_flown k g t.world t.later on.reached t.paged on.spelled started (log_in.Parts []) Q first.outs e behind before (can.1 r.map) after n.flown on.flown;
+      spelled = now_spelled k g t.world t.later on.reached t.paged on.spelled started (log_in.Parts []) Q first.outs e behind before first_text after;
+      flown = now_flown k g t.world t.later on.reached t.paged on.spelled started (log_in.Parts []) Q first.outs e behind before first_text after n.flown on.flown;
       grows = λ a among. among;
       asked = on.asked;
-      owner = (e.shows, now_behind k g t.world t.later on.reached t.paged on.spelled started (log_in.Parts []) Q first.outs e behind before (can.1 r.map) after);
+      owner = (e.shows, now_behind k g t.world t.later on.reached t.paged on.spelled started (log_in.Parts []) Q first.outs e behind before first_text after);
       picked = pick_stays t.world e.world (let p = r.read.phase in omega arith) e.steps (ap (λ (o : Others). o.incarnation) e.frame.others) ∙ picks r.read.phase r.low open_before;
       sends = refl;
       shown = packets_shown g e.world e.later hellos first.outs e.said;

@@ -1,6 +1,6 @@
 -- Logs are whole, and one name has one text: read off how the small world is seen.
 use Rattle.log_law.proofs.Calmer.{doubtful, moment_so}
-use Rattle.std.proofs.Common.{◌≡◌, ℕ, ◌<◌, ◌⊎◌, true, Option, Some, None, length, sym, ap, subst, ◌∙◌, inl, inr, arith, refl}
+use Rattle.std.proofs.Common.{◌≡◌, ℕ, ◌<◌, ◌⊎◌, Option, Some, None, length, sym, ap, subst, ◌∙◌, inl, inr, arith, refl}
 use Rattle.xfs_base.specs.declared.fragment.Fragment.{Fragment}
 use Rattle.xfs_base.specs.declared.segment.SegName.{SegName}
 use Rattle.segment_format.specs.declared.segment.Segment.{Segment}

@@ -51,7 +51,7 @@ WritesText d = IfSome d.state.flight (λ f. IsWritten f.segment)
 
 -- a log can start behind the end that an opening tells: its number has one after it, and the opening segment has a text
 abbrev pub StartsWith : Setting → ℕ → scan.Done → Told → Type 0
-StartsWith g inc d t = (has_next t.end.seq ≡ true) × ((m : GroupMapState) → WritesText (first_write g inc t.end m))
+StartsWith g inc d t = (has_next t.end.seq ≡ true) × IfSome d.state.opening.groups (λ m. WritesText (first_write g inc t.end m))
 
 abbrev pub CanStart : Setting → ℕ → scan.Done → Type 0
 CanStart g inc d = IfSome (chain_in d.outs) (StartsWith g inc d)
@@ -131,7 +131,7 @@ pub data Happens (g : Setting) : Net → Net → Type 0 where
   -- an opening takes an input
   Opens : {n : Net} (s : ScanState) (i : scan_ins.In) → n.owner ≡ Opening s → CameToScan g n i → CanStart g n.inc (scan.transition s i) → Happens g n (after_scan g n s (scan.transition s i))
   -- the owner falls, and restarts in its next boot
-  Crashes : {n : Net} → Happens g n (record n { owner = Down })
+  Crashes : {n : Net} → Happens g n (record n { owner = Down; feed = [] })
   Restarts : {n : Net} → n.owner ≡ Down → Happens g n (record n { inc = suc n.inc; owner = Opening (started g.log (suc n.inc)) })
   -- something is done to a server's shelf
   Serves : {n : Net} (v : ℕ) (deed : Deed) → 0 < v → CameToServer g n v deed

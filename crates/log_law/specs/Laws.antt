@@ -1,8 +1,8 @@
 -- What holds of the small world at every moment of every run.
-use Rattle.log_law.specs.Net.Owner.{Writing}
+use Rattle.log_law.specs.Net.Owner.{Writing, Serving}
 use Rattle.client_log.specs.LogState.{FlightState, LogState}
 use Rattle.log_law.specs.Restarts.{IsSureRun, last_flight}
-use Rattle.std.specs.Prelude.{◌≡◌, ℕ, ◌<◌, ◌⊎◌, true, length, Some, suc, false, ◌≤◌, List}
+use Rattle.std.specs.Prelude.{◌≡◌, ℕ, ◌<◌, ◌⊎◌, length, Some, suc, false, ◌≤◌, List}
 use Rattle.xfs_base.specs.declared.fragment.Fragment.{Fragment}
 use Rattle.xfs_base.specs.declared.segment.SegName.{SegName}
 use Rattle.segment_format.specs.declared.segment.Segment.{Segment}
@@ -75,6 +75,11 @@ IsAdopted g run n t = IsNoFurther n t ⊎ ((g.content t.items ≡ 0) ⊎ ((f : F
 abbrev pub AReopeningAdopts : Type 0
 AReopeningAdopts =
     (g : Setting) (n : Net) → g.doubts ≡ false → (m : Moment g n) → IsSureRun m.run → (chain : List Segment) (s : LogState) → n.owner ≡ Writing chain s → (t : Segment) → In t chain → IsAdopted g m.run n t
+
+-- The feed of a serving owner has each filed segment from the least horizon on.
+abbrev pub TheFeedIsWhole : Type 0
+TheFeedIsWhole =
+    (g : Setting) (n : Net) → g.doubts ≡ false → (m : Moment g n) → IsSureRun m.run → (s : LogState) → n.owner ≡ Serving s → (name : SegName) → In name n.filed → n.low ≤ name.seq → In name n.feed
 
 -- The laws speak of something: a run files a segment.
 abbrev pub SomeSegmentFiled : Type 0

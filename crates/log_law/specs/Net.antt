@@ -48,8 +48,8 @@ pub data Owner : Type 0 where
   Serving : LogState → Owner
 
 -- The shelves and what the registry knows of their generations, the least horizon of the log, and the owner with its incarnation; all packets that were
--- sent, and the names that were filed and dropped. To state the laws, also all segments that were ever in flight, and the horizon by which the last opening picked
--- where the log goes on.
+-- sent, the names that were filed and dropped, and those whose rows the owner's feed has. To state the laws, also all segments that were ever in flight,
+-- and the horizon by which the last opening picked where the log goes on.
 pub record Net : Type 0 where
   pub shelves : ℕ → ShelfState
   pub registry : ℕ → ℕ
@@ -59,6 +59,7 @@ pub record Net : Type 0 where
   pub sent : List Packet
   pub filed : List SegName
   pub dropped : List SegName
+  pub feed : List SegName
   pub flown : List Segment
   pub picked : ℕ
 
@@ -76,6 +77,7 @@ opening g m = record {
   sent = [];
   filed = [];
   dropped = [];
+  feed = [];
   flown = [];
   picked = 1;
 }
@@ -99,11 +101,12 @@ names_of (s ∷ ss) = s.name ∷ names_of ss
 
 -- the log of an owner that serves took an input
 abbrev pub after_log : Setting → Net → log.Done → Net
-after_log g n d = record n { owner = Owner.Serving d.state; sent = log_packets d.outs ++ n.sent; filed = log_filed g.log d.outs ++ n.filed; flown = flown_with d.state.flight n.flown }
+after_log g n d = record n { owner = Owner.Serving d.state; sent = log_packets d.outs ++ n.sent; filed = log_filed g.log d.outs ++ n.filed; feed = log_filed g.log d.outs ++ n.feed; flown = flown_with d.state.flight n.flown }
 
--- the log of an owner that writes its opening segment took an input: once that is settled, it and what was read back are filed, and the owner serves
+-- the log of an owner that writes its opening segment took an input: once that is settled, it and what was read back are filed, and the owner
+-- serves with them in its feed
 abbrev pub after_flight : Setting → Net → List Segment → log.Done → Option FlightState → Net
-after_flight g n chain d None = record n { owner = Owner.Serving d.state; sent = log_packets d.outs ++ n.sent; filed = log_filed g.log d.outs ++ (names_of chain ++ n.filed) }
+after_flight g n chain d None = record n { owner = Owner.Serving d.state; sent = log_packets d.outs ++ n.sent; filed = log_filed g.log d.outs ++ (names_of chain ++ n.filed); feed = log_filed g.log d.outs ++ names_of chain }
 after_flight g n chain d (Some f) = record n { owner = Owner.Writing chain d.state; sent = log_packets d.outs ++ n.sent; filed = log_filed g.log d.outs ++ n.filed; flown = f.segment ∷ n.flown }
 
 abbrev pub after_writing : Setting → Net → List Segment → log.Done → Net

@@ -3,7 +3,7 @@
 //! stands on, and its contract is a law.
 #![tactic(auto)]
 
-ghost use Rattle.log_law.specs.Laws.{AReopeningAdopts, LogsStayInLine, LogsStayWhole, OneNameOneText, SomeSegmentFiled};
+ghost use Rattle.log_law.specs.Laws.{AReopeningAdopts, LogsStayInLine, LogsStayWhole, OneNameOneText, SomeSegmentFiled, TheFeedIsWhole};
 
 use client_log::laws::{end_rises_by_one, flight_is_next, settles_what_is_due};
 use log_protocol::{
@@ -90,6 +90,30 @@ pub fn logs_stay_in_line()
 /// that served tells anything: a segment of its number and its boot, with its content (the 1996 paper, on recovery).
 pub fn a_reopening_adopts()
     ensures adopts { AReopeningAdopts }
+{
+    log_inputs();
+    opening_inputs();
+    scan_inputs();
+    shelf_deeds();
+    flight_is_next();
+    end_rises_by_one();
+    settles_what_is_due();
+    all_is_in_order();
+    end_is_head();
+    hurt_is_earned();
+    lacks_between();
+    logs_whole();
+    one_line();
+    what_reopening_adopts();
+    names_are_new();
+    runs_go_on();
+    past_stays();
+}
+
+/// The feed is whole: while no restart that ended was doubtful, the feed of an owner that serves has each filed segment from the least horizon on: those that
+/// it filed in this boot, and those that its reopening read back (the 1996 paper, "The Imap").
+pub fn the_feed_is_whole()
+    ensures feed { TheFeedIsWhole }
 {
     log_inputs();
     opening_inputs();

@@ -1,5 +1,5 @@
 -- A log is opened again: its opening segment is written, and once it is settled the owner serves.
-use Rattle.std.proofs.Common.{◌≡◌, ℕ, zero, suc, ◌+◌, ◌-◌, ◌<◌, ◌≤◌, ◌==◌, Bool, true, false, cond, ◌&&◌, nat_lt, nat_le, if◌then◌else◌, List, [], ◌∷◌, Some, None, length, refl, sym, ap, subst, ◌∙◌, arith, inl, inr}
+use Rattle.std.proofs.Common.{◌≡◌, ⊎_elim, ℕ, zero, suc, ◌+◌, ◌-◌, ◌<◌, ◌≤◌, ◌==◌, Bool, true, false, cond, ◌&&◌, nat_lt, nat_le, if◌then◌else◌, List, [], ◌∷◌, Some, None, length, refl, sym, ap, subst, ◌∙◌, arith, inl, inr}
 use Rattle.std.proofs.lemmas.Bool.Decides.{nat_tests}
 use Rattle.xfs_base.specs.declared.segment.End.{End}
 use Rattle.xfs_base.specs.declared.segment.SegName.{SegName}
@@ -96,6 +96,7 @@ module _ (g : Setting) where
     from = c.from;
     next = c.next;
     chained = chained_on w v book later top c.next ts by pages more base c.chained;
+    bottom = ⊎_elim inl (λ b. inr (let e = read in omega arith)) c.bottom;
   }
 
   -- what is filed where an opening serves
@@ -359,7 +360,7 @@ module _ (g : Setting) (chain : List Segment) where
             phase = h.phase;
             clear = h.clear;
             base = h.base;
-            read = record { opening = h.read.opening; lowest = h.read.lowest; picked = h.read.picked; cut = h.read.cut; from = h.read.from; next = h.read.next; chained = chained_same t.all s.end.seq h.read.next chain h.read.chained };
+            read = record { opening = h.read.opening; lowest = h.read.lowest; picked = h.read.picked; cut = h.read.cut; from = h.read.from; next = h.read.next; chained = chained_same t.all s.end.seq h.read.next chain h.read.chained; bottom = h.read.bottom };
             flight = h.flight;
             is_flight = h.is_flight;
             flying = h.flying;

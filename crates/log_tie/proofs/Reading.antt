@@ -1,5 +1,5 @@
 -- Reading back: what an opening does between the pick and its chain keeps what is seen of it.
-use Rattle.std.proofs.Common.{◌≡◌, ℕ, suc, ◌+◌, ◌-◌, ◌<◌, ◌≤◌, true, false, nat_lt, List, [], ◌∷◌, ◌++◌, map, Option, Some, None, length, refl, sym, ap, subst, ◌∙◌, inl, inr, arith}
+use Rattle.std.proofs.Common.{◌≡◌, ℕ, suc, ◌+◌, ◌-◌, ◌<◌, ◌≤◌, true, false, nat_lt, List, [], ◌∷◌, ◌++◌, map, Option, Some, None, length, refl, sym, ap, subst, ◌∙◌, inl, inr, arith, ◌⊎◌, ◌==◌, ◌&&◌, ◌||◌, cond, Bool}
 use Rattle.std.specs.Prelude.{reverse}
 use Rattle.std.specs.List.{AllByRecursion}
 use Rattle.std.proofs.lemmas.Bool.{or_parts}
@@ -8,7 +8,7 @@ use Rattle.std.proofs.lemmas.List.{reverse-append}
 use Rattle.xfs_base.specs.declared.segment.End.{End}
 use Rattle.xfs_base.specs.declared.segment.LogId.{LogId}
 use Rattle.xfs_base.specs.declared.segment.SegName.{SegName}
-use Rattle.xfs_base.proofs.Booleans.{by_test}
+use Rattle.xfs_base.proofs.Booleans.{by_test, and_first}
 use Rattle.segment_format.specs.declared.segment.Segment.{Segment}
 use Rattle.segment_format.specs.ReadingItems.{answer_of}
 use Rattle.group_map.specs.declared.group.Group.{Group}
@@ -34,7 +34,7 @@ use Rattle.log_scan.specs.declared.stage.Backward.{Backward}
 use Rattle.log_scan.specs.declared.stage.Stage.{Stage}
 use Rattle.log_scan.specs.declared.stage.Stage.TheVariants.{Asks, Reads, Over}
 use Rattle.log_scan.specs.Pick.{has_list, known_group}
-use Rattle.log_scan.specs.Transition.{Done, goes, stays, drawn, asks_anew, name_at, target_at, is_bottom, end_below, with_segment, chain_of, fetches, begins_in, begins_round, follows, goes_on, fences}
+use Rattle.log_scan.specs.Transition.{Done, goes, stays, drawn, asks_anew, name_at, target_at, is_bottom, end_below, with_segment, chain_of, fetches, begins_in, begins_round, follows, goes_on, fences, names_none}
 use Rattle.log_scan.proofs.Targets.{ReadsName, answered_keeps, confirmed_keeps}
 use Rattle.log_protocol.specs.LogLaws.{Reached}
 use Rattle.log_protocol.specs.State.{State}
@@ -190,8 +190,19 @@ module _ (g : Setting) (v : State) (book : ℕ → Segment) (hellos : List Asked
 
   -- ---- reading back
 
-  pub chain_told : (o : Opening) (b : Backward) → Framed o → ReadingShown g v book o b → Sees (goes o Over (chain_of b ∷ []))
-  chain_told o b f h = record {
+  -- where the reading ends
+  bottom_told : (o : Opening) (b : Backward) → ReadingShown g v book o b → is_bottom o.low b.next ≡ true → (point g b.next.seq b.next.pass ≡ 0) ⊎ (b.start.seq < v.read_low + length (reverse b.chain))
+  bottom_told o b h t = by (nat_lt b.next.seq o.low) refl t
+    where
+      less : (x y : ℕ) → nat_lt x y ≡ true → x < y
+      less x y e = grind (arith, nat_tests)
+
+      by : (p : Bool) → nat_lt b.next.seq o.low ≡ p → (p || names_none b.next) ≡ true → (point g b.next.seq b.next.pass ≡ 0) ⊎ (b.start.seq < v.read_low + length (reverse b.chain))
+      by true e k = inr (let a = less b.next.seq o.low e in let c = h.seq in let d = h.low in omega arith)
+      by false e k = inl (ap (λ z. cond z 0 (g.code b.next.seq b.next.pass.inc b.next.pass.att)) (and_first (b.next.pass.inc == 0) ((b.next.pass.att == 0) && (b.next.group == 0)) k))
+
+  pub chain_told : (o : Opening) (b : Backward) → Framed o → ReadingShown g v book o b → is_bottom o.low b.next ≡ true → Sees (goes o Over (chain_of b ∷ []))
+  chain_told o b f h t = record {
     shown = record { log = f.log; inc = f.inc; horizon = f.horizon; asked = f.asked; stage = h.phase };
     gives = (
       (
@@ -204,7 +215,7 @@ module _ (g : Setting) (v : State) (book : ℕ → Segment) (hellos : List Asked
           known = h.mapped.known;
           base = h.base;
           grouped = h.begun;
-          read = record { opening = h.opening; lowest = v.pick_low; picked = omega arith; cut = h.past; from = h.from; next = point g b.next.seq b.next.pass; chained = h.chained };
+          read = record { opening = h.opening; lowest = v.pick_low; picked = omega arith; cut = h.past; from = h.from; next = point g b.next.seq b.next.pass; chained = h.chained; bottom = bottom_told o b h t };
         },
       ),
       tt,
@@ -231,7 +242,7 @@ module _ (g : Setting) (v : State) (book : ℕ → Segment) (hellos : List Asked
 
   pub follows_shown : (o : Opening) (b : Backward) → Framed o → ReadingShown g v book o b → Sees (follows o b)
   unfolding follows
-  follows_shown o b f h = by_test Sees (is_bottom o.low b.next) (goes o Over (chain_of b ∷ [])) (begins_round o b) (λ t. chain_told o b f h) (λ t. round_shown o b f h t)
+  follows_shown o b f h = by_test Sees (is_bottom o.low b.next) (goes o Over (chain_of b ∷ [])) (begins_round o b) (λ t. chain_told o b f h t) (λ t. round_shown o b f h t)
 
   module _ (fixed : Fixed g v) (paged : Book g v book) (reached : Reached v) (spelled : IsSpelled g book v.booked) where
     -- one more segment is read: it is the booked one that the end names

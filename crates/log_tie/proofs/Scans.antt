@@ -190,7 +190,7 @@ module _ (g : Setting) (w : State) (book : ℕ → Segment) (hellos : List Asked
         confirms_goes : (r : Option ReadingState) → LooksFor g book w.booked b.next r → To (confirms risen b r)
         unfolding confirms
         confirms_goes r looks = by_test To (is_bottom risen.low b.next) (goes risen Over (chain_of b ∷ [])) (confirms_by risen b r)
-            (λ t. goes_cut (goes risen Over (chain_of b ∷ [])) (chain_told g cut book hellos risen b cut_framed cut_reading))
+            (λ t. goes_cut (goes risen Over (chain_of b ∷ [])) (chain_told g cut book hellos risen b cut_framed cut_reading t))
             (λ t. goes_cut (confirms_by risen b r) (confirms_shown r t looks))
 
       -- the one that counts: it is picked where the log goes on

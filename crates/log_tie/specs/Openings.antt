@@ -1,5 +1,5 @@
 -- How a log that is opened again is seen, from the moment at which all of it is read back until its owner serves.
-use Rattle.std.specs.Prelude.{◌≡◌, ℕ, ◌+◌, ◌≤◌, ◌⊎◌, true, false, List, [], ◌∷◌, Some, None, length}
+use Rattle.std.specs.Prelude.{◌≡◌, ℕ, ◌+◌, ◌<◌, ◌≤◌, ◌⊎◌, true, false, List, [], ◌∷◌, Some, None, length}
 use Rattle.xfs_base.specs.declared.segment.End.{End}
 use Rattle.segment_format.specs.declared.segment.Segment.{Segment}
 use Rattle.group_map.specs.GroupMapState.{GroupMapState}
@@ -34,6 +34,8 @@ pub record ChainShown (g : Setting) (w : State) (book : ℕ → Segment) (top : 
   pub from : AllFrom lowest chain
   pub next : ℕ
   pub chained : Chained g w book top next chain
+  -- it ends where no segment is named, or below the horizon that was taken last
+  pub bottom : (next ≡ 0) ⊎ (top < w.read_low + length chain)
 
 -- all is read back, and the owner has this map
 pub record ReadShown (g : Setting) (w : State) (book : ℕ → Segment) (start : End) (chain : List Segment) (groups : GroupMapState) : Type 0 where
