@@ -1,1 +1,2 @@
 mod Sights
+mod Going
