@@ -31,7 +31,7 @@ use Rattle.log_tie.specs.Scans.{Asked, asked_by, StageShown, ScanShown, Gives, B
 use Rattle.log_law.specs.Net.{Net, Told, is_reading, picked_by, scan_packets, chain_in, first_write, scans_on, after_told, after_scan, log_packets}
 use Rattle.log_law.specs.Net.Packet.{FragmentSent, FencedSent, MapSent, WelcomeSent}
 use Rattle.log_law.specs.Net.Owner.{Opening}
-use Rattle.log_law.specs.Events.{StartsWith, CanStart, CameToScan}
+use Rattle.log_law.specs.Events.{WritesText, StartsWith, CanStart, CameToScan}
 use Rattle.log_law.proofs.Below.{Below}
 use Rattle.log_law.proofs.Views.{FragmentSeen, WelcomeSeen, OwnerShown, StagePicked, Behind, View, PickShown}
 use Rattle.log_law.proofs.Growing.{spelled_on}
@@ -103,9 +103,9 @@ module _ (k : Below) (g : Setting) (n : Net) (h : View g n) (s : ScanState) (i :
   as_it_opens = subst (OwnerShown g h.w h.book h.hellos) is h.owner
 
   brings : (j : Input) → CameToScan g n j → BringsScan g h.w h.book h.hellos s j
-  brings (scan_in.Welcome ask news groups) c = let seen : WelcomeSeen g h.w h.hellos n.inc ask news groups = h.sent (WelcomeSent n.inc ask news groups) c in (
+  brings (scan_in.Welcome ask news groups) c = let seen : WelcomeSeen g h.w h.hellos n.inc ask news c.0.0 = h.sent (WelcomeSent n.inc ask news c.0.0) c.0.1 in (
     record { question = seen.hello.question; sent = seen.hello.among; own = seen.hello.boot ∙ sym h.inc; answers = seen.hello.number; later = seen.later; known = seen.known },
-    seen.map,
+    h.sent (MapSent groups) c.1,
   )
   brings (scan_in.Fenced server generation held) c = subst (λ inc. FencedSeen g h.w h.book server inc generation held) (sym h.inc) (h.sent (FencedSent server n.inc generation held) c)
   brings (scan_in.Got ask server generation fragment) c = λ own. (let seen : FragmentSeen g h.w h.book fragment = h.sent (FragmentSent fragment) (c own) in (seen.name, seen.index, seen.known, seen.is))
@@ -195,6 +195,9 @@ module _ (k : Below) (g : Setting) (n : Net) (h : View g n) (s : ScanState) (i :
     behind : Behind g t.world t.later started
     behind = record { ran = ran_first g.log n.inc told.end r.map; grouped = r.read.grouped }
 
+    text : WritesText first
+    text = subst (λ (o : Option GroupMapState). IfSome o (λ m. WritesText (first_write g n.inc told.end m))) r.is can.1
+
     before : t.world.flight ≡ 0
     before = let p = r.read.phase in nothing (k.protocol.owner t.world on.reached).flight_phase p
       where
@@ -213,11 +216,11 @@ module _ (k : Below) (g : Setting) (n : Net) (h : View g n) (s : ScanState) (i :
     abbrev started_view : View g (after_told g n s d (Some told) (Some r.map))
     started_view = moved k g (scans_on n s d) on Q first.outs e (after_told g n s d (Some told) (Some r.map)) hellos (log_packets first.outs) (record {
       keeps = record { shelves = refl; registry = refl; low = refl; inc = refl; dropped = refl };
-      spelled = now_spelled k g t.world t.later on.reached t.paged on.spelled started (log_in.Parts []) Q first.outs e behind before (can.1 r.map) after;
-      flown = now_flown k g t.world t.later on.reached t.paged on.spelled started (log_in.Parts []) Q first.outs e behind before (can.1 r.map) after n.flown on.flown;
+      spelled = now_spelled k g t.world t.later on.reached t.paged on.spelled started (log_in.Parts []) Q first.outs e behind before text after;
+      flown = now_flown k g t.world t.later on.reached t.paged on.spelled started (log_in.Parts []) Q first.outs e behind before text after n.flown on.flown;
       grows = λ a among. among;
       asked = on.asked;
-      owner = (e.shows, now_behind k g t.world t.later on.reached t.paged on.spelled started (log_in.Parts []) Q first.outs e behind before (can.1 r.map) after);
+      owner = (e.shows, now_behind k g t.world t.later on.reached t.paged on.spelled started (log_in.Parts []) Q first.outs e behind before text after);
       picked = pick_stays t.world e.world (let p = r.read.phase in omega arith) e.steps (ap (λ (o : Others). o.incarnation) e.frame.others) ∙ picks r.read.phase r.low open_before;
       sends = refl;
       shown = packets_shown g e.world e.later hellos first.outs e.said;

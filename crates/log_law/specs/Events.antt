@@ -51,7 +51,7 @@ WritesText d = IfSome d.state.flight (λ f. IsWritten f.segment)
 
 -- a log can start behind the end that an opening tells: its number has one after it, and the opening segment has a text
 abbrev pub StartsWith : Setting → ℕ → scan.Done → Told → Type 0
-StartsWith g inc d t = (has_next t.end.seq ≡ true) × ((m : GroupMapState) → WritesText (first_write g inc t.end m))
+StartsWith g inc d t = (has_next t.end.seq ≡ true) × IfSome d.state.opening.groups (λ m. WritesText (first_write g inc t.end m))
 
 abbrev pub CanStart : Setting → ℕ → scan.Done → Type 0
 CanStart g inc d = IfSome (chain_in d.outs) (StartsWith g inc d)
@@ -76,9 +76,9 @@ CameToWriter n (log_in.Acked name index generation) = In (StoredSent name index 
 CameToWriter n (log_in.Maps m) = In (MapSent m) n.sent
 CameToWriter n log_in.Tick = Unit {0}
 
--- to an opening, of its own boot where the packet bears one
+-- to an opening, of its own boot where the packet bears one; with what is said of horizons it may take a newer map that came before
 abbrev pub CameToScan : Setting → Net → scan_ins.In → Type 0
-CameToScan g n (scan_in.Welcome ask news groups) = In (WelcomeSent n.inc ask news groups) n.sent
+CameToScan g n (scan_in.Welcome ask news groups) = ((m : GroupMapState) × In (WelcomeSent n.inc ask news m) n.sent) × In (MapSent groups) n.sent
 CameToScan g n (scan_in.Fenced server generation held) = In (FencedSent server n.inc generation held) n.sent
 CameToScan g n (scan_in.Got ask server generation f) = is_of_log g f.meta.name ≡ true → In (FragmentSent f) n.sent
 CameToScan g n (scan_in.Missing ask server generation) = Unit {0}

@@ -8,7 +8,9 @@ use Rattle.wire_msg.specs.declared.body.Body.TheVariants as body
 use Rattle.log_protocol.specs.Tables.{In}
 use Rattle.log_tie.specs.Setting.{Setting}
 use Rattle.log_law.specs.Net.{Net, Packet}
-use Rattle.node_log_tie.specs.Sight.{ReachedBy, HelloSeen, WelcomeSeen, StoreSeen, FenceSeen, FencedSeen, BodySeen, Later}
+use Rattle.wire_msg.specs.declared.registry.Welcome.{Welcome}
+use Rattle.node_log_tie.specs.Sight.Question.{Unasked, OfMaps, OfOpening}
+use Rattle.node_log_tie.specs.Sight.{Asker, Question, AskedBy, AnsweredBy, ReachedBy, HelloSeen, WelcomeSeen, StoreSeen, FenceSeen, FencedSeen, BodySeen, Later}
 
 pub at_once : (n : Net) → Later n n
 at_once n = record { sent = λ p is. is; reached = λ v. omega arith }
@@ -19,7 +21,17 @@ then_later n m o a b = record {
   reached = λ v. (let x = a.reached v in let y = b.reached v in omega arith);
 }
 
-module _ (g : Setting) (owner : NodeId) (n next : Net) (later : Later n next) where
+module _ (g : Setting) (owner : Asker) (n next : Net) (later : Later n next) where
+  asked_later : (inc : ℕ) (q : Question) → AskedBy g owner n inc q → AskedBy g owner next inc q
+  asked_later inc Unasked h = h
+  asked_later inc OfMaps h = tt
+  asked_later inc (OfOpening own) h = later.sent _ h
+
+  answered_later : (m : Welcome) (q : Question) → AnsweredBy g owner n m q → AnsweredBy g owner next m q
+  answered_later m Unasked h = h
+  answered_later m OfMaps h = tt
+  answered_later m (OfOpening own) h = later.sent _ h
+
   reached_later : (from : NodeId) (generation : ℕ) → ReachedBy g owner n from generation → ReachedBy g owner next from generation
   reached_later (Server v) generation h = (let x = later.reached v in omega arith)
   reached_later (Client c) generation h = tt
@@ -48,7 +60,7 @@ module _ (g : Setting) (owner : NodeId) (n next : Net) (later : Later n next) wh
   seen_later from to (body.Fragment m) h = λ own. later.sent _ (h own)
   seen_later from to (body.Listed m) h = later.sent _ h
   seen_later from to (body.Delete m) h = λ own. later.sent _ (h own)
-  seen_later from to (body.Hello m) h = record { own = λ is. later.sent _ (h.own is); reached = reached_later from m.inc h.reached }
-  seen_later from to (body.Welcome m) h = record { own = λ is. later.sent _ (h.own is); map = later.sent _ h.map }
+  seen_later from to (body.Hello m) h = record { own = λ is. asked_later m.inc (owner.asked m.ask) (h.own is); reached = reached_later from m.inc h.reached }
+  seen_later from to (body.Welcome m) h = record { own = λ is. answered_later m (owner.asked m.ask) (h.own is); map = later.sent _ h.map }
   seen_later from to (body.MapNews m) h = later.sent _ h
   seen_later from to _ h = tt

@@ -26,7 +26,17 @@ use Rattle.log_tie.specs.Shelves.{is_of_log}
 use Rattle.log_law.specs.Net.{Net, Packet}
 use Rattle.log_law.specs.Net.Packet.{StoreSent, StoredSent, FragmentSent, FenceSent, FencedSent, ListedSent, DeleteSent, MapSent, HelloSent, WelcomeSent}
 
-module _ (g : Setting) (owner : NodeId) (n : Net) where
+-- What the owner asked the registry by a number of its node: nothing, the maps alone, or a question of its opening, by the opening's own number of it.
+pub data Question : Type 0 where
+  Unasked : Question
+  OfMaps : Question
+  OfOpening : ℕ → Question
+
+pub record Asker : Type 0 where
+  pub node : NodeId
+  pub asked : ℕ → Question
+
+module _ (g : Setting) (owner : Asker) (n : Net) where
   -- where the name is of the log, this was sent there
   abbrev pub SentOf : SegName → Packet → Type 0
   SentOf name p = is_of_log g name ≡ true → In p n.sent
@@ -71,7 +81,17 @@ module _ (g : Setting) (owner : NodeId) (n : Net) where
 
   -- ---- the registry
 
-  -- the owner says Hello in its boot, a server with a generation that it has reached
+  -- the owner says Hello by a number that it asked by, a server with a generation that it has reached
+  abbrev pub AskedBy : ℕ → Question → Type 0
+  AskedBy inc Unasked = ⊥
+  AskedBy inc OfMaps = Unit {0}
+  AskedBy inc (OfOpening own) = In (HelloSent inc own) n.sent
+
+  abbrev pub AnsweredBy : Welcome → Question → Type 0
+  AnsweredBy m Unasked = ⊥
+  AnsweredBy m OfMaps = Unit {0}
+  AnsweredBy m (OfOpening own) = In (WelcomeSent m.inc own m.news.slots m.news.groups) n.sent
+
   abbrev pub ReachedBy : NodeId → ℕ → Type 0
   ReachedBy (Server v) generation = generation ≤ (n.shelves v).generation
   ReachedBy (Client c) generation = Unit {0}
@@ -80,12 +100,12 @@ module _ (g : Setting) (owner : NodeId) (n : Net) where
   ReachedBy Registry generation = Unit {0}
 
   pub record HelloSeen (from : NodeId) (m : Hello) : Type 0 where
-    pub own : from ≡ owner → In (HelloSent m.inc m.ask) n.sent
+    pub own : from ≡ owner.node → AskedBy m.inc (owner.asked m.ask)
     pub reached : ReachedBy from m.inc
 
   -- whoever gets a Welcome gets a map
   pub record WelcomeSeen (to : NodeId) (m : Welcome) : Type 0 where
-    pub own : to ≡ owner → In (WelcomeSent m.inc m.ask m.news.slots m.news.groups) n.sent
+    pub own : to ≡ owner.node → AnsweredBy m (owner.asked m.ask)
     pub map : In (MapSent m.news.groups) n.sent
 
   abbrev pub NewsSeen : News → Type 0
