@@ -6,3 +6,9 @@ mod ServingTokens
 mod ServingLog
 mod ServingCalls
 mod ServingPackets
+mod OpeningTurns
+mod OpeningLog
+mod ScanSays
+mod ScanSteps
+mod OpeningEvents
+mod ClientPhases

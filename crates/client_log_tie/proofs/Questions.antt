@@ -38,3 +38,7 @@ module _ (f : ℕ → Question) (n : ℕ) (x : Question) where
   pub put_fresh : (last : ℕ) → last < n → ((k : ℕ) → last < k → f k ≡ Unasked) → (k : ℕ) → n < k → put f n x k ≡ Unasked
   put_fresh last less fresh k later =
       by_test (λ y. y ≡ Unasked) (k == n) x (f k) (λ t. (let e = equal k n t in absurd (omega arith))) (λ t. fresh k (omega arith))
+
+  -- and what was asked by lower numbers stays so
+  pub put_below : (k : ℕ) → k < n → put f n x k ≡ f k
+  put_below k less = by_test (λ y. y ≡ f k) (k == n) x (f k) (λ t. (let e = equal k n t in absurd (omega arith))) (λ t. refl)

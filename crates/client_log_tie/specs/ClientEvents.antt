@@ -61,9 +61,15 @@ StageOwed g n (stage.Scanning s) = ScanOwed g n s.scan
 StageOwed g n (stage.Settling s) = Unit {0}
 
 -- what the open call puts fits, where a call begins, after a packet, and in time
+abbrev pub begun_serving : Serving → Serving
+begun_serving s = record s { lasting = record s.lasting { items = begun s.lasting.items } }
+
+abbrev pub waiting_serving : Serving → ℕ → Serving
+waiting_serving s number = record s { lasting = record s.lasting { items = waiting s.lasting.items number } }
+
 pub record ServingBegins (s : Serving) : Type 0 where
-  pub fits : (number : ℕ) (going : Going) → next_item s.lasting.items ≡ Some number → call_at s number (work_at (begun s.lasting.items) number) ≡ Some going
-      → RunsFit (goes_on (record s { lasting = record s.lasting { items = waiting (begun s.lasting.items) number } }) going).state
+  pub fits : (number : ℕ) (going : Going) → next_item s.lasting.items ≡ Some number
+      → call_at (begun_serving s) number (work_at (begun_serving s).lasting.items number) ≡ Some going → RunsFit (goes_on (waiting_serving (begun_serving s) number) going).state
 
 abbrev pub BeginOwed : Phase → Type 0
 BeginOwed (Down l) = Unit {0}

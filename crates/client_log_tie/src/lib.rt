@@ -2,11 +2,14 @@
 //! empty body, and its contract is a law. `specs/Owner.antt` says how a client is seen there.
 #![tactic(auto)]
 
-ghost use Rattle.client_log_tie.specs.ClientEvents.{ClientStarts};
+ghost use Rattle.client_log_tie.specs.ClientEvents.{ClientStarts, ClientTakes};
 
 /// What an event makes of a client is a run of the small world of its log, if the packet that comes was sent there, and if what its log writes can be spelled.
 ///
 /// - `start`: a client at its start is seen in the opening of the small world.
+/// - `events`: a client that is seen there before an event is seen after it in a world to which that one runs on, by its owner alone; all that the client sends
+///   was sent there, and all that it tells to be filed is filed there.
 pub fn client_log_events_are_seen()
     ensures start { ClientStarts }
+    ensures events { ClientTakes }
 {}
