@@ -1,6 +1,5 @@
 -- Each event of a client is a run of the small world of its log.
-use Rattle.std.proofs.Common.{◌≡◌, ◌≤◌, ◌<◌, ℕ, suc, ◌+◌, ◌==◌, ◌&&◌, true, false, cond, List, [], ◌∷◌, ◌++◌, Option, Some, None, is_some, nat_lt, refl, sym, ap, subst, ◌∙◌, inl, inr, arith}
-use Rattle.std.specs.Prelude.{All}
+use Rattle.std.proofs.Common.{◌≡◌, ◌<◌, ℕ, suc, ◌+◌, ◌&&◌, true, cond, List, [], ◌∷◌, ◌++◌, Option, Some, None, is_some, nat_lt, refl, sym, ap, subst, ◌∙◌, inl, inr, arith}
 use Rattle.std.proofs.lemmas.Bool.Decides.{nat_tests}
 use Rattle.std.proofs.lemmas.List.Elements.{All-nil, All-cons, All-append}
 use Rattle.client_node.specs.declared.call.Going.{Going}
@@ -10,7 +9,7 @@ use Rattle.client_node.specs.declared.phase.Phase.{Phase}
 use Rattle.client_node.specs.declared.phase.Phase.TheVariants.{Down, Opening, Serving as Serves}
 use Rattle.client_node.specs.declared.serving.Serving.{Serving}
 use Rattle.client_node.specs.Packets as packets
-use Rattle.client_node.specs.Phases.{Went_to, falls, crashed, next_life, owner_of, restarted, back, after_opening, opened_on, answers, begins_call, call_at, opens, serves_on, wish_of, wish_at, down_begins, opening_begins, serving_begins, lasting_of, with_begun, item_begins, begins_item, on_begin, then_runs, on_deliver, on_time, delivers, happens, phase_room, client_room}
+use Rattle.client_node.specs.Phases.{Went_to, falls, crashed, next_life, restarted, after_opening, opened_on, answers, begins_call, call_at, opens, serves_on, wish_of, down_begins, opening_begins, serving_begins, lasting_of, begins_item, on_begin, on_deliver, on_time, delivers, happens, phase_room, client_room}
 use Rattle.client_node.specs.Running.{goes_on}
 use Rattle.client_node.specs.Sends.{Done, gives}
 use Rattle.log_owner.specs.declared.opened.Opened.{Opened}
@@ -50,11 +49,11 @@ use Rattle.log_law.specs.Net.{Owner as owner}
 use Rattle.log_law.specs.Net.Packet.{HelloSent}
 use Rattle.log_law.specs.Events.{Happens as happen}
 use Rattle.log_law.specs.Events.Runs.{Begun, On}
-use Rattle.node_log_tie.specs.Sight.{AskedBy, Question}
+use Rattle.node_log_tie.specs.Sight.{AskedBy}
 use Rattle.node_log_tie.specs.Sight.Question.{OfOpening}
-use Rattle.client_log_tie.specs.Owner.{Scene, asker, Lasts, LastsAs, SeesScan, SeesStage, SeesLog, ClientAgrees}
+use Rattle.client_log_tie.specs.Owner.{Scene, asker, LastsAs, ClientAgrees}
 use Rattle.client_log_tie.specs.Texts.{StaysWritten, RunsFit}
-use Rattle.client_log_tie.specs.ClientEvents.{StageWritten, PhaseWritten, StageOwed, ServingBegins, begun_serving, BeginOwed, RunOwed, PacketOwed, ClientOwed, ClientDoes, Grown, ClientGoes, ClientTakes}
+use Rattle.client_log_tie.specs.ClientEvents.{StageWritten, PhaseWritten, begun_serving, BeginOwed, RunOwed, PacketOwed, ClientOwed, ClientDoes, Grown, ClientGoes, ClientTakes}
 use Rattle.client_log_tie.proofs.Frames as frames
 use Rattle.client_log_tie.proofs.OpeningEvents as events
 use Rattle.client_log_tie.proofs.OpeningLog.{ProgressSeen, WentTo}
@@ -158,7 +157,7 @@ module _ (g : Setting) (c : ℕ) (is : g.log ≡ record { 0 = c }) (small : is_l
             past = omega arith;
             some = omega arith;
             number = omega arith;
-          }
+          },
         );
         written = tt;
         does = All-cons (ClientDoes g c v) (hello (next_life l number).inc (next_ask q)) []

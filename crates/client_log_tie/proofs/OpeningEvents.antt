@@ -1,9 +1,9 @@
 -- Each event of a client's opening is a run of the small world.
-use Rattle.std.proofs.Common.{⊎_elim, ◌≡◌, ◌⊎◌, ◌<◌, ◌≤◌, ℕ, ◌+◌, ◌==◌, ◌&&◌, not, Bool, true, false, cond, List, [], ◌∷◌, ◌++◌, Option, Some, None, refl, sym, ap, subst, ◌∙◌, inl, inr, arith}
-use Rattle.std.specs.Prelude.{All, IfSome}
+use Rattle.std.proofs.Common.{◌≡◌, ◌<◌, ℕ, ◌==◌, ◌&&◌, not, true, cond, [], ◌∷◌, Option, Some, None, refl, sym, ap, subst, ◌∙◌, inl, inr, arith}
+use Rattle.std.specs.Prelude.{IfSome}
 use Rattle.std.proofs.lemmas.Bool.Decides.{nat_tests}
 use Rattle.std.proofs.lemmas.List.Elements.{All-nil, All-cons}
-use Rattle.xfs_base.proofs.Booleans.{by_test, and_first, and_second, contrary}
+use Rattle.xfs_base.proofs.Booleans.{by_test, and_first, and_second}
 use Rattle.xfs_base.specs.declared.node.NodeId.{NodeId}
 use Rattle.xfs_base.specs.declared.node.NodeId.TheVariants.{Client, Manager, Server, Cleaner, Registry}
 use Rattle.xfs_base.specs.declared.segment.LogId.{LogId}
@@ -17,19 +17,19 @@ use Rattle.log_scan.specs.declared.input.In.{In as Input}
 use Rattle.log_scan.specs.declared.input.In.TheVariants as input
 use Rattle.log_scan.specs.declared.stage.Stage as scan_stages
 use Rattle.log_scan.specs.declared.stage.Stage.TheVariants.{Hails, Gathers, Asks, Reads, Over}
+use Rattle.log_scan.specs.declared.stage.Backward.{Backward}
+use Rattle.stripe_code.specs.Reading.{ReadingState}
 use Rattle.log_scan.specs.Transition as scan
 use Rattle.log_owner.specs.declared.known.Known.{Known}
 use Rattle.log_owner.specs.declared.opened.Progress.TheVariants as progress
 use Rattle.log_owner.specs.declared.opening.Opening.{Opening}
 use Rattle.log_owner.specs.declared.opening.Scanning.{Scanning}
-use Rattle.log_owner.specs.declared.opening.Settling.{Settling}
 use Rattle.log_owner.specs.declared.opening.Stage.{Stage}
 use Rattle.log_owner.specs.declared.opening.Stage.TheVariants as stage
-use Rattle.log_owner.specs.Opening.{Went, went, stays, drops, asking, at_scan, at_log, nothing_asked, writes, scans_on, scans_at, scans, welcomed_with, welcomed, welcomed_as, is_meant, welcomed_in, on_welcome, regrouped, on_news, is_fenced, fenced_by, by_server, on_fenced, own_in, answers, found_by, missing_by, on_found, on_missing, on_stored, on_tick, on_body, on_packet}
+use Rattle.log_owner.specs.Opening.{Went, went, stays, drops, at_scan, at_log, nothing_asked, scans_on, scans_at, welcomed_with, welcomed, welcomed_as, is_meant, welcomed_in, on_welcome, regrouped, on_news, is_fenced, fenced_by, on_fenced, own_in, answers, on_found, on_missing, on_stored, on_tick, on_body, on_packet}
 use Rattle.log_owner.specs.Promised.{promised_in}
-use Rattle.log_owner.specs.Sending.{hello, server_in}
+use Rattle.log_owner.specs.Sending.{hello}
 use Rattle.node_base.specs.Asking.{next_ask, drawn, own_of}
-use Rattle.node_base.specs.declared.effects.Effect.{Effect}
 use Rattle.node_base.specs.declared.maps.Maps.{Maps}
 use Rattle.node_base.specs.declared.questions.Asked.{Asked}
 use Rattle.node_base.specs.declared.questions.Questions.{Questions}
@@ -50,16 +50,16 @@ use Rattle.log_protocol.specs.Tables.{In, put}
 use Rattle.log_tie.specs.Setting.{Setting}
 use Rattle.log_tie.specs.Shelves.{is_of_log}
 use Rattle.log_tie.proofs.Names.{equal}
-use Rattle.log_law.specs.Net.{Packet, Told, chain_in, first_write}
+use Rattle.log_law.specs.Net.{Told, chain_in, first_write}
 use Rattle.log_law.specs.Net.{Owner as owner}
 use Rattle.log_law.specs.Net.Packet.{StoredSent, FragmentSent, FencedSent, MapSent, WelcomeSent}
-use Rattle.log_law.specs.Events.{CameToScan, CanStart, StartsWith, WritesText}
+use Rattle.log_law.specs.Events.{CameToScan, StartsWith, WritesText}
 use Rattle.log_law.specs.Events.{Happens as happen}
 use Rattle.log_law.specs.Events.Runs.{Begun}
 use Rattle.node_log_tie.specs.Sight.{BodySeen, AskedBy, AnsweredBy, WelcomeSeen, FencedSeen, Question}
-use Rattle.node_log_tie.specs.Sight.Question.{Unasked, OfMaps, OfOpening}
-use Rattle.client_log_tie.specs.Owner.{Scene, asker, AsksRegistry, AsksServers, AsksIn, AsksOf, AsksReading, AsksAt, MapCame, Lasts, SeesScan, SeesWriting, SeesStage}
-use Rattle.client_log_tie.specs.Texts.{MapFits, StaysWritten, StartFits, ChainFits}
+use Rattle.node_log_tie.specs.Sight.Question.{OfMaps, OfOpening}
+use Rattle.client_log_tie.specs.Owner.{Scene, asker, AsksRegistry, AsksServers, AsksIn, AsksAt, MapCame, Lasts, SeesScan, SeesStage}
+use Rattle.client_log_tie.specs.Texts.{MapFits, StaysWritten, StartFits}
 use Rattle.client_log_tie.specs.ClientEvents.{StageWritten, ScanOwed, StageOwed, BodyFits, ClientDoes}
 use Rattle.client_log_tie.proofs.Frames as frames
 use Rattle.client_log_tie.proofs.Logs.{writes_text}
@@ -119,7 +119,7 @@ module _ (g : Setting) (c : ℕ) (w : Scene) (a : Asked) (ask : ℕ) (m : Welcom
   of_servers st (inl e) = absurd (some e)
   of_servers st (inr e) = absurd (subst (AnsweredBy g (asker c w) w.net m) e seen)
 
-  of_reading : (b : _) (r : _) (x : readings.Stage) → r.stage ≡ x → AsksIn w.asked a ask x → Awaited w.asked a ask (Reads b (Some r))
+  of_reading : (b : Backward) (r : ReadingState) (x : readings.Stage) → r.stage ≡ x → AsksIn w.asked a ask x → Awaited w.asked a ask (Reads b (Some r))
   of_reading b r reading.Asking e h = of_servers (Reads b (Some r)) h
   of_reading b r reading.Between e h = of_registry (Reads b (Some r)) (ap (λ y. scan.is_between (Some (record r { stage = y }))) e) h
   of_reading b r reading.Doubted e h = of_registry (Reads b (Some r)) (ap (λ y. scan.is_between (Some (record r { stage = y }))) e) h
@@ -323,9 +323,14 @@ module _ (g : Setting) (c : ℕ) (small : is_log g.log.0 ≡ true) (w : Scene) (
           room = room;
           number = omega arith;
         } in
-        scans_so j r (input.Welcome s.asked.own m.news.slots groups) h.sees.owner
-        ((m.news.groups, subst (λ n. In (WelcomeSent n s.asked.own m.news.slots m.news.groups) w.net.sent) inc
-        (subst (λ n. In (WelcomeSent m.inc n m.news.slots m.news.groups) w.net.sent) (sym awaited.own) sent)), came) h.owed i
+        scans_so j r (input.Welcome s.asked.own m.news.slots groups) h.sees.owner (
+          (
+            m.news.groups,
+            subst (λ n. In (WelcomeSent n s.asked.own m.news.slots m.news.groups) w.net.sent) inc
+                (subst (λ n. In (WelcomeSent m.inc n m.news.slots m.news.groups) w.net.sent) (sym awaited.own) sent),
+          ),
+          came,
+        ) h.owed i
         (scanning.welcome_so g c w its life j q r i refl s.scan.opening s.scan.stage s.asked.own m.news.slots groups w.asked s.asked is h.sees.some awaited.own h.owed.asks awaited.awaits h.sees.asks)
 
     taken_so : m.inc ≡ w.net.inc → Awaited w.asked s.asked s.scan.opening.ask s.scan.stage

@@ -1,6 +1,6 @@
 -- A client whose log is opened writes its opening segment as the owner in the small world, until it is settled.
-use Rattle.std.proofs.Common.{⊎_elim, ◌≡◌, ◌⊎◌, ℕ, ◌+◌, Bool, true, false, cond, List, [], ◌∷◌, ◌++◌, map, Option, Some, None, refl, sym, ap, subst, ◌∙◌, inl, inr}
-use Rattle.std.specs.Prelude.{All, IfSome}
+use Rattle.std.proofs.Common.{⊎_elim, ◌≡◌, ◌⊎◌, ℕ, Bool, true, false, List, [], ◌∷◌, ◌++◌, map, Option, Some, None, refl, sym, subst, inl, inr}
+use Rattle.std.specs.Prelude.{All}
 use Rattle.std.proofs.lemmas.List.Elements.{All-nil, All-cons, All-append}
 use Rattle.xfs_base.specs.declared.segment.End.{End}
 use Rattle.xfs_base.specs.declared.segment.SegName.{SegName}
@@ -11,16 +11,15 @@ use Rattle.client_log.specs.declared.input.In.{In as Input}
 use Rattle.client_log.specs.declared.input.In.TheVariants as log_in
 use Rattle.client_log.specs.declared.output.Out.{Out}
 use Rattle.client_log.specs.declared.output.Out.TheVariants.{Send, Settled}
-use Rattle.client_log.specs.LogState.{FlightState, LogState}
+use Rattle.client_log.specs.LogState.{FlightState}
 use Rattle.client_log.specs.Transition as log
 use Rattle.log_owner.specs.declared.known.Known.{Known}
 use Rattle.log_owner.specs.declared.opened.Progress.{Progress}
 use Rattle.log_owner.specs.declared.opened.Progress.TheVariants as progress
 use Rattle.log_owner.specs.declared.opening.Settling.{Settling}
 use Rattle.log_owner.specs.Opened.{filed, files}
-use Rattle.log_owner.specs.Opening.{Moved, Went, asking, wrote_one, written, opens, logged, writes}
+use Rattle.log_owner.specs.Opening.{Went, asking, wrote_one, written, opens, logged, writes}
 use Rattle.log_owner.specs.Sending.{store, name_of}
-use Rattle.node_base.specs.declared.effects.Effect.{Effect}
 use Rattle.node_base.specs.declared.effects.Effect.TheVariants.{Does}
 use Rattle.node_base.specs.declared.questions.Questions.{Questions}
 use Rattle.version_model.specs.declared.act.Act.TheVariants.{Filed}
@@ -28,10 +27,10 @@ use Rattle.log_protocol.specs.Tables.{In}
 use Rattle.log_tie.specs.Seen.{log_filed}
 use Rattle.log_tie.specs.Setting.{Setting}
 use Rattle.log_tie.specs.Shelves.{is_of_log}
-use Rattle.log_law.specs.Net.{Net, Packet, log_packets, names_of, after_flight, after_writing}
+use Rattle.log_law.specs.Net.{Packet, log_packets, names_of, after_flight, after_writing}
 use Rattle.log_law.specs.Net.{Owner as owner}
 use Rattle.log_law.specs.Net.Packet.{StoredSent, MapSent}
-use Rattle.log_law.specs.Events.{CameToWriter, Happens}
+use Rattle.log_law.specs.Events.{Happens}
 use Rattle.log_law.specs.Events.Happens.{Writes}
 use Rattle.log_law.specs.Events.Runs.{Begun, On}
 use Rattle.client_log_tie.specs.Owner.{Scene, IsOwn, Lasts, SeesStage, SeesWriting, SeesLog}
@@ -40,7 +39,7 @@ use Rattle.client_log_tie.specs.ClientEvents.{StageWritten, ClientDoes, Grown}
 use Rattle.client_log_tie.proofs.Frames as frames
 use Rattle.client_log_tie.proofs.Frames.{in_after, in_before}
 use Rattle.client_log_tie.proofs.Logs.{own_after, written_after, writes_text, foreign_acked}
-use Rattle.client_log_tie.proofs.OpeningTurns.{FliesOn, Lands, Turns, rests, acked_turns, maps_turn, tick_turns}
+use Rattle.client_log_tie.proofs.OpeningTurns.{FliesOn, Lands, Turns, acked_turns, maps_turn, tick_turns}
 
 module _ (g : Setting) (c : ℕ) where
   -- ---- how an opening goes on

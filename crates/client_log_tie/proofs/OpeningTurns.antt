@@ -1,5 +1,5 @@
 -- What an input makes of a log whose opening segment is in flight while nothing waits: that flies on, or it settles and nothing is in flight.
-use Rattle.std.proofs.Common.{◌≡◌, ◌⊎◌, ℕ, ◌+◌, true, false, cond, List, [], ◌∷◌, ◌++◌, Option, Some, None, refl, sym, ap, subst, ◌∙◌, inl, inr, nat_le}
+use Rattle.std.proofs.Common.{◌≡◌, ◌⊎◌, ℕ, ◌+◌, true, false, cond, List, [], ◌∷◌, ◌++◌, Option, Some, None, refl, sym, ap, subst, inl, inr, nat_le}
 use Rattle.std.specs.Prelude.{◌&&◌, length}
 use Rattle.xfs_base.specs.declared.block.BlockId.{BlockId}
 use Rattle.xfs_base.specs.declared.entry.Entry.{Entry}
@@ -15,12 +15,11 @@ use Rattle.group_map.specs.declared.group.Member.{Member}
 use Rattle.group_map.specs.GroupMapState.{GroupMapState}
 use Rattle.client_log.specs.declared.flight.Fate.{Fate}
 use Rattle.client_log.specs.declared.flight.Fate.TheVariants.{Restripe, Settle, Wait}
-use Rattle.client_log.specs.declared.output.Out.{Out}
 use Rattle.client_log.specs.declared.output.Out.TheVariants.{Send, Settled}
 use Rattle.client_log.specs.Fate.{fate_of}
 use Rattle.client_log.specs.Fragments.{piece}
 use Rattle.client_log.specs.LogState.{FlightState, LogState, is_noted}
-use Rattle.client_log.specs.Transition.{Done, sends, all_sends, group_for, flown, launched, next_name, prior_from, writes, has_next, is_idle, is_full, sealed, if_full, on_parts, next_attempt, restriped, end_from, landed, settled, can_follow, followed, looked_at, is_of, noting, on_acked, on_maps, on_tick}
+use Rattle.client_log.specs.Transition.{Done, sends, all_sends, group_for, flown, launched, next_name, prior_from, writes, has_next, is_idle, sealed, if_full, on_parts, next_attempt, restriped, end_from, landed, settled, can_follow, followed, looked_at, is_of, noting, on_acked, on_maps, on_tick}
 use Rattle.log_owner.specs.Opening.{wrote_one, written}
 
 -- it flies on, and no end is told

@@ -1,5 +1,5 @@
 -- What a client does for its scan: its questions under the numbers of the node, its fences and fetches, and the chain that the log starts behind.
-use Rattle.std.proofs.Common.{⊎_elim, ◌≡◌, ◌⊎◌, ◌<◌, ◌≤◌, ℕ, ◌+◌, ◌==◌, Bool, true, false, cond, List, [], ◌∷◌, ◌++◌, map, Option, Some, None, nat_lt, refl, sym, ap, subst, ◌∙◌, inl, inr, arith}
+use Rattle.std.proofs.Common.{⊎_elim, ◌≡◌, ◌<◌, ◌≤◌, ℕ, ◌+◌, ◌==◌, Bool, true, false, cond, List, [], ◌∷◌, Option, Some, None, nat_lt, refl, sym, subst, ◌∙◌, inl, inr, arith}
 use Rattle.std.specs.Prelude.{All, IfSome}
 use Rattle.std.specs.List.{AllByRecursion}
 use Rattle.std.proofs.lemmas.Bool.Decides.{nat_tests}
@@ -9,11 +9,11 @@ use Rattle.xfs_base.specs.declared.segment.LogId.{LogId}
 use Rattle.xfs_base.specs.declared.segment.Prior.{Prior}
 use Rattle.xfs_base.specs.declared.segment.SegName.{SegName}
 use Rattle.xfs_base.specs.Limits.{u32_end}
-use Rattle.xfs_base.specs.Steps.{Stepped, still, after, steps}
+use Rattle.xfs_base.specs.Steps.{still, after}
 use Rattle.segment_format.specs.declared.segment.Segment.{Segment}
 use Rattle.group_map.specs.GroupMapState.{GroupMapState}
 use Rattle.client_log.specs.declared.input.In.TheVariants as log_in
-use Rattle.client_log.specs.LogState.{LogState, started}
+use Rattle.client_log.specs.LogState.{started}
 use Rattle.client_log.specs.Transition as log
 use Rattle.log_scan.specs.declared.opening.Opening.{Opening}
 use Rattle.log_scan.specs.declared.output.Out.{Out}
@@ -21,14 +21,12 @@ use Rattle.log_scan.specs.declared.output.Out.TheVariants.{Hello, Fence, Fetch, 
 use Rattle.log_scan.specs.declared.stage.Stage.{Stage}
 use Rattle.log_scan.specs.declared.stage.Stage.TheVariants.{Over}
 use Rattle.log_scan.specs.Transition as scan
-use Rattle.log_owner.specs.declared.ended.Owner.{Owner}
 use Rattle.log_owner.specs.declared.known.Known.{Known}
 use Rattle.log_owner.specs.declared.opening.Scanning.{Scanning}
 use Rattle.log_owner.specs.declared.opening.Settling.{Settling}
-use Rattle.log_owner.specs.Opening.{Moved, Went, asking, at_scan, said, scanned, logged, writes, behind, starts_log, settles_over, follows, stepped}
-use Rattle.log_owner.specs.Sending.{hello, fence, fetch}
+use Rattle.log_owner.specs.Opening.{asking, at_scan, said, scanned, logged, writes, behind, starts_log, settles_over, follows, stepped}
+use Rattle.log_owner.specs.Sending.{hello, fence}
 use Rattle.node_base.specs.Asking.{next_ask, drawn, asked_as, drawn_for}
-use Rattle.node_base.specs.declared.effects.Effect.{Effect}
 use Rattle.node_base.specs.declared.questions.Asked.{Asked}
 use Rattle.node_base.specs.declared.questions.Questions.{Questions}
 use Rattle.node_base.specs.Room.{has_room}
@@ -37,8 +35,8 @@ use Rattle.log_protocol.specs.Tables.{In, put}
 use Rattle.log_tie.specs.Seen.{log_filed}
 use Rattle.log_tie.specs.Setting.{Setting}
 use Rattle.log_tie.proofs.Names.{equal}
-use Rattle.log_law.specs.Net.{Net, Packet, Told, log_packets, scan_packets, chain_in, first_write, scans_on, after_told, after_scan}
-use Rattle.log_law.specs.Net.Packet.{HelloSent, FenceSent, MapSent}
+use Rattle.log_law.specs.Net.{Packet, Told, log_packets, scan_packets, chain_in, first_write, scans_on, after_told, after_scan}
+use Rattle.log_law.specs.Net.Packet.{HelloSent, FenceSent}
 use Rattle.log_law.specs.Events.{Happens}
 use Rattle.log_law.specs.Events.Runs.{Begun, On}
 use Rattle.node_log_tie.specs.Sight.{AskedBy, Question}
@@ -108,17 +106,20 @@ module _ (g : Setting) (c : ℕ) where
       next = on (scan.goes o st []) w.asked;
       grown = on_grown (scan.goes o st []) w.asked (λ j some. refl) happens;
       lasts = record { number = h.lasts.number; inc = h.lasts.inc; fresh = h.lasts.fresh };
-      shows = (record {
-        owner = refl;
-        log = h.log;
-        inc = h.inc;
-        groups = groups;
-        came = on_came (scan.goes o st []) w.asked;
-        asks = asks;
-        past = past;
-        some = some;
-        number = h.number;
-      }, tt);
+      shows = (
+        record {
+          owner = refl;
+          log = h.log;
+          inc = h.inc;
+          groups = groups;
+          came = on_came (scan.goes o st []) w.asked;
+          asks = asks;
+          past = past;
+          some = some;
+          number = h.number;
+        },
+        tt,
+      );
       does = All-nil (ClientDoes g c (on (scan.goes o st []) w.asked));
     }
 
@@ -205,17 +206,20 @@ module _ (g : Setting) (c : ℕ) where
           next = v;
           grown = on_grown d w.asked (λ j some. refl) (subst (λ (t : Option Told). Happens g w.net (after_told g w.net s.scan d t o.groups)) (rest_tells_none o.ask outs rest) happens);
           lasts = record { number = h.lasts.number; inc = h.lasts.inc; fresh = λ j later. h.lasts.fresh j (let y = x.rests.more in omega arith) };
-          shows = (record {
-            owner = refl;
-            log = h.log;
-            inc = h.inc;
-            groups = groups;
-            came = on_came d w.asked;
-            asks = servers r.state.asked x.rests.asks;
-            past = x.rests.past;
-            some = some;
-            number = x.rests.number;
-          }, tt);
+          shows = (
+            record {
+              owner = refl;
+              log = h.log;
+              inc = h.inc;
+              groups = groups;
+              came = on_came d w.asked;
+              asks = servers r.state.asked x.rests.asks;
+              past = x.rests.past;
+              some = some;
+              number = x.rests.number;
+            },
+            tt,
+          );
           does = All-append (ClientDoes g c v) r.outs [] (rest_seen v o.ask o.low s.asked q outs rest (λ p among. in_before (scan_packets w.net.inc outs) w.net.sent p among)) (All-nil (ClientDoes g c v));
         })
 
@@ -233,17 +237,20 @@ module _ (g : Setting) (c : ℕ) where
           next = v;
           grown = on_grown d t keeps happens;
           lasts = record { number = h.lasts.number; inc = h.lasts.inc; fresh = fresh };
-          shows = (record {
-            owner = refl;
-            log = h.log;
-            inc = h.inc;
-            groups = groups;
-            came = on_came d t;
-            asks = asks;
-            past = omega arith;
-            some = some;
-            number = low;
-          }, tt);
+          shows = (
+            record {
+              owner = refl;
+              log = h.log;
+              inc = h.inc;
+              groups = groups;
+              came = on_came d t;
+              asks = asks;
+              past = omega arith;
+              some = some;
+              number = low;
+            },
+            tt,
+          );
           does = All-cons (ClientDoes g c v) (hello k.owner.inc number) []
               (record {
                 own = λ e. subst (AskedBy g (asker c v) v.net k.owner.inc) (sym here) (subst (λ inc. In (HelloSent inc o.ask) v.net.sent) (sym h.inc) (inl refl));
@@ -336,17 +343,20 @@ module _ (g : Setting) (c : ℕ) where
         next = on d w.asked;
         grown = on_grown d w.asked (λ j some. refl) happens;
         lasts = record { number = h.lasts.number; inc = h.lasts.inc; fresh = h.lasts.fresh };
-        shows = (record {
-          owner = refl;
-          log = h.log;
-          inc = h.inc;
-          groups = groups;
-          came = on_came d w.asked;
-          asks = asks;
-          past = past;
-          some = some;
-          number = h.number;
-        }, tt);
+        shows = (
+          record {
+            owner = refl;
+            log = h.log;
+            inc = h.inc;
+            groups = groups;
+            came = on_came d w.asked;
+            asks = asks;
+            past = past;
+            some = some;
+            number = h.number;
+          },
+          tt,
+        );
         does = All-nil (ClientDoes g c (on d w.asked));
       }
 

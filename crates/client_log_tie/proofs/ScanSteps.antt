@@ -1,8 +1,8 @@
 -- Each input of a client's scan is taken as the owner's in the small world.
-use Rattle.std.proofs.Common.{⊎_elim, ◌≡◌, ◌⊎◌, ◌<◌, ◌≤◌, ℕ, ◌+◌, ◌==◌, ◌&&◌, not, Bool, true, false, cond, List, [], ◌∷◌, ◌++◌, map, length, Option, Some, None, nat_lt, refl, sym, ap, subst, ◌∙◌, inl, inr, arith}
+use Rattle.std.proofs.Common.{◌≡◌, ◌<◌, ◌≤◌, ℕ, ◌+◌, ◌==◌, ◌&&◌, not, Bool, true, false, cond, List, [], ◌∷◌, ◌++◌, map, length, Option, Some, None, refl, sym, subst, inl, arith}
 use Rattle.std.specs.List.{AllByRecursion}
 use Rattle.std.proofs.lemmas.Bool.Decides.{nat_tests}
-use Rattle.xfs_base.proofs.Booleans.{by_test, and_first, and_second, contrary}
+use Rattle.xfs_base.proofs.Booleans.{by_test, contrary}
 use Rattle.xfs_base.specs.declared.news.SlotNews.{SlotNews}
 use Rattle.xfs_base.specs.declared.segment.End.{End}
 use Rattle.segment_format.specs.declared.segment.Segment.{Segment}
@@ -14,18 +14,14 @@ use Rattle.stripe_code.specs.declared.reading.Stage.TheVariants as reading
 use Rattle.stripe_code.specs.declared.round.RoundState.{RoundState}
 use Rattle.stripe_code.specs.declared.round.RoundState.TheVariants as round
 use Rattle.stripe_code.specs.declared.round.Told.{Told}
-use Rattle.stripe_code.specs.declared.round.Told.TheVariants as told
 use Rattle.stripe_code.specs.Reading.{ReadingState, Step, begun, is_asking, to_ask, segment_found, counts, name_fits, ends, read_as, judged, on_answer}
 use Rattle.stripe_code.specs.Lost.{are_gone}
 use Rattle.stripe_code.specs.Reading as rounds
 use Rattle.segment_format.specs.ReadingItems.{answer_of}
 use Rattle.stripe_code.specs.Round.{asks as round_asks, taken, told_fits, state_of}
-use Rattle.log_scan.specs.declared.input.In.{In as Input}
-use Rattle.log_scan.specs.declared.input.In.TheVariants as input
 use Rattle.log_scan.specs.declared.listing.Listing.{Listing}
 use Rattle.log_scan.specs.declared.opening.Opening.{Opening}
-use Rattle.log_scan.specs.declared.output.Out.{Out}
-use Rattle.log_scan.specs.declared.output.Out.TheVariants.{Hello, Fence, Fetch, Chain, Lost}
+use Rattle.log_scan.specs.declared.output.Out.TheVariants.{Hello, Fetch}
 use Rattle.log_scan.specs.declared.stage.Backward.{Backward}
 use Rattle.log_scan.specs.declared.stage.Stage.{Stage}
 use Rattle.log_scan.specs.declared.stage.Stage.TheVariants.{Hails, Gathers, Asks, Reads, Over}
@@ -36,9 +32,7 @@ use Rattle.log_owner.specs.declared.opening.Scanning.{Scanning}
 use Rattle.node_base.specs.declared.questions.Asked.{Asked}
 use Rattle.node_base.specs.declared.questions.Questions.{Questions}
 use Rattle.log_tie.specs.Setting.{Setting}
-use Rattle.log_tie.proofs.Names.{equal}
 use Rattle.node_log_tie.specs.Sight.{Question}
-use Rattle.node_log_tie.specs.Sight.Question.{Unasked, OfOpening}
 use Rattle.client_log_tie.specs.Owner.{Scene, AsksRegistry, AsksServers, AsksIn, AsksOf, AsksReading, AsksAt}
 use Rattle.client_log_tie.proofs.ScanSays as says
 use Rattle.client_log_tie.proofs.ScanSays.{Opens}
