@@ -1,2 +1,4 @@
 mod Sights
 mod Going
+mod Lists
+mod Rebuilding
