@@ -2,3 +2,4 @@ mod Sights
 mod Going
 mod Lists
 mod Rebuilding
+mod RebuildEvents

@@ -1,0 +1,147 @@
+-- What is done to a server's shelf, as what happens in the small world.
+use Rattle.std.proofs.Common.{◌≡◌, ℕ, ◌==◌, ◌&&◌, ◌<◌, ◌≤◌, Bool, true, false, cond, not, List, [], ◌∷◌, ◌++◌, filter, map, Option, Some, None, refl, sym, ap, subst, ◌∙◌, inl, inr, arith}
+use Rattle.std.specs.Option.{is_none, is_some}
+use Rattle.std.specs.Ordering.{is_eq}
+use Rattle.std.specs.List.{AllByRecursion}
+use Rattle.std.specs.Prelude.{IfSome, find}
+use Rattle.xfs_base.proofs.Booleans.{by_test, contrary}
+use Rattle.xfs_base.specs.declared.fragment.FragMeta.{FragMeta}
+use Rattle.xfs_base.specs.declared.fragment.Fragment.{Fragment}
+use Rattle.xfs_base.specs.declared.node.NodeId.{NodeId}
+use Rattle.xfs_base.specs.declared.node.NodeId.TheVariants.{Server}
+use Rattle.xfs_base.specs.declared.segment.LogId.{LogId}
+use Rattle.xfs_base.specs.declared.segment.Pass.{Pass}
+use Rattle.xfs_base.specs.declared.segment.SegName.{SegName}
+use Rattle.xfs_base.specs.Limits.{u32_end}
+use Rattle.xfs_base.specs.Segments.{pass_cmp}
+use Rattle.xfs_base.specs.Stamps.{is_greater}
+use Rattle.xfs_base.specs.Steps.{Stepped, still, after, steps}
+use Rattle.fragment_store.proofs.Names.{one_name}
+use Rattle.fragment_store.specs.Calls.{store_refused, kept, on_fence as fenced_at, on_delete as without, on_fill, on_lose as lost, on_list as listed_on}
+use Rattle.fragment_store.specs.declared.store_error.StoreError.{StoreError}
+use Rattle.fragment_store.specs.ShelfState.{ShelfState, same_name, held_at, fence_of}
+use Rattle.node_base.specs.declared.effects.Effect.{Effect}
+use Rattle.node_base.specs.declared.effects.Effect.TheVariants.{Send, Answer}
+use Rattle.wire_msg.specs.declared.body.Body.TheVariants as body
+use Rattle.wire_msg.specs.declared.storage.Delete.{Delete}
+use Rattle.wire_msg.specs.declared.storage.Fence.{Fence}
+use Rattle.wire_msg.specs.declared.storage.Fetch.{Fetch}
+use Rattle.wire_msg.specs.declared.storage.ListAsk.{ListAsk}
+use Rattle.wire_msg.specs.declared.storage.Store.{Store}
+use Rattle.store_nodes.specs.declared.server.Server as nodes
+use Rattle.store_nodes.specs.declared.server.Rebuilding.{Rebuilding}
+use Rattle.store_nodes.specs.Rebuilds.{Done}
+use Rattle.store_nodes.specs.ServerEvents.{on_store, found_or_missing, on_fetch, of_log, fence_told, on_fence, on_list, on_delete, tells}
+use Rattle.log_protocol.specs.Tables.{put, In}
+use Rattle.log_tie.specs.Setting.{Setting}
+use Rattle.log_tie.specs.Shelves.{is_of_log, is_stored, Deed, shelf_after}
+use Rattle.log_tie.specs.Shelves.Deed.{Stores, Fetches, Fences, Deletes, Fills, Loses}
+use Rattle.log_tie.proofs.Names.{equal, itself}
+use Rattle.log_law.specs.Net.{Net, Packet, answers, fragment_told, listed}
+use Rattle.log_law.specs.Net.Packet.{StoredSent, FragmentSent, FencedSent, ListedSent}
+use Rattle.log_law.specs.Events.{CameToServer, Happens, Runs}
+use Rattle.log_law.specs.Events.Happens.{Serves, Bars, Lists}
+use Rattle.log_law.specs.Events.Runs.{Begun, On}
+use Rattle.node_log_tie.specs.Sight.{EffectSeen, FenceSeen, Later}
+use Rattle.node_log_tie.specs.ServerEvents.{NamesStripes, RebuildSeen, ServerSeen, all_but_shelves}
+use Rattle.node_log_tie.proofs.Going.{in_after, in_before, run_later, runs_on}
+use Rattle.node_log_tie.proofs.Lists.{all_append, all_weaker, if_some}
+use Rattle.node_log_tie.proofs.RebuildEvents.{rebuild_later}
+use Rattle.node_log_tie.proofs.Sights.{seen_later}
+
+pub put_here : {X : Type 0} (f : ℕ → X) (a : ℕ) (y : X) → put f a y a ≡ y
+put_here f a y = ap (λ t. cond t y (f a)) (itself a)
+
+pub put_there : {X : Type 0} (f : ℕ → X) (a : ℕ) (y : X) (b : ℕ) → (b ≡ a → ⊥) → put f a y b ≡ f b
+put_there f a y b other = by_test (λ z. z ≡ f b) (b == a) y (f b) (λ t. absurd (other (equal b a t))) (λ t. refl)
+
+-- what is found passes the test
+found_named : (held : List Fragment) (name : SegName) (f : Fragment) → held_at held name ≡ Some f → name ≡ f.meta.name
+found_named [] name f is = absurd cc
+found_named (h ∷ hs) name f is =
+    by_test (λ (o : Option Fragment). o ≡ Some f → name ≡ f.meta.name) (same_name name h.meta.name) (Some h) (held_at hs name)
+    (λ t e. let same : h ≡ f = cc in one_name name h.meta.name t ∙ ap (λ (x : Fragment). x.meta.name) same)
+    (λ t e. found_named hs name f e) is
+
+-- a Fence leaves generation and fragments alone
+fence_generation : (s : ShelfState) (log : LogId) (pass : Pass) → (fenced_at s log pass).generation ≡ s.generation
+fence_generation s log pass = by_test (λ (t : ShelfState). t.generation ≡ s.generation) (is_greater (pass_cmp pass (fence_of s.fences log))) _ s (λ t. refl) (λ t. refl)
+
+fence_held : (s : ShelfState) (log : LogId) (pass : Pass) → (fenced_at s log pass).held ≡ s.held
+fence_held s log pass = by_test (λ (t : ShelfState). t.held ≡ s.held) (is_greater (pass_cmp pass (fence_of s.fences log))) _ s (λ t. refl) (λ t. refl)
+
+module _ (g : Setting) (owner : NodeId) (v : ℕ) where
+  -- The small world runs on, by what is done at this server alone, to a net in which the server is seen as it is then.
+  pub record Went (n : Net) (d : Done) : Type 0 where
+    pub next : Net
+    pub runs : Runs g n next
+    pub seen : ServerSeen g next v d.state
+    pub does : AllByRecursion (EffectSeen g owner next (Server v)) d.outs
+    pub shelves : (u : ℕ) → (u ≡ v → ⊥) → next.shelves u ≡ n.shelves u
+    pub rest : all_but_shelves next ≡ all_but_shelves n
+
+  effect_later : (n next : Net) → Later n next → (e : Effect) → EffectSeen g owner n (Server v) e → EffectSeen g owner next (Server v) e
+  effect_later n next later (Send to said) h = seen_later g owner n next later (Server v) to said h
+  effect_later n next later (Answer item answer) h = tt
+  effect_later n next later _ h = tt
+
+  -- nothing happens, and what is done is seen
+  pub went_still : (n : Net) (node : nodes.Server) (outs : List Effect) → ServerSeen g n v node → AllByRecursion (EffectSeen g owner n (Server v)) outs → Went n (record { state = node; outs = outs })
+  went_still n node outs seen does = record { next = n; runs = Begun; seen = seen; does = does; shelves = λ u other. refl; rest = refl }
+
+  pub stays : (n : Net) (node : nodes.Server) → ServerSeen g n v node → Went n (still node)
+  stays n node seen = went_still n node [] seen tt
+
+  -- what was done before, and then the rest
+  pub went_then : (n : Net) (d e : Done) (w : Went n d) → Went w.next e → Went n (after d.outs e)
+  went_then n d e w x = record {
+    next = x.next;
+    runs = runs_on g n w.next x.next w.runs x.runs;
+    seen = x.seen;
+    does =
+        all_append (EffectSeen g owner x.next (Server v)) d.outs e.outs
+        (all_weaker (EffectSeen g owner w.next (Server v)) (EffectSeen g owner x.next (Server v)) (effect_later w.next x.next (run_later g w.next x.next x.runs)) d.outs w.does) x.does;
+    shelves = λ u other. x.shelves u other ∙ w.shelves u other;
+    rest = x.rest ∙ w.rest;
+  }
+
+  -- a server is seen with its shelf as it is then
+  pub reshelved : (n next : Net) (node : nodes.Server) (s : ShelfState) → ServerSeen g n v node → Later n next → next.shelves v ≡ s → ServerSeen g next v (record node { shelf = s })
+  reshelved n next node s seen later shelf = record {
+    number = seen.number;
+    shelf = shelf;
+    maps = seen.maps;
+    rebuild =
+        if_some (λ (r : Rebuilding). RebuildSeen g n v r.rebuild) (λ (r : Rebuilding). RebuildSeen g next v r.rebuild) (λ r. rebuild_later g n next later v r.rebuild)
+        node.rebuilding seen.rebuild;
+  }
+
+  -- ---- a deed
+
+  abbrev pub deed_done : Net → Deed → Net
+  deed_done n deed = record n { shelves = put n.shelves v (shelf_after g (n.shelves v) deed); sent = answers g v (n.shelves v) deed ++ n.sent }
+
+  module _ (some : 0 < v) (n : Net) (node : nodes.Server) (seen : ServerSeen g n v node) where
+    deed_runs : (deed : Deed) → CameToServer g n v deed → Runs g n (deed_done n deed)
+    deed_runs deed came = On Begun (Serves v deed some came)
+
+    pub deed_went : (deed : Deed) (s : ShelfState) (outs : List Effect) → CameToServer g n v deed → shelf_after g node.shelf deed ≡ s
+        → AllByRecursion (EffectSeen g owner (deed_done n deed) (Server v)) outs → Went n (record { state = record node { shelf = s }; outs = outs })
+    deed_went deed s outs came is does = record {
+      next = deed_done n deed;
+      runs = deed_runs deed came;
+      seen =
+          reshelved n (deed_done n deed) node s seen (run_later g n (deed_done n deed) (deed_runs deed came))
+          (put_here n.shelves v (shelf_after g (n.shelves v) deed) ∙ (ap (λ t. shelf_after g t deed) seen.shelf ∙ is));
+      does = does;
+      shelves = λ u other. put_there n.shelves v (shelf_after g (n.shelves v) deed) u other;
+      rest = refl;
+    }
+
+    -- ---- a Store
+
+    abbrev store_done : Store → Option StoreError → Done
+    store_done m o = cond (is_some o) (still node) (record {
+      state = record node { shelf = kept node.shelf m.fragment };
+      outs = Send owner (body.Stored (record { name = m.fragment.meta.name; index = m.fragment.meta.index; generation = m.generation })) ∷ [];
+    })
