@@ -3,3 +3,4 @@ mod Going
 mod Lists
 mod Rebuilding
 mod RebuildEvents
+mod Shelving

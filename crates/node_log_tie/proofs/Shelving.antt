@@ -140,8 +140,130 @@ module _ (g : Setting) (owner : NodeId) (v : ℕ) where
 
     -- ---- a Store
 
-    abbrev store_done : Store → Option StoreError → Done
-    store_done m o = cond (is_some o) (still node) (record {
-      state = record node { shelf = kept node.shelf m.fragment };
-      outs = Send owner (body.Stored (record { name = m.fragment.meta.name; index = m.fragment.meta.index; generation = m.generation })) ∷ [];
-    })
+    abbrev store_done : NodeId → Store → Option StoreError → Done
+    store_done from m o =
+        cond (is_some o) (still node) (record {
+          state = record node { shelf = kept node.shelf m.fragment };
+          outs = Send from (body.Stored (record { name = m.fragment.meta.name; index = m.fragment.meta.index; generation = m.generation })) ∷ [];
+        })
+
+    is_kept : (m : Store) → store_refused node.shelf m.fragment.meta.name m.generation ≡ None → is_stored (n.shelves v) m.fragment m.generation ≡ true
+    is_kept m is = ap (λ t. is_stored t m.fragment m.generation) seen.shelf ∙ ap (λ o. is_none o) is
+
+    stored_said : (m : Store) → is_stored (n.shelves v) m.fragment m.generation ≡ true → is_of_log g m.fragment.meta.name ≡ true
+        → In (StoredSent m.fragment.meta.name m.fragment.meta.index m.generation) (answers g v (n.shelves v) (Stores m.fragment m.generation) ++ n.sent)
+    stored_said m kept_it own =
+        let p : Packet = StoredSent m.fragment.meta.name m.fragment.meta.index m.generation in
+        subst (λ t. In p (cond (t && is_stored (n.shelves v) m.fragment m.generation) (p ∷ []) [] ++ n.sent)) (sym own)
+        (subst (λ t. In p (cond (true && t) (p ∷ []) [] ++ n.sent)) (sym kept_it) (inl refl))
+
+    store_went : (from : NodeId) (m : Store) (o : Option StoreError) → CameToServer g n v (Stores m.fragment m.generation)
+        → store_refused node.shelf m.fragment.meta.name m.generation ≡ o → Went n (store_done from m o)
+    store_went from m (Some e) came is = stays n node seen
+    store_went from m None came is =
+        deed_went (Stores m.fragment m.generation) (kept node.shelf m.fragment) _ came (ap (λ o. cond (is_none o) (kept node.shelf m.fragment) node.shelf) is)
+        (stored_said m (is_kept m is), tt)
+
+    pub stores_went : (from : NodeId) (m : Store) → CameToServer g n v (Stores m.fragment m.generation) → Went n (on_store node from m)
+    unfolding on_store
+    stores_went from m came = store_went from m (store_refused node.shelf m.fragment.meta.name m.generation) came refl
+
+    -- ---- a Fetch
+
+    fragment_said : (name : SegName) (f : Fragment) → held_at node.shelf.held name ≡ Some f → is_of_log g f.meta.name ≡ true
+        → In (FragmentSent f) (answers g v (n.shelves v) (Fetches name) ++ n.sent)
+    fragment_said name f is own =
+        let named = ap (λ (x : SegName). is_of_log g x) (found_named node.shelf.held name f is) ∙ own in
+        let held = ap (λ (t : ShelfState). held_at t.held name) seen.shelf ∙ is in
+        subst (λ t. In (FragmentSent f) (cond t (fragment_told (held_at (n.shelves v).held name)) [] ++ n.sent)) (sym named)
+        (subst (λ o. In (FragmentSent f) (fragment_told o ++ n.sent)) (sym held) (inl refl))
+
+    fetch_does : (from : NodeId) (m : Fetch) (o : Option Fragment) → held_at node.shelf.held m.name ≡ o
+        → EffectSeen g owner (deed_done n (Fetches m.name)) (Server v) (Send from (found_or_missing node.shelf m o))
+    fetch_does from m None is = tt
+    fetch_does from m (Some f) is = fragment_said m.name f is
+
+    pub fetches_went : (from : NodeId) (m : Fetch) → Went n (tells node (on_fetch node from m))
+    fetches_went from m = deed_went (Fetches m.name) node.shelf _ tt refl (fetch_does from m (held_at node.shelf.held m.name) refl, tt)
+
+    -- ---- a Fence
+
+    of_the_log : (m : Fence) → (m.log.0 == g.log.0) ≡ true → m.log ≡ g.log
+    of_the_log m own = λ i. record { 0 = equal m.log.0 g.log.0 own i }
+
+    -- what is listed for the log is what the small world lists
+    same_list : (m : Fence) → (m.log.0 == g.log.0) ≡ true → of_log m.log (listed_on (fenced_at node.shelf m.log m.pass)) ≡ listed g (n.shelves v)
+    same_list m own =
+        ap (λ held. of_log m.log (map (λ (f : Fragment). f.meta) held)) (fence_held node.shelf m.log m.pass)
+        ∙ (ap (λ log. filter (λ (x : FragMeta). x.name.log.0 == log) (listed_on node.shelf)) (equal m.log.0 g.log.0 own)
+        ∙ ap (λ t. listed g t) (sym seen.shelf))
+
+    same_generation : (m : Fence) → (fenced_at node.shelf m.log m.pass).generation ≡ (n.shelves v).generation
+    same_generation m = fence_generation node.shelf m.log m.pass ∙ ap (λ (t : ShelfState). t.generation) (sym seen.shelf)
+
+    fenced_said : (m : Fence) → (m.log.0 == g.log.0) ≡ true
+        → In (FencedSent v m.pass.inc (fenced_at node.shelf m.log m.pass).generation (of_log m.log (listed_on (fenced_at node.shelf m.log m.pass))))
+            (FencedSent v m.pass.inc (n.shelves v).generation (listed g (n.shelves v)) ∷ n.sent)
+    fenced_said m own = inl (λ i. FencedSent v m.pass.inc (same_generation m i) (same_list m own i))
+
+    fence_does : (next : Net) (from : NodeId) (m : Fence)
+        → ((m.log.0 == g.log.0) ≡ true → In (FencedSent v m.pass.inc (fenced_at node.shelf m.log m.pass).generation (of_log m.log (listed_on (fenced_at node.shelf m.log m.pass)))) next.sent)
+        → AllByRecursion (EffectSeen g owner next (Server v)) (fence_told from m (fenced_at node.shelf m.log m.pass))
+    fence_does next from m said =
+        by_test (AllByRecursion (EffectSeen g owner next (Server v))) (is_eq (pass_cmp (fence_of (fenced_at node.shelf m.log m.pass).fences m.log) m.pass)) _ [] (λ t. (said, tt)) (λ t. tt)
+
+    -- the Fence of another log
+    bars_went : (from : NodeId) (m : Fence) → (m.log.0 == g.log.0) ≡ false → Went n (on_fence node from m)
+    unfolding on_fence
+    bars_went from m other =
+        let next : Net = record n { shelves = put n.shelves v (fenced_at (n.shelves v) m.log m.pass) } in
+        let runs : Runs g n next = On Begun (Bars v m.log m.pass) in
+        record {
+          next = next;
+          runs = runs;
+          seen = reshelved n next node (fenced_at node.shelf m.log m.pass) seen (run_later g n next runs) (put_here n.shelves v _ ∙ ap (λ t. fenced_at t m.log m.pass) seen.shelf);
+          does = fence_does next from m (λ own. contrary (sym other ∙ own));
+          shelves = λ u away. put_there n.shelves v (fenced_at (n.shelves v) m.log m.pass) u away;
+          rest = refl;
+        }
+
+    own_went : (from : NodeId) (m : Fence) → (m.log.0 == g.log.0) ≡ true → FenceSeen g owner n (Server v) m → Went n (on_fence node from m)
+    unfolding on_fence
+    own_went from m own sent =
+        let came = sent own in
+        let log : g.log ≡ m.log = sym (of_the_log m own) in
+        let pass : record { inc = m.pass.inc; att = 0 } ≡ m.pass = λ i. record { inc = m.pass.inc; att = sym came.0 i } in
+        deed_went (Fences m.pass.inc) (fenced_at node.shelf m.log m.pass) _ came.1 (λ i. fenced_at node.shelf (log i) (pass i))
+        (fence_does (deed_done n (Fences m.pass.inc)) from m (fenced_said m))
+
+    pub fences_went : (from : NodeId) (m : Fence) → FenceSeen g owner n (Server v) m → Went n (on_fence node from m)
+    fences_went from m sent = by (m.log.0 == g.log.0) refl
+      where
+        by : (t : Bool) → (m.log.0 == g.log.0) ≡ t → Went n (on_fence node from m)
+        by true own = own_went from m own sent
+        by false other = bars_went from m other
+
+    -- ---- a list, a deletion, a filling, a loss
+
+    pub lists_went : (from : NodeId) (m : ListAsk) → Went n (tells node (on_list node from m))
+    lists_went from m =
+        let next : Net = record n { sent = ListedSent (listed g (n.shelves v)) ∷ n.sent } in
+        let runs : Runs g n next = On Begun (Lists v) in
+        record {
+          next = next;
+          runs = runs;
+          seen = reshelved n next node node.shelf seen (run_later g n next runs) seen.shelf;
+          does = (inl (ap (λ t. ListedSent (listed g t)) (sym seen.shelf)), tt);
+          shelves = λ u away. refl;
+          rest = refl;
+        }
+
+    pub deletes_went : (from : NodeId) (m : Delete) → CameToServer g n v (Deletes m.name) → Went n (on_delete node from m)
+    unfolding on_delete
+    deletes_went from m came = deed_went (Deletes m.name) (without node.shelf m.name) _ came refl (tt, tt)
+
+    pub fills_went : (f : Fragment) → CameToServer g n v (Fills f) → Went n (still (record node { shelf = on_fill node.shelf f }))
+    fills_went f came = deed_went (Fills f) (on_fill node.shelf f) [] came refl tt
+
+    pub loses_went : node.shelf.generation < u32_end → Went n (still (record node { shelf = lost node.shelf }))
+    loses_went low = deed_went Loses (lost node.shelf) [] (let e = ap (λ (t : ShelfState). t.generation) seen.shelf in omega arith) refl tt
