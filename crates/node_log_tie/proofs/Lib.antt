@@ -4,3 +4,4 @@ mod Lists
 mod Rebuilding
 mod RebuildEvents
 mod Shelving
+mod Servers

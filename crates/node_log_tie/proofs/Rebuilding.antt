@@ -243,10 +243,10 @@ module _ (g : Setting) (n : Net) (v : ℕ) where
   answered_seen r (Some p) ask server told seen present sent =
       by_test ReadOn ((ask == r.ask) && counts p server told) (judged r p.wanted (taken p.round server told) (state_of (taken p.round server told))) (still r)
       (λ t.
-        let fit = and_second (asks p.round server) (is_of p.wanted told && told_fits p.round told) (and_second (ask == r.ask) (counts p server told) t) in
-        let is = and_first (is_of p.wanted told) (told_fits p.round told) fit in
-        let fits = and_second (is_of p.wanted told) (told_fits p.round told) fit in
-        judged_seen r p.wanted (taken p.round server told) (state_of (taken p.round server told)) seen present.wanted (taken_seen p.wanted p.round server told present.round is fits sent) refl)
+      let fit = and_second (asks p.round server) (is_of p.wanted told && told_fits p.round told) (and_second (ask == r.ask) (counts p server told) t) in
+      let is = and_first (is_of p.wanted told) (told_fits p.round told) fit in
+      let fits = and_second (is_of p.wanted told) (told_fits p.round told) fit in
+      judged_seen r p.wanted (taken p.round server told) (state_of (taken p.round server told)) seen present.wanted (taken_seen p.wanted p.round server told present.round is fits sent) refl)
       (λ t. record { reads = seen; outs = tt })
 
   pub answer_seen : (r : ReadsState) (ask server : ℕ) (told : Told) → ReadsSeen g n v r → TellsSent told → ReadOn (on_answer r ask server told)

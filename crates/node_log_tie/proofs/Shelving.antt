@@ -105,6 +105,19 @@ module _ (g : Setting) (owner : NodeId) (v : ℕ) where
     rest = x.rest ∙ w.rest;
   }
 
+  -- effects that are seen at once, and then the rest
+  pub went_after : (n : Net) (outs : List Effect) (e : Done) → AllByRecursion (EffectSeen g owner n (Server v)) outs → Went n e → Went n (after outs e)
+  went_after n outs e does x = record {
+    next = x.next;
+    runs = x.runs;
+    seen = x.seen;
+    does =
+        all_append (EffectSeen g owner x.next (Server v)) outs e.outs
+        (all_weaker (EffectSeen g owner n (Server v)) (EffectSeen g owner x.next (Server v)) (effect_later n x.next (run_later g n x.next x.runs)) outs does) x.does;
+    shelves = x.shelves;
+    rest = x.rest;
+  }
+
   -- a server is seen with its shelf as it is then
   pub reshelved : (n next : Net) (node : nodes.Server) (s : ShelfState) → ServerSeen g n v node → Later n next → next.shelves v ≡ s → ServerSeen g next v (record node { shelf = s })
   reshelved n next node s seen later shelf = record {
@@ -203,7 +216,7 @@ module _ (g : Setting) (owner : NodeId) (v : ℕ) where
 
     fenced_said : (m : Fence) → (m.log.0 == g.log.0) ≡ true
         → In (FencedSent v m.pass.inc (fenced_at node.shelf m.log m.pass).generation (of_log m.log (listed_on (fenced_at node.shelf m.log m.pass))))
-            (FencedSent v m.pass.inc (n.shelves v).generation (listed g (n.shelves v)) ∷ n.sent)
+        (FencedSent v m.pass.inc (n.shelves v).generation (listed g (n.shelves v)) ∷ n.sent)
     fenced_said m own = inl (λ i. FencedSent v m.pass.inc (same_generation m i) (same_list m own i))
 
     fence_does : (next : Net) (from : NodeId) (m : Fence)
