@@ -5,3 +5,4 @@ mod Rebuilding
 mod RebuildEvents
 mod Shelving
 mod Servers
+mod WholeMaps
