@@ -6,3 +6,6 @@ mod RebuildEvents
 mod Shelving
 mod Servers
 mod WholeMaps
+mod Horizons
+mod Boards
+mod Others

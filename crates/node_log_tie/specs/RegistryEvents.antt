@@ -1,6 +1,5 @@
 -- What an event makes of the registry, as the small world of one log sees it.
-use Rattle.std.specs.Prelude.{◌≡◌, ◌≤◌, ◌⊎◌, ℕ, suc, true, List, [], Some, All, length}
-use Rattle.std.specs.List.{AllByRecursion}
+use Rattle.std.specs.Prelude.{◌≡◌, ◌<◌, ◌≤◌, ◌⊎◌, ℕ, suc, true, List, [], Some, All, length}
 use Rattle.xfs_base.specs.declared.node.NodeId.{NodeId}
 use Rattle.xfs_base.specs.declared.node.NodeId.TheVariants.{Client, Manager, Server, Cleaner, Registry}
 use Rattle.xfs_base.specs.declared.segment.SegName.{SegName}
@@ -12,7 +11,7 @@ use Rattle.group_map.specs.WellFormed.{IsGroupMap}
 use Rattle.client_log.specs.Fate.{has_server}
 use Rattle.registry.specs.Board.{all_news}
 use Rattle.registry.specs.BoardState.{BoardState}
-use Rattle.registry.specs.declared.checkpoint.Checkpoint.{Checkpoint}
+use Rattle.registry.specs.Checkpoints.{horizon_at}
 use Rattle.version_model.specs.declared.work.Work.{Work}
 use Rattle.wire_msg.specs.declared.packet.Do.{Do}
 use Rattle.wire_msg.specs.declared.packet.Do.TheVariants.{Begin, Deliver, Tick}
@@ -43,7 +42,7 @@ pub record RegistrySeen (g : Setting) (n : Net) (b : BoardState) : Type 0 where
   pub named : NamesGroups g b.groups
   pub known : (v : ℕ) → has_server b.groups v ≡ true → n.registry v ≡ generation_at b.groups.generations v
   pub low : n.low ≡ low_of g b
-  pub horizons : AllByRecursion (λ (c : Checkpoint). length c.horizon ≡ 9) b.checkpoints
+  pub horizons : (slot : ℕ) → slot < 8 → length (horizon_at b.checkpoints slot) ≡ 9
 
 -- ---- what the world owes an event
 
