@@ -9,3 +9,4 @@ mod WholeMaps
 mod Horizons
 mod Boards
 mod Others
+mod Registries
