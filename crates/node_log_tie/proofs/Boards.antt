@@ -80,7 +80,7 @@ module _ (g : Setting) (owner : NodeId) (n : Net) (b : BoardState) (before : Reg
     known_then u has =
         by_test (λ k. k ≡ generation_at (generations_after b.groups.generations v generation) u) (u == v) generation (n.registry u)
         (λ t. sym (ap (λ w. generation_at (generations_after b.groups.generations v generation) w) (equal u v t)
-          ∙ get_or-set_same b.groups.generations (v - 1) generation 0 (let l = before.map.each_server in let e = exists.0 in let f = exists.1 in omega arith)))
+        ∙ get_or-set_same b.groups.generations (v - 1) generation 0 (let l = before.map.each_server in let e = exists.0 in let f = exists.1 in omega arith)))
         (λ t. before.known u has ∙ sym (get_or-set_other b.groups.generations (v - 1) (u - 1) generation 0 (λ e. let first : 1 ≤ u = grind (arith, nat_tests) in let k = exists.0 in let apart : u ≢ v = grind (arith, nat_tests) in apart (omega arith))))
 
     heard : Leads (server_lost b v generation)
@@ -150,7 +150,7 @@ module _ (g : Setting) (owner : NodeId) (n : Net) (b : BoardState) (before : Reg
   done_so slot epoch parts horizon =
       by_test (λ (m : Made). Checkpointed m.state) (nat_lt 7 slot) (still b) (cond (is_kept b slot epoch horizon) (keep b slot epoch parts horizon) (record { state = b; outs = _ })) (λ t. same)
       (λ t. by_test (λ (m : Made). Checkpointed m.state) (is_kept b slot epoch horizon) (keep b slot epoch parts horizon) (record { state = b; outs = _ })
-        (λ k. kept_so slot epoch parts horizon (and_second ((entry_of b.entries slot).epoch == epoch) (covers_kept b.checkpoints slot horizon) k)) (λ k. same))
+      (λ k. kept_so slot epoch parts horizon (and_second ((entry_of b.entries slot).epoch == epoch) (covers_kept b.checkpoints slot horizon) k)) (λ k. same))
 
   shown_at : (c : BoardState) → Checkpointed c → (low : ℕ) → low ≡ low_of g c → RegistrySeen g (record n { low = low }) c
   shown_at c is low e = record {

@@ -5,6 +5,7 @@ mod Rebuilding
 mod RebuildEvents
 mod Shelving
 mod Servers
+mod SentMaps
 mod WholeMaps
 mod Horizons
 mod Boards

@@ -1,14 +1,20 @@
 -- What an event makes of the registry is a run of the small world.
-use Rattle.std.proofs.Common.{◌≡◌, ◌⊎◌, ℕ, ◌+◌, ◌-◌, ◌<◌, ◌≤◌, Bool, true, false, List, [], ◌∷◌, ◌++◌, map, min, replicate, slice_get, Option, Some, None, refl, sym, ap, subst, ◌∙◌, inl, inr, arith}
-use Rattle.std.specs.Prelude.{unwrap_or}
+use Rattle.std.proofs.Common.{◌≡◌, ◌⊎◌, ℕ, zero, suc, ◌+◌, ◌-◌, ◌<◌, ◌≤◌, Bool, true, false, List, [], ◌∷◌, ◌++◌, map, min, length, replicate, slice_get, Option, Some, None, refl, sym, ap, subst, ◌∙◌, inl, inr, arith}
+use Rattle.std.specs.Prelude.{slice_index, unwrap_or}
+use Rattle.std.proofs.lemmas.Bool.Decides.{nat_tests}
 use Rattle.std.specs.List.{AllByRecursion, flat_map}
 use Rattle.xfs_base.proofs.Booleans.{by_test}
 use Rattle.xfs_base.specs.declared.node.NodeId.{NodeId}
 use Rattle.xfs_base.specs.declared.node.NodeId.TheVariants.{Registry}
 use Rattle.xfs_base.specs.declared.setup.Setup.{Setup}
+use Rattle.xfs_base.specs.Limits.{u32_end}
 use Rattle.xfs_base.specs.Steps.{still}
+use Rattle.group_map.proofs.WellFormedMaps.{IsGroupMap-started}
 use Rattle.registry.specs.Board.{step, all_news}
 use Rattle.registry.specs.BoardState.{BoardState}
+use Rattle.registry.specs.Checkpoints.{first_checkpoint, horizon_at}
+use Rattle.registry.specs.declared.checkpoint.Checkpoint.{Checkpoint}
+use Rattle.registry.specs.Slots.{all_slots}
 use Rattle.registry.specs.declared.input.In.{In as Input}
 use Rattle.registry.specs.declared.input.In.TheVariants as input
 use Rattle.registry.specs.declared.output.Out.{Out}
@@ -26,6 +32,7 @@ use Rattle.node_base.specs.declared.effects.Effect.TheVariants.{Send, Answer}
 use Rattle.node_base.specs.Beginning.{begun, next_item, work_at}
 use Rattle.node_base.specs.Nodes.{others}
 use Rattle.node_base.specs.Room.{has_room}
+use Rattle.node_base.specs.Setups.{IsSetup}
 use Rattle.node_base.specs.Shape.{is_well_formed}
 use Rattle.store_nodes.specs.declared.registry_node.RegistryNode.{RegistryNode}
 use Rattle.store_nodes.specs.RegistryEvents.{Done, registry_start, registry_step, news_of, tells_all, moved, on_move, changed, welcome_of, on_hello, kept, on_done, move_of, on_item, at_item, on_begin, hears, on_packet, on_event, takes}
@@ -37,7 +44,7 @@ use Rattle.log_law.specs.Events.{Runs}
 use Rattle.log_law.specs.Events.Happens.{Publishes, Welcomes}
 use Rattle.log_law.specs.Events.Runs.{On}
 use Rattle.node_log_tie.specs.Sight.{BodySeen, PacketSeen, EffectSeen, HelloSeen, Later}
-use Rattle.node_log_tie.specs.RegistryEvents.{RegistrySeen, Keeps, Hears, all_but_known, RegistryGoes}
+use Rattle.node_log_tie.specs.RegistryEvents.{NamesGroups, RegistrySeen, Keeps, Hears, all_but_known, RegistryGoes}
 use Rattle.node_log_tie.proofs.Boards.{MadeSeen, InputReached, board_goes}
 use Rattle.node_log_tie.proofs.Going.{run_later}
 use Rattle.node_log_tie.proofs.Lists.{all_append, all_map, all_flat_map, packets_all}
@@ -212,3 +219,34 @@ module _ (g : Setting) (owner : NodeId) (some : g.log.0 ≤ 9) (n : Net) where
         sends = packets_all (PacketSeen g owner goes.next) (EffectSeen g owner goes.next Registry) Registry (λ to said does. does) (takes r what).outs goes.does;
         rest = goes.rest;
       }
+
+-- ---- the start
+
+abbrev one : ℕ
+one = 1
+
+all_ones : (k i : ℕ) → unwrap_or (slice_get (replicate k one) i) one ≡ one
+all_ones zero i = refl
+all_ones (suc k) zero = refl
+all_ones (suc k) (suc i) = all_ones k i
+
+one_at : (k i : ℕ) → i < k → slice_index (replicate k 1) i ≡ 1
+one_at zero i below = absurd (let b = below in omega arith)
+one_at (suc k) zero below = refl
+one_at (suc k) (suc i) below = one_at k i (omega arith)
+
+nine_at : (cs : List Checkpoint) (slot : ℕ) → slot < length cs → AllByRecursion (λ (c : Checkpoint). length c.horizon ≡ 9) cs → length (horizon_at cs slot) ≡ 9
+nine_at [] slot below all = absurd (let b = below in omega arith)
+nine_at (c ∷ cs) zero below all = all.0
+nine_at (c ∷ cs) (suc slot) below all = nine_at cs slot (omega arith) all.1
+
+pub registry_begins : (g : Setting) (n : Net) (setup : Setup) (items : List Work) → IsSetup setup → setup.servers ≡ g.servers → NamesGroups g (registry_start setup items).board.groups
+    → ((v : ℕ) → n.registry v ≡ 1) → n.low ≡ 1 → RegistrySeen g n (registry_start setup items).board
+registry_begins g n setup items ok size named registry low = record {
+  map = IsGroupMap-started setup.servers setup.groups ok.count.0 (let c = ok.count.1 in omega arith) ok.sizes ok.exist ok.differ ok.parity;
+  size = size;
+  named = named;
+  known = λ v has. registry v ∙ sym (one_at setup.servers (v - 1) (let first : 1 ≤ v = grind (arith, nat_tests) in let last : v ≤ setup.servers = grind (arith, nat_tests) in omega arith));
+  low = low ∙ sym (ap (λ x. min x (min x (min x (min x (min x (min x (min x (min x u32_end)))))))) (all_ones 9 (g.log.0 - 1)));
+  horizons = λ slot below. nine_at (registry_start setup items).board.checkpoints slot below (all_map (λ (c : Checkpoint). length c.horizon ≡ 9) (λ (slot : ℕ). first_checkpoint) (λ slot. refl) all_slots);
+}

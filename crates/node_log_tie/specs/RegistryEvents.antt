@@ -77,7 +77,7 @@ pub record RegistryGoes (g : Setting) (owner : NodeId) (n : Net) (r : RegistryNo
 -- Each event of the registry; the log is a client's or the cleaner's, of which horizons tell.
 abbrev pub RegistryEventGoes : Type 0
 RegistryEventGoes =
-    (g : Setting) (owner : NodeId) (n : Net) (r : RegistryNode) (what : Do) → g.log.0 ≤ 9 → (owner ≡ Registry → ⊥) → RegistrySeen g n r.board → Hears g owner n what
+    (g : Setting) (owner : NodeId) (n : Net) (r : RegistryNode) (what : Do) → g.log.0 ≤ 9 → RegistrySeen g n r.board → Hears g owner n what
     → Keeps g n (registry_step r what).node.board → RegistryGoes g owner n r what
 
 -- At the start of a run the registry knows each server at generation 1, and no horizon above 1.

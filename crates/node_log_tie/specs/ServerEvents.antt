@@ -29,6 +29,7 @@ use Rattle.log_tie.specs.Shelves.{is_of_log}
 use Rattle.log_law.specs.Net.{Net}
 use Rattle.log_law.specs.Net.Packet.{ListedSent, MapSent}
 use Rattle.log_law.specs.Events.{AllCame, Runs}
+use Rattle.log_law.specs.Laws.{Moment}
 use Rattle.node_log_tie.specs.Sight.{PacketSeen, AllSeen}
 
 -- each group id of a map names its stripe, and segments may be cut for it
@@ -125,3 +126,7 @@ abbrev pub ServerStarts : Type 0
 ServerStarts =
     (g : Setting) (n : Net) (v : ℕ) (setup : Setup) (items : List Work) → n.shelves v ≡ new_shelf → IfSome (server_start v setup items).maps.groups (NamesStripes g)
     → ServerSeen g n v (server_start v setup items)
+
+-- Of each moment of a run the maps that were sent name stripes.
+abbrev pub SentMapsName : Type 0
+SentMapsName = (g : Setting) (n : Net) → Moment g n → MapsName g n
