@@ -1,16 +1,15 @@
 -- What each input makes of the registry's state, in the small world.
-use Rattle.std.proofs.Common.{◌≡◌, ◌≢◌, ◌⊎◌, ℕ, zero, suc, ◌+◌, ◌-◌, ◌==◌, ◌&&◌, ◌<◌, ◌≤◌, Bool, true, false, cond, List, [], ◌∷◌, length, refl, sym, ap, subst, ◌∙◌, inl, inr, arith}
-use Rattle.std.specs.Prelude.{nat_le, nat_lt, slice_index, slice_set, IsTrue}
+use Rattle.std.proofs.Common.{◌≡◌, ◌≢◌, ℕ, ◌-◌, ◌==◌, ◌≤◌, true, cond, List, refl, sym, ap, subst, ◌∙◌, inl, inr, arith}
+use Rattle.std.specs.Prelude.{nat_lt}
 use Rattle.std.proofs.lemmas.Bool.Decides.{nat_tests}
 use Rattle.std.proofs.lemmas.List.{get_or-set_same, get_or-set_other}
-use Rattle.xfs_base.proofs.Booleans.{by_test, and_first, and_second}
+use Rattle.xfs_base.proofs.Booleans.{by_test, and_second}
 use Rattle.xfs_base.specs.declared.node.NodeId.{NodeId}
 use Rattle.xfs_base.specs.declared.node.NodeId.TheVariants.{Client, Manager, Server, Cleaner, Registry}
-use Rattle.xfs_base.specs.declared.segment.SegName.{SegName}
 use Rattle.xfs_base.specs.declared.segment.SegRef.{SegRef}
 use Rattle.xfs_base.specs.Steps.{still}
 use Rattle.group_map.specs.GroupMapState.{GroupMapState}
-use Rattle.group_map.specs.Groups.{generation_at, generations_after, lost}
+use Rattle.group_map.specs.Groups.{generation_at, generations_after}
 use Rattle.group_map.specs.WellFormed.{IsGroupMap}
 use Rattle.client_log.specs.Fate.{has_server}
 use Rattle.registry.specs.Board.{Made, hears_manager, manager_restarted, manager_hello, hears_server, server_lost, server_hello, can_move, moved, reassign, is_kept, checkpointed, keep, done, step}
@@ -20,7 +19,7 @@ use Rattle.registry.specs.declared.input.In.{In as Input}
 use Rattle.registry.specs.declared.input.In.TheVariants as input
 use Rattle.registry.specs.Slots.{entry_of}
 use Rattle.registry.proofs.Losses.{loss_exists, loss_newer, loss_kept, loss_heard}
-use Rattle.log_protocol.specs.Tables.{put, In}
+use Rattle.log_protocol.specs.Tables.{put}
 use Rattle.log_tie.specs.Setting.{Setting}
 use Rattle.log_tie.proofs.Names.{equal}
 use Rattle.log_law.specs.Net.{Net}

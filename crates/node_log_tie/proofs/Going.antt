@@ -1,6 +1,5 @@
 -- Each run of the small world goes on: what was sent stays sent, and no generation falls.
-use Rattle.std.proofs.Common.{◌≡◌, ℕ, suc, ◌==◌, ◌≤◌, ◌<◌, ◌+◌, Bool, true, false, cond, min, is_some, not, List, [], ◌∷◌, ◌++◌, Option, Some, None, refl, sym, ap, subst, ◌∙◌, inl, inr, arith}
-use Rattle.std.specs.BTreeMap.{insert_entry}
+use Rattle.std.proofs.Common.{◌≡◌, ℕ, ◌==◌, ◌≤◌, ◌<◌, List, [], ◌∷◌, ◌++◌, Option, Some, None, refl, sym, ap, subst, inl, inr, arith}
 use Rattle.xfs_base.proofs.Booleans.{by_test}
 use Rattle.xfs_base.specs.declared.fragment.Fragment.{Fragment}
 use Rattle.xfs_base.specs.declared.segment.LogId.{LogId}
@@ -10,8 +9,8 @@ use Rattle.xfs_base.specs.Segments.{pass_cmp}
 use Rattle.xfs_base.specs.Stamps.{is_greater}
 use Rattle.segment_format.specs.declared.segment.Segment.{Segment}
 use Rattle.group_map.specs.GroupMapState.{GroupMapState}
-use Rattle.fragment_store.specs.Calls.{kept, on_fence, with_fragment}
-use Rattle.fragment_store.specs.ShelfState.{ShelfState, fence_of, is_held, is_marked, log_cmp}
+use Rattle.fragment_store.specs.Calls.{kept, on_fence}
+use Rattle.fragment_store.specs.ShelfState.{ShelfState, fence_of, is_held, is_marked}
 use Rattle.client_log.specs.LogState.{FlightState}
 use Rattle.client_log.specs.Transition as log
 use Rattle.log_scan.specs.ScanState.{ScanState}
@@ -21,7 +20,7 @@ use Rattle.log_tie.specs.Setting.{Setting}
 use Rattle.log_tie.specs.Shelves.{is_stored, Deed, shelf_after}
 use Rattle.log_tie.specs.Shelves.Deed.{Stores, Fetches, Fences, Deletes, Fills, Loses}
 use Rattle.log_tie.proofs.Names.{equal}
-use Rattle.log_law.specs.Net.{Net, Packet, Told, log_packets, scan_packets, chain_in, first_write, answers, after_log, after_flight, after_writing, after_told, after_scan}
+use Rattle.log_law.specs.Net.{Net, Packet, Told, log_packets, scan_packets, chain_in, first_write, answers, after_flight, after_told}
 use Rattle.log_law.specs.Events.{CameToServer, Happens, Runs}
 use Rattle.log_law.specs.Events.Happens.{Acts, Writes, Opens, Crashes, Restarts, Serves, Bars, Lists, Hears, Raises, Publishes, Welcomes, Drops}
 use Rattle.log_law.specs.Events.Runs.{Begun, On}

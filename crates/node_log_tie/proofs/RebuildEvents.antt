@@ -1,7 +1,7 @@
 -- What each input makes of a rebuild stays seen.
-use Rattle.std.proofs.Common.{◌≡◌, ℕ, ◌+◌, ◌==◌, ◌||◌, Bool, true, false, cond, not, List, [], ◌∷◌, ◌++◌, filter, length, Option, Some, None, refl, sym, subst, inl, inr}
+use Rattle.std.proofs.Common.{ℕ, ◌==◌, ◌||◌, not, List, [], ◌∷◌, filter, length, Option, Some, None, refl, sym, subst, inl, inr}
 use Rattle.std.specs.Option.{is_some}
-use Rattle.std.specs.Prelude.{IfSome, fold}
+use Rattle.std.specs.Prelude.{IfSome}
 use Rattle.std.specs.BTreeMap.{is_at, insert_entry}
 use Rattle.std.specs.List.{AllByRecursion}
 use Rattle.std.specs.Map.{remove_entry, values_of}
@@ -18,9 +18,9 @@ use Rattle.group_rebuild.specs.declared.events.In.TheVariants as input
 use Rattle.group_rebuild.specs.declared.events.Out.{Out}
 use Rattle.group_rebuild.specs.declared.events.Out.TheVariants as out
 use Rattle.group_rebuild.specs.declared.reads.Present.{Present}
-use Rattle.group_rebuild.specs.Reads.{ReadsState, at_first, fetches, go_on, asked_again, on_answer}
+use Rattle.group_rebuild.specs.Reads.{ReadsState, at_first, go_on, asked_again, on_answer}
 use Rattle.group_rebuild.specs.RebuildState.{RebuildState}
-use Rattle.group_rebuild.specs.Transition.{awaits, awaited, lists, listed_with, without, heard_from, begun, begun_if_all, on_listed, told_by, repeated, transition}
+use Rattle.group_rebuild.specs.Transition.{awaits, awaited, listed_with, without, heard_from, begun, begun_if_all, on_listed, told_by, repeated, transition}
 use Rattle.group_rebuild.specs.Wanted.{wanted_in}
 use Rattle.log_protocol.specs.Tables.{In}
 use Rattle.log_tie.specs.Setting.{Setting}

@@ -1,7 +1,7 @@
 -- What a rebuild keeps stays seen, and what it fills in is a filling.
-use Rattle.std.proofs.Common.{◌≡◌, ℕ, zero, suc, ◌+◌, ◌==◌, ◌&&◌, ◌<◌, ◌≤◌, Bool, true, false, cond, not, List, [], ◌∷◌, ◌++◌, map, length, get_or, slice_get, Option, Some, None, refl, sym, ap, subst, ◌∙◌, arith}
-use Rattle.std.specs.Prelude.{All, IfSome, unwrap_or, position}
-use Rattle.std.specs.List.{AllByRecursion, cons_option, filter_map}
+use Rattle.std.proofs.Common.{◌≡◌, ℕ, zero, suc, ◌==◌, ◌&&◌, ◌<◌, true, List, [], ◌∷◌, ◌++◌, length, get_or, slice_get, Option, Some, None, refl, sym, ap, subst, ◌∙◌}
+use Rattle.std.specs.Prelude.{IfSome, unwrap_or, position}
+use Rattle.std.specs.List.{AllByRecursion, cons_option}
 use Rattle.std.proofs.lemmas.List.Elements.{All-nil}
 use Rattle.std.proofs.lemmas.List.Quantifiers.{position-Some}
 use Rattle.std.proofs.lemmas.Option.{unwrap_or-slice_get}
@@ -22,7 +22,7 @@ use Rattle.stripe_code.specs.declared.round.RoundState.TheVariants.{Read, Short,
 use Rattle.stripe_code.specs.declared.round.Told.{Told}
 use Rattle.stripe_code.specs.declared.round.Told.TheVariants.{Held, Missing}
 use Rattle.stripe_code.specs.Fragments.{fragment_at}
-use Rattle.stripe_code.specs.Round.{RoundSoFar, IsRound, new_round, asks, has_answered, told_fits, taken, state_of}
+use Rattle.stripe_code.specs.Round.{RoundSoFar, asks, has_answered, told_fits, taken, state_of}
 use Rattle.stripe_code.specs.Stripe.{IsCut, stripe_of}
 use Rattle.client_log.specs.Transition.{no_member}
 use Rattle.group_rebuild.specs.declared.events.Out.{Out}
@@ -30,7 +30,7 @@ use Rattle.group_rebuild.specs.declared.events.Out.TheVariants as out
 use Rattle.group_rebuild.specs.declared.reads.Present.{Present}
 use Rattle.group_rebuild.specs.declared.wanted.Wanted.{Wanted}
 use Rattle.group_rebuild.specs.Reads.{ReadsState, one_more, fetches, go_on, is_of, counts, judged, answered, on_answer}
-use Rattle.group_rebuild.specs.Wanted.{others_of, in_group, of_group, wanted_of, wanted_in, refilled}
+use Rattle.group_rebuild.specs.Wanted.{in_group, of_group, wanted_of, wanted_in, refilled}
 use Rattle.log_protocol.specs.Tables.{In}
 use Rattle.log_tie.specs.Setting.{Setting, server_of, Stripe, stripe_of_group}
 use Rattle.log_tie.specs.Shelves.{is_of_log}
@@ -39,8 +39,8 @@ use Rattle.log_law.specs.Net.{Net}
 use Rattle.log_law.specs.Net.Packet.{FragmentSent}
 use Rattle.log_law.specs.Events.{ToldCame, AllCame, IsFilling}
 use Rattle.node_log_tie.specs.Sight.{Later}
-use Rattle.node_log_tie.specs.ServerEvents.{NamesStripes, WasListed, ListedOfLog, WantedSeen, RoundSeen, PresentSeen, ReadsSeen}
-use Rattle.node_log_tie.proofs.Lists.{all_append, all_map, all_weaker, if_some}
+use Rattle.node_log_tie.specs.ServerEvents.{NamesStripes, ListedOfLog, WantedSeen, RoundSeen, PresentSeen, ReadsSeen}
+use Rattle.node_log_tie.proofs.Lists.{all_map, all_weaker, if_some}
 
 -- ---- while the small world goes on
 

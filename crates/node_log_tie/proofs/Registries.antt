@@ -1,5 +1,5 @@
 -- What an event makes of the registry is a run of the small world.
-use Rattle.std.proofs.Common.{◌≡◌, ◌⊎◌, ℕ, zero, suc, ◌+◌, ◌-◌, ◌<◌, ◌≤◌, Bool, true, false, List, [], ◌∷◌, ◌++◌, map, min, length, replicate, slice_get, Option, Some, None, refl, sym, ap, subst, ◌∙◌, inl, inr, arith}
+use Rattle.std.proofs.Common.{◌≡◌, ◌⊎◌, ℕ, zero, suc, ◌-◌, ◌<◌, ◌≤◌, List, [], ◌∷◌, ◌++◌, map, min, length, replicate, slice_get, Option, Some, None, refl, sym, ap, ◌∙◌, inl, inr, arith}
 use Rattle.std.specs.Prelude.{slice_index, unwrap_or}
 use Rattle.std.proofs.lemmas.Bool.Decides.{nat_tests}
 use Rattle.std.specs.List.{AllByRecursion, flat_map}
@@ -15,7 +15,6 @@ use Rattle.registry.specs.BoardState.{BoardState}
 use Rattle.registry.specs.Checkpoints.{first_checkpoint, horizon_at}
 use Rattle.registry.specs.declared.checkpoint.Checkpoint.{Checkpoint}
 use Rattle.registry.specs.Slots.{all_slots}
-use Rattle.registry.specs.declared.input.In.{In as Input}
 use Rattle.registry.specs.declared.input.In.TheVariants as input
 use Rattle.registry.specs.declared.output.Out.{Out}
 use Rattle.registry.specs.declared.output.Out.TheVariants.{Changed, Epoch, Kept}
@@ -27,8 +26,7 @@ use Rattle.wire_msg.specs.declared.packet.Do.TheVariants.{Begin, Deliver, Tick}
 use Rattle.wire_msg.specs.declared.packet.Packet.{Packet}
 use Rattle.wire_msg.specs.declared.registry.CkptDone.{CkptDone}
 use Rattle.wire_msg.specs.declared.registry.Hello.{Hello}
-use Rattle.node_base.specs.declared.effects.Effect.{Effect}
-use Rattle.node_base.specs.declared.effects.Effect.TheVariants.{Send, Answer}
+use Rattle.node_base.specs.declared.effects.Effect.TheVariants.{Send}
 use Rattle.node_base.specs.Beginning.{begun, next_item, work_at}
 use Rattle.node_base.specs.Nodes.{others}
 use Rattle.node_base.specs.Room.{has_room}
@@ -43,9 +41,9 @@ use Rattle.log_law.specs.Net.Packet.{MapSent, HelloSent, WelcomeSent}
 use Rattle.log_law.specs.Events.{Runs}
 use Rattle.log_law.specs.Events.Happens.{Publishes, Welcomes}
 use Rattle.log_law.specs.Events.Runs.{On}
-use Rattle.node_log_tie.specs.Sight.{BodySeen, PacketSeen, EffectSeen, HelloSeen, Later}
+use Rattle.node_log_tie.specs.Sight.{BodySeen, PacketSeen, EffectSeen, HelloSeen}
 use Rattle.node_log_tie.specs.RegistryEvents.{NamesGroups, RegistrySeen, Keeps, Hears, all_but_known, RegistryGoes}
-use Rattle.node_log_tie.proofs.Boards.{MadeSeen, InputReached, board_goes}
+use Rattle.node_log_tie.proofs.Boards.{MadeSeen, board_goes}
 use Rattle.node_log_tie.proofs.Going.{run_later}
 use Rattle.node_log_tie.proofs.Lists.{all_append, all_map, all_flat_map, packets_all}
 use Rattle.node_log_tie.proofs.Others.{same_or_other}

@@ -1,5 +1,5 @@
 -- Maps that were sent are the registry's: each group id of theirs names its stripe.
-use Rattle.std.proofs.Common.{◌≡◌, ◌⊎◌, ℕ, ◌&&◌, Bool, true, false, List, [], ◌∷◌, ◌++◌, Option, Some, None, refl, sym, subst, inl, inr}
+use Rattle.std.proofs.Common.{◌≡◌, ◌⊎◌, ℕ, ◌&&◌, List, [], ◌∷◌, ◌++◌, Option, Some, None, sym, subst, inl, inr}
 use Rattle.xfs_base.proofs.Booleans.{by_test}
 use Rattle.xfs_base.specs.declared.fragment.Fragment.{Fragment}
 use Rattle.segment_format.specs.declared.segment.Segment.{Segment}

@@ -1,5 +1,5 @@
 -- What an event makes of a storage server is a run of the small world.
-use Rattle.std.proofs.Common.{◌≡◌, ℕ, ◌==◌, ◌&&◌, ◌-◌, ◌<◌, ◌≤◌, Bool, true, false, List, [], ◌∷◌, ◌++◌, Option, Some, None, refl, sym, ap, subst, ◌∙◌, arith}
+use Rattle.std.proofs.Common.{◌≡◌, ℕ, ◌==◌, ◌&&◌, ◌<◌, List, [], ◌∷◌, Option, Some, None, refl, sym, ap, subst, arith}
 use Rattle.std.proofs.lemmas.Bool.Decides.{nat_tests}
 use Rattle.std.specs.List.{AllByRecursion}
 use Rattle.std.specs.Option.{is_some}
@@ -10,20 +10,18 @@ use Rattle.xfs_base.specs.declared.node.NodeId.TheVariants.{Server}
 use Rattle.xfs_base.specs.declared.segment.SegName.{SegName}
 use Rattle.xfs_base.specs.declared.setup.Setup.{Setup}
 use Rattle.xfs_base.specs.Limits.{u32_end}
-use Rattle.xfs_base.specs.Steps.{still, after, steps}
+use Rattle.xfs_base.specs.Steps.{still, steps}
 use Rattle.group_map.specs.GroupMapState.{GroupMapState}
-use Rattle.fragment_store.specs.Calls.{barred, on_fill, on_lose as lost}
+use Rattle.fragment_store.specs.Calls.{barred, on_lose as lost}
 use Rattle.fragment_store.specs.ShelfState.{ShelfState, new_shelf}
 use Rattle.group_rebuild.specs.declared.events.In.{In as Input}
 use Rattle.group_rebuild.specs.declared.events.In.TheVariants as input
 use Rattle.group_rebuild.specs.declared.events.Out.{Out}
 use Rattle.group_rebuild.specs.declared.events.Out.TheVariants as out
-use Rattle.group_rebuild.specs.RebuildState.{started}
 use Rattle.group_rebuild.specs.Transition.{transition}
-use Rattle.node_base.specs.Asking.{drawn, next_ask}
-use Rattle.node_base.specs.Beginning.{answered, answers_unanswered, begun, next_item, waiting, work_at}
-use Rattle.node_base.specs.declared.effects.Effect.{Effect}
-use Rattle.node_base.specs.declared.effects.Effect.TheVariants.{Send, Answer}
+use Rattle.node_base.specs.Asking.{next_ask}
+use Rattle.node_base.specs.Beginning.{answers_unanswered, begun, next_item, work_at}
+use Rattle.node_base.specs.declared.effects.Effect.TheVariants.{Answer}
 use Rattle.node_base.specs.declared.maps.Maps.{Maps}
 use Rattle.node_base.specs.Known.{names_known}
 use Rattle.node_base.specs.Maps.{fits, is_older, taken}
@@ -46,7 +44,7 @@ use Rattle.store_nodes.specs.declared.server.Server as nodes
 use Rattle.store_nodes.specs.declared.server.Wish.{Wish}
 use Rattle.store_nodes.specs.declared.server.Wish.TheVariants.{Lose, Rebuild, Other}
 use Rattle.store_nodes.specs.Rebuilds.{Done, lists_asked, fetch_asked, says, goes_on, rebuilds, server_in, awaits_list, fetch_of, on_listed, found_for, on_found, missing_for, on_missing}
-use Rattle.store_nodes.specs.ServerEvents.{server_start, server_step, hello_of, takes_news, on_news, left_hello, on_welcome, asks_for_maps, tells, hears, hears_known, on_body, on_packet, on_lose, begins_rebuild, on_rebuild, on_wish, at_item, wish_of, on_begin, hello_again, on_tick, on_event, is_far_from_ends, takes}
+use Rattle.store_nodes.specs.ServerEvents.{server_start, hello_of, takes_news, on_news, left_hello, on_welcome, asks_for_maps, tells, hears, hears_known, on_body, on_packet, on_lose, begins_rebuild, on_rebuild, on_wish, at_item, wish_of, on_begin, hello_again, on_tick, on_event, is_far_from_ends, takes}
 use Rattle.log_tie.specs.Setting.{Setting}
 use Rattle.log_law.specs.Net.{Net}
 use Rattle.node_log_tie.specs.Sight.{BodySeen, PacketSeen, EffectSeen, ListedSeen, FragmentSeen, NewsSeen, WelcomeSeen, Later}

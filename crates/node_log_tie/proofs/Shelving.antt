@@ -1,9 +1,8 @@
 -- What is done to a server's shelf, as what happens in the small world.
-use Rattle.std.proofs.Common.{◌≡◌, ℕ, ◌==◌, ◌&&◌, ◌<◌, ◌≤◌, Bool, true, false, cond, not, List, [], ◌∷◌, ◌++◌, filter, map, Option, Some, None, refl, sym, ap, subst, ◌∙◌, inl, inr, arith}
+use Rattle.std.proofs.Common.{◌≡◌, ℕ, ◌==◌, ◌&&◌, ◌<◌, Bool, true, false, cond, List, [], ◌∷◌, ◌++◌, filter, map, Option, Some, None, refl, sym, ap, subst, ◌∙◌, inl, arith}
 use Rattle.std.specs.Option.{is_none, is_some}
 use Rattle.std.specs.Ordering.{is_eq}
 use Rattle.std.specs.List.{AllByRecursion}
-use Rattle.std.specs.Prelude.{IfSome, find}
 use Rattle.xfs_base.proofs.Booleans.{by_test, contrary}
 use Rattle.xfs_base.specs.declared.fragment.FragMeta.{FragMeta}
 use Rattle.xfs_base.specs.declared.fragment.Fragment.{Fragment}
@@ -15,7 +14,7 @@ use Rattle.xfs_base.specs.declared.segment.SegName.{SegName}
 use Rattle.xfs_base.specs.Limits.{u32_end}
 use Rattle.xfs_base.specs.Segments.{pass_cmp}
 use Rattle.xfs_base.specs.Stamps.{is_greater}
-use Rattle.xfs_base.specs.Steps.{Stepped, still, after, steps}
+use Rattle.xfs_base.specs.Steps.{still, after}
 use Rattle.fragment_store.proofs.Names.{one_name}
 use Rattle.fragment_store.specs.Calls.{store_refused, kept, on_fence as fenced_at, on_delete as without, on_fill, on_lose as lost, on_list as listed_on}
 use Rattle.fragment_store.specs.declared.store_error.StoreError.{StoreError}
@@ -39,12 +38,12 @@ use Rattle.log_tie.specs.Shelves.Deed.{Stores, Fetches, Fences, Deletes, Fills, 
 use Rattle.log_tie.proofs.Names.{equal, itself}
 use Rattle.log_law.specs.Net.{Net, Packet, answers, fragment_told, listed}
 use Rattle.log_law.specs.Net.Packet.{StoredSent, FragmentSent, FencedSent, ListedSent}
-use Rattle.log_law.specs.Events.{CameToServer, Happens, Runs}
+use Rattle.log_law.specs.Events.{CameToServer, Runs}
 use Rattle.log_law.specs.Events.Happens.{Serves, Bars, Lists}
 use Rattle.log_law.specs.Events.Runs.{Begun, On}
 use Rattle.node_log_tie.specs.Sight.{EffectSeen, FenceSeen, Later}
-use Rattle.node_log_tie.specs.ServerEvents.{NamesStripes, RebuildSeen, ServerSeen, all_but_shelves}
-use Rattle.node_log_tie.proofs.Going.{in_after, in_before, run_later, runs_on}
+use Rattle.node_log_tie.specs.ServerEvents.{RebuildSeen, ServerSeen, all_but_shelves}
+use Rattle.node_log_tie.proofs.Going.{run_later, runs_on}
 use Rattle.node_log_tie.proofs.Lists.{all_append, all_weaker, if_some}
 use Rattle.node_log_tie.proofs.RebuildEvents.{rebuild_later}
 use Rattle.node_log_tie.proofs.Sights.{seen_later}

@@ -1,14 +1,12 @@
 -- What is seen stays seen while the small world goes on, and each run of it goes on so.
-use Rattle.std.proofs.Common.{◌≡◌, ℕ, ◌==◌, ◌<◌, ◌≤◌, ◌+◌, Bool, true, false, cond, min, List, [], ◌∷◌, ◌++◌, refl, sym, ap, subst, ◌∙◌, inl, inr, arith}
-use Rattle.xfs_base.proofs.Booleans.{by_test}
+use Rattle.std.proofs.Common.{ℕ, arith}
 use Rattle.xfs_base.specs.declared.node.NodeId.{NodeId}
 use Rattle.xfs_base.specs.declared.node.NodeId.TheVariants.{Client, Manager, Server, Cleaner, Registry}
 use Rattle.wire_msg.specs.declared.body.Body.{Body}
 use Rattle.wire_msg.specs.declared.body.Body.TheVariants as body
-use Rattle.log_protocol.specs.Tables.{In}
 use Rattle.log_tie.specs.Setting.{Setting}
-use Rattle.log_law.specs.Net.{Net, Packet}
-use Rattle.node_log_tie.specs.Sight.{ReachedBy, HelloSeen, WelcomeSeen, StoreSeen, FenceSeen, FencedSeen, BodySeen, Later}
+use Rattle.log_law.specs.Net.{Net}
+use Rattle.node_log_tie.specs.Sight.{ReachedBy, BodySeen, Later}
 
 pub at_once : (n : Net) → Later n n
 at_once n = record { sent = λ p is. is; reached = λ v. omega arith }

@@ -1,12 +1,11 @@
 -- A well formed map whose groups the setting names is a whole map.
-use Rattle.std.proofs.Common.{◌≡◌, ◌≢◌, ℕ, zero, suc, ◌+◌, ◌-◌, ◌%◌, ◌==◌, ◌&&◌, ◌<◌, ◌≤◌, Bool, true, false, cond, List, [], ◌∷◌, map, length, get_or, Option, Some, None, refl, sym, ap, subst, ◌∙◌, mod-lt, arith}
-use Rattle.std.specs.Prelude.{All, IsTrue, IsSomeAnd, find, slice_index, nat_le, nat_lt, nat_eq, unwrap_or}
-use Rattle.std.specs.List.{AllPairs, IsDistinct}
+use Rattle.std.proofs.Common.{◌≡◌, ℕ, ◌+◌, ◌%◌, ◌==◌, ◌<◌, ◌≤◌, Bool, true, false, cond, List, [], ◌∷◌, map, length, get_or, Option, Some, None, refl, sym, ap, subst, ◌∙◌, mod-lt, arith}
+use Rattle.std.specs.Prelude.{All, IsTrue, IsSomeAnd, find, nat_lt, unwrap_or}
 use Rattle.std.proofs.lemmas.Bool.Decides.{Decides-eqb, nat_tests}
 use Rattle.std.proofs.lemmas.List.{get_or-map, length-map}
 use Rattle.std.proofs.lemmas.List.Elements.{All-head, All-tail}
 use Rattle.std.proofs.lemmas.Map.Made.{AllPairs-from_IsDistinct}
-use Rattle.xfs_base.proofs.Booleans.{by_test, contrary}
+use Rattle.xfs_base.proofs.Booleans.{by_test}
 use Rattle.group_map.specs.declared.group.Group.{Group}
 use Rattle.group_map.specs.declared.group.Member.{Member}
 use Rattle.group_map.specs.GroupMapState.{GroupMapState}
@@ -20,8 +19,7 @@ use Rattle.group_map.proofs.Presence.{is_present}
 use Rattle.stripe_code.specs.Stripe.{IsCut}
 use Rattle.client_log.specs.Fate.{has_server}
 use Rattle.client_log.specs.Transition.{no_group, no_member, group_for}
-use Rattle.log_tie.specs.Setting.{Setting, server_of, generation_of, present_at, stripe_of_group, IsStripe, IsMap}
-use Rattle.log_tie.specs.Inputs.{MapSeen}
+use Rattle.log_tie.specs.Setting.{Setting, server_of, present_at, IsStripe, IsMap}
 use Rattle.log_tie.specs.Scans.{WholeMap}
 use Rattle.log_tie.proofs.Names.{equal}
 use Rattle.node_log_tie.specs.RegistryEvents.{NamesGroups}

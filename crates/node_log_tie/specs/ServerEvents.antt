@@ -1,8 +1,7 @@
 -- What an event makes of a storage server, as the small world of one log sees it.
-use Rattle.std.specs.Prelude.{◌≡◌, ◌<◌, ◌≤◌, ℕ, true, List, [], Option, Some, IfSome, All, length}
+use Rattle.std.specs.Prelude.{◌≡◌, ◌<◌, ℕ, true, List, [], Some, IfSome, length}
 use Rattle.std.specs.List.{AllByRecursion}
 use Rattle.xfs_base.specs.declared.fragment.FragMeta.{FragMeta}
-use Rattle.xfs_base.specs.declared.fragment.Fragment.{Fragment}
 use Rattle.xfs_base.specs.declared.node.NodeId.{NodeId}
 use Rattle.xfs_base.specs.declared.node.NodeId.TheVariants.{Server}
 use Rattle.xfs_base.specs.declared.segment.SegName.{SegName}
@@ -10,7 +9,7 @@ use Rattle.xfs_base.specs.declared.setup.Setup.{Setup}
 use Rattle.group_map.specs.declared.group.Group.{Group}
 use Rattle.group_map.specs.GroupMapState.{GroupMapState}
 use Rattle.group_map.specs.Groups.{group_of}
-use Rattle.fragment_store.specs.ShelfState.{ShelfState, new_shelf}
+use Rattle.fragment_store.specs.ShelfState.{new_shelf}
 use Rattle.stripe_code.specs.Round.{RoundSoFar, IsRound}
 use Rattle.stripe_code.specs.Stripe.{IsCut}
 use Rattle.group_rebuild.specs.declared.reads.Present.{Present}
