@@ -122,7 +122,7 @@ module _ (g : Setting) (owner : NodeId) (some : g.log.0 ≤ 9) (n : Net) where
         seen = resent at node.board (p ∷ at.sent) seen;
         does =
             all_append (EffectSeen g owner next Registry) (flat_map (changed node) outs) _
-            (all_flat_map (EffectSeen g owner next Registry) (changed node) (one_changed next node (inr map)) outs) (record { own = λ same. inl refl; map = inr map }, tt);
+            (all_flat_map (EffectSeen g owner next Registry) (changed node) (one_changed next node (inr map)) outs) (record { own = λ same. inl refl; map = inr map; low = (let e = seen.low in omega arith) }, tt);
         rest = rest;
       }
   welcomed from m at node outs seen runs rest map said (inr other) =
@@ -132,7 +132,7 @@ module _ (g : Setting) (owner : NodeId) (some : g.log.0 ≤ 9) (n : Net) where
         seen = seen;
         does =
             all_append (EffectSeen g owner at Registry) (flat_map (changed node) outs) _
-            (all_flat_map (EffectSeen g owner at Registry) (changed node) (one_changed at node map) outs) (record { own = λ same. absurd (other same); map = map }, tt);
+            (all_flat_map (EffectSeen g owner at Registry) (changed node) (one_changed at node map) outs) (record { own = λ same. absurd (other same); map = map; low = (let e = seen.low in omega arith) }, tt);
         rest = rest;
       }
 

@@ -9,10 +9,11 @@ use Rattle.log_law.specs.Net.{Net}
 use Rattle.node_log_tie.specs.Sight.{ReachedBy, BodySeen, Later}
 
 pub at_once : (n : Net) → Later n n
-at_once n = record { sent = λ p is. is; reached = λ v. omega arith }
+at_once n = record { low = omega arith; sent = λ p is. is; reached = λ v. omega arith }
 
 pub then_later : (n m o : Net) → Later n m → Later m o → Later n o
 then_later n m o a b = record {
+  low = (let x = a.low in let y = b.low in omega arith);
   sent = λ p is. b.sent p (a.sent p is);
   reached = λ v. (let x = a.reached v in let y = b.reached v in omega arith);
 }
@@ -47,6 +48,6 @@ module _ (g : Setting) (owner : NodeId) (n next : Net) (later : Later n next) wh
   seen_later from to (body.Listed m) h = later.sent _ h
   seen_later from to (body.Delete m) h = λ own. later.sent _ (h own)
   seen_later from to (body.Hello m) h = record { own = λ is. later.sent _ (h.own is); reached = reached_later from m.inc h.reached }
-  seen_later from to (body.Welcome m) h = record { own = λ is. later.sent _ (h.own is); map = later.sent _ h.map }
+  seen_later from to (body.Welcome m) h = record { own = λ is. later.sent _ (h.own is); map = later.sent _ h.map; low = (let x = h.low in let y = later.low in omega arith) }
   seen_later from to (body.MapNews m) h = later.sent _ h
   seen_later from to _ h = tt
