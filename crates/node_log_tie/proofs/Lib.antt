@@ -11,3 +11,5 @@ mod Horizons
 mod Boards
 mod Others
 mod Registries
+mod OwnLogs
+mod Cleaning
