@@ -1,7 +1,7 @@
 -- Each event of a client is a run of the small world of its log.
 use Rattle.std.proofs.Common.{◌≡◌, ◌<◌, ℕ, suc, ◌+◌, ◌&&◌, true, cond, List, [], ◌∷◌, ◌++◌, Option, Some, None, is_some, nat_lt, refl, sym, ap, subst, ◌∙◌, inl, inr, arith}
 use Rattle.std.proofs.lemmas.Bool.Decides.{nat_tests}
-use Rattle.std.proofs.lemmas.List.Elements.{All-nil, All-cons, All-append}
+use Rattle.std.proofs.lemmas.List.Elements.{All-nil, All-cons, All-append, recursion_from_All}
 use Rattle.client_node.specs.declared.call.Going.{Going}
 use Rattle.client_node.specs.declared.client.Client.{Client}
 use Rattle.client_node.specs.declared.lasting.Lasting.{Lasting}
@@ -9,7 +9,7 @@ use Rattle.client_node.specs.declared.phase.Phase.{Phase}
 use Rattle.client_node.specs.declared.phase.Phase.TheVariants.{Down, Opening, Serving as Serves}
 use Rattle.client_node.specs.declared.serving.Serving.{Serving}
 use Rattle.client_node.specs.Packets as packets
-use Rattle.client_node.specs.Phases.{Went_to, falls, crashed, next_life, restarted, after_opening, opened_on, answers, begins_call, call_at, opens, serves_on, wish_of, down_begins, opening_begins, serving_begins, lasting_of, begins_item, on_begin, on_deliver, on_time, delivers, happens, phase_room, client_room}
+use Rattle.client_node.specs.Phases.{takes, Went_to, falls, crashed, next_life, restarted, after_opening, opened_on, answers, begins_call, call_at, opens, serves_on, wish_of, down_begins, opening_begins, serving_begins, lasting_of, begins_item, on_begin, on_deliver, on_time, delivers, happens, phase_room, client_room}
 use Rattle.client_node.specs.Running.{goes_on}
 use Rattle.client_node.specs.Sends.{Done, gives}
 use Rattle.log_owner.specs.declared.opened.Opened.{Opened}
@@ -25,7 +25,10 @@ use Rattle.log_scan.specs.Transition as scan
 use Rattle.node_base.specs.Asking.{next_ask}
 use Rattle.node_base.specs.Beginning.{next_item, work_at, begun, waiting, answered, answers_unanswered}
 use Rattle.node_base.specs.declared.effects.Effect.{Effect}
-use Rattle.node_base.specs.declared.effects.Effect.TheVariants.{Answer as Answers, Does}
+use Rattle.node_base.specs.declared.effects.Effect.TheVariants.{Send, Answer as Answers, Lose, Does}
+use Rattle.node_base.specs.Effects.{packet_of, act_of, packets_of, acts_of}
+use Rattle.xfs_base.specs.declared.node.NodeId.TheVariants.{Client as AClient}
+use Rattle.std.specs.List.{AllByRecursion}
 use Rattle.node_base.specs.declared.peers.Peers.{Peers}
 use Rattle.node_base.specs.declared.questions.Questions.{Questions}
 use Rattle.node_base.specs.Room.{has_room}
@@ -49,11 +52,12 @@ use Rattle.log_law.specs.Net.{Owner as owner}
 use Rattle.log_law.specs.Net.Packet.{HelloSent}
 use Rattle.log_law.specs.Events.{Happens as happen}
 use Rattle.log_law.specs.Events.Runs.{Begun, On}
-use Rattle.node_log_tie.specs.Sight.{AskedBy}
+use Rattle.node_log_tie.specs.Sight.{BodySeen, PacketSeen, AllSeen, AskedBy}
 use Rattle.node_log_tie.specs.Sight.Question.{OfOpening}
 use Rattle.client_log_tie.specs.Owner.{Scene, asker, LastsAs, ClientAgrees}
 use Rattle.client_log_tie.specs.Texts.{StaysWritten, RunsFit}
-use Rattle.client_log_tie.specs.ClientEvents.{StageWritten, PhaseWritten, begun_serving, BeginOwed, RunOwed, PacketOwed, ClientOwed, ClientDoes, Grown, ClientGoes, ClientTakes}
+use Rattle.client_log_tie.specs.ClientEvents.{ActSeen, StageWritten, PhaseWritten, begun_serving, BeginOwed, RunOwed, PacketOwed, ClientOwed, Grown, ClientTakes}
+use Rattle.client_log_tie.proofs.Frames.{ClientDoes, ClientDid}
 use Rattle.client_log_tie.proofs.Frames as frames
 use Rattle.client_log_tie.proofs.OpeningEvents as events
 use Rattle.client_log_tie.proofs.OpeningLog.{ProgressSeen, WentTo}
@@ -67,11 +71,11 @@ next_inc k room = grind (arith, nat_tests)
 
 module _ (g : Setting) (c : ℕ) (is : g.log ≡ record { 0 = c }) (small : is_log c ≡ true) (w : Scene) where
   abbrev Goes : Went_to → Type 0
-  Goes x = ClientGoes g c w x.state x.outs
+  Goes x = ClientDid g c w x.state x.outs
 
   -- ---- where the small world stands still
 
-  plain_so : (p : Phase) (outs : List Effect) → ClientAgrees g c w p → PhaseWritten p → frames.Plain g c outs → ClientGoes g c w p outs
+  plain_so : (p : Phase) (outs : List Effect) → ClientAgrees g c w p → PhaseWritten p → frames.Plain g c outs → ClientDid g c w p outs
   plain_so p outs sees written plain = record { next = w; grown = frames.grown_still g w; agrees = sees; written = written; does = plain w }
 
   still_so : (p : Phase) → ClientAgrees g c w p → PhaseWritten p → Goes (still p)
@@ -98,7 +102,7 @@ module _ (g : Setting) (c : ℕ) (is : g.log ≡ record { 0 = c }) (small : is_l
     asked = λ k some. refl;
   }
 
-  falls_so : (l : Lasting) (outs : List Effect) → LastsAs g c w l → frames.Plain g c outs → ClientGoes g c w (Down l) outs
+  falls_so : (l : Lasting) (outs : List Effect) → LastsAs g c w l → frames.Plain g c outs → ClientDid g c w (Down l) outs
   unfolding fallen
   falls_so l outs lasts plain = record {
     next = fallen w;
@@ -324,9 +328,54 @@ module _ (g : Setting) (c : ℕ) (is : g.log ≡ record { 0 = c }) (small : is_l
       (and_first (has_room (lasting_of client.phase).questions.last) (phase_room client.phase)
       (and_second (has_room (lasting_of client.phase).inc) (has_room (lasting_of client.phase).questions.last && phase_room client.phase) room))
 
+-- ---- what it does, as packets and acts
+
+module _ (g : Setting) (c number : ℕ) (is : number ≡ c) (w : Scene) where
+  one_sent : (e : Effect) → ClientDoes g c w e → All (PacketSeen g (asker c w) w.net) (packet_of (AClient number) e)
+  one_sent (Send to said) h =
+      All-cons (PacketSeen g (asker c w) w.net) _ [] (subst (λ k. BodySeen g (asker c w) w.net (AClient k) to said) (sym is) h) (All-nil (PacketSeen g (asker c w) w.net))
+  one_sent (Answers item a) h = All-nil (PacketSeen g (asker c w) w.net)
+  one_sent (Lose seg) h = All-nil (PacketSeen g (asker c w) w.net)
+  one_sent (Does act) h = All-nil (PacketSeen g (asker c w) w.net)
+
+  one_acted : (e : Effect) → ClientDoes g c w e → All (ActSeen w) (act_of (AClient number) e)
+  one_acted (Send to said) h = All-nil (ActSeen w)
+  one_acted (Answers item a) h = All-cons (ActSeen w) _ [] tt (All-nil (ActSeen w))
+  one_acted (Lose seg) h = All-cons (ActSeen w) _ [] tt (All-nil (ActSeen w))
+  one_acted (Does act) h = All-cons (ActSeen w) act [] h (All-nil (ActSeen w))
+
+  all_sent : (es : List Effect) → AllByRecursion (ClientDoes g c w) es → AllSeen g (asker c w) w.net (packets_of (AClient number) es)
+  all_sent [] h = All-nil (PacketSeen g (asker c w) w.net)
+  all_sent (e ∷ es) h = All-append (PacketSeen g (asker c w) w.net) (packet_of (AClient number) e) (packets_of (AClient number) es) (one_sent e h.0) (all_sent es h.1)
+
+  all_acted : (es : List Effect) → AllByRecursion (ClientDoes g c w) es → All (ActSeen w) (acts_of (AClient number) es)
+  all_acted [] h = All-nil (ActSeen w)
+  all_acted (e ∷ es) h = All-append (ActSeen w) (act_of (AClient number) e) (acts_of (AClient number) es) (one_acted e h.0) (all_acted es h.1)
+
+-- the client of the log has its number
+its_number : (g : Setting) (c : ℕ) (w : Scene) (p : Phase) → ClientAgrees g c w p → (lasting_of p).number ≡ c
+its_number g c w (Down l) sees = sees.0.number
+its_number g c w (Opening l o) sees = sees.0.number
+its_number g c w (Serves s) sees = sees.0.number
+
 -- an event is taken where no counter is near its end, and changes nothing else
-pub client_takes : ClientTakes
-client_takes g c is small w client what sees written owed =
-    by_test (λ (x : Went_to). ClientGoes g c w x.state x.outs) (client_room client) (happens client what) (still client.phase)
+client_did : (g : Setting) (c : ℕ) → g.log ≡ record { 0 = c } → is_log c ≡ true → (w : Scene) (client : Client) (what : Do) → ClientAgrees g c w client.phase
+    → PhaseWritten client.phase → ClientOwed g c w client.phase what → ClientDid g c w (takes client what).state (takes client what).outs
+client_did g c is small w client what sees written owed =
+    by_test (λ (x : Went_to). ClientDid g c w x.state x.outs) (client_room client) (happens client what) (still client.phase)
     (λ room. happens_so g c is small w client what sees written owed room)
     (λ room. still_so g c is small w client.phase sees written)
+
+pub client_takes : ClientTakes
+client_takes g c is small w client what sees written owed =
+    let d : ClientDid g c w (takes client what).state (takes client what).outs = client_did g c is small w client what sees written owed in
+    let all : AllByRecursion (ClientDoes g c d.next) (takes client what).outs = recursion_from_All (ClientDoes g c d.next) (takes client what).outs d.does in
+    let number : (lasting_of client.phase).number ≡ c = its_number g c w client.phase sees in
+    record {
+      next = d.next;
+      grown = d.grown;
+      agrees = d.agrees;
+      written = d.written;
+      sends = all_sent g c (lasting_of client.phase).number number d.next (takes client what).outs all;
+      acts = all_acted g c (lasting_of client.phase).number number d.next (takes client what).outs all;
+    }

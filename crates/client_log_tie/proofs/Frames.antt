@@ -23,9 +23,10 @@ use Rattle.log_law.specs.Events.{Runs}
 use Rattle.log_law.specs.Events.Runs.{Begun, On}
 use Rattle.node_log_tie.specs.Sight.{Question, AskedBy, AnsweredBy, ReachedBy, BodySeen}
 use Rattle.node_log_tie.specs.Sight.Question.{Unasked, OfMaps, OfOpening}
-use Rattle.client_log_tie.specs.Owner.{Scene, asker, Lasts, SeesLog}
+use Rattle.client_node.specs.declared.phase.Phase.{Phase}
+use Rattle.client_log_tie.specs.Owner.{Scene, asker, Lasts, SeesLog, ClientAgrees}
 use Rattle.client_log_tie.specs.Texts.{StaysWritten}
-use Rattle.client_log_tie.specs.ClientEvents.{ActSeen, ClientDoes, Grown}
+use Rattle.client_log_tie.specs.ClientEvents.{ActSeen, PhaseWritten, Grown}
 
 -- ---- lists
 
@@ -69,7 +70,24 @@ module _ (g : Setting) where
     asked = λ k some. b.asked k (λ none. some (sym (a.asked k some) ∙ none)) ∙ a.asked k some;
   }
 
+-- ---- what a client does
+
 module _ (g : Setting) (c : ℕ) where
+  -- what it sends was sent, and what it tells to be filed is filed
+  abbrev pub ClientDoes : Scene → Effect → Type 0
+  ClientDoes w (Send to said) = BodySeen g (asker c w) w.net (Client c) to said
+  ClientDoes w (Answer item answer) = Unit {0}
+  ClientDoes w (Lose seg) = Unit {0}
+  ClientDoes w (Does act) = ActSeen w act
+
+  -- the small world runs on to one in which the client is seen in this phase, and all that it does is seen
+  pub record ClientDid (w : Scene) (p : Phase) (outs : List Effect) : Type 0 where
+    pub next : Scene
+    pub grown : Grown g w next
+    pub agrees : ClientAgrees g c next p
+    pub written : PhaseWritten p
+    pub does : All (ClientDoes next) outs
+
   -- ---- what was seen is seen
 
   module _ (w v : Scene) (grown : Grown g w v) where
@@ -117,26 +135,27 @@ module _ (g : Setting) (c : ℕ) where
     body_more from to (body.Welcome m) h = record {
       own = λ is. answered_more m (w.asked m.ask) (v.asked m.ask) (grown.asked m.ask) (h.own is);
       map = grown.sent _ h.map;
+      low = (let x = h.low in let y = grown.low in omega arith);
     }
     body_more from to (body.MapNews m) h = grown.sent _ h
     body_more from to _ h = tt
 
-    act_more : (act : Act) → ActSeen g c w act → ActSeen g c v act
+    act_more : (act : Act) → ActSeen w act → ActSeen v act
     act_more (Filed seg) h = grown.filed _ h
     act_more _ h = tt
 
-    does_more : (e : Effect) → ClientDoes g c w e → ClientDoes g c v e
+    does_more : (e : Effect) → ClientDoes w e → ClientDoes v e
     does_more (Send to said) h = body_more (Client c) to said h
     does_more (Answer item answer) h = tt
     does_more (Lose seg) h = tt
     does_more (Does act) h = act_more act h
 
-    pub all_more : (es : List Effect) → All (ClientDoes g c w) es → All (ClientDoes g c v) es
-    all_more es h = All-weaker (ClientDoes g c w) (ClientDoes g c v) does_more es h
+    pub all_more : (es : List Effect) → All (ClientDoes w) es → All (ClientDoes v) es
+    all_more es h = All-weaker (ClientDoes w) (ClientDoes v) does_more es h
 
   -- what a client may do in any world
   abbrev pub Plain : List Effect → Type 0
-  Plain es = (w : Scene) → All (ClientDoes g c w) es
+  Plain es = (w : Scene) → All (ClientDoes w) es
 
   -- ---- a client that serves
 
@@ -154,21 +173,21 @@ module _ (g : Setting) (c : ℕ) where
     pub next : Scene
     pub grown : Grown g w next
     pub stands : Stands next log its life last
-    pub does : All (ClientDoes g c next) outs
+    pub does : All (ClientDoes next) outs
 
   abbrev pub Goes : Scene → Done → Type 0
   Goes w d = Gone w d.state.log d.state.lasting.number d.state.lasting.inc d.state.lasting.questions.last d.outs
 
   -- nothing is done
   pub goes_still : (w : Scene) (s : Serving) → At w s → Goes w (still s)
-  goes_still w s h = record { next = w; grown = grown_still g w; stands = h; does = All-nil (ClientDoes g c w) }
+  goes_still w s h = record { next = w; grown = grown_still g w; stands = h; does = All-nil (ClientDoes w) }
 
   -- what may be done in any world
   pub goes_plain : (w : Scene) (s : Serving) (outs : List Effect) → At w s → Plain outs → Goes w (gives s outs)
   goes_plain w s outs h plain = record { next = w; grown = grown_still g w; stands = h; does = plain w }
 
   -- what is seen already
-  pub goes_seen : (w : Scene) (s : Serving) (outs : List Effect) → At w s → All (ClientDoes g c w) outs → Goes w (gives s outs)
+  pub goes_seen : (w : Scene) (s : Serving) (outs : List Effect) → At w s → All (ClientDoes w) outs → Goes w (gives s outs)
   goes_seen w s outs h seen = record { next = w; grown = grown_still g w; stands = h; does = seen }
 
   -- one thing follows another, in a world that grew
@@ -179,7 +198,7 @@ module _ (g : Setting) (c : ℕ) where
         next = q.next;
         grown = grown_on g w p.next q.next p.grown q.grown;
         stands = q.stands;
-        does = All-append (ClientDoes g c q.next) d.outs e.outs (all_more p.next q.next q.grown d.outs p.does) q.does;
+        does = All-append (ClientDoes q.next) d.outs e.outs (all_more p.next q.next q.grown d.outs p.does) q.does;
       }
 
   pub goes_on : (w : Scene) (d e : Done) → Goes w d → ((v : Scene) → At v d.state → Goes v e) → Goes w (after d.outs e)
@@ -197,7 +216,7 @@ module _ (g : Setting) (c : ℕ) where
     next = p.next;
     grown = p.grown;
     stands = p.stands;
-    does = All-append (ClientDoes g c p.next) outs d.outs (plain p.next) p.does;
+    does = All-append (ClientDoes p.next) outs d.outs (plain p.next) p.does;
   }
 
   -- a list of steps

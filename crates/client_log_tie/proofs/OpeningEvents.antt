@@ -60,7 +60,8 @@ use Rattle.node_log_tie.specs.Sight.{BodySeen, AskedBy, AnsweredBy, WelcomeSeen,
 use Rattle.node_log_tie.specs.Sight.Question.{OfMaps, OfOpening}
 use Rattle.client_log_tie.specs.Owner.{Scene, asker, AsksRegistry, AsksServers, AsksIn, AsksAt, MapCame, Lasts, SeesScan, SeesStage}
 use Rattle.client_log_tie.specs.Texts.{MapFits, StaysWritten, StartFits}
-use Rattle.client_log_tie.specs.ClientEvents.{StageWritten, ScanOwed, StageOwed, BodyFits, ClientDoes}
+use Rattle.client_log_tie.specs.ClientEvents.{StageWritten, ScanOwed, StageOwed, BodyFits}
+use Rattle.client_log_tie.proofs.Frames.{ClientDoes}
 use Rattle.client_log_tie.proofs.Frames as frames
 use Rattle.client_log_tie.proofs.Logs.{writes_text}
 use Rattle.client_log_tie.proofs.OpeningLog as writing

@@ -35,7 +35,8 @@ use Rattle.log_law.specs.Events.Happens.{Writes}
 use Rattle.log_law.specs.Events.Runs.{Begun, On}
 use Rattle.client_log_tie.specs.Owner.{Scene, IsOwn, Lasts, SeesStage, SeesWriting, SeesLog}
 use Rattle.client_log_tie.specs.Texts.{InputFits, MapFits, StaysWritten}
-use Rattle.client_log_tie.specs.ClientEvents.{StageWritten, ClientDoes, Grown}
+use Rattle.client_log_tie.specs.ClientEvents.{StageWritten, Grown}
+use Rattle.client_log_tie.proofs.Frames.{ClientDoes}
 use Rattle.client_log_tie.proofs.Frames as frames
 use Rattle.client_log_tie.proofs.Frames.{in_after, in_before}
 use Rattle.client_log_tie.proofs.Logs.{own_after, written_after, writes_text, foreign_acked}

@@ -43,7 +43,8 @@ use Rattle.node_log_tie.specs.Sight.{AskedBy, Question}
 use Rattle.node_log_tie.specs.Sight.Question.{Unasked, OfOpening}
 use Rattle.client_log_tie.specs.Owner.{Scene, asker, AsksRegistry, AsksServers, AsksAt, MapCame, Lasts}
 use Rattle.client_log_tie.specs.Texts.{StaysWritten, ChainFits}
-use Rattle.client_log_tie.specs.ClientEvents.{ClientDoes, Grown}
+use Rattle.client_log_tie.specs.ClientEvents.{Grown}
+use Rattle.client_log_tie.proofs.Frames.{ClientDoes}
 use Rattle.client_log_tie.proofs.Frames.{in_after, in_before}
 use Rattle.client_log_tie.proofs.Logs.{own_after, written_after}
 use Rattle.client_log_tie.proofs.OpeningLog.{WentTo, Flew, went_so}

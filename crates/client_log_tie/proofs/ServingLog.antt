@@ -36,7 +36,7 @@ use Rattle.log_law.specs.Net.{Packet, log_packets}
 use Rattle.log_law.specs.Net.Packet.{StoredSent, MapSent}
 use Rattle.client_log_tie.specs.Owner.{Scene}
 use Rattle.client_log_tie.specs.Texts.{InputFits, MapFits}
-use Rattle.client_log_tie.specs.ClientEvents.{ClientDoes}
+use Rattle.client_log_tie.proofs.Frames.{ClientDoes}
 use Rattle.client_log_tie.proofs.Frames as frames
 use Rattle.client_log_tie.proofs.Logs as logs
 use Rattle.client_log_tie.proofs.ServingTokens as tokens

@@ -54,7 +54,8 @@ use Rattle.node_log_tie.specs.Sight.{BodySeen, AskedBy}
 use Rattle.node_log_tie.specs.Sight.Question.{OfMaps}
 use Rattle.client_log_tie.specs.Owner.{Scene, asker}
 use Rattle.client_log_tie.specs.Texts.{MapFits, RunsFit}
-use Rattle.client_log_tie.specs.ClientEvents.{BodyFits, ClientDoes}
+use Rattle.client_log_tie.specs.ClientEvents.{BodyFits}
+use Rattle.client_log_tie.proofs.Frames.{ClientDoes}
 use Rattle.client_log_tie.proofs.Frames as frames
 use Rattle.client_log_tie.proofs.Questions.{ask_rises, put_here, put_keeps, put_fresh}
 use Rattle.client_log_tie.proofs.ServingCalls as calls

@@ -52,7 +52,7 @@ use Rattle.log_protocol.specs.Tables.{In}
 use Rattle.log_tie.specs.Setting.{Setting}
 use Rattle.log_law.specs.Net.{Packet, log_packets}
 use Rattle.client_log_tie.specs.Owner.{Scene}
-use Rattle.client_log_tie.specs.ClientEvents.{ClientDoes}
+use Rattle.client_log_tie.proofs.Frames.{ClientDoes}
 use Rattle.client_log_tie.proofs.Frames as frames
 use Rattle.client_log_tie.proofs.Logs as logs
 use Rattle.client_log_tie.proofs.Questions.{ask_no_lower}

@@ -6,7 +6,7 @@ use Rattle.client_node.specs.declared.phase.Phase.{Phase}
 use Rattle.client_node.specs.declared.phase.Phase.TheVariants.{Down, Opening, Serving as Serves}
 use Rattle.client_node.specs.declared.serving.Serving.{Serving}
 use Rattle.client_node.specs.Packets.{on_packet, on_tick}
-use Rattle.client_node.specs.Phases.{takes, call_at}
+use Rattle.client_node.specs.Phases.{client_step, call_at}
 use Rattle.client_node.specs.Running.{goes_on}
 use Rattle.client_node.specs.Starting.{first_client}
 use Rattle.group_map.specs.Groups as groups
@@ -27,6 +27,7 @@ use Rattle.wire_msg.specs.declared.body.Body.TheVariants as body
 use Rattle.wire_msg.specs.declared.packet.Do.{Do}
 use Rattle.wire_msg.specs.declared.packet.Do.TheVariants.{Begin, Deliver, Tick}
 use Rattle.wire_msg.specs.declared.packet.Packet as packets
+use Rattle.wire_msg.specs.NodeStep.{NodeStep}
 use Rattle.xfs_base.specs.declared.node.NodeId.TheVariants.{Client}
 use Rattle.xfs_base.specs.declared.segment.SegName.{SegName}
 use Rattle.xfs_base.specs.declared.setup.Setup.{Setup}
@@ -99,20 +100,12 @@ module _ (g : Setting) (c : ℕ) (w : Scene) where
   ClientOwed p (Deliver packet) = PacketOwed p packet
   ClientOwed p Tick = RunOwed g w.net p (λ s. (on_tick s).state)
 
-  -- ---- what it does
-
-  -- what it tells to be filed is
-  abbrev pub ActSeen : Act → Type 0
-  ActSeen (Filed seg) = In seg w.net.filed
-  ActSeen _ = Unit {0}
-
-  abbrev pub ClientDoes : Effect → Type 0
-  ClientDoes (Send to said) = BodySeen g (asker c w) w.net (Client c) to said
-  ClientDoes (Answer item answer) = Unit {0}
-  ClientDoes (Lose seg) = Unit {0}
-  ClientDoes (Does act) = ActSeen act
-
 -- ---- what an event makes of it
+
+-- what it tells to be filed is filed
+abbrev pub ActSeen : Scene → Act → Type 0
+ActSeen w (Filed seg) = In seg w.net.filed
+ActSeen w _ = Unit {0}
 
 -- The small world runs on, by its owner alone: what was sent and filed stays so, and so does what was asked.
 pub record Grown (g : Setting) (w v : Scene) : Type 0 where
@@ -125,19 +118,20 @@ pub record Grown (g : Setting) (w v : Scene) : Type 0 where
   pub dropped : v.net.dropped ≡ w.net.dropped
   pub asked : (k : ℕ) → (w.asked k ≡ Unasked → ⊥) → v.asked k ≡ w.asked k
 
--- It runs on to one in which the client is seen as it is then, and all that it does is seen.
-pub record ClientGoes (g : Setting) (c : ℕ) (w : Scene) (p : Phase) (outs : List Effect) : Type 0 where
+-- It runs on to one in which the client is seen as it is then, all that it sends was sent, and all that it tells to be filed is filed.
+pub record ClientGoes (g : Setting) (c : ℕ) (w : Scene) (d : NodeStep clients.Client) : Type 0 where
   pub next : Scene
   pub grown : Grown g w next
-  pub agrees : ClientAgrees g c next p
-  pub written : PhaseWritten p
-  pub does : All (ClientDoes g c next) outs
+  pub agrees : ClientAgrees g c next d.node.phase
+  pub written : PhaseWritten d.node.phase
+  pub sends : AllSeen g (asker c next) next.net d.packets
+  pub acts : All (ActSeen next) d.acts
 
 -- Each event of a client is a run of the small world of its log.
 abbrev pub ClientTakes : Type 0
 ClientTakes =
     (g : Setting) (c : ℕ) → g.log ≡ record { 0 = c } → is_log c ≡ true → (w : Scene) (client : clients.Client) (what : Do) → ClientAgrees g c w client.phase
-    → PhaseWritten client.phase → ClientOwed g c w client.phase what → ClientGoes g c w (takes client what).state (takes client what).outs
+    → PhaseWritten client.phase → ClientOwed g c w client.phase what → ClientGoes g c w (client_step client what)
 
 -- At the start it is seen in the opening of the small world, and asked nothing.
 abbrev pub ClientStarts : Type 0

@@ -1,4 +1,5 @@
 -- The laws of the crates below on which the small world stands.
+use Rattle.log_protocol.specs.StepLaws.{HurtEarned, NamesNew}
 use Rattle.std.proofs.Common.{◌≡◌, ℕ, List}
 use Rattle.std.specs.List.{AllByRecursion}
 use Rattle.xfs_base.specs.declared.segment.End.{End}
@@ -8,12 +9,12 @@ use Rattle.client_log.specs.declared.input.In.{In}
 use Rattle.client_log.specs.History.{state_after, IsInLine, EndRisesByOne, TellsWhatIsDue}
 use Rattle.client_log.specs.LogState.{LogState, started}
 use Rattle.client_log.specs.Transition.{transition}
-use Rattle.log_protocol.specs.GrowthLaws.{SameNames, PastStays}
+use Rattle.log_protocol.specs.GrowthLaws.{PastStays, LacksBetween}
 use Rattle.log_protocol.specs.LogLaws as laws
 use Rattle.log_protocol.specs.LogLaws.{Reached}
 use Rattle.log_protocol.specs.State.{State}
 use Rattle.log_protocol.specs.StateLaws.{BookInOrder, ShelvesInOrder, OwnerInOrder, HorizonsInOrder, EndIsHead}
-use Rattle.log_protocol.specs.Step.{Steps}
+use Rattle.log_protocol.specs.Step.{Steps, Step}
 use Rattle.log_tie.specs.Inputs.{TakesInputs}
 use Rattle.log_tie.specs.Openings.{OpensByStep, OpeningTakes}
 use Rattle.log_tie.specs.Scans.{ScanStays, ScanTakes}
@@ -43,7 +44,11 @@ pub record Protocol : Type 0 where
   pub head : (w : State) → Reached w → w.clean ≡ 1 → EndIsHead w
   pub whole : (w : State) → Reached w → laws.LogsWhole w
   pub goes_on : (w u : State) → Reached w → Steps w u → Reached u
-  pub names : (w u : State) → Steps w u → SameNames w u
+  pub line : (w : State) → Reached w → w.clean ≡ 1 → laws.OneLine w
+  pub adopts : (w : State) → Reached w → w.clean ≡ 1 → laws.AdoptsOne w
+  pub new : (w : State) → Reached w → NamesNew w
+  pub earned : (w u : State) → Reached w → Step w u → w.clean ≡ 1 → HurtEarned w u
+  pub lacks : (w m u : State) → Reached w → Steps w m → Steps m u → LacksBetween w m u
   pub past : (w u : State) → Reached w → Steps w u → PastStays w u
 
 pub record Below : Type 0 where

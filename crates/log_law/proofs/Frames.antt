@@ -43,6 +43,8 @@ pub record Seat : Type 0 where
   pub pick_low : ℕ
   pub begin_low : ℕ
   pub span_low : ℕ
+  pub spanning : ℕ
+  pub served : ℕ
   pub clean : ℕ
   pub line : ℕ → ℕ
   pub head : ℕ
@@ -74,6 +76,8 @@ seat_of w = record {
   pick_low = w.pick_low;
   begin_low = w.begin_low;
   span_low = w.span_low;
+  spanning = w.spanning;
+  served = w.served;
   clean = w.clean;
   line = w.line;
   head = w.head;

@@ -2,6 +2,7 @@ mod Below
 mod Views
 mod Growing
 mod Frames
+mod Steady
 mod Next
 mod Turning
 mod Listing
@@ -15,3 +16,8 @@ mod OwnerTurns
 mod ScanTurns
 mod Always
 mod Wholeness
+mod Hurting
+mod Flights
+mod Followed
+mod InLine
+mod Adopting

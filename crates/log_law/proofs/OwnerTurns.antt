@@ -1,4 +1,6 @@
 -- What the log's owner does while it serves or writes its opening segment, and its falls and restarts, keep the small world seen.
+use Rattle.log_law.proofs.Steady.{steady}
+use Rattle.xfs_base.proofs.Booleans.{contrary}
 use Rattle.log_law.proofs.Next.{Next}
 use Rattle.std.proofs.Common.{◌≡◌, ℕ, suc, ◌≤◌, false, List, [], ◌∷◌, ◌++◌, Option, Some, None, refl, sym, ap, subst, ◌∙◌, inl, inr, arith}
 use Rattle.xfs_base.specs.declared.segment.SegName.{SegName}
@@ -77,6 +79,8 @@ module _ (k : Below) (g : Setting) (n : Net) (h : View g n) where
       shown = packets_shown g goes.world goes.later h.hellos served.outs goes.said;
       filed = filed_said g goes.world goes.later served.outs n.filed goes.said (filed_still k g n h Now served.outs goes);
       top = topped k g n h Now served.outs goes (log_filed g.log served.outs ++ n.filed) (λ name among. in_right (log_filed g.log served.outs) n.filed name among) (λ name among. in_left (log_filed g.log served.outs) n.filed name among);
+      fallen = λ down. contrary down;
+      steady = λ serving. contrary (sym serving);
     })
 
   -- ---- a log whose opening segment is in flight
@@ -121,6 +125,8 @@ module _ (k : Below) (g : Setting) (n : Net) (h : View g n) where
       shown = packets_shown g t.world t.later h.hellos d.outs t.said;
       filed = filed_said g t.world t.later d.outs n.filed t.said (filed_still k g n h P d.outs t);
       top = topped k g n h P d.outs t (log_filed g.log d.outs ++ n.filed) (λ name among. in_right (log_filed g.log d.outs) n.filed name among) (λ name among. in_left (log_filed g.log d.outs) n.filed name among);
+      fallen = λ down. contrary down;
+      steady = λ serving. steady k h.w t.world h.reached t.steps (let p = there.0.phase in omega arith) (let p = there.0.phase in omega arith) (let p = v.phase in omega arith) (let p = v.phase in omega arith) (ap (λ (o : Others). o.incarnation) t.frame.others);
     })
 
     now_serves : Serves g t.world t.later d.state × AllFiled g t.world chain × (d.state.flight ≡ None) → Next g n h (after_flight g n chain d None)
@@ -137,6 +143,8 @@ module _ (k : Below) (g : Setting) (n : Net) (h : View g n) where
       filed = filed_said g t.world t.later d.outs (names_of chain ++ n.filed) t.said (chain_said g t.world chain n.filed v.1 (filed_still k g n h P d.outs t));
       top = topped k g n h P d.outs t (log_filed g.log d.outs ++ (names_of chain ++ n.filed)) (λ name among. in_right (log_filed g.log d.outs) (names_of chain ++ n.filed) name (in_right (names_of chain) n.filed name among))
           (λ name among. in_left (log_filed g.log d.outs) (names_of chain ++ n.filed) name among);
+      fallen = λ down. contrary down;
+      steady = λ serving. contrary (sym serving);
     })
 
     by : P t.world t.later → Next g n h (after_writing g n chain d)
@@ -174,6 +182,8 @@ module _ (k : Below) (g : Setting) (n : Net) (h : View g n) where
     shown = tt;
     filed = filed_still k g n h (λ v later. v.phase ≡ 0) [] crash;
     top = h.top;
+    fallen = λ down. refl;
+    steady = λ serving. record { served = refl; head = refl; booked = λ x booked boot. booked };
   })
 
   -- ---- it restarts, and server 0, which is none, is asked at once
@@ -206,6 +216,8 @@ module _ (k : Below) (g : Setting) (n : Net) (h : View g n) where
     };
     steps = More (More Done (Begins (record { down = owner_there Down is }))) (Fences 0 (suc h.w.incarnation) (record { begun = omega arith }));
     by = inr (record { generation = refl; holds = refl; dropped = refl });
+    fallen = λ down. contrary down;
+    steady = λ serving. record { served = refl; head = refl; booked = λ x booked boot. booked };
   }
     where
       v : State

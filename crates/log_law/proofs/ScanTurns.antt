@@ -1,11 +1,12 @@
 -- What an opening of the log takes keeps the small world seen, until its log starts.
+use Rattle.log_law.proofs.Steady.{Steady, steady}
 use Rattle.log_tie.proofs.Frames.{steps_through}
 use Rattle.log_law.proofs.Next.{Next}
 use Rattle.std.proofs.lemmas.Bool.Decides.{nat_tests}
 use Rattle.std.proofs.Common.{◌≡◌, ℕ, ◌==◌, ◌&&◌, ◌≤◌, ◌<◌, List, [], ◌∷◌, ◌++◌, Option, Some, None, refl, sym, ap, subst, ◌∙◌, inl, inr, arith, if◌then◌else◌}
 use Rattle.std.specs.Prelude.{IfSome}
 use Rattle.std.specs.List.{AllByRecursion}
-use Rattle.xfs_base.proofs.Booleans.{by_test}
+use Rattle.xfs_base.proofs.Booleans.{by_test, contrary}
 use Rattle.segment_format.specs.declared.segment.Segment.{Segment}
 use Rattle.group_map.specs.GroupMapState.{GroupMapState}
 use Rattle.client_log.specs.declared.input.In.TheVariants as log_in
@@ -158,6 +159,26 @@ module _ (k : Below) (g : Setting) (n : Net) (h : View g n) (s : ScanState) (i :
           reads_no_more e = absurd cc
       by Over e shown = tt
 
+  -- the phases of an opening
+  opening_phase : (w : State) (book : ℕ → Segment) (asked : List Asked) (o : OpeningState) (st : Stage) → StageShown g w book asked o st → (0 < w.phase) × (w.phase < 4)
+  opening_phase w book asked o Hails shown = (let p = shown.0 in omega arith, let p = shown.0 in omega arith)
+  opening_phase w book asked o (Gathers lists) shown = (let p = shown.phase in omega arith, let p = shown.phase in omega arith)
+  opening_phase w book asked o (Asks lists) shown = (let p = shown.gathering.phase in omega arith, let p = shown.gathering.phase in omega arith)
+  opening_phase w book asked o (Reads b r) shown = (let p = shown.0.phase in omega arith, let p = shown.0.phase in omega arith)
+  opening_phase w book asked o Over shown = (let p = shown in omega arith, let p = shown in omega arith)
+
+  phase_before : (0 < h.w.phase) × (h.w.phase < 4)
+  phase_before = opening_phase h.w h.book h.hellos s.opening s.stage as_it_opens.stage
+
+  phase_after : (0 < t.world.phase) × (t.world.phase < 4)
+  phase_after = opening_phase t.world t.later hellos d.state.opening d.state.stage t.shows.0.shown.stage
+
+  same_boot : t.world.incarnation ≡ h.w.incarnation
+  same_boot = ap (λ (o : Others). o.incarnation) t.frame.others
+
+  on_steady : Steady h.w t.world
+  on_steady = steady k h.w t.world h.reached t.steps phase_before.0 phase_before.1 phase_after.0 phase_after.1 same_boot
+
   -- the opening goes on
   abbrev on : View g (scans_on n s d)
   on = moved k g n h P [] t (scans_on n s d) hellos (scan_packets n.inc d.outs) (record {
@@ -175,6 +196,8 @@ module _ (k : Below) (g : Setting) (n : Net) (h : View g n) (s : ScanState) (i :
     shown = scan_shown g t.world t.later n.inc t.world.low d.outs h.hellos hellos (let e = incs in omega arith) (λ a among. subst (λ inc. In a (asked_by inc t.world.low d.outs h.hellos)) (sym incs) among);
     filed = filed_still k g n h P [] t;
     top = topped k g n h P [] t n.filed (λ name among. among) (λ name among. absurd among);
+    fallen = λ down. contrary down;
+    steady = λ serving. on_steady;
   })
 
   -- its log starts
@@ -226,6 +249,8 @@ module _ (k : Below) (g : Setting) (n : Net) (h : View g n) (s : ScanState) (i :
       shown = packets_shown g e.world e.later hellos first.outs e.said;
       filed = filed_said g e.world e.later first.outs n.filed e.said (filed_still k g (scans_on n s d) on Q first.outs e);
       top = topped k g (scans_on n s d) on Q first.outs e (log_filed g.log first.outs ++ n.filed) (λ name among. in_right (log_filed g.log first.outs) n.filed name among) (λ name among. in_left (log_filed g.log first.outs) n.filed name among);
+      fallen = λ down. contrary down;
+      steady = λ serving. steady k t.world e.world on.reached e.steps phase_after.0 phase_after.1 (let p = e.shows.phase in omega arith) (let p = e.shows.phase in omega arith) (ap (λ (o : Others). o.incarnation) e.frame.others);
     })
 
     starts : Next g n h (after_told g n s d (Some told) (Some r.map))
@@ -233,11 +258,13 @@ module _ (k : Below) (g : Setting) (n : Net) (h : View g n) (s : ScanState) (i :
       view = started_view;
       steps = steps_through h.w t.world e.world t.steps e.steps;
       by = (let a = by_owner k g n h P [] t in let b = by_owner k g (scans_on n s d) on Q first.outs e in inr (record { generation = b.generation ∙ a.generation; holds = b.holds ∙ a.holds; dropped = b.dropped ∙ a.dropped }));
+      fallen = λ down. contrary down;
+      steady = λ serving. steady k h.w e.world h.reached (steps_through h.w t.world e.world t.steps e.steps) phase_before.0 phase_before.1 (let p = e.shows.phase in omega arith) (let p = e.shows.phase in omega arith) (ap (λ (o : Others). o.incarnation) e.frame.others ∙ same_boot);
     }
 
   pub opens_view : CanStart g n.inc d → Next g n h (after_scan g n s d)
   opens_view can = by (chain_in d.outs) refl (told_read g t.world t.later d.state.opening d.outs t.shows.0.gives) can
     where
       by : (o : Option Told) → chain_in d.outs ≡ o → IfSome o (AllRead g t.world t.later d.state.opening) → IfSome o (StartsWith g n.inc d) → Next g n h (after_told g n s d o d.state.opening.groups)
-      by None at read starts_so = record { view = on; steps = t.steps; by = inr (by_owner k g n h P [] t) }
+      by None at read starts_so = record { view = on; steps = t.steps; by = inr (by_owner k g n h P [] t); fallen = λ down. contrary down; steady = λ serving. on_steady }
       by (Some told) at read starts_so = subst (λ groups. Next g n h (after_told g n s d (Some told) groups)) (sym read.is) (starts told read at starts_so)

@@ -1,7 +1,8 @@
 -- An event that leaves the owner as it was keeps the small world seen.
+use Rattle.log_law.proofs.Steady.{Steady}
 use Rattle.xfs_base.specs.declared.segment.SegName.{SegName}
 use Rattle.log_law.proofs.Next.{Next}
-use Rattle.std.proofs.Common.{◌≡◌, ℕ, ◌⊎◌, ◌≤◌, List, [], ◌∷◌, ◌++◌, sym, subst, ◌∙◌, inl, inr, arith, ⊎_elim}
+use Rattle.std.proofs.Common.{◌≡◌, ℕ, ◌⊎◌, ◌≤◌, List, [], ◌∷◌, ◌++◌, sym, subst, ◌∙◌, inl, inr, arith, ⊎_elim, refl}
 use Rattle.segment_format.specs.declared.segment.Segment.{Segment}
 use Rattle.log_protocol.specs.State.{State}
 use Rattle.log_protocol.specs.Step.{Steps}
@@ -75,5 +76,12 @@ module _ (k : Below) (g : Setting) (n : Net) (h : View g n) where
     gone = λ name is. ⊎_elim (λ old. (let d = h.gone name old in record { number = d.number; named = d.named; dropped = t.apart.dropped d.number d.dropped })) (λ new_one. new_one) (t.gone name is);
   }
 
+  steady_apart : (m : Net) (u : State) (new : List Packet) → Turn m u new → Steady h.w u
+  steady_apart m u new t = record {
+    served = same g h.w u h.book t.apart (λ o. o.served ≡ h.w.served) refl;
+    head = same g h.w u h.book t.apart (λ o. o.head ≡ h.w.head) refl;
+    booked = λ x. same g h.w u h.book t.apart (λ o. o.booked x ≡ 1 → o.incarnation_of x ≡ o.served → h.w.booked x ≡ 1) (λ is boot. is);
+  }
+
   pub turned : (m : Net) (u : State) (new : List Packet) → Turn m u new → Next g n h m
-  turned m u new t = record { view = view_after m u new t; steps = t.steps; by = inl (record { owner = t.rests.owner; servers = t.servers }) }
+  turned m u new t = record { view = view_after m u new t; steps = t.steps; by = inl (record { owner = t.rests.owner; servers = t.servers }); fallen = λ down. same g h.w u h.book t.apart (λ o. o.spanning ≡ h.w.spanning) refl; steady = λ serving. steady_apart m u new t }

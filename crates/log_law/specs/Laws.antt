@@ -1,5 +1,8 @@
 -- What holds of the small world at every moment of every run.
-use Rattle.std.specs.Prelude.{◌≡◌, ℕ, ◌<◌, ◌⊎◌, true, length, Some}
+use Rattle.log_law.specs.Net.Owner.{Writing}
+use Rattle.client_log.specs.LogState.{FlightState, LogState}
+use Rattle.log_law.specs.Restarts.{IsSureRun, last_flight}
+use Rattle.std.specs.Prelude.{◌≡◌, ℕ, ◌<◌, ◌⊎◌, true, length, Some, suc, false, ◌≤◌, List}
 use Rattle.xfs_base.specs.declared.fragment.Fragment.{Fragment}
 use Rattle.xfs_base.specs.declared.segment.SegName.{SegName}
 use Rattle.segment_format.specs.declared.segment.Segment.{Segment}
@@ -45,3 +48,30 @@ LogsStayWhole = (g : Setting) (n : Net) → g.doubts ≡ true → Moment g n →
 
 abbrev pub OneNameOneText : Type 0
 OneNameOneText = (g : Setting) (n : Net) → g.doubts ≡ true → Moment g n → OneText g n
+
+-- One line of segments: no two filed segments have one number, and above the least horizon each names the pass of the one before it.
+pub record OneLine (g : Setting) (n : Net) : Type 0 where
+  pub no_two : (a b : SegName) → In a n.filed → In b n.filed → a.seq ≡ b.seq → a ≡ b
+  pub linked : (s t : Segment) → In s n.flown → In t n.flown → In s.name n.filed → In t.name n.filed → suc t.name.seq ≡ s.name.seq → n.low < s.name.seq → s.prior.pass ≡ t.name.pass
+
+-- while no restart that ended was doubtful
+abbrev pub LogsStayInLine : Type 0
+LogsStayInLine = (g : Setting) (n : Net) → g.doubts ≡ false → (m : Moment g n) → IsSureRun m.run → OneLine g n
+
+-- a segment is no further than what was filed
+abbrev pub IsNoFurther : Net → Segment → Type 0
+IsNoFurther n t = (name : SegName) × In name n.filed × (t.name.seq ≤ name.seq)
+
+-- It is an attempt of what was in flight: of its number and its boot, and it tells the same of blocks.
+pub record IsAttemptOf (g : Setting) (f : FlightState) (t : Segment) : Type 0 where
+  pub seq : t.name.seq ≡ f.segment.name.seq
+  pub boot : t.name.pass.inc ≡ f.segment.name.pass.inc
+  pub content : g.content t.items ≡ g.content f.segment.items
+
+-- Of what a reopening read back, what is beyond what was filed tells nothing, or is what the last boot that served had in flight.
+abbrev pub IsAdopted : (g : Setting) {n m : Net} → Runs g n m → Net → Segment → Type 0
+IsAdopted g run n t = IsNoFurther n t ⊎ ((g.content t.items ≡ 0) ⊎ ((f : FlightState) × (last_flight run ≡ Some f) × IsAttemptOf g f t))
+
+abbrev pub AReopeningAdopts : Type 0
+AReopeningAdopts =
+    (g : Setting) (n : Net) → g.doubts ≡ false → (m : Moment g n) → IsSureRun m.run → (chain : List Segment) (s : LogState) → n.owner ≡ Writing chain s → (t : Segment) → In t chain → IsAdopted g m.run n t

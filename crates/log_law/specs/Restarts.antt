@@ -1,5 +1,6 @@
 -- Restarts of the owner: how long one takes, and when it is doubtful.
-use Rattle.std.specs.Prelude.{◌≡◌, ℕ, ◌<◌, ◌≤◌, ◌⊎◌, Bool, true, false, ⊤, length, None}
+use Rattle.client_log.specs.LogState.{FlightState}
+use Rattle.std.specs.Prelude.{◌≡◌, ℕ, ◌<◌, ◌≤◌, ◌⊎◌, Bool, true, false, ⊤, length, None, Option}
 use Rattle.xfs_base.specs.declared.segment.SegName.{SegName}
 use Rattle.segment_format.specs.declared.segment.Segment.{Segment}
 use Rattle.fragment_store.specs.ShelfState.{held_at}
@@ -10,6 +11,12 @@ use Rattle.log_law.specs.Net.{Owner, Net}
 use Rattle.log_law.specs.Net.Owner.{Down, Opening, Writing, Serving}
 use Rattle.log_law.specs.Events.{Runs}
 use Rattle.log_law.specs.Events.Runs.{Begun, On}
+
+abbrev pub is_down : Owner → Bool
+is_down Down = true
+is_down (Opening s) = false
+is_down (Writing chain s) = false
+is_down (Serving s) = false
 
 abbrev pub is_writing : Owner → Bool
 is_writing Down = false
@@ -61,3 +68,14 @@ pub record IsDoubtful (g : Setting) {n m : Net} (run : Runs g n m) : Type 0 wher
 abbrev pub IsSureRun : {g : Setting} {n m : Net} → Runs g n m → Type 0
 IsSureRun Begun = ⊤
 IsSureRun {g = g} (On {m = m} {o = o} run happens) = IsSureRun run × (EndsRestart m o → IsDoubtful g run → ⊥)
+
+-- what the owner had in flight when it served last
+abbrev pub flight_in : Owner → Option FlightState → Option FlightState
+flight_in Down before = before
+flight_in (Opening s) before = before
+flight_in (Writing chain s) before = before
+flight_in (Serving s) before = s.flight
+
+abbrev pub last_flight : {g : Setting} {n m : Net} → Runs g n m → Option FlightState
+last_flight (Begun {n = n}) = flight_in n.owner None
+last_flight (On {o = o} run happens) = flight_in o.owner (last_flight run)

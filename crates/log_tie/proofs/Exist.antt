@@ -1,4 +1,5 @@
 -- A setting exists: names are numbers by pairing, counted along diagonals, and one group stands over three servers.
+use Rattle.log_tie.specs.Scans.{WholeMap}
 use Rattle.std.proofs.Common.{◌≡◌, ℕ, zero, suc, ◌+◌, ◌-◌, ◌%◌, ◌<◌, ◌≤◌, ◌==◌, Bool, true, false, cond, List, [], ◌∷◌, length, Some, None, is_some, unwrap_or, refl, sym, ap, subst, ◌∙◌, arith, mod-lt}
 use Rattle.std.specs.Prelude.{slice_index}
 use Rattle.xfs_base.proofs.Booleans.{contrary}
@@ -16,11 +17,11 @@ pub record Pair : Type 0 where
   pub x : ℕ
   pub y : ℕ
 
-abbrev along : ℕ → ℕ → Pair
+abbrev pub along : ℕ → ℕ → Pair
 along zero y = record { x = suc y; y = 0 }
 along (suc x) y = record { x = x; y = suc y }
 
-abbrev unpair : ℕ → Pair
+abbrev pub unpair : ℕ → Pair
 unpair zero = record { x = 0; y = 0 }
 unpair (suc n) = along (unpair n).x (unpair n).y
 
@@ -44,16 +45,16 @@ diagonal (suc s) y x e = on_diagonal (suc s) (λ v u f. diagonal s v u (omega ar
 found : (x y : ℕ) → Found x y
 found x y = diagonal (x + y) y x refl
 
-pair : ℕ → ℕ → ℕ
+pub pair : ℕ → ℕ → ℕ
 unfolding Found
 pair x y = (found x y).0
 
-pair_is : (x y : ℕ) → unpair (pair x y) ≡ record { x = x; y = y }
+pub pair_is : (x y : ℕ) → unpair (pair x y) ≡ record { x = x; y = y }
 unfolding Found pair
 pair_is x y = (found x y).1
 
 -- no two numbers are one pair
-apart : (n m : ℕ) → (unpair n).x ≡ (unpair m).x → (unpair n).y ≡ (unpair m).y → n ≡ m
+pub apart : (n m : ℕ) → (unpair n).x ≡ (unpair m).x → (unpair n).y ≡ (unpair m).y → n ≡ m
 apart zero zero e f = refl
 apart zero (suc m) e f = absurd (first (unpair m).x (unpair m).y e f)
   where
@@ -80,16 +81,16 @@ apart (suc n) (suc m) e f = ap suc (apart n m (same (unpair n).x (unpair n).y (u
     same (suc x) y (suc u) v e f = (omega arith, omega arith)
 
 -- three servers, one group of them
-abbrev members : List Member
+abbrev pub members : List Member
 members = record { server = 1; generation = 1 } ∷ record { server = 2; generation = 1 } ∷ record { server = 3; generation = 1 } ∷ []
 
-abbrev group : Group
+abbrev pub group : Group
 group = record { id = 1; members = members; parity = 1; current = true }
 
-abbrev the_map : GroupMapState
+abbrev pub the_map : GroupMapState
 the_map = record { servers = 3; generations = 1 ∷ 1 ∷ 1 ∷ []; groups = group ∷ [] }
 
-abbrev setting : Setting
+abbrev pub setting : Setting
 setting = record {
   log = record { 0 = 1 };
   servers = 3;
@@ -154,15 +155,14 @@ only id g is = by (1 == id) is
 three : IsCut 3 1
 three = record { some = omega arith; few = omega arith; least = omega arith; most = omega arith }
 
+pub whole_map : WholeMap setting (λ v. 1) the_map
+whole_map = record {
+  seen = record { whole = whole; past = past };
+  size = refl;
+  named = λ id g is. ap stripe_of_group (only id g is);
+  some = λ id g is. subst (λ (z : Group). (j : ℕ) → j < length z.members → 0 < server_of z.members j) (only id g is) (λ j below. (let p = number j below in omega arith));
+  cut = λ id g is. subst (λ (z : Group). IsCut (length z.members) z.parity) (only id g is) three;
+}
+
 pub some_setting : SomeSetting
-some_setting = (
-  setting,
-  the_map,
-  record {
-    seen = record { whole = whole; past = past };
-    size = refl;
-    named = λ id g is. ap stripe_of_group (only id g is);
-    some = λ id g is. subst (λ (z : Group). (j : ℕ) → j < length z.members → 0 < server_of z.members j) (only id g is) (λ j below. (let p = number j below in omega arith));
-    cut = λ id g is. subst (λ (z : Group). IsCut (length z.members) z.parity) (only id g is) three;
-  },
-)
+some_setting = (setting, the_map, whole_map)

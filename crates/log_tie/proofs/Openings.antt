@@ -51,7 +51,7 @@ back w (suc k) = w.prior_of (back w k)
 abbrev pub path : State → ℕ → ℕ
 path w q = back w (w.opening_seq - suc q)
 
-path_read : (w : State) (lowest : ℕ) → w.pick_low ≤ lowest → lowest ≤ w.read_low → ReadBack w (path w) lowest
+pub path_read : (w : State) (lowest : ℕ) → w.pick_low ≤ lowest → lowest ≤ w.read_low → ReadBack w (path w) lowest
 path_read w lowest picked cut = record {
   picked = picked;
   cut = cut;
@@ -66,7 +66,7 @@ path_read w lowest picked cut = record {
     deeper q below = omega arith
 
 module _ (g : Setting) where
-  back_chained : (w : State) (book : ℕ → Segment) (top x : ℕ) (ts : List Segment) → Chained g w book top x ts → x ≡ back w (length ts)
+  pub back_chained : (w : State) (book : ℕ → Segment) (top x : ℕ) (ts : List Segment) → Chained g w book top x ts → x ≡ back w (length ts)
   back_chained w book top x [] h = h
   back_chained w book top x (t ∷ ts) h = sym h.3 ∙ ap w.prior_of (back_chained w book top h.0 ts h.5)
 

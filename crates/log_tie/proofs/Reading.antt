@@ -192,7 +192,7 @@ module _ (g : Setting) (v : State) (book : ℕ → Segment) (hellos : List Asked
 
   pub chain_told : (o : Opening) (b : Backward) → Framed o → ReadingShown g v book o b → Sees (goes o Over (chain_of b ∷ []))
   chain_told o b f h = record {
-    shown = record { log = f.log; inc = f.inc; horizon = f.horizon; asked = f.asked; stage = tt };
+    shown = record { log = f.log; inc = f.inc; horizon = f.horizon; asked = f.asked; stage = h.phase };
     gives = (
       (
         h.mapped.map,
@@ -293,7 +293,7 @@ module _ (g : Setting) (v : State) (book : ℕ → Segment) (hellos : List Asked
     goes_shown o b r next.Ask f h more looks shown name later owed = sees_fetches (record o { ask = r.ask }) b r (framed_drawn o r.ask later f) (asked_reading o r.ask b h, more, (looks, shown))
     goes_shown o b r next.Again f h more looks shown name later owed = sees_anew o (Reads b (Some r)) f (asked_reading o (o.ask + 1) b h, more, (looks, shown))
     goes_shown o b r (next.Read s) f h more looks shown name later owed = let y = owed s refl in follows_shown o (with_segment b s) f (segment_read o b s y.0 h more (name ∙ looks) y.1 y.2)
-    goes_shown o b r next.Lost f h more looks shown name later owed = sees_quiet o Over (Lost r.target.seg.name ∷ []) f refl (tt, tt) tt
+    goes_shown o b r next.Lost f h more looks shown name later owed = sees_quiet o Over (Lost r.target.seg.name ∷ []) f refl (tt, tt) h.phase
 
     -- a step of the reading, of which what is read is booked
     step_shown : (o : Opening) (b : Backward) (r : ReadingState) (step : Step) → StepFits r o.ask step → Framed o → ReadingShown g v book o b → is_bottom o.low b.next ≡ false → r.target.seg.name ≡ name_at g.log b.next → RoundShown g book v.booked b.next step.state.round

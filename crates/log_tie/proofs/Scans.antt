@@ -126,7 +126,7 @@ module _ (g : Setting) (w : State) (book : ℕ → Segment) (hellos : List Asked
     stage_there o (Gathers lists) h = gathering_there o w.low lists h
     stage_there o (Asks lists) h = record { bound = h.bound; gathering = gathering_there o h.bound lists h.gathering; every = h.every; past = h.past; begun = h.begun; after = h.after }
     stage_there o (Reads b r) h = (reading_there o b h.0, h.1, h.2)
-    stage_there o Over h = tt
+    stage_there o Over h = h
 
     maps_goes : (o : Opening) (stage : Stage) → ScanShown g w book hellos (record { opening = o; stage = stage }) → To (stays (record o { groups = Some m }) stage)
     maps_goes o stage h = goes_learned (stays (record o { groups = Some m }) stage) (sees_still g learned book hellos (record o { groups = Some m }) stage (framed_there o (framed_of o stage h)) (stage_there o stage h.stage))

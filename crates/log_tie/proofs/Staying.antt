@@ -99,7 +99,7 @@ module _ (g : Setting) (w u : State) (book : ℕ → Segment) (hellos : List Ask
   stage_stays o (Gathers lists) h = gathering_stays o w.low u.low lists by.low h
   stage_stays o (Asks lists) h = asking_stays o lists h
   stage_stays o (Reads b r) h = (reading_stays o b h.0, h.1, same (λ z. LooksFor g book z.booked b.next r) h.2)
-  stage_stays o Over h = tt
+  stage_stays o Over h = phase_same 2 h
 
 pub scan_stays : ScanStays
 scan_stays g w u book hellos s by h = record {

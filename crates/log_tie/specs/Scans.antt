@@ -148,7 +148,7 @@ StageShown g w book hellos o Hails = (w.phase ≡ 1) × Phantom w
 StageShown g w book hellos o (Gathers lists) = Gathering g w book o w.low lists
 StageShown g w book hellos o (Asks lists) = Asking g w book hellos o lists
 StageShown g w book hellos o (Reads b r) = ReadingShown g w book o b × (is_bottom o.low b.next ≡ false) × LooksFor g book w.booked b.next r
-StageShown g w book hellos o Over = Unit {0}
+StageShown g w book hellos o Over = w.phase ≡ 2
 
 -- An opening of the log in the owner's boot: no question of that boot has a number above its last one's.
 pub record ScanShown (g : Setting) (w : State) (book : ℕ → Segment) (hellos : List Asked) (s : ScanState) : Type 0 where

@@ -1,6 +1,5 @@
--- Each run of the small world goes on: what was sent stays sent, and no generation falls.
-use Rattle.std.proofs.Common.{◌≡◌, ℕ, suc, ◌==◌, ◌≤◌, ◌<◌, ◌+◌, Bool, true, false, cond, min, is_some, not, List, [], ◌∷◌, ◌++◌, Option, Some, None, refl, sym, ap, subst, ◌∙◌, inl, inr, arith}
-use Rattle.std.specs.BTreeMap.{insert_entry}
+-- Each run of the small world goes on: what was sent stays sent, and no generation and no horizon falls.
+use Rattle.std.proofs.Common.{◌≡◌, ℕ, ◌==◌, ◌≤◌, ◌<◌, List, [], ◌∷◌, ◌++◌, Option, Some, None, refl, sym, ap, subst, inl, inr, arith}
 use Rattle.xfs_base.proofs.Booleans.{by_test}
 use Rattle.xfs_base.specs.declared.fragment.Fragment.{Fragment}
 use Rattle.xfs_base.specs.declared.segment.LogId.{LogId}
@@ -10,8 +9,8 @@ use Rattle.xfs_base.specs.Segments.{pass_cmp}
 use Rattle.xfs_base.specs.Stamps.{is_greater}
 use Rattle.segment_format.specs.declared.segment.Segment.{Segment}
 use Rattle.group_map.specs.GroupMapState.{GroupMapState}
-use Rattle.fragment_store.specs.Calls.{kept, on_fence, with_fragment}
-use Rattle.fragment_store.specs.ShelfState.{ShelfState, fence_of, is_held, is_marked, log_cmp}
+use Rattle.fragment_store.specs.Calls.{kept, on_fence}
+use Rattle.fragment_store.specs.ShelfState.{ShelfState, fence_of, is_held, is_marked}
 use Rattle.client_log.specs.LogState.{FlightState}
 use Rattle.client_log.specs.Transition as log
 use Rattle.log_scan.specs.ScanState.{ScanState}
@@ -21,7 +20,7 @@ use Rattle.log_tie.specs.Setting.{Setting}
 use Rattle.log_tie.specs.Shelves.{is_stored, Deed, shelf_after}
 use Rattle.log_tie.specs.Shelves.Deed.{Stores, Fetches, Fences, Deletes, Fills, Loses}
 use Rattle.log_tie.proofs.Names.{equal}
-use Rattle.log_law.specs.Net.{Net, Packet, Told, log_packets, scan_packets, chain_in, first_write, answers, after_log, after_flight, after_writing, after_told, after_scan}
+use Rattle.log_law.specs.Net.{Net, Packet, Told, log_packets, scan_packets, chain_in, first_write, answers, after_flight, after_told}
 use Rattle.log_law.specs.Events.{CameToServer, Happens, Runs}
 use Rattle.log_law.specs.Events.Happens.{Acts, Writes, Opens, Crashes, Restarts, Serves, Bars, Lists, Hears, Raises, Publishes, Welcomes, Drops}
 use Rattle.log_law.specs.Events.Runs.{Begun, On}
@@ -73,8 +72,9 @@ module _ (s : ShelfState) where
 
 module _ (g : Setting) (n : Net) where
   -- what is sent anew stands before what was sent
-  says_more : (o : Net) (more : List Packet) → o.shelves ≡ n.shelves → o.sent ≡ more ++ n.sent → Later n o
-  says_more o more shelves sent = record {
+  says_more : (o : Net) (more : List Packet) → o.shelves ≡ n.shelves → o.sent ≡ more ++ n.sent → n.low ≤ o.low → Later n o
+  says_more o more shelves sent low = record {
+    low = low;
     sent = λ p is. subst (λ ps. In p ps) (sym sent) (in_after more n.sent p is);
     reached = λ v. (let e = ap (λ (f : ℕ → ShelfState). (f v).generation) shelves in omega arith);
   }
@@ -83,42 +83,45 @@ module _ (g : Setting) (n : Net) where
       → Later n (record n { shelves = put n.shelves v (shelf_after g (n.shelves v) deed); sent = answers g v (n.shelves v) deed ++ n.sent })
   unfolding NoLower
   serves_later v deed came = record {
+    low = omega arith;
     sent = λ p is. in_after (answers g v (n.shelves v) deed) n.sent p is;
     reached = put_each (λ (u : ℕ) (t : ShelfState). (n.shelves u).generation ≤ t.generation) n.shelves v _ (deed_no_lower (n.shelves v) g n v deed refl came) (λ u. omega arith);
   }
 
   bars_later : (v : ℕ) (log : LogId) (pass : Pass) → Later n (record n { shelves = put n.shelves v (on_fence (n.shelves v) log pass) })
   bars_later v log pass = record {
+    low = omega arith;
     sent = λ p is. is;
     reached = put_each (λ (u : ℕ) (t : ShelfState). (n.shelves u).generation ≤ t.generation) n.shelves v _ (fence_no_lower (n.shelves v) log pass) (λ u. omega arith);
   }
 
   flight_later : (chain : List Segment) (d : log.Done) (f : Option FlightState) → Later n (after_flight g n chain d f)
-  flight_later chain d None = says_more _ (log_packets d.outs) refl refl
-  flight_later chain d (Some f) = says_more _ (log_packets d.outs) refl refl
+  flight_later chain d None = says_more _ (log_packets d.outs) refl refl (omega arith)
+  flight_later chain d (Some f) = says_more _ (log_packets d.outs) refl refl (omega arith)
 
   told_later : (s : ScanState) (d : scan.Done) (t : Option Told) (m : Option GroupMapState) → Later n (after_told g n s d t m)
-  told_later s d None m = says_more _ (scan_packets n.inc d.outs) refl refl
-  told_later s d (Some t) None = says_more _ (scan_packets n.inc d.outs) refl refl
+  told_later s d None m = says_more _ (scan_packets n.inc d.outs) refl refl (omega arith)
+  told_later s d (Some t) None = says_more _ (scan_packets n.inc d.outs) refl refl (omega arith)
   told_later s d (Some t) (Some m) = record {
+    low = omega arith;
     sent = λ p is. in_after (log_packets (first_write g n.inc t.end m).outs) _ p (in_after (scan_packets n.inc d.outs) n.sent p is);
     reached = λ v. omega arith;
   }
 
 pub happened_later : (g : Setting) (n o : Net) → Happens g n o → Later n o
-happened_later g n o (Acts s i serves came text) = says_more g n _ (log_packets (log.transition s i).outs) refl refl
+happened_later g n o (Acts s i serves came text) = says_more g n _ (log_packets (log.transition s i).outs) refl refl (omega arith)
 happened_later g n o (Writes chain s i writes came text) = flight_later g n chain (log.transition s i) (log.transition s i).state.flight
 happened_later g n o (Opens s i opens came can) = told_later g n s (scan.transition s i) (chain_in (scan.transition s i).outs) (scan.transition s i).state.opening.groups
-happened_later g n o Crashes = says_more g n _ [] refl refl
-happened_later g n o (Restarts down) = says_more g n _ [] refl refl
+happened_later g n o Crashes = says_more g n _ [] refl refl (omega arith)
+happened_later g n o (Restarts down) = says_more g n _ [] refl refl (omega arith)
 happened_later g n o (Serves v deed some came) = serves_later g n v deed came
 happened_later g n o (Bars v log pass) = bars_later g n v log pass
-happened_later g n o (Lists v) = says_more g n _ (_ ∷ []) refl refl
-happened_later g n o (Hears v generation up reached) = says_more g n _ [] refl refl
-happened_later g n o (Raises low name up is below) = says_more g n _ [] refl refl
-happened_later g n o (Publishes m whole) = says_more g n _ (_ ∷ []) refl refl
-happened_later g n o (Welcomes inc ask news m hello low whole) = says_more g n _ (_ ∷ []) refl refl
-happened_later g n o (Drops lists meta sent among below) = says_more g n _ (_ ∷ []) refl refl
+happened_later g n o (Lists v) = says_more g n _ (_ ∷ []) refl refl (omega arith)
+happened_later g n o (Hears v generation up reached) = says_more g n _ [] refl refl (omega arith)
+happened_later g n o (Raises low name up is below) = says_more g n _ [] refl refl up
+happened_later g n o (Publishes m whole) = says_more g n _ (_ ∷ []) refl refl (omega arith)
+happened_later g n o (Welcomes inc ask news m hello low whole) = says_more g n _ (_ ∷ []) refl refl (omega arith)
+happened_later g n o (Drops lists meta sent among below) = says_more g n _ (_ ∷ []) refl refl (omega arith)
 
 -- ---- runs
 

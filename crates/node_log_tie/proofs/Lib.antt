@@ -1,2 +1,15 @@
 mod Sights
 mod Going
+mod Lists
+mod Rebuilding
+mod RebuildEvents
+mod Shelving
+mod Servers
+mod SentMaps
+mod WholeMaps
+mod Horizons
+mod Boards
+mod Others
+mod Registries
+mod OwnLogs
+mod Cleaning

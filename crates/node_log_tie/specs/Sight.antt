@@ -20,6 +20,7 @@ use Rattle.wire_msg.specs.declared.storage.Store.{Store}
 use Rattle.wire_msg.specs.declared.storage.Stored.{Stored}
 use Rattle.node_base.specs.declared.effects.Effect.{Effect}
 use Rattle.node_base.specs.declared.effects.Effect.TheVariants.{Send, Answer, Lose, Does}
+use Rattle.log_scan.specs.Transition.{least_horizon}
 use Rattle.log_protocol.specs.Tables.{In}
 use Rattle.log_tie.specs.Setting.{Setting}
 use Rattle.log_tie.specs.Shelves.{is_of_log}
@@ -103,10 +104,11 @@ module _ (g : Setting) (owner : Asker) (n : Net) where
     pub own : from ≡ owner.node → AskedBy m.inc (owner.asked m.ask)
     pub reached : ReachedBy from m.inc
 
-  -- whoever gets a Welcome gets a map
+  -- whoever gets a Welcome gets a map, and a horizon that the least one of the log has reached
   pub record WelcomeSeen (to : NodeId) (m : Welcome) : Type 0 where
     pub own : to ≡ owner.node → AnsweredBy m (owner.asked m.ask)
     pub map : In (MapSent m.news.groups) n.sent
+    pub low : least_horizon g.log.0 m.news.slots ≤ n.low
 
   abbrev pub NewsSeen : News → Type 0
   NewsSeen m = In (MapSent m.groups) n.sent
@@ -139,7 +141,8 @@ module _ (g : Setting) (owner : Asker) (n : Net) where
   abbrev pub AllSeen : List packets.Packet → Type 0
   AllSeen sent = All PacketSeen sent
 
--- The small world went on: what was sent stays sent, and no generation fell.
+-- The small world went on: what was sent stays sent, and no generation and no horizon fell.
 pub record Later (n next : Net) : Type 0 where
+  pub low : n.low ≤ next.low
   pub sent : (p : Packet) → In p n.sent → In p next.sent
   pub reached : (v : ℕ) → (n.shelves v).generation ≤ (next.shelves v).generation

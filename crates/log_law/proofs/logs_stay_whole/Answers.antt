@@ -21,7 +21,11 @@ returns c = record {
       head = c.end_is_head.ensures.head;
       whole = c.logs_whole.ensures.whole;
       goes_on = c.runs_go_on.ensures.reached;
-      names = c.runs_go_on.ensures.names;
+      line = c.one_line.ensures.line;
+      adopts = c.what_reopening_adopts.ensures.adopted;
+      new = c.names_are_new.ensures.new;
+      earned = c.hurt_is_earned.ensures.earned;
+      lacks = c.lacks_between.ensures.lacks;
       past = c.past_stays.ensures.stays;
     };
   });

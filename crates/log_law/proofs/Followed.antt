@@ -1,0 +1,296 @@
+-- Along a run of which no restart was doubtful: a member of the newest segment that is hurt lacked its fragment at a moment of the span.
+use Rattle.log_law.proofs.Flights.{FlightKept, now_kept, first_kept}
+use Rattle.log_protocol.specs.Tables.{In}
+use Rattle.log_law.proofs.Always.{keeps}
+use Rattle.log_tie.specs.Seen.{Page, members_of}
+use Rattle.log_protocol.specs.OpeningSteps.{Undoubted}
+use Rattle.log_protocol.specs.StateLaws.{EndIsHead}
+use Rattle.std.proofs.lemmas.Bool.Decides.{nat_tests}
+use Rattle.std.proofs.Common.{◌≡◌, ⊎_elim, ℕ, ◌≤◌, ◌<◌, Bool, true, false, Option, Some, None, refl, sym, ap, subst, ◌∙◌, inl, inr, arith, length, ◌⊎◌}
+use Rattle.xfs_base.specs.declared.fragment.Fragment.{Fragment}
+use Rattle.xfs_base.specs.declared.segment.SegName.{SegName}
+use Rattle.xfs_base.proofs.Booleans.{contrary}
+use Rattle.segment_format.specs.declared.segment.Segment.{Segment}
+use Rattle.log_protocol.specs.LogLaws.{Reached}
+use Rattle.log_protocol.specs.State.{State}
+use Rattle.log_protocol.specs.Step.Steps.{Done}
+use Rattle.log_protocol.specs.StepLaws.{InSpan, HurtBefore}
+use Rattle.log_tie.specs.Setting.{Setting, name_of, server_of}
+use Rattle.log_tie.specs.Shelves.{Kept}
+use Rattle.log_tie.proofs.Names.{one_number}
+use Rattle.log_law.specs.Net.{Owner, Net}
+use Rattle.log_law.specs.Net.Owner.{Down, Opening, Writing, Serving}
+use Rattle.log_law.specs.Events.{Happens, Runs}
+use Rattle.log_law.specs.Events.Runs.{Begun, On}
+use Rattle.log_law.specs.Restarts.{is_down, spans, in_span, Lacks, LackedInSpan, is_writing, EndsRestart, IsDoubtful, IsSureRun, is_serving, last_flight}
+use Rattle.log_law.proofs.Below.{Below}
+use Rattle.log_law.proofs.Views.{OwnerShown, View, PickShown}
+use Rattle.log_law.proofs.Next.{Aside, Alone, Next}
+use Rattle.log_law.proofs.Hurting.{idle, Lacked, earned_through, some_unhurt}
+
+-- ---- spans
+
+abbrev is_open : Owner → Bool
+is_open Down = false
+is_open (Opening s) = true
+is_open (Writing chain s) = true
+is_open (Serving s) = false
+
+not_open : (o : Owner) → is_serving o ≡ true → is_open o ≡ true → ⊥
+not_open Down s t = contrary s
+not_open (Opening x) s t = contrary s
+not_open (Writing chain x) s t = contrary s
+not_open (Serving x) s t = contrary t
+
+not_down : (o : Owner) → is_serving o ≡ true → is_down o ≡ true → ⊥
+not_down Down s t = contrary s
+not_down (Opening x) s t = contrary s
+not_down (Writing chain x) s t = contrary s
+not_down (Serving x) s t = contrary t
+
+spans_open : (o : Owner) (before : Bool) → is_open o ≡ true → spans o before ≡ true
+spans_open Down before t = contrary t
+spans_open (Opening s) before t = refl
+spans_open (Writing chain s) before t = refl
+spans_open (Serving s) before t = contrary t
+
+module _ (g : Setting) (a : Net) (serves : is_serving a.owner ≡ true) where
+  open_spans : (n : Net) (run : Runs g a n) → is_open n.owner ≡ true → in_span run ≡ true
+  open_spans n Begun t = absurd (not_open a.owner serves t)
+  open_spans n (On {o = o} run happens) t = spans_open o.owner (in_span run) t
+
+  -- an owner that stays as it is stays in its span
+  span_before : (n : Net) (run : Runs g a n) (o : Owner) → o ≡ n.owner → spans o (in_span run) ≡ true → in_span run ≡ true
+  span_before n run Down e t = t
+  span_before n run (Opening s) e t = open_spans n run (ap is_open (sym e))
+  span_before n run (Writing chain s) e t = open_spans n run (ap is_open (sym e))
+  span_before n run (Serving s) e t = contrary t
+
+  lacked_here : (n : Net) (run : Runs g a n) (name : SegName) (v : ℕ) → in_span run ≡ true → Lacks n name v → LackedInSpan run name v
+  lacked_here n Begun name v t lacks = contrary t
+  lacked_here n (On run happens) name v t lacks = (t, inl lacks)
+
+-- ---- what a state lacks, the small world lacks
+
+module _ (g : Setting) (n : Net) (h : View g n) where
+  none_kept : (s : Segment) (o : Option Fragment) (booked holds index : ℕ) → Kept g s o booked holds index → holds ≡ 0 → o ≡ None
+  none_kept s None booked holds index k e = refl
+  none_kept s (Some f) booked holds index k e = absurd (clash k.0 e)
+    where
+      clash : holds ≡ 1 → holds ≡ 0 → ⊥
+      clash a b = omega arith
+
+  lacks_there : (v x : ℕ) → h.w.holds v x ≡ 0 → (h.w.dropped x ≡ 1 → ⊥) → Lacks n (name_of g x) v
+  lacks_there v x holds kept = (none_kept (h.book x) _ _ _ _ ((h.shelves v).keeps x) holds, λ is. (let d = h.gone (name_of g x) is in kept (ap h.w.dropped (one_number g x d.number d.named) ∙ d.dropped)))
+
+-- ---- over one event
+
+module _ (k : Below) (g : Setting) (none : g.doubts ≡ false) (a : Net) (serves : is_serving a.owner ≡ true) (n : Net) (run : Runs g a n) (h : View g n) where
+  abbrev pub top : ℕ
+  top = h.w.line h.w.head
+
+  -- what is carried along a run
+  pub record Followed : Type 0 where
+    pub fallen : is_down n.owner ≡ true → 0 < h.w.spanning → in_span run ≡ true
+    pub hurt : (i : ℕ) → InSpan h.w → 0 < h.w.head → h.w.span_low ≤ h.w.head → i < h.w.member_count top → 0 < h.w.hurt i → LackedInSpan run (name_of g top) (h.w.member_server top i)
+
+  clean : h.w.clean ≡ 1
+  clean = h.calm none
+
+  module _ (f : Followed) (o : Net) (happens : Happens g n o) (t : Next g n h o) where
+    abbrev u : State
+    u = t.view.w
+
+    abbrev later : Runs g a o
+    later = On run happens
+
+    now_fallen : is_down o.owner ≡ true → 0 < u.spanning → in_span later ≡ true
+    now_fallen down some = down_spans o.owner down (by n.owner refl h.owner)
+      where
+        down_spans : (p : Owner) → is_down p ≡ true → in_span run ≡ true → spans p (in_span run) ≡ true
+        down_spans Down e before = before
+        down_spans (Opening s) e before = contrary e
+        down_spans (Writing chain s) e before = contrary e
+        down_spans (Serving s) e before = contrary e
+
+        before_some : 0 < h.w.spanning
+        before_some = let e = t.fallen down in omega arith
+
+        by : (p : Owner) → n.owner ≡ p → OwnerShown g h.w h.book h.hellos p → in_span run ≡ true
+        by Down e shown = f.fallen (ap is_down e) before_some
+        by (Opening s) e shown = open_spans g a serves n run (ap is_open e)
+        by (Writing chain s) e shown = open_spans g a serves n run (ap is_open e)
+        by (Serving s) e shown = absurd (let a = idle h.w h.reached clean shown.0.phase in let b = before_some in omega arith)
+
+    now_spans : InSpan u → in_span later ≡ true
+    now_spans span = by o.owner refl t.view.owner
+      where
+        by : (p : Owner) → o.owner ≡ p → OwnerShown g u t.view.book t.view.hellos p → in_span later ≡ true
+        by Down e shown = ⊎_elim (λ some. absurd (let p = shown in omega arith)) (λ some. now_fallen (ap is_down e) some) span.begun
+        by (Opening s) e shown = spans_open o.owner (in_span run) (ap is_open e)
+        by (Writing chain s) e shown = spans_open o.owner (in_span run) (ap is_open e)
+        by (Serving s) e shown = absurd (let p = shown.0.phase in let q = span.not_serving in omega arith)
+
+    now_clean : u.clean ≡ 1
+    now_clean = t.view.calm none
+
+    abbrev x : ℕ
+    x = u.line u.head
+
+    module _ (i : ℕ) (span : InSpan u) (some : 0 < u.head) (member : i < u.member_count x) where
+      abbrev v : ℕ
+      v = u.member_server x i
+
+      -- where it lacked its fragment among the steps
+      module _ (l : Lacked h.w u i) where
+        abbrev z : State
+        z = l.at
+
+        reached_z : Reached z
+        reached_z = k.protocol.goes_on h.w z h.reached l.before
+
+        booked_z : z.booked x ≡ 1
+        booked_z =
+            let c = (k.protocol.past z u reached_z l.after).clean now_clean in
+            let e = k.protocol.head z reached_z c in
+            subst (λ y. z.booked y ≡ 1) l.line ((k.protocol.book z reached_z).filed_booked (z.line z.head) (e.line_filed z.head (let a = l.head in omega arith) (omega arith)))
+
+        lacks_z : z.holds v x ≡ 0
+        lacks_z = ap (λ y. z.holds y x) ((k.protocol.past z u reached_z l.after).member_server x i booked_z) ∙ subst (λ y. z.holds (z.member_server y i) y ≡ 0) l.line l.lacks.lacks
+
+        kept_z : z.dropped x ≡ 1 → ⊥
+        kept_z e = let a = subst (λ y. z.dropped y ≡ 0) l.line l.lacks.kept in omega arith
+
+        kept_w : h.w.dropped x ≡ 1 → ⊥
+        kept_w e = kept_z ((k.protocol.past h.w z h.reached l.before).dropped x e)
+
+        -- a server of one generation lacked it before
+        lacked_before : u.generation v ≡ h.w.generation v → h.w.holds v x ≡ 0
+        lacked_before same =
+            let p = (k.protocol.past h.w z h.reached l.before).generation v in
+            let q = (k.protocol.past z u reached_z l.after).generation v in
+            let law = (k.protocol.lacks h.w h.w z h.reached Done l.before) v x (omega arith) lacks_z (λ marked. kept_z ((k.protocol.shelves z reached_z).marked_dropped v x marked)) in
+            let flag = (k.protocol.shelves h.w h.reached).held_flag v x in
+            not_one (h.w.holds v x) flag law.1
+          where
+            not_one : (m : ℕ) → m ≤ 1 → (m ≡ 1 → ⊥) → m ≡ 0
+            not_one m less other = grind (arith, nat_tests)
+
+        lacked_now : LackedInSpan later (name_of g x) v
+        lacked_now = ⊎_elim aside alone t.by
+          where
+            aside : Aside n o h.w u → LackedInSpan later (name_of g x) v
+            aside left = ⊎_elim kept_generation lost (left.servers v)
+              where
+                kept_generation : u.generation v ≡ h.w.generation v → LackedInSpan later (name_of g x) v
+                kept_generation same = (now_spans span, inr (lacked_here g a serves n run (name_of g x) v (span_before g a serves n run o.owner left.owner (now_spans span)) (lacks_there g n h v x (lacked_before same) kept_w)))
+
+                lost : ((y : ℕ) → u.holds v y ≡ 0) × (u.dropped ≡ h.w.dropped) → LackedInSpan later (name_of g x) v
+                lost e = (now_spans span, inl (lacks_there g o t.view v x (e.0 x) (λ gone. kept_w (ap (λ d. d x) (sym e.1) ∙ gone))))
+
+            alone : Alone h.w u → LackedInSpan later (name_of g x) v
+            alone only = (now_spans span, inl (lacks_there g o t.view v x (ap (λ d. d v x) only.holds ∙ lacked_before (ap (λ d. d v) only.generation)) (λ gone. kept_w (ap (λ d. d x) (sym only.dropped) ∙ gone))))
+
+      -- where it was hurt before
+      hurt_before : u.span_low ≤ u.head → HurtBefore h.w u i → LackedInSpan later (name_of g x) v
+      hurt_before low b =
+          let booked = (k.protocol.book h.w h.reached).filed_booked top ((k.protocol.head h.w h.reached clean).line_filed h.w.head (let e = b.head in omega arith) (omega arith)) in
+          let past = k.protocol.past h.w u h.reached t.steps in
+          let same : x ≡ top = b.line in
+          let server : u.member_server x i ≡ h.w.member_server top i = ap (λ y. u.member_server y i) same ∙ past.member_server top i booked in
+          let count : u.member_count x ≡ h.w.member_count top = ap u.member_count same ∙ past.member_count top booked in
+          let was = f.hurt i b.span (let e = b.head in omega arith) (let e = b.head in let s = b.span_low in let l = low in omega arith) (let m = member in omega arith) b.hurt in
+          (now_spans span, inr (subst (λ y. LackedInSpan run (name_of g y) v) (sym same) (subst (λ y. LackedInSpan run (name_of g top) y) (sym server) was)))
+
+    now_hurt : (i : ℕ) → InSpan u → 0 < u.head → u.span_low ≤ u.head → i < u.member_count x → 0 < u.hurt i → LackedInSpan later (name_of g x) (u.member_server x i)
+    now_hurt i span some low member hurt = ⊎_elim (λ b. hurt_before i span some member low b) (λ l. lacked_now i span some member l) (earned_through k h.w u h.reached t.steps now_clean i span some low hurt)
+
+  -- ---- the premise on losses, where a restart ends
+
+  module _ (f : Followed) where
+    while_writing : is_writing n.owner ≡ true → (h.w.phase ≡ 3) × (h.w.pick_low ≡ n.picked)
+    while_writing t = by n.owner t h.owner h.picked
+      where
+        by : (p : Owner) → is_writing p ≡ true → OwnerShown g h.w h.book h.hellos p → PickShown h.w.pick_low n.picked p → (h.w.phase ≡ 3) × (h.w.pick_low ≡ n.picked)
+        by Down e shown picked = contrary e
+        by (Opening s) e shown picked = contrary e
+        by (Writing chain s) e shown picked = (shown.0.phase, picked)
+        by (Serving s) e shown picked = contrary e
+
+    ends : EndIsHead h.w
+    ends = k.protocol.head h.w h.reached clean
+
+    doubtful : is_writing n.owner ≡ true → h.w.pick_low ≤ h.w.head → 0 < h.w.head → h.w.span_low ≤ h.w.head → ((i : ℕ) → i < h.w.member_count top → 0 < h.w.hurt i) → IsDoubtful g run
+    doubtful t low some span all = record {
+      segment = h.book top;
+      flown = h.flown.all top booked;
+      filed = subst (λ z. In z n.filed) (sym page.named) (is_filed h.top);
+      newest = newest;
+      above = (let a = (while_writing t).1 in let b = seq in let c = low in omega arith);
+      lost = lost;
+    }
+      where
+        booked : h.w.booked top ≡ 1
+        booked = (k.protocol.book h.w h.reached).filed_booked top (ends.line_filed h.w.head some (omega arith))
+
+        page : Page g top (h.book top) (h.w.text_of top) (h.w.member_count top) (h.w.member_server top) (h.w.member_generation top) (h.w.prior_of top) (h.w.content_of top)
+        page = h.paged top booked
+
+        seq : (h.book top).name.seq ≡ h.w.head
+        seq = ap (λ (z : SegName). z.seq) page.named ∙ (sym (ap (λ t. t top) h.fixed.seq_of) ∙ ends.line_seq h.w.head some (omega arith))
+
+        is_filed : (h.w.end ≡ 0) ⊎ In (name_of g h.w.end) n.filed → In (name_of g top) n.filed
+        is_filed (inl nothing) = absurd (let a = (k.protocol.book h.w h.reached).named top booked in let b = ends.its_end in clash h.w.end top b nothing a)
+          where
+            clash : (p q : ℕ) → p ≡ q → p ≡ 0 → 0 < q → ⊥
+            clash p q a b c = omega arith
+        is_filed (inr is) = subst (λ z. In (name_of g z) n.filed) ends.its_end is
+
+        newest : (name : SegName) → In name n.filed → name.seq ≤ (h.book top).name.seq
+        newest name is =
+            let d = h.filed name is in
+            let a = ends.filed_head d.0 d.2 in
+            let b : h.w.seq_of d.0 ≡ name.seq = ap (λ t. t d.0) h.fixed.seq_of ∙ ap (λ (z : SegName). z.seq) (sym d.1) in
+            let c = seq in
+            omega arith
+
+        lost : (place : ℕ) → place < length (members_of g (h.book top)) → LackedInSpan run (h.book top).name (server_of (members_of g (h.book top)) place)
+        lost place member =
+            let inside : place < h.w.member_count top = subst (λ c. place < c) (sym page.counted) member in
+            let p = (while_writing t).0 in
+            subst (λ z. LackedInSpan run z (server_of (members_of g (h.book top)) place)) (sym page.named)
+            (subst (λ v. LackedInSpan run (name_of g top) v) (page.at_server place) (f.hurt place (record { not_serving = omega arith; begun = inl (omega arith) }) some span inside (all place inside)))
+
+    sure : (o : Net) → EndsRestart n o → (IsDoubtful g run → ⊥) → h.w.pick_low ≤ h.w.head → Undoubted h.w
+    sure o restart calm low some span = ⊎_elim (λ a. a) (λ all. absurd (calm (doubtful restart.0 low some span all))) (some_unhurt h.w.hurt (h.w.member_count top))
+
+-- ---- along the run
+
+-- an owner that serves is in phase 4
+serving_phase : (g : Setting) (n : Net) (h : View g n) → is_serving n.owner ≡ true → h.w.phase ≡ 4
+serving_phase g n h t = by n.owner t h.owner
+  where
+    by : (p : Owner) → is_serving p ≡ true → OwnerShown g h.w h.book h.hellos p → h.w.phase ≡ 4
+    by Down e shown = contrary e
+    by (Opening s) e shown = contrary e
+    by (Writing chain s) e shown = contrary e
+    by (Serving s) e shown = shown.0.phase
+
+pub record Along (k : Below) (g : Setting) (none : g.doubts ≡ false) (first : Net) (serves : is_serving first.owner ≡ true) (n : Net) (run : Runs g first n) : Type 0 where
+  pub view : View g n
+  pub followed : Followed k g none first serves n run view
+  pub flown : FlightKept g view.w (last_flight run)
+
+pub along : (k : Below) (g : Setting) (none : g.doubts ≡ false) (first : Net) (serves : is_serving first.owner ≡ true) → View g first → (n : Net) (run : Runs g first n) → IsSureRun run → Along k g none first serves n run
+along k g none first serves seen n Begun s = record {
+  view = seen;
+  followed = record { fallen = λ down some. absurd (not_down first.owner serves down); hurt = λ i span some low member hurt. absurd (let p = serving_phase g first seen serves in let q = span.not_serving in omega arith) };
+  flown = first_kept g k first seen (seen.calm none) serves;
+}
+along k g none first serves seen n (On {m = m} run happens) s = on (along k g none first serves seen m run s.0)
+  where
+    on : Along k g none first serves m run → Along k g none first serves n (On run happens)
+    on b = record { view = t.view; followed = record { fallen = now_fallen k g none first serves m run b.view b.followed n happens t; hurt = now_hurt k g none first serves m run b.view b.followed n happens t }; flown = now_kept g k m b.view n t (t.view.calm none) (last_flight run) b.flown }
+      where
+        t : Next g m b.view n
+        t = keeps k g m n b.view happens (λ calm restart low. sure k g none first serves m run b.view b.followed n restart (s.1 restart) low)
