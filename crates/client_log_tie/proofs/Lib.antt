@@ -12,3 +12,4 @@ mod ScanSays
 mod ScanSteps
 mod OpeningEvents
 mod ClientPhases
+mod Written

@@ -3,8 +3,10 @@ use Rattle.std.specs.Prelude.{◌≡◌, ◌<◌, ◌^◌, ℕ, zero, suc, true,
 use Rattle.std.specs.List.{AllByRecursion}
 use Rattle.xfs_base.specs.declared.block.BlockId.{BlockId}
 use Rattle.xfs_base.specs.declared.entry.Entry.{Entry}
-use Rattle.segment_format.specs.Format.{second_version, IsLength}
-use Rattle.segment_format.specs.Ranges.{FitsRow}
+use Rattle.xfs_base.specs.declared.segment.End.{End}
+use Rattle.xfs_base.specs.declared.segment.LogId.{LogId}
+use Rattle.segment_format.specs.Format.{second_version, IsLength, IsLog}
+use Rattle.segment_format.specs.Ranges.{FitsRow, FitsPass}
 use Rattle.group_map.specs.GroupMapState.{GroupMapState}
 use Rattle.stripe_code.specs.Stripe.{IsBytes}
 use Rattle.client_log.specs.declared.input.In.{In as Input}
@@ -80,3 +82,12 @@ RunFits (suc n) s = StepFits s s.call × ((runs_once s).goes ≡ true → RunFit
 
 abbrev pub RunsFit : Serving → Type 0
 RunsFit s = RunFits most_steps s
+
+-- ---- what stays written
+
+abbrev pub EndFits : End → Type 0
+EndFits e = (e.seq < 2 ^ 32) × FitsPass e.pass × (e.group < 2 ^ 32)
+
+-- a log that starts behind an end that fits, over groups whose ids fit, stays written
+abbrev pub WhatFitsStaysWritten : Type 0
+WhatFitsStaysWritten = (log : LogId) (inc : ℕ) (end : End) (m : GroupMapState) → IsLog log.0 → inc < 2 ^ 32 → EndFits end → MapFits m → StaysWritten (started log inc end m)

@@ -3,6 +3,7 @@
 #![tactic(auto)]
 
 ghost use Rattle.client_log_tie.specs.ClientEvents.{ClientStarts, ClientTakes};
+ghost use Rattle.client_log_tie.specs.Texts.{WhatFitsStaysWritten};
 
 /// What an event makes of a client is a run of the small world of its log, if the packet that comes was sent there, and if what its log writes can be spelled.
 ///
@@ -12,4 +13,10 @@ ghost use Rattle.client_log_tie.specs.ClientEvents.{ClientStarts, ClientTakes};
 pub fn client_log_events_are_seen()
     ensures start { ClientStarts }
     ensures events { ClientTakes }
+{}
+
+/// A log that starts behind an end whose numbers fit the format, over groups whose ids fit, can be spelled whatever it takes, as long as that fits: what is in
+/// flight then has a text.
+pub fn what_fits_stays_written()
+    ensures { WhatFitsStaysWritten }
 {}

@@ -100,7 +100,7 @@ module _ (g : Setting) (n : Net) where
 
 -- ---- what an event makes of it
 
-abbrev pub CleanerOwed : Setting → NodeId → Net → Do → Type 0
+abbrev pub CleanerOwed : Setting → Asker → Net → Do → Type 0
 CleanerOwed g owner n Begin = Unit {0}
 CleanerOwed g owner n (Deliver packet) = (packet.to ≡ Cleaner) × PacketSeen g owner n packet
 CleanerOwed g owner n Tick = Unit {0}

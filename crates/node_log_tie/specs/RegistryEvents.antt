@@ -54,7 +54,7 @@ pub record Keeps (g : Setting) (n : Net) (b : BoardState) : Type 0 where
   pub named : NamesGroups g b.groups
   pub filed : IsFiled n (low_of g b)
 
-abbrev pub Hears : Setting → NodeId → Net → Do → Type 0
+abbrev pub Hears : Setting → Asker → Net → Do → Type 0
 Hears g owner n Begin = Unit {0}
 Hears g owner n (Deliver packet) = PacketSeen g owner n packet
 Hears g owner n Tick = Unit {0}

@@ -94,7 +94,7 @@ pub record ServerSeen (g : Setting) (n : Net) (v : ℕ) (node : nodes.Server) : 
 abbrev pub MapsName : Setting → Net → Type 0
 MapsName g n = (m : GroupMapState) → In (MapSent m) n.sent → NamesStripes g m
 
-abbrev pub ServerOwed : Setting → NodeId → Net → ℕ → Do → Type 0
+abbrev pub ServerOwed : Setting → Asker → Net → ℕ → Do → Type 0
 ServerOwed g owner n v Begin = Unit {0}
 ServerOwed g owner n v (Deliver packet) = (packet.to ≡ Server v) × PacketSeen g owner n packet
 ServerOwed g owner n v Tick = Unit {0}
