@@ -2,7 +2,7 @@
 use Rattle.std.proofs.Common.{⊎_elim, ◌≡◌, ◌<◌, ◌≤◌, ℕ, zero, suc, ◌+◌, ◌*◌, ◌^◌, ◌%◌, ◌/◌, ◌&&◌, ◌||◌, not, Bool, true, false, cond, List, [], ◌∷◌, ◌++◌, length, take, drop, Option, Some, None, nat_lt, refl, sym, ap, subst, ◌∙◌, arith}
 use Rattle.std.specs.Prelude.{IfSome, All}
 use Rattle.std.specs.List.{AllByRecursion, flat_map}
-use Rattle.std.specs.Int.{byte_at, bytes_high_first}
+use Rattle.std.specs.Int.{Width, w16, w32, w64, byte_len, byte_at, bytes_high_first, to_be_bytes}
 use Rattle.std.proofs.lemmas.Bool.Decides.{nat_tests}
 use Rattle.std.proofs.lemmas.List.Elements.{All-nil, All-cons, All-append}
 use Rattle.indexmap.specs.IndexMap.{insert_entry}
@@ -60,17 +60,21 @@ both xs ys = All-append IsByte xs ys
 one : (x : ℕ) (xs : List ℕ) → x < 256 → IsBytes xs → IsBytes (x ∷ xs)
 one x xs = All-cons IsByte x xs
 
+number : (w : Width) (n : ℕ) → IsBytes (to_be_bytes w n)
+number w n = number_bytes (byte_len w) n
+
 block_bytes : (b : BlockId) → IsBytes (block_text b)
-block_bytes b = both _ _ (number_bytes 4 b.ino.0) (number_bytes 4 b.blk)
+block_bytes b = both (to_be_bytes w32 b.ino.0) (to_be_bytes w32 b.blk) (number w32 b.ino.0) (number w32 b.blk)
 
 pass_bytes : (p : Pass) → IsBytes (pass_text p)
-pass_bytes p = both _ _ (number_bytes 4 p.inc) (number_bytes 4 p.att)
+pass_bytes p = both (to_be_bytes w32 p.inc) (to_be_bytes w32 p.att) (number w32 p.inc) (number w32 p.att)
 
 name_bytes : (n : SegName) → IsLog n.log.0 → IsBytes (name_text n)
-name_bytes n is = one n.log.0 _ (let e = is.1 in omega arith) (both _ _ (number_bytes 4 n.seq) (pass_bytes n.pass))
+name_bytes n is =
+    one n.log.0 (to_be_bytes w32 n.seq ++ pass_text n.pass) (let e = is.1 in omega arith) (both (to_be_bytes w32 n.seq) (pass_text n.pass) (number w32 n.seq) (pass_bytes n.pass))
 
 prior_bytes : (p : Prior) → IsBytes (prior_text p)
-prior_bytes p = both _ _ (pass_bytes p.pass) (number_bytes 4 p.group)
+prior_bytes p = both (pass_text p.pass) (to_be_bytes w32 p.group) (pass_bytes p.pass) (number w32 p.group)
 
 -- the bytes of a Block are bytes; a log writes no Part
 abbrev ItemBytes : Item → Type 0
@@ -80,11 +84,17 @@ ItemBytes (Part slot rows) = ⊥
 
 value_bytes : (value : Option (List ℕ)) → IfSome value IsBytes → IsBytes (value_text value)
 value_bytes None h = All-nil IsByte
-value_bytes (Some bytes) h = both _ _ (number_bytes 2 (length bytes)) h
+value_bytes (Some bytes) h = both (to_be_bytes w16 (length bytes)) bytes (number w16 (length bytes)) h
+
+delta_bytes : (ver hop item : ℕ) → IsBytes (to_be_bytes w64 ver ++ (to_be_bytes w32 hop ++ to_be_bytes w16 item))
+delta_bytes ver hop item =
+    both (to_be_bytes w64 ver) (to_be_bytes w32 hop ++ to_be_bytes w16 item) (number w64 ver) (both (to_be_bytes w32 hop) (to_be_bytes w16 item) (number w32 hop) (number w16 item))
 
 item_bytes : (i : Item) → ItemBytes i → IsBytes (item_text i)
-item_bytes (Block block value) h = one 1 _ (omega arith) (both _ _ (block_bytes block) (value_bytes value h))
-item_bytes (Delta block ver hop item) h = one 2 _ (omega arith) (both _ _ (block_bytes block) (both _ _ (number_bytes 8 ver) (both _ _ (number_bytes 4 hop) (number_bytes 2 item))))
+item_bytes (Block block value) h = one 1 (block_text block ++ value_text value) (omega arith) (both (block_text block) (value_text value) (block_bytes block) (value_bytes value h))
+item_bytes (Delta block ver hop item) h =
+    one 2 (block_text block ++ (to_be_bytes w64 ver ++ (to_be_bytes w32 hop ++ to_be_bytes w16 item))) (omega arith)
+    (both (block_text block) (to_be_bytes w64 ver ++ (to_be_bytes w32 hop ++ to_be_bytes w16 item)) (block_bytes block) (delta_bytes ver hop item))
 item_bytes (Part slot rows) h = absurd h
 
 items_bytes : (is : List Item) → AllByRecursion ItemBytes is → IsBytes (flat_map item_text is)
@@ -94,11 +104,18 @@ items_bytes (i ∷ is) all = both (item_text i) (flat_map item_text is) (item_by
 version_small : (items : List Item) → version_of items < 256
 version_small items = by_test (λ (v : ℕ). v < 256) _ second_version first_version (λ t. omega arith) (λ t. omega arith)
 
+head_bytes : (s : Segment) → IsLog s.name.log.0 → IsBytes (head_text (head_of s))
+head_bytes s is =
+    let counted : List ℕ = to_be_bytes w32 s.group ++ to_be_bytes w16 (length s.items) in
+    one (version_of s.items) (name_text s.name ++ (prior_text s.prior ++ counted)) (version_small s.items)
+    (both (name_text s.name) (prior_text s.prior ++ counted) (name_bytes s.name is)
+    (both (prior_text s.prior) counted (prior_bytes s.prior) (both (to_be_bytes w32 s.group) (to_be_bytes w16 (length s.items)) (number w32 s.group) (number w16 (length s.items)))))
+
 text_bytes : (s : Segment) → IsLog s.name.log.0 → AllByRecursion ItemBytes s.items → IsBytes (text_of s)
 text_bytes s is all =
-    one 0x78 _ (omega arith) (one 0x46 _ (omega arith) (one 0x53 _ (omega arith) (both (head_text (head_of s)) (flat_map item_text s.items)
-    (one (version_of s.items) _ (version_small s.items)
-    (both _ _ (name_bytes s.name is) (both _ _ (prior_bytes s.prior) (both _ _ (number_bytes 4 s.group) (number_bytes 2 (length s.items)))))) (items_bytes s.items all))))
+    let rest : List ℕ = head_text (head_of s) ++ flat_map item_text s.items in
+    one 0x78 (0x46 ∷ 0x53 ∷ rest) (omega arith)
+    (one 0x46 (0x53 ∷ rest) (omega arith) (one 0x53 rest (omega arith) (both (head_text (head_of s)) (flat_map item_text s.items) (head_bytes s is) (items_bytes s.items all))))
 
 -- ---- items
 
@@ -115,7 +132,7 @@ ranges_of before [] few all = tt
 ranges_of before (c ∷ cs) few all =
     elim c.1.value as (λ v. AllByRecursion FitsItem (change_items before c.0 (record { entry = c.1.entry; value = v }) ++ items_of (before + length (change_items before c.0 (record { entry = c.1.entry; value = v }))) cs)) [
       | None ↦ ((all.0.row.0, all.0.row.1, all.0.row.2, omega arith), ranges_of (before + 1) cs (omega arith) all.1)
-      | Some bytes ↦ (all.0.row.0, (all.0.row.0, all.0.row.1, all.0.row.2, omega arith), ranges_of (before + 2) cs (omega arith) all.1)
+      | Some bytes ↦ (all.0.row.0, ((all.0.row.0, all.0.row.1, all.0.row.2, omega arith), ranges_of (before + 2) cs (omega arith) all.1))
     ]
 
 each_of : (before : ℕ) (cs : List (BlockId × Change)) → AllByRecursion ChangeFits cs → AllByRecursion (IsItem second_version) (items_of before cs)
@@ -123,7 +140,7 @@ each_of before [] all = tt
 each_of before (c ∷ cs) all =
     elim c.1.value as (λ v. IfSome v (λ bytes. IsItem second_version (Block c.0 (Some bytes))) → AllByRecursion (IsItem second_version) (change_items before c.0 (record { entry = c.1.entry; value = v }) ++ items_of (before + length (change_items before c.0 (record { entry = c.1.entry; value = v }))) cs)) [
       | None ↦ λ h. (tt, each_of (before + 1) cs all.1)
-      | Some bytes ↦ λ h. (h, tt, each_of (before + 2) cs all.1)
+      | Some bytes ↦ λ h. (h, (tt, each_of (before + 2) cs all.1))
     ] all.0.length
 
 bytes_of : (before : ℕ) (cs : List (BlockId × Change)) → AllByRecursion ChangeFits cs → AllByRecursion ItemBytes (items_of before cs)
@@ -131,7 +148,7 @@ bytes_of before [] all = tt
 bytes_of before (c ∷ cs) all =
     elim c.1.value as (λ v. IfSome v IsBytes → AllByRecursion ItemBytes (change_items before c.0 (record { entry = c.1.entry; value = v }) ++ items_of (before + length (change_items before c.0 (record { entry = c.1.entry; value = v }))) cs)) [
       | None ↦ λ h. (tt, bytes_of (before + 1) cs all.1)
-      | Some bytes ↦ λ h. (h, tt, bytes_of (before + 2) cs all.1)
+      | Some bytes ↦ λ h. (h, (tt, bytes_of (before + 2) cs all.1))
     ] all.0.bytes
 
 items_fit : (cs : List (BlockId × Change)) → length cs ≤ segment_blocks → AllByRecursion ChangeFits cs → ItemsFit (items_of 0 cs)

@@ -35,7 +35,7 @@ use Rattle.log_protocol.specs.Tables.{In}
 use Rattle.log_tie.specs.Setting.{Setting}
 use Rattle.log_law.specs.Net.{Net, Packet, opening}
 use Rattle.log_law.specs.Events.{CameToScan, Runs}
-use Rattle.node_log_tie.specs.Sight.{BodySeen, PacketSeen}
+use Rattle.node_log_tie.specs.Sight.{AllSeen, PacketSeen}
 use Rattle.node_log_tie.specs.Sight.Question.{Unasked}
 use Rattle.client_log_tie.specs.Owner.{Scene, asker, ClientAgrees}
 use Rattle.client_log_tie.specs.Texts.{MapFits, StaysWritten, ChainFits, RunsFit}
