@@ -1,29 +1,25 @@
 -- A log that starts behind an end that fits, over groups whose ids fit, stays written, as long as what it takes fits.
-use Rattle.std.proofs.Common.{⊎_elim, ◌≡◌, ◌<◌, ◌≤◌, ℕ, zero, suc, ◌+◌, ◌*◌, ◌^◌, ◌%◌, ◌/◌, ◌&&◌, ◌||◌, not, Bool, true, false, cond, List, [], ◌∷◌, ◌++◌, length, take, drop, Option, Some, None, nat_lt, refl, sym, ap, subst, ◌∙◌, arith}
-use Rattle.std.specs.Prelude.{IfSome, All}
+use Rattle.std.proofs.Common.{◌≡◌, ◌<◌, ◌≤◌, ℕ, zero, suc, ◌+◌, ◌*◌, ◌^◌, ◌&&◌, ◌||◌, not, Bool, true, false, cond, List, [], ◌∷◌, ◌++◌, length, take, drop, Option, Some, None, nat_lt, refl, sym, subst, arith}
+use Rattle.std.specs.Prelude.{IfSome}
 use Rattle.std.specs.List.{AllByRecursion, flat_map}
 use Rattle.std.specs.Int.{Width, w16, w32, w64, byte_len, byte_at, bytes_high_first, to_be_bytes}
 use Rattle.std.proofs.lemmas.Bool.Decides.{nat_tests}
 use Rattle.std.proofs.lemmas.List.Elements.{All-nil, All-cons, All-append}
 use Rattle.indexmap.specs.IndexMap.{insert_entry}
-use Rattle.xfs_base.proofs.Booleans.{by_test, and_second, contrary}
+use Rattle.xfs_base.proofs.Booleans.{by_test, contrary}
 use Rattle.xfs_base.specs.Blocks.{same_block}
 use Rattle.xfs_base.specs.declared.block.BlockId.{BlockId}
-use Rattle.xfs_base.specs.declared.entry.Entry.{Entry}
-use Rattle.xfs_base.specs.declared.entry.Place.{Place}
-use Rattle.xfs_base.specs.declared.segment.End.{End}
-use Rattle.xfs_base.specs.declared.segment.LogId.{LogId}
 use Rattle.xfs_base.specs.declared.segment.Pass.{Pass}
 use Rattle.xfs_base.specs.declared.segment.Prior.{Prior}
 use Rattle.xfs_base.specs.declared.segment.SegName.{SegName}
-use Rattle.xfs_base.specs.Limits.{segment_blocks, u32_end}
+use Rattle.xfs_base.specs.Limits.{segment_blocks}
 use Rattle.xfs_base.specs.Steps.{still}
 use Rattle.segment_format.specs.declared.segment.Item.{Item}
 use Rattle.segment_format.specs.declared.segment.Item.TheVariants.{Block, Delta, Part}
 use Rattle.segment_format.specs.declared.segment.Segment.{Segment}
 use Rattle.segment_format.specs.Format.{first_version, second_version, IsLog}
-use Rattle.segment_format.specs.Ranges.{FitsPass, FitsName, FitsPrior, FitsItem}
-use Rattle.segment_format.specs.Text.{block_text, pass_text, name_text, prior_text, value_text, place_text, row_text, item_text, is_long, version_of, head_of, head_text, text_of, IsItem}
+use Rattle.segment_format.specs.Ranges.{FitsName, FitsPrior, FitsItem}
+use Rattle.segment_format.specs.Text.{block_text, pass_text, name_text, prior_text, value_text, item_text, version_of, head_of, head_text, text_of, IsItem}
 use Rattle.group_map.specs.GroupMapState.{GroupMapState}
 use Rattle.stripe_code.specs.Stripe.{IsBytes}
 use Rattle.client_log.specs.declared.dirty.Change.{Change}
@@ -39,7 +35,7 @@ use Rattle.client_log.specs.Texts.{HasText, has_text}
 use Rattle.client_log.specs.Transition.{Done, all_sends, launched, next_name, prior_from, writes, has_next, is_idle, is_full, can_go_on, sealed, if_full, waits, on_put, on_seal, on_parts, next_attempt, restriped, landed, settled, can_follow, followed, looked_at, is_of, noting, on_acked, on_maps, on_tick, transition}
 use Rattle.client_log.proofs.ItemTexts.{written_have_text}
 use Rattle.log_law.specs.Events.{IsWritten}
-use Rattle.client_log_tie.specs.Texts.{PutFits, MapFits, InputFits, EndFits, StaysWritten, WhatFitsStaysWritten}
+use Rattle.client_log_tie.specs.Texts.{PutFits, MapFits, InputFits, EndFits, WhatFitsStaysWritten}
 
 -- ---- bytes
 

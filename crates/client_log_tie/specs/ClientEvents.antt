@@ -16,8 +16,6 @@ use Rattle.log_scan.specs.declared.input.In as scan_ins
 use Rattle.log_scan.specs.ScanState.{ScanState}
 use Rattle.log_scan.specs.Transition as scan
 use Rattle.node_base.specs.Beginning.{next_item, begun, waiting, work_at}
-use Rattle.node_base.specs.declared.effects.Effect.{Effect}
-use Rattle.node_base.specs.declared.effects.Effect.TheVariants.{Send, Answer, Lose, Does}
 use Rattle.node_base.specs.Shape.{is_log}
 use Rattle.version_model.specs.declared.act.Act.{Act}
 use Rattle.version_model.specs.declared.act.Act.TheVariants.{Filed}
@@ -133,8 +131,10 @@ ClientTakes =
     (g : Setting) (c : ℕ) → g.log ≡ record { 0 = c } → is_log c ≡ true → (w : Scene) (client : clients.Client) (what : Do) → ClientAgrees g c w client.phase
     → PhaseWritten client.phase → ClientOwed g c w client.phase what → ClientGoes g c w (client_step client what)
 
--- At the start it is seen in the opening of the small world, and asked nothing.
+-- At the start it is seen in the opening of the small world, and asked nothing; its log stays written where the ids of the setup's groups fit.
+pub record ClientBegins (g : Setting) (c : ℕ) (setup : Setup) (works : List Work) : Type 0 where
+  pub agrees : ClientAgrees g c (record { net = opening g (groups.started setup.servers setup.groups); asked = λ k. Unasked }) (first_client c setup works).phase
+  pub written : MapFits (groups.started setup.servers setup.groups) → PhaseWritten (first_client c setup works).phase
+
 abbrev pub ClientStarts : Type 0
-ClientStarts =
-    (g : Setting) (c : ℕ) → g.log ≡ record { 0 = c } → (setup : Setup) (works : List Work)
-    → ClientAgrees g c (record { net = opening g (groups.started setup.servers setup.groups); asked = λ k. Unasked }) (first_client c setup works).phase
+ClientStarts = (g : Setting) (c : ℕ) → g.log ≡ record { 0 = c } → is_log c ≡ true → (setup : Setup) (works : List Work) → ClientBegins g c setup works

@@ -5,9 +5,10 @@
 ghost use Rattle.client_log_tie.specs.ClientEvents.{ClientStarts, ClientTakes};
 ghost use Rattle.client_log_tie.specs.Texts.{WhatFitsStaysWritten};
 
-/// What an event makes of a client is a run of the small world of its log, if the packet that comes was sent there, and if what its log writes can be spelled.
+/// What an event makes of a client is a run of the small world of its log, if the packet that comes was sent there, if what the open call puts fits the format,
+/// and if an opening has questions left and the log can go on behind the chain that it reads.
 ///
-/// - `start`: a client at its start is seen in the opening of the small world.
+/// - `start`: a client at its start is seen in the opening of the small world; its log can be spelled where the ids of the setup's groups fit.
 /// - `events`: a client that is seen there before an event is seen after it in a world to which that one runs on, by its owner alone; all that the client sends
 ///   was sent there, and all that it tells to be filed is filed there.
 pub fn client_log_events_are_seen()

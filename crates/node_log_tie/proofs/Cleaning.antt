@@ -130,7 +130,7 @@ module _ (g : Setting) (n : Net) where
   looked_seen j seg asked checks left may =
       by_test TurnSeen (all_dead checks) (deleting j seg) _ (λ t. deleting_seen j seg left may)
       (λ t. by_test TurnSeen (asked && not (any_asked checks)) (record { state = Checking j seg checks; outs = out.Move (moves checks) ∷ [] }) (still (Checking j seg checks))
-        (λ k. record { phase = (left, may); outs = (tt, tt) }) (λ k. record { phase = (left, may); outs = tt }))
+      (λ k. record { phase = (left, may); outs = (tt, tt) }) (λ k. record { phase = (left, may); outs = tt }))
 
   moved_seen : (j : JobState) (seg : SegRef) (checks : List Check) → AllDrop g n j.left → DropOfLog g n seg.name → TurnSeen (on_moved j seg checks)
   moved_seen j seg checks left may =
@@ -141,7 +141,7 @@ module _ (g : Setting) (n : Net) where
   deleted_seen server name j seg servers left may =
       by_test TurnSeen (same_name name seg.name && is_among servers server) (left_to_delete j seg (without servers server)) (still (Deleting j seg servers))
       (λ t. by_test TurnSeen (length (without servers server) == 0) (next (counted j)) (still (Deleting j seg (without servers server))) (λ k. next_seen j.left (counted j) left)
-        (λ k. record { phase = (left, may); outs = tt }))
+      (λ k. record { phase = (left, may); outs = tt }))
       (λ t. record { phase = (left, may); outs = tt })
 
   -- ---- the choice
