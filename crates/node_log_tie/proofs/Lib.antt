@@ -13,3 +13,5 @@ mod Others
 mod Registries
 mod OwnLogs
 mod Cleaning
+mod Emptied
+mod CleanerJobs
