@@ -2,7 +2,7 @@
 use Rattle.std.proofs.Common.{◌≡◌, ℕ, ◌==◌, ◌<◌, Bool, true, false, List, [], ◌∷◌, ◌++◌, Option, Some, None, refl, sym, ap, subst, ◌∙◌, inl, inr, arith}
 use Rattle.std.specs.Prelude.{IfSome}
 use Rattle.std.specs.List.{AllByRecursion, flat_map}
-use Rattle.xfs_base.proofs.Booleans.{by_test}
+use Rattle.xfs_base.proofs.Booleans.{by_test, contrary}
 use Rattle.xfs_base.specs.declared.block.BlockId.{BlockId}
 use Rattle.xfs_base.specs.declared.entry.Entry.{Entry}
 use Rattle.xfs_base.specs.declared.entry.Place.{Place}
@@ -151,5 +151,161 @@ module _ (g : Setting) (owner : NodeId) (other : g.log ≡ cleaner_log → ⊥) 
 
   -- ---- a segment is dropped
 
-  dropped_net : (n : Net) (name : SegName) → Net
-  dropped_net n name = record n { sent = DeleteSent name ∷ n.sent; dropped = name ∷ n.dropped }
+  -- the small world drops a segment that may be dropped, where it is of the log
+  record LetGo (n : Net) (name : SegName) : Type 0 where
+    next : Net
+    drop : Dropping g owner n next
+    said : is_of_log g name ≡ true → In (DeleteSent name) next.sent
+    acted : is_of_log g name ≡ true → In name next.dropped
+
+  let_go : (n : Net) (name : SegName) → DropOfLog g n name → LetGo n name
+  let_go n name may = by (is_of_log g name) refl
+    where
+      by : (t : Bool) → is_of_log g name ≡ t → LetGo n name
+      by true own =
+          let m = may own in
+          record {
+            next = record n { sent = DeleteSent m.meta.name ∷ n.sent; dropped = m.meta.name ∷ n.dropped };
+            drop = record { runs = On Begun (Drops m.lists m.meta m.sent m.among (let e = ap (λ (s : SegName). s.seq) m.named in let b = m.below in omega arith)); dropped = λ x is. inr is; rest = refl };
+            said = λ its. inl (ap DeleteSent (sym m.named));
+            acted = λ its. inl (sym m.named);
+          }
+      by false foreign = record { next = n; drop = no_drop g owner n; said = λ its. contrary (sym foreign ∙ its); acted = λ its. contrary (sym foreign ∙ its) }
+
+  drop_acted : (n : Net) (is_first : Bool) (name : SegName) → (is_of_log g name ≡ true → In name n.dropped) → Does_all n (drops is_first name)
+  drop_acted n true name acted = (acted, tt)
+  drop_acted n false name acted = tt
+
+  segment_deleted : (n : Net) (e : Emptying) (job : Option Job) (server : ℕ) (name : SegName) → EmptyingSeen g n e → IfSome job (JobSeen g n) → DropOfLog g n name → Goes n (deletes e job server name)
+  segment_deleted n e None server name seen its may = stays g owner n e seen
+  segment_deleted n e (Some job) server name seen its may =
+      let l : LetGo n name = let_go n name may in
+      record {
+        next = l.next;
+        drop = l.drop;
+        seen = emptying_later g n l.next (run_later g n l.next l.drop.runs) (record e { job = Some (record job { hand = _ }) }) (record { log = seen.log; job = its });
+        does = all_append (CleanerDoes g owner l.next) (drops (is_whole job.hand) name) _ (drop_acted l.next (is_whole job.hand) name l.acted) (l.said, tt);
+      }
+
+  job_over : (n : Net) (e : Emptying) (count : ℕ) → EmptyingSeen g n e → Goes n (finishes e count)
+  job_over n e count seen =
+      at_once g owner n _ _ (record { log = seen.log; job = tt }) (answers_send (CleanerDoes g owner n) (λ item answer. tt) e.lasting.items.unanswered (Count count))
+
+  job_says : (n : Net) (e : Emptying) (o : Out) → EmptyingSeen g n e → OutDrops g n o → Goes n (says e o)
+  unfolding says
+  job_says n e out.Hello seen may = maps_asked n e e.job seen seen.job
+  job_says n e (out.List server) seen may = list_asked n e e.job server seen seen.job
+  job_says n e (out.UsageAsk slot) seen may = usage_asked n e e.job slot seen seen.job
+  job_says n e (out.Fetch seg) seen may = read_begun n e seg seen
+  job_says n e (out.Check block place) seen may = check_asked n e block place seen
+  job_says n e (out.Move blocks) seen may = blocks_moved n e blocks seen
+  job_says n e (out.Delete server name) seen may = segment_deleted n e e.job server name seen seen.job may
+  job_says n e (out.Finished count) seen may = job_over n e count seen
+
+  -- ---- the job takes an input
+
+  record Took (n : Net) (e : Emptying) (outs : List Out) : Type 0 where
+    seen : EmptyingSeen g n e
+    said : AllByRecursion (OutDrops g n) outs
+
+  took : (n : Net) (e : Emptying) (job : Option Job) (given : Input) → EmptyingSeen g n e → IfSome job (JobSeen g n) → CleaningSent g n given
+      → Took n (takes_in e job given).state (takes_in e job given).outs
+  took n e None given seen its sent = record { seen = seen; said = tt }
+  took n e (Some job) given seen its sent =
+      let on : CleanOn g n (transition job.cleaning given) = cleaning_takes g n job.cleaning given its sent in
+      record { seen = record { log = seen.log; job = on.phase }; said = on.outs }
+
+  pub job_goes_on : (n : Net) (e : Emptying) (given : Input) → EmptyingSeen g n e → CleaningSent g n given → Goes n (cleans e given)
+  unfolding cleans job_takes
+  job_goes_on n e given seen sent =
+      let t : Took n (takes_in e e.job given).state (takes_in e e.job given).outs = took n e e.job given seen seen.job sent in
+      all_steps g owner says (OutDrops g) (λ m k later o h. out_later g m k later o h) job_says n (takes_in e e.job given).state (takes_in e e.job given).outs t.seen t.said
+
+  -- ---- what comes for it
+
+  pub list_came : (n : Net) (e : Emptying) (server : Option ℕ) (m : Listed) → EmptyingSeen g n e → ListedSeen g owner n m → Goes n (on_listed e server m)
+  unfolding on_listed
+  list_came n e None m seen sent = stays g owner n e seen
+  list_came n e (Some server) m seen sent =
+      by_test (Goes n) (is_out (lists_of e.job) m.ask) (cleans e (input.Listed server m.held)) (still e)
+      (λ t. job_goes_on n e (input.Listed server m.held) seen (all_listed g n m.held sent)) (λ t. stays g owner n e seen)
+
+  pub usage_came : (n : Net) (e : Emptying) (m : Usage) → EmptyingSeen g n e → Goes n (on_usage e m)
+  unfolding on_usage
+  usage_came n e m seen =
+      by_test (Goes n) (is_out (usages_of e.job) m.ask) (cleans e (input.Usage m.slot m.epoch m.counts)) (still e) (λ t. job_goes_on n e (input.Usage m.slot m.epoch m.counts) seen tt)
+      (λ t. stays g owner n e seen)
+
+  pub live_came : (n : Net) (e : Emptying) (m : Live) → EmptyingSeen g n e → Goes n (on_live e m)
+  unfolding on_live
+  live_came n e m seen =
+      by_test (Goes n) (is_out (check_of (hand_of e.job) m.block) m.ask) (cleans e (input.Live m.block m.epoch m.entry)) (still e)
+      (λ t. job_goes_on n e (input.Live m.block m.epoch m.entry) seen tt) (λ t. stays g owner n e seen)
+
+  pub dead_came : (n : Net) (e : Emptying) (m : Dead) → EmptyingSeen g n e → Goes n (on_dead e m)
+  unfolding on_dead
+  dead_came n e m seen =
+      by_test (Goes n) (is_out (check_of (hand_of e.job) m.block) m.ask) (cleans e (input.Dead m.block m.epoch)) (still e)
+      (λ t. job_goes_on n e (input.Dead m.block m.epoch) seen tt) (λ t. stays g owner n e seen)
+
+  pub deleted_came : (n : Net) (e : Emptying) (server : Option ℕ) (m : Deleted) → EmptyingSeen g n e → Goes n (on_deleted e server m)
+  unfolding on_deleted
+  deleted_came n e None m seen = stays g owner n e seen
+  deleted_came n e (Some server) m seen = job_goes_on n e (input.Deleted server m.name) seen tt
+
+  -- ---- the reading of the segment in hand
+
+  read_kept : (n : Net) (job : Option Job) → IfSome job (JobSeen g n) → IfSome (job_read job) (JobSeen g n)
+  read_kept n None its = tt
+  read_kept n (Some job) its = its
+
+  reading_ended : (n : Net) (e : Emptying) (read : Option Segment) → EmptyingSeen g n e → Goes n (ends_reading e read)
+  unfolding ends_reading
+  reading_ended n e read seen = job_goes_on n (record e { job = job_read e.job }) (input.Read read) (record { log = seen.log; job = read_kept n e.job seen.job }) tt
+
+  confirms_hand : (n : Net) (job : Job) (hand : Option Hand) (ask : ℕ) → JobSeen g n job → JobSeen g n (hand_confirmed_in job hand ask).state
+  confirms_hand n job None ask its = its
+  confirms_hand n job (Some hand) ask its = its
+
+  confirms : (n : Net) (e : Emptying) (job : Option Job) (ask : ℕ) → EmptyingSeen g n e → IfSome job (JobSeen g n) → EmptyingSeen g n (confirmed_in e job ask).state
+  unfolding job_confirmed
+  confirms n e None ask seen its = seen
+  confirms n e (Some job) ask seen its = record { log = seen.log; job = confirms_hand n job job.hand ask its }
+
+  confirmed_so : (n : Net) (e : Emptying) (x : Next) → EmptyingSeen g n e → Goes n (after_confirmed e x)
+  confirmed_so n e next.Ask seen = at_once g owner n e _ seen (fetched n (hand_of e.job))
+  confirmed_so n e next.Lost seen = reading_ended n e None seen
+  confirmed_so n e next.Wait seen = stays g owner n e seen
+  confirmed_so n e next.Again seen = stays g owner n e seen
+  confirmed_so n e (next.Read segment) seen = stays g owner n e seen
+
+  read_again : (n : Net) (e : Emptying) → EmptyingSeen g n e → Goes n (reads_again e)
+  unfolding reads_again confirmed
+  read_again n e seen =
+      let h : Heard Emptying = confirmed (with_questions e (drawn e.lasting.questions)) (next_ask e.lasting.questions) in
+      confirmed_so n h.state h.next
+      (confirms n (with_questions e (drawn e.lasting.questions)) e.job (next_ask e.lasting.questions) (record { log = seen.log; job = seen.job }) seen.job)
+
+  told_so : (n : Net) (e : Emptying) (x : Next) → EmptyingSeen g n e → Goes n (after_told e x)
+  told_so n e next.Wait seen = stays g owner n e seen
+  told_so n e next.Ask seen = stays g owner n e seen
+  told_so n e next.Again seen = read_again n e seen
+  told_so n e (next.Read segment) seen = reading_ended n e (Some segment) seen
+  told_so n e next.Lost seen = reading_ended n e None seen
+
+  hears_hand : (n : Net) (job : Job) (hand : Option Hand) (groups : GroupMapState) (ask server : ℕ) (t : Told) → JobSeen g n job → JobSeen g n (hand_hears_in job hand groups ask server t).state
+  hears_hand n job None groups ask server t its = its
+  hears_hand n job (Some hand) groups ask server t its = its
+
+  hears_told : (n : Net) (e : Emptying) (job : Option Job) (groups : Option GroupMapState) (ask server : ℕ) (t : Told) → EmptyingSeen g n e → IfSome job (JobSeen g n)
+      → EmptyingSeen g n (told_in e job groups ask server t).state
+  unfolding job_hears
+  hears_told n e None groups ask server t seen its = seen
+  hears_told n e (Some job) None ask server t seen its = seen
+  hears_told n e (Some job) (Some groups) ask server t seen its = record { log = seen.log; job = hears_hand n job job.hand groups ask server t its }
+
+  pub told_came : (n : Net) (e : Emptying) (server : Option ℕ) (ask : ℕ) (t : Told) → EmptyingSeen g n e → Goes n (on_told e server ask t)
+  unfolding on_told told_by
+  told_came n e None ask t seen = stays g owner n e seen
+  told_came n e (Some server) ask t seen =
+      told_so n (told_by e ask server t).state (told_by e ask server t).next (hears_told n e e.job e.maps.groups ask server t seen seen.job)

@@ -15,3 +15,4 @@ mod OwnLogs
 mod Cleaning
 mod Emptied
 mod CleanerJobs
+mod CleanerServing
