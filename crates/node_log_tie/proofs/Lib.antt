@@ -16,3 +16,4 @@ mod Cleaning
 mod Emptied
 mod CleanerJobs
 mod CleanerServing
+mod CleanerOpening
