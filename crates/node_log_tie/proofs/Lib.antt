@@ -17,3 +17,4 @@ mod Emptied
 mod CleanerJobs
 mod CleanerServing
 mod CleanerOpening
+mod Cleaners
