@@ -1,5 +1,5 @@
 -- What a cleaner that serves does for its job, in the small world of a client's log.
-use Rattle.std.proofs.Common.{◌≡◌, ℕ, ◌==◌, ◌<◌, Bool, true, false, List, [], ◌∷◌, ◌++◌, Option, Some, None, refl, sym, ap, subst, ◌∙◌, inl, inr, arith}
+use Rattle.std.proofs.Common.{◌≡◌, ℕ, Bool, true, false, List, [], ◌∷◌, Option, Some, None, refl, sym, ap, ◌∙◌, inl, inr, arith}
 use Rattle.std.specs.Prelude.{IfSome}
 use Rattle.std.specs.List.{AllByRecursion, flat_map}
 use Rattle.xfs_base.proofs.Booleans.{by_test, contrary}
@@ -7,10 +7,10 @@ use Rattle.xfs_base.specs.declared.block.BlockId.{BlockId}
 use Rattle.xfs_base.specs.declared.entry.Entry.{Entry}
 use Rattle.xfs_base.specs.declared.entry.Place.{Place}
 use Rattle.xfs_base.specs.declared.node.NodeId.{NodeId}
-use Rattle.xfs_base.specs.declared.node.NodeId.TheVariants.{Server, Cleaner, Registry}
+use Rattle.xfs_base.specs.declared.node.NodeId.TheVariants.{Cleaner}
 use Rattle.xfs_base.specs.declared.segment.SegName.{SegName}
 use Rattle.xfs_base.specs.declared.segment.SegRef.{SegRef}
-use Rattle.xfs_base.specs.Steps.{still, after, steps}
+use Rattle.xfs_base.specs.Steps.{still, steps}
 use Rattle.segment_format.specs.declared.segment.Segment.{Segment}
 use Rattle.group_map.specs.GroupMapState.{GroupMapState}
 use Rattle.client_log.specs.declared.input.In.{In as LogIn}
@@ -19,10 +19,9 @@ use Rattle.client_log.specs.declared.output.Out.{Out as LogOut}
 use Rattle.client_log.specs.declared.output.Out.TheVariants as log_out
 use Rattle.client_log.specs.Transition as log
 use Rattle.log_owner.specs.Opening.{stored}
-use Rattle.log_owner.specs.Sending.{fetch, server_in}
+use Rattle.log_owner.specs.Sending.{fetch}
 use Rattle.node_base.specs.Asking.{drawn, next_ask}
 use Rattle.node_base.specs.declared.effects.Effect.{Effect}
-use Rattle.node_base.specs.declared.effects.Effect.TheVariants.{Send, Does}
 use Rattle.stripe_cleaner.specs.declared.input.In.{In as Input}
 use Rattle.stripe_cleaner.specs.declared.input.In.TheVariants as input
 use Rattle.stripe_cleaner.specs.declared.output.Out.{Out}
@@ -33,7 +32,6 @@ use Rattle.stripe_code.specs.declared.reading.Next.TheVariants as next
 use Rattle.stripe_code.specs.declared.round.Told.{Told}
 use Rattle.stripe_code.specs.Reading.{ReadingState, to_ask}
 use Rattle.version_model.specs.declared.answer.Answer.TheVariants.{Count}
-use Rattle.wire_msg.specs.declared.body.Body.TheVariants as body
 use Rattle.wire_msg.specs.declared.cleaning.Dead.{Dead}
 use Rattle.wire_msg.specs.declared.cleaning.Live.{Live}
 use Rattle.wire_msg.specs.declared.cleaning.Usage.{Usage}
@@ -43,8 +41,8 @@ use Rattle.store_nodes.specs.declared.emptying.Emptying.{Emptying}
 use Rattle.store_nodes.specs.declared.hand.Hand.{Hand}
 use Rattle.store_nodes.specs.declared.job.Job.{Job}
 use Rattle.store_nodes.specs.EmptyingEvents.{cleaner_log}
-use Rattle.store_nodes.specs.Hands.{Heard, Taken, takes_in_hand, fetches_for, fetches, hand_hears, hand_confirmed}
-use Rattle.store_nodes.specs.Jobs.{Done, with_questions, asks_maps, asks_list, asks_usage, JobChecking, job_checks, hand_checks_in, checked_in, checks_block, check_sent, asks_check, hand_of, holds_in, holds, reads, puts, puts_block, moves, is_whole, drops, deletes, finishes, says, takes_in, job_takes, cleans, lists_of, usages_of, check_of, is_out, on_listed, on_usage, on_live, on_dead, on_deleted, job_read, ends_reading, hand_hears_in, job_hears, hand_confirmed_in, job_confirmed, told_in, told_by, confirmed_in, confirmed, after_confirmed, reads_again, after_told, on_told}
+use Rattle.store_nodes.specs.Hands.{Heard, fetches_for, fetches}
+use Rattle.store_nodes.specs.Jobs.{Done, with_questions, asks_maps, asks_list, asks_usage, job_checks, hand_checks_in, checked_in, checks_block, check_sent, asks_check, hand_of, holds_in, holds, reads, puts, puts_block, moves, is_whole, drops, deletes, finishes, says, takes_in, job_takes, cleans, lists_of, usages_of, check_of, is_out, on_listed, on_usage, on_live, on_dead, on_deleted, job_read, ends_reading, hand_hears_in, job_hears, hand_confirmed_in, job_confirmed, told_in, told_by, confirmed_in, confirmed, after_confirmed, reads_again, after_told, on_told}
 use Rattle.log_protocol.specs.Tables.{In}
 use Rattle.log_tie.specs.Setting.{Setting}
 use Rattle.log_tie.specs.Shelves.{is_of_log}
@@ -55,9 +53,9 @@ use Rattle.log_law.specs.Events.Runs.{Begun, On}
 use Rattle.node_log_tie.specs.Sight.{ListedSeen}
 use Rattle.node_log_tie.specs.CleanerEvents.{DropOfLog, JobSeen, EmptyingSeen}
 use Rattle.node_log_tie.proofs.Cleaning.{OutDrops, CleaningSent, CleanOn, cleaning_takes}
-use Rattle.node_log_tie.proofs.Emptied.{out_later, emptying_later, not_ours, CleanerDoes, Dropping, no_drop, Emptied, at_once, stays, and_then, after_these, all_steps}
+use Rattle.node_log_tie.proofs.Emptied.{out_later, emptying_later, not_ours, CleanerDoes, Dropping, no_drop, Emptied, at_once, stays, and_then, all_steps}
 use Rattle.node_log_tie.proofs.Going.{run_later}
-use Rattle.node_log_tie.proofs.Lists.{all_append, all_map, all_flat_map, answers_send}
+use Rattle.node_log_tie.proofs.Lists.{all_append, all_map, answers_send}
 use Rattle.node_log_tie.proofs.OwnLogs.{SendsOwn, OwnDone, own_log}
 use Rattle.node_log_tie.proofs.RebuildEvents.{all_listed}
 

@@ -1,11 +1,11 @@
 -- A cleaner that opens its own log has no part in a client's log.
-use Rattle.std.proofs.Common.{◌≡◌, ℕ, ◌==◌, ◌&&◌, Bool, true, false, List, [], ◌∷◌, ◌++◌, Option, Some, None, refl, sym, ap, ◌∙◌}
+use Rattle.std.proofs.Common.{◌≡◌, ℕ, ◌&&◌, List, [], ◌∷◌, Option, Some, None, sym, ◌∙◌}
 use Rattle.std.specs.List.{AllByRecursion}
 use Rattle.xfs_base.proofs.Booleans.{by_test}
 use Rattle.xfs_base.specs.declared.node.NodeId.{NodeId}
-use Rattle.xfs_base.specs.declared.node.NodeId.TheVariants.{Server, Cleaner, Registry}
+use Rattle.xfs_base.specs.declared.node.NodeId.TheVariants.{Cleaner}
 use Rattle.xfs_base.specs.declared.segment.End.{End}
-use Rattle.xfs_base.specs.Steps.{Stepped, after, steps, still}
+use Rattle.xfs_base.specs.Steps.{steps, still}
 use Rattle.segment_format.specs.declared.segment.Segment.{Segment}
 use Rattle.group_map.specs.GroupMapState.{GroupMapState}
 use Rattle.client_log.specs.declared.input.In.{In as LogIn}
@@ -22,15 +22,14 @@ use Rattle.log_owner.specs.declared.opening.Scanning.{Scanning}
 use Rattle.log_owner.specs.declared.opening.Settling.{Settling}
 use Rattle.log_owner.specs.declared.opening.Stage.{Stage}
 use Rattle.log_owner.specs.declared.opening.Stage.TheVariants as stage
-use Rattle.log_owner.specs.Opened.{filed, files}
-use Rattle.log_owner.specs.Opening.{Went, Moved, stays, drops, asking, at_scan, at_log, said, scanned, stored, wrote_one, written, opens, logged, writes, behind, starts_log, settles_over, settles, follows, told, stepped, scans_on, scans_at, scans, on_start, welcomed_with, welcomed, welcomed_as, is_meant, welcomed_in, on_welcome, regrouped, on_news, is_fenced, fenced_by, by_server, on_fenced, own_in, answers, found_by, missing_by, on_found, on_missing, on_stored, on_tick, on_body, on_packet}
+use Rattle.log_owner.specs.Opened.{filed}
+use Rattle.log_owner.specs.Opening.{Went, Moved, stays, drops, asking, at_scan, at_log, said, scanned, wrote_one, written, opens, writes, behind, starts_log, settles_over, follows, scans_on, scans_at, scans, on_start, welcomed_with, welcomed, welcomed_as, is_meant, welcomed_in, on_welcome, regrouped, on_news, is_fenced, fenced_by, by_server, on_fenced, own_in, answers, found_by, missing_by, on_found, on_missing, on_stored, on_tick, on_body, on_packet}
 use Rattle.log_owner.specs.Promised.{promised_in}
 use Rattle.log_owner.specs.Sending.{server_in}
 use Rattle.log_scan.specs.declared.input.In.{In}
 use Rattle.log_scan.specs.declared.input.In.TheVariants as input
 use Rattle.log_scan.specs.declared.output.Out.{Out}
 use Rattle.log_scan.specs.declared.output.Out.TheVariants as out
-use Rattle.log_scan.specs.ScanState.{ScanState}
 use Rattle.log_scan.specs.Transition as scan
 use Rattle.node_base.specs.Asking.{asked_as, drawn_for, own_of}
 use Rattle.node_base.specs.declared.effects.Effect.{Effect}

@@ -1,5 +1,5 @@
 -- What a cleaner that serves does at each packet and each tick, in the small world of a client's log.
-use Rattle.std.proofs.Common.{◌≡◌, ℕ, ◌==◌, ◌&&◌, ◌<◌, ◌≤◌, Bool, true, false, List, [], ◌∷◌, ◌++◌, Option, Some, None, refl, sym, arith}
+use Rattle.std.proofs.Common.{◌≡◌, ℕ, ◌==◌, ◌&&◌, ◌≤◌, Bool, true, false, List, [], ◌∷◌, Option, Some, None, sym, arith}
 use Rattle.std.specs.Prelude.{IfSome, nat_lt}
 use Rattle.std.specs.List.{AllByRecursion, range_with_len}
 use Rattle.std.specs.Option.{is_some}
@@ -10,7 +10,7 @@ use Rattle.xfs_base.specs.declared.news.SlotNews.{SlotNews}
 use Rattle.xfs_base.specs.declared.node.NodeId.{NodeId}
 use Rattle.xfs_base.specs.declared.node.NodeId.TheVariants as node
 use Rattle.xfs_base.specs.declared.segment.End.{End}
-use Rattle.xfs_base.specs.Steps.{still, after, steps}
+use Rattle.xfs_base.specs.Steps.{still, after}
 use Rattle.group_map.specs.GroupMapState.{GroupMapState}
 use Rattle.client_log.specs.declared.input.In.{In as LogIn}
 use Rattle.client_log.specs.declared.input.In.TheVariants as log_in
@@ -24,8 +24,6 @@ use Rattle.delta_feed.specs.Transition.{ticked}
 use Rattle.log_owner.specs.declared.promised.Managers.{Managers}
 use Rattle.log_owner.specs.Promised.{epoch_of}
 use Rattle.log_owner.specs.Sending.{pushes_all, range, server_in}
-use Rattle.node_base.specs.Asking.{drawn, next_ask}
-use Rattle.node_base.specs.declared.effects.Effect.{Effect}
 use Rattle.node_base.specs.Known.{names_known}
 use Rattle.node_base.specs.Maps.{fits, is_older, taken}
 use Rattle.stripe_cleaner.specs.declared.input.In.TheVariants as input
@@ -39,12 +37,12 @@ use Rattle.wire_msg.specs.declared.registry.News.{News}
 use Rattle.wire_msg.specs.declared.registry.Welcome.{Welcome}
 use Rattle.store_nodes.specs.declared.emptying.Emptying.{Emptying}
 use Rattle.store_nodes.specs.declared.job.Job.{Job}
-use Rattle.store_nodes.specs.EmptyingEvents.{cleaner_log, promises_slot, promises_all, with_new_job, begins_job, on_clean, job_moved, fed, settles, writes_one, writes, on_ack, renews, promises, reports, polled, on_poll, hears_slot, hears_slots, job_regrouped, log_regrouped, takes_news, on_news, hello_of, greeted, welcomes_over, welcomes, on_welcome, on_body, asks_for_maps, on_packet, on_tick}
+use Rattle.store_nodes.specs.EmptyingEvents.{cleaner_log, promises_slot, promises_all, with_new_job, begins_job, on_clean, job_moved, fed, settles, writes_one, writes, on_ack, renews, promises, reports, on_poll, hears_slot, hears_slots, job_regrouped, log_regrouped, takes_news, on_news, hello_of, greeted, welcomes_over, welcomes, on_welcome, on_body, asks_for_maps, on_packet, on_tick}
 use Rattle.store_nodes.specs.Jobs.{Done, cleans, is_out}
 use Rattle.log_scan.specs.Transition.{least_horizon}
 use Rattle.log_tie.specs.Setting.{Setting}
 use Rattle.log_law.specs.Net.{Net}
-use Rattle.node_log_tie.specs.Sight.{BodySeen, WelcomeSeen, Later}
+use Rattle.node_log_tie.specs.Sight.{BodySeen}
 use Rattle.node_log_tie.specs.CleanerEvents.{JobSeen, EmptyingSeen}
 use Rattle.node_log_tie.proofs.CleanerJobs.{job_goes_on, list_came, usage_came, live_came, dead_came, deleted_came, told_came}
 use Rattle.node_log_tie.proofs.Emptied.{not_ours, CleanerDoes, Emptied, at_once, stays, and_then, after_these, all_steps}
@@ -236,4 +234,4 @@ module _ (g : Setting) (owner : NodeId) (other : g.log ≡ cleaner_log → ⊥) 
       let wl : Goes wj.next l = log_takes wj.next j.state log_in.Tick wj.seen in
       and_then g owner n j (after l.outs (record { state = l.state; outs = pushes_all l.state.promised.managers l.state.feed })) wj
       (and_then g owner wj.next l (record { state = l.state; outs = pushes_all l.state.promised.managers l.state.feed }) wl
-        (at_once g owner wl.next l.state (pushes_all l.state.promised.managers l.state.feed) wl.seen (deltas_pushed wl.next l.state.promised.managers l.state.feed)))
+      (at_once g owner wl.next l.state (pushes_all l.state.promised.managers l.state.feed) wl.seen (deltas_pushed wl.next l.state.promised.managers l.state.feed)))

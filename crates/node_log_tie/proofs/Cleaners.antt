@@ -1,19 +1,18 @@
 -- What an event makes of the cleaner, in the small world of a client's log.
-use Rattle.std.proofs.Common.{◌≡◌, ℕ, ◌&&◌, Bool, true, false, List, [], ◌∷◌, ◌++◌, Option, Some, None, refl, sym, subst}
+use Rattle.std.proofs.Common.{◌≡◌, ℕ, List, [], Option, Some, None, refl, subst}
 use Rattle.std.specs.List.{AllByRecursion}
 use Rattle.xfs_base.proofs.Booleans.{by_test}
 use Rattle.xfs_base.specs.declared.node.NodeId.{NodeId}
 use Rattle.xfs_base.specs.declared.node.NodeId.TheVariants.{Cleaner as TheCleaner}
 use Rattle.xfs_base.specs.declared.setup.Setup.{Setup}
-use Rattle.xfs_base.specs.Steps.{still, after}
-use Rattle.log_owner.specs.declared.opened.Opened.{Opened}
+use Rattle.xfs_base.specs.Steps.{still}
 use Rattle.log_owner.specs.declared.opened.Progress.{Progress}
 use Rattle.log_owner.specs.declared.opened.Progress.TheVariants as progress
 use Rattle.log_owner.specs.declared.opening.Opening as openings
 use Rattle.log_owner.specs.Opening as opening
 use Rattle.log_owner.specs.Opening.{Went}
 use Rattle.log_owner.specs.Sending.{pushes_all}
-use Rattle.node_base.specs.Beginning.{next_item, begun, work_at, waiting, answered, answers_unanswered}
+use Rattle.node_base.specs.Beginning.{next_item, answers_unanswered}
 use Rattle.node_base.specs.declared.effects.Effect.{Effect}
 use Rattle.node_base.specs.Shape.{is_well_formed}
 use Rattle.version_model.specs.declared.answer.Answer.{Answer}
@@ -22,7 +21,7 @@ use Rattle.version_model.specs.declared.work.Work.{Work}
 use Rattle.wire_msg.specs.declared.packet.Do.{Do}
 use Rattle.wire_msg.specs.declared.packet.Do.TheVariants.{Begin, Deliver, Tick}
 use Rattle.wire_msg.specs.declared.packet.Packet.{Packet}
-use Rattle.store_nodes.specs.CleanerEvents.{Went_to, serves_on, cleaner_start, cleaner_step, crashes, next_life, owner_of, says_back, after_opening, back, opened_on, restarts_in, restarts, answers, down_wishes, opening_wishes, serving_wishes, begun_life, wish_at, down_at, opening_at, serving_at, down_begins, opening_begins, serving_begins, on_begin, hears, on_deliver, on_time, happens, phase_room, takes}
+use Rattle.store_nodes.specs.CleanerEvents.{Went_to, serves_on, cleaner_start, crashes, next_life, owner_of, after_opening, opened_on, restarts, down_wishes, opening_wishes, serving_wishes, begun_life, wish_at, down_at, opening_at, serving_at, on_begin, hears, on_deliver, on_time, happens, phase_room, takes}
 use Rattle.store_nodes.specs.declared.cleaner.Cleaner as cleaners
 use Rattle.store_nodes.specs.declared.cleaner.Phase.{Phase}
 use Rattle.store_nodes.specs.declared.cleaner.Phase.TheVariants.{Down, Opening, Serving}
@@ -30,7 +29,7 @@ use Rattle.store_nodes.specs.declared.cleaner.Wish.{Wish}
 use Rattle.store_nodes.specs.declared.cleaner.Wish.TheVariants.{Crash, Restart, Clean}
 use Rattle.store_nodes.specs.declared.emptying.Emptying.{Emptying}
 use Rattle.store_nodes.specs.declared.lasting.Lasting.{Lasting}
-use Rattle.store_nodes.specs.EmptyingEvents.{cleaner_log, served, on_clean, on_packet, on_tick}
+use Rattle.store_nodes.specs.EmptyingEvents.{cleaner_log, on_clean, on_packet, on_tick}
 use Rattle.store_nodes.specs.Jobs.{Done}
 use Rattle.log_tie.specs.Setting.{Setting}
 use Rattle.log_law.specs.Net.{Net}
@@ -73,7 +72,7 @@ module _ (g : Setting) (owner : NodeId) (other : g.log ≡ cleaner_log → ⊥) 
   progressed l (progress.Opened o) seen =
       at_once (Serving _) _ (record { log = seen; job = tt })
       (all_append (CleanerDoes g owner n) (pushes_all o.promised.managers o.feed) (answers_unanswered l.items.unanswered answer.Done)
-        (deltas_pushed g owner other away n o.promised.managers o.feed) (answers_do l.items.unanswered answer.Done))
+      (deltas_pushed g owner other away n o.promised.managers o.feed) (answers_do l.items.unanswered answer.Done))
   progressed l (progress.Lost seg) seen = at_once (Down _) _ tt (answers_do l.items.unanswered (answer.Lost seg))
 
   opened : (l : Lasting) (w : Went) → WentOn g owner other away n w → Goes (opened_on l w)

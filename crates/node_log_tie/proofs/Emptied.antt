@@ -1,13 +1,13 @@
 -- How a cleaner that serves goes on in the small world of a client's log: by drops alone, one thing after the other.
-use Rattle.std.proofs.Common.{◌≡◌, ℕ, ◌==◌, ◌<◌, ◌≤◌, Bool, true, false, List, [], ◌∷◌, ◌++◌, Option, Some, None, refl, sym, ap, subst, ◌∙◌, inl, inr, arith}
-use Rattle.std.specs.Prelude.{All, IfSome}
-use Rattle.std.specs.List.{AllByRecursion, flat_map}
+use Rattle.std.proofs.Common.{◌≡◌, ℕ, true, List, [], ◌∷◌, refl, sym, ◌∙◌, arith}
+use Rattle.std.specs.Prelude.{All}
+use Rattle.std.specs.List.{AllByRecursion}
 use Rattle.std.proofs.lemmas.List.Elements.{All-nil, All-cons, All-append}
 use Rattle.xfs_base.specs.declared.node.NodeId.{NodeId}
-use Rattle.xfs_base.specs.declared.node.NodeId.TheVariants.{Server, Cleaner, Registry}
+use Rattle.xfs_base.specs.declared.node.NodeId.TheVariants.{Cleaner}
 use Rattle.xfs_base.specs.declared.segment.SegName.{SegName}
 use Rattle.xfs_base.specs.declared.segment.SegRef.{SegRef}
-use Rattle.xfs_base.specs.Steps.{Stepped, still, after, steps}
+use Rattle.xfs_base.specs.Steps.{still, after, steps}
 use Rattle.node_base.specs.declared.effects.Effect.{Effect}
 use Rattle.node_base.specs.declared.effects.Effect.TheVariants.{Send, Answer, Lose, Does}
 use Rattle.node_base.specs.Effects.{act_of, acts_of}
@@ -17,7 +17,6 @@ use Rattle.stripe_cleaner.specs.declared.phase.Phase.{Phase}
 use Rattle.stripe_cleaner.specs.declared.phase.Phase.TheVariants.{Greeting, Listing, Counting, Reading, Checking, Deleting, Over}
 use Rattle.version_model.specs.declared.act.Act.{Act}
 use Rattle.version_model.specs.declared.act.Act.TheVariants as act
-use Rattle.wire_msg.specs.declared.body.Body.{Body}
 use Rattle.store_nodes.specs.declared.emptying.Emptying.{Emptying}
 use Rattle.store_nodes.specs.declared.job.Job.{Job}
 use Rattle.store_nodes.specs.EmptyingEvents.{cleaner_log}
@@ -30,7 +29,7 @@ use Rattle.log_law.specs.Net.{Net}
 use Rattle.log_law.specs.Events.{Runs}
 use Rattle.log_law.specs.Events.Runs.{Begun}
 use Rattle.node_log_tie.specs.Sight.{BodySeen, EffectSeen, Later}
-use Rattle.node_log_tie.specs.CleanerEvents.{MayDrop, DropOfLog, AllDrop, Candidates, JobPhaseSeen, JobSeen, EmptyingSeen, DropActed, all_but_drops}
+use Rattle.node_log_tie.specs.CleanerEvents.{DropOfLog, AllDrop, Candidates, JobPhaseSeen, JobSeen, EmptyingSeen, DropActed, all_but_drops}
 use Rattle.node_log_tie.proofs.Cleaning.{OutDrops}
 use Rattle.node_log_tie.proofs.Going.{run_later, runs_on}
 use Rattle.node_log_tie.proofs.Lists.{all_append, all_weaker, if_some}
