@@ -1,21 +1,20 @@
 -- What each input makes of a job of the cleaner stays seen: what it deletes may be dropped.
-use Rattle.std.proofs.Common.{◌≡◌, ℕ, ◌+◌, ◌-◌, ◌==◌, ◌&&◌, ◌<◌, ◌≤◌, Bool, true, false, List, [], ◌∷◌, ◌++◌, map, min, not, length, take, get_or, slice_get, Option, Some, None, refl, sym, ap, subst, ◌∙◌, inl, inr, arith}
+use Rattle.std.proofs.Common.{◌≡◌, ℕ, ◌-◌, ◌==◌, ◌&&◌, ◌<◌, ◌≤◌, Bool, true, List, [], ◌∷◌, map, min, not, length, take, slice_get, Option, Some, None, refl, ap, arith}
 use Rattle.std.specs.Prelude.{fold, nat_lt, slice_index, unwrap_or, zero, suc}
 use Rattle.std.specs.BTreeMap.{insert_entry}
 use Rattle.std.specs.declared.cmp.Ordering.{Ordering}
 use Rattle.std.specs.declared.cmp.Ordering.TheVariants.{Less, Equal, Greater}
-use Rattle.std.specs.List.{AllByRecursion, cons_option, filter_map}
+use Rattle.std.specs.List.{AllByRecursion, cons_option}
 use Rattle.std.specs.Ordering.{match_ordering}
 use Rattle.std.proofs.lemmas.Bool.Decides.{nat_tests}
-use Rattle.xfs_base.proofs.Booleans.{by_test, and_first, and_second}
-use Rattle.xfs_base.specs.declared.block.BlockId.{BlockId}
+use Rattle.xfs_base.proofs.Booleans.{by_test, and_second}
 use Rattle.xfs_base.specs.declared.fragment.FragMeta.{FragMeta}
 use Rattle.xfs_base.specs.declared.news.SlotNews.{SlotNews}
 use Rattle.xfs_base.specs.declared.segment.SegName.{SegName}
 use Rattle.xfs_base.specs.declared.segment.SegRef.{SegRef}
 use Rattle.xfs_base.specs.Limits.{u32_end}
 use Rattle.xfs_base.specs.Segments.{seg_cmp}
-use Rattle.xfs_base.specs.Steps.{Stepped, still}
+use Rattle.xfs_base.specs.Steps.{still}
 use Rattle.segment_format.specs.declared.segment.Segment.{Segment}
 use Rattle.group_map.specs.GroupMapState.{GroupMapState}
 use Rattle.stripe_cleaner.specs.Candidates.{horizon_at, least_horizon, is_cleaned, is_candidate, candidates_with_one, candidates_with}
@@ -30,8 +29,7 @@ use Rattle.stripe_cleaner.specs.declared.output.Out.{Out}
 use Rattle.stripe_cleaner.specs.declared.output.Out.TheVariants as out
 use Rattle.stripe_cleaner.specs.declared.phase.Phase.{Phase}
 use Rattle.stripe_cleaner.specs.declared.phase.Phase.TheVariants.{Greeting, Listing, Counting, Reading, Checking, Deleting, Over}
-use Rattle.stripe_cleaner.specs.Job as job
-use Rattle.stripe_cleaner.specs.Job.{Turn, next_of, next, servers_of, deletes, deleting, counted, left_to_delete, same_name, on_deleted, checking, on_read, looked_at, on_answer, is_moving, on_moved}
+use Rattle.stripe_cleaner.specs.Job.{Turn, next_of, next, servers_of, deleting, counted, left_to_delete, same_name, on_deleted, checking, on_read, looked_at, is_moving, on_moved}
 use Rattle.stripe_cleaner.specs.JobState.{JobState}
 use Rattle.stripe_cleaner.specs.Listing.{ListingState, begun, is_among, without}
 use Rattle.stripe_cleaner.specs.Promises.{is_promised, is_above, promised_with}
@@ -39,15 +37,12 @@ use Rattle.stripe_cleaner.specs.Transition as cleaning
 use Rattle.stripe_cleaner.specs.Transition.{Done, turned, lists, usage_asks, is_greeting, welcomed, on_welcome, forgotten, forgetting, on_promise, job_with, mapped, listed, heard, on_list, usage_with, on_counts, listed_in, counted_in, read_in, answered_in, moved_in, deleted_in, awaits, on_listed, on_usage, is_heard, may_move, on_live, on_dead, transition}
 use Rattle.log_scan.specs.Transition as scan
 use Rattle.log_scan.specs.Transition.{horizon_of}
-use Rattle.log_protocol.specs.Tables.{In}
 use Rattle.log_tie.specs.Setting.{Setting}
-use Rattle.log_tie.specs.Shelves.{is_of_log}
 use Rattle.log_tie.proofs.Names.{equal}
 use Rattle.log_law.specs.Net.{Net}
-use Rattle.log_law.specs.Net.Packet.{ListedSent}
 use Rattle.node_log_tie.specs.CleanerEvents.{DropOfLog, AllDrop, Candidates, JobPhaseSeen}
 use Rattle.node_log_tie.specs.ServerEvents.{ListedOfLog}
-use Rattle.node_log_tie.proofs.Lists.{all_append, all_map}
+use Rattle.node_log_tie.proofs.Lists.{all_map}
 
 -- ---- horizons
 

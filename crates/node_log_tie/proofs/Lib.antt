@@ -13,3 +13,8 @@ mod Others
 mod Registries
 mod OwnLogs
 mod Cleaning
+mod Emptied
+mod CleanerJobs
+mod CleanerServing
+mod CleanerOpening
+mod Cleaners

@@ -1,5 +1,5 @@
 -- A log writes segments of its own alone.
-use Rattle.std.proofs.Common.{◌≡◌, ℕ, ◌==◌, true, false, cond, List, [], ◌∷◌, ◌++◌, Some, None, refl, take, drop}
+use Rattle.std.proofs.Common.{◌≡◌, ℕ, cond, List, [], ◌∷◌, Some, None, take, drop}
 use Rattle.std.specs.Prelude.{IfSome, ◌+◌, ◌&&◌, nat_lt, length}
 use Rattle.std.specs.List.{AllByRecursion}
 use Rattle.xfs_base.specs.declared.segment.LogId.{LogId}

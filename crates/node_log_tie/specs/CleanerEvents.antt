@@ -40,6 +40,15 @@ pub record IsOfLog (id : LogId) (s : LogState) : Type 0 where
   pub log : s.log ≡ id
   pub flight : IfSome s.flight (λ (f : FlightState). f.segment.name.log ≡ id)
 
+-- an opening of the cleaner's own log
+abbrev pub StageSeen : Stage → Type 0
+StageSeen (stage.Scanning s) = Unit {0}
+StageSeen (stage.Settling s) = IsOfLog cleaner_log s.log
+
+pub record OpeningSeen (o : openings.Opening) : Type 0 where
+  pub log : o.known.owner.log ≡ cleaner_log
+  pub stage : StageSeen o.stage
+
 -- ---- how a job is seen
 
 module _ (g : Setting) (n : Net) where
@@ -79,14 +88,6 @@ module _ (g : Setting) (n : Net) where
   pub record EmptyingSeen (e : Emptying) : Type 0 where
     pub log : IsOfLog cleaner_log e.log
     pub job : IfSome e.job JobSeen
-
-  abbrev pub StageSeen : Stage → Type 0
-  StageSeen (stage.Scanning s) = Unit {0}
-  StageSeen (stage.Settling s) = IsOfLog cleaner_log s.log
-
-  pub record OpeningSeen (o : openings.Opening) : Type 0 where
-    pub log : o.known.owner.log ≡ cleaner_log
-    pub stage : StageSeen o.stage
 
   abbrev pub CleanerSeen : Phase → Type 0
   CleanerSeen (Down l) = Unit {0}

@@ -2,6 +2,7 @@
 //! has an empty body, and its contract is a law. `specs/Sight.antt` says how what nodes send is seen there.
 #![tactic(auto)]
 
+ghost use Rattle.node_log_tie.specs.CleanerEvents.{CleanerEventGoes, CleanerStarts};
 ghost use Rattle.node_log_tie.specs.RegistryEvents.{RegistryEventGoes, RegistryStarts};
 ghost use Rattle.node_log_tie.specs.ServerEvents.{SentMapsName, ServerEventGoes, ServerStarts};
 
@@ -27,4 +28,15 @@ pub fn server_events_are_seen()
 pub fn registry_events_are_seen()
     ensures start { RegistryStarts }
     ensures events { RegistryEventGoes }
+{}
+
+/// What an event makes of the cleaner is a run of the small world of a client's log, by drops alone, if the packet that comes was sent there.
+///
+/// - `start`: the cleaner at its start is seen.
+/// - `events`: a cleaner that is seen before an event is seen after it in a world to which that one runs on by drops: each segment of the log that it has
+///   deleted was listed by a server, and is below the least horizon. All that it sends was sent there, and each segment that it acts to be dropped is dropped
+///   there; it stores and fences for its own log alone.
+pub fn cleaner_events_are_seen()
+    ensures start { CleanerStarts }
+    ensures events { CleanerEventGoes }
 {}
