@@ -51,7 +51,8 @@ use Rattle.log_tie.specs.Setting.{Setting}
 use Rattle.log_law.specs.Net.{Net}
 use Rattle.log_law.specs.Net.{Owner as owner}
 use Rattle.log_law.specs.Net.Packet.{HelloSent}
-use Rattle.log_law.specs.Events.{Happens as happen}
+use Rattle.log_law.specs.Events.{Happens, Happens as happen}
+use Rattle.log_law.specs.Events.Happens.{Crashes}
 use Rattle.log_law.specs.Events.Runs.{Begun, On}
 use Rattle.node_log_tie.specs.Sight.{BodySeen, PacketSeen, AllSeen, AskedBy}
 use Rattle.node_log_tie.specs.Sight.Question.{OfOpening}
@@ -87,28 +88,59 @@ module _ (g : Setting) (c : ℕ) (is : g.log ≡ record { 0 = c }) (small : is_l
 
   -- ---- falls
 
-  fallen : Scene → Scene
-  fallen v = record v { net = record v.net { owner = owner.Down } }
+  -- the owner falls: nothing that was sent or filed is gone
+  record Fall (n : Net) : Type 0 where
+    net : Net
+    happens : Happens g n net
+    down : net.owner ≡ owner.Down
+    inc : net.inc ≡ n.inc
+    sent : net.sent ≡ n.sent
+    filed : net.filed ≡ n.filed
+    shelves : net.shelves ≡ n.shelves
+    registry : net.registry ≡ n.registry
+    low : net.low ≡ n.low
+    dropped : net.dropped ≡ n.dropped
 
-  fallen_grown : (v : Scene) → Grown g v (fallen v)
-  unfolding fallen
-  fallen_grown v = record {
-    runs = On Begun happen.Crashes;
-    sent = λ p among. among;
-    filed = λ name among. among;
+  fall_of : (n : Net) → Fall n
+  fall_of n = record {
+    net = _;
+    happens = Crashes;
+    down = refl;
+    inc = refl;
+    sent = refl;
+    filed = refl;
     shelves = refl;
     registry = refl;
     low = refl;
     dropped = refl;
-    asked = λ k some. refl;
   }
 
+  abbrev fallen : Scene → Scene
+  fallen v = record v { net = (fall_of v.net).net }
+
+  fallen_grown : (v : Scene) → Grown g v (fallen v)
+  fallen_grown v =
+      let f : Fall v.net = fall_of v.net in
+      record {
+        runs = On Begun f.happens;
+        sent = λ p among. subst (In p) (sym f.sent) among;
+        filed = λ name among. subst (In name) (sym f.filed) among;
+        shelves = f.shelves;
+        registry = f.registry;
+        low = f.low;
+        dropped = f.dropped;
+        asked = λ k some. refl;
+      }
+
+  -- one that fell
+  fallen_agrees : (v : Scene) (l : Lasting) → LastsAs g c v l → ClientAgrees g c (fallen v) (Down l)
+  fallen_agrees v l lasts = (record { number = lasts.number; inc = (fall_of v.net).inc ∙ lasts.inc; fresh = lasts.fresh }, (fall_of v.net).down)
+
   falls_so : (l : Lasting) (outs : List Effect) → LastsAs g c w l → frames.Plain g c outs → ClientDid g c w (Down l) outs
-  unfolding fallen
   falls_so l outs lasts plain = record {
     next = fallen w;
     grown = fallen_grown w;
-    agrees = (record { number = lasts.number; inc = lasts.inc; fresh = lasts.fresh }, refl);
+    agrees = fallen_agrees w l lasts;
     written = tt;
     does = plain (fallen w);
   }
@@ -197,7 +229,6 @@ module _ (g : Setting) (c : ℕ) (is : g.log ≡ record { 0 = c }) (small : is_l
         (tokens.plain_pushes_all g c r.promised.managers r.feed v) (tokens.plain_answers g c l.items.unanswered answer.Done v))
 
     opened_so : (capacity : ℕ) (x : Went) → WentTo g c w l.number l.inc x → Goes (opened_on l capacity x)
-    unfolding fallen
     opened_so capacity x t = by_progress x.progress t.shows
       where
         by_progress : (p : Progress) → ProgressSeen g c t.next x.questions.last p → Goes (after x.effects (after_opening (record l { questions = x.questions }) capacity p))
@@ -218,7 +249,7 @@ module _ (g : Setting) (c : ℕ) (is : g.log ≡ record { 0 = c }) (small : is_l
         by_progress (progress.Lost seg) shows = record {
           next = fallen t.next;
           grown = frames.grown_on g w t.next (fallen t.next) t.grown (fallen_grown t.next);
-          agrees = (record { number = t.lasts.number; inc = t.lasts.inc; fresh = t.lasts.fresh }, refl);
+          agrees = fallen_agrees t.next (record l { questions = x.questions; items = answered l.items }) t.lasts;
           written = tt;
           does = All-append (ClientDoes g c (fallen t.next)) x.effects (answers_unanswered l.items.unanswered (answer.Lost seg))
               (frames.all_more g c t.next (fallen t.next) (fallen_grown t.next) x.effects t.does) (tokens.plain_answers g c l.items.unanswered (answer.Lost seg) (fallen t.next));
