@@ -104,9 +104,9 @@ module _ (k : Below) (g : Setting) (n : Net) (h : View g n) (s : ScanState) (i :
   as_it_opens = subst (OwnerShown g h.w h.book h.hellos) is h.owner
 
   brings : (j : Input) → CameToScan g n j → BringsScan g h.w h.book h.hellos s j
-  brings (scan_in.Welcome ask news groups) c = let seen : WelcomeSeen g h.w h.hellos n.inc ask news groups = h.sent (WelcomeSent n.inc ask news groups) c in (
+  brings (scan_in.Welcome ask news groups) c = let seen : WelcomeSeen g h.w h.hellos n.inc ask news c.0.0 = h.sent (WelcomeSent n.inc ask news c.0.0) c.0.1 in (
     record { question = seen.hello.question; sent = seen.hello.among; own = seen.hello.boot ∙ sym h.inc; answers = seen.hello.number; later = seen.later; known = seen.known },
-    seen.map,
+    h.sent (MapSent groups) c.1,
   )
   brings (scan_in.Fenced server generation held) c = subst (λ inc. FencedSeen g h.w h.book server inc generation held) (sym h.inc) (h.sent (FencedSent server n.inc generation held) c)
   brings (scan_in.Got ask server generation fragment) c = λ own. (let seen : FragmentSeen g h.w h.book fragment = h.sent (FragmentSent fragment) (c own) in (seen.name, seen.index, seen.known, seen.is))
@@ -220,6 +220,9 @@ module _ (k : Below) (g : Setting) (n : Net) (h : View g n) (s : ScanState) (i :
 
     behind : Behind g t.world t.later started
     behind = record { ran = ran_first g.log n.inc told.end r.map; grouped = r.read.grouped }
+
+    text : WritesText first
+    text = subst (λ (o : Option GroupMapState). IfSome o (λ m. WritesText (first_write g n.inc told.end m))) r.is can.1
 
     before : t.world.flight ≡ 0
     before = let p = r.read.phase in nothing (k.protocol.owner t.world on.reached).flight_phase p

@@ -76,9 +76,9 @@ CameToWriter n (log_in.Acked name index generation) = In (StoredSent name index 
 CameToWriter n (log_in.Maps m) = In (MapSent m) n.sent
 CameToWriter n log_in.Tick = Unit {0}
 
--- to an opening, of its own boot where the packet bears one
+-- to an opening, of its own boot where the packet bears one; with what is said of horizons it may take a newer map that came before
 abbrev pub CameToScan : Setting → Net → scan_ins.In → Type 0
-CameToScan g n (scan_in.Welcome ask news groups) = In (WelcomeSent n.inc ask news groups) n.sent
+CameToScan g n (scan_in.Welcome ask news groups) = ((m : GroupMapState) × In (WelcomeSent n.inc ask news m) n.sent) × In (MapSent groups) n.sent
 CameToScan g n (scan_in.Fenced server generation held) = In (FencedSent server n.inc generation held) n.sent
 CameToScan g n (scan_in.Got ask server generation f) = is_of_log g f.meta.name ≡ true → In (FragmentSent f) n.sent
 CameToScan g n (scan_in.Missing ask server generation) = Unit {0}

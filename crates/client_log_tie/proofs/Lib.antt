@@ -1,0 +1,15 @@
+mod Starts
+mod Frames
+mod Logs
+mod Questions
+mod ServingTokens
+mod ServingLog
+mod ServingCalls
+mod ServingPackets
+mod OpeningTurns
+mod OpeningLog
+mod ScanSays
+mod ScanSteps
+mod OpeningEvents
+mod ClientPhases
+mod Written

@@ -1,0 +1,113 @@
+-- What an input makes of a log whose opening segment is in flight while nothing waits: that flies on, or it settles and nothing is in flight.
+use Rattle.std.proofs.Common.{◌≡◌, ◌⊎◌, ℕ, ◌+◌, true, false, cond, List, [], ◌∷◌, ◌++◌, Option, Some, None, refl, sym, ap, subst, inl, inr, nat_le}
+use Rattle.std.specs.Prelude.{◌&&◌, length}
+use Rattle.xfs_base.specs.declared.block.BlockId.{BlockId}
+use Rattle.xfs_base.specs.declared.entry.Entry.{Entry}
+use Rattle.xfs_base.specs.declared.segment.End.{End}
+use Rattle.xfs_base.specs.declared.segment.Prior.{Prior}
+use Rattle.xfs_base.specs.declared.segment.SegName.{SegName}
+use Rattle.xfs_base.specs.Limits.{segment_blocks}
+use Rattle.xfs_base.specs.Steps.{still, after}
+use Rattle.xfs_base.proofs.Booleans.{by_test}
+use Rattle.segment_format.specs.declared.segment.Item.{Item}
+use Rattle.segment_format.specs.Rows.{rows_of}
+use Rattle.group_map.specs.declared.group.Member.{Member}
+use Rattle.group_map.specs.GroupMapState.{GroupMapState}
+use Rattle.client_log.specs.declared.flight.Fate.{Fate}
+use Rattle.client_log.specs.declared.flight.Fate.TheVariants.{Restripe, Settle, Wait}
+use Rattle.client_log.specs.declared.output.Out.TheVariants.{Send, Settled}
+use Rattle.client_log.specs.Fate.{fate_of}
+use Rattle.client_log.specs.Fragments.{piece}
+use Rattle.client_log.specs.LogState.{FlightState, LogState, is_noted}
+use Rattle.client_log.specs.Transition.{Done, sends, all_sends, group_for, flown, launched, next_name, prior_from, writes, has_next, is_idle, sealed, if_full, on_parts, next_attempt, restriped, end_from, landed, settled, can_follow, followed, looked_at, is_of, noting, on_acked, on_maps, on_tick}
+use Rattle.log_owner.specs.Opening.{wrote_one, written}
+
+-- it flies on, and no end is told
+pub record FliesOn (d : Done) : Type 0 where
+  pub quiet : (written d.outs).state ≡ None
+  pub clear : d.state.dirty ≡ []
+  pub flight : FlightState
+  pub flies : d.state.flight ≡ Some flight
+
+-- it is settled, and its end is told
+pub record Lands (d : Done) : Type 0 where
+  pub end : End
+  pub told : (written d.outs).state ≡ Some end
+  pub rows : List (BlockId × Entry)
+  pub outs : d.outs ≡ Settled end rows ∷ []
+  pub landed : d.state.flight ≡ None
+
+abbrev pub Turns : Done → Type 0
+Turns d = FliesOn d ⊎ Lands d
+
+-- sending tells no end
+sends_quiet : (f : FlightState) (ms : List Member) (place : ℕ) → (written (sends f ms place)).state ≡ None
+unfolding wrote_one
+sends_quiet f [] place = refl
+sends_quiet f (m ∷ ms) place =
+    elim (is_noted f.noted place) as (λ b. (written (cond b [] (Send (piece f.segment f.group place) m ∷ []) ++ sends f ms (place + 1))).state ≡ None) [
+      | true ↦ sends_quiet f ms (place + 1)
+      | false ↦ sends_quiet f ms (place + 1)
+    ]
+
+all_quiet : (f : FlightState) → (written (all_sends f)).state ≡ None
+unfolding all_sends
+all_quiet f = sends_quiet f f.group.members 0
+
+launched_flies : (s : LogState) (name : SegName) (prior : Prior) (items : List Item) → s.dirty ≡ [] → FliesOn (launched s name prior items)
+unfolding launched
+launched_flies s name prior items clear = record {
+  quiet = all_quiet (flown name prior items (group_for s.groups s.log.0 name.seq));
+  clear = clear;
+  flight = flown name prior items (group_for s.groups s.log.0 name.seq);
+  flies = refl;
+}
+
+-- the segment without items begins
+pub begins : (s : LogState) → s.dirty ≡ [] → s.flight ≡ None → has_next s.end.seq ≡ true → FliesOn (on_parts s [])
+unfolding on_parts
+begins s clear idle next =
+    subst (λ (o : Option FlightState). FliesOn (cond (is_idle (record s { flight = o }) && has_next s.end.seq && true) (writes s []) (still s))) (sym idle)
+    (subst (λ b. FliesOn (cond (b && true) (writes s []) (still s))) (sym next) (launched_flies s (next_name s) (prior_from s.end) [] clear))
+
+not_full : (s : LogState) → s.dirty ≡ [] → nat_le segment_blocks (length s.dirty) ≡ false
+not_full s clear = ap (λ xs. nat_le segment_blocks (length xs)) clear
+
+settled_lands : (s : LogState) (f : FlightState) → s.dirty ≡ [] → Lands (settled s f)
+unfolding settled if_full wrote_one
+settled_lands s f clear =
+    subst (λ b. Lands (after (Settled (end_from f.segment) (rows_of f.segment) ∷ []) (cond b (sealed (landed s f)) (still (landed s f))))) (sym (not_full s clear))
+    (record { end = end_from f.segment; told = refl; rows = rows_of f.segment; outs = refl; landed = refl })
+
+module _ (s : LogState) (f : FlightState) (clear : s.dirty ≡ []) where
+  follows_on : (fate : Fate) → Turns (followed s f fate)
+  unfolding restriped
+  follows_on Restripe = inl (launched_flies s (next_attempt f.segment.name) f.segment.prior f.segment.items clear)
+  follows_on Settle = inr (settled_lands s f clear)
+  follows_on Wait = inl (record { quiet = refl; clear = clear; flight = f; flies = refl })
+
+  looks_on : (before : LogState) → Turns (still before) → Turns (looked_at before s f)
+  unfolding looked_at
+  looks_on before h = by_test Turns (can_follow s f (fate_of s.groups f)) (followed s f (fate_of s.groups f)) (still before) (λ t. follows_on (fate_of s.groups f)) (λ t. h)
+
+module _ (s : LogState) (f : FlightState) (clear : s.dirty ≡ []) (is : s.flight ≡ Some f) where
+  pub rests : Turns (still s)
+  rests = inl (record { quiet = refl; clear = clear; flight = f; flies = is })
+
+  pub acked_turns : (name : SegName) (index generation : ℕ) → Turns (on_acked s name index generation)
+  unfolding on_acked
+  acked_turns name index generation =
+      subst (λ o. Turns (elim o [ None ↦ still s | Some h ↦ cond (is_of h name index generation) (looked_at s s (noting h index)) (still s) ])) (sym is)
+      (by_test Turns (is_of f name index generation) (looked_at s s (noting f index)) (still s) (λ t. looks_on s (noting f index) clear s rests) (λ t. rests))
+
+  pub maps_turn : (m : GroupMapState) → Turns (on_maps s m)
+  unfolding on_maps
+  maps_turn m =
+      let t : LogState = record s { groups = m } in
+      subst (λ o. Turns (elim o [ None ↦ still t | Some h ↦ looked_at s t h ])) (sym is) (looks_on t f clear s rests)
+
+  pub tick_turns : Turns (on_tick s)
+  unfolding on_tick
+  tick_turns =
+      subst (λ (o : Option FlightState). Turns (elim o [ None ↦ still s | Some h ↦ record { state = s; outs = all_sends h } ])) (sym is)
+      (inl (record { quiet = all_quiet f; clear = clear; flight = f; flies = is }))

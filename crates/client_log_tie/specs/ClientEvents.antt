@@ -1,0 +1,140 @@
+-- What an event makes of a client, as the small world of its log sees it.
+use Rattle.std.specs.Prelude.{◌≡◌, ℕ, true, List, Some, All}
+use Rattle.client_node.specs.declared.call.Going.{Going}
+use Rattle.client_node.specs.declared.client.Client as clients
+use Rattle.client_node.specs.declared.phase.Phase.{Phase}
+use Rattle.client_node.specs.declared.phase.Phase.TheVariants.{Down, Opening, Serving as Serves}
+use Rattle.client_node.specs.declared.serving.Serving.{Serving}
+use Rattle.client_node.specs.Packets.{on_packet, on_tick}
+use Rattle.client_node.specs.Phases.{client_step, call_at}
+use Rattle.client_node.specs.Running.{goes_on}
+use Rattle.client_node.specs.Starting.{first_client}
+use Rattle.group_map.specs.Groups as groups
+use Rattle.log_owner.specs.declared.opening.Stage as stages
+use Rattle.log_owner.specs.declared.opening.Stage.TheVariants as stage
+use Rattle.log_scan.specs.declared.input.In as scan_ins
+use Rattle.log_scan.specs.ScanState.{ScanState}
+use Rattle.log_scan.specs.Transition as scan
+use Rattle.node_base.specs.Beginning.{next_item, begun, waiting, work_at}
+use Rattle.node_base.specs.Shape.{is_log}
+use Rattle.version_model.specs.declared.act.Act.{Act}
+use Rattle.version_model.specs.declared.act.Act.TheVariants.{Filed}
+use Rattle.version_model.specs.declared.work.Work.{Work}
+use Rattle.wire_msg.specs.declared.body.Body.{Body}
+use Rattle.wire_msg.specs.declared.body.Body.TheVariants as body
+use Rattle.wire_msg.specs.declared.packet.Do.{Do}
+use Rattle.wire_msg.specs.declared.packet.Do.TheVariants.{Begin, Deliver, Tick}
+use Rattle.wire_msg.specs.declared.packet.Packet as packets
+use Rattle.wire_msg.specs.NodeStep.{NodeStep}
+use Rattle.xfs_base.specs.declared.node.NodeId.TheVariants.{Client}
+use Rattle.xfs_base.specs.declared.segment.SegName.{SegName}
+use Rattle.xfs_base.specs.declared.setup.Setup.{Setup}
+use Rattle.log_protocol.specs.Tables.{In}
+use Rattle.log_tie.specs.Setting.{Setting}
+use Rattle.log_law.specs.Net.{Net, Packet, opening}
+use Rattle.log_law.specs.Events.{CameToScan, Runs}
+use Rattle.node_log_tie.specs.Sight.{AllSeen, PacketSeen}
+use Rattle.node_log_tie.specs.Sight.Question.{Unasked}
+use Rattle.client_log_tie.specs.Owner.{Scene, asker, ClientAgrees}
+use Rattle.client_log_tie.specs.Texts.{MapFits, StaysWritten, ChainFits, RunsFit}
+
+-- ---- what the world owes it
+
+-- what is held of the log can be spelled
+abbrev pub StageWritten : stages.Stage → Type 0
+StageWritten (stage.Scanning s) = Unit {0}
+StageWritten (stage.Settling s) = StaysWritten s.log
+
+abbrev pub PhaseWritten : Phase → Type 0
+PhaseWritten (Down l) = Unit {0}
+PhaseWritten (Opening l o) = StageWritten o.stage
+PhaseWritten (Serves s) = StaysWritten s.log
+
+-- a scan can ask further, and the chain that it tells, whatever came, can be gone on with
+pub record ScanOwed (g : Setting) (n : Net) (s : ScanState) : Type 0 where
+  pub asks : scan.can_ask s.opening ≡ true
+  pub chain : (i : scan_ins.In) → CameToScan g n i → ChainFits g n.inc (scan.transition s i)
+
+abbrev pub StageOwed : Setting → Net → stages.Stage → Type 0
+StageOwed g n (stage.Scanning s) = ScanOwed g n s.scan
+StageOwed g n (stage.Settling s) = Unit {0}
+
+-- what the open call puts fits, where a call begins, after a packet, and in time
+abbrev pub begun_serving : Serving → Serving
+begun_serving s = record s { lasting = record s.lasting { items = begun s.lasting.items } }
+
+abbrev pub waiting_serving : Serving → ℕ → Serving
+waiting_serving s number = record s { lasting = record s.lasting { items = waiting s.lasting.items number } }
+
+pub record ServingBegins (s : Serving) : Type 0 where
+  pub fits : (number : ℕ) (going : Going) → next_item s.lasting.items ≡ Some number
+      → call_at (begun_serving s) number (work_at (begun_serving s).lasting.items number) ≡ Some going → RunsFit (goes_on (waiting_serving (begun_serving s) number) going).state
+
+abbrev pub BeginOwed : Phase → Type 0
+BeginOwed (Down l) = Unit {0}
+BeginOwed (Opening l o) = Unit {0}
+BeginOwed (Serves s) = ServingBegins s
+
+abbrev pub BodyFits : Body → Type 0
+BodyFits (body.MapNews m) = MapFits m.groups
+BodyFits (body.Welcome m) = MapFits m.news.groups
+BodyFits _ = Unit {0}
+
+abbrev pub RunOwed : Setting → Net → Phase → (Serving → Serving) → Type 0
+RunOwed g n (Down l) then_is = Unit {0}
+RunOwed g n (Opening l o) then_is = StageOwed g n o.stage
+RunOwed g n (Serves s) then_is = RunsFit (then_is s)
+
+module _ (g : Setting) (c : ℕ) (w : Scene) where
+  -- a packet that was sent to it
+  pub record PacketOwed (p : Phase) (packet : packets.Packet) : Type 0 where
+    pub own : packet.to ≡ Client c
+    pub seen : PacketSeen g (asker c w) w.net packet
+    pub fits : BodyFits packet.body
+    pub runs : RunOwed g w.net p (λ s. (on_packet s packet).state)
+
+  abbrev pub ClientOwed : Phase → Do → Type 0
+  ClientOwed p Begin = BeginOwed p
+  ClientOwed p (Deliver packet) = PacketOwed p packet
+  ClientOwed p Tick = RunOwed g w.net p (λ s. (on_tick s).state)
+
+-- ---- what an event makes of it
+
+-- what it tells to be filed is filed
+abbrev pub ActSeen : Scene → Act → Type 0
+ActSeen w (Filed seg) = In seg w.net.filed
+ActSeen w _ = Unit {0}
+
+-- The small world runs on, by its owner alone: what was sent and filed stays so, and so does what was asked.
+pub record Grown (g : Setting) (w v : Scene) : Type 0 where
+  pub runs : Runs g w.net v.net
+  pub sent : (p : Packet) → In p w.net.sent → In p v.net.sent
+  pub filed : (name : SegName) → In name w.net.filed → In name v.net.filed
+  pub shelves : v.net.shelves ≡ w.net.shelves
+  pub registry : v.net.registry ≡ w.net.registry
+  pub low : v.net.low ≡ w.net.low
+  pub dropped : v.net.dropped ≡ w.net.dropped
+  pub asked : (k : ℕ) → (w.asked k ≡ Unasked → ⊥) → v.asked k ≡ w.asked k
+
+-- It runs on to one in which the client is seen as it is then, all that it sends was sent, and all that it tells to be filed is filed.
+pub record ClientGoes (g : Setting) (c : ℕ) (w : Scene) (d : NodeStep clients.Client) : Type 0 where
+  pub next : Scene
+  pub grown : Grown g w next
+  pub agrees : ClientAgrees g c next d.node.phase
+  pub written : PhaseWritten d.node.phase
+  pub sends : AllSeen g (asker c next) next.net d.packets
+  pub acts : All (ActSeen next) d.acts
+
+-- Each event of a client is a run of the small world of its log.
+abbrev pub ClientTakes : Type 0
+ClientTakes =
+    (g : Setting) (c : ℕ) → g.log ≡ record { 0 = c } → is_log c ≡ true → (w : Scene) (client : clients.Client) (what : Do) → ClientAgrees g c w client.phase
+    → PhaseWritten client.phase → ClientOwed g c w client.phase what → ClientGoes g c w (client_step client what)
+
+-- At the start it is seen in the opening of the small world, and asked nothing; its log stays written where the ids of the setup's groups fit.
+pub record ClientBegins (g : Setting) (c : ℕ) (setup : Setup) (works : List Work) : Type 0 where
+  pub agrees : ClientAgrees g c (record { net = opening g (groups.started setup.servers setup.groups); asked = λ k. Unasked }) (first_client c setup works).phase
+  pub written : MapFits (groups.started setup.servers setup.groups) → PhaseWritten (first_client c setup works).phase
+
+abbrev pub ClientStarts : Type 0
+ClientStarts = (g : Setting) (c : ℕ) → g.log ≡ record { 0 = c } → is_log c ≡ true → (setup : Setup) (works : List Work) → ClientBegins g c setup works

@@ -1,0 +1,3 @@
+pub mod Owner
+pub mod Texts
+pub mod ClientEvents

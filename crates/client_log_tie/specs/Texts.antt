@@ -1,0 +1,93 @@
+-- That what a client's log writes can be spelled: a premise on what it holds and puts, by the limits of the format.
+use Rattle.std.specs.Prelude.{◌≡◌, ◌<◌, ◌^◌, ℕ, zero, suc, true, List, [], length, Option, Some, None, IfSome}
+use Rattle.std.specs.List.{AllByRecursion}
+use Rattle.xfs_base.specs.declared.block.BlockId.{BlockId}
+use Rattle.xfs_base.specs.declared.entry.Entry.{Entry}
+use Rattle.xfs_base.specs.declared.segment.End.{End}
+use Rattle.xfs_base.specs.declared.segment.LogId.{LogId}
+use Rattle.segment_format.specs.Format.{second_version, IsLength, IsLog}
+use Rattle.segment_format.specs.Ranges.{FitsRow, FitsPass}
+use Rattle.group_map.specs.GroupMapState.{GroupMapState}
+use Rattle.stripe_code.specs.Stripe.{IsBytes}
+use Rattle.client_log.specs.declared.input.In.{In as Input}
+use Rattle.client_log.specs.declared.input.In.TheVariants.{Put, Parts, Seal, Acked, Maps, Tick}
+use Rattle.client_log.specs.History.{state_after}
+use Rattle.client_log.specs.LogState.{LogState, started}
+use Rattle.client_log.specs.Transition.{group_for, has_next}
+use Rattle.log_scan.specs.Transition as scan
+use Rattle.client_node.specs.Blocks.{wrote}
+use Rattle.client_node.specs.declared.call.Call.{Call}
+use Rattle.client_node.specs.declared.serving.Serving.{Serving}
+use Rattle.client_node.specs.Flights.{held_at}
+use Rattle.client_node.specs.Running.{runs_once, most_steps}
+use Rattle.file_plan.specs.declared.block_call.BlockCall.{BlockCall}
+use Rattle.file_plan.specs.declared.block_call.BlockCall.TheVariants as call
+use Rattle.log_tie.specs.Setting.{Setting}
+use Rattle.log_law.specs.Net.{Told, chain_in}
+use Rattle.log_law.specs.Events.{IsWritten}
+
+-- ---- the log
+
+-- a version that is put fits the format, and so does its value
+pub record PutFits (block : BlockId) (entry : Entry) (value : Option (List ℕ)) : Type 0 where
+  pub row : FitsRow (block, entry)
+  pub length : IfSome value (λ bytes. IsLength second_version (length bytes))
+  pub bytes : IfSome value IsBytes
+
+-- the ids of the groups that a map chooses fit
+abbrev pub MapFits : GroupMapState → Type 0
+MapFits m = (log seq : ℕ) → (group_for m log seq).id < 2 ^ 32
+
+abbrev pub InputFits : Input → Type 0
+InputFits (Put block entry value) = PutFits block entry value
+InputFits (Parts items) = items ≡ []
+InputFits Seal = Unit {0}
+InputFits (Acked name index generation) = Unit {0}
+InputFits (Maps m) = MapFits m
+InputFits Tick = Unit {0}
+
+-- Whatever fits and a log takes from now on, newest first: what is in flight then has a text.
+abbrev pub StaysWritten : LogState → Type 0
+StaysWritten s = (later : List Input) → AllByRecursion InputFits later → IfSome (state_after s later).flight (λ f. IsWritten f.segment)
+
+-- ---- an opening
+
+-- the log that starts behind the chain that a scan tells has a number for its next segment, and stays written
+abbrev pub StartFits : Setting → ℕ → scan.Done → Told → Type 0
+StartFits g inc d t = (has_next t.end.seq ≡ true) × IfSome d.state.opening.groups (λ m. StaysWritten (started g.log inc t.end m))
+
+abbrev pub ChainFits : Setting → ℕ → scan.Done → Type 0
+ChainFits g inc d = IfSome (chain_in d.outs) (StartFits g inc d)
+
+-- ---- the open call
+
+-- the version that a call on blocks writes
+abbrev pub written_as : Serving → BlockId → Option (List ℕ) → Entry
+written_as s block value = record { ver = (held_at (wrote s block value) block).ver; hop = 0; place = None }
+
+abbrev pub CallFits : Serving → BlockCall → Type 0
+CallFits s (call.Get block) = Unit {0}
+CallFits s (call.Put block value) = PutFits block (written_as s block value) value
+CallFits s (call.PutAt block ver value) = PutFits block (written_as s block value) value
+CallFits s call.Sync = Unit {0}
+
+abbrev pub StepFits : Serving → Option Call → Type 0
+StepFits s None = Unit {0}
+StepFits s (Some call) = CallFits (record s { call = None }) call.step
+
+-- each call on blocks that the open call makes, of so many
+unfoldable pub RunFits : ℕ → Serving → Type 0
+RunFits zero s = Unit {0}
+RunFits (suc n) s = StepFits s s.call × ((runs_once s).goes ≡ true → RunFits n (runs_once s).done.state)
+
+abbrev pub RunsFit : Serving → Type 0
+RunsFit s = RunFits most_steps s
+
+-- ---- what stays written
+
+abbrev pub EndFits : End → Type 0
+EndFits e = (e.seq < 2 ^ 32) × FitsPass e.pass × (e.group < 2 ^ 32)
+
+-- a log that starts behind an end that fits, over groups whose ids fit, stays written
+abbrev pub WhatFitsStaysWritten : Type 0
+WhatFitsStaysWritten = (log : LogId) (inc : ℕ) (end : End) (m : GroupMapState) → IsLog log.0 → inc < 2 ^ 32 → EndFits end → MapFits m → StaysWritten (started log inc end m)

@@ -1,0 +1,23 @@
+//! What a client does in one event, as what the owner of its log does in the small world of that log (`log_law`). It has no code: each function below has an
+//! empty body, and its contract is a law. `specs/Owner.antt` says how a client is seen there.
+#![tactic(auto)]
+
+ghost use Rattle.client_log_tie.specs.ClientEvents.{ClientStarts, ClientTakes};
+ghost use Rattle.client_log_tie.specs.Texts.{WhatFitsStaysWritten};
+
+/// What an event makes of a client is a run of the small world of its log, if the packet that comes was sent there, if what the open call puts fits the format,
+/// and if an opening has questions left and the log can go on behind the chain that it reads.
+///
+/// - `start`: a client at its start is seen in the opening of the small world; its log can be spelled where the ids of the setup's groups fit.
+/// - `events`: a client that is seen there before an event is seen after it in a world to which that one runs on, by its owner alone; all that the client sends
+///   was sent there, and all that it tells to be filed is filed there.
+pub fn client_log_events_are_seen()
+    ensures start { ClientStarts }
+    ensures events { ClientTakes }
+{}
+
+/// A log that starts behind an end whose numbers fit the format, over groups whose ids fit, can be spelled whatever it takes, as long as that fits: what is in
+/// flight then has a text.
+pub fn what_fits_stays_written()
+    ensures { WhatFitsStaysWritten }
+{}

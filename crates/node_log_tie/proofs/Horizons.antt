@@ -1,0 +1,70 @@
+-- The least horizon of a log never falls.
+use Rattle.std.proofs.Common.{◌≡◌, ℕ, zero, suc, ◌-◌, ◌==◌, ◌<◌, ◌≤◌, true, List, [], ◌∷◌, length, map, slice_get, ◌∙◌, arith}
+use Rattle.std.specs.Prelude.{slice_index, slice_set, unwrap_or}
+use Rattle.std.specs.List.{AllByRecursion}
+use Rattle.std.proofs.lemmas.Grind.{get_or_default_zero}
+use Rattle.std.proofs.lemmas.Option.{unwrap_or-slice_get}
+use Rattle.xfs_base.proofs.Booleans.{and_first, contrary}
+use Rattle.registry.specs.Board.{slot_news, transition}
+use Rattle.registry.specs.BoardState.{BoardState}
+use Rattle.registry.specs.Checkpoints.{none_lower, covers_kept, horizon_at}
+use Rattle.registry.specs.declared.checkpoint.Checkpoint.{Checkpoint}
+use Rattle.registry.specs.declared.input.In.{In}
+use Rattle.registry.specs.Slots.{all_slots}
+use Rattle.registry.proofs.Later.{later_all}
+use Rattle.log_scan.specs.Transition.{horizon_of, least_horizon}
+use Rattle.log_tie.proofs.Names.{equal}
+
+-- each slot has nine numbers
+abbrev pub HasHorizons : BoardState → Type 0
+HasHorizons b = (slot : ℕ) → slot < 8 → length (horizon_at b.checkpoints slot) ≡ 9
+
+-- ---- a checkpoint that is kept
+
+set_nine : (cs : List Checkpoint) (at slot : ℕ) (c : Checkpoint) → length c.horizon ≡ 9 → length (horizon_at cs slot) ≡ 9 → length (horizon_at (slice_set cs at c) slot) ≡ 9
+set_nine [] at slot c new old = old
+set_nine (x ∷ xs) zero zero c new old = new
+set_nine (x ∷ xs) zero (suc slot) c new old = old
+set_nine (x ∷ xs) (suc at) zero c new old = old
+set_nine (x ∷ xs) (suc at) (suc slot) c new old = set_nine xs at slot c new old
+
+covered_nine : (cs : List Checkpoint) (slot : ℕ) (horizon : List ℕ) → covers_kept cs slot horizon ≡ true → length horizon ≡ 9
+covered_nine [] slot horizon h = contrary h
+covered_nine (c ∷ cs) zero horizon h = equal (length horizon) 9 (and_first (length horizon == 9) (none_lower c.horizon horizon) h)
+covered_nine (c ∷ cs) (suc slot) horizon h = covered_nine cs slot horizon h
+
+pub kept_nine : (cs : List Checkpoint) (at : ℕ) (c : Checkpoint) → covers_kept cs at c.horizon ≡ true → ((slot : ℕ) → slot < 8 → length (horizon_at cs slot) ≡ 9)
+    → (slot : ℕ) → slot < 8 → length (horizon_at (slice_set cs at c) slot) ≡ 9
+kept_nine cs at c covers old slot below = set_nine cs at slot c (covered_nine cs at c.horizon covers) (old slot below)
+
+-- ---- the least of them
+
+number_is : (h : List ℕ) (k : ℕ) → k < length h → unwrap_or (slice_get h k) 1 ≡ slice_index h k
+number_is h k below = unwrap_or-slice_get h k 1 ∙ get_or_default_zero h k 1 below
+
+module _ (log : ℕ) (some : log ≤ 9) (b c : BoardState) (old : HasHorizons b) (new : HasHorizons c)
+    (rises : (slot k : ℕ) → k < 9 → slice_index (horizon_at b.checkpoints slot) k ≤ slice_index (horizon_at c.checkpoints slot) k) where
+  one_rises : (slot : ℕ) → slot < 8 → horizon_of log (slot_news b slot) ≤ horizon_of log (slot_news c slot)
+  one_rises slot below =
+      let k : log - 1 < 9 = omega arith in
+      let m = old slot below in
+      let n = new slot below in
+      let e = number_is (horizon_at b.checkpoints slot) (log - 1) (omega arith) in
+      let f = number_is (horizon_at c.checkpoints slot) (log - 1) (omega arith) in
+      let r = rises slot (log - 1) k in
+      omega arith
+
+  all_rise : (slots : List ℕ) → AllByRecursion (λ (slot : ℕ). slot < 8) slots → least_horizon log (map (slot_news b) slots) ≤ least_horizon log (map (slot_news c) slots)
+  all_rise [] below = omega arith
+  all_rise (slot ∷ slots) below = (let first = one_rises slot below.0 in let rest = all_rise slots below.1 in omega arith)
+
+  eight : AllByRecursion (λ (slot : ℕ). slot < 8) all_slots
+  eight = (omega arith, (omega arith, (omega arith, (omega arith, (omega arith, (omega arith, (omega arith, (omega arith, tt))))))))
+
+  least_rises : least_horizon log (map (slot_news b) all_slots) ≤ least_horizon log (map (slot_news c) all_slots)
+  least_rises = all_rise all_slots eight
+
+-- whatever the registry takes, the least horizon is no lower
+pub low_rises : (log : ℕ) → log ≤ 9 → (b : BoardState) (i : In) → HasHorizons b → HasHorizons (transition b i).state
+    → least_horizon log (map (slot_news b) all_slots) ≤ least_horizon log (map (slot_news (transition b i).state) all_slots)
+low_rises log some b i old new = least_rises log some b (transition b i).state old new (λ slot k below. (later_all b (i ∷ [])).horizons slot k below)

@@ -1,0 +1,4 @@
+pub mod Sight
+pub mod ServerEvents
+pub mod RegistryEvents
+pub mod CleanerEvents
