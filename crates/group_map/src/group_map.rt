@@ -5,12 +5,13 @@ ghost use Rattle.group_map.specs.Groups.{group_of, generation_at, current_ids, c
 ghost use Rattle.group_map.specs.Sizes.{IsParity, bad_size};
 ghost use Rattle.group_map.specs.WellFormed.{IsServer, IsStripe, IsPresent};
 
+use crate::groups::Groups;
 use crate::losing::{follow, generation_of, retire};
 use crate::starting::{first_bad_size, first_groups};
 use crate::{Group, GroupError, NoGroup};
 use std::alloc::Global;
 use std::marker::Model;
-use xfs_base::{Copied, Crosses, GroupSetup, List, LogId, Mem, copy_each};
+use xfs_base::{Copied, Crosses, GroupSetup, List, LogId, Mem};
 
 /// The stripe group map (the 1996 paper, "The Stripe Group Map"): all groups that were ever made, by id, and the
 /// generation of each storage server, which rises with each loss of what the server kept. One group at
@@ -19,7 +20,7 @@ use xfs_base::{Copied, Crosses, GroupSetup, List, LogId, Mem, copy_each};
 pub struct GroupMap {
     servers: u8,
     generations: List<u32>,
-    groups: List<Group>,
+    groups: Groups,
 }
 
 impl Model for GroupMap {
@@ -69,7 +70,7 @@ impl GroupMap {
         Ok(GroupMap {
             servers,
             generations: List::from_vec(generations),
-            groups,
+            groups: Groups::from_list(groups)?,
         })
     }
 
@@ -137,6 +138,7 @@ impl GroupMap {
             server,
             &mut groups,
         )?;
+        let groups = Groups::from_list(groups)?;
         self.generations = List::from_vec(generations);
         self.groups = groups;
         Ok(())
@@ -149,7 +151,7 @@ impl GroupMap {
         Ok(GroupMap {
             servers: self.servers,
             generations: self.generations.copy(alloc)?,
-            groups: copy_each(alloc, &self.groups)?,
+            groups: self.groups.copy()?,
         })
     }
 }

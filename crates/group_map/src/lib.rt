@@ -6,6 +6,7 @@
 pub mod error;
 pub mod group;
 pub mod group_map;
+mod groups;
 pub mod laws;
 mod losing;
 mod starting;
