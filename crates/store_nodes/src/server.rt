@@ -8,9 +8,9 @@ ghost use Rattle.store_nodes.specs.ServerEvents.{server_start, hello_of, takes_n
 use fragment_store::Shelf;
 use group_map::GroupMap;
 use group_rebuild::{In, Rebuild};
-pub(crate) use node_base::groups_of;
 use node_base::{
-    Asked, Effects, Items, Maps, Peers, Questions, has_room, is_well_formed, names_known_groups,
+    Asked, Effects, Items, Maps, Peers, Questions, groups_of, has_room, is_well_formed,
+    names_known_groups,
 };
 use std::alloc::Global;
 use std::mem;
@@ -366,7 +366,7 @@ fn left_hello(hello: Option<u32>, ask: u32) -> Option<u32>
 }
 
 // The number of a server.
-pub(crate) fn server_in(node: NodeId) -> Option<u8>
+fn server_in(node: NodeId) -> Option<u8>
     ensures { result ≡ server_in node }
 {
     match node {
