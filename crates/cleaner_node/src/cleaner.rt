@@ -282,7 +282,19 @@ fn serving_wishes(
 fn lasting_in(emptying: Emptying) -> Lasting
     ensures { result ≡ emptying.lasting }
 {
-    emptying.lasting
+    let Emptying {
+        lasting,
+        maps,
+        promised: _,
+        log,
+        feed,
+        job,
+    } = emptying;
+    drop(maps);
+    drop(log);
+    drop(feed);
+    drop(job);
+    lasting
 }
 
 // The item is answered at its begin, and nothing changes.

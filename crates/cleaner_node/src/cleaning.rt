@@ -6,7 +6,7 @@ ghost use Rattle.xfs_base.specs.Steps.{steps};
 ghost use Rattle.cleaner_node.specs.Jobs.{cleans, job_takes, says, asks_maps, asks_list, asks_usage, asks_check, checks_block, holds, reads, moves, puts, puts_block, deletes, finishes, drops, on_listed, on_usage, on_live, on_dead, on_deleted};
 
 use crate::emptying::Emptying;
-use crate::job::{ask_of, check_of, is_out, lists_of, usages_of};
+use crate::job::{check_of, is_out, lists_of, usages_of};
 use log_owner::sending::{send_hello, send_store};
 use node_base::Effects;
 use std::alloc::Global;
@@ -33,7 +33,11 @@ impl Emptying {
         ensures outs { IfOk result (λ outs. outs ≡ (job_takes self.old given).outs) }
     {
         match &mut self.job {
-            None => Ok(List::new(alloc)),
+            // It is dropped by a call, so that each part of it is dropped in one proof.
+            None => {
+                drop(given);
+                Ok(List::new(alloc))
+            }
             Some(job) => job.cleaning.take(alloc, given),
         }
     }
@@ -70,13 +74,13 @@ impl Emptying {
         ensures state { OnOk result (self.new ≡ (asks_maps self.old self.old.job).state) }
         ensures effects { OnOk result (effects.new ≡ effects.old ++ (asks_maps self.old self.old.job).outs) }
     {
-        let Some(mut job) = self.job.take() else {
-            return Ok(());
-        };
-        let ask = ask_of(job.hello, &mut self.lasting.questions);
-        job.hello = Some(ask);
-        self.job = Some(job);
-        send_hello(effects, self.lasting.inc, ask)
+        match &mut self.job {
+            None => Ok(()),
+            Some(job) => {
+                let ask = job.ask_maps(&mut self.lasting.questions);
+                send_hello(effects, self.lasting.inc, ask)
+            }
+        }
     }
 
     // A server is asked for its list.
@@ -84,13 +88,13 @@ impl Emptying {
         ensures state { OnOk result (self.new ≡ (asks_list self.old self.old.job server).state) }
         ensures effects { OnOk result (effects.new ≡ effects.old ++ (asks_list self.old self.old.job server).outs) }
     {
-        let Some(mut job) = self.job.take() else {
-            return Ok(());
-        };
-        let ask = ask_of(job.lists, &mut self.lasting.questions);
-        job.lists = Some(ask);
-        self.job = Some(job);
-        effects.send(NodeId::Server(server), Body::List(ListAsk { ask }))
+        match &mut self.job {
+            None => Ok(()),
+            Some(job) => {
+                let ask = job.ask_lists(&mut self.lasting.questions);
+                effects.send(NodeId::Server(server), Body::List(ListAsk { ask }))
+            }
+        }
     }
 
     // The manager of a slot is asked for its counts.
@@ -98,14 +102,14 @@ impl Emptying {
         ensures state { OnOk result (self.new ≡ (asks_usage self.old self.old.job slot).state) }
         ensures effects { OnOk result (effects.new ≡ effects.old ++ (asks_usage self.old self.old.job slot).outs) }
     {
-        let Some(mut job) = self.job.take() else {
-            return Ok(());
-        };
-        let ask = ask_of(job.usages, &mut self.lasting.questions);
-        job.usages = Some(ask);
-        self.job = Some(job);
-        let manager = self.promised.managers.of(slot);
-        effects.send(manager, Body::UsageAsk(UsageAsk { slot, ask }))
+        match &mut self.job {
+            None => Ok(()),
+            Some(job) => {
+                let ask = job.ask_usages(&mut self.lasting.questions);
+                let manager = self.promised.managers.of(slot);
+                effects.send(manager, Body::UsageAsk(UsageAsk { slot, ask }))
+            }
+        }
     }
 
     // The manager of a block is asked whether it lies at a place of the segment in hand.
@@ -217,14 +221,15 @@ impl Emptying {
         ensures state { OnOk result (self.new ≡ (deletes self.old self.old.job server name).state) }
         ensures effects { OnOk result (effects.new ≡ effects.old ++ (deletes self.old self.old.job server name).outs) }
     {
-        let Some(mut job) = self.job.take() else {
-            return Ok(());
-        };
-        let is_first = job.is_whole();
-        job.note_dropped();
-        self.job = Some(job);
-        act_dropped(effects, is_first, name)?;
-        effects.send(NodeId::Server(server), Body::Delete(Delete { name }))
+        match &mut self.job {
+            None => Ok(()),
+            Some(job) => {
+                let is_first = job.is_whole();
+                job.note_dropped();
+                act_dropped(effects, is_first, name)?;
+                effects.send(NodeId::Server(server), Body::Delete(Delete { name }))
+            }
+        }
     }
 
     // The job is over, and its item is answered.
@@ -232,7 +237,7 @@ impl Emptying {
         ensures state { OnOk result (self.new ≡ (finishes self.old count).state) }
         ensures effects { OnOk result (effects.new ≡ effects.old ++ (finishes self.old count).outs) }
     {
-        self.job = None;
+        drop(self.job.take());
         self.lasting.items.answer(effects, Answer::Count(count))
     }
 

@@ -13,6 +13,7 @@ use log_owner::sending::{push_all, send_hello, send_store};
 use log_owner::{Opened, Promised, log_has_room, name_of};
 use node_base::{Effects, Maps, has_room, names_known_groups};
 use std::alloc::Global;
+use std::mem;
 use stripe_cleaner::In;
 use version_model::{Act, Answer};
 use wire_msg::{Body, DeltaAck, Packet, Stored};
@@ -113,7 +114,8 @@ impl Emptying {
         ensures effects { OnOk result (effects.new ≡ effects.old ++ (begins_job self.old number count).outs) }
     {
         self.lasting.items.wait(number);
-        self.job = Some(Job::start(alloc, count)?);
+        let job = Job::start(alloc, count)?;
+        drop(mem::replace(&mut self.job, Some(job)));
         self.promise_all(alloc, effects)?;
         self.clean(alloc, effects, In::Tick)
     }

@@ -11,6 +11,7 @@ use node_base::{Effects, Questions};
 use std::alloc::Global;
 use std::collections::BTreeMap;
 use std::marker::Model;
+use std::mem;
 use stripe_code::{Next, Reading, Target, Told};
 use xfs_base::{BlockId, Crosses, Mem, SegName, SegRef};
 
@@ -97,7 +98,11 @@ impl Hand {
         ensures next { IfOk result (λ next. next ≡ (hand_hears self.old groups.now ask server told).next) }
     {
         match &mut self.reading {
-            None => Ok(Next::Wait),
+            // It is dropped by a call, here and below, so that each part of it is dropped in one proof.
+            None => {
+                drop(told);
+                Ok(Next::Wait)
+            }
             Some(reading) => reading.take(alloc, groups, ask, server, told),
         }
     }
@@ -176,16 +181,18 @@ pub(crate) fn take_in_hand(
     alloc: Global,
     groups: &Option<GroupMap>,
     questions: &mut Questions,
-    hand: Option<Hand>,
+    hand: &mut Option<Hand>,
     seg: SegRef,
-) -> Mem<Option<Hand>>
-    ensures hand { IfOk result (λ taken. taken ≡ (takes_in_hand groups.now questions.old hand seg).hand) }
-    ensures questions { OnOk result (questions.new ≡ (takes_in_hand groups.now questions.old hand seg).questions) }
+) -> Mem<()>
+    ensures hand { OnOk result (hand.new ≡ (takes_in_hand groups.now questions.old hand.old seg).hand) }
+    ensures questions { OnOk result (questions.new ≡ (takes_in_hand groups.now questions.old hand.old seg).questions) }
 {
-    if is_in_hand(&hand, seg) {
-        return Ok(hand);
+    if is_in_hand(hand, seg) {
+        return Ok(());
     }
-    take_over(alloc, groups, questions, seg)
+    let taken = take_over(alloc, groups, questions, seg)?;
+    drop(mem::replace(hand, taken));
+    Ok(())
 }
 
 fn is_in_hand(hand: &Option<Hand>, seg: SegRef) -> bool

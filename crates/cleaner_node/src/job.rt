@@ -1,5 +1,5 @@
 //! A job of the cleaner, with the questions of the node under which its questions are out.
-ghost use Rattle.std.specs.Prelude.{◌≡◌, IfOk, OnOk};
+ghost use Rattle.std.specs.Prelude.{◌≡◌, IfOk, OnOk, Some};
 ghost use Rattle.cleaner_node.specs.Jobs.{ask_of, drawn_unless, is_whole, dropped, lists_of, usages_of, hand_of, check_of, is_out, read_over, job_hears, job_confirmed, job_checks};
 ghost use Rattle.cleaner_node.specs.Hands.{takes_in_hand};
 ghost use Rattle.cleaner_node.specs.EmptyingEvents.{new_job, hand_moved, hello_of};
@@ -54,8 +54,7 @@ impl Job {
         ensures job { OnOk result (self.new ≡ record self.old { hand = (takes_in_hand groups.now questions.old self.old.hand seg).hand }) }
         ensures questions { OnOk result (questions.new ≡ (takes_in_hand groups.now questions.old self.old.hand seg).questions) }
     {
-        self.hand = take_in_hand(alloc, groups, questions, self.hand.take(), seg)?;
-        Ok(())
+        take_in_hand(alloc, groups, questions, &mut self.hand, seg)
     }
 
     /// A server tells of its fragment of the segment in hand.
@@ -72,7 +71,10 @@ impl Job {
         ensures next { IfOk result (λ next. next ≡ (job_hears self.old groups.now ask server told).next) }
     {
         match &mut self.hand {
-            None => Ok(Next::Wait),
+            None => {
+                drop(told);
+                Ok(Next::Wait)
+            }
             Some(hand) => hand.hear(alloc, groups, ask, server, told),
         }
     }
@@ -87,6 +89,39 @@ impl Job {
             None => Ok(Next::Wait),
             Some(hand) => hand.confirmed(alloc, ask),
         }
+    }
+
+    /// The question under which the maps are asked for: the one that is out, or a new one.
+    pub fn ask_maps(&mut self, questions: &mut Questions) -> u32
+        ensures job { self.new ≡ record self.old { hello = Some (ask_of self.old.hello questions.old) } }
+        ensures questions { questions.new ≡ drawn_unless self.old.hello questions.old }
+        ensures ask { result ≡ ask_of self.old.hello questions.old }
+    {
+        let ask = ask_of(self.hello, questions);
+        self.hello = Some(ask);
+        ask
+    }
+
+    /// The question under which the servers are asked for their lists: the one that is out, or a new one.
+    pub fn ask_lists(&mut self, questions: &mut Questions) -> u32
+        ensures job { self.new ≡ record self.old { lists = Some (ask_of self.old.lists questions.old) } }
+        ensures questions { questions.new ≡ drawn_unless self.old.lists questions.old }
+        ensures ask { result ≡ ask_of self.old.lists questions.old }
+    {
+        let ask = ask_of(self.lists, questions);
+        self.lists = Some(ask);
+        ask
+    }
+
+    /// The question under which the managers are asked for their counts: the one that is out, or a new one.
+    pub fn ask_usages(&mut self, questions: &mut Questions) -> u32
+        ensures job { self.new ≡ record self.old { usages = Some (ask_of self.old.usages questions.old) } }
+        ensures questions { questions.new ≡ drawn_unless self.old.usages questions.old }
+        ensures ask { result ≡ ask_of self.old.usages questions.old }
+    {
+        let ask = ask_of(self.usages, questions);
+        self.usages = Some(ask);
+        ask
     }
 
     /// The question of a check of a block, where a segment is in hand.
@@ -110,7 +145,7 @@ impl Job {
         ensures { self.new ≡ record self.old { hand = read_over self.old.hand } }
     {
         if let Some(hand) = &mut self.hand {
-            hand.reading = None;
+            drop(hand.reading.take());
         }
     }
 
@@ -143,8 +178,8 @@ impl Job {
     }
 }
 
-/// The question that is out, or a new one.
-pub(crate) fn ask_of(question: Option<u32>, questions: &mut Questions) -> u32
+// The question that is out, or a new one.
+fn ask_of(question: Option<u32>, questions: &mut Questions) -> u32
     ensures ask { result ≡ ask_of question questions.old }
     ensures questions { questions.new ≡ drawn_unless question questions.old }
 {

@@ -58,6 +58,8 @@ impl Emptying {
         ensures effects { OnOk result (effects.new ≡ effects.old ++ (on_told self.old server ask told).outs) }
     {
         let Some(server) = server else {
+            // It is dropped by a call, here and below, so that each part of it is dropped in one proof.
+            drop(told);
             return Ok(());
         };
         let next = self.hear(alloc, ask, server, told)?;
@@ -71,10 +73,14 @@ impl Emptying {
         ensures next { IfOk result (λ next. next ≡ (told_by self.old ask server told).next) }
     {
         let Some(job) = &mut self.job else {
+            drop(told);
             return Ok(Next::Wait);
         };
         match &self.maps.groups {
-            None => Ok(Next::Wait),
+            None => {
+                drop(told);
+                Ok(Next::Wait)
+            }
             Some(groups) => job.hear(alloc, groups, ask, server, told),
         }
     }
