@@ -185,7 +185,23 @@ fn crash_serving(alloc: Global, effects: &mut Effects, serving: Serving, number:
 fn what_outlives(serving: Serving) -> Lasting
     ensures { result ≡ serving.lasting }
 {
-    serving.lasting
+    let Serving {
+        lasting,
+        maps,
+        tokens,
+        log,
+        feed,
+        cache,
+        call,
+        ..
+    } = serving;
+    drop(maps);
+    drop(tokens);
+    drop(log);
+    drop(feed);
+    drop(cache);
+    drop(call);
+    lasting
 }
 
 // The item is answered at its begin, and nothing changes.

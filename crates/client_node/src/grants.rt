@@ -141,7 +141,7 @@ impl Serving {
     {
         effects.lose(seg)?;
         self.lasting.answer(effects, Answer::Lost(seg))?;
-        self.call = None;
+        drop(self.call.take());
         drop(self.tokens.take(alloc, In::Quit { block })?);
         Ok(())
     }

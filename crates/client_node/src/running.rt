@@ -75,7 +75,13 @@ impl Serving {
                 Ok(false)
             }
             Some(answer) => {
-                let Call { plan, .. } = call;
+                let Call {
+                    plan,
+                    step,
+                    reading,
+                } = call;
+                drop(step);
+                drop(reading);
                 let going = plan.after(alloc, answer)?;
                 self.go_on(effects, going)?;
                 Ok(true)
