@@ -31,3 +31,6 @@ mod Places
 mod Landing
 mod Tails
 mod Running
+mod Reopening
+mod Stages
+mod Adopted

@@ -6,3 +6,4 @@ pub mod Ends
 pub mod Places
 pub mod Tails
 pub mod Below
+pub mod Runs

@@ -7,6 +7,7 @@
 ghost use Rattle.log_law.specs.Ends.{EndsAreLast, FilesItsFlight};
 ghost use Rattle.log_law.specs.Laws.{AReopeningAdopts, LogsStayInLine, LogsStayWhole, OneNameOneText, SomeSegmentFiled, TheFeedIsWhole};
 ghost use Rattle.log_law.specs.Places.{APlaceNamesOneContent};
+ghost use Rattle.log_law.specs.Runs.{SomeRestarts};
 ghost use Rattle.log_law.specs.Tails.{ATailIsFiledOrNever};
 ghost use Rattle.log_law.specs.Below.{Below};
 
@@ -111,4 +112,10 @@ pub fn the_feed_is_whole()
 /// The laws speak of something: there is a run, from a setting and a map of groups that exist, in which a segment is written, stored and filed.
 pub fn runs_exist()
     ensures { SomeSegmentFiled }
+{}
+
+/// So do those on falls: there is a run in which the owner falls with its first segment in flight, restarts, reads that segment back and serves again with it
+/// filed, and no restart is doubtful; and one in which a manager's log begins anew.
+pub fn restarts_exist()
+    ensures { SomeRestarts }
 {}
