@@ -1,8 +1,5 @@
 -- A run in which a tail is adopted: the owner falls with its first segment in flight, restarts, reads it back, and serves again with it filed.
-use Rattle.std.proofs.Common.{◌≡◌, ℕ, ◌<◌, true, false, List, [], ◌∷◌, ◌++◌, Option, Some, None, refl, sym, ap, subst, ◌∙◌, inl, inr, arith}
-use Rattle.std.specs.Prelude.{Bool}
-use Rattle.xfs_base.specs.declared.segment.End.{End}
-use Rattle.segment_format.specs.declared.segment.Segment.{Segment}
+use Rattle.std.proofs.Common.{◌≡◌, ℕ, true, false, List, [], ◌∷◌, ◌++◌, Some, refl, sym, ap, subst, ◌∙◌, inl, inr, arith}
 use Rattle.fragment_store.specs.ShelfState.{ShelfState, new_shelf}
 use Rattle.stripe_code.specs.Fragments.{meta_of}
 use Rattle.client_log.specs.declared.input.In.TheVariants as log_in
@@ -20,7 +17,7 @@ use Rattle.log_tie.specs.Seen.{log_filed}
 use Rattle.log_tie.specs.Shelves.{Deed, shelf_after}
 use Rattle.log_tie.specs.Shelves.Deed.{Stores, Fetches, Fences}
 use Rattle.log_tie.proofs.Exist.{setting, the_map, group}
-use Rattle.log_law.specs.Net.{Packet, Owner, Net, no_end, opening, answers, first_write, after_log, after_flight, after_scan, after_told, after_writing, log_packets}
+use Rattle.log_law.specs.Net.{Packet, Owner, Net, no_end, opening, answers, first_write, after_log, after_scan, after_told, after_writing, log_packets}
 use Rattle.log_law.specs.Net.Packet.{StoreSent, StoredSent, FragmentSent, FenceSent, FencedSent, MapSent, HelloSent, WelcomeSent}
 use Rattle.log_law.specs.Net.Owner.{Down, Opening, Writing, Serving}
 use Rattle.log_law.specs.Events.{CanStart, WritesText, Happens}
@@ -30,7 +27,7 @@ use Rattle.log_law.specs.Restarts.{is_serving, is_writing, flight_in, last_fligh
 use Rattle.log_law.specs.Runs.{ATailAdopted, ALogRenewed, SomeRestarts}
 use Rattle.log_law.proofs.Reopening.{news, hailing, gathering, list_of, asking, reading_back, one_in, over, start, asks_first, fences_all, keeps_one, keeps_two, asks_second, picks_it, hears_one, hears_two, opening_name, opening_segment, opening_flight, opening_log, opening_written, opens_with, opening_sends, notes_first, notes_second, settles, noted_one, noted_two}
 use Rattle.log_law.proofs.Running.{segment, name, written, flight, writing, first_log, starts, stores, sends_all}
-use Rattle.log_law.proofs.Stages.{calm, variant, variant_map, Sees, Stage, calm_on, forget, serves, crashes, restarts, publishes, welcomes, scans, notes}
+use Rattle.log_law.proofs.Stages.{calm, variant, variant_map, Stage, calm_on, forget, serves, crashes, restarts, publishes, welcomes, scans, notes}
 
 -- ---- the segment is in flight
 

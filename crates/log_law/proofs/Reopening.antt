@@ -1,6 +1,5 @@
 -- What an opening does whose owner fell with one segment in flight, which each member kept: it gathers the lists, picks the segment and reads it back.
 use Rattle.std.proofs.Common.{◌≡◌, ℕ, [], ◌∷◌, List, Some, refl, ap}
-use Rattle.xfs_base.specs.declared.fragment.Fragment.{Fragment}
 use Rattle.xfs_base.specs.declared.news.SlotNews.{SlotNews}
 use Rattle.xfs_base.specs.declared.segment.End.{End}
 use Rattle.segment_format.specs.declared.seg_error.SegError.{SegError}
@@ -20,7 +19,7 @@ use Rattle.log_scan.specs.declared.listing.Listing.{Listing}
 use Rattle.log_scan.specs.declared.opening.Opening.{Opening}
 use Rattle.log_scan.specs.declared.output.Out.TheVariants as scan_out
 use Rattle.log_scan.specs.declared.stage.Backward.{Backward}
-use Rattle.log_scan.specs.declared.stage.Stage.TheVariants.{Hails, Gathers, Asks, Reads, Over}
+use Rattle.log_scan.specs.declared.stage.Stage.TheVariants.{Gathers, Asks, Reads, Over}
 use Rattle.log_scan.specs.ScanState.{ScanState, begun, started}
 use Rattle.log_scan.specs.Transition as scan
 use Rattle.log_tie.proofs.Exist.{setting, the_map, group}

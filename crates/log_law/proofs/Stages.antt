@@ -1,12 +1,11 @@
 -- Stages of a run in which the owner falls with a segment in flight: what happens next makes of one stage the next.
-use Rattle.std.proofs.Common.{◌≡◌, ℕ, suc, ◌<◌, Bool, true, false, cond, ◌==◌, List, [], ◌∷◌, ◌++◌, Option, Some, None, refl, sym, ap, subst, ◌∙◌, inl, inr, arith}
-use Rattle.std.specs.Prelude.{IfSome, min}
+use Rattle.std.proofs.Common.{◌≡◌, ℕ, suc, ◌<◌, Bool, false, cond, ◌==◌, List, [], ◌∷◌, ◌++◌, Option, Some, None, refl, sym, ap, subst, ◌∙◌, inl, inr}
+use Rattle.std.specs.Prelude.{IfSome}
 use Rattle.xfs_base.specs.declared.segment.LogId.{LogId}
 use Rattle.xfs_base.specs.declared.segment.SegName.{SegName}
 use Rattle.segment_format.specs.declared.segment.Segment.{Segment}
 use Rattle.group_map.specs.declared.group.Group.{Group}
-use Rattle.group_map.specs.GroupMapState.{GroupMapState}
-use Rattle.fragment_store.specs.ShelfState.{ShelfState, new_shelf}
+use Rattle.fragment_store.specs.ShelfState.{ShelfState}
 use Rattle.client_log.specs.declared.input.In.{In as Input}
 use Rattle.client_log.specs.declared.input.In.TheVariants as log_in
 use Rattle.client_log.specs.LogState.{FlightState, LogState}
@@ -19,12 +18,12 @@ use Rattle.log_tie.specs.Setting.{Setting, IsStripe}
 use Rattle.log_tie.specs.Scans.{WholeMap}
 use Rattle.log_tie.specs.Shelves.{Deed, shelf_after}
 use Rattle.log_tie.proofs.Exist.{setting, the_map, whole_map}
-use Rattle.log_law.specs.Net.{Packet, Owner, Net, Told, opening, answers, chain_in, scan_packets, scans_on, after_told, after_scan, after_flight, after_writing, log_packets}
+use Rattle.log_law.specs.Net.{Packet, Owner, Net, opening, answers, chain_in, scan_packets, scans_on, after_told, after_scan, after_flight, after_writing}
 use Rattle.log_law.specs.Net.Packet.{MapSent, HelloSent, WelcomeSent, StoredSent}
-use Rattle.log_law.specs.Net.Owner.{Down, Opening, Writing, Serving}
+use Rattle.log_law.specs.Net.Owner.{Down, Opening, Writing}
 use Rattle.log_law.specs.Events.{IsWritten, CameToServer, CameToScan, CameToWriter, CanStart, StartsWith, WritesText, Happens, Runs}
-use Rattle.log_law.specs.Events.Happens.{Acts, Writes, Opens, Crashes, Restarts, Serves, Publishes, Welcomes}
-use Rattle.log_law.specs.Events.Runs.{Begun, On}
+use Rattle.log_law.specs.Events.Happens.{Writes, Opens, Crashes, Restarts, Serves, Publishes, Welcomes}
+use Rattle.log_law.specs.Events.Runs.{On}
 use Rattle.log_law.specs.Restarts.{IsSureRun, last_flight, flight_in}
 use Rattle.log_law.proofs.Reopening.{news}
 use Rattle.log_law.proofs.Running.{flight}
