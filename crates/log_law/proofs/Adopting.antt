@@ -73,7 +73,7 @@ module _ (k : Below) (g : Setting) (none : g.doubts ≡ false) (first : Net) (se
           clash p q a b c = omega arith
       by (inr is) = is
 
-  adopted : (t : Segment) → In t chain → IsAdopted g run n t
+  pub adopted : (t : Segment) → In t chain → IsAdopted g run n t
   adopted t among = by (nat_lt h.w.head (h.w.seq_of p.number)) refl
     where
       p : OnPath g h.w h.book h.fixed h.paged as_it_writes.read.lowest s.end.seq as_it_writes.read.opening t

@@ -29,6 +29,13 @@ use Rattle.log_law.proofs.InLine.{within}
 use Rattle.log_law.proofs.Views.{OwnerShown, Behind, View}
 use Rattle.log_law.proofs.Wholeness.{seen}
 
+-- what the log files by an input is of its flight
+pub landed : (s : LogState) (i : Input) (l : LogId) (outs : List Out) → AllByRecursion (TellsWhatIsDue s i) outs → (name : SegName) → In name (log_filed l outs) → (f : FlightState) × (s.flight ≡ Some f) × (record { log = l; seq = f.segment.name.seq; pass = f.segment.name.pass } ≡ name)
+landed s i l [] all name among = absurd among
+landed s i l (Send f m ∷ os) all name among = landed s i l os all.1 name among
+landed s i l (Settled end rows ∷ os) all name (inl e) = (all.0.flight, all.0.was, sym (e ∙ ap (λ (z : End). record { log = l; seq = z.seq; pass = z.pass }) all.0.is_end))
+landed s i l (Settled end rows ∷ os) all name (inr among) = landed s i l os all.1 name among
+
 module _ (g : Setting) (n : Net) (h : View g n) (s : LogState) (is : n.owner ≡ Serving s) where
   there : ServesShown g h.w h.book s × Behind g h.w h.book s
   there = subst (OwnerShown g h.w h.book h.hellos) is h.owner
@@ -64,13 +71,6 @@ module _ (g : Setting) (n : Net) (h : View g n) (s : LogState) (is : n.owner ≡
 
   -- ---- what is filed
 
-  -- what the log files by an input is of its flight
-  landed : (i : Input) (l : LogId) (outs : List Out) → AllByRecursion (TellsWhatIsDue s i) outs → (name : SegName) → In name (log_filed l outs) → (f : FlightState) × (s.flight ≡ Some f) × (record { log = l; seq = f.segment.name.seq; pass = f.segment.name.pass } ≡ name)
-  landed i l [] all name among = absurd among
-  landed i l (Send f m ∷ os) all name among = landed i l os all.1 name among
-  landed i l (Settled end rows ∷ os) all name (inl e) = (all.0.flight, all.0.was, sym (e ∙ ap (λ (z : End). record { log = l; seq = z.seq; pass = z.pass }) all.0.is_end))
-  landed i l (Settled end rows ∷ os) all name (inr among) = landed i l os all.1 name among
-
   -- a flight is of the log
   of_log : (f : FlightState) → s.flight ≡ Some f → f.segment.name.log ≡ g.log
   of_log f flies = by s.flight flies there.0.flight
@@ -88,7 +88,7 @@ pub ends_are_last : Below → EndsAreLast
 ends_are_last k g n none m calm s is = end_is_last g n (along_moment k g none n m calm).view s is k none
 
 pub files_its_flight : Below → FilesItsFlight
-files_its_flight k g n o m s is (Acts t i is_t came texts) name among = ⊎_elim (λ new. inr (flies (landed (doubtful g) n (seen k g n m) t is_t i g.log (log.transition t i).outs (k.logs.due t i) name new))) inl (in_either (log_filed g.log (log.transition t i).outs) n.filed name among)
+files_its_flight k g n o m s is (Acts t i is_t came texts) name among = ⊎_elim (λ new. inr (flies (landed t i g.log (log.transition t i).outs (k.logs.due t i) name new))) inl (in_either (log_filed g.log (log.transition t i).outs) n.filed name among)
   where
     same : t ≡ s
     same = cc

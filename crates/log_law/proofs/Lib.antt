@@ -30,6 +30,7 @@ mod Ends
 mod Places
 mod Landing
 mod Tails
+mod Restarted
 mod Running
 mod Reopening
 mod Stages

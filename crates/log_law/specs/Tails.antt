@@ -29,3 +29,12 @@ abbrev pub ATailIsFiledOrNever : Type 0
 ATailIsFiledOrNever =
     (g : Setting) (n o : Net) → g.doubts ≡ false → (m : Moment g n) (happens : Happens g n o) → IsSureRun (On m.run happens) → EndsRestart n o
     → (f : FlightState) → last_flight m.run ≡ Some f → IsTailAdopted g o f ⊎ IsTailDiscarded (On m.run happens) f
+
+-- This filed segment tells nothing, or is the tail: of the number and the boot of that flight, with its content.
+abbrev pub TellsOnlyTheTail : {g : Setting} {n : Net} (m : Moment g n) → Net → SegName → Type 0
+TellsOnlyTheTail {g = g} m o name = (t : Segment) × In t o.flown × (t.name ≡ name) × ((g.content t.items ≡ 0) ⊎ ((f : FlightState) × (last_flight m.run ≡ Some f) × IsAttemptOf g f t))
+
+-- What is filed at the event that ends a restart, and wasn't before, tells nothing, or is the tail.
+abbrev pub ARestartFilesTheTail : Type 0
+ARestartFilesTheTail =
+    (g : Setting) (n o : Net) → g.doubts ≡ false → (m : Moment g n) (happens : Happens g n o) → IsSureRun (On m.run happens) → EndsRestart n o → (name : SegName) → In name o.filed → In name n.filed ⊎ TellsOnlyTheTail m o name

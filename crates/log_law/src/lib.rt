@@ -8,7 +8,7 @@ ghost use Rattle.log_law.specs.Ends.{EndsAreLast, FilesItsFlight};
 ghost use Rattle.log_law.specs.Laws.{AReopeningAdopts, LogsStayInLine, LogsStayWhole, OneNameOneText, SomeSegmentFiled, TheFeedIsWhole};
 ghost use Rattle.log_law.specs.Places.{APlaceNamesOneContent};
 ghost use Rattle.log_law.specs.Runs.{SomeRestarts};
-ghost use Rattle.log_law.specs.Tails.{ATailIsFiledOrNever};
+ghost use Rattle.log_law.specs.Tails.{ARestartFilesTheTail, ATailIsFiledOrNever};
 ghost use Rattle.log_law.specs.Below.{Below};
 
 use client_log::laws::{end_rises_by_one, flight_is_next, settles_what_is_due};
@@ -94,9 +94,11 @@ pub fn a_reopening_adopts()
 }
 
 /// A tail is filed or never: while no restart that ended was doubtful, at the event that ends a restart the flight of the last boot that served is filed, as a
-/// segment of its number and its boot, with its content, or no segment of that number and that boot is filed, then or later.
+/// segment of its number and its boot, with its content, or no segment of that number and that boot is filed, then or later; and whatever else is filed then, and
+/// wasn't before, tells nothing.
 pub fn a_tail_is_filed_or_never()
     ensures tail { ATailIsFiledOrNever }
+    ensures only { ARestartFilesTheTail }
 {
     below();
 }
