@@ -25,7 +25,7 @@ use Rattle.log_law.proofs.Calmer.{doubtful}
 use Rattle.log_law.proofs.Feeding.{passes, in_either}
 use Rattle.log_law.proofs.Followed.{along_moment}
 use Rattle.log_law.proofs.Gapless.{served_head}
-use Rattle.log_law.proofs.InLine.{within}
+use Rattle.log_law.proofs.InLine.{number_of, within}
 use Rattle.log_law.proofs.Views.{OwnerShown, Behind, View}
 use Rattle.log_law.proofs.Wholeness.{seen}
 
@@ -43,6 +43,9 @@ module _ (g : Setting) (n : Net) (h : View g n) (s : LogState) (is : n.owner ≡
   -- ---- the end
 
   module _ (k : Below) (none : g.doubts ≡ false) where
+    some : (name : SegName) → In name n.filed → 0 < name.seq
+    some name among = let x = number_of k g none n h name among in let a = (k.protocol.book h.w h.reached).seq_some x.number x.booked in let b = x.seq in omega arith
+
     last : (name : SegName) → In name n.filed → name.seq ≤ s.end.seq
     last name among = let a = within k g none n h name among in let b = served_head k g n h (h.calm none) s is in omega arith
 
@@ -67,7 +70,7 @@ module _ (g : Setting) (n : Net) (h : View g n) (s : LogState) (is : n.owner ≡
         by (Some f) shown = ap (λ (z : Segment). z.name.seq) shown.segment ∙ shown.next
 
     pub end_is_last : EndIsLast n s
-    end_is_last = record { last = last; filed = filed; next = next }
+    end_is_last = record { some = some; last = last; filed = filed; next = next }
 
   -- ---- what is filed
 

@@ -28,7 +28,7 @@ module _ (k : Below) (g : Setting) (none : g.doubts ≡ false) (n : Net) (h : Vi
     pub booked : h.w.booked number ≡ 1
     pub seq : h.w.seq_of number ≡ name.seq
 
-  number_of : (name : SegName) → In name n.filed → Filed name
+  pub number_of : (name : SegName) → In name n.filed → Filed name
   number_of name is = let f = h.filed name is in record {
     number = f.0;
     named = f.1;

@@ -162,11 +162,16 @@ module _ (k : Below) (g : Setting) (n o : Net) (none : g.doubts ≡ false) (m : 
   there = gapless (suc w.head) (omega arith) (let r = head_rises k g none n a.view o happens t ends in omega arith)
 
   adopted : there.0.pass.inc ≡ f.segment.name.pass.inc → IsTailAdopted g o f
-  adopted boot = (a.view.book x, (grows g n o happens).flown (a.view.book x) (a.view.flown.all x booked), subst (λ z. In z o.filed) (sym named) there.1, record {
-    seq = ap (λ (z : SegName). z.seq) named ∙ (there.2 ∙ sym at.0);
-    boot = ap (λ (z : SegName). z.pass.inc) named ∙ boot;
-    content = sym (a.view.paged x booked).tells ∙ (kept.content ∙ ap (λ (z : FlightState). g.content z.segment.items) same);
-  })
+  adopted boot = (
+    a.view.book x,
+    (grows g n o happens).flown (a.view.book x) (a.view.flown.all x booked),
+    subst (λ z. In z o.filed) (sym named) there.1,
+    record {
+      seq = ap (λ (z : SegName). z.seq) named ∙ (there.2 ∙ sym at.0);
+      boot = ap (λ (z : SegName). z.pass.inc) named ∙ boot;
+      content = sym (a.view.paged x booked).tells ∙ (kept.content ∙ ap (λ (z : FlightState). g.content z.segment.items) same);
+    },
+  )
     where
       x : ℕ
       x = (t.view.filed there.0 there.1).0

@@ -10,8 +10,10 @@ use Rattle.log_law.specs.Events.{Happens}
 use Rattle.log_law.specs.Laws.{Moment}
 use Rattle.log_law.specs.Restarts.{IsSureRun}
 
--- The end is the last filed segment: no filed number is above it, and where it isn't 0 the segment that it names is filed. What is in flight is the next one.
+-- The end is the last filed segment: filed numbers begin at 1, none is above it, and where it isn't 0 the segment that it names is filed. What is in flight is
+-- the next one.
 pub record EndIsLast (n : Net) (s : LogState) : Type 0 where
+  pub some : (name : SegName) → In name n.filed → 0 < name.seq
   pub last : (name : SegName) → In name n.filed → name.seq ≤ s.end.seq
   pub filed : 0 < s.end.seq → In (record { log = s.log; seq = s.end.seq; pass = s.end.pass }) n.filed
   pub next : IfSome s.flight (λ f. f.segment.name.seq ≡ s.end.seq + 1)
