@@ -1,0 +1,9 @@
+mod Starts
+mod Frames
+mod Fits
+mod Bytes
+mod Hands
+mod Jobs
+mod Serving
+mod StandIn
+mod Phases
