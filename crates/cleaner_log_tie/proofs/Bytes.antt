@@ -84,7 +84,9 @@ doubled_byte x = xor_of_8 (2 * x % 256) (0x1D * (x / 128 % 2)) (omega arith) (om
 product_byte : (bits by x : ℕ) → x < 256 → product_of bits by x < 256
 unfolding product_of
 product_byte zero by x less = omega arith
-product_byte (suc bits) by x less = xor_of_8 (by % 2 * x) (product_of bits (by / 2) (doubled x)) (bit_times (by % 2) x (omega arith) less) (product_byte bits (by / 2) (doubled x) (doubled_byte x))
+product_byte (suc bits) by x less =
+    xor_of_8 (by % 2 * x) (product_of bits (by / 2) (doubled x)) (bit_times (by % 2) x (omega arith) less)
+    (product_byte bits (by / 2) (doubled x) (doubled_byte x))
 
 times_bytes : (by : ℕ) (xs : List ℕ) → Bytes xs → Bytes (times by xs)
 unfolding product
@@ -97,7 +99,8 @@ module _ (adds : ℕ → List ℕ → List ℕ) (keeps : (place : ℕ) (f : List
   rest_bytes : (place : ℕ) (start : List ℕ) (ps : List (Option (List ℕ))) → Bytes start → AllParts ps → Bytes (rest_onto adds place start ps)
   rest_bytes place start [] s all = s
   rest_bytes place start (None ∷ ps) s all = rest_bytes (place + 1) start ps s all.1
-  rest_bytes place start (Some f ∷ ps) s all = rest_bytes (place + 1) (xor_of start (adds place f)) ps (xor_bytes start (adds place f) s (keeps place f all.0)) all.1
+  rest_bytes place start (Some f ∷ ps) s all =
+      rest_bytes (place + 1) (xor_of start (adds place f)) ps (xor_bytes start (adds place f) s (keeps place f all.0)) all.1
 
 plain_rest : (start : List ℕ) (ps : List (Option (List ℕ))) → Bytes start → AllParts ps → Bytes (rest_onto plain 0 start ps)
 plain_rest start ps s all = rest_bytes plain (λ place f b. b) 0 start ps s all
@@ -111,9 +114,12 @@ one_bytes known a None (Some q) all first second = times_bytes (inverse_of (2 ^ 
 one_bytes known a None None all first second = tt
 
 lower_bytes : (a b : ℕ) (sum weighted_sum : List ℕ) → Bytes sum → Bytes weighted_sum → Bytes (lower_of a b sum weighted_sum)
-lower_bytes a b sum weighted_sum s t = times_bytes (inverse_of (bit_xor (2 ^ a) (2 ^ b))) (xor_of weighted_sum (times (2 ^ b) sum)) (xor_bytes weighted_sum (times (2 ^ b) sum) t (times_bytes (2 ^ b) sum s))
+lower_bytes a b sum weighted_sum s t =
+    times_bytes (inverse_of (bit_xor (2 ^ a) (2 ^ b))) (xor_of weighted_sum (times (2 ^ b) sum))
+    (xor_bytes weighted_sum (times (2 ^ b) sum) t (times_bytes (2 ^ b) sum s))
 
-two_bytes : (known : List (Option (List ℕ))) (a b : ℕ) (p q : Option (List ℕ)) → AllParts known → PartBytes p → PartBytes q → AllByRecursion Bytes (two_gone known a b p q)
+two_bytes : (known : List (Option (List ℕ))) (a b : ℕ) (p q : Option (List ℕ)) → AllParts known → PartBytes p → PartBytes q
+    → AllByRecursion Bytes (two_gone known a b p q)
 two_bytes known a b (Some p) (Some q) all first second =
     let s = rest_onto plain 0 p known in
     let t = rest_onto weighted 0 q known in
@@ -122,7 +128,8 @@ two_bytes known a b (Some p) (Some q) all first second =
 two_bytes known a b (Some p) None all first second = (tt, (tt, tt))
 two_bytes known a b None q all first second = (tt, (tt, tt))
 
-recovered_bytes : (places : List ℕ) (known : List (Option (List ℕ))) (p q : Option (List ℕ)) → AllParts known → PartBytes p → PartBytes q → AllByRecursion Bytes (recovered_at places known p q)
+recovered_bytes : (places : List ℕ) (known : List (Option (List ℕ))) (p q : Option (List ℕ)) → AllParts known → PartBytes p → PartBytes q
+    → AllByRecursion Bytes (recovered_at places known p q)
 recovered_bytes [] known p q all first second = tt
 recovered_bytes (a ∷ []) known p q all first second = (one_bytes known a p q all first second, tt)
 recovered_bytes (a ∷ b ∷ []) known p q all first second = two_bytes known a b p q all first second
@@ -163,7 +170,8 @@ in_bytes : (index : ℕ) (answers : List Answer) → AllByRecursion (λ (a : Ans
 in_bytes index [] all = tt
 in_bytes index (a ∷ answers) all = told_bytes index a.told (bytes_in index answers) all.0 (in_bytes index answers all.1)
 
-parts_bytes : (answers : List Answer) → AllByRecursion (λ (a : Answer). ToldFits a.told) answers → (places : List ℕ) → AllParts (map (λ index. bytes_in index answers) places)
+parts_bytes : (answers : List Answer) → AllByRecursion (λ (a : Answer). ToldFits a.told) answers → (places : List ℕ)
+    → AllParts (map (λ index. bytes_in index answers) places)
 parts_bytes answers all [] = tt
 parts_bytes answers all (index ∷ places) = (in_bytes index answers all, parts_bytes answers all places)
 
@@ -180,7 +188,8 @@ state_bytes r h =
     (λ t. joined_bytes (parts_in r.n r.answers) r.parity (unwrap_or (len_in r.answers) 0) (parts_bytes r.answers h (range_with_len 0 r.n)))
     (λ t. by_test StateBytes (have_answered r.answers r.servers) (Short (missing_in r.answers)) Waiting (λ k. tt) (λ k. tt))
 
-appended : (answers : List Answer) (a : Answer) → AllByRecursion (λ (x : Answer). ToldFits x.told) answers → ToldFits a.told → AllByRecursion (λ (x : Answer). ToldFits x.told) (answers ++ a ∷ [])
+appended : (answers : List Answer) (a : Answer) → AllByRecursion (λ (x : Answer). ToldFits x.told) answers → ToldFits a.told
+    → AllByRecursion (λ (x : Answer). ToldFits x.told) (answers ++ a ∷ [])
 appended [] a all h = (h, tt)
 appended (x ∷ answers) a all h = (all.0, appended answers a all.1 h)
 
@@ -191,18 +200,20 @@ taken_fits r server t h told =
 
 -- ---- the segment
 
-blocks_fit : (items : List Item) → AllByRecursion FitsItem items → AllByRecursion (IsItem second_version) items → Bytes (flat_map item_text items) → AllByRecursion ItemFits items
+blocks_fit : (items : List Item) → AllByRecursion FitsItem items → AllByRecursion (IsItem second_version) items → Bytes (flat_map item_text items)
+    → AllByRecursion ItemFits items
 blocks_fit [] fits limits bytes = tt
 blocks_fit (Block block None ∷ items) fits limits bytes = absurd limits.0
 blocks_fit (Block block (Some value) ∷ items) fits limits bytes =
     let own : Bytes (item_text (Block block (Some value))) = before (item_text (Block block (Some value))) (flat_map item_text items) bytes in
-    let text : Bytes (to_be_bytes w16 (length value) ++ value) = behind (block_text block) (to_be_bytes w16 (length value) ++ value) own.1 in
-    (
+    let text : Bytes (to_be_bytes w16 (length value) ++ value) = behind (block_text block) (to_be_bytes w16 (length value) ++ value) own.1 in (
       record { block = fits.0; length = limits.0; bytes = All-from_recursion (λ (byte : ℕ). byte < 256) value (behind (to_be_bytes w16 (length value)) value text) },
       blocks_fit items fits.1 limits.1 (behind (item_text (Block block (Some value))) (flat_map item_text items) bytes),
     )
-blocks_fit (Delta block ver hop item ∷ items) fits limits bytes = (tt, blocks_fit items fits.1 limits.1 (behind (item_text (Delta block ver hop item)) (flat_map item_text items) bytes))
-blocks_fit (Part slot rows ∷ items) fits limits bytes = (tt, blocks_fit items fits.1 limits.1 (behind (item_text (Part slot rows)) (flat_map item_text items) bytes))
+blocks_fit (Delta block ver hop item ∷ items) fits limits bytes =
+    (tt, blocks_fit items fits.1 limits.1 (behind (item_text (Delta block ver hop item)) (flat_map item_text items) bytes))
+blocks_fit (Part slot rows ∷ items) fits limits bytes =
+    (tt, blocks_fit items fits.1 limits.1 (behind (item_text (Part slot rows)) (flat_map item_text items) bytes))
 
 segment_fits : (text : List ℕ) (s : Segment) → Bytes text → answer_of text ≡ Ok s → SegmentFits s
 segment_fits text s bytes e =
@@ -234,7 +245,8 @@ judged_fits r groups (Read text) h bytes = by_answer (answer_of text) refl
         (λ t. record { round = h; next = segment_fits text s bytes is }) (λ t. record { round = h; next = tt })
 
 -- an answer that comes to a reading
-pub answered_fits : (r : ReadingState) (groups : GroupMapState) (ask server : ℕ) (t : Told) → RoundFits r.round → ToldFits t → StepFits (on_answer r groups ask server t)
+pub answered_fits : (r : ReadingState) (groups : GroupMapState) (ask server : ℕ) (t : Told) → RoundFits r.round → ToldFits t
+    → StepFits (on_answer r groups ask server t)
 unfolding on_answer
 answered_fits r groups ask server t h told =
     let now : RoundSoFar = taken r.round server t in

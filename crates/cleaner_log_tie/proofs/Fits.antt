@@ -76,7 +76,8 @@ once_more : (hop : ℕ) → nat_lt hop u32_end ≡ true → hop + 1 < 2 ^ 32
 once_more hop t = grind (arith, nat_tests)
 
 -- a block that is live is put at its version, moved once more
-live_fits : (block told : BlockId) (entry : Entry) (fate : Fate) → FitsRow (told, entry) → may_move entry ≡ true → FateFits block fate → FateFits block (after_live entry fate)
+live_fits : (block told : BlockId) (entry : Entry) (fate : Fate) → FitsRow (told, entry) → may_move entry ≡ true → FateFits block fate
+    → FateFits block (after_live entry fate)
 live_fits block told entry (Asked value) row may h = record { row = (h.block, row.1, once_more entry.hop may, row.3); length = h.length; bytes = h.bytes }
 live_fits block told entry (Live e value) row may h = h
 live_fits block told entry Moved row may h = tt
@@ -94,7 +95,8 @@ moved_fits block (Live e value) h = tt
 moved_fits block Moved h = tt
 moved_fits block Dead h = tt
 
-answers_fit : (answer : Check → Check) → ((c : Check) → CheckFits c → CheckFits (answer c)) → (checks : List Check) → AllByRecursion CheckFits checks → AllByRecursion CheckFits (map answer checks)
+answers_fit : (answer : Check → Check) → ((c : Check) → CheckFits c → CheckFits (answer c)) → (checks : List Check) → AllByRecursion CheckFits checks
+    → AllByRecursion CheckFits (map answer checks)
 answers_fit answer each [] all = tt
 answers_fit answer each (c ∷ checks) all = (each c all.0, answers_fit answer each checks all.1)
 
@@ -136,7 +138,8 @@ read_fits (Some read) j seg fits =
     by_test TurnFits (same_name read.name seg.name) (checking j seg (checks_from 0 read.items)) (still (Reading j seg))
     (λ t. checking_fits j seg (checks_from 0 read.items) (asked_of 0 read.items fits)) (λ t. stands (Reading j seg) tt)
 
-looked_fits : (j : JobState) (seg : SegRef) (was_asked : Bool) (checks : List Check) → AllByRecursion CheckFits checks → TurnFits (looked_at j seg was_asked checks)
+looked_fits : (j : JobState) (seg : SegRef) (was_asked : Bool) (checks : List Check) → AllByRecursion CheckFits checks
+    → TurnFits (looked_at j seg was_asked checks)
 unfolding looked_at
 looked_fits j seg was_asked checks all =
     by_test TurnFits (all_dead checks) (deleting j seg) _ (λ t. deleting_fits j seg)

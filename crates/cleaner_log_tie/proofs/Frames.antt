@@ -55,7 +55,8 @@ module _ (g : Setting) (a b : Asker) (n next : Net) (later : Later n next) (more
   answered_as m OfMaps r same h = subst (AnsweredBy g b next m) (sym (same (λ e. absurd cc))) tt
   answered_as m (OfOpening own) r same h = subst (AnsweredBy g b next m) (sym (same (λ e. absurd cc))) (later.sent _ h)
 
-  pub said_as : (from to : NodeId) → from ≡ a.node → (said : Body) → ((m : Welcome) → said ≡ body.Welcome m → to ≡ b.node → to ≡ a.node) → BodySeen g a n from to said
+  pub said_as : (from to : NodeId) → from ≡ a.node → (said : Body) → ((m : Welcome) → said ≡ body.Welcome m → to ≡ b.node → to ≡ a.node)
+      → BodySeen g a n from to said
       → BodySeen g b next Cleaner to said
   said_as from (Server k) is (body.Store m) own h = λ its. later.sent _ (h its)
   said_as from (Client k) is (body.Store m) own h = tt
@@ -159,7 +160,9 @@ module _ (g : Setting) where
     as_seen w e h = record {
       log = record {
         log = h.log.own.log ∙ is;
-        flight = if_some (λ (f : FlightState). f.segment.name.log ≡ g.log) (λ (f : FlightState). f.segment.name.log ≡ cleaner_log) (λ f named. named ∙ is) e.log.flight h.log.own.flight;
+        flight =
+            if_some (λ (f : FlightState). f.segment.name.log ≡ g.log) (λ (f : FlightState). f.segment.name.log ≡ cleaner_log)
+            (λ f named. named ∙ is) e.log.flight h.log.own.flight;
       };
       job = if_some (JobStands g w) (JobSeen g w.net) (λ job its. its.seen) e.job h.job;
     }
@@ -185,7 +188,8 @@ module _ (g : Setting) where
       pub sent : (p : Packet) → In p (log_packets d.outs) → In p next.net.sent
       pub filed : (name : SegName) → In name (log_filed g.log d.outs) → In name next.net.filed
 
-    took_so : (w : Scene) (e : Emptying) (d : log.Done) → Stands g w e → logs.Took g its_number w its_number e.lasting.inc e.lasting.questions.last d → LogTook w e d
+    took_so : (w : Scene) (e : Emptying) (d : log.Done) → Stands g w e → logs.Took g its_number w its_number e.lasting.inc e.lasting.questions.last d
+        → LogTook w e d
     took_so w e d h t = record {
       next = t.next;
       grown = owner_grows w t.next t.grown;
@@ -201,7 +205,8 @@ module _ (g : Setting) where
     log_takes w e i h came fits =
         took_so w e (log.transition e.log i) h (logs.takes g its_number w e.log its_number e.lasting.inc e.lasting.questions.last i (as_client w e h) came fits)
 
-    pub log_takes_stored : (w : Scene) (e : Emptying) (name : SegName) (index generation : ℕ) → Stands g w e → (is_of_log g name ≡ true → In (StoredSent name index generation) w.net.sent)
+    pub log_takes_stored : (w : Scene) (e : Emptying) (name : SegName) (index generation : ℕ) → Stands g w e
+        → (is_of_log g name ≡ true → In (StoredSent name index generation) w.net.sent)
         → LogTook w e (log.on_acked e.log name index generation)
     log_takes_stored w e name index generation h seen =
         took_so w e (log.on_acked e.log name index generation) h

@@ -24,7 +24,8 @@ over_fits : (q : Questions) (seg : SegRef) (group : Option Group) → InHand (ta
 over_fits q seg None = tt
 over_fits q seg (Some group) = tt
 
-pub taken_fits : (groups : Option GroupMapState) (q : Questions) (hand : Option Hand) (seg : SegRef) → InHand hand → InHand (takes_in_hand groups q hand seg).hand
+pub taken_fits : (groups : Option GroupMapState) (q : Questions) (hand : Option Hand) (seg : SegRef) → InHand hand
+    → InHand (takes_in_hand groups q hand seg).hand
 unfolding takes_in_hand
 taken_fits groups q hand seg h =
     by_test (λ (t : Taken). InHand t.hand) (is_in_hand hand seg) (record { hand = hand; questions = q }) (taken_over q seg (known_group groups seg.group))
@@ -51,11 +52,13 @@ pub record HeardFits (h : Heard Hand) : Type 0 where
   pub hand : HandFits h.state
   pub next : NextFits h.next
 
-pub hears_fits : (hand : Hand) (groups : GroupMapState) (ask server : ℕ) (t : Told) → HandFits hand → ToldFits t → HeardFits (hand_hears hand groups ask server t)
+pub hears_fits : (hand : Hand) (groups : GroupMapState) (ask server : ℕ) (t : Told) → HandFits hand → ToldFits t
+    → HeardFits (hand_hears hand groups ask server t)
 unfolding hand_hears
 hears_fits hand groups ask server t h told = by_reading hand.reading h
   where
-    by_reading : (reading : Option ReadingState) → IfSome reading (λ (r : ReadingState). RoundFits r.round) → HeardFits (hears_by hand reading groups ask server t)
+    by_reading : (reading : Option ReadingState) → IfSome reading (λ (r : ReadingState). RoundFits r.round)
+        → HeardFits (hears_by hand reading groups ask server t)
     by_reading None its = record { hand = h; next = tt }
     by_reading (Some r) its = (let s : StepFits (on_answer r groups ask server t) = answered_fits r groups ask server t its told in record { hand = s.round; next = s.next })
 

@@ -87,7 +87,8 @@ module _ (g : Setting) (is : g.log ≡ cleaner_log) where
   unless_more (Some ask) q = omega arith
 
   -- a job with other things in hand, and with more questions drawn
-  with_job_stands : (w : Scene) (e : Emptying) (q : Questions) (job : Job) → e.lasting.questions.last ≤ q.last → Stands g w e → JobStands g w job → Stands g w (with_job e q job)
+  with_job_stands : (w : Scene) (e : Emptying) (q : Questions) (job : Job) → e.lasting.questions.last ≤ q.last → Stands g w e → JobStands g w job
+      → Stands g w (with_job e q job)
   with_job_stands w e q job more h its = record { lasts = asks_on w e.lasting.inc e.lasting.questions q more h.lasts; log = h.log; written = h.written; job = its }
 
   -- ---- what the job asks
@@ -128,7 +129,8 @@ module _ (g : Setting) (is : g.log ≡ cleaner_log) where
         does = (record { own = λ own. subst (AskedBy g (its_asker v) v.net e.lasting.inc) (sym (put_here w.asked number OfMaps)) tt; reached = tt }, tt);
       }
 
-  maps_asked : (w : Scene) (e : Emptying) (job : Option Job) → has_room e.lasting.questions.last ≡ true → Stands g w e → IfSome job (JobStands g w) → Goes w (asks_maps e job)
+  maps_asked : (w : Scene) (e : Emptying) (job : Option Job) → has_room e.lasting.questions.last ≡ true → Stands g w e → IfSome job (JobStands g w)
+      → Goes w (asks_maps e job)
   maps_asked w e None room h its = stays g w e h
   maps_asked w e (Some job) room h its = maps_asked_by w e job job.hello room h its its.hello
 
@@ -153,7 +155,8 @@ module _ (g : Setting) (is : g.log ≡ cleaner_log) where
       under_more hand q None = ask_no_lower q
       under_more hand q (Some ask) = omega arith
 
-      checks_kept : (job : Job) (hand : Option Hand) → JobStands g w job → InHand hand → Stands g w (with_job e (hand_checks_in job e.lasting.questions hand block).questions (hand_checks_in job e.lasting.questions hand block).job)
+      checks_kept : (job : Job) (hand : Option Hand) → JobStands g w job → InHand hand
+          → Stands g w (with_job e (hand_checks_in job e.lasting.questions hand block).questions (hand_checks_in job e.lasting.questions hand block).job)
       checks_kept job None its own = with_job_stands w e e.lasting.questions job (omega arith) h its
       checks_kept job (Some hand) its own =
           with_job_stands w e (checks hand e.lasting.questions block).questions _ (under_more hand e.lasting.questions (kept_ask hand block)) h
@@ -214,7 +217,8 @@ module _ (g : Setting) (is : g.log ≡ cleaner_log) where
   unfolding puts_block
   block_put w e one h fits = put_so w e (log_in.Put one.0 one.1 one.2) h tt fits
 
-  blocks_moved : (w : Scene) (e : Emptying) (blocks : List (BlockId × Entry × Option (List ℕ))) → Stands g w e → AllByRecursion MoveFits blocks → Goes w (moves e blocks)
+  blocks_moved : (w : Scene) (e : Emptying) (blocks : List (BlockId × Entry × Option (List ℕ))) → Stands g w e → AllByRecursion MoveFits blocks
+      → Goes w (moves e blocks)
   unfolding moves
   blocks_moved w e blocks h fits =
       let d : Done = steps puts_block e blocks in
@@ -280,7 +284,8 @@ module _ (g : Setting) (is : g.log ≡ cleaner_log) where
   drop_acted w true name acted = (acted, tt)
   drop_acted w false name acted = tt
 
-  segment_deleted : (w : Scene) (e : Emptying) (job : Option Job) (server : ℕ) (name : SegName) → Stands g w e → IfSome job (JobStands g w) → DropOfLog g w.net name
+  segment_deleted : (w : Scene) (e : Emptying) (job : Option Job) (server : ℕ) (name : SegName) → Stands g w e → IfSome job (JobStands g w)
+      → DropOfLog g w.net name
       → Goes w (deletes e job server name)
   segment_deleted w e None server name h its may = stays g w e h
   segment_deleted w e (Some job) server name h its may =
@@ -317,7 +322,8 @@ module _ (g : Setting) (is : g.log ≡ cleaner_log) where
   both n [] drop fit = tt
   both n (o ∷ outs) drop fit = ((drop.0, fit.0), both n outs drop.1 fit.1)
 
-  all_said : (w : Scene) (e : Emptying) (outs : List Out) → Stands g w e → AllByRecursion (OutDrops g w.net) outs → AllByRecursion OutFits outs → Goes w (steps says e outs)
+  all_said : (w : Scene) (e : Emptying) (outs : List Out) → Stands g w e → AllByRecursion (OutDrops g w.net) outs → AllByRecursion OutFits outs
+      → Goes w (steps says e outs)
   all_said w e outs h drop fit =
       all_steps g says OutOwed (λ v k grown o owed. (out_later g v.net k.net (is_later g v k grown) o owed.0, owed.1)) job_says w e outs h (both w.net outs drop fit)
 
@@ -328,7 +334,8 @@ module _ (g : Setting) (is : g.log ≡ cleaner_log) where
     drops : AllByRecursion (OutDrops g w.net) outs
     fits : AllByRecursion OutFits outs
 
-  took : (w : Scene) (e : Emptying) (job : Option Job) (given : Input) → Stands g w e → IfSome job (JobStands g w) → CleaningSent g w.net given → InputFits given
+  took : (w : Scene) (e : Emptying) (job : Option Job) (given : Input) → Stands g w e → IfSome job (JobStands g w) → CleaningSent g w.net given
+      → InputFits given
       → Took w (takes_in e job given).state (takes_in e job given).outs
   took w e None given h its sent fits = record { stands = h; drops = tt; fits = tt }
   took w e (Some job) given h its sent fits =
@@ -347,7 +354,8 @@ module _ (g : Setting) (is : g.log ≡ cleaner_log) where
       all_said w (takes_in e e.job given).state (takes_in e e.job given).outs t.stands t.drops t.fits
 
   -- in time
-  awaited_said : (w : Scene) (e : Emptying) (p : Phase) → has_room e.lasting.questions.last ≡ true → Stands g w e → AllByRecursion (OutDrops g w.net) (awaits p) → Goes w (steps says e (awaits p))
+  awaited_said : (w : Scene) (e : Emptying) (p : Phase) → has_room e.lasting.questions.last ≡ true → Stands g w e
+      → AllByRecursion (OutDrops g w.net) (awaits p) → Goes w (steps says e (awaits p))
   unfolding says
   awaited_said w e Greeting room h drop =
       and_then g w (asks_maps e e.job) (still (asks_maps e e.job).state) (maps_asked w e e.job room h h.job) (stays g _ _ (maps_asked w e e.job room h h.job).stands)
@@ -355,7 +363,8 @@ module _ (g : Setting) (is : g.log ≡ cleaner_log) where
   awaited_said w e (Counting c) room h drop = all_said w e (awaits (Counting c)) h drop (awaits_fit (Counting c) (λ x. absurd cc))
   awaited_said w e (Reading j seg) room h drop = all_said w e (awaits (Reading j seg)) h drop (awaits_fit (Reading j seg) (λ x. absurd cc))
   awaited_said w e (Checking j seg cs) room h drop = all_said w e (awaits (Checking j seg cs)) h drop (awaits_fit (Checking j seg cs) (λ x. absurd cc))
-  awaited_said w e (Deleting j seg servers) room h drop = all_said w e (awaits (Deleting j seg servers)) h drop (awaits_fit (Deleting j seg servers) (λ x. absurd cc))
+  awaited_said w e (Deleting j seg servers) room h drop =
+      all_said w e (awaits (Deleting j seg servers)) h drop (awaits_fit (Deleting j seg servers) (λ x. absurd cc))
   awaited_said w e Over room h drop = all_said w e (awaits Over) h drop (awaits_fit Over (λ x. absurd cc))
 
   pub job_in_time : (w : Scene) (e : Emptying) → has_room e.lasting.questions.last ≡ true → Stands g w e → Goes w (cleans e input.Tick)
@@ -371,7 +380,8 @@ module _ (g : Setting) (is : g.log ≡ cleaner_log) where
 
   -- ---- what comes for it
 
-  pub list_came : (w : Scene) (e : Emptying) (server : Option ℕ) (m : Listed) → Stands g w e → ListedSeen g (its_asker w) w.net m → Goes w (on_listed e server m)
+  pub list_came : (w : Scene) (e : Emptying) (server : Option ℕ) (m : Listed) → Stands g w e → ListedSeen g (its_asker w) w.net m
+      → Goes w (on_listed e server m)
   unfolding on_listed
   list_came w e None m h sent = stays g w e h
   list_came w e (Some server) m h sent =
@@ -422,7 +432,8 @@ module _ (g : Setting) (is : g.log ≡ cleaner_log) where
   confirms w e None ask h its = record { stands = h; next = tt }
   confirms w e (Some job) ask h its = by_hand job.hand its.hand
     where
-      by_hand : (hand : Option Hand) → InHand hand → HeardSo w (record { state = record e { job = Some (hand_confirmed_in job hand ask).state }; next = (hand_confirmed_in job hand ask).next })
+      by_hand : (hand : Option Hand) → InHand hand
+          → HeardSo w (record { state = record e { job = Some (hand_confirmed_in job hand ask).state }; next = (hand_confirmed_in job hand ask).next })
       by_hand None own = record { stands = record { lasts = h.lasts; log = h.log; written = h.written; job = its }; next = tt }
       by_hand (Some hand) own =
           let f : HeardFits (hand_confirmed hand ask) = confirms_fits hand ask own in
@@ -451,7 +462,8 @@ module _ (g : Setting) (is : g.log ≡ cleaner_log) where
   told_so w e (next.Read segment) h fits = reading_ended w e (Some segment) h fits
   told_so w e next.Lost h fits = reading_ended w e None h tt
 
-  hears_told : (w : Scene) (e : Emptying) (job : Option Job) (groups : Option GroupMapState) (ask server : ℕ) (t : Told) → Stands g w e → IfSome job (JobStands g w) → ToldFits t
+  hears_told : (w : Scene) (e : Emptying) (job : Option Job) (groups : Option GroupMapState) (ask server : ℕ) (t : Told) → Stands g w e
+      → IfSome job (JobStands g w) → ToldFits t
       → HeardSo w (told_in e job groups ask server t)
   unfolding job_hears
   hears_told w e None groups ask server t h its told = record { stands = h; next = tt }

@@ -199,7 +199,8 @@ module _ (g : Setting) (is : g.log ≡ cleaner_log) (w : Scene) where
   unfolding after_opening
   opened l x t = by_progress x.progress t.shows
     where
-      by_progress : (p : Progress) → ProgressSeen g its_number t.next x.questions.last p → Goes (after x.effects (after_opening (record l { questions = x.questions }) p))
+      by_progress : (p : Progress) → ProgressSeen g its_number t.next x.questions.last p
+          → Goes (after x.effects (after_opening (record l { questions = x.questions }) p))
       by_progress (progress.Opening o) shows = record {
         next = t.next;
         grown = t.grown;
@@ -224,7 +225,8 @@ module _ (g : Setting) (is : g.log ≡ cleaner_log) (w : Scene) where
 
   -- ---- items
 
-  down_wish : (servers : ℕ) (l : Lasting) (number : ℕ) (wish : Wish) → CleanerAgrees g w (Down l) → lasting_room l ≡ true → Goes (down_wishes servers l number wish)
+  down_wish : (servers : ℕ) (l : Lasting) (number : ℕ) (wish : Wish) → CleanerAgrees g w (Down l) → lasting_room l ≡ true
+      → Goes (down_wishes servers l number wish)
   down_wish servers l number Restart sees room =
       restarted servers l number sees.0 sees.1 (and_first (has_room l.inc) (has_room l.questions.last) room) (and_second (has_room l.inc) (has_room l.questions.last) room)
   down_wish servers l number Crash sees room = at_once (Down l) _ sees (tt, tt)
@@ -262,7 +264,8 @@ module _ (g : Setting) (is : g.log ≡ cleaner_log) (w : Scene) where
 
   -- ---- packets and time
 
-  heard : (p : Phase) (packet : wire.Packet) → CleanerAgrees g w p → PacketOwed g w p packet → has_room (lasting_of p).questions.last ≡ true → Goes (hears p packet)
+  heard : (p : Phase) (packet : wire.Packet) → CleanerAgrees g w p → PacketOwed g w p packet → has_room (lasting_of p).questions.last ≡ true
+      → Goes (hears p packet)
   unfolding hears
   heard (Down l) packet sees owed room = stays (Down l) sees
   heard (Opening l o) packet sees owed room =
@@ -275,7 +278,8 @@ module _ (g : Setting) (is : g.log ≡ cleaner_log) (w : Scene) where
   passed : (p : Phase) → CleanerAgrees g w p → OpeningOwed g w p → has_room (lasting_of p).questions.last ≡ true → Goes (on_time p)
   unfolding on_time
   passed (Down l) sees owed room = stays (Down l) sees
-  passed (Opening l o) sees owed room = opened l (opening.on_tick o l.questions) (stand_in.time_passes g is w l.inc l.questions sees.0 room o sees.1 sees.2 owed)
+  passed (Opening l o) sees owed room =
+      opened l (opening.on_tick o l.questions) (stand_in.time_passes g is w l.inc l.questions sees.0 room o sees.1 sees.2 owed)
   passed (Serving e) sees owed room = serves (on_tick e) (serving.time_passes g is w e room sees)
 
   its_room : (p : Phase) → phase_room p ≡ true → lasting_room (lasting_of p) ≡ true
@@ -294,7 +298,8 @@ module _ (g : Setting) (is : g.log ≡ cleaner_log) (w : Scene) where
   all_events peers p Tick sees owed room = passed p sees owed (asks_room p room)
 
   taken_so : (peers : Peers) (p : Phase) (what : Do) → CleanerAgrees g w p → CleanerOwed g w p what → Goes (takes peers p what)
-  taken_so peers p what sees owed = by_test Goes (phase_room p) (happens peers p what) (still p) (λ room. all_events peers p what sees owed room) (λ room. stays p sees)
+  taken_so peers p what sees owed =
+      by_test Goes (phase_room p) (happens peers p what) (still p) (λ room. all_events peers p what sees owed room) (λ room. stays p sees)
 
 -- ---- what it does, as packets and acts
 
@@ -323,7 +328,9 @@ owner_takes g is w cleaner what sees owed =
       next = p.next;
       grown = p.grown;
       agrees = p.agrees;
-      sends = packets_all (PacketSeen g (its_asker p.next) p.next.net) (EffectSeen g (its_asker p.next) p.next.net TheCleaner) TheCleaner (λ to said does. does) outs
+      sends =
+          packets_all (PacketSeen g (its_asker p.next) p.next.net) (EffectSeen g (its_asker p.next) p.next.net TheCleaner) TheCleaner
+          (λ to said does. does) outs
           (all_weaker (CleanerDoes g p.next) (EffectSeen g (its_asker p.next) p.next.net TheCleaner) (as_effect g p.next) outs p.does);
       acts = all_acts g p.next outs p.does;
     }

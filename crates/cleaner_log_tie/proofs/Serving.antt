@@ -103,7 +103,8 @@ all_new : (q : Questions) (e : Emptying) (slots : List ℕ) → IsNew q e → Is
 all_new q e [] n = n
 all_new q e (slot ∷ slots) n = all_new q (promises_slot e slot).state slots (promised_new q e slot n)
 
-room_left : (e : Emptying) (number count : ℕ) → has_room e.lasting.questions.last ≡ true → has_room (promises_all (with_new_job e number count)).state.lasting.questions.last ≡ true
+room_left : (e : Emptying) (number count : ℕ) → has_room e.lasting.questions.last ≡ true
+    → has_room (promises_all (with_new_job e number count)).state.lasting.questions.last ≡ true
 unfolding promises_all
 room_left e number count room =
     let f : Emptying = with_new_job e number count in
@@ -134,7 +135,8 @@ module _ (g : Setting) (is : g.log ≡ cleaner_log) where
 
   all_promised : (w : Scene) (e : Emptying) → Stands g w e → Goes w (promises_all e)
   unfolding promises_all
-  all_promised w e h = all_steps g promises_slot (λ v x. Unit {0}) (λ v k grown x o. tt) slot_promised w e (range_with_len 0 8) h (nothing_more (range_with_len 0 8))
+  all_promised w e h =
+      all_steps g promises_slot (λ v x. Unit {0}) (λ v k grown x o. tt) slot_promised w e (range_with_len 0 8) h (nothing_more (range_with_len 0 8))
 
   job_begun : (w : Scene) (e : Emptying) (number count : ℕ) → has_room e.lasting.questions.last ≡ true → Stands g w e → Goes w (begins_job e number count)
   unfolding begins_job
@@ -144,7 +146,8 @@ module _ (g : Setting) (is : g.log ≡ cleaner_log) where
       let p : Goes w d = all_promised w f (record { lasts = h.lasts; log = h.log; written = h.written; job = record { seen = tt; hello = tt; phase = tt; hand = tt } }) in
       and_then g w d (cleans d.state input.Tick) p (job_in_time g is p.next d.state (room_left e number count room) p.stands)
 
-  pub cleaning_wished : (w : Scene) (e : Emptying) (number count : ℕ) → has_room e.lasting.questions.last ≡ true → Stands g w e → Goes w (on_clean e number count)
+  pub cleaning_wished : (w : Scene) (e : Emptying) (number count : ℕ) → has_room e.lasting.questions.last ≡ true → Stands g w e
+      → Goes w (on_clean e number count)
   unfolding on_clean
   cleaning_wished w e number count room h =
       by_test (Goes w) (is_some e.lasting.items.unanswered) (record { state = e; outs = _ ∷ [] }) (begins_job e number count) (λ t. at_once g w e _ h (tt, tt))
@@ -161,7 +164,8 @@ module _ (g : Setting) (is : g.log ≡ cleaner_log) where
   said_more w v grown (log_out.Send f member) h = grown.sent _ h
   said_more w v grown (log_out.Settled end rows) h = grown.filed _ h
 
-  all_said : (w : Scene) (outs : List LogOut) → ((p : Packet) → In p (log_packets outs) → In p w.net.sent) → ((name : SegName) → In name (log_filed g.log outs) → In name w.net.filed)
+  all_said : (w : Scene) (outs : List LogOut) → ((p : Packet) → In p (log_packets outs) → In p w.net.sent)
+      → ((name : SegName) → In name (log_filed g.log outs) → In name w.net.filed)
       → AllByRecursion (LogSaid w) outs
   all_said w [] sent filed = tt
   all_said w (log_out.Send f member ∷ outs) sent filed = (sent _ (inl refl), all_said w outs (λ p among. sent p (inr among)) filed)
@@ -172,7 +176,8 @@ module _ (g : Setting) (is : g.log ≡ cleaner_log) where
   moved_kept w None its = tt
   moved_kept w (Some job) its = record { seen = its.seen; hello = its.hello; phase = its.phase; hand = moved_fits job.hand its.hand }
 
-  segment_settled : (w : Scene) (e : Emptying) (end : End) (rows : List (BlockId × Entry)) → Stands g w e → In (name_of cleaner_log end) w.net.filed → Goes w (settles e end rows)
+  segment_settled : (w : Scene) (e : Emptying) (end : End) (rows : List (BlockId × Entry)) → Stands g w e → In (name_of cleaner_log end) w.net.filed
+      → Goes w (settles e end rows)
   unfolding settles
   segment_settled w e end rows h filed =
       let f : Emptying = fed e end rows in
@@ -190,7 +195,8 @@ module _ (g : Setting) (is : g.log ≡ cleaner_log) where
       let p : Goes t.next (steps writes_one f r.outs) = all_steps g writes_one LogSaid said_more one_written t.next f r.outs t.stands (all_said t.next r.outs t.sent t.filed) in
       record { next = p.next; grown = grows_on g w t.next p.next t.grown p.grown; stands = p.stands; does = p.does }
 
-  stored_came : (w : Scene) (e : Emptying) (m : Stored) → Stands g w e → BodySeen g (its_asker w) w.net node.Cleaner node.Cleaner (body.Stored m) → Goes w (on_stored e m)
+  stored_came : (w : Scene) (e : Emptying) (m : Stored) → Stands g w e → BodySeen g (its_asker w) w.net node.Cleaner node.Cleaner (body.Stored m)
+      → Goes w (on_stored e m)
   unfolding writes
   stored_came w e m h seen = all_written w e (log.on_acked e.log m.name m.index m.generation) (log_takes_stored g is w e m.name m.index m.generation h seen)
 
@@ -210,7 +216,9 @@ module _ (g : Setting) (is : g.log ≡ cleaner_log) where
   -- ---- promises
 
   renewed : (w : Scene) (e : Emptying) (slot epoch : ℕ) → Stands g w e → Stands g w (renews e slot epoch)
-  renewed w e slot epoch h = by_test (Stands g w) (nat_lt (epoch_of e.promised slot) epoch) _ e (λ t. record { lasts = h.lasts; log = h.log; written = h.written; job = h.job }) (λ t. h)
+  renewed w e slot epoch h =
+      by_test (Stands g w) (nat_lt (epoch_of e.promised slot) epoch) _ e (λ t. record { lasts = h.lasts; log = h.log; written = h.written; job = h.job })
+      (λ t. h)
 
   promised : (w : Scene) (e : Emptying) (slot epoch manager : ℕ) → Stands g w e → Stands g w (promises e slot epoch manager)
   unfolding promises
@@ -248,7 +256,8 @@ module _ (g : Setting) (is : g.log ≡ cleaner_log) where
   job_hears_groups w e true m h = job_goes_on g is w e (input.Maps m) h tt tt
   job_hears_groups w e false m h = stays g w e h
 
-  log_hears_groups : (w : Scene) (e : Emptying) (newer : Bool) (m : GroupMapState) → Stands g w e → In (MapSent m) w.net.sent → MapFits m → Goes w (log_regrouped e newer m)
+  log_hears_groups : (w : Scene) (e : Emptying) (newer : Bool) (m : GroupMapState) → Stands g w e → In (MapSent m) w.net.sent → MapFits m
+      → Goes w (log_regrouped e newer m)
   log_hears_groups w e true m h came fit = maps_written w e m h came fit
   log_hears_groups w e false m h came fit = stays g w e h
 
@@ -272,7 +281,8 @@ module _ (g : Setting) (is : g.log ≡ cleaner_log) where
   greeted_kept w None its = tt
   greeted_kept w (Some job) its = record { seen = its.seen; hello = tt; phase = its.phase; hand = its.hand }
 
-  welcomed_over : (w : Scene) (e : Emptying) (slots : List SlotNews) (m : Option GroupMapState) → Stands g w e → least_horizon g.log.0 slots ≤ w.net.low → Goes w (welcomes_over e slots m)
+  welcomed_over : (w : Scene) (e : Emptying) (slots : List SlotNews) (m : Option GroupMapState) → Stands g w e → least_horizon g.log.0 slots ≤ w.net.low
+      → Goes w (welcomes_over e slots m)
   welcomed_over w e slots None h low = stays g w e h
   welcomed_over w e slots (Some m) h low = job_goes_on g is w e (input.Welcome slots m) h low tt
 
@@ -283,7 +293,8 @@ module _ (g : Setting) (is : g.log ≡ cleaner_log) where
       (λ t. welcomed_over w (record e { job = greeted e.job }) m.news.slots e.maps.groups (record { lasts = h.lasts; log = h.log; written = h.written; job = greeted_kept w e.job h.job }) low)
       (λ t. stays g w e h)
 
-  welcome_heard : (w : Scene) (e : Emptying) (m : Welcome) → Stands g w e → WelcomeSeen g (its_asker w) w.net node.Cleaner m → MapFits m.news.groups → Goes w (on_welcome e m)
+  welcome_heard : (w : Scene) (e : Emptying) (m : Welcome) → Stands g w e → WelcomeSeen g (its_asker w) w.net node.Cleaner m → MapFits m.news.groups
+      → Goes w (on_welcome e m)
   unfolding on_welcome
   welcome_heard w e m h seen fit =
       let d : Done = takes_news e m.news in
@@ -339,7 +350,8 @@ module _ (g : Setting) (is : g.log ≡ cleaner_log) where
   body_heard w e from (body.Deleted m) h seen fit = deleted_came g is w e (server_in from) m h
   body_heard w e from _ h seen fit = stays g w e h
 
-  pub packet_heard : (w : Scene) (e : Emptying) (p : packets.Packet) → has_room e.lasting.questions.last ≡ true → Stands g w e → BodySeen g (its_asker w) w.net p.from node.Cleaner p.body
+  pub packet_heard : (w : Scene) (e : Emptying) (p : packets.Packet) → has_room e.lasting.questions.last ≡ true → Stands g w e
+      → BodySeen g (its_asker w) w.net p.from node.Cleaner p.body
       → InRange p.body → Goes w (on_packet e p)
   unfolding on_packet
   packet_heard w e p room h seen fit =

@@ -77,7 +77,9 @@ as_to_client p = record p { from = stand_in p.from; to = Client its_number }
 
 same_packet : (o : openings.Opening) (q : Questions) (p : packets.Packet) → on_packet o q (as_to_client p) ≡ on_packet o q p
 unfolding on_packet
-same_packet o q p = ap (λ x. cond (names_known o.known.maps p.body) x (went (progress.Opening o) (drawn q) (hello o.known.owner.inc (next_ask q) ∷ []))) (same_body o q p.from p.body)
+same_packet o q p =
+    ap (λ x. cond (names_known o.known.maps p.body) x (went (progress.Opening o) (drawn q) (hello o.known.owner.inc (next_ask q) ∷ [])))
+    (same_body o q p.from p.body)
 
 ids_fit : (b : Body) → InRange b → BodyFits b
 ids_fit (body.Live m) h = tt
@@ -92,14 +94,16 @@ module _ (g : Setting) (w : Scene) where
   answered_so m OfMaps h = h
   answered_so m (OfOpening own) h = h
 
-  reached_so : (from : NodeId) (generation : ℕ) → ReachedBy g (its_asker w) w.net from generation → ReachedBy g (asker its_number w) w.net (stand_in from) generation
+  reached_so : (from : NodeId) (generation : ℕ) → ReachedBy g (its_asker w) w.net from generation
+      → ReachedBy g (asker its_number w) w.net (stand_in from) generation
   reached_so (Server v) generation h = h
   reached_so (Client c) generation h = tt
   reached_so (Manager k) generation h = tt
   reached_so Cleaner generation h = tt
   reached_so Registry generation h = tt
 
-  comes_so : (from : NodeId) (b : Body) → BodySeen g (its_asker w) w.net from Cleaner b → BodySeen g (asker its_number w) w.net (stand_in from) (Client its_number) b
+  comes_so : (from : NodeId) (b : Body) → BodySeen g (its_asker w) w.net from Cleaner b
+      → BodySeen g (asker its_number w) w.net (stand_in from) (Client its_number) b
   comes_so from (body.Store m) h = tt
   comes_so from (body.Fence m) h = tt
   comes_so (Server v) (body.Fenced m) h = h

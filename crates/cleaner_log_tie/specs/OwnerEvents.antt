@@ -80,8 +80,8 @@ pub record OwnerGoes (g : Setting) (w : Scene) (d : NodeStep cleaners.Cleaner) :
 -- Each event of the cleaner is a run of the small world of its log.
 abbrev pub OwnerTakes : Type 0
 OwnerTakes =
-    (g : Setting) → g.log ≡ cleaner_log → (w : Scene) (cleaner : cleaners.Cleaner) (what : Do) → CleanerAgrees g w cleaner.phase → CleanerOwed g w cleaner.phase what
-    → OwnerGoes g w (cleaner_step cleaner what)
+    (g : Setting) → g.log ≡ cleaner_log → (w : Scene) (cleaner : cleaners.Cleaner) (what : Do) → CleanerAgrees g w cleaner.phase
+    → CleanerOwed g w cleaner.phase what → OwnerGoes g w (cleaner_step cleaner what)
 
 -- At the start it is seen in the opening of the small world, and asked nothing, where the ids of the setup's groups fit.
 abbrev pub OwnerStarts : Type 0
