@@ -4,6 +4,7 @@ pub mod Logs
 pub mod Questions
 mod ServingTokens
 mod ServingLog
+mod Fitting
 mod ServingCalls
 mod ServingPackets
 mod OpeningTurns
