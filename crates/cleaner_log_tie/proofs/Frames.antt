@@ -16,10 +16,10 @@ use Rattle.xfs_base.specs.declared.node.NodeId.{NodeId}
 use Rattle.xfs_base.specs.declared.node.NodeId.TheVariants.{Client, Manager, Server, Cleaner, Registry}
 use Rattle.xfs_base.specs.declared.segment.SegName.{SegName}
 use Rattle.xfs_base.specs.Steps.{still, after, steps}
-use Rattle.store_nodes.specs.declared.emptying.Emptying.{Emptying}
-use Rattle.store_nodes.specs.declared.job.Job.{Job}
-use Rattle.store_nodes.specs.EmptyingEvents.{cleaner_log}
-use Rattle.store_nodes.specs.Jobs.{Done}
+use Rattle.cleaner_node.specs.declared.emptying.Emptying.{Emptying}
+use Rattle.cleaner_node.specs.declared.job.Job.{Job}
+use Rattle.cleaner_node.specs.EmptyingEvents.{cleaner_log}
+use Rattle.cleaner_node.specs.Jobs.{Done}
 use Rattle.log_protocol.specs.Tables.{In}
 use Rattle.log_tie.specs.Seen.{log_filed}
 use Rattle.log_tie.specs.Setting.{Setting}

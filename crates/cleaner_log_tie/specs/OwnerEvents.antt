@@ -11,11 +11,11 @@ use Rattle.wire_msg.specs.NodeStep.{NodeStep}
 use Rattle.xfs_base.specs.declared.node.NodeId.TheVariants.{Cleaner}
 use Rattle.xfs_base.specs.declared.segment.SegName.{SegName}
 use Rattle.xfs_base.specs.declared.setup.Setup.{Setup}
-use Rattle.store_nodes.specs.CleanerEvents.{cleaner_start, cleaner_step}
-use Rattle.store_nodes.specs.declared.cleaner.Cleaner as cleaners
-use Rattle.store_nodes.specs.declared.cleaner.Phase.{Phase}
-use Rattle.store_nodes.specs.declared.cleaner.Phase.TheVariants.{Down, Opening, Serving}
-use Rattle.store_nodes.specs.EmptyingEvents.{cleaner_log}
+use Rattle.cleaner_node.specs.CleanerEvents.{cleaner_start, cleaner_step}
+use Rattle.cleaner_node.specs.declared.cleaner.Cleaner as cleaners
+use Rattle.cleaner_node.specs.declared.cleaner.Phase.{Phase}
+use Rattle.cleaner_node.specs.declared.cleaner.Phase.TheVariants.{Down, Opening, Serving}
+use Rattle.cleaner_node.specs.EmptyingEvents.{cleaner_log}
 use Rattle.log_protocol.specs.Tables.{In}
 use Rattle.log_tie.specs.Setting.{Setting}
 use Rattle.log_tie.specs.Shelves.{is_of_log}
