@@ -30,7 +30,7 @@ use Rattle.version_model.specs.declared.answer.Answer.TheVariants as answer
 use Rattle.wire_msg.specs.declared.packet.Do.{Do}
 use Rattle.wire_msg.specs.declared.packet.Do.TheVariants.{Begin, Deliver, Tick}
 use Rattle.wire_msg.specs.declared.packet.Packet as wire
-use Rattle.cleaner_node.specs.CleanerEvents.{Went_to, serves_on, crashes, next_life, after_opening, opened_on, restarts, down_wishes, opening_wishes, serving_wishes, begun_life, wish_at, lasting_of, down_at, opening_at, serving_at, on_begin, hears, on_deliver, on_time, happens, phase_room, takes}
+use Rattle.cleaner_node.specs.CleanerEvents.{Went_to, serves_on, crashes, next_life, owner_of, after_opening, opened_on, restarts, down_wishes, opening_wishes, serving_wishes, begun_life, wish_at, lasting_of, down_at, opening_at, serving_at, on_begin, hears, on_deliver, on_time, happens, phase_room, takes}
 use Rattle.cleaner_node.specs.declared.cleaner.Phase.{Phase}
 use Rattle.cleaner_node.specs.declared.cleaner.Phase.TheVariants.{Down, Opening, Serving}
 use Rattle.cleaner_node.specs.declared.cleaner.Wish.{Wish}
@@ -53,6 +53,8 @@ use Rattle.node_log_tie.proofs.Lists.{all_append, all_weaker, answers_send, pack
 use Rattle.client_log_tie.specs.Owner.{Scene}
 use Rattle.client_log_tie.proofs.OpeningLog.{ProgressSeen}
 use Rattle.client_log_tie.proofs.Questions.{ask_rises, put_here, put_keeps, put_fresh}
+use Rattle.opening_law.specs.Questions.{AsksOn, ProgressAsks}
+use Rattle.opening_law.proofs.Asking.{packet_few, starts_few, tick_few}
 use Rattle.cleaner_log_tie.specs.Owner.{its_asker, its_number, LastsAs, Stands, CleanerAgrees}
 use Rattle.cleaner_log_tie.specs.OwnerEvents.{OpeningOwed, PacketOwed, CleanerOwed, ActSeen, Grows, OwnerTakes}
 use Rattle.cleaner_log_tie.proofs.Frames.{CleanerDoes, AllDone, Gone, still_grows, grows_on, all_more}
@@ -168,9 +170,9 @@ module _ (g : Setting) (is : g.log ≡ cleaner_log) (w : Scene) where
           low = refl;
           asked = put_keeps w.asked (next_ask q) (OfOpening 1) (lasts.fresh (next_ask q) rises);
         };
-        agrees = (
-          record { number = refl; inc = inc; fresh = put_fresh w.asked (next_ask q) (OfOpening 1) q.last rises lasts.fresh },
-          record {
+        agrees = record {
+          lasts = record { number = refl; inc = inc; fresh = put_fresh w.asked (next_ask q) (OfOpening 1) q.last rises lasts.fresh };
+          sees = record {
             owner = ap (λ z. owner.Opening (started z (suc w.net.inc))) is ∙ ap (λ k. owner.Opening (started cleaner_log k)) inc;
             log = sym is;
             inc = sym inc;
@@ -180,9 +182,10 @@ module _ (g : Setting) (is : g.log ≡ cleaner_log) (w : Scene) where
             past = omega arith;
             some = omega arith;
             number = omega arith;
-          },
-          tt,
-        );
+          };
+          written = tt;
+          asks = starts_few (owner_of (next_life l number)) servers q asks_room;
+        };
         does = (
           record {
             own = λ e. subst (AskedBy g (its_asker v) v.net (next_life l number).inc) (sym (put_here w.asked (next_ask q) (OfOpening 1)))
@@ -195,19 +198,19 @@ module _ (g : Setting) (is : g.log ≡ cleaner_log) (w : Scene) where
 
   -- ---- an opening goes on
 
-  opened : (l : Lasting) (x : Went) → WentOn g w l.inc x → Goes (opened_on l x)
+  opened : (l : Lasting) (x : Went) → WentOn g w l.inc x → AsksOn x → Goes (opened_on l x)
   unfolding after_opening
-  opened l x t = by_progress x.progress t.shows
+  opened l x t few = by_progress x.progress t.shows few
     where
-      by_progress : (p : Progress) → ProgressSeen g its_number t.next x.questions.last p
+      by_progress : (p : Progress) → ProgressSeen g its_number t.next x.questions.last p → ProgressAsks p x.questions.last
           → Goes (after x.effects (after_opening (record l { questions = x.questions }) p))
-      by_progress (progress.Opening o) shows = record {
+      by_progress (progress.Opening o) shows asks = record {
         next = t.next;
         grown = t.grown;
-        agrees = (t.lasts, shows.0, shows.1);
+        agrees = record { lasts = t.lasts; sees = shows.0; written = shows.1; asks = asks };
         does = all_append (CleanerDoes g t.next) x.effects [] t.does tt;
       }
-      by_progress (progress.Opened o) shows = record {
+      by_progress (progress.Opened o) shows asks = record {
         next = t.next;
         grown = t.grown;
         agrees = record { lasts = t.lasts; log = shows.0; written = shows.1; job = tt };
@@ -215,7 +218,7 @@ module _ (g : Setting) (is : g.log ≡ cleaner_log) (w : Scene) where
             (all_append (CleanerDoes g t.next) (pushes_all o.promised.managers o.feed) (answers_unanswered l.items.unanswered answer.Done)
             (serving.deltas_pushed g is t.next o.promised.managers o.feed) (answers_do t.next l.items.unanswered answer.Done));
       }
-      by_progress (progress.Lost seg) shows = record {
+      by_progress (progress.Lost seg) shows asks = record {
         next = fallen t.next;
         grown = grows_on g w t.next (fallen t.next) t.grown (fallen_grows t.next);
         agrees = fallen_agrees t.next (record l { questions = x.questions; items = answered l.items }) t.lasts;
@@ -233,7 +236,7 @@ module _ (g : Setting) (is : g.log ≡ cleaner_log) (w : Scene) where
   down_wish servers l number (Clean count) sees room = at_once (Down l) _ sees (tt, tt)
 
   opening_wish : (l : Lasting) (o : openings.Opening) (number : ℕ) (wish : Wish) → CleanerAgrees g w (Opening l o) → Goes (opening_wishes l o number wish)
-  opening_wish l o number Crash sees = crashed l number sees.0
+  opening_wish l o number Crash sees = crashed l number sees.lasts
   opening_wish l o number Restart sees = at_once (Opening l o) _ sees (tt, tt)
   opening_wish l o number (Clean count) sees = at_once (Opening l o) _ sees (tt, tt)
 
@@ -257,7 +260,8 @@ module _ (g : Setting) (is : g.log ≡ cleaner_log) (w : Scene) where
   item_begun : (servers : ℕ) (p : Phase) → CleanerAgrees g w p → lasting_room (lasting_of p) ≡ true → Goes (on_begin servers p)
   unfolding on_begin
   item_begun servers (Down l) sees room = down_item servers (begun_life l) (next_item l.items) sees room
-  item_begun servers (Opening l o) sees room = opening_item (begun_life l) o (next_item l.items) sees
+  item_begun servers (Opening l o) sees room =
+      opening_item (begun_life l) o (next_item l.items) (record { lasts = sees.lasts; sees = sees.sees; written = sees.written; asks = sees.asks })
   item_begun servers (Serving e) sees room =
       serving_item (record e { lasting = begun_life e.lasting }) (next_item e.lasting.items) (record { lasts = sees.lasts; log = sees.log; written = sees.written; job = sees.job })
       (and_second (has_room e.lasting.inc) (has_room e.lasting.questions.last) room)
@@ -270,7 +274,9 @@ module _ (g : Setting) (is : g.log ≡ cleaner_log) (w : Scene) where
   heard (Down l) packet sees owed room = stays (Down l) sees
   heard (Opening l o) packet sees owed room =
       opened l (opening.on_packet o l.questions packet)
-      (stand_in.packet_heard g is w l.inc l.questions sees.0 room o sees.1 sees.2 owed.opening packet (subst (λ to. BodySeen g (its_asker w) w.net packet.from to packet.body) owed.own owed.seen) owed.fits)
+      (stand_in.packet_heard g is w l.inc l.questions sees.lasts room o sees.sees sees.written sees.asks owed.opening packet
+      (subst (λ to. BodySeen g (its_asker w) w.net packet.from to packet.body) owed.own owed.seen) owed.fits)
+      (packet_few o l.questions packet room sees.asks)
   heard (Serving e) packet sees owed room =
       serves (on_packet e packet)
       (serving.packet_heard g is w e packet room sees (subst (λ to. BodySeen g (its_asker w) w.net packet.from to packet.body) owed.own owed.seen) owed.fits)
@@ -279,7 +285,8 @@ module _ (g : Setting) (is : g.log ≡ cleaner_log) (w : Scene) where
   unfolding on_time
   passed (Down l) sees owed room = stays (Down l) sees
   passed (Opening l o) sees owed room =
-      opened l (opening.on_tick o l.questions) (stand_in.time_passes g is w l.inc l.questions sees.0 room o sees.1 sees.2 owed)
+      opened l (opening.on_tick o l.questions) (stand_in.time_passes g is w l.inc l.questions sees.lasts room o sees.sees sees.written sees.asks owed)
+      (tick_few o l.questions room sees.asks)
   passed (Serving e) sees owed room = serves (on_tick e) (serving.time_passes g is w e room sees)
 
   its_room : (p : Phase) → phase_room p ≡ true → lasting_room (lasting_of p) ≡ true

@@ -1,5 +1,6 @@
 -- How the cleaner is seen as the owner of its log in the small world of that log: as a client is in that of its own.
 use Rattle.std.specs.Prelude.{◌≡◌, ℕ, IfSome}
+use Rattle.log_owner.specs.declared.opening.Opening as openings
 use Rattle.cleaner_node.specs.declared.cleaner.Phase.{Phase}
 use Rattle.cleaner_node.specs.declared.cleaner.Phase.TheVariants.{Down, Opening, Serving}
 use Rattle.cleaner_node.specs.declared.emptying.Emptying.{Emptying}
@@ -15,6 +16,7 @@ use Rattle.node_log_tie.specs.Sight.Question.{OfMaps}
 use Rattle.client_log_tie.specs.ClientEvents.{StageWritten}
 use Rattle.client_log_tie.specs.Owner.{Scene, Lasts, SeesStage, SeesLog}
 use Rattle.client_log_tie.specs.Texts.{StaysWritten}
+use Rattle.opening_law.specs.Questions.{StageAsks}
 use Rattle.cleaner_log_tie.specs.Fitting.{HandFits, PhaseFits}
 
 -- the cleaner that owns the log
@@ -44,7 +46,14 @@ module _ (g : Setting) (w : Scene) where
     pub written : StaysWritten e.log
     pub job : IfSome e.job JobStands
 
+  -- One that opens its log: its scan is that of the owner, or its opening segment is in flight there; and it has asked no more questions than its node.
+  pub record Opens (l : Lasting) (o : openings.Opening) : Type 0 where
+    pub lasts : LastsAs l
+    pub sees : SeesStage g its_number w o.known l.questions.last o.stage
+    pub written : StageWritten o.stage
+    pub asks : StageAsks o.stage l.questions.last
+
   abbrev pub CleanerAgrees : Phase → Type 0
   CleanerAgrees (Down l) = LastsAs l × (w.net.owner ≡ owner.Down)
-  CleanerAgrees (Opening l o) = LastsAs l × SeesStage g its_number w o.known l.questions.last o.stage × StageWritten o.stage
+  CleanerAgrees (Opening l o) = Opens l o
   CleanerAgrees (Serving e) = Stands e

@@ -1,6 +1,10 @@
 -- What an event makes of the cleaner, as the small world of its own log sees it.
 use Rattle.std.specs.Prelude.{◌≡◌, ℕ, true, List, All}
 use Rattle.group_map.specs.Groups as groups
+use Rattle.log_owner.specs.declared.opening.Stage as stages
+use Rattle.log_owner.specs.declared.opening.Stage.TheVariants as stage
+use Rattle.log_scan.specs.declared.input.In as scan_ins
+use Rattle.log_scan.specs.Transition as scan
 use Rattle.version_model.specs.declared.act.Act.{Act}
 use Rattle.version_model.specs.declared.act.Act.TheVariants.{Filed, Dropped}
 use Rattle.version_model.specs.declared.work.Work.{Work}
@@ -20,22 +24,25 @@ use Rattle.log_protocol.specs.Tables.{In}
 use Rattle.log_tie.specs.Setting.{Setting}
 use Rattle.log_tie.specs.Shelves.{is_of_log}
 use Rattle.log_law.specs.Net.{Packet, opening as at_first}
-use Rattle.log_law.specs.Events.{Runs}
+use Rattle.log_law.specs.Events.{CameToScan, Runs}
 use Rattle.node_log_tie.specs.Sight.{AllSeen, PacketSeen}
 use Rattle.node_log_tie.specs.Sight.Question.{Unasked}
-use Rattle.client_log_tie.specs.ClientEvents.{StageOwed}
 use Rattle.client_log_tie.specs.Owner.{Scene}
-use Rattle.client_log_tie.specs.Texts.{MapFits}
+use Rattle.client_log_tie.specs.Texts.{ChainFits, MapFits}
 use Rattle.cleaner_log_tie.specs.Fitting.{InRange}
 use Rattle.cleaner_log_tie.specs.Owner.{its_asker, CleanerAgrees}
 
 -- ---- what the world owes it
 
 module _ (g : Setting) (w : Scene) where
-  -- to a scan the same as to that of a client
+  -- to a scan, that the log can go on behind the chain that it tells, whatever comes next
+  abbrev pub StageTells : stages.Stage → Type 0
+  StageTells (stage.Scanning s) = (i : scan_ins.In) → CameToScan g w.net i → ChainFits g w.net.inc (scan.transition s.scan i)
+  StageTells (stage.Settling s) = Unit {0}
+
   abbrev pub OpeningOwed : Phase → Type 0
   OpeningOwed (Down l) = Unit {0}
-  OpeningOwed (Opening l o) = StageOwed g w.net o.stage
+  OpeningOwed (Opening l o) = StageTells o.stage
   OpeningOwed (Serving e) = Unit {0}
 
   -- a packet that was sent to the cleaner
