@@ -5,5 +5,6 @@ mod Bytes
 mod Hands
 mod Jobs
 mod Serving
+mod Owed
 mod StandIn
 mod Phases

@@ -268,41 +268,45 @@ module _ (g : Setting) (is : g.log ≡ cleaner_log) (w : Scene) where
 
   -- ---- packets and time
 
-  heard : (p : Phase) (packet : wire.Packet) → CleanerAgrees g w p → PacketOwed g w p packet → has_room (lasting_of p).questions.last ≡ true
-      → Goes (hears p packet)
+  life_room : (l : Lasting) → lasting_room l ≡ true → has_room l.inc ≡ true
+  life_room l room = and_first (has_room l.inc) (has_room l.questions.last) room
+
+  asks_room : (l : Lasting) → lasting_room l ≡ true → has_room l.questions.last ≡ true
+  asks_room l room = and_second (has_room l.inc) (has_room l.questions.last) room
+
+  heard : (p : Phase) (packet : wire.Packet) → CleanerAgrees g w p → PacketOwed g w p packet → lasting_room (lasting_of p) ≡ true → Goes (hears p packet)
   unfolding hears
   heard (Down l) packet sees owed room = stays (Down l) sees
   heard (Opening l o) packet sees owed room =
       opened l (opening.on_packet o l.questions packet)
-      (stand_in.packet_heard g is w l.inc l.questions sees.lasts room o sees.sees sees.written sees.asks owed.opening packet
+      (stand_in.packet_heard g is w l.inc l.questions sees.lasts (asks_room l room) (life_room l room) o sees.sees sees.written sees.asks owed.opening packet
       (subst (λ to. BodySeen g (its_asker w) w.net packet.from to packet.body) owed.own owed.seen) owed.fits)
-      (packet_few o l.questions packet room sees.asks)
+      (packet_few o l.questions packet (asks_room l room) sees.asks)
   heard (Serving e) packet sees owed room =
       serves (on_packet e packet)
-      (serving.packet_heard g is w e packet room sees (subst (λ to. BodySeen g (its_asker w) w.net packet.from to packet.body) owed.own owed.seen) owed.fits)
+      (serving.packet_heard g is w e packet (asks_room e.lasting room) sees (subst (λ to. BodySeen g (its_asker w) w.net packet.from to packet.body) owed.own owed.seen)
+      owed.fits)
 
-  passed : (p : Phase) → CleanerAgrees g w p → OpeningOwed g w p → has_room (lasting_of p).questions.last ≡ true → Goes (on_time p)
+  passed : (p : Phase) → CleanerAgrees g w p → OpeningOwed g w p → lasting_room (lasting_of p) ≡ true → Goes (on_time p)
   unfolding on_time
   passed (Down l) sees owed room = stays (Down l) sees
   passed (Opening l o) sees owed room =
-      opened l (opening.on_tick o l.questions) (stand_in.time_passes g is w l.inc l.questions sees.lasts room o sees.sees sees.written sees.asks owed)
-      (tick_few o l.questions room sees.asks)
-  passed (Serving e) sees owed room = serves (on_tick e) (serving.time_passes g is w e room sees)
+      opened l (opening.on_tick o l.questions)
+      (stand_in.time_passes g is w l.inc l.questions sees.lasts (asks_room l room) (life_room l room) o sees.sees sees.written sees.asks owed)
+      (tick_few o l.questions (asks_room l room) sees.asks)
+  passed (Serving e) sees owed room = serves (on_tick e) (serving.time_passes g is w e (asks_room e.lasting room) sees)
 
   its_room : (p : Phase) → phase_room p ≡ true → lasting_room (lasting_of p) ≡ true
   its_room (Down l) room = room
   its_room (Opening l o) room = and_first (lasting_room l) (opening.opening_room o) room
   its_room (Serving e) room = and_first (lasting_room e.lasting) _ room
 
-  asks_room : (p : Phase) → phase_room p ≡ true → has_room (lasting_of p).questions.last ≡ true
-  asks_room p room = and_second (has_room (lasting_of p).inc) (has_room (lasting_of p).questions.last) (its_room p room)
-
   all_events : (peers : Peers) (p : Phase) (what : Do) → CleanerAgrees g w p → CleanerOwed g w p what → phase_room p ≡ true → Goes (happens peers p what)
   unfolding on_deliver
   all_events peers p Begin sees owed room = item_begun peers.servers p sees (its_room p room)
   all_events peers p (Deliver packet) sees owed room =
-      by_test Goes (is_well_formed peers packet) (hears p packet) (still p) (λ t. heard p packet sees owed (asks_room p room)) (λ t. stays p sees)
-  all_events peers p Tick sees owed room = passed p sees owed (asks_room p room)
+      by_test Goes (is_well_formed peers packet) (hears p packet) (still p) (λ t. heard p packet sees owed (its_room p room)) (λ t. stays p sees)
+  all_events peers p Tick sees owed room = passed p sees owed (its_room p room)
 
   taken_so : (peers : Peers) (p : Phase) (what : Do) → CleanerAgrees g w p → CleanerOwed g w p what → Goes (takes peers p what)
   taken_so peers p what sees owed =

@@ -1,5 +1,5 @@
 -- An opening doesn't tell whose log it opens: what is proved of a client's is taken over to the cleaner's, as if a client bore the number of its log.
-use Rattle.std.proofs.Common.{◌≡◌, ℕ, true, cond, List, [], ◌∷◌, refl, ap, subst}
+use Rattle.std.proofs.Common.{◌≡◌, ℕ, true, cond, List, [], ◌∷◌, refl, ap, subst, arith}
 use Rattle.std.specs.List.{AllByRecursion}
 use Rattle.std.proofs.lemmas.List.Elements.{recursion_from_All}
 use Rattle.xfs_base.specs.declared.node.NodeId.{NodeId}
@@ -9,8 +9,6 @@ use Rattle.log_owner.specs.Behaves.{MaySay, MayAct, MayDo, Behaves}
 use Rattle.log_owner.specs.declared.ended.Owner.{Owner}
 use Rattle.log_owner.specs.declared.opened.Progress.TheVariants as progress
 use Rattle.log_owner.specs.declared.opening.Opening as openings
-use Rattle.log_owner.specs.declared.opening.Stage as stages
-use Rattle.log_owner.specs.declared.opening.Stage.TheVariants as stage
 use Rattle.log_owner.specs.Opening.{Went, went, by_server, fenced_by, found_by, missing_by, on_fenced, on_found, on_missing, on_body, on_packet, on_tick}
 use Rattle.log_owner.specs.Sending.{hello, server_in}
 use Rattle.log_owner.proofs.Behaving as behaving
@@ -38,10 +36,10 @@ use Rattle.client_log_tie.proofs.Frames.{ClientDoes}
 use Rattle.client_log_tie.proofs.OpeningEvents as events
 use Rattle.client_log_tie.proofs.OpeningLog.{ProgressSeen, WentTo}
 use Rattle.opening_law.specs.Questions.{StageAsks}
-use Rattle.opening_law.proofs.Asking.{some_left}
 use Rattle.cleaner_log_tie.specs.Fitting.{InRange}
 use Rattle.cleaner_log_tie.specs.Owner.{its_asker, its_number}
 use Rattle.cleaner_log_tie.specs.OwnerEvents.{StageTells, ActSeen, Grows}
+use Rattle.cleaner_log_tie.proofs.Owed.{in_range, owed_so}
 use Rattle.cleaner_log_tie.proofs.Frames.{CleanerDoes, AllDone, said_as, owner_grows}
 
 -- ---- what comes, as it comes to a client
@@ -164,15 +162,11 @@ module _ (g : Setting) where
     does = all_so g t.next its x.effects may.does (recursion_from_All (ClientDoes g its_number t.next) x.effects t.does);
   }
 
-  module _ (is : g.log ≡ cleaner_log) (w : Scene) (life : ℕ) (q : Questions) (lasts : Lasts g its_number w its_number life q.last) (room : has_room q.last ≡ true) (o : openings.Opening)
+  module _ (is : g.log ≡ cleaner_log) (w : Scene) (life : ℕ) (q : Questions) (lasts : Lasts g its_number w its_number life q.last) (room : has_room q.last ≡ true) (life_room : has_room life ≡ true)
+      (o : openings.Opening)
       (sees : SeesStage g its_number w o.known q.last o.stage) (written : StageWritten o.stage) (asks : StageAsks o.stage q.last) (tells : StageTells g w o.stage) where
-    -- its scan has questions left
-    owed_so : (at : stages.Stage) → StageAsks at q.last → StageTells g w at → StageOwed g w.net at
-    owed_so (stage.Scanning s) few chain = record { asks = some_left s.scan q.last room few.few; chain = chain }
-    owed_so (stage.Settling s) few chain = tt
-
     owed : StageOwed g w.net o.stage
-    owed = owed_so o.stage asks tells
+    owed = owed_so g is w o.known o.stage q.last (let e = lasts.inc in let b = in_range life life_room in omega arith) room sees asks tells
 
     small : is_log g.log.0 ≡ true
     small = ap (λ (l : LogId). is_log l.0) is

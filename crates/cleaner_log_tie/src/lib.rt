@@ -10,8 +10,8 @@ ghost use Rattle.cleaner_log_tie.specs.OwnerEvents.{OwnerStarts, OwnerTakes};
 /// - `events`: a cleaner that is seen there before an event is seen after it in a world to which that one runs on; all that it sends was sent there, all that it
 ///   tells to be filed is filed there, and all of its own log that it tells to be dropped is dropped there.
 ///
-/// What is owed still: to a scan, that the log can go on behind the chain that it tells; and that the numbers of a packet that comes are in the ranges of their
-/// types (the ids of the groups of maps, the row of a `Live`, the bytes of a fragment).
+/// What is owed still: of the chain that a scan tells, that behind its end the log can go on (its numbers fit the format, and its number has one after it); and
+/// that numbers are in the ranges of their types (the ids of the groups of maps, the row of a `Live`, the bytes of a fragment).
 pub fn cleaner_log_events_are_seen()
     ensures start { OwnerStarts }
     ensures events { OwnerTakes }

@@ -43,8 +43,8 @@ use Rattle.wire_msg.specs.declared.storage.Fenced.{Fenced}
 use Rattle.wire_msg.specs.declared.storage.Found.{Found as Fragment}
 use Rattle.wire_msg.specs.declared.storage.Missing.{Missing}
 use Rattle.wire_msg.specs.declared.storage.Stored.{Stored}
-use Rattle.opening_law.specs.Questions.{WaitsInVain, FewAsked, PastStage, ScanAsks, StageAsks, ProgressAsks, AsksOn, StartAsksFew, PacketAsksFew, TickAsksFew, QuestionsAreLeft}
-use Rattle.opening_law.proofs.Steps.{UpTo, AsksBy, Old, New, Says, Still, says_so, still_so}
+use Rattle.opening_law.specs.Questions.{WaitsInVain, FewAsked, PastStage, ScanAsks, StageAsks, ProgressAsks, AsksOn, StartAsksFew, PacketAsksFew, TickAsksFew, GroupsAfter, GroupsCome, QuestionsAreLeft}
+use Rattle.opening_law.proofs.Steps.{UpTo, AsksBy, Old, New, Says, Steps, Still, says_so, still_so}
 
 -- ---- the questions of the node
 
@@ -112,16 +112,16 @@ module _ (owner : Owner) (q : Questions) (s : Scanning) (room : has_room q.last 
   AfterStep d =
       ScanAsks (record { scan = d.state; asked = (scanned owner d.state.opening.low s.asked q d.outs).state.asked }) (scanned owner d.state.opening.low s.asked q d.outs).state.questions.last
 
-  old_few : (d : scan.Done) → s.scan.opening.ask ≤ q.last → Old s.scan.opening.ask d → AfterStep d
-  old_few d small x =
+  old_few : (d : scan.Done) (groups : Option GroupMapState) → s.scan.opening.ask ≤ q.last → Old s.scan.opening.ask groups d → AfterStep d
+  old_few d groups small x =
       let l = said_left owner d.state.opening.low s.scan.opening.ask s.asked q None d.outs x.outs h.past q (omega arith) in
       let m = l.more in
       let p = l.past in
       let e = x.last in
       record { few = inl (omega arith); past = omega arith; reads = subst (λ n. PastStage n d.state.stage) (sym x.last) x.reads }
 
-  new_few : (d : scan.Done) → s.scan.opening.ask ≤ q.last → New s.scan.opening.ask d → AfterStep d
-  new_few d small x =
+  new_few : (d : scan.Done) (groups : Option GroupMapState) → s.scan.opening.ask ≤ q.last → New s.scan.opening.ask groups d → AfterStep d
+  new_few d groups small x =
       let past = h.past in
       let most : ℕ = s.scan.opening.ask + 1 in
       let l = said_left owner d.state.opening.low most s.asked q None d.outs x.outs (omega arith) q (omega arith) in
@@ -149,10 +149,12 @@ module _ (owner : Owner) (q : Questions) (s : Scanning) (room : has_room q.last 
         reads = subst (λ st. PastStage d.state.opening.ask st) (sym x.stage) (omega arith);
       })
 
+  says_few : (i : In) → Steps s.scan.opening i (scan.transition s.scan i) → s.scan.opening.ask ≤ q.last → AfterStep (scan.transition s.scan i)
+  says_few i x small = ⊎_elim (old_few (scan.transition s.scan i) x.groups small) (new_few (scan.transition s.scan i) x.groups small) x.says
+
   step_few : (i : In) → AfterStep (scan.transition s.scan i)
   step_few i =
-      ⊎_elim
-      (λ small. ⊎_elim (old_few (scan.transition s.scan i) small) (new_few (scan.transition s.scan i) small) (says_so s.scan.opening s.scan.stage i h.reads))
+      ⊎_elim (says_few i (says_so s.scan.opening s.scan.stage i h.reads))
       (λ v. vain_few (scan.transition s.scan i) v.0 v.1
       (subst (λ st. Still s.scan.opening (Reads v.0.back (Some v.0.round)) (scan.takes s.scan.opening st i)) (sym v.0.is)
       (still_so s.scan.opening v.0.back v.0.round v.0.asking v.0.nobody i)))
@@ -304,3 +306,8 @@ pub some_left : QuestionsAreLeft
 some_left s last room few =
     let b = below_end last room in
     is_below s.opening.ask u32_end (⊎_elim (λ small. (let x : s.opening.ask ≤ last = small in omega arith)) (λ v. (let x = v.1 in omega arith)) few)
+
+pub groups_come : GroupsCome
+groups_come s i past =
+    let x : Steps s.opening i (scan.transition s i) = says_so s.opening s.stage i past in
+    subst (GroupsAfter s.opening.groups i) (sym (⊎_elim (λ old. old.same) (λ new. new.same) x.says)) x.from

@@ -32,7 +32,7 @@ use Rattle.log_scan.specs.declared.stage.Stage.TheVariants.{Hails, Gathers, Asks
 use Rattle.log_scan.specs.Pick.{known_group, start_of}
 use Rattle.log_scan.specs.Transition as scan
 use Rattle.log_scan.specs.Transition.{Done, goes, stays, can_ask}
-use Rattle.opening_law.specs.Questions.{WaitsInVain, PastReading, PastStage}
+use Rattle.opening_law.specs.Questions.{WaitsInVain, PastReading, PastStage, GroupsAfter}
 
 -- ---- what is asked
 
@@ -54,20 +54,22 @@ AsksBy most (Chain segments end prior ∷ outs) = ⊥
 AsksBy most (Lost name ∷ outs) = ⊥
 
 -- by the last question or an earlier one
-pub record Old (ask : ℕ) (d : Done) : Type 0 where
+pub record Old (ask : ℕ) (groups : Option GroupMapState) (d : Done) : Type 0 where
   pub last : d.state.opening.ask ≡ ask
+  pub same : d.state.opening.groups ≡ groups
   pub outs : AllByRecursion (UpTo ask) d.outs
   pub reads : PastStage ask d.state.stage
 
 -- by the next one, unless nobody is asked by it
-pub record New (ask : ℕ) (d : Done) : Type 0 where
+pub record New (ask : ℕ) (groups : Option GroupMapState) (d : Done) : Type 0 where
   pub last : d.state.opening.ask ≡ ask + 1
+  pub same : d.state.opening.groups ≡ groups
   pub outs : AllByRecursion (UpTo (ask + 1)) d.outs
   pub draws : AsksBy (ask + 1) d.outs ⊎ WaitsInVain d.state
   pub reads : PastStage (ask + 1) d.state.stage
 
-abbrev pub Says : ℕ → Done → Type 0
-Says ask d = Old ask d ⊎ New ask d
+abbrev pub Says : ℕ → Option GroupMapState → Done → Type 0
+Says ask groups d = Old ask groups d ⊎ New ask groups d
 
 -- ---- readings
 
@@ -88,11 +90,12 @@ begins_asking target ask kept n parity (server ∷ servers) = inl refl
 -- the round of a reading begins, by the next question
 round_begins : (o : Opening) (b : Backward) (target : Target) (kept : List (ℕ × ℕ)) (n parity : ℕ) (servers : List ℕ)
     → let r : ReadingState = record { target = target; ask = o.ask + 1; kept = kept; round = record { n = n; parity = parity; servers = servers; answers = [] }; stage = reading.Asking } in
-    Says o.ask (goes (record o { ask = o.ask + 1 }) (Reads b (Some r)) (scan.fetches r))
+    Says o.ask o.groups (goes (record o { ask = o.ask + 1 }) (Reads b (Some r)) (scan.fetches r))
 round_begins o b target kept n parity servers =
     let r : ReadingState = record { target = target; ask = o.ask + 1; kept = kept; round = record { n = n; parity = parity; servers = servers; answers = [] }; stage = reading.Asking } in
     inr (record {
       last = refl;
+      same = refl;
       outs = fetches_up (o.ask + 1) r (omega arith);
       draws =
           ⊎_elim (λ a. inl a) (λ e. inr (record { back = b; round = r; is = refl; asking = refl; nobody = e }))
@@ -100,57 +103,59 @@ round_begins o b target kept n parity servers =
       reads = omega arith;
     })
 
-anew : (o : Opening) (st : Stage) → PastStage (o.ask + 1) st → Says o.ask (scan.asks_anew o st)
-anew o st past = inr (record { last = refl; outs = (omega arith, tt); draws = inl refl; reads = past })
+anew : (o : Opening) (st : Stage) → PastStage (o.ask + 1) st → Says o.ask o.groups (scan.asks_anew o st)
+anew o st past = inr (record { last = refl; same = refl; outs = (omega arith, tt); draws = inl refl; reads = past })
 
-rests : (o : Opening) (st : Stage) → PastStage o.ask st → Says o.ask (stays o st)
-rests o st past = inl (record { last = refl; outs = tt; reads = past })
+rests : (o : Opening) (st : Stage) → PastStage o.ask st → Says o.ask o.groups (stays o st)
+rests o st past = inl (record { last = refl; same = refl; outs = tt; reads = past })
 
-begins_in_so : (o : Opening) (b : Backward) (group : Option Group) → Says o.ask (scan.begins_in o b group)
+begins_in_so : (o : Opening) (b : Backward) (group : Option Group) → Says o.ask o.groups (scan.begins_in o b group)
 begins_in_so o b None = anew o (Reads b None) tt
 begins_in_so o b (Some group) = round_begins o b (scan.target_at o.log b.next) [] (length group.members) group.parity (rounds.servers_of group)
 
-follows_so : (o : Opening) (b : Backward) → Says o.ask (scan.follows o b)
+follows_so : (o : Opening) (b : Backward) → Says o.ask o.groups (scan.follows o b)
 unfolding scan.follows scan.begins_round
 follows_so o b =
-    by_test (Says o.ask) (scan.is_bottom o.low b.next) (goes o Over (scan.chain_of b ∷ [])) (scan.begins_in o b (known_group o.groups b.next.group))
-    (λ t. inl (record { last = refl; outs = (tt, tt); reads = tt })) (λ t. begins_in_so o b (known_group o.groups b.next.group))
+    by_test (Says o.ask o.groups) (scan.is_bottom o.low b.next) (goes o Over (scan.chain_of b ∷ [])) (scan.begins_in o b (known_group o.groups b.next.group))
+    (λ t. inl (record { last = refl; same = refl; outs = (tt, tt); reads = tt })) (λ t. begins_in_so o b (known_group o.groups b.next.group))
 
 -- ---- an answer
 
-ends_so : (o : Opening) (b : Backward) (r : ReadingState) (pairs : List (ℕ × ℕ)) → r.ask ≤ o.ask → Says o.ask (scan.goes_on o b (ends r pairs).state next.Again)
+ends_so : (o : Opening) (b : Backward) (r : ReadingState) (pairs : List (ℕ × ℕ)) → r.ask ≤ o.ask
+    → Says o.ask o.groups (scan.goes_on o b (ends r pairs).state next.Again)
 unfolding scan.goes_on
 ends_so o b r pairs small = anew o (Reads b (Some (ends r pairs).state)) (omega arith)
 
 read_so : (o : Opening) (b : Backward) (r : ReadingState) (found : Option Segment) → r.ask ≤ o.ask
-    → Says o.ask (scan.goes_on o b (read_as r found).state (read_as r found).next)
+    → Says o.ask o.groups (scan.goes_on o b (read_as r found).state (read_as r found).next)
 unfolding scan.goes_on
 read_so o b r (Some segment) small = follows_so o (scan.with_segment b segment)
 read_so o b r None small = ends_so o b r [] small
 
 judged_so : (o : Opening) (b : Backward) (r : ReadingState) (groups : GroupMapState) (x : RoundState) → r.ask ≤ o.ask
-    → Says o.ask (scan.goes_on o b (judged r groups x).state (judged r groups x).next)
+    → Says o.ask o.groups (scan.goes_on o b (judged r groups x).state (judged r groups x).next)
 unfolding scan.goes_on
 judged_so o b r groups (round.Read bytes) small = read_so o b r (segment_found r.target groups (answer_of bytes)) small
 judged_so o b r groups (round.Short pairs) small = ends_so o b r pairs small
 judged_so o b r groups round.Waiting small = rests o (Reads b (Some r)) small
 
 answer_so : (o : Opening) (b : Backward) (r : ReadingState) (m : Option GroupMapState) (ask server : ℕ) (t : Told) → r.ask ≤ o.ask
-    → Says o.ask (scan.heard_with o b r m ask server t)
+    → Says o.ask o.groups (scan.heard_with o b r m ask server t)
 unfolding on_answer scan.goes_on
 answer_so o b r None ask server t small = rests o (Reads b (Some r)) small
 answer_so o b r (Some groups) ask server t small =
     let now : ReadingState = record r { round = taken r.round server t } in
-    by_test (λ (x : Step). Says o.ask (scan.goes_on o b x.state x.next)) (counts r ask server t) (judged now groups (state_of now.round)) (record { state = r; next = next.Wait })
+    by_test (λ (x : Step). Says o.ask o.groups (scan.goes_on o b x.state x.next)) (counts r ask server t) (judged now groups (state_of now.round)) (record { state = r; next = next.Wait })
     (λ e. judged_so o b now groups (state_of now.round) small) (λ e. rests o (Reads b (Some r)) small)
 
-heard_so : (o : Opening) (b : Backward) (r : Option ReadingState) (ask server : ℕ) (t : Told) → PastReading o.ask r → Says o.ask (scan.heard o b r ask server t)
+heard_so : (o : Opening) (b : Backward) (r : Option ReadingState) (ask server : ℕ) (t : Told) → PastReading o.ask r
+    → Says o.ask o.groups (scan.heard o b r ask server t)
 heard_so o b None ask server t small = rests o (Reads b None) tt
 heard_so o b (Some r) ask server t small =
-    by_test (Says o.ask) (can_ask o) (scan.heard_with o b r o.groups ask server t) (stays o (Reads b (Some r)))
+    by_test (Says o.ask o.groups) (can_ask o) (scan.heard_with o b r o.groups ask server t) (stays o (Reads b (Some r)))
     (λ e. answer_so o b r o.groups ask server t small) (λ e. rests o (Reads b (Some r)) small)
 
-told_so : (o : Opening) (st : Stage) (ask server : ℕ) (t : Told) → PastStage o.ask st → Says o.ask (scan.on_told o st ask server t)
+told_so : (o : Opening) (st : Stage) (ask server : ℕ) (t : Told) → PastStage o.ask st → Says o.ask o.groups (scan.on_told o st ask server t)
 unfolding scan.on_told
 told_so o Hails ask server t past = rests o Hails tt
 told_so o (Gathers lists) ask server t past = rests o (Gathers lists) tt
@@ -160,13 +165,13 @@ told_so o Over ask server t past = rests o Over tt
 
 -- ---- a list
 
-fenced_so : (o : Opening) (st : Stage) (l : Listing) → PastStage o.ask st → Says o.ask (scan.on_fenced o st l)
+fenced_so : (o : Opening) (st : Stage) (l : Listing) → PastStage o.ask st → Says o.ask o.groups (scan.on_fenced o st l)
 unfolding scan.on_fenced scan.with_list
 fenced_so o Hails l past = rests o Hails tt
 fenced_so o (Gathers lists) l past =
     let more : List Listing = lists ++ l ∷ [] in
-    by_test (Says o.ask) (can_ask o && scan.awaits o.groups lists l.server) (scan.with_list o more) (stays o (Gathers lists))
-    (λ e. by_test (Says o.ask) (length (scan.awaited o.groups more) == 0) (scan.asks_anew o (Asks more)) (stays o (Gathers more)) (λ k. anew o (Asks more) tt)
+    by_test (Says o.ask o.groups) (can_ask o && scan.awaits o.groups lists l.server) (scan.with_list o more) (stays o (Gathers lists))
+    (λ e. by_test (Says o.ask o.groups) (length (scan.awaited o.groups more) == 0) (scan.asks_anew o (Asks more)) (stays o (Gathers more)) (λ k. anew o (Asks more) tt)
     (λ k. rests o (Gathers more) tt))
     (λ e. rests o (Gathers lists) tt)
 fenced_so o (Asks lists) l past = rests o (Asks lists) tt
@@ -194,49 +199,58 @@ tick_up o Over past = tt
 -- ---- a Welcome
 
 confirmed_so : (o : Opening) (b : Backward) (r : ReadingState) (at : readings.Stage) → r.ask ≤ o.ask
-    → Says o.ask (scan.goes_on o b (rounds.goes_on r (o.ask + 1) at).state (rounds.goes_on r (o.ask + 1) at).next)
+    → Says o.ask o.groups (scan.goes_on o b (rounds.goes_on r (o.ask + 1) at).state (rounds.goes_on r (o.ask + 1) at).next)
 unfolding scan.goes_on
 confirmed_so o b r reading.Asking small = rests o (Reads b (Some r)) small
 confirmed_so o b r reading.Between small = round_begins o b r.target r.kept r.round.n r.round.parity r.round.servers
-confirmed_so o b r reading.Doubted small = inl (record { last = refl; outs = (tt, tt); reads = tt })
+confirmed_so o b r reading.Doubted small = inl (record { last = refl; same = refl; outs = (tt, tt); reads = tt })
 confirmed_so o b r reading.Over small = rests o (Reads b (Some r)) small
 
-confirms_so : (o : Opening) (b : Backward) (r : Option ReadingState) → PastReading o.ask r → Says o.ask (scan.confirms_by o b r)
+confirms_so : (o : Opening) (b : Backward) (r : Option ReadingState) → PastReading o.ask r → Says o.ask o.groups (scan.confirms_by o b r)
 unfolding on_confirmed scan.begins_round
 confirms_so o b None small = begins_in_so o b (known_group o.groups b.next.group)
 confirms_so o b (Some r) small = confirmed_so o b r r.stage small
 
-picks_so : (o : Opening) (lists : List Listing) (start : Option End) → Says o.ask (scan.picks_at o lists start)
+picks_so : (o : Opening) (lists : List Listing) (start : Option End) → Says o.ask o.groups (scan.picks_at o lists start)
 picks_so o lists None = anew o (Asks lists) tt
 picks_so o lists (Some start) = follows_so o (scan.read_from start)
 
-welcomed_so : (o : Opening) (st : Stage) (least : ℕ) → PastStage o.ask st → Says o.ask (scan.welcomed o st least)
+welcomed_so : (o : Opening) (st : Stage) (least : ℕ) → PastStage o.ask st → Says o.ask o.groups (scan.welcomed o st least)
 unfolding scan.picks scan.confirms
-welcomed_so o Hails least past = inl (record { last = refl; outs = fences_up o.ask (scan.awaited o.groups []); reads = tt })
+welcomed_so o Hails least past = inl (record { last = refl; same = refl; outs = fences_up o.ask (scan.awaited o.groups []); reads = tt })
 welcomed_so o (Gathers lists) least past = rests o (Gathers lists) tt
 welcomed_so o (Asks lists) least past = picks_so (scan.rises o least) lists (start_of o.groups lists (scan.rises o least).low)
 welcomed_so o (Reads b r) least past =
     let p : Opening = scan.rises o least in
-    by_test (Says o.ask) (scan.is_bottom p.low b.next) (goes p Over (scan.chain_of b ∷ [])) (scan.confirms_by p b r)
-    (λ e. inl (record { last = refl; outs = (tt, tt); reads = tt })) (λ e. confirms_so p b r past)
+    by_test (Says o.ask o.groups) (scan.is_bottom p.low b.next) (goes p Over (scan.chain_of b ∷ [])) (scan.confirms_by p b r)
+    (λ e. inl (record { last = refl; same = refl; outs = (tt, tt); reads = tt })) (λ e. confirms_so p b r past)
 welcomed_so o Over least past = rests o Over tt
 
-welcome_so : (o : Opening) (st : Stage) (ask : ℕ) (news : List SlotNews) (groups : GroupMapState) → PastStage o.ask st
-    → Says o.ask (scan.on_welcome o st ask news groups)
+-- what it says at an input, with the groups that it has then
+pub record Steps (o : Opening) (i : In) (d : Done) : Type 0 where
+  pub groups : Option GroupMapState
+  pub says : Says o.ask groups d
+  pub from : GroupsAfter o.groups i groups
+
+welcome_so : (o : Opening) (st : Stage) (ask : ℕ) (news : List SlotNews) (m : GroupMapState) → PastStage o.ask st
+    → Steps o (input.Welcome ask news m) (scan.on_welcome o st ask news m)
 unfolding scan.on_welcome
-welcome_so o st ask news groups past =
-    by_test (Says o.ask) ((ask == o.ask) && (can_ask o && scan.awaits_welcome st)) (scan.welcomed (record o { groups = Some groups }) st (scan.least_horizon o.log.0 news)) (stays o st)
-    (λ t. welcomed_so (record o { groups = Some groups }) st (scan.least_horizon o.log.0 news) past) (λ t. rests o st past)
+welcome_so o st ask news m past =
+    by_test (Steps o (input.Welcome ask news m)) ((ask == o.ask) && (can_ask o && scan.awaits_welcome st))
+    (scan.welcomed (record o { groups = Some m }) st (scan.least_horizon o.log.0 news)) (stays o st)
+    (λ t. record { groups = Some m; says = welcomed_so (record o { groups = Some m }) st (scan.least_horizon o.log.0 news) past; from = inr refl })
+    (λ t. record { groups = o.groups; says = rests o st past; from = inl refl })
 
 -- ---- all inputs
 
-pub says_so : (o : Opening) (st : Stage) (i : In) → PastStage o.ask st → Says o.ask (scan.takes o st i)
+pub says_so : (o : Opening) (st : Stage) (i : In) → PastStage o.ask st → Steps o i (scan.takes o st i)
 says_so o st (input.Welcome ask news groups) past = welcome_so o st ask news groups past
-says_so o st (input.Fenced server generation held) past = fenced_so o st (record { server = server; generation = generation; held = held }) past
-says_so o st (input.Got ask server generation fragment) past = told_so o st ask server (told.Held fragment) past
-says_so o st (input.Missing ask server generation) past = told_so o st ask server (told.Missing generation) past
-says_so o st (input.Maps groups) past = inl (record { last = refl; outs = tt; reads = past })
-says_so o st input.Tick past = inl (record { last = refl; outs = tick_up o st past; reads = past })
+says_so o st (input.Fenced server generation held) past =
+    record { groups = o.groups; says = fenced_so o st (record { server = server; generation = generation; held = held }) past; from = refl }
+says_so o st (input.Got ask server generation fragment) past = record { groups = o.groups; says = told_so o st ask server (told.Held fragment) past; from = refl }
+says_so o st (input.Missing ask server generation) past = record { groups = o.groups; says = told_so o st ask server (told.Missing generation) past; from = refl }
+says_so o st (input.Maps groups) past = record { groups = Some groups; says = inl (record { last = refl; same = refl; outs = tt; reads = past }); from = refl }
+says_so o st input.Tick past = record { groups = o.groups; says = inl (record { last = refl; same = refl; outs = tick_up o st past; reads = past }); from = refl }
 
 -- ---- where it waits in vain, nothing is asked
 

@@ -8,11 +8,14 @@ use Rattle.log_owner.specs.declared.opening.Scanning.{Scanning}
 use Rattle.log_owner.specs.declared.opening.Stage as stages
 use Rattle.log_owner.specs.declared.opening.Stage.TheVariants as stage
 use Rattle.log_owner.specs.Opening.{Went, on_start, on_packet, on_tick}
+use Rattle.group_map.specs.GroupMapState.{GroupMapState}
+use Rattle.log_scan.specs.declared.input.In.{In}
+use Rattle.log_scan.specs.declared.input.In.TheVariants as input
 use Rattle.log_scan.specs.declared.stage.Backward.{Backward}
 use Rattle.log_scan.specs.declared.stage.Stage.{Stage}
 use Rattle.log_scan.specs.declared.stage.Stage.TheVariants.{Hails, Gathers, Asks, Reads, Over}
 use Rattle.log_scan.specs.ScanState.{ScanState}
-use Rattle.log_scan.specs.Transition.{can_ask}
+use Rattle.log_scan.specs.Transition.{can_ask, transition}
 use Rattle.node_base.specs.declared.questions.Questions.{Questions}
 use Rattle.node_base.specs.Room.{has_room}
 use Rattle.stripe_code.specs.declared.reading.Stage.TheVariants as reading
@@ -70,6 +73,15 @@ PacketAsksFew = (o : openings.Opening) (q : Questions) (packet : Packet) → has
 
 abbrev pub TickAsksFew : Type 0
 TickAsksFew = (o : openings.Opening) (q : Questions) → has_room q.last ≡ true → StageAsks o.stage q.last → AsksOn (on_tick o q)
+
+-- The groups of a scan are those that it had, unless others come.
+abbrev pub GroupsAfter : Option GroupMapState → In → Option GroupMapState → Type 0
+GroupsAfter before (input.Welcome ask news groups) later = (later ≡ before) ⊎ (later ≡ Some groups)
+GroupsAfter before (input.Maps groups) later = later ≡ Some groups
+GroupsAfter before _ later = later ≡ before
+
+abbrev pub GroupsCome : Type 0
+GroupsCome = (s : ScanState) (i : In) → PastStage s.opening.ask s.stage → GroupsAfter s.opening.groups i (transition s i).state.opening.groups
 
 -- Such a scan has questions left.
 abbrev pub QuestionsAreLeft : Type 0
