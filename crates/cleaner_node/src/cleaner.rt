@@ -73,12 +73,20 @@ impl Cleaner {
         requires { IsSetup setup.now }
         ensures { IfOk result (λ cleaner. cleaner ≡ cleaner_start setup.now items) }
     {
-        let groups = groups_of(alloc, setup)?;
-        let lasting = first_life(items);
-        Ok(Cleaner {
-            peers: Peers::of(setup),
-            phase: Phase::Serving(Emptying::start(alloc, lasting, setup.managers, groups)?),
-        })
+        match groups_of(alloc, setup) {
+            Ok(groups) => {
+                let lasting = first_life(items);
+                let emptying = Emptying::start(alloc, lasting, setup.managers, groups)?;
+                Ok(Cleaner {
+                    peers: Peers::of(setup),
+                    phase: Phase::Serving(emptying),
+                })
+            }
+            Err(error) => {
+                drop(items);
+                Err(error)
+            }
+        }
     }
 
     /// The items of the node.
@@ -223,7 +231,10 @@ fn opening_wishes(
     ensures effects { OnOk result (effects.new ≡ effects.old ++ (opening_wishes lasting opening number wish).outs) }
 {
     match wish {
-        Wish::Crash => crash(effects, lasting, number),
+        Wish::Crash => {
+            drop(opening);
+            crash(effects, lasting, number)
+        }
         Wish::Restart => answer(
             effects,
             Phase::Opening(lasting, opening),

@@ -1,6 +1,8 @@
 //! A cleaner that serves.
 ghost use Rattle.std.specs.Prelude.{◌≡◌, ◌++◌, [], IfOk, OnOk};
 ghost use Rattle.cleaner_node.specs.EmptyingEvents.{cleaner_log, no_end, at_first, served, promises_slot, promises_all, begins_job, on_clean, settles, writes_one, writes, on_stored, on_ack, job_moved, asks_for_maps, on_body, on_packet, on_tick, emptying_room};
+ghost use Rattle.client_log.specs.LogState.{started as first_log};
+ghost use Rattle.delta_feed.specs.FeedState.{started as first_feed};
 ghost use Rattle.log_owner.specs.Sending.{pushes_all, server_in};
 ghost use Rattle.xfs_base.specs.Steps.{steps};
 
@@ -48,16 +50,22 @@ impl Emptying {
     ) -> Mem<Emptying>
         ensures { IfOk result (λ emptying. emptying ≡ at_first lasting managers groups) }
     {
-        let copy = groups.copy(alloc)?;
-        let log = Log::start(alloc, cleaner_log(), lasting.inc, no_end(), copy)?;
-        Ok(Emptying {
-            lasting,
-            maps: Maps::start(groups),
-            promised: Promised::start(managers),
-            log,
-            feed: Feed::start(alloc, 0)?,
-            job: None,
-        })
+        // It is dropped by a call, so that each part of it is dropped in one proof.
+        match start_log(alloc, lasting.inc, &groups) {
+            Ok((log, feed)) => Ok(Emptying {
+                lasting,
+                maps: Maps::start(groups),
+                promised: Promised::start(managers),
+                log,
+                feed,
+                job: None,
+            }),
+            Err(error) => {
+                drop(groups);
+                drop(lasting);
+                Err(error)
+            }
+        }
     }
 
     /// A cleaner whose log is open again.
@@ -315,6 +323,17 @@ impl Emptying {
             job.note_moved();
         }
     }
+}
+
+// A log in which nothing is settled, and its deltas.
+fn start_log(alloc: Global, inc: u32, groups: &GroupMap) -> Mem<(Log, Feed)>
+    ensures log { IfOk result (λ parts. parts.0 ≡ first_log cleaner_log inc no_end groups.now) }
+    ensures feed { IfOk result (λ parts. parts.1 ≡ first_feed 0) }
+{
+    let feed = Feed::start(alloc, 0)?;
+    let copy = groups.copy(alloc)?;
+    let log = Log::start(alloc, cleaner_log(), inc, no_end(), copy)?;
+    Ok((log, feed))
 }
 
 /// The log of the cleaner.
