@@ -69,7 +69,8 @@ abbrev pub StartAsksFew : Type 0
 StartAsksFew = (owner : Owner) (servers : ℕ) (q : Questions) → has_room q.last ≡ true → AsksOn (on_start owner servers q)
 
 abbrev pub PacketAsksFew : Type 0
-PacketAsksFew = (o : openings.Opening) (q : Questions) (packet : Packet) → has_room q.last ≡ true → StageAsks o.stage q.last → AsksOn (on_packet o q packet)
+PacketAsksFew =
+    (o : openings.Opening) (q : Questions) (packet : Packet) → has_room q.last ≡ true → StageAsks o.stage q.last → AsksOn (on_packet o q packet)
 
 abbrev pub TickAsksFew : Type 0
 TickAsksFew = (o : openings.Opening) (q : Questions) → has_room q.last ≡ true → StageAsks o.stage q.last → AsksOn (on_tick o q)
