@@ -1,8 +1,8 @@
-mod Sights
-mod Going
-mod Lists
+pub mod Sights
+pub mod Going
+pub mod Lists
 mod Rebuilding
-mod RebuildEvents
+pub mod RebuildEvents
 mod Shelving
 mod Servers
 mod SentMaps
@@ -12,8 +12,8 @@ mod Boards
 mod Others
 mod Registries
 mod OwnLogs
-mod Cleaning
-mod Emptied
+pub mod Cleaning
+pub mod Emptied
 mod CleanerJobs
 mod CleanerServing
 mod CleanerOpening
