@@ -1,0 +1,10 @@
+pub mod Lists
+pub mod Managers
+pub mod ManagerTables
+pub mod ManagerLogs
+pub mod Standing
+pub mod Frames
+pub mod Turns
+pub mod StoreTurns
+pub mod ClientTurns
+pub mod Groups
