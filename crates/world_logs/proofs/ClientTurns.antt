@@ -30,7 +30,7 @@ use Rattle.xfs_base.specs.declared.segment.SegName.{SegName}
 module _ (g : Setting) (c : ℕ) (w : Scene) (at : Moment g w.net) where
   -- ---- the owner
 
-  module _ (d : NodeStep ClientNode) (go : ClientGoes g c w d) where
+  module _ (d : NodeStep ClientNode) (go : ClientGoes g c w d) (acts : List Act) (those : (a : Act) → In a acts → In a d.acts) where
     later : Later w.net go.next.net
     later = run_later g w.net go.next.net go.grown.runs
 
@@ -42,7 +42,7 @@ module _ (g : Setting) (c : ℕ) (w : Scene) (at : Moment g w.net) where
       registry = λ differs b h. registry_still g w.net go.next.net later b go.grown.registry go.grown.low h;
     }
 
-    pub owner_turn : Turn g c w go.next (Client c) (any.Client d.node) d.packets d.acts
+    pub owner_turn : Turn g c w go.next (Client c) (any.Client d.node) d.packets acts
     owner_turn = record {
       moment = moment_on g w.net go.next.net at go.grown.runs;
       there = λ e. record { agrees = go.agrees; written = go.written };
@@ -50,7 +50,7 @@ module _ (g : Setting) (c : ℕ) (w : Scene) (at : Moment g w.net) where
       facts = λ p h. body_more g c w go.next go.grown p.from p.to p.body h;
       sends = go.sends;
       filed = go.grown.filed;
-      files = λ n h. in_all (ActSeen go.next) d.acts go.acts (act.Filed n) h;
+      files = λ n h. in_all (ActSeen go.next) d.acts go.acts (act.Filed n) (those (act.Filed n) h);
       only = λ n h. inl (subst (tables.In n) go.grown.dropped h);
     }
 

@@ -8,3 +8,10 @@ pub mod Turns
 pub mod StoreTurns
 pub mod ClientTurns
 pub mod Groups
+pub mod Settings
+pub mod Says
+pub mod Start
+pub mod Events
+pub mod Fronts
+pub mod Reading
+pub mod Laws

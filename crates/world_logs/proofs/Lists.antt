@@ -1,5 +1,5 @@
 -- Members of lists that grow.
-use Rattle.std.proofs.Common.{◌≡◌, ℕ, List, [], ◌∷◌, ◌++◌, map, sym, ap, subst, inl, inr, length, drop, arith}
+use Rattle.std.proofs.Common.{List, [], ◌∷◌, ◌++◌, map, ap, inl, inr}
 use Rattle.token_protocol.specs.Basics.{In}
 
 pub in_after : {X : Type 0} (xs ys : List X) (x : X) → In x ys → In x (xs ++ ys)
@@ -15,8 +15,3 @@ pub in_map : {X Y : Type 0} (f : X → Y) (xs : List X) (x : X) → In x xs → 
 in_map f [] x is = absurd is
 in_map f (y ∷ xs) x (inl e) = inl (ap f e)
 in_map f (y ∷ xs) x (inr is) = inr (in_map f xs x is)
-
--- what stands behind the rest of a list is what was put behind it
-pub drop_before : {X : Type 0} (xs ys : List X) → drop (length xs) (xs ++ ys) ≡ ys
-drop_before [] ys = refl
-drop_before (x ∷ xs) ys = drop_before xs ys
