@@ -21,7 +21,9 @@ use Rattle.client_log.specs.Transition as log
 use Rattle.log_owner.specs.Opening.{stored}
 use Rattle.log_owner.specs.Sending.{fetch}
 use Rattle.node_base.specs.Asking.{drawn, next_ask}
+use Rattle.wire_msg.specs.declared.body.Body.TheVariants as body
 use Rattle.node_base.specs.declared.effects.Effect.{Effect}
+use Rattle.node_base.specs.declared.effects.Effect.TheVariants.{Send}
 use Rattle.stripe_cleaner.specs.declared.input.In.{In as Input}
 use Rattle.stripe_cleaner.specs.declared.input.In.TheVariants as input
 use Rattle.stripe_cleaner.specs.declared.output.Out.{Out}

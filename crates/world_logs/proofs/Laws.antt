@@ -39,7 +39,7 @@ use Rattle.world_logs.proofs.Settings.{setting_of}
 use Rattle.world_logs.proofs.Standing.{Stands}
 use Rattle.world_logs.proofs.Start.{first_scene, start_stands}
 use Rattle.world_logs.specs.Doings.{did}
-use Rattle.world_logs.specs.Logs.{LogStands, LogsStand}
+use Rattle.world_logs.specs.Logs.{LogsStand}
 use Rattle.world_logs.specs.Owed.{HorizonsReached, IsOpening, NoneOpens, board_of}
 use Rattle.world_logs.specs.Shelves.{group_at, shelf_at, shelf_of}
 use Rattle.xfs_base.specs.declared.node.NodeId.{NodeId}
