@@ -1,9 +1,10 @@
 mod Starts
-mod Frames
+pub mod Frames
 mod Logs
 mod Questions
 mod ServingTokens
 mod ServingLog
+mod Fitting
 mod ServingCalls
 mod ServingPackets
 mod OpeningTurns

@@ -1,19 +1,19 @@
-mod Sights
-mod Going
-mod Lists
+pub mod Sights
+pub mod Going
+pub mod Lists
 mod Rebuilding
-mod RebuildEvents
+pub mod RebuildEvents
 mod Shelving
 mod Servers
 mod SentMaps
-mod WholeMaps
+pub mod WholeMaps
 mod Horizons
 mod Boards
-mod Others
+pub mod Others
 mod Registries
-mod OwnLogs
+pub mod OwnLogs
 mod Cleaning
-mod Emptied
+pub mod Emptied
 mod CleanerJobs
 mod CleanerServing
 mod CleanerOpening
