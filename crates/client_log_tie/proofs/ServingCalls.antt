@@ -1,5 +1,5 @@
 -- What a client that serves does for the open call: its puts and seals. What it puts fits the format of a segment.
-use Rattle.std.proofs.Common.{◌≡◌, ◌<◌, ℕ, zero, suc, ◌+◌, ◌^◌, ◌==◌, true, List, [], ◌∷◌, Option, Some, None, is_none, refl, sym, ap, subst, ◌∙◌}
+use Rattle.std.proofs.Common.{◌≡◌, ℕ, zero, suc, ◌+◌, ◌==◌, true, List, [], ◌∷◌, Option, Some, None, is_none}
 use Rattle.client_node.specs.Blocks.{Made, needs, got, gets, wrote, put_of, changes, changes_if_fits, puts, lets_go, held_back, changed, puts_again, puts_at, is_settled, synced_acts, syncs, makes}
 use Rattle.client_node.specs.declared.call.Call.{Call}
 use Rattle.client_node.specs.declared.call.Going.{Going}

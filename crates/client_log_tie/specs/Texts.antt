@@ -1,5 +1,5 @@
 -- That what a client's log writes can be spelled: a premise on what it holds and puts, by the limits of the format.
-use Rattle.std.specs.Prelude.{◌≡◌, ◌<◌, ◌^◌, ℕ, true, List, [], length, Option, Some, None, IfSome}
+use Rattle.std.specs.Prelude.{◌≡◌, ◌<◌, ◌^◌, ℕ, true, List, [], length, Option, IfSome}
 use Rattle.std.specs.List.{AllByRecursion}
 use Rattle.xfs_base.specs.declared.block.BlockId.{BlockId}
 use Rattle.xfs_base.specs.declared.entry.Entry.{Entry}

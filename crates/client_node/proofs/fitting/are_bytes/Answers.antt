@@ -1,6 +1,6 @@
 -- An element of a slice of bytes is a byte, by its type.
 use Rattle.std.proofs.Common.{arith}
-use Rattle.client_node.proofs.Fitting.{all_bytes}
+use Rattle.client_node.proofs.Fitted.{all_bytes}
 use Rattle.client_node.proofs.fitting.are_bytes.Goals as goal
 
 pub returns : goal.returns

@@ -2,7 +2,7 @@
 use Rattle.std.proofs.Common.{◌≡◌, true, sym, ap, subst, Some}
 use Rattle.xfs_base.specs.Value.{IsValue}
 use Rattle.client_node.specs.Fitting.{value_fits}
-use Rattle.client_node.proofs.Fitting.{value_fits_so}
+use Rattle.client_node.proofs.Fitted.{value_fits_so}
 use Rattle.client_node.proofs.fitting.is_value.Goals as goal
 
 pub returns-in-Some : goal.returns-in-Some

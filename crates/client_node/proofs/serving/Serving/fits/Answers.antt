@@ -1,6 +1,6 @@
 -- The block's numbers, its version and its value fit, each by its type.
 use Rattle.client_node.specs.Flights.{held_at}
-use Rattle.client_node.proofs.Fitting.{put_fits_so}
+use Rattle.client_node.proofs.Fitted.{put_fits_so}
 use Rattle.client_node.proofs.serving.Serving.fits.Goals as goal
 
 pub returns : goal.returns
