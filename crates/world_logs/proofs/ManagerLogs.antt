@@ -15,8 +15,6 @@ use Rattle.client_log.specs.Transition as log
 use Rattle.group_map.specs.GroupMapState.{GroupMapState}
 use Rattle.manager_node.specs.Checkpoints as checkpoints
 use Rattle.manager_node.specs.Checkpoints.{Done}
-use Rattle.manager_node.specs.declared.beginning.Wish.{Wish}
-use Rattle.manager_node.specs.declared.beginning.Wish.TheVariants.{Crash, Restart, Checkpoint}
 use Rattle.manager_node.specs.declared.checkpointing.Checkpointing.{Checkpointing}
 use Rattle.manager_node.specs.declared.lasting.Lasting.{Lasting as Kept}
 use Rattle.manager_node.specs.declared.manager.Manager.{Manager as ManagerNode}
@@ -29,7 +27,7 @@ use Rattle.manager_node.specs.Phases as phases
 use Rattle.manager_node.specs.Phases.{Went_to, serves}
 use Rattle.manager_node.specs.Serving as serving
 use Rattle.manager_node.specs.SlotTable as table
-use Rattle.node_base.specs.Beginning.{next_item}
+use Rattle.node_base.specs.Beginning.{next_item, work_at}
 use Rattle.node_base.specs.declared.effects.Effect.{Effect}
 use Rattle.node_base.specs.declared.effects.Effect.TheVariants.{Send}
 use Rattle.node_base.specs.Known.{names_known}
@@ -42,6 +40,7 @@ use Rattle.segment_format.specs.declared.segment.Item.{Item}
 use Rattle.version_model.specs.declared.answer.Answer.{Answer}
 use Rattle.version_model.specs.declared.answer.Answer.TheVariants as answer
 use Rattle.version_model.specs.declared.work.Work.{Work}
+use Rattle.version_model.specs.declared.work.Work.TheVariants as work
 use Rattle.wire_msg.specs.declared.body.Body.{Body}
 use Rattle.wire_msg.specs.declared.body.Body.TheVariants as body
 use Rattle.wire_msg.specs.declared.packet.Do.{Do}
@@ -279,20 +278,26 @@ restart_so : (kept : Kept) (number : ℕ) → Went (phases.restarts kept number)
 unfolding phases.restarts
 restart_so kept number = record { writes = tt; says = (tt, (tt, tt)) }
 
-down_so : (kept : Kept) (number : ℕ) (wish : Wish) → Went (phases.down_wish kept number wish)
-down_so kept number Restart = restart_so kept number
-down_so kept number Crash = answers_so (Down kept) number answer.Down tt
-down_so kept number Checkpoint = answers_so (Down kept) number answer.Down tt
+down_so : (kept : Kept) (number : ℕ) (asked : Option Work) → Went (phases.down_wish kept number (phases.wish_at asked))
+down_so kept number (Some (work.Restart node)) = restart_so kept number
+down_so kept number (Some (work.Crash node)) = answers_so (Down kept) number answer.Down tt
+down_so kept number (Some _) = answers_so (Down kept) number answer.Down tt
+down_so kept number None = answers_so (Down kept) number answer.Down tt
 
-waiting_so : (kept : Kept) (hello number : ℕ) (wish : Wish) → Went (phases.waiting_wish kept hello number wish)
-waiting_so kept hello number Crash = crash_so kept number
-waiting_so kept hello number Restart = answers_so (Waiting kept hello) number answer.Up tt
-waiting_so kept hello number Checkpoint = answers_so (Waiting kept hello) number (answer.Count 0) tt
+waiting_so : (kept : Kept) (hello number : ℕ) (asked : Option Work) → Went (phases.waiting_wish kept hello number (phases.wish_at asked))
+waiting_so kept hello number (Some (work.Crash node)) = crash_so kept number
+waiting_so kept hello number (Some (work.Restart node)) = answers_so (Waiting kept hello) number answer.Up tt
+waiting_so kept hello number (Some _) = answers_so (Waiting kept hello) number (answer.Count 0) tt
+waiting_so kept hello number None = answers_so (Waiting kept hello) number (answer.Count 0) tt
 
-serving_so : (s : Serving) (number : ℕ) (wish : Wish) → IsWritten s → Went (phases.serving_wish s number wish)
-serving_so s number Crash own = crash_so s.lasting number
-serving_so s number Restart own = answers_so (Serves s) number answer.Up own
-serving_so s number Checkpoint own = serves_so s (checkpoints.on_checkpoint s number) own (checkpoint_so own.log own.high s number own.of)
+checkpoints_so : (s : Serving) (number : ℕ) → IsWritten s → Went (serves (checkpoints.on_checkpoint s number))
+checkpoints_so s number own = serves_so s (checkpoints.on_checkpoint s number) own (checkpoint_so own.log own.high s number own.of)
+
+serving_so : (s : Serving) (number : ℕ) (asked : Option Work) → IsWritten s → Went (phases.serving_wish s number (phases.wish_at asked))
+serving_so s number (Some (work.Crash node)) own = crash_so s.lasting number
+serving_so s number (Some (work.Restart node)) own = answers_so (Serves s) number answer.Up own
+serving_so s number (Some _) own = checkpoints_so s number own
+serving_so s number None own = checkpoints_so s number own
 
 begins_so : (p : Phase) → WritesItsLog p → Went (phases.on_begin p)
 unfolding phases.begin_down phases.begin_waiting phases.begin_serving
@@ -300,12 +305,12 @@ begins_so (Down kept) h = by (next_item kept.items)
   where
     by : (o : Option ℕ) → Went (phases.down_item (phases.with_begun kept) o)
     by None = still_so (Down _) tt
-    by (Some number) = down_so (phases.with_begun kept) number _
+    by (Some number) = down_so (phases.with_begun kept) number (work_at (phases.with_begun kept).items number)
 begins_so (Waiting kept hello) h = by (next_item kept.items)
   where
     by : (o : Option ℕ) → Went (phases.waiting_item (phases.with_begun kept) hello o)
     by None = still_so (Waiting _ hello) tt
-    by (Some number) = waiting_so (phases.with_begun kept) hello number _
+    by (Some number) = waiting_so (phases.with_begun kept) hello number (work_at (phases.with_begun kept).items number)
 begins_so (Serves s) h = by (next_item s.lasting.items)
   where
     t : Serving
@@ -316,7 +321,7 @@ begins_so (Serves s) h = by (next_item s.lasting.items)
 
     by : (o : Option ℕ) → Went (phases.serving_item t o)
     by None = still_so (Serves t) own
-    by (Some number) = serving_so t number _ own
+    by (Some number) = serving_so t number (work_at t.lasting.items number) own
 
 -- ---- events
 

@@ -115,10 +115,10 @@ usages_say t asked = by (slice_get t asked.slot)
     by (Some p) = usage_so asked p
 
 pub recalls_say : (t : Table) → AllSay (table.recalls_all t).outs
+unfolding table.recalls
 recalls_say t = steps_say table.recalls one t table.all_slots
   where
     one : (t : Table) (slot : ℕ) → AllSay (table.recalls t slot).outs
-    unfolding table.recalls
     one t slot = in_slot_so t slot (λ p. tokens.on_tick p slot) (λ p. takes_so p slot _) (slice_get t slot)
 
 -- ---- takeovers
@@ -166,25 +166,24 @@ reports_say a from report = in_taken_so a report.slot (λ one. takeovers.on_repo
         (λ t. taken_so x report.slot (takeovers.report_input from report)) (λ t. tt)
 
 pub asks_say : (polls : Bool) (a : TableAsker) → AllSay (table.asks_all polls a).outs
+unfolding table.asks
 asks_say polls a = steps_say (table.asks polls) one a table.all_slots
   where
     one : (a : TableAsker) (slot : ℕ) → AllSay (table.asks polls a slot).outs
-    unfolding table.asks
     one a slot = in_taken_so a slot (λ x. takeovers.asks_again x slot polls) (λ x. again_so x slot polls) (slice_get a.table slot)
 
 pub regroups_say : (groups : GroupMapState) (a : TableAsker) → AllSay (table.regroups_all groups a).outs
 regroups_say groups a = steps_say (table.regroups groups) (λ a slot. takes_say a slot (given_in.Maps groups)) a table.all_slots
 
 pub hears_say : (h : Hearer) (a : TableAsker) (slots : List SlotNews) → AllSay (table.hears_all h a slots).outs
+unfolding table.hears table.hears_of
 hears_say h a slots = steps_say (table.hears h) one a slots
   where
     heard : (news : SlotNews) (x : Asker) → AllSay (table.hears_of h news x).outs
-    unfolding table.hears_of
     heard news x =
         by_test (λ (d : takeovers.Done). AllSay d.outs) (nat_lt (epoch_of x.phase) news.epoch)
         (takeovers.takes (record x { phase = takeovers.phase_of h.ears.number news h.groups h.ears.clients }) news.slot given_in.Tick) _
         (λ t. taken_so (record x { phase = takeovers.phase_of h.ears.number news h.groups h.ears.clients }) news.slot given_in.Tick) (λ t. tt)
 
     one : (a : TableAsker) (news : SlotNews) → AllSay (table.hears h a news).outs
-    unfolding table.hears
     one a news = in_taken_so a news.slot (table.hears_of h news) (heard news) (slice_get a.table news.slot)
