@@ -1,5 +1,5 @@
 -- Each event keeps each client's log standing to its small world.
-use Rattle.std.proofs.Common.{◌≡◌, ◌⊎◌, ⊎_elim, ℕ, suc, ◌==◌, ◌≤◌, ◌<◌, Bool, true, false, cond, List, [], ◌∷◌, ◌++◌, Option, None, Some, map, get_or, slice_get, slice_set, if◌then◌else◌, inl, inr, refl, sym, ap, subst, ◌∙◌, arith}
+use Rattle.std.proofs.Common.{◌≡◌, ◌⊎◌, ⊎_elim, ℕ, suc, ◌+◌, ◌==◌, ◌≤◌, ◌<◌, Bool, true, false, cond, List, [], ◌∷◌, ◌++◌, Option, None, Some, map, get_or, slice_get, slice_set, if◌then◌else◌, inl, inr, refl, sym, ap, subst, ◌∙◌, arith}
 use Rattle.std.specs.List.{AllByRecursion}
 use Rattle.std.specs.Prelude.{All}
 use Rattle.client_log_tie.specs.ClientEvents.{BodyFits, ClientGoes, ClientOwed, ClientStarts, ClientTakes, OfItsLog, PhaseOwed}
@@ -414,7 +414,7 @@ module _ (laws : NodeLaws) (base : Setting) (end : World AnyNode) (setup : Setup
                 subst (λ f. BodySeen (g c) (asker c l.0) l.0.net f p.to p.body) (sym its)
                 (client_apart (g c) c refl l.0 d other p.to p.body say (of_log (g c) c refl l.0 (g d) d refl p.body (go.own i d_ less)))
 
-    node_after : (name : NodeId) → Gets name → place_of k name ≡ Some place → (x : AnyNode) → slice_get nodes place ≡ Some x → After name x
+    pub node_after : (name : NodeId) → Gets name → place_of k name ≡ Some place → (x : AnyNode) → slice_get nodes place ≡ Some x → After name x
     node_after (Client d) gets at x is = client_after d gets at x is
     node_after (Manager j) gets at x is = manager_after j at x is
     node_after (Server v) gets at x is = server_after v gets at x is

@@ -62,9 +62,9 @@ groups_from_board (Some (any.Registry node)) b is = ap (λ (x : BoardState). Som
 same_registry : (a b : RegistryNode) → Some (any.Registry a) ≡ Some (any.Registry b) → a ≡ b
 same_registry a b is = cc
 
-no_acts : (t : Bool) → (if t then [] else []) ≡ []
-no_acts true = refl
-no_acts false = refl
+no_acts : (t : Bool) (acts : List Act) → acts ≡ [] → (if t then acts else []) ≡ []
+no_acts true acts none = none
+no_acts false acts none = refl
 
 module _ (laws : NodeLaws) (stay : GroupsStay) (base : Setting) (end : World AnyNode) (setup : Setup) (ok : IsSetup setup) (Q : World AnyNode → Type 0) where
   abbrev k : Cluster
@@ -104,7 +104,7 @@ module _ (laws : NodeLaws) (stay : GroupsStay) (base : Setting) (end : World Any
     told_with acts c = told c ++ (if is_client c (node_of event) then drop (length w.acts) acts else [])
 
     unchanged : (c : ℕ) → told c ≡ told_with w.acts c
-    unchanged c = sym (ap (λ more. told c ++ (if is_client c (node_of event) then more else [])) (drop-length w.acts) ∙ (ap (λ more. told c ++ more) (no_acts (is_client c (node_of event))) ∙ append-nil (told c)))
+    unchanged c = sym (ap (λ more. told c ++ more) (no_acts (is_client c (node_of event)) (drop (length w.acts) w.acts) (drop-length w.acts)) ∙ append-nil (told c))
 
     added : (more : List Act) (c : ℕ) → told_with (w.acts ++ more) c ≡ told c ++ (if is_client c (node_of event) then more else [])
     added more c = ap (λ x. told c ++ (if is_client c (node_of event) then x else [])) (drop-append_seam w.acts more)
@@ -150,13 +150,13 @@ module _ (laws : NodeLaws) (stay : GroupsStay) (base : Setting) (end : World Any
       → board_of (node_in (fold (next_world any_step) w (take n events_)).nodes (place_of (fold (next_world any_step) w (take n events_)).cluster Registry)) ≡ Some b
       → Reached (told c ++ acts_by c w (take n events_)) (least_horizon c (all_news b))
 
-  pub named_so : (w : World AnyNode) → w.cluster ≡ k → StayIn w end → (b : BoardState) → board_of (node_in w.nodes (place_of k Registry)) ≡ Some b → (c : ℕ) → NamesGroups (g c) b.groups
+  pub named_so : (w : World AnyNode) → w.cluster ≡ k → StayIn stay w end → (b : BoardState) → board_of (node_in w.nodes (place_of k Registry)) ≡ Some b → (c : ℕ) → NamesGroups (g c) b.groups
   named_so w cluster stays b is c id group found =
       let groups = groups_from_board (node_in w.nodes (place_of k Registry)) b is in
       let here = subst (λ cl. groups_of (node_in w.nodes (place_of cl Registry)) ≡ Some b.groups) (sym cluster) groups in
       names_at_end base end setup.servers _ _ (stays id group (ap (λ o. group_in o id) here ∙ found))
 
-  known_now : (w : World AnyNode) → w.cluster ≡ k → Tokens w → StayIn w end → (told : ℕ → List Act)
+  known_now : (w : World AnyNode) → w.cluster ≡ k → Tokens w → StayIn stay w end → (told : ℕ → List Act)
       → ((c : ℕ) → 0 < c → c ≤ setup.clients → (b : BoardState) → board_of (node_in w.nodes (place_of w.cluster Registry)) ≡ Some b → Reached (told c) (least_horizon c (all_news b)))
       → Known laws base end setup ok w.nodes w.sent told
   known_now w cluster tok stays told reached = record {

@@ -60,9 +60,9 @@ at_end [] w end leads = leads
 at_end (event ∷ events) w end leads = at_end events (next_world any_step w event) end leads.1
 
 owed_nothing : (g : Setting) (n : Net) (p : Phase) → (IsOpening p → ⊥) → PhaseOwed g n p
-owed_nothing g n (clients.Down l) no = tt
-owed_nothing g n (clients.Opening l o) no = absurd (no tt)
-owed_nothing g n (clients.Serving s) no = tt
+owed_nothing g n (clients.Down l) shut = tt
+owed_nothing g n (clients.Opening l o) shut = absurd (shut tt)
+owed_nothing g n (clients.Serving s) shut = tt
 
 module _ (below : Below) (e : Estate AnyNode) (ok : IsSetup e.script.setup) (run : IsRun any_step any_start e.script e.events e.world) (low : HorizonsReached e) (none : NoneOpens e) where
   abbrev setup : Setup
@@ -89,13 +89,13 @@ module _ (below : Below) (e : Estate AnyNode) (ok : IsSetup e.script.setup) (run
 
   first_named : (c : ℕ) → NamesGroups (g c) (groups.started setup.servers setup.groups)
   unfolding start_world
-  first_named c = named_so below.nodes below.groups base e.world setup ok Q (start_world any_start e.script) refl (in_run below.groups k e.events (start_world any_start e.script) e.world run)
+  first_named c = named_so below.nodes below.groups base e.world setup ok Q (start_world any_start e.script) refl (in_run below.groups e.events (start_world any_start e.script) e.world run)
       (registry_start setup (items_of e.script.lines Registry)).board (ap board_of (first_stands e.script Registry (setup.clients + setup.managers + setup.servers + 1) refl)) c
 
   good_at : (count : ℕ) → Good below.nodes base e.world setup ok (moment e count).nodes (moment e count).sent (λ c. did e c count)
   unfolding start_world Q
   good_at count = front_keeps below.nodes below.groups base e.world setup ok Q opens e.events count (start_world any_start e.script) (λ c. []) refl run
-      (tokens.front below.nodes.tokens e ok run 0 0 (omega arith)).1 (λ n c some most b is. low n c some most b is) (λ n c node is open. none n c node is open)
+      (tokens.front below.nodes.tokens e ok run 0 0 (omega arith)).1 (λ n c some most b is. low n c some most b is) (λ n c node is opening. none n c node is opening)
       (record {
         fits = λ q h. absurd h;
         logs = λ c some most. (

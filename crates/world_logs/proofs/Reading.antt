@@ -116,16 +116,16 @@ module _ (base : Setting) (end w : World AnyNode) (servers c : ℕ) (k : Cluster
     filed : tables.In name net.filed
     filed = st.filed name is
 
-    its : (s : Segment) × tables.In s net.flown × (s.name ≡ name)
+    abbrev its : (s : Segment) × tables.In s net.flown × (s.name ≡ name)
     its = all.flown name filed
 
-    segment : Segment
+    abbrev segment : Segment
     segment = its.0
 
-    grouped : (group : Group) × (group_at end segment.group ≡ Some group)
+    abbrev grouped : (group : Group) × (group_at end segment.group ≡ Some group)
     grouped = striped base end servers (group_at end segment.group) (all.striped segment its.1)
 
-    group : Group
+    abbrev group : Group
     group = grouped.0
 
     undropped : tables.In segment.name net.dropped → ⊥
@@ -157,14 +157,14 @@ module _ (base : Setting) (end w : World AnyNode) (servers c : ℕ) (k : Cluster
     one = law g net st.moment
 
     -- the segment of the name, where there is one
-    picked : (s : Segment) × ((t : Segment) → tables.In t net.flown → t.name ≡ name → t ≡ s)
+    abbrev picked : (s : Segment) × ((t : Segment) → tables.In t net.flown → t.name ≡ name → t ≡ s)
     picked = ⊎_elim (λ (f : (s : Segment) × tables.In s net.flown × (s.name ≡ name)). (f.0, λ t is e. one.one t f.0 is f.1 (e ∙ sym f.2)))
         (λ none. (record { name = name; prior = record { pass = record { inc = 0; att = 0 }; group = 0 }; group = 0; items = [] }, λ t is e. absurd (none t is e))) (look name net.flown)
 
-    segment_here : Segment
+    abbrev segment_here : Segment
     segment_here = picked.0
 
-    group_here : Group
+    abbrev group_here : Group
     group_here = record { id = segment_here.group; members = (g.stripe segment_here.group).members; parity = (g.stripe segment_here.group).parity; current = false }
 
     -- a fragment of a segment of this name is one of this segment
