@@ -12,10 +12,10 @@ use Rattle.segment_format.specs.Format.{second_version, IsLength, is_length}
 use Rattle.segment_format.specs.Ranges.{FitsBlock}
 use Rattle.stripe_code.specs.Stripe.{IsBytes}
 use Rattle.token_client.proofs.Tables.{held_of-put_itself}
-use Rattle.token_client.specs.declared.output.Out.{Out}
+use Rattle.token_client.specs.declared.held.Held.{Held}
 use Rattle.token_client.specs.Held.{may_write, written}
-use Rattle.token_client.specs.State.{with_held}
-use Rattle.token_client.specs.Transition.{on_wrote}
+use Rattle.token_client.specs.State.{held_of, with_held}
+use Rattle.token_client.specs.Transition.{Done, on_wrote}
 use Rattle.xfs_base.proofs.Booleans.{and_first, and_second}
 use Rattle.xfs_base.specs.declared.block.BlockId.{BlockId}
 use Rattle.xfs_base.specs.declared.entry.Entry.{Entry}
@@ -59,8 +59,9 @@ wrote_next : (s : Serving) (block : BlockId) (value : Option (List ℕ)) → may
     → (held_at (wrote s block value) block).ver ≡ (held_at s block).ver + 1
 unfolding on_wrote
 wrote_next s block value may =
-    ap (λ (t : Bool). (held_at (record s { tokens = (cond t (still {O = Out} (with_held s.tokens block (written (held_at s block) value))) (still s.tokens)).state }) block).ver) may
-    ∙ ap (λ h. h.ver) (held_of-put_itself block (written (held_at s block) value) s.tokens.blocks)
+    let h : Held = written (held_at s block) value in
+    let then_is : Bool → Done = λ t. cond t (still (with_held s.tokens block h)) (still s.tokens) in
+    ap (λ (t : Bool). (held_of (then_is t).state.blocks block).ver) may ∙ ap (λ h. h.ver) (held_of-put_itself block h s.tokens.blocks)
 
 entry_fits : (block : BlockId) (e : Entry) (ver : ℕ) (value : Option (List ℕ)) → e ≡ record { ver = ver; hop = 0; place = None } → block_fits block ≡ true
     → nat_lt ver (2 ^ 64) ≡ true → value_fits value ≡ true → PutFits block e value

@@ -31,12 +31,12 @@ use Rattle.node_log_tie.specs.Sight.{BodySeen, PacketSeen}
 use Rattle.node_tie.specs.RegistryEvents as board
 use Rattle.node_tie.specs.RegistryEvents.{RegistrySound}
 use Rattle.registry.specs.BoardState.{BoardState}
-use Rattle.store_nodes.specs.CleanerEvents.{cleaner_step}
-use Rattle.store_nodes.specs.CleanerEvents as cleaners
-use Rattle.store_nodes.specs.declared.cleaner.Cleaner.{Cleaner as CleanerNode}
+use Rattle.cleaner_node.specs.CleanerEvents.{cleaner_step}
+use Rattle.cleaner_node.specs.CleanerEvents as cleaners
+use Rattle.cleaner_node.specs.declared.cleaner.Cleaner.{Cleaner as CleanerNode}
 use Rattle.store_nodes.specs.declared.registry_node.RegistryNode.{RegistryNode}
 use Rattle.store_nodes.specs.declared.server.Server.{Server as ServerNode}
-use Rattle.store_nodes.specs.EmptyingEvents.{cleaner_log}
+use Rattle.cleaner_node.specs.EmptyingEvents.{cleaner_log}
 use Rattle.store_nodes.specs.RegistryEvents.{registry_step}
 use Rattle.store_nodes.specs.RegistryEvents as registries
 use Rattle.store_nodes.specs.ServerEvents.{server_step}

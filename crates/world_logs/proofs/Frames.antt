@@ -23,8 +23,8 @@ use Rattle.node_log_tie.specs.RegistryEvents.{RegistrySeen}
 use Rattle.node_log_tie.specs.ServerEvents.{NamesStripes, RebuildSeen, ServerSeen}
 use Rattle.node_log_tie.specs.Sight.{Later, Question}
 use Rattle.registry.specs.BoardState.{BoardState}
-use Rattle.store_nodes.specs.declared.cleaner.Phase.{Phase as CleanerPhase}
-use Rattle.store_nodes.specs.declared.cleaner.Phase.TheVariants as cleaners
+use Rattle.cleaner_node.specs.declared.cleaner.Phase.{Phase as CleanerPhase}
+use Rattle.cleaner_node.specs.declared.cleaner.Phase.TheVariants as cleaners
 use Rattle.store_nodes.specs.declared.server.Rebuilding.{Rebuilding}
 use Rattle.store_nodes.specs.declared.server.Server.{Server as ServerNode}
 

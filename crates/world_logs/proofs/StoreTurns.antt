@@ -13,8 +13,8 @@ use Rattle.node_log_tie.specs.CleanerEvents.{CleanerGoes}
 use Rattle.node_log_tie.specs.RegistryEvents.{RegistryGoes}
 use Rattle.node_log_tie.specs.ServerEvents.{ServerGoes}
 use Rattle.node_log_tie.specs.Sight.{Later, PacketSeen}
-use Rattle.store_nodes.specs.CleanerEvents.{cleaner_step}
-use Rattle.store_nodes.specs.declared.cleaner.Cleaner.{Cleaner as CleanerNode}
+use Rattle.cleaner_node.specs.CleanerEvents.{cleaner_step}
+use Rattle.cleaner_node.specs.declared.cleaner.Cleaner.{Cleaner as CleanerNode}
 use Rattle.store_nodes.specs.declared.registry_node.RegistryNode.{RegistryNode}
 use Rattle.store_nodes.specs.declared.server.Server.{Server as ServerNode}
 use Rattle.store_nodes.specs.RegistryEvents.{registry_step}

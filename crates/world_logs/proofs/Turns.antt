@@ -14,7 +14,7 @@ use Rattle.node_log_tie.specs.RegistryEvents.{RegistrySeen}
 use Rattle.node_log_tie.specs.ServerEvents.{ServerSeen}
 use Rattle.node_log_tie.specs.Sight.{PacketSeen}
 use Rattle.registry.specs.BoardState.{BoardState}
-use Rattle.store_nodes.specs.declared.cleaner.Phase.{Phase as CleanerPhase}
+use Rattle.cleaner_node.specs.declared.cleaner.Phase.{Phase as CleanerPhase}
 use Rattle.store_nodes.specs.declared.server.Server.{Server as ServerNode}
 use Rattle.token_protocol.specs.Basics.{In}
 use Rattle.version_model.specs.declared.act.Act.{Act}
