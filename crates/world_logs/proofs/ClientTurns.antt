@@ -56,7 +56,8 @@ module _ (g : Setting) (c : ℕ) (w : Scene) (at : Moment g w.net) where
 
   -- ---- a node that has no part in the log
 
-  pub idle_turn : (name : NodeId) (after : AnyNode) (packets : List Packet) → Seen g c w name after → All (PacketSeen g (asker c w) w.net) packets → Turn g c w w name after packets []
+  pub idle_turn : (name : NodeId) (after : AnyNode) (packets : List Packet) → Seen g c w name after → All (PacketSeen g (asker c w) w.net) packets
+      → Turn g c w w name after packets []
   idle_turn name after packets there sends = record {
     moment = at;
     there = there;

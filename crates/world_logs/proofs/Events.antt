@@ -120,7 +120,8 @@ in_those true acts a h = h
 in_those false acts a h = absurd h
 
 -- what is of a client's log bears its number
-of_log : (g : Setting) (c : ℕ) (is : g.log ≡ record { 0 = c }) (w : Scene) (h : Setting) (d : ℕ) → h.log ≡ record { 0 = d } → (m : Body) → OfItsLog h m → OfLog g c is w d m
+of_log : (g : Setting) (c : ℕ) (is : g.log ≡ record { 0 = c }) (w : Scene) (h : Setting) (d : ℕ) → h.log ≡ record { 0 = d } → (m : Body) → OfItsLog h m
+    → OfLog g c is w d m
 of_log g c is w h d its (body.Store m) own = ap (λ (l : LogId). l.0) (own ∙ its)
 of_log g c is w h d its (body.Fence m) own = ap (λ (l : LogId). l.0) (own ∙ its)
 of_log g c is w h d its _ own = tt
@@ -182,10 +183,13 @@ module _ (laws : NodeLaws) (base : Setting) (end : World AnyNode) (setup : Setup
 
     -- ---- what is sent
 
-    all_say : (packets : List Packet) → ((q : Packet) → In q (sent ++ map (sent_at clock) packets) → MaySay q.from q.body) → All (λ (p : Packet). MaySay p.from p.body) packets
-    all_say packets says = λ i d less. says (sent_at clock (get_or packets i d)) (in_after sent (map (sent_at clock) packets) _ (in_map (sent_at clock) packets (get_or packets i d) (in_get packets i d less)))
+    all_say : (packets : List Packet) → ((q : Packet) → In q (sent ++ map (sent_at clock) packets) → MaySay q.from q.body)
+        → All (λ (p : Packet). MaySay p.from p.body) packets
+    all_say packets says = λ i d less.
+        says (sent_at clock (get_or packets i d)) (in_after sent (map (sent_at clock) packets) _ (in_map (sent_at clock) packets (get_or packets i d) (in_get packets i d less)))
 
-    all_fit : (packets : List Packet) → All (λ (p : Packet). BodyFits p.body) packets → (q : Packet) → In q (sent ++ map (sent_at clock) packets) → BodyFits q.body
+    all_fit : (packets : List Packet) → All (λ (p : Packet). BodyFits p.body) packets → (q : Packet) → In q (sent ++ map (sent_at clock) packets)
+        → BodyFits q.body
     all_fit packets all q h = ⊎_elim (λ old. good.fits q old)
         (λ new. at_clock clock (λ (p : Packet). BodyFits p.body) (λ (p : Packet). BodyFits p.body) (λ p f. f) packets all q new) (in_append sent (map (sent_at clock) packets) q h)
 
@@ -273,7 +277,8 @@ module _ (laws : NodeLaws) (base : Setting) (end : World AnyNode) (setup : Setup
         sends : board.RegistryGoes 0 node what
         sends = laws.tokens.registry 0 (omega arith) node (sound node (named Registry _ at is)) what
 
-        goes : (c : ℕ) → 0 < c → c ≤ setup.clients → (l : (v : Scene) × Stands (g c) c v k nodes sent (told c)) → RegistryGoes (g c) (asker c l.0) l.0.net node what
+        goes : (c : ℕ) → 0 < c → c ≤ setup.clients → (l : (v : Scene) × Stands (g c) c v k nodes sent (told c))
+            → RegistryGoes (g c) (asker c l.0) l.0.net node what
         goes c some most l =
             laws.registry (g c) (asker c l.0) l.0.net node what (let m = eight c most in omega arith) (l.1.seen Registry (any.Registry node) (named Registry _ at is)) (owed what refl)
             (record { named = now.0; filed = filed now.1 })
@@ -289,7 +294,8 @@ module _ (laws : NodeLaws) (base : Setting) (end : World AnyNode) (setup : Setup
             low : 1 ≤ l.0.net.low
             low = (run_later (g c) (opening (g c) l.1.moment.map) l.0.net l.1.moment.run).low
 
-            filed : Reached (told c ++ []) (low_of (g c) (registry_step node what).node.board) → IsFiled l.0.net (low_of (g c) (registry_step node what).node.board)
+            filed : Reached (told c ++ []) (low_of (g c) (registry_step node what).node.board)
+                → IsFiled l.0.net (low_of (g c) (registry_step node what).node.board)
             filed (inl first) = inl (let m = low in omega arith)
             filed (inr r) = inr (r.0, ⊎_elim (λ h. l.1.filed r.0 h) (λ h. absurd h) (in_append (told c) [] (act.Filed r.0) r.1), r.2)
 
@@ -391,8 +397,8 @@ module _ (laws : NodeLaws) (base : Setting) (end : World AnyNode) (setup : Setup
         mine : Now d
         mine = (
           go.next,
-          turned (g d) d own.0 go.next k nodes sent (told d) own.1 (Client d) place clock at (any.Client node) (any.Client (client_step node what).node) is packets (if d == d then acts else [])
-              (owner_turn (g d) d own.0 own.1.moment (client_step node what) go (if d == d then acts else []) (in_those (d == d) acts)),
+          turned (g d) d own.0 go.next k nodes sent (told d) own.1 (Client d) place clock at (any.Client node) (any.Client (client_step node what).node) is
+              packets (if d == d then acts else []) (owner_turn (g d) d own.0 own.1.moment (client_step node what) go (if d == d then acts else []) (in_those (d == d) acts)),
         )
 
         number : (lasting_of node.phase).number ≡ d

@@ -84,13 +84,15 @@ module _ (laws : NodeLaws) (stay : GroupsStay) (base : Setting) (end : World Any
   GoodNow w told = Good laws base end setup ok w.nodes w.sent told
 
   -- what a client did may be said otherwise
-  good_so : (nodes : List AnyNode) (sent : List Packet) (a b : ℕ → List Act) → ((c : ℕ) → a c ≡ b c) → Good laws base end setup ok nodes sent a → Good laws base end setup ok nodes sent b
+  good_so : (nodes : List AnyNode) (sent : List Packet) (a b : ℕ → List Act) → ((c : ℕ) → a c ≡ b c) → Good laws base end setup ok nodes sent a
+      → Good laws base end setup ok nodes sent b
   good_so nodes sent a b same h = record {
     fits = h.fits;
     logs = λ c some most. (let l = h.logs c some most in (l.0, subst (Stands (g c) c l.0 k nodes sent) (same c) l.1));
   }
 
-  known_so : (nodes : List AnyNode) (sent : List Packet) (a b : ℕ → List Act) → ((c : ℕ) → a c ≡ b c) → Known laws base end setup ok nodes sent a → Known laws base end setup ok nodes sent b
+  known_so : (nodes : List AnyNode) (sent : List Packet) (a b : ℕ → List Act) → ((c : ℕ) → a c ≡ b c) → Known laws base end setup ok nodes sent a
+      → Known laws base end setup ok nodes sent b
   known_so nodes sent a b same h = record {
     says = h.says;
     registry = λ board is c some most. (let r = h.registry board is c some most in (r.0, subst (λ acts. Reached acts (least_horizon c (all_news board))) (same c) r.1));
@@ -150,7 +152,8 @@ module _ (laws : NodeLaws) (stay : GroupsStay) (base : Setting) (end : World Any
       → board_of (node_in (fold (next_world any_step) w (take n events_)).nodes (place_of (fold (next_world any_step) w (take n events_)).cluster Registry)) ≡ Some b
       → Reached (told c ++ acts_by c w (take n events_)) (least_horizon c (all_news b))
 
-  pub named_so : (w : World AnyNode) → w.cluster ≡ k → StayIn stay w end → (b : BoardState) → board_of (node_in w.nodes (place_of k Registry)) ≡ Some b → (c : ℕ) → NamesGroups (g c) b.groups
+  pub named_so : (w : World AnyNode) → w.cluster ≡ k → StayIn stay w end → (b : BoardState) → board_of (node_in w.nodes (place_of k Registry)) ≡ Some b
+      → (c : ℕ) → NamesGroups (g c) b.groups
   named_so w cluster stays b is c id group found =
       let groups = groups_from_board (node_in w.nodes (place_of k Registry)) b is in
       let here = subst (λ cl. groups_of (node_in w.nodes (place_of cl Registry)) ≡ Some b.groups) (sym cluster) groups in
@@ -164,7 +167,8 @@ module _ (laws : NodeLaws) (stay : GroupsStay) (base : Setting) (end : World Any
     registry = λ b is c some most. (named_so w cluster stays b is c, reached c some most b (subst (λ cl. board_of (node_in w.nodes (place_of cl Registry)) ≡ Some b) (sym cluster) is));
   }
 
-  pub front_keeps : Opens → (events_ : List Event) (count : ℕ) (w : World AnyNode) (told : ℕ → List Act) → w.cluster ≡ k → Leads any_step w events_ end → Tokens w → HorizonsFrom events_ w told
+  pub front_keeps : Opens → (events_ : List Event) (count : ℕ) (w : World AnyNode) (told : ℕ → List Act) → w.cluster ≡ k → Leads any_step w events_ end
+      → Tokens w → HorizonsFrom events_ w told
       → ((n : ℕ) → Q (fold (next_world any_step) w (take n events_))) → GoodNow w told
       → GoodNow (fold (next_world any_step) w (take count events_)) (λ c. told c ++ acts_by c w (take count events_))
   front_keeps opens events_ zero w told cluster leads tok low q good = good_so w.nodes w.sent told (λ c. told c ++ []) (λ c. sym (append-nil (told c))) good

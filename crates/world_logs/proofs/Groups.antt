@@ -60,7 +60,8 @@ stay_still m id group is = record { group = group; is = is; stripe_is = refl }
 
 module _ (law : GroupsStay) where
   lost_stay : (m : GroupMapState) (server generation : ℕ) → Stay m (after_losses m (record { server = server; generation = generation } ∷ []))
-  lost_stay m server generation id group is = by (group_of (after_losses m (record { server = server; generation = generation } ∷ [])) id) refl (law m (record { server = server; generation = generation } ∷ []) id group is)
+  lost_stay m server generation id group is =
+      by (group_of (after_losses m (record { server = server; generation = generation } ∷ [])) id) refl (law m (record { server = server; generation = generation } ∷ []) id group is)
     where
       by : (o : Option Group) → group_of (after_losses m (record { server = server; generation = generation } ∷ [])) id ≡ o → IsSomeAnd o (IsLater group)
           → Names (group_of (after_losses m (record { server = server; generation = generation } ∷ [])) id) (stripe_of_group group)
@@ -110,7 +111,8 @@ module _ (law : GroupsStay) where
   by_event : (r : RegistryNode) (what : Do) → KeptIn r (on_event r what)
   unfolding on_begin on_packet
   by_event r Begin = by_item (record r { items = begun r.items }) (next_item r.items)
-  by_event r (Deliver packet) = by_test (KeptIn r) (is_well_formed r.peers packet) (hears r packet.from packet.body) _ (λ t. by_body r packet.from packet.body) (λ t. stay_still r.board.groups)
+  by_event r (Deliver packet) = by_test (KeptIn r) (is_well_formed r.peers packet) (hears r packet.from packet.body) _
+      (λ t. by_body r packet.from packet.body) (λ t. stay_still r.board.groups)
   by_event r Tick = stay_still r.board.groups
 
   pub groups_stay : (r : RegistryNode) (what : Do) → Stay r.board.groups (registry_step r what).node.board.groups
@@ -145,7 +147,8 @@ module _ (law : GroupsStay) where
 
         by : (Registry ≡ name) ⊎ (Registry ≡ name → ⊥) → InTime (at_registry nodes) (at_registry (slice_set nodes place y))
         by (inl same) =
-            let here : at_registry (slice_set nodes place y) ≡ Some y = subst (λ n. node_in (slice_set nodes place y) (place_of k n) ≡ Some y) (sym same) (places.here k nodes name place at y x is) in
+            let here : at_registry (slice_set nodes place y) ≡ Some y =
+            subst (λ n. node_in (slice_set nodes place y) (place_of k n) ≡ Some y) (sym same) (places.here k nodes name place at y x is) in
             let was : at_registry nodes ≡ Some x = ap (node_in nodes) (subst (λ n. place_of k n ≡ Some place) (sym same) at) ∙ is in
             subst (λ o. InTime o (at_registry (slice_set nodes place y))) (sym was) (subst (InTime (Some x)) (sym here) (by_turn x what))
         by (inr differs) = subst (InTime (at_registry nodes)) (sym (places.there k nodes name place at y Registry differs)) (in_time_still (at_registry nodes))

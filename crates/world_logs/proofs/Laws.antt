@@ -81,7 +81,8 @@ module _ (below : Below) (e : Estate AnyNode) (ok : IsSetup e.script.setup) (run
   Q : World AnyNode → Type 0
   Q w = (c : ℕ) (node : ClientNode) → node_named w (Client c) ≡ Some (any.Client node) → IsOpening node.phase → ⊥
 
-  opens : (w : World AnyNode) → w.cluster ≡ k → Q w → (c : ℕ) → 0 < c → c ≤ setup.clients → (node : ClientNode) → node_in w.nodes (place_of k (Client c)) ≡ Some (any.Client node)
+  opens : (w : World AnyNode) → w.cluster ≡ k → Q w → (c : ℕ) → 0 < c → c ≤ setup.clients → (node : ClientNode)
+      → node_in w.nodes (place_of k (Client c)) ≡ Some (any.Client node)
       → (v : Scene) (told : List Act) → Stands (g c) c v k w.nodes w.sent told → PhaseOwed (g c) v.net node.phase
   unfolding Q
   opens w cluster q c some most node here v told st =
@@ -99,8 +100,10 @@ module _ (below : Below) (e : Estate AnyNode) (ok : IsSetup e.script.setup) (run
       (record {
         fits = λ q h. absurd h;
         logs = λ c some most. (
-          first_scene below.nodes.client_starts below.nodes.server_starts below.nodes.cleaner_starts below.nodes.registry_starts e.script ok (g c) c refl refl some (let m = ok.clients.1 in omega arith) (first_named c),
-          start_stands below.nodes.client_starts below.nodes.server_starts below.nodes.cleaner_starts below.nodes.registry_starts e.script ok (g c) c refl refl some (let m = ok.clients.1 in omega arith) (first_named c),
+          first_scene below.nodes.client_starts below.nodes.server_starts below.nodes.cleaner_starts below.nodes.registry_starts e.script ok
+              (g c) c refl refl some (let m = ok.clients.1 in omega arith) (first_named c),
+          start_stands below.nodes.client_starts below.nodes.server_starts below.nodes.cleaner_starts below.nodes.registry_starts e.script ok
+              (g c) c refl refl some (let m = ok.clients.1 in omega arith) (first_named c),
         );
       })
 
@@ -119,7 +122,8 @@ module _ (below : Below) (e : Estate AnyNode) (ok : IsSetup e.script.setup) (run
       let same : moment e end ≡ e.world = at_end e.events (start_world any_start e.script) e.world run in
       let f = tokens.front below.nodes.tokens e ok run end 0 (omega arith) in
       let l = (good_at end).logs c some most in
-      let s = members_exist base e.world (moment e end) setup.servers c k f.0 l.0 (did e c end) l.1 f.1.0.registry f.1.1.placed.registry id group (ap (λ w. group_at w id) same ∙ is) place below_ in
+      let s = members_exist base e.world (moment e end) setup.servers c k f.0 l.0 (did e c end) l.1 f.1.0.registry f.1.1.placed.registry id group
+      (ap (λ w. group_at w id) same ∙ is) place below_ in
       shelf_there count (server_of group.members place) s.0 s.1
 
   pub logs_stand : LogsStand e

@@ -140,7 +140,8 @@ module _ (own : LogId) (high : 9 ≤ own.0) where
   ack_so s ack h =
       let r = writer.transition s.writer (input.Ack ack.epoch s.dones) in
       by_test (Goes own) (checkpoints.awaits s.checkpoint ack.ask) (checkpoints.answered_by s r) (still s)
-      (λ t. by_test (Goes own) (length r.outs == 0) (still (record s { writer = r.state })) (checkpoints.next_slot (record s { writer = r.state; checkpoint = fold checkpoints.counted s.checkpoint r.outs }))
+      (λ t. by_test (Goes own) (length r.outs == 0) (still (record s { writer = r.state }))
+      (checkpoints.next_slot (record s { writer = r.state; checkpoint = fold checkpoints.counted s.checkpoint r.outs }))
       (λ u. stays own (record s { writer = r.state }) h) (λ u. next_so (record s { writer = r.state; checkpoint = fold checkpoints.counted s.checkpoint r.outs }) h))
       (λ t. stays own s h)
 
@@ -154,7 +155,8 @@ module _ (own : LogId) (high : 9 ≤ own.0) where
 
   -- ---- the maps
 
-  hears_with_so : (s : Serving) (clients : ℕ) (slots : List SlotNews) (groups : Option GroupMapState) → IsOfLog own s.log → Goes own (serving.hears_with s clients slots groups)
+  hears_with_so : (s : Serving) (clients : ℕ) (slots : List SlotNews) (groups : Option GroupMapState) → IsOfLog own s.log
+      → Goes own (serving.hears_with s clients slots groups)
   hears_with_so s clients slots None h = stays own s h
   hears_with_so s clients slots (Some groups) h = plain _ _ h (hears_say (serving.hearer_of s clients groups) (serving.asker_of s) slots)
 

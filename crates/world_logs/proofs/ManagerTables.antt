@@ -85,7 +85,8 @@ usage_so asked (phase.Broken epoch seg) = tt
 
 -- ---- in the table
 
-in_slot_so : (t : Table) (slot : ℕ) (event : SlotPhase → Stepped SlotPhase Effect) → ((p : SlotPhase) → AllSay (event p).outs) → (o : Option SlotPhase) → AllSay (table.in_slot t slot event o).outs
+in_slot_so : (t : Table) (slot : ℕ) (event : SlotPhase → Stepped SlotPhase Effect) → ((p : SlotPhase) → AllSay (event p).outs) → (o : Option SlotPhase)
+    → AllSay (table.in_slot t slot event o).outs
 in_slot_so t slot event each None = tt
 in_slot_so t slot event each (Some p) = each p
 
@@ -149,7 +150,8 @@ unfolding takeovers.asks_again
 again_so a slot polls =
     each_so slot (record a { phase = (takeovers.heard a.phase given_in.Tick).state }) (filter (takeovers.is_wanted polls) (takeovers.heard a.phase given_in.Tick).outs)
 
-in_taken_so : (a : TableAsker) (slot : ℕ) (event : Asker → Stepped Asker Effect) → ((one : Asker) → AllSay (event one).outs) → (o : Option SlotPhase) → AllSay (table.in_taken a slot event o).outs
+in_taken_so : (a : TableAsker) (slot : ℕ) (event : Asker → Stepped Asker Effect) → ((one : Asker) → AllSay (event one).outs) → (o : Option SlotPhase)
+    → AllSay (table.in_taken a slot event o).outs
 in_taken_so a slot event each None = tt
 in_taken_so a slot event each (Some p) = each (takeovers.asker p a.questions)
 

@@ -67,7 +67,8 @@ module _ (log : LogId) where
   pub goes_on : (d e : Done) → Goes d → (IsOfLog log d.state.log → Goes e) → Goes (after d.outs e)
   goes_on d e h next = goes_after d.outs e h.says (next h.of)
 
-  pub goes_steps : {A : Type 0} (f : Serving → A → Done) (P : A → Type 0) → ((s : Serving) (x : A) → P x → IsOfLog log s.log → Goes (f s x)) → (s : Serving) (xs : List A) → AllByRecursion P xs
+  pub goes_steps : {A : Type 0} (f : Serving → A → Done) (P : A → Type 0) → ((s : Serving) (x : A) → P x → IsOfLog log s.log → Goes (f s x))
+      → (s : Serving) (xs : List A) → AllByRecursion P xs
       → IsOfLog log s.log → Goes (steps f s xs)
   goes_steps f P each s [] all h = stays s h
   goes_steps f P each s (x ∷ xs) all h = goes_on (f s x) (steps f (f s x).state xs) (each s x all.0 h) (λ k. goes_steps f P each (f s x).state xs all.1 k)

@@ -168,7 +168,8 @@ module _ (base : Setting) (end w : World AnyNode) (servers c : ℕ) (k : Cluster
     group_here = record { id = segment_here.group; members = (g.stripe segment_here.group).members; parity = (g.stripe segment_here.group).parity; current = false }
 
     -- a fragment of a segment of this name is one of this segment
-    of_it : (f : Fragment) (t : Segment) → tables.In t net.flown → t.name ≡ name → f ≡ fragment_of g t f.meta.index → f ≡ piece segment_here group_here f.meta.index
+    of_it : (f : Fragment) (t : Segment) → tables.In t net.flown → t.name ≡ name → f ≡ fragment_of g t f.meta.index
+        → f ≡ piece segment_here group_here f.meta.index
     of_it f t is e cut = cut ∙ ap (λ (z : Segment). fragment_of g z f.meta.index) (picked.1 t is e)
 
     named_so : (f : Fragment) (t : Segment) → f ≡ fragment_of g t f.meta.index → f.meta.name ≡ name → t.name ≡ name
@@ -177,8 +178,10 @@ module _ (base : Setting) (end w : World AnyNode) (servers c : ℕ) (k : Cluster
     ours : (n : SegName) → n ≡ name → is_of_log g n ≡ true
     ours n e = subst (λ (z : SegName). is_of_log g z ≡ true) (sym e) (subst (λ (l : LogId). (l.0 == c) ≡ true) (sym of) (itself c))
 
-    seen_as : (packet : Packet) (m : Body) (to : NodeId) → WasSent w.sent packet → packet.to ≡ to → packet.body ≡ m → BodySeen g (asker c v) net packet.from to m
-    seen_as packet m to was at is = subst (BodySeen g (asker c v) net packet.from to) is (subst (λ t. BodySeen g (asker c v) net packet.from t packet.body) at (st.facts packet (was_sent w.sent packet was)))
+    seen_as : (packet : Packet) (m : Body) (to : NodeId) → WasSent w.sent packet → packet.to ≡ to → packet.body ≡ m
+        → BodySeen g (asker c v) net packet.from to m
+    seen_as packet m to was at is =
+        subst (BodySeen g (asker c v) net packet.from to) is (subst (λ t. BodySeen g (asker c v) net packet.from t packet.body) at (st.facts packet (was_sent w.sent packet was)))
 
     text : IsText w name segment_here group_here
     text = record {
@@ -195,7 +198,8 @@ module _ (base : Setting) (end w : World AnyNode) (servers c : ℕ) (k : Cluster
   -- ---- the registry's groups
 
   -- each member of a group of the registry's is a server of the run
-  pub members_exist : (b : RegistryNode) → node_in w.nodes (place_of k Registry) ≡ Some (any.Registry b) → (id : ℕ) (group : Group) → group_at w id ≡ Some group → (place : ℕ) → place < length group.members
+  pub members_exist : (b : RegistryNode) → node_in w.nodes (place_of k Registry) ≡ Some (any.Registry b) → (id : ℕ) (group : Group)
+      → group_at w id ≡ Some group → (place : ℕ) → place < length group.members
       → IsServer servers (server_of group.members place)
   members_exist b at id group is place below =
       let seen : RegistrySeen g net b.board = st.seen Registry (any.Registry b) at in

@@ -81,7 +81,8 @@ module _ (clients : ClientStarts) (servers : ServerStarts) (cleaners : CleanerSt
     where
       by : (o : Option ℕ) → place_of k name ≡ o → Seen g c first_scene name x
       by None at = (let clash : None ≡ Some x = sym (ap (node_in (first_nodes any_start script k)) at) ∙ here in absurd cc)
-      by (Some p) at = subst (Seen g c first_scene name) (one_node (any_start name setup (items_of script.lines name)) x (sym (first_stands script name p at) ∙ here)) (starts name (items_of script.lines name))
+      by (Some p) at =
+          subst (Seen g c first_scene name) (one_node (any_start name setup (items_of script.lines name)) x (sym (first_stands script name p at) ∙ here)) (starts name (items_of script.lines name))
 
   pub start_stands : Stands g c first_scene k (first_nodes any_start script k) [] []
   start_stands = record {

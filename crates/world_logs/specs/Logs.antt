@@ -53,9 +53,11 @@ LogIsWhole e count c = (name : SegName) → In (act.Filed name) (did e c count) 
 -- whatever is held under a name, or was sent under it to be stored or as what is held, is a fragment of this segment, cut for this group
 pub record IsText (w : World AnyNode) (name : SegName) (segment : Segment) (group : Group) : Type 0 where
   pub held : (v : ℕ) (shelf : ShelfState) (f : Fragment) → shelf_at w v ≡ Some shelf → held_at shelf.held name ≡ Some f → f ≡ piece segment group f.meta.index
-  pub stored : (v : ℕ) (packet : Packet) (m : Store) → WasSent w.sent packet → packet.to ≡ nodes.Server v → packet.body ≡ body.Store m → m.fragment.meta.name ≡ name
+  pub stored : (v : ℕ) (packet : Packet) (m : Store) → WasSent w.sent packet → packet.to ≡ nodes.Server v → packet.body ≡ body.Store m
+      → m.fragment.meta.name ≡ name
       → m.fragment ≡ piece segment group m.fragment.meta.index
-  pub told : (packet : Packet) (m : Found) → WasSent w.sent packet → packet.body ≡ body.Fragment m → m.fragment.meta.name ≡ name → m.fragment ≡ piece segment group m.fragment.meta.index
+  pub told : (packet : Packet) (m : Found) → WasSent w.sent packet → packet.body ≡ body.Fragment m → m.fragment.meta.name ≡ name
+      → m.fragment ≡ piece segment group m.fragment.meta.index
 
 -- each name of the client's log has one text
 abbrev pub HasOneText : World AnyNode → ℕ → Type 0
