@@ -1,14 +1,13 @@
 -- The client that owns a log has its turn, or another client or a manager, which has no part in it.
-use Rattle.std.proofs.Common.{◌≡◌, ◌⊎◌, ℕ, List, [], inl, refl, sym, ap, subst}
+use Rattle.std.proofs.Common.{ℕ, List, [], inl, refl, ap, subst}
 use Rattle.std.specs.Prelude.{All}
 use Rattle.client_log_tie.proofs.Frames.{body_more}
-use Rattle.client_log_tie.specs.ClientEvents.{ActSeen, ClientGoes, Grown}
+use Rattle.client_log_tie.specs.ClientEvents.{ActSeen, ClientGoes}
 use Rattle.client_log_tie.specs.Owner.{Scene, asker}
 use Rattle.client_node.specs.declared.client.Client.{Client as ClientNode}
 use Rattle.core_world.specs.declared.any_node.AnyNode.{AnyNode}
 use Rattle.core_world.specs.declared.any_node.AnyNode.TheVariants as any
 use Rattle.log_law.specs.Laws.{Moment}
-use Rattle.log_law.specs.Net.{Net}
 use Rattle.log_protocol.specs.Tables as tables
 use Rattle.log_tie.specs.Setting.{Setting}
 use Rattle.node_log_tie.proofs.Going.{run_later}
@@ -24,8 +23,7 @@ use Rattle.world_logs.proofs.Standing.{Seen}
 use Rattle.world_logs.proofs.StoreTurns.{moment_on}
 use Rattle.world_logs.proofs.Turns.{Keeps, Turn}
 use Rattle.xfs_base.specs.declared.node.NodeId.{NodeId}
-use Rattle.xfs_base.specs.declared.node.NodeId.TheVariants.{Client, Manager, Server, Cleaner, Registry}
-use Rattle.xfs_base.specs.declared.segment.SegName.{SegName}
+use Rattle.xfs_base.specs.declared.node.NodeId.TheVariants.{Client}
 
 module _ (g : Setting) (c : ℕ) (w : Scene) (at : Moment g w.net) where
   -- ---- the owner

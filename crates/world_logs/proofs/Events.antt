@@ -1,5 +1,5 @@
 -- Each event keeps each client's log standing to its small world.
-use Rattle.std.proofs.Common.{◌≡◌, ◌⊎◌, ⊎_elim, ℕ, suc, ◌+◌, ◌==◌, ◌≤◌, ◌<◌, Bool, true, false, cond, List, [], ◌∷◌, ◌++◌, Option, None, Some, map, get_or, slice_get, slice_set, if◌then◌else◌, inl, inr, refl, sym, ap, subst, ◌∙◌, arith}
+use Rattle.std.proofs.Common.{◌≡◌, ⊎_elim, ℕ, ◌+◌, ◌==◌, ◌≤◌, ◌<◌, Bool, true, false, List, [], ◌∷◌, ◌++◌, Some, map, get_or, slice_get, slice_set, if◌then◌else◌, inl, inr, refl, sym, ap, subst, ◌∙◌, arith}
 use Rattle.std.specs.List.{AllByRecursion}
 use Rattle.std.specs.Prelude.{All}
 use Rattle.client_log_tie.specs.ClientEvents.{BodyFits, ClientGoes, ClientOwed, ClientStarts, ClientTakes, OfItsLog, PhaseOwed}
@@ -13,11 +13,9 @@ use Rattle.core_world.specs.AnyNode.{any_step}
 use Rattle.core_world.specs.declared.any_node.AnyNode.{AnyNode}
 use Rattle.core_world.specs.declared.any_node.AnyNode.TheVariants as any
 use Rattle.group_map.specs.GroupMapState.{GroupMapState}
-use Rattle.log_law.specs.Laws.{Moment}
-use Rattle.log_law.specs.Net.{Net, opening}
+use Rattle.log_law.specs.Net.{opening}
 use Rattle.log_tie.proofs.Names.{unequal}
 use Rattle.log_tie.specs.Setting.{Setting}
-use Rattle.manager_node.specs.declared.manager.Manager.{Manager as ManagerNode}
 use Rattle.manager_node.specs.Events.{manager_step}
 use Rattle.node_base.specs.declared.effects.Effect.{Effect}
 use Rattle.node_base.specs.Effects.{packets_of}
@@ -33,12 +31,9 @@ use Rattle.node_tie.specs.RegistryEvents.{RegistrySound}
 use Rattle.registry.specs.BoardState.{BoardState}
 use Rattle.cleaner_node.specs.CleanerEvents.{cleaner_step}
 use Rattle.cleaner_node.specs.CleanerEvents as cleaners
-use Rattle.cleaner_node.specs.declared.cleaner.Cleaner.{Cleaner as CleanerNode}
 use Rattle.store_nodes.specs.declared.registry_node.RegistryNode.{RegistryNode}
-use Rattle.store_nodes.specs.declared.server.Server.{Server as ServerNode}
 use Rattle.cleaner_node.specs.EmptyingEvents.{cleaner_log}
 use Rattle.store_nodes.specs.RegistryEvents.{registry_step}
-use Rattle.store_nodes.specs.RegistryEvents as registries
 use Rattle.store_nodes.specs.ServerEvents.{server_step}
 use Rattle.store_nodes.specs.ServerEvents as servers
 use Rattle.token_protocol.specs.Basics.{In}
@@ -63,7 +58,6 @@ use Rattle.world_law.specs.Owners.{node_in}
 use Rattle.world_logs.proofs.ClientTurns.{idle_turn, owner_turn}
 use Rattle.world_logs.proofs.Lists.{in_after, in_map}
 use Rattle.world_logs.proofs.ManagerLogs.{ManagerWrites, manager_writes}
-use Rattle.world_logs.proofs.Managers.{WritesItsLog}
 use Rattle.world_logs.proofs.Says.{MaySay, OfLog, client_apart, manager_apart, no_map_fits, plain_no_map}
 use Rattle.world_logs.proofs.Settings.{map_fits, setting_of}
 use Rattle.world_logs.proofs.Standing.{OwnerSeen, Stands}
@@ -75,7 +69,6 @@ use Rattle.world_logs.specs.Owed.{Reached, board_of}
 use Rattle.xfs_base.specs.declared.node.NodeId.{NodeId}
 use Rattle.xfs_base.specs.declared.node.NodeId.TheVariants.{Client, Manager, Server, Cleaner, Registry}
 use Rattle.xfs_base.specs.declared.segment.LogId.{LogId}
-use Rattle.xfs_base.specs.declared.segment.SegName.{SegName}
 use Rattle.xfs_base.specs.declared.setup.Setup.{Setup}
 
 -- the laws of the nodes, each of its kind

@@ -1,14 +1,9 @@
 -- What the small world of a log does elsewhere leaves a node of it seen as it was.
-use Rattle.std.proofs.Common.{◌≡◌, ℕ, Option, Some, None, sym, ap, subst, ◌∙◌, arith}
-use Rattle.std.specs.Prelude.{IfSome}
-use Rattle.client_log_tie.specs.ClientEvents.{PhaseWritten}
-use Rattle.client_log_tie.specs.Owner.{Scene, ClientAgrees, IsOwn, Lasts, LastsAs, MapCame, SeesLog, SeesScan, SeesStage, SeesWriting}
+use Rattle.std.proofs.Common.{◌≡◌, ℕ, Option, Some, None, sym, ap, ◌∙◌}
+use Rattle.client_log_tie.specs.Owner.{Scene, ClientAgrees, LastsAs, MapCame, SeesStage}
 use Rattle.client_node.specs.declared.lasting.Lasting.{Lasting}
 use Rattle.client_node.specs.declared.phase.Phase.{Phase}
 use Rattle.client_node.specs.declared.phase.Phase.TheVariants as clients
-use Rattle.core_world.specs.declared.any_node.AnyNode.{AnyNode}
-use Rattle.core_world.specs.declared.any_node.AnyNode.TheVariants as any
-use Rattle.fragment_store.specs.ShelfState.{ShelfState}
 use Rattle.group_map.specs.GroupMapState.{GroupMapState}
 use Rattle.log_law.specs.Net.{Net}
 use Rattle.log_owner.specs.declared.known.Known.{Known}
@@ -20,7 +15,7 @@ use Rattle.node_log_tie.proofs.Lists.{if_some}
 use Rattle.node_log_tie.proofs.RebuildEvents.{rebuild_later}
 use Rattle.node_log_tie.specs.CleanerEvents.{CleanerSeen}
 use Rattle.node_log_tie.specs.RegistryEvents.{RegistrySeen}
-use Rattle.node_log_tie.specs.ServerEvents.{NamesStripes, RebuildSeen, ServerSeen}
+use Rattle.node_log_tie.specs.ServerEvents.{RebuildSeen, ServerSeen}
 use Rattle.node_log_tie.specs.Sight.{Later, Question}
 use Rattle.registry.specs.BoardState.{BoardState}
 use Rattle.cleaner_node.specs.declared.cleaner.Phase.{Phase as CleanerPhase}

@@ -9,9 +9,6 @@ use Rattle.client_log_tie.specs.Owner.{Scene}
 use Rattle.core_world.specs.AnyNode.{any_step}
 use Rattle.core_world.specs.declared.any_node.AnyNode.{AnyNode}
 use Rattle.core_world.specs.declared.any_node.AnyNode.TheVariants as any
-use Rattle.group_map.specs.declared.group.Group.{Group}
-use Rattle.group_map.specs.Groups.{group_of}
-use Rattle.group_map.specs.GroupMapState.{GroupMapState}
 use Rattle.log_scan.specs.Transition.{least_horizon}
 use Rattle.log_tie.specs.Setting.{Setting}
 use Rattle.node_base.specs.Setups.{IsSetup}
@@ -40,13 +37,12 @@ use Rattle.world_law.specs.Owners.{node_in}
 use Rattle.world_logs.proofs.Events as logs
 use Rattle.world_logs.proofs.Events.{Good, Known, NodeLaws, node_after}
 use Rattle.world_logs.proofs.Groups.{GroupsStay, StayIn, in_run}
-use Rattle.world_logs.proofs.Says.{MaySay, may_say}
-use Rattle.world_logs.proofs.Settings.{names_at_end, setting_of}
+use Rattle.world_logs.proofs.Says.{may_say}
+use Rattle.world_logs.proofs.Settings.{names_at_end}
 use Rattle.world_logs.proofs.Standing.{Stands}
-use Rattle.world_logs.specs.Doings.{acts_by, acts_in, acts_of, is_client}
+use Rattle.world_logs.specs.Doings.{acts_by, acts_of, is_client}
 use Rattle.world_logs.specs.Owed.{Reached, board_of}
 use Rattle.world_logs.specs.Shelves.{group_in, groups_of}
-use Rattle.xfs_base.specs.declared.node.NodeId.{NodeId}
 use Rattle.xfs_base.specs.declared.node.NodeId.TheVariants.{Client, Registry}
 use Rattle.xfs_base.specs.declared.setup.Setup.{Setup}
 

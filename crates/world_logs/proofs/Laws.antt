@@ -1,5 +1,5 @@
 -- Every run keeps the logs of its clients, in runs in which no client opens its log again and no horizon is kept beyond what was filed.
-use Rattle.std.proofs.Common.{◌≡◌, ℕ, zero, suc, ◌+◌, ◌≤◌, ◌<◌, List, [], ◌∷◌, Option, None, Some, length, take, refl, sym, ap, subst, ◌∙◌, arith}
+use Rattle.std.proofs.Common.{◌≡◌, ℕ, ◌+◌, ◌≤◌, ◌<◌, List, [], ◌∷◌, Some, length, take, refl, sym, ap, subst, ◌∙◌, arith}
 use Rattle.std.specs.List.{fold}
 use Rattle.client_log_tie.specs.ClientEvents.{PhaseOwed}
 use Rattle.client_log_tie.specs.Owner.{Scene}
@@ -26,7 +26,7 @@ use Rattle.world_base.specs.declared.estate.Estate.{Estate}
 use Rattle.world_base.specs.declared.event.Event.{Event}
 use Rattle.world_base.specs.declared.world.World.{World}
 use Rattle.world_base.specs.Items.{items_of}
-use Rattle.world_base.specs.NextWorld.{first_nodes, next_world, start_world}
+use Rattle.world_base.specs.NextWorld.{next_world, start_world}
 use Rattle.world_base.specs.Runs.{IsRun, Leads}
 use Rattle.world_law.proofs.Laws as tokens
 use Rattle.world_law.proofs.Start.{first_stands}
@@ -42,8 +42,7 @@ use Rattle.world_logs.specs.Doings.{did}
 use Rattle.world_logs.specs.Logs.{LogsStand}
 use Rattle.world_logs.specs.Owed.{HorizonsReached, IsOpening, NoneOpens, board_of}
 use Rattle.world_logs.specs.Shelves.{group_at, shelf_at, shelf_of}
-use Rattle.xfs_base.specs.declared.node.NodeId.{NodeId}
-use Rattle.xfs_base.specs.declared.node.NodeId.TheVariants.{Client, Manager, Server, Cleaner, Registry}
+use Rattle.xfs_base.specs.declared.node.NodeId.TheVariants.{Client, Server, Registry}
 use Rattle.xfs_base.specs.declared.setup.Setup.{Setup}
 
 -- the laws that the logs stand on

@@ -1,5 +1,5 @@
 -- A manager writes checkpoints to its own log alone, whatever happens to it.
-use Rattle.std.proofs.Common.{◌≡◌, ◌≤◌, ℕ, ◌==◌, ◌&&◌, Bool, List, [], ◌∷◌, ◌++◌, Option, None, Some, is_some, length, true, false, refl, sym, subst, arith}
+use Rattle.std.proofs.Common.{◌≡◌, ◌≤◌, ℕ, ◌==◌, List, [], ◌∷◌, Option, None, Some, is_some, length, true, false, refl, sym, subst, arith}
 use Rattle.std.specs.List.{AllByRecursion, flat_map}
 use Rattle.std.specs.Prelude.{All, fold}
 use Rattle.checkpoint.specs.declared.input.In.{In}
@@ -29,11 +29,10 @@ use Rattle.manager_node.specs.Serving as serving
 use Rattle.manager_node.specs.SlotTable as table
 use Rattle.node_base.specs.Beginning.{next_item, work_at}
 use Rattle.node_base.specs.declared.effects.Effect.{Effect}
-use Rattle.node_base.specs.declared.effects.Effect.TheVariants.{Send}
 use Rattle.node_base.specs.Known.{names_known}
 use Rattle.node_base.specs.Maps.{fits, forgotten, is_older, taken}
 use Rattle.node_base.specs.Shape.{is_well_formed}
-use Rattle.node_log_tie.proofs.Lists.{all_append, all_flat_map, packets_all}
+use Rattle.node_log_tie.proofs.Lists.{all_append, packets_all}
 use Rattle.node_log_tie.proofs.OwnLogs.{OwnDone, SendsOwn, own_log}
 use Rattle.node_log_tie.specs.CleanerEvents.{IsOfLog}
 use Rattle.segment_format.specs.declared.segment.Item.{Item}
@@ -56,10 +55,9 @@ use Rattle.xfs_base.proofs.Booleans.{by_test}
 use Rattle.xfs_base.specs.declared.news.SlotNews.{SlotNews}
 use Rattle.xfs_base.specs.declared.node.NodeId.{NodeId}
 use Rattle.xfs_base.specs.declared.node.NodeId.TheVariants.{Manager}
-use Rattle.xfs_base.specs.declared.segment.End.{End}
 use Rattle.xfs_base.specs.declared.segment.LogId.{LogId}
 use Rattle.xfs_base.specs.declared.setup.Setup.{Setup}
-use Rattle.xfs_base.specs.Steps.{Stepped, after, still, steps}
+use Rattle.xfs_base.specs.Steps.{still}
 
 module _ (own : LogId) (high : 9 ≤ own.0) where
   -- one that goes on with the same log, and says nothing of segments

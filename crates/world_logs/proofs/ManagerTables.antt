@@ -1,5 +1,5 @@
 -- What a manager does in its slots stores nothing.
-use Rattle.std.proofs.Common.{◌≡◌, ◌≤◌, ℕ, Bool, nat_lt, ◌==◌, List, [], ◌∷◌, Option, None, Some, filter, slice_get}
+use Rattle.std.proofs.Common.{ℕ, Bool, nat_lt, ◌==◌, List, Option, None, Some, filter, slice_get}
 use Rattle.group_map.specs.GroupMapState.{GroupMapState}
 use Rattle.manager_node.specs.declared.slot_phase.SlotPhase.{SlotPhase}
 use Rattle.manager_node.specs.declared.slot_phase.SlotPhase.TheVariants as phase

@@ -1,5 +1,5 @@
 -- What a manager stores is of a manager's log, and so is its log: what this says, and how it goes through lists.
-use Rattle.std.proofs.Common.{◌≡◌, ◌≤◌, ℕ, List, [], ◌∷◌, ◌++◌, Option}
+use Rattle.std.proofs.Common.{◌≤◌, ℕ, List, [], ◌∷◌, Option}
 use Rattle.std.specs.List.{AllByRecursion}
 use Rattle.manager_node.specs.Checkpoints.{Done}
 use Rattle.manager_node.specs.declared.phase.Phase.{Phase}

@@ -1,5 +1,5 @@
 -- What a moment that stands to the small worlds says of logs: each segment that was told to be filed is whole, and each name has one text.
-use Rattle.std.proofs.Common.{◌≡◌, ◌⊎◌, ⊎_elim, ℕ, suc, ◌==◌, ◌≤◌, ◌<◌, true, false, List, [], ◌∷◌, Option, None, Some, length, slice_get, inl, inr, refl, sym, ap, subst, ◌∙◌, arith}
+use Rattle.std.proofs.Common.{◌≡◌, ◌⊎◌, ⊎_elim, ℕ, suc, ◌==◌, ◌<◌, true, false, List, [], ◌∷◌, Option, None, Some, length, inl, inr, refl, sym, ap, subst, ◌∙◌}
 use Rattle.client_log.specs.Transition.{no_member}
 use Rattle.client_log_tie.specs.Owner.{Scene, asker}
 use Rattle.core_world.specs.declared.any_node.AnyNode.{AnyNode}
@@ -11,7 +11,6 @@ use Rattle.log_law.specs.Laws.{LogsStayWhole, LogsWhole, OneNameOneText, OneText
 use Rattle.log_law.specs.Net.{Net}
 use Rattle.log_protocol.specs.Tables as tables
 use Rattle.log_tie.proofs.Names.{itself}
-use Rattle.log_tie.specs.Seen.{members_of}
 use Rattle.log_tie.specs.Setting.{Setting, Stripe, fragment_of, fragment_over, generation_of, server_of, stripe_of_group}
 use Rattle.log_tie.specs.Shelves.{is_of_log}
 use Rattle.node_log_tie.proofs.WholeMaps.{its_stripe}
@@ -27,9 +26,6 @@ use Rattle.version_model.specs.declared.act.Act.TheVariants as act
 use Rattle.wire_msg.specs.declared.body.Body.{Body}
 use Rattle.wire_msg.specs.declared.body.Body.TheVariants as body
 use Rattle.wire_msg.specs.declared.packet.Packet.{Packet}
-use Rattle.wire_msg.specs.declared.storage.Delete.{Delete}
-use Rattle.wire_msg.specs.declared.storage.Found.{Found}
-use Rattle.wire_msg.specs.declared.storage.Store.{Store}
 use Rattle.world_base.specs.Cluster.{place_of}
 use Rattle.world_base.specs.declared.cluster.Cluster.{Cluster}
 use Rattle.world_base.specs.declared.world.World.{World}
@@ -39,12 +35,12 @@ use Rattle.world_law.proofs.OtherTurns.{equal_or_not}
 use Rattle.world_law.proofs.Sent.{was_sent}
 use Rattle.world_law.specs.Owners.{node_in, node_named}
 use Rattle.world_logs.proofs.Settings.{setting_of, stripe_by, striped}
-use Rattle.world_logs.proofs.Standing.{Deletes, Stands}
-use Rattle.world_logs.specs.Logs.{HasOneText, IsText, IsWhole, NotDeleted, log_of}
+use Rattle.world_logs.proofs.Standing.{Stands}
+use Rattle.world_logs.specs.Logs.{IsText, IsWhole, NotDeleted, log_of}
 use Rattle.world_logs.specs.Shelves.{HoldsOrLost, IsKept, group_at, group_in, groups_of, piece, shelf_at, shelf_of}
 use Rattle.xfs_base.specs.declared.fragment.Fragment.{Fragment}
 use Rattle.xfs_base.specs.declared.node.NodeId.{NodeId}
-use Rattle.xfs_base.specs.declared.node.NodeId.TheVariants.{Client, Manager, Server, Cleaner, Registry}
+use Rattle.xfs_base.specs.declared.node.NodeId.TheVariants.{Server, Registry}
 use Rattle.xfs_base.specs.declared.segment.LogId.{LogId}
 use Rattle.xfs_base.specs.declared.segment.SegName.{SegName}
 

@@ -1,5 +1,5 @@
 -- Who sends what: a client or a manager sends nothing that a server answers, nor maps, nor Deletes; the registry alone sends maps.
-use Rattle.std.proofs.Common.{◌≡◌, ◌≤◌, ◌<◌, ℕ, ◌==◌, true, refl, sym, ap, ◌∙◌, arith}
+use Rattle.std.proofs.Common.{◌≡◌, ◌≤◌, ℕ, ◌==◌, true, sym, ap, ◌∙◌, arith}
 use Rattle.client_log_tie.specs.ClientEvents.{BodyFits}
 use Rattle.client_log_tie.specs.Owner.{Scene, asker}
 use Rattle.log_tie.proofs.Names.{equal}

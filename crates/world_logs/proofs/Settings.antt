@@ -1,18 +1,15 @@
 -- The setting of a client's log: its group ids name the stripes that the registry has at the end of the run.
-use Rattle.std.proofs.Common.{◌≡◌, ◌^◌, ℕ, ◌+◌, ◌==◌, ◌<◌, ◌≤◌, Bool, true, false, List, [], ◌∷◌, Option, None, Some, length, unwrap_or, refl, sym, ap, subst, ◌∙◌, arith}
+use Rattle.std.proofs.Common.{◌≡◌, ◌^◌, ℕ, ◌+◌, ◌==◌, ◌<◌, ◌≤◌, true, List, [], ◌∷◌, Option, None, Some, length, unwrap_or, refl, sym, ap, subst, ◌∙◌, arith}
 use Rattle.std.specs.Prelude.{find}
-use Rattle.client_log.specs.Transition.{group_for}
 use Rattle.client_log_tie.specs.Texts.{MapFits}
 use Rattle.core_world.specs.declared.any_node.AnyNode.{AnyNode}
 use Rattle.group_map.specs.declared.group.Group.{Group}
 use Rattle.group_map.specs.GroupMapState.{GroupMapState}
-use Rattle.group_map.specs.Groups.{group_of}
 use Rattle.group_map.specs.WellFormed.{IsGroupMap, IsNumbered}
-use Rattle.log_tie.proofs.Names.{equal}
 use Rattle.log_tie.specs.Setting.{Setting, Stripe, stripe_of_group}
 use Rattle.node_log_tie.proofs.WholeMaps.{Chosen, the_chosen}
 use Rattle.world_base.specs.declared.world.World.{World}
-use Rattle.world_logs.proofs.Groups.{Names, StayIn}
+use Rattle.world_logs.proofs.Groups.{Names}
 use Rattle.world_logs.specs.Shelves.{group_at}
 use Rattle.xfs_base.proofs.Booleans.{by_test}
 

@@ -1,6 +1,6 @@
 -- How a moment of a run stands to a moment of the small world of one client's log: each node is seen there, and what was sent, filed and deleted is so there.
 use Rattle.std.proofs.Common.{◌≡◌, ℕ, List, Some}
-use Rattle.client_log_tie.specs.ClientEvents.{BodyFits, PhaseWritten}
+use Rattle.client_log_tie.specs.ClientEvents.{PhaseWritten}
 use Rattle.client_log_tie.specs.Owner.{Scene, ClientAgrees, asker}
 use Rattle.client_node.specs.declared.phase.Phase.{Phase}
 use Rattle.core_world.specs.declared.any_node.AnyNode.{AnyNode}

@@ -1,18 +1,15 @@
 -- At the start of a run each client's log stands to the opening of its small world.
-use Rattle.std.proofs.Common.{◌≡◌, ℕ, ◌<◌, ◌≤◌, true, List, [], Option, None, Some, nat_le, refl, sym, ap, subst, ◌∙◌, arith}
+use Rattle.std.proofs.Common.{◌≡◌, ℕ, ◌<◌, ◌≤◌, true, List, [], Option, None, Some, refl, sym, ap, subst, ◌∙◌, arith}
 use Rattle.std.proofs.lemmas.Bool.Decides.{nat_tests}
 use Rattle.client_log_tie.specs.ClientEvents.{ClientBegins, ClientStarts}
 use Rattle.client_log_tie.specs.Owner.{Scene}
 use Rattle.client_node.specs.Starting.{first_client}
 use Rattle.core_world.specs.AnyNode.{any_start}
 use Rattle.core_world.specs.declared.any_node.AnyNode.{AnyNode}
-use Rattle.core_world.specs.declared.any_node.AnyNode.TheVariants as any
-use Rattle.group_map.specs.declared.group.Group.{Group}
 use Rattle.group_map.specs.GroupMapState.{GroupMapState}
 use Rattle.group_map.specs.Groups.{group_of}
 use Rattle.group_map.specs.Groups as groups
 use Rattle.log_law.specs.Events.Runs.{Begun}
-use Rattle.log_law.specs.Laws.{Moment}
 use Rattle.log_law.specs.Net.{opening}
 use Rattle.log_tie.specs.Scans.{WholeMap}
 use Rattle.log_tie.specs.Setting.{Setting}

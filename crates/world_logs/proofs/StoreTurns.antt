@@ -26,7 +26,7 @@ use Rattle.world_logs.proofs.Frames.{cleaner_still, client_still, registry_still
 use Rattle.world_logs.proofs.Standing.{Deletes}
 use Rattle.world_logs.proofs.Turns.{Keeps, Turn}
 use Rattle.xfs_base.specs.declared.node.NodeId.{NodeId}
-use Rattle.xfs_base.specs.declared.node.NodeId.TheVariants.{Client, Server, Cleaner, Registry}
+use Rattle.xfs_base.specs.declared.node.NodeId.TheVariants.{Server, Cleaner, Registry}
 use Rattle.xfs_base.specs.declared.segment.SegName.{SegName}
 
 -- a moment to which a run goes on is one

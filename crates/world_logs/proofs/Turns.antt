@@ -1,5 +1,5 @@
 -- A node that has its turn: the moment after it stands to a small world to which the one before runs on.
-use Rattle.std.proofs.Common.{◌≡◌, ◌⊎◌, ⊎_elim, ℕ, List, ◌++◌, Some, map, slice_get, slice_set, inl, inr, sym, ap, subst, ◌∙◌}
+use Rattle.std.proofs.Common.{◌≡◌, ◌⊎◌, ⊎_elim, ℕ, List, ◌++◌, Some, map, slice_get, slice_set, sym, ap, subst, ◌∙◌}
 use Rattle.std.specs.Prelude.{All}
 use Rattle.client_log_tie.specs.Owner.{Scene, asker}
 use Rattle.client_node.specs.declared.phase.Phase.{Phase}
