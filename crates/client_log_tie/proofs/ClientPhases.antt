@@ -58,9 +58,10 @@ use Rattle.node_log_tie.specs.Sight.{BodySeen, PacketSeen, AllSeen, AskedBy}
 use Rattle.node_log_tie.specs.Sight.Question.{OfOpening}
 use Rattle.client_log_tie.specs.Owner.{Scene, asker, LastsAs, ClientAgrees}
 use Rattle.client_log_tie.specs.Texts.{StaysWritten}
-use Rattle.client_log_tie.specs.ClientEvents.{ActSeen, StageWritten, PhaseWritten, PhaseOwed, PacketOwed, ClientOwed, Grown, ClientTakes}
+use Rattle.client_log_tie.specs.ClientEvents.{ActSeen, OfItsLog, StageWritten, PhaseWritten, PhaseOwed, PacketOwed, ClientOwed, Grown, ClientTakes}
 use Rattle.client_log_tie.proofs.Frames.{ClientDoes, ClientDid}
 use Rattle.client_log_tie.proofs.Frames as frames
+use Rattle.node_log_tie.proofs.Lists.{packets_all}
 use Rattle.client_log_tie.proofs.OpeningEvents as events
 use Rattle.client_log_tie.proofs.OpeningLog.{ProgressSeen, WentTo}
 use Rattle.client_log_tie.proofs.Questions.{ask_rises, put_here, put_keeps, put_fresh}
@@ -360,7 +361,7 @@ module _ (g : Setting) (c : ℕ) (is : g.log ≡ record { 0 = c }) (small : is_l
 module _ (g : Setting) (c number : ℕ) (is : number ≡ c) (w : Scene) where
   one_sent : (e : Effect) → ClientDoes g c w e → All (PacketSeen g (asker c w) w.net) (packet_of (AClient number) e)
   one_sent (Send to said) h =
-      All-cons (PacketSeen g (asker c w) w.net) _ [] (subst (λ k. BodySeen g (asker c w) w.net (AClient k) to said) (sym is) h) (All-nil (PacketSeen g (asker c w) w.net))
+      All-cons (PacketSeen g (asker c w) w.net) _ [] (subst (λ k. BodySeen g (asker c w) w.net (AClient k) to said) (sym is) (frames.says_seen g c w to said h)) (All-nil (PacketSeen g (asker c w) w.net))
   one_sent (Answers item a) h = All-nil (PacketSeen g (asker c w) w.net)
   one_sent (Lose seg) h = All-nil (PacketSeen g (asker c w) w.net)
   one_sent (Does act) h = All-nil (PacketSeen g (asker c w) w.net)
@@ -378,6 +379,10 @@ module _ (g : Setting) (c number : ℕ) (is : number ≡ c) (w : Scene) where
   all_acted : (es : List Effect) → AllByRecursion (ClientDoes g c w) es → All (ActSeen w) (acts_of (AClient number) es)
   all_acted [] h = All-nil (ActSeen w)
   all_acted (e ∷ es) h = All-append (ActSeen w) (act_of (AClient number) e) (acts_of (AClient number) es) (one_acted e h.0) (all_acted es h.1)
+
+  -- what it stores is of its log
+  all_own : (es : List Effect) → AllByRecursion (ClientDoes g c w) es → All (λ (p : wire.Packet). OfItsLog g p.body) (packets_of (AClient number) es)
+  all_own es h = packets_all (λ (p : wire.Packet). OfItsLog g p.body) (ClientDoes g c w) (AClient number) (λ to said does. frames.says_own g c w to said does) es h
 
 -- the client of the log has its number
 its_number : (g : Setting) (c : ℕ) (w : Scene) (p : Phase) → ClientAgrees g c w p → (lasting_of p).number ≡ c
@@ -405,4 +410,5 @@ client_takes g c is small w client what sees written owed =
       written = d.written;
       sends = all_sent g c (lasting_of client.phase).number number d.next (takes client what).outs all;
       acts = all_acted g c (lasting_of client.phase).number number d.next (takes client what).outs all;
+      own = all_own g c (lasting_of client.phase).number number d.next (takes client what).outs all;
     }

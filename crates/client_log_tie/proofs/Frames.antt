@@ -26,7 +26,7 @@ use Rattle.node_log_tie.specs.Sight.Question.{Unasked, OfMaps, OfOpening}
 use Rattle.client_node.specs.declared.phase.Phase.{Phase}
 use Rattle.client_log_tie.specs.Owner.{Scene, asker, Lasts, SeesLog, ClientAgrees}
 use Rattle.client_log_tie.specs.Texts.{StaysWritten}
-use Rattle.client_log_tie.specs.ClientEvents.{ActSeen, PhaseWritten, Grown}
+use Rattle.client_log_tie.specs.ClientEvents.{ActSeen, OfItsLog, PhaseWritten, Grown}
 
 -- ---- lists
 
@@ -73,9 +73,25 @@ module _ (g : Setting) where
 -- ---- what a client does
 
 module _ (g : Setting) (c : ℕ) where
+  -- what it says was sent, and what it stores or bars is of the log
+  abbrev pub ClientSays : Scene → NodeId → Body → Type 0
+  ClientSays w to (body.Store m) = BodySeen g (asker c w) w.net (Client c) to (body.Store m) × OfItsLog g (body.Store m)
+  ClientSays w to (body.Fence m) = BodySeen g (asker c w) w.net (Client c) to (body.Fence m) × OfItsLog g (body.Fence m)
+  ClientSays w to said = BodySeen g (asker c w) w.net (Client c) to said
+
+  pub says_seen : (w : Scene) (to : NodeId) (said : Body) → ClientSays w to said → BodySeen g (asker c w) w.net (Client c) to said
+  says_seen w to (body.Store m) h = h.0
+  says_seen w to (body.Fence m) h = h.0
+  says_seen w to _ h = h
+
+  pub says_own : (w : Scene) (to : NodeId) (said : Body) → ClientSays w to said → OfItsLog g said
+  says_own w to (body.Store m) h = h.1
+  says_own w to (body.Fence m) h = h.1
+  says_own w to _ h = tt
+
   -- what it sends was sent, and what it tells to be filed is filed
   abbrev pub ClientDoes : Scene → Effect → Type 0
-  ClientDoes w (Send to said) = BodySeen g (asker c w) w.net (Client c) to said
+  ClientDoes w (Send to said) = ClientSays w to said
   ClientDoes w (Answer item answer) = Unit {0}
   ClientDoes w (Lose seg) = Unit {0}
   ClientDoes w (Does act) = ActSeen w act
@@ -144,8 +160,13 @@ module _ (g : Setting) (c : ℕ) where
     act_more (Filed seg) h = grown.filed _ h
     act_more _ h = tt
 
+    says_more : (to : NodeId) (said : Body) → ClientSays w to said → ClientSays v to said
+    says_more to (body.Store m) h = (body_more (Client c) to (body.Store m) h.0, h.1)
+    says_more to (body.Fence m) h = (body_more (Client c) to (body.Fence m) h.0, h.1)
+    says_more to said h = body_more (Client c) to said h
+
     does_more : (e : Effect) → ClientDoes w e → ClientDoes v e
-    does_more (Send to said) h = body_more (Client c) to said h
+    does_more (Send to said) h = says_more to said h
     does_more (Answer item answer) h = tt
     does_more (Lose seg) h = tt
     does_more (Does act) h = act_more act h

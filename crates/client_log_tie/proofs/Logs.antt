@@ -30,6 +30,7 @@ use Rattle.log_law.specs.Net.Packet.{StoredSent}
 use Rattle.log_law.specs.Events.{IsWritten, WritesText, CameToLog}
 use Rattle.log_law.specs.Events.Happens.{Acts}
 use Rattle.log_law.specs.Events.Runs.{Begun, On}
+use Rattle.node_log_tie.proofs.OwnLogs.{SendsOwn, own_log}
 use Rattle.client_log_tie.specs.Owner.{Scene, IsOwn}
 use Rattle.client_log_tie.specs.Texts.{InputFits, StaysWritten}
 use Rattle.client_log_tie.specs.ClientEvents.{Grown}
@@ -157,6 +158,7 @@ module _ (g : Setting) (c : ℕ) where
     pub stands : frames.Stands g c next d.state its life last
     pub sent : (p : Packet) → In p (log_packets d.outs) → In p next.net.sent
     pub filed : (name : SegName) → In name (log_filed g.log d.outs) → In name next.net.filed
+    pub mine : AllByRecursion (SendsOwn g.log) d.outs
 
   pub takes : (w : Scene) (s : LogState) (its life last : ℕ) (i : Input) → frames.Stands g c w s its life last → CameToLog w.net i → InputFits i
       → Took w its life last (transition s i)
@@ -181,6 +183,7 @@ module _ (g : Setting) (c : ℕ) where
         };
         sent = λ p is. in_before (log_packets d.outs) w.net.sent p is;
         filed = λ name is. in_before (log_filed g.log d.outs) w.net.filed name is;
+        mine = (own_log g.log s i (record { log = h.sees.own.log; flight = h.sees.own.flight })).outs;
       }
 
   -- nothing is taken
@@ -191,6 +194,7 @@ module _ (g : Setting) (c : ℕ) where
     stands = h;
     sent = λ p is. absurd is;
     filed = λ name is. absurd is;
+    mine = tt;
   }
 
   -- a Stored, of this log where it was seen

@@ -7,6 +7,7 @@ use Rattle.xfs_base.specs.declared.segment.SegName.{SegName}
 use Rattle.xfs_base.specs.Steps.{still, after, steps}
 use Rattle.segment_format.specs.declared.segment.Segment.{Segment}
 use Rattle.group_map.specs.GroupMapState.{GroupMapState}
+use Rattle.std.specs.List.{AllByRecursion}
 use Rattle.client_log.specs.declared.input.In.{In as Input}
 use Rattle.client_log.specs.declared.input.In.TheVariants as log_in
 use Rattle.client_log.specs.declared.output.Out.{Out}
@@ -33,6 +34,7 @@ use Rattle.log_law.specs.Net.Packet.{StoredSent, MapSent}
 use Rattle.log_law.specs.Events.{Happens}
 use Rattle.log_law.specs.Events.Happens.{Writes}
 use Rattle.log_law.specs.Events.Runs.{Begun, On}
+use Rattle.node_log_tie.proofs.OwnLogs.{SendsOwn, own_log}
 use Rattle.client_log_tie.specs.Owner.{Scene, IsOwn, Lasts, SeesStage, SeesWriting, SeesLog}
 use Rattle.client_log_tie.specs.Texts.{InputFits, MapFits, StaysWritten}
 use Rattle.client_log_tie.specs.ClientEvents.{StageWritten, Grown}
@@ -75,18 +77,20 @@ module _ (g : Setting) (c : ℕ) where
     pub lasts : Lasts g c next its life last
     pub sent : (p : Packet) → In p (log_packets d.outs) → In p next.net.sent
     pub filed : (name : SegName) → In name (log_filed g.log d.outs) → In name next.net.filed
+    pub mine : AllByRecursion (SendsOwn g.log) d.outs
     pub own : IsOwn g d.state
     pub written : StaysWritten d.state
     pub shows : Aloft next chain d ⊎ Landed next chain d
 
   -- what it said is seen
   said_seen : (v : Scene) (before : Option End) (outs : List Out) → ((p : Packet) → In p (log_packets outs) → In p v.net.sent)
-      → All (ClientDoes g c v) (steps wrote_one before outs).outs
+      → AllByRecursion (SendsOwn g.log) outs → All (ClientDoes g c v) (steps wrote_one before outs).outs
   unfolding wrote_one
-  said_seen v before [] sent = All-nil (ClientDoes g c v)
-  said_seen v before (Send fragment member ∷ outs) sent =
-      All-cons (ClientDoes g c v) (store fragment member) (steps wrote_one before outs).outs (λ own. sent _ (inl refl)) (said_seen v before outs (λ p is. sent p (inr is)))
-  said_seen v before (Settled end rows ∷ outs) sent = said_seen v (Some end) outs sent
+  said_seen v before [] sent mine = All-nil (ClientDoes g c v)
+  said_seen v before (Send fragment member ∷ outs) sent mine =
+      All-cons (ClientDoes g c v) (store fragment member) (steps wrote_one before outs).outs (λ own. sent _ (inl refl), mine.0)
+      (said_seen v before outs (λ p is. sent p (inr is)) mine.1)
+  said_seen v before (Settled end rows ∷ outs) sent mine = said_seen v (Some end) outs sent mine.1
 
   chain_seen : (v : Scene) (chain : List Segment) → ((name : SegName) → In name (names_of chain) → In name v.net.filed) → All (ClientDoes g c v) (map filed chain)
   chain_seen v [] within = All-nil (ClientDoes g c v)
@@ -104,7 +108,7 @@ module _ (g : Setting) (c : ℕ) where
           grown = f.grown;
           lasts = f.lasts;
           shows = (record { owner = a.owner; log = log_is; own = f.own; clear = a.flies.clear; flight = a.flies.flight; flies = a.flies.flies }, f.written);
-          does = All-append (ClientDoes g c f.next) (written d.outs).outs [] (said_seen f.next None d.outs f.sent) (All-nil (ClientDoes g c f.next));
+          does = All-append (ClientDoes g c f.next) (written d.outs).outs [] (said_seen f.next None d.outs f.sent f.mine) (All-nil (ClientDoes g c f.next));
         })
 
     went_down : (f : Flew w s.chain its life q.last d) → Landed f.next s.chain d → WentTo w its life (asking q (logged k s d))
@@ -115,7 +119,7 @@ module _ (g : Setting) (c : ℕ) where
           grown = f.grown;
           lasts = f.lasts;
           shows = (record { owner = a.owner; own = f.own }, f.written);
-          does = All-append (ClientDoes g c f.next) (written d.outs).outs (files k.owner.log s.chain a.lands.end) (said_seen f.next None d.outs f.sent)
+          does = All-append (ClientDoes g c f.next) (written d.outs).outs (files k.owner.log s.chain a.lands.end) (said_seen f.next None d.outs f.sent f.mine)
               (All-append (ClientDoes g c f.next) (map filed s.chain) (Does (Filed (name_of k.owner.log a.lands.end)) ∷ []) (chain_seen f.next s.chain a.filed)
               (All-cons (ClientDoes g c f.next) (Does (Filed (name_of k.owner.log a.lands.end))) [] (end_filed f a) (All-nil (ClientDoes g c f.next))));
         })
@@ -155,6 +159,7 @@ module _ (g : Setting) (c : ℕ) where
           lasts = record { number = lasts.number; inc = lasts.inc; fresh = lasts.fresh };
           sent = λ p is. in_before (log_packets (log.transition s.log i).outs) w.net.sent p is;
           filed = λ name is. in_before (log_filed g.log (log.transition s.log i).outs) w.net.filed name is;
+          mine = (own_log g.log s.log i (record { log = sees.own.log; flight = sees.own.flight })).outs;
           own = own_after g s.log i sees.own;
           written = written_after s.log i fits small;
           shows = inl (record { owner = refl; flies = on });
@@ -176,6 +181,7 @@ module _ (g : Setting) (c : ℕ) where
           lasts = record { number = lasts.number; inc = lasts.inc; fresh = lasts.fresh };
           sent = λ p is. in_before (log_packets (log.transition s.log i).outs) w.net.sent p is;
           filed = λ name is. in_before (log_filed g.log (log.transition s.log i).outs) (names_of chain ++ w.net.filed) name is;
+          mine = (own_log g.log s.log i (record { log = sees.own.log; flight = sees.own.flight })).outs;
           own = own_after g s.log i sees.own;
           written = written_after s.log i fits small;
           shows = inr (record {
@@ -193,6 +199,7 @@ module _ (g : Setting) (c : ℕ) where
       lasts = lasts;
       sent = λ p is. absurd is;
       filed = λ name is. absurd is;
+      mine = tt;
       own = sees.own;
       written = fits;
       shows = inl (record { owner = sees.owner; flies = record { quiet = refl; clear = sees.clear; flight = sees.flight; flies = sees.flies } });

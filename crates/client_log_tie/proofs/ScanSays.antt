@@ -41,6 +41,7 @@ use Rattle.log_law.specs.Events.{Happens}
 use Rattle.log_law.specs.Events.Runs.{Begun, On}
 use Rattle.node_log_tie.specs.Sight.{AskedBy, Question}
 use Rattle.node_log_tie.specs.Sight.Question.{Unasked, OfOpening}
+use Rattle.node_log_tie.proofs.OwnLogs.{own_log}
 use Rattle.client_log_tie.specs.Owner.{Scene, asker, AsksRegistry, AsksServers, AsksAt, MapCame, Lasts}
 use Rattle.client_log_tie.specs.Texts.{StaysWritten, ChainFits}
 use Rattle.client_log_tie.specs.ClientEvents.{Grown}
@@ -186,7 +187,7 @@ module _ (g : Setting) (c : ℕ) where
     rest_seen v most low a p (Hello own ∷ outs) all sent = absurd all.0
     rest_seen v most low a p (Fence server ∷ outs) all sent =
         All-cons (ClientDoes g c v) (fence k.owner server) (scanned k.owner low a p outs).outs
-        (λ own. (refl, subst (λ inc. In (FenceSent server inc) v.net.sent) (sym h.inc) (sent _ (inl refl))))
+        (λ own. (refl, subst (λ inc. In (FenceSent server inc) v.net.sent) (sym h.inc) (sent _ (inl refl))), h.log)
         (rest_seen v most low a p outs all.1 (λ x among. sent x (inr among)))
     rest_seen v most low a p (Fetch server name own ∷ outs) all sent =
         All-cons (ClientDoes g c v) _ (scanned k.owner low (asked_as a p own) (drawn_for a p own) outs).outs tt
@@ -319,6 +320,7 @@ module _ (g : Setting) (c : ℕ) where
           lasts = record { number = h.lasts.number; inc = h.lasts.inc; fresh = h.lasts.fresh };
           sent = λ p among. in_before (log_packets first.outs) w.net.sent p among;
           filed = λ name among. in_before (log_filed g.log first.outs) w.net.filed name among;
+          mine = (own_log g.log (started g.log w.net.inc end m) (log_in.Parts []) (record { log = refl; flight = tt })).outs;
           own = own_after g (started g.log w.net.inc end m) (log_in.Parts []) (record { log = refl; flight = tt });
           written = written_after (started g.log w.net.inc end m) (log_in.Parts []) written refl;
           shows = inl (record { owner = refl; flies = begins (started g.log w.net.inc end m) refl refl next });

@@ -1,7 +1,7 @@
 -- What a client that serves does once its log takes an input: what is sent, what is settled and filed, and what is given up then.
 use Rattle.std.proofs.Common.{◌≡◌, ℕ, ◌&&◌, not, Bool, true, List, [], ◌∷◌, Option, Some, None, refl, sym, ap, subst, ◌∙◌, inl, inr}
 use Rattle.std.specs.Prelude.{fold}
-use Rattle.std.specs.List.{list_any}
+use Rattle.std.specs.List.{AllByRecursion, list_any}
 use Rattle.std.proofs.lemmas.List.Elements.{All-nil, All-cons}
 use Rattle.client_log.specs.declared.input.In.{In as Input}
 use Rattle.client_log.specs.declared.input.In.TheVariants as log_in
@@ -34,6 +34,7 @@ use Rattle.log_tie.specs.Setting.{Setting}
 use Rattle.log_tie.specs.Shelves.{is_of_log}
 use Rattle.log_law.specs.Net.{Packet, log_packets}
 use Rattle.log_law.specs.Net.Packet.{StoredSent, MapSent}
+use Rattle.node_log_tie.proofs.OwnLogs.{SendsOwn}
 use Rattle.client_log_tie.specs.Owner.{Scene}
 use Rattle.client_log_tie.specs.Texts.{InputFits, MapFits}
 use Rattle.client_log_tie.proofs.Frames.{ClientDoes}
@@ -94,17 +95,17 @@ module _ (g : Setting) (c : ℕ) (is : g.log ≡ record { 0 = c }) where
 
   -- what it said is done, where that is seen
   all_written : (w : Scene) (s : Serving) (outs : List Out) → At w s → ((p : Packet) → In p (log_packets outs) → In p w.net.sent)
-      → ((name : SegName) → In name (log_filed g.log outs) → In name w.net.filed) → Goes w (steps writes_one s outs)
+      → ((name : SegName) → In name (log_filed g.log outs) → In name w.net.filed) → AllByRecursion (SendsOwn g.log) outs → Goes w (steps writes_one s outs)
   unfolding writes_one
-  all_written w s [] h sent filed = tokens.still_so g c w s h
-  all_written w s (Send fragment member ∷ outs) h sent filed =
+  all_written w s [] h sent filed mine = tokens.still_so g c w s h
+  all_written w s (Send fragment member ∷ outs) h sent filed mine =
       frames.goes_on_in g c w (gives s (store fragment member ∷ [])) (steps writes_one s outs)
-      (frames.goes_seen g c w s (store fragment member ∷ []) h (All-cons (ClientDoes g c w) (store fragment member) [] (λ own. sent _ (inl refl)) (All-nil (ClientDoes g c w))))
-      (λ v grown k. all_written v s outs k (λ p among. grown.sent p (sent p (inr among))) (λ name among. grown.filed name (filed name among)))
-  all_written w s (Settled end rows ∷ outs) h sent filed =
+      (frames.goes_seen g c w s (store fragment member ∷ []) h (All-cons (ClientDoes g c w) (store fragment member) [] (λ own. sent _ (inl refl), mine.0) (All-nil (ClientDoes g c w))))
+      (λ v grown k. all_written v s outs k (λ p among. grown.sent p (sent p (inr among))) (λ name among. grown.filed name (filed name among)) mine.1)
+  all_written w s (Settled end rows ∷ outs) h sent filed mine =
       frames.goes_on_in g c w (settles s end rows) (steps writes_one (settles s end rows).state outs)
       (settles_so w s end rows h (filed _ (inl refl)))
-      (λ v grown k. all_written v (settles s end rows).state outs k (λ p among. grown.sent p (sent p among)) (λ name among. grown.filed name (filed name (inr among))))
+      (λ v grown k. all_written v (settles s end rows).state outs k (λ p among. grown.sent p (sent p among)) (λ name among. grown.filed name (filed name (inr among))) mine.1)
 
   seals_again_so : (w : Scene) (s : Serving) (settling : Bool) → At w s → Goes w (seals_again s settling)
   seals_again_so w s settling h =
@@ -120,7 +121,7 @@ module _ (g : Setting) (c : ℕ) (is : g.log ≡ record { 0 = c }) where
       let t : Serving = record s { log = r.state } in
       let d : Done = steps writes_one t r.outs in
       frames.goes_from g c w k.next (writes s i) k.grown
-      (frames.goes_on g c k.next d (seals_again d.state (list_any is_settling r.outs)) (all_written k.next t r.outs k.stands k.sent k.filed)
+      (frames.goes_on g c k.next d (seals_again d.state (list_any is_settling r.outs)) (all_written k.next t r.outs k.stands k.sent k.filed k.mine)
       (λ v h. seals_again_so v d.state (list_any is_settling r.outs) h))
 
   -- ---- its inputs

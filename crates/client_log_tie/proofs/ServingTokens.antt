@@ -1,7 +1,7 @@
 -- What a client that serves does at an input of its tokens: the cache, the readings, the seals of its log, and what it says.
 use Rattle.std.proofs.Common.{ℕ, ◌==◌, Bool, List, [], ◌∷◌, map, Option, Some, None, is_none, refl, inl, inr, arith}
 use Rattle.std.specs.Prelude.{All}
-use Rattle.std.specs.List.{flat_map}
+use Rattle.std.specs.List.{AllByRecursion, flat_map}
 use Rattle.std.proofs.lemmas.List.Elements.{All-nil, All-cons, All-map}
 use Rattle.client_log.specs.declared.input.In.TheVariants as log_in
 use Rattle.client_log.specs.declared.output.Out.{Out as LogOut}
@@ -51,6 +51,7 @@ use Rattle.xfs_base.specs.Steps.{still}
 use Rattle.log_protocol.specs.Tables.{In}
 use Rattle.log_tie.specs.Setting.{Setting}
 use Rattle.log_law.specs.Net.{Packet, log_packets}
+use Rattle.node_log_tie.proofs.OwnLogs.{SendsOwn}
 use Rattle.client_log_tie.specs.Owner.{Scene}
 use Rattle.client_log_tie.proofs.Frames.{ClientDoes}
 use Rattle.client_log_tie.proofs.Frames as frames
@@ -94,11 +95,11 @@ module _ (g : Setting) (c : ℕ) where
   plain_answers (Some number) answer = plain_one _ (λ w. tt)
 
   -- what a log sends is seen where it was sent
-  pub stored_seen : (w : Scene) (outs : List LogOut) → ((p : Packet) → In p (log_packets outs) → In p w.net.sent) → All (ClientDoes g c w) (flat_map stored outs)
-  stored_seen w [] within = All-nil (ClientDoes g c w)
-  stored_seen w (log_out.Send fragment member ∷ outs) within =
-      All-cons (ClientDoes g c w) (store fragment member) (flat_map stored outs) (λ own. within _ (inl refl)) (stored_seen w outs (λ p is. within p (inr is)))
-  stored_seen w (log_out.Settled end rows ∷ outs) within = stored_seen w outs within
+  pub stored_seen : (w : Scene) (outs : List LogOut) → ((p : Packet) → In p (log_packets outs) → In p w.net.sent) → AllByRecursion (SendsOwn g.log) outs → All (ClientDoes g c w) (flat_map stored outs)
+  stored_seen w [] within mine = All-nil (ClientDoes g c w)
+  stored_seen w (log_out.Send fragment member ∷ outs) within mine =
+      All-cons (ClientDoes g c w) (store fragment member) (flat_map stored outs) (λ own. within _ (inl refl), mine.0) (stored_seen w outs (λ p is. within p (inr is)) mine.1)
+  stored_seen w (log_out.Settled end rows ∷ outs) within mine = stored_seen w outs within mine.1
 
   abbrev At : Scene → Serving → Type 0
   At w s = frames.At g c w s
@@ -135,7 +136,7 @@ module _ (g : Setting) (c : ℕ) where
   seals_so w s h =
       let k : logs.Took g c w s.lasting.number s.lasting.inc s.lasting.questions.last (log.on_seal s.log) =
       logs.takes g c w s.log s.lasting.number s.lasting.inc s.lasting.questions.last log_in.Seal h tt tt in
-      record { next = k.next; grown = k.grown; stands = k.stands; does = stored_seen k.next (log.on_seal s.log).outs k.sent }
+      record { next = k.next; grown = k.grown; stands = k.stands; does = stored_seen k.next (log.on_seal s.log).outs k.sent k.mine }
 
   -- ---- readings
 

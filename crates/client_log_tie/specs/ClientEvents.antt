@@ -85,6 +85,12 @@ abbrev pub ActSeen : Scene → Act → Type 0
 ActSeen w (Filed seg) = In seg w.net.filed
 ActSeen w _ = Unit {0}
 
+-- what it stores, and what it bars at a server, is of its log
+abbrev pub OfItsLog : Setting → Body → Type 0
+OfItsLog g (body.Store m) = m.fragment.meta.name.log ≡ g.log
+OfItsLog g (body.Fence m) = m.log ≡ g.log
+OfItsLog g _ = Unit {0}
+
 -- The small world runs on, by its owner alone: what was sent and filed stays so, and so does what was asked.
 pub record Grown (g : Setting) (w v : Scene) : Type 0 where
   pub runs : Runs g w.net v.net
@@ -96,7 +102,8 @@ pub record Grown (g : Setting) (w v : Scene) : Type 0 where
   pub dropped : v.net.dropped ≡ w.net.dropped
   pub asked : (k : ℕ) → (w.asked k ≡ Unasked → ⊥) → v.asked k ≡ w.asked k
 
--- It runs on to one in which the client is seen as it is then, all that it sends was sent, and all that it tells to be filed is filed.
+-- It runs on to one in which the client is seen as it is then, all that it sends was sent, and all that it tells to be filed is filed; it stores to its own log
+-- alone.
 pub record ClientGoes (g : Setting) (c : ℕ) (w : Scene) (d : NodeStep clients.Client) : Type 0 where
   pub next : Scene
   pub grown : Grown g w next
@@ -104,6 +111,7 @@ pub record ClientGoes (g : Setting) (c : ℕ) (w : Scene) (d : NodeStep clients.
   pub written : PhaseWritten d.node.phase
   pub sends : AllSeen g (asker c next) next.net d.packets
   pub acts : All (ActSeen next) d.acts
+  pub own : All (λ (p : packets.Packet). OfItsLog g p.body) d.packets
 
 -- Each event of a client is a run of the small world of its log.
 abbrev pub ClientTakes : Type 0

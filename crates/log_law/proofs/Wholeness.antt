@@ -60,8 +60,13 @@ module _ (k : Below) (g : Setting) (n : Net) (h : View g n) where
           inr (omega arith)
 
   pub logs_whole : LogsWhole g n
-  logs_whole = record { flown = flown; whole = whole }
+  logs_whole = record { flown = flown; striped = striped; whole = whole }
     where
+      striped : (s : Segment) → In s n.flown → 0 < length (members_of g s)
+      striped s is =
+          let b = h.flown.booked s is in
+          subst (λ z. 0 < length (members_of g z)) (sym b.2) (subst (λ m. 0 < m) (page b.0 b.1).counted ((k.protocol.book h.w h.reached).some_member b.0 b.1))
+
       flown : (name : SegName) → In name n.filed → (s : Segment) × In s n.flown × (s.name ≡ name)
       flown name is = let f = h.filed name is in let booked = filed_booked f.0 f.2 in (h.book f.0, h.flown.all f.0 booked, (page f.0 booked).named ∙ sym f.1)
 
@@ -113,7 +118,7 @@ module _ (k : Below) (g : Setting) (n : Net) (m : Moment g n) where
   seen = seen_always k (doubtful g) (opening (doubtful g) calmer.map) n refl calmer.run (begins_seen k (doubtful g) calmer.map calmer.whole)
 
 pub logs_stay_whole : Below → LogsStayWhole
-logs_stay_whole k g n m = let l = logs_whole k (doubtful g) n (seen k g n m) in record { flown = l.flown; whole = l.whole }
+logs_stay_whole k g n m = let l = logs_whole k (doubtful g) n (seen k g n m) in record { flown = l.flown; striped = l.striped; whole = l.whole }
 
 pub one_name_one_text : Below → OneNameOneText
 one_name_one_text k g n m = let l = one_text k (doubtful g) n (seen k g n m) in record { one = l.one; held = l.held; stored = l.stored; told = l.told }

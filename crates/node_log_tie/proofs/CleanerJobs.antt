@@ -1,5 +1,5 @@
 -- What a cleaner that serves does for its job, in the small world of a client's log.
-use Rattle.std.proofs.Common.{◌≡◌, ℕ, Bool, true, false, List, [], ◌∷◌, Option, Some, None, refl, sym, ap, ◌∙◌, inl, inr, arith}
+use Rattle.std.proofs.Common.{◌≡◌, ◌⊎◌, ⊎_elim, ℕ, Bool, true, false, List, [], ◌∷◌, Option, Some, None, refl, sym, ap, ◌∙◌, inl, inr, arith}
 use Rattle.std.specs.Prelude.{IfSome}
 use Rattle.std.specs.List.{AllByRecursion, flat_map}
 use Rattle.xfs_base.proofs.Booleans.{by_test, contrary}
@@ -7,7 +7,7 @@ use Rattle.xfs_base.specs.declared.block.BlockId.{BlockId}
 use Rattle.xfs_base.specs.declared.entry.Entry.{Entry}
 use Rattle.xfs_base.specs.declared.entry.Place.{Place}
 use Rattle.xfs_base.specs.declared.node.NodeId.{NodeId}
-use Rattle.xfs_base.specs.declared.node.NodeId.TheVariants.{Cleaner}
+use Rattle.xfs_base.specs.declared.node.NodeId.TheVariants.{Cleaner, Server}
 use Rattle.xfs_base.specs.declared.segment.SegName.{SegName}
 use Rattle.xfs_base.specs.declared.segment.SegRef.{SegRef}
 use Rattle.xfs_base.specs.Steps.{still, steps}
@@ -21,7 +21,9 @@ use Rattle.client_log.specs.Transition as log
 use Rattle.log_owner.specs.Opening.{stored}
 use Rattle.log_owner.specs.Sending.{fetch}
 use Rattle.node_base.specs.Asking.{drawn, next_ask}
+use Rattle.wire_msg.specs.declared.body.Body.TheVariants as body
 use Rattle.node_base.specs.declared.effects.Effect.{Effect}
+use Rattle.node_base.specs.declared.effects.Effect.TheVariants.{Send}
 use Rattle.stripe_cleaner.specs.declared.input.In.{In as Input}
 use Rattle.stripe_cleaner.specs.declared.input.In.TheVariants as input
 use Rattle.stripe_cleaner.specs.declared.output.Out.{Out}
@@ -54,7 +56,7 @@ use Rattle.node_log_tie.specs.Sight.{Asker, ListedSeen}
 use Rattle.node_log_tie.specs.CleanerEvents.{DropOfLog, JobSeen, EmptyingSeen}
 use Rattle.node_log_tie.proofs.Cleaning.{OutDrops, CleaningSent, CleanOn, cleaning_takes}
 use Rattle.node_log_tie.proofs.Emptied.{out_later, emptying_later, not_ours, CleanerDoes, Dropping, no_drop, Emptied, at_once, stays, and_then, all_steps}
-use Rattle.node_log_tie.proofs.Going.{run_later}
+use Rattle.node_log_tie.proofs.Going.{in_after, run_later}
 use Rattle.node_log_tie.proofs.Lists.{all_append, all_map, answers_send}
 use Rattle.node_log_tie.proofs.OwnLogs.{SendsOwn, OwnDone, own_log}
 use Rattle.node_log_tie.proofs.RebuildEvents.{all_listed}
@@ -155,6 +157,7 @@ module _ (g : Setting) (owner : Asker) (other : g.log ≡ cleaner_log → ⊥) (
     drop : Dropping g owner n next
     said : is_of_log g name ≡ true → In (DeleteSent name) next.sent
     acted : is_of_log g name ≡ true → In name next.dropped
+    only : (x : SegName) → In x next.dropped → In x n.dropped ⊎ (x ≡ name)
 
   let_go : (n : Net) (name : SegName) → DropOfLog g n name → LetGo n name
   let_go n name may = by (is_of_log g name) refl
@@ -167,8 +170,9 @@ module _ (g : Setting) (owner : Asker) (other : g.log ≡ cleaner_log → ⊥) (
             drop = record { runs = On Begun (Drops m.lists m.meta m.sent m.among (let e = ap (λ (s : SegName). s.seq) m.named in let b = m.below in omega arith)); dropped = λ x is. inr is; rest = refl };
             said = λ its. inl (ap DeleteSent (sym m.named));
             acted = λ its. inl (sym m.named);
+            only = λ x is. ⊎_elim (λ same. inr (same ∙ m.named)) (λ was. inl was) is;
           }
-      by false foreign = record { next = n; drop = no_drop g owner n; said = λ its. contrary (sym foreign ∙ its); acted = λ its. contrary (sym foreign ∙ its) }
+      by false foreign = record { next = n; drop = no_drop g owner n; said = λ its. contrary (sym foreign ∙ its); acted = λ its. contrary (sym foreign ∙ its); only = λ x is. inl is }
 
   drop_acted : (n : Net) (is_first : Bool) (name : SegName) → (is_of_log g name ≡ true → In name n.dropped) → Does_all n (drops is_first name)
   drop_acted n true name acted = (acted, tt)
@@ -183,6 +187,8 @@ module _ (g : Setting) (owner : Asker) (other : g.log ≡ cleaner_log → ⊥) (
         drop = l.drop;
         seen = emptying_later g n l.next (run_later g n l.next l.drop.runs) (record e { job = Some (record job { hand = _ }) }) (record { log = seen.log; job = its });
         does = all_append (CleanerDoes g owner l.next) (drops (is_whole job.hand) name) _ (drop_acted l.next (is_whole job.hand) name l.acted) (l.said, tt);
+        only = λ x is. ⊎_elim (λ was. inl was)
+            (λ same. inr (Server server, in_after (drops (is_whole job.hand) name) _ _ (inl (ap (λ (z : SegName). Send (Server server) (body.Delete (record { name = z }))) same)))) (l.only x is);
       }
 
   job_over : (n : Net) (e : Emptying) (count : ℕ) → EmptyingSeen g n e → Goes n (finishes e count)

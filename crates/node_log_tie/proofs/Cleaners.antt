@@ -1,5 +1,5 @@
 -- What an event makes of the cleaner, in the small world of a client's log.
-use Rattle.std.proofs.Common.{◌≡◌, ℕ, List, [], Option, Some, None, refl, subst}
+use Rattle.std.proofs.Common.{◌≡◌, ℕ, List, [], Option, Some, None, inl, refl, subst}
 use Rattle.std.specs.List.{AllByRecursion}
 use Rattle.xfs_base.proofs.Booleans.{by_test}
 use Rattle.xfs_base.specs.declared.node.NodeId.{NodeId}
@@ -37,7 +37,7 @@ use Rattle.node_log_tie.specs.Sight.{Asker, BodySeen, PacketSeen, EffectSeen}
 use Rattle.node_log_tie.specs.CleanerEvents.{EmptyingSeen, OpeningSeen, CleanerSeen, CleanerOwed, CleanerGoes}
 use Rattle.node_log_tie.proofs.CleanerOpening.{ProgressSeen, WentOn, tick_heard, packet_heard as opening_hears, begins as opening_begun}
 use Rattle.node_log_tie.proofs.CleanerServing.{deltas_pushed, cleaning_wished, packet_heard, time_passes}
-use Rattle.node_log_tie.proofs.Emptied.{CleanerDoes, Dropping, no_drop, Emptied, all_does_later, as_seen, all_acts}
+use Rattle.node_log_tie.proofs.Emptied.{CleanerDoes, Dropping, no_drop, Emptied, OnlyOrdered, ordered_then, only_deleted, all_does_later, as_seen, all_acts}
 use Rattle.node_log_tie.proofs.Lists.{all_append, answers_send, packets_all}
 
 module _ (g : Setting) (owner : Asker) (other : g.log ≡ cleaner_log → ⊥) (away : owner.node ≡ TheCleaner → ⊥) (n : Net) where
@@ -47,15 +47,16 @@ module _ (g : Setting) (owner : Asker) (other : g.log ≡ cleaner_log → ⊥) (
     drop : Dropping g owner n next
     seen : CleanerSeen g next w.state
     does : AllByRecursion (CleanerDoes g owner next) w.outs
+    only : OnlyOrdered g owner n next w.outs
 
   at_once : (p : Phase) (outs : List Effect) → CleanerSeen g n p → AllByRecursion (CleanerDoes g owner n) outs → Goes (record { state = p; outs = outs })
-  at_once p outs seen does = record { next = n; drop = no_drop g owner n; seen = seen; does = does }
+  at_once p outs seen does = record { next = n; drop = no_drop g owner n; seen = seen; does = does; only = λ name is. inl is }
 
   stays : (p : Phase) → CleanerSeen g n p → Goes (still p)
   stays p seen = at_once p [] seen tt
 
   serves : (d : Done) → Emptied g owner n d → Goes (serves_on d)
-  serves d w = record { next = w.next; drop = w.drop; seen = w.seen; does = w.does }
+  serves d w = record { next = w.next; drop = w.drop; seen = w.seen; does = w.does; only = w.only }
 
   answers_do : (item : Option ℕ) (a : Answer) → AllByRecursion (CleanerDoes g owner n) (answers_unanswered item a)
   answers_do item a = answers_send (CleanerDoes g owner n) (λ number said. tt) item a
@@ -83,6 +84,7 @@ module _ (g : Setting) (owner : Asker) (other : g.log ≡ cleaner_log → ⊥) (
         drop = p.drop;
         seen = p.seen;
         does = all_append (CleanerDoes g owner p.next) w.effects (after_opening (record l { questions = w.questions }) w.progress).outs (all_does_later g owner n p.next p.drop w.effects on.does) p.does;
+        only = ordered_then g owner n n p.next w.effects (after_opening (record l { questions = w.questions }) w.progress).outs (λ name is. inl is) p.only;
       }
 
   restarted : (servers : ℕ) (l : Lasting) (number : ℕ) → Goes (restarts servers l number)
@@ -161,6 +163,7 @@ module _ (g : Setting) (owner : Asker) (other : g.log ≡ cleaner_log → ⊥) (
         seen = w.seen;
         sends = packets_all (PacketSeen g owner w.next) (EffectSeen g owner w.next TheCleaner) TheCleaner (λ to said does. does) outs (as_seen g owner w.next outs w.does);
         drops = all_acts g owner w.next outs w.does;
+        only = only_deleted g owner n w.next outs w.only;
         rest = w.drop.rest;
       }
 

@@ -1,5 +1,5 @@
 -- How a cleaner that serves goes on in the small world of a client's log: by drops alone, one thing after the other.
-use Rattle.std.proofs.Common.{◌≡◌, ℕ, true, List, [], ◌∷◌, refl, sym, ◌∙◌, arith}
+use Rattle.std.proofs.Common.{◌≡◌, ◌⊎◌, ⊎_elim, ℕ, true, List, [], ◌∷◌, ◌++◌, inl, inr, refl, sym, subst, ◌∙◌, arith}
 use Rattle.std.specs.Prelude.{All}
 use Rattle.std.specs.List.{AllByRecursion}
 use Rattle.std.proofs.lemmas.List.Elements.{All-nil, All-cons, All-append}
@@ -10,13 +10,15 @@ use Rattle.xfs_base.specs.declared.segment.SegRef.{SegRef}
 use Rattle.xfs_base.specs.Steps.{still, after, steps}
 use Rattle.node_base.specs.declared.effects.Effect.{Effect}
 use Rattle.node_base.specs.declared.effects.Effect.TheVariants.{Send, Answer, Lose, Does}
-use Rattle.node_base.specs.Effects.{act_of, acts_of}
+use Rattle.node_base.specs.Effects.{act_of, acts_of, packet_of, packets_of}
 use Rattle.stripe_cleaner.specs.declared.output.Out.{Out}
 use Rattle.stripe_cleaner.specs.declared.output.Out.TheVariants as out
 use Rattle.stripe_cleaner.specs.declared.phase.Phase.{Phase}
 use Rattle.stripe_cleaner.specs.declared.phase.Phase.TheVariants.{Greeting, Listing, Counting, Reading, Checking, Deleting, Over}
 use Rattle.version_model.specs.declared.act.Act.{Act}
 use Rattle.version_model.specs.declared.act.Act.TheVariants as act
+use Rattle.wire_msg.specs.declared.body.Body.{Body}
+use Rattle.wire_msg.specs.declared.body.Body.TheVariants as body
 use Rattle.cleaner_node.specs.declared.emptying.Emptying.{Emptying}
 use Rattle.cleaner_node.specs.declared.job.Job.{Job}
 use Rattle.cleaner_node.specs.EmptyingEvents.{cleaner_log}
@@ -29,9 +31,9 @@ use Rattle.log_law.specs.Net.{Net}
 use Rattle.log_law.specs.Events.{Runs}
 use Rattle.log_law.specs.Events.Runs.{Begun}
 use Rattle.node_log_tie.specs.Sight.{Asker, BodySeen, EffectSeen, Later}
-use Rattle.node_log_tie.specs.CleanerEvents.{DropOfLog, AllDrop, Candidates, JobPhaseSeen, JobSeen, EmptyingSeen, DropActed, all_but_drops}
+use Rattle.node_log_tie.specs.CleanerEvents.{DropOfLog, AllDrop, Candidates, JobPhaseSeen, JobSeen, EmptyingSeen, DropActed, OnlyDeleted, all_but_drops}
 use Rattle.node_log_tie.proofs.Cleaning.{OutDrops}
-use Rattle.node_log_tie.proofs.Going.{run_later, runs_on}
+use Rattle.node_log_tie.proofs.Going.{in_after, in_before, run_later, runs_on}
 use Rattle.node_log_tie.proofs.Lists.{all_append, all_weaker, if_some}
 use Rattle.node_log_tie.proofs.Sights.{seen_later}
 
@@ -75,6 +77,19 @@ module _ (g : Setting) (owner : Asker) where
   CleanerDoes n (Lose seg) = Unit {0}
   CleanerDoes n (Does a) = DropActed g n a
 
+  -- some server is told to delete a segment
+  abbrev pub Orders : SegName → List Effect → Type 0
+  Orders name outs = (to : NodeId) × In (Send to (body.Delete (record { name = name }))) outs
+
+  -- what is dropped was so before, or is ordered to be deleted
+  abbrev pub OnlyOrdered : Net → Net → List Effect → Type 0
+  OnlyOrdered n next outs = (name : SegName) → In name next.dropped → In name n.dropped ⊎ Orders name outs
+
+  pub ordered_then : (n m o : Net) (outs more : List Effect) → OnlyOrdered n m outs → OnlyOrdered m o more → OnlyOrdered n o (outs ++ more)
+  ordered_then n m o outs more first second name is = ⊎_elim
+      (λ was. ⊎_elim (λ old. inl old) (λ (ordered : Orders name outs). inr (ordered.0, in_before outs more _ ordered.1)) (first name was))
+      (λ (ordered : Orders name more). inr (ordered.0, in_after outs more _ ordered.1)) (second name is)
+
   -- a net with more drops
   pub record Dropping (n next : Net) : Type 0 where
     pub runs : Runs g n next
@@ -100,15 +115,16 @@ module _ (g : Setting) (owner : Asker) where
   pub all_does_later : (n next : Net) → Dropping n next → (outs : List Effect) → AllByRecursion (CleanerDoes n) outs → AllByRecursion (CleanerDoes next) outs
   all_does_later n next d outs all = all_weaker (CleanerDoes n) (CleanerDoes next) (does_later n next d) outs all
 
-  -- The cleaner goes on, and so does the small world, by drops alone.
+  -- The cleaner goes on, and so does the small world, by drops alone, of what it orders to be deleted.
   pub record Emptied (n : Net) (d : Done) : Type 0 where
     pub next : Net
     pub drop : Dropping n next
     pub seen : EmptyingSeen g next d.state
     pub does : AllByRecursion (CleanerDoes next) d.outs
+    pub only : OnlyOrdered n next d.outs
 
   pub at_once : (n : Net) (e : Emptying) (outs : List Effect) → EmptyingSeen g n e → AllByRecursion (CleanerDoes n) outs → Emptied n (record { state = e; outs = outs })
-  at_once n e outs seen does = record { next = n; drop = no_drop n; seen = seen; does = does }
+  at_once n e outs seen does = record { next = n; drop = no_drop n; seen = seen; does = does; only = λ name is. inl is }
 
   pub stays : (n : Net) (e : Emptying) → EmptyingSeen g n e → Emptied n (still e)
   stays n e seen = at_once n e [] seen tt
@@ -119,6 +135,7 @@ module _ (g : Setting) (owner : Asker) where
     drop = then_drop n w.next x.next w.drop x.drop;
     seen = x.seen;
     does = all_append (CleanerDoes x.next) d.outs e.outs (all_does_later w.next x.next x.drop d.outs w.does) x.does;
+    only = ordered_then n w.next x.next d.outs e.outs w.only x.only;
   }
 
   -- effects that are seen at once, and then the rest
@@ -128,6 +145,7 @@ module _ (g : Setting) (owner : Asker) where
     drop = x.drop;
     seen = x.seen;
     does = all_append (CleanerDoes x.next) outs e.outs (all_does_later n x.next x.drop outs does) x.does;
+    only = ordered_then n n x.next outs e.outs (λ name is. inl is) x.only;
   }
 
   -- one step after the other
@@ -156,6 +174,17 @@ module _ (g : Setting) (owner : Asker) where
   one_act n (Answer item answer) h = All-cons (DropActed g n) (act.Answered Cleaner item answer) [] tt (All-nil (DropActed g n))
   one_act n (Lose seg) h = All-cons (DropActed g n) (act.Lost Cleaner seg) [] tt (All-nil (DropActed g n))
   one_act n (Does a) h = All-cons (DropActed g n) a [] h (All-nil (DropActed g n))
+
+  -- what is ordered is sent
+  in_packets : (outs : List Effect) (to : NodeId) (said : Body) → In (Send to said) outs → In (record { from = Cleaner; to = to; clock = 0; body = said }) (packets_of Cleaner outs)
+  in_packets [] to said is = absurd is
+  in_packets (e ∷ outs) to said (inl same) =
+      subst (λ x. In (record { from = Cleaner; to = to; clock = 0; body = said }) (packet_of Cleaner x ++ packets_of Cleaner outs)) same (inl refl)
+  in_packets (e ∷ outs) to said (inr is) = in_after (packet_of Cleaner e) (packets_of Cleaner outs) _ (in_packets outs to said is)
+
+  pub only_deleted : (n next : Net) (outs : List Effect) → OnlyOrdered n next outs → OnlyDeleted n next (packets_of Cleaner outs)
+  only_deleted n next outs only name is =
+      ⊎_elim (λ was. inl was) (λ (ordered : Orders name outs). inr (_, in_packets outs ordered.0 (body.Delete (record { name = name })) ordered.1, refl)) (only name is)
 
   pub all_acts : (n : Net) (outs : List Effect) → AllByRecursion (CleanerDoes n) outs → All (DropActed g n) (acts_of Cleaner outs)
   all_acts n [] all = All-nil (DropActed g n)

@@ -6,12 +6,12 @@ pub mod RebuildEvents
 mod Shelving
 mod Servers
 mod SentMaps
-mod WholeMaps
+pub mod WholeMaps
 mod Horizons
 mod Boards
-mod Others
+pub mod Others
 mod Registries
-mod OwnLogs
+pub mod OwnLogs
 pub mod Cleaning
 pub mod Emptied
 mod CleanerJobs

@@ -1,5 +1,5 @@
 -- What an event makes of the cleaner, as the small world of a client's log sees it: it drops segments of that log, and has no other part in it.
-use Rattle.std.specs.Prelude.{◌≡◌, ◌<◌, ◌≤◌, ℕ, true, List, [], IfSome, All}
+use Rattle.std.specs.Prelude.{◌≡◌, ◌<◌, ◌≤◌, ◌⊎◌, ℕ, true, List, [], IfSome, All}
 use Rattle.std.specs.List.{AllByRecursion}
 use Rattle.xfs_base.specs.declared.fragment.FragMeta.{FragMeta}
 use Rattle.xfs_base.specs.declared.node.NodeId.{NodeId}
@@ -18,8 +18,10 @@ use Rattle.stripe_cleaner.specs.declared.phase.Phase.TheVariants.{Greeting, List
 use Rattle.version_model.specs.declared.act.Act.{Act}
 use Rattle.version_model.specs.declared.act.Act.TheVariants.{Dropped}
 use Rattle.version_model.specs.declared.work.Work.{Work}
+use Rattle.wire_msg.specs.declared.body.Body.TheVariants as body
 use Rattle.wire_msg.specs.declared.packet.Do.{Do}
 use Rattle.wire_msg.specs.declared.packet.Do.TheVariants.{Begin, Deliver, Tick}
+use Rattle.wire_msg.specs.declared.packet.Packet.{Packet}
 use Rattle.cleaner_node.specs.CleanerEvents.{cleaner_start, cleaner_step}
 use Rattle.cleaner_node.specs.declared.cleaner.Cleaner as cleaners
 use Rattle.cleaner_node.specs.declared.cleaner.Phase.{Phase}
@@ -110,13 +112,19 @@ CleanerOwed g owner n Tick = Unit {0}
 abbrev pub all_but_drops : Net → Net
 all_but_drops n = record n { sent = []; dropped = [] }
 
--- The small world runs on, by drops alone, to a net in which the cleaner is seen as it is then; all that it sends was sent, and what it acts to be dropped is.
+-- what is dropped was so before, or a Delete of it is sent
+abbrev pub OnlyDeleted : Net → Net → List Packet → Type 0
+OnlyDeleted n next sent = (name : SegName) → In name next.dropped → In name n.dropped ⊎ ((p : Packet) × In p sent × (p.body ≡ body.Delete (record { name = name })))
+
+-- The small world runs on, by drops alone, to a net in which the cleaner is seen as it is then; all that it sends was sent, and what it acts to be dropped is,
+-- and nothing else of the log but what it has servers delete.
 pub record CleanerGoes (g : Setting) (owner : Asker) (n : Net) (cleaner : cleaners.Cleaner) (what : Do) : Type 0 where
   pub next : Net
   pub runs : Runs g n next
   pub seen : CleanerSeen g next (cleaner_step cleaner what).node.phase
   pub sends : AllSeen g owner next (cleaner_step cleaner what).packets
   pub drops : All (DropActed g next) (cleaner_step cleaner what).acts
+  pub only : OnlyDeleted n next (cleaner_step cleaner what).packets
   pub rest : all_but_drops next ≡ all_but_drops n
 
 -- Each event of the cleaner, where the log is not its own.

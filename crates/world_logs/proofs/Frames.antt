@@ -1,0 +1,86 @@
+-- What the small world of a log does elsewhere leaves a node of it seen as it was.
+use Rattle.std.proofs.Common.{◌≡◌, ℕ, Option, Some, None, sym, ap, ◌∙◌}
+use Rattle.client_log_tie.specs.Owner.{Scene, ClientAgrees, LastsAs, MapCame, SeesStage}
+use Rattle.client_node.specs.declared.lasting.Lasting.{Lasting}
+use Rattle.client_node.specs.declared.phase.Phase.{Phase}
+use Rattle.client_node.specs.declared.phase.Phase.TheVariants as clients
+use Rattle.group_map.specs.GroupMapState.{GroupMapState}
+use Rattle.log_law.specs.Net.{Net}
+use Rattle.log_owner.specs.declared.known.Known.{Known}
+use Rattle.log_owner.specs.declared.opening.Stage as stages
+use Rattle.log_owner.specs.declared.opening.Stage.TheVariants as stage
+use Rattle.log_tie.specs.Setting.{Setting}
+use Rattle.node_log_tie.proofs.Emptied.{emptying_later}
+use Rattle.node_log_tie.proofs.Lists.{if_some}
+use Rattle.node_log_tie.proofs.RebuildEvents.{rebuild_later}
+use Rattle.node_log_tie.specs.CleanerEvents.{CleanerSeen}
+use Rattle.node_log_tie.specs.RegistryEvents.{RegistrySeen}
+use Rattle.node_log_tie.specs.ServerEvents.{RebuildSeen, ServerSeen}
+use Rattle.node_log_tie.specs.Sight.{Later, Question}
+use Rattle.registry.specs.BoardState.{BoardState}
+use Rattle.cleaner_node.specs.declared.cleaner.Phase.{Phase as CleanerPhase}
+use Rattle.cleaner_node.specs.declared.cleaner.Phase.TheVariants as cleaners
+use Rattle.store_nodes.specs.declared.server.Rebuilding.{Rebuilding}
+use Rattle.store_nodes.specs.declared.server.Server.{Server as ServerNode}
+
+-- ---- the owner
+
+module _ (g : Setting) (c : ℕ) (n next : Net) (asked : ℕ → Question) (later : Later n next) (inc : next.inc ≡ n.inc) (owner : next.owner ≡ n.owner) where
+  abbrev before : Scene
+  before = record { net = n; asked = asked }
+
+  abbrev now : Scene
+  now = record { net = next; asked = asked }
+
+  came_still : (o : Option GroupMapState) → MapCame g c before o → MapCame g c now o
+  came_still None h = tt
+  came_still (Some m) h = later.sent _ h
+
+  lasts_still : (l : Lasting) → LastsAs g c before l → LastsAs g c now l
+  lasts_still l h = record { number = h.number; inc = inc ∙ h.inc; fresh = h.fresh }
+
+  stage_still : (k : Known) (last : ℕ) (s : stages.Stage) → SeesStage g c before k last s → SeesStage g c now k last s
+  stage_still k last (stage.Scanning s) h = record {
+    owner = owner ∙ h.owner;
+    log = h.log;
+    inc = h.inc ∙ sym inc;
+    groups = h.groups;
+    came = came_still k.maps.groups h.came;
+    asks = h.asks;
+    past = h.past;
+    some = h.some;
+    number = h.number;
+  }
+  stage_still k last (stage.Settling s) h = record { owner = owner ∙ h.owner; log = h.log; own = h.own; clear = h.clear; flight = h.flight; flies = h.flies }
+
+  pub client_still : (p : Phase) → ClientAgrees g c before p → ClientAgrees g c now p
+  client_still (clients.Down l) h = (lasts_still l h.0, owner ∙ h.1)
+  client_still (clients.Opening l o) h = (lasts_still l h.0, stage_still o.known l.questions.last o.stage h.1)
+  client_still (clients.Serving s) h = (lasts_still s.lasting h.0, record { owner = owner ∙ h.1.owner; own = h.1.own })
+
+-- ---- servers, the cleaner, the registry
+
+module _ (g : Setting) (n next : Net) (later : Later n next) where
+  pub server_still : (v : ℕ) (node : ServerNode) → next.shelves v ≡ n.shelves v → ServerSeen g n v node → ServerSeen g next v node
+  server_still v node shelf h = record {
+    number = h.number;
+    shelf = shelf ∙ h.shelf;
+    maps = h.maps;
+    rebuild = if_some (λ (r : Rebuilding). RebuildSeen g n v r.rebuild) (λ (r : Rebuilding). RebuildSeen g next v r.rebuild) (λ (r : Rebuilding). rebuild_later g n next later v r.rebuild)
+        node.rebuilding h.rebuild;
+  }
+
+  pub cleaner_still : (p : CleanerPhase) → CleanerSeen g n p → CleanerSeen g next p
+  cleaner_still (cleaners.Down l) h = tt
+  cleaner_still (cleaners.Opening l o) h = h
+  cleaner_still (cleaners.Serving e) h = emptying_later g n next later e h
+
+  pub registry_still : (b : BoardState) → next.registry ≡ n.registry → next.low ≡ n.low → RegistrySeen g n b → RegistrySeen g next b
+  registry_still b registry low h = record {
+    map = h.map;
+    size = h.size;
+    named = h.named;
+    known = λ v has. ap (λ (f : ℕ → ℕ). f v) registry ∙ h.known v has;
+    low = low ∙ h.low;
+    horizons = h.horizons;
+  }

@@ -1,0 +1,135 @@
+-- Every run keeps the logs of its clients, in runs in which no client opens its log again and no horizon is kept beyond what was filed.
+use Rattle.std.proofs.Common.{◌≡◌, ℕ, ◌+◌, ◌≤◌, ◌<◌, List, [], ◌∷◌, Some, length, take, refl, sym, ap, subst, ◌∙◌, arith}
+use Rattle.std.specs.List.{fold}
+use Rattle.client_log_tie.specs.ClientEvents.{PhaseOwed}
+use Rattle.client_log_tie.specs.Owner.{Scene}
+use Rattle.client_node.specs.declared.client.Client.{Client as ClientNode}
+use Rattle.client_node.specs.declared.phase.Phase.{Phase}
+use Rattle.client_node.specs.declared.phase.Phase.TheVariants as clients
+use Rattle.core_world.specs.AnyNode.{any_start, any_step}
+use Rattle.core_world.specs.declared.any_node.AnyNode.{AnyNode}
+use Rattle.core_world.specs.declared.any_node.AnyNode.TheVariants as any
+use Rattle.fragment_store.specs.ShelfState.{ShelfState}
+use Rattle.group_map.specs.declared.group.Group.{Group}
+use Rattle.group_map.specs.Groups as groups
+use Rattle.log_law.specs.Laws.{LogsStayWhole, OneNameOneText}
+use Rattle.log_law.specs.Net.{Net}
+use Rattle.log_tie.specs.Exist.{SomeSetting}
+use Rattle.log_tie.specs.Setting.{Setting, server_of}
+use Rattle.node_base.specs.Setups.{IsSetup}
+use Rattle.node_log_tie.specs.RegistryEvents.{NamesGroups}
+use Rattle.store_nodes.specs.RegistryEvents.{registry_start}
+use Rattle.version_model.specs.declared.act.Act.{Act}
+use Rattle.world_base.specs.Cluster.{cluster_of, place_of}
+use Rattle.world_base.specs.declared.cluster.Cluster.{Cluster}
+use Rattle.world_base.specs.declared.estate.Estate.{Estate}
+use Rattle.world_base.specs.declared.event.Event.{Event}
+use Rattle.world_base.specs.declared.world.World.{World}
+use Rattle.world_base.specs.Items.{items_of}
+use Rattle.world_base.specs.NextWorld.{next_world, start_world}
+use Rattle.world_base.specs.Runs.{IsRun, Leads}
+use Rattle.world_law.proofs.Laws as tokens
+use Rattle.world_law.proofs.Start.{first_stands}
+use Rattle.world_law.specs.Owners.{moment, node_in, node_named}
+use Rattle.world_logs.proofs.Events.{Good, NodeLaws}
+use Rattle.world_logs.proofs.Fronts.{front_keeps, named_so}
+use Rattle.world_logs.proofs.Groups.{GroupsStay, in_run}
+use Rattle.world_logs.proofs.Reading.{has_text, is_whole, members_exist}
+use Rattle.world_logs.proofs.Settings.{setting_of}
+use Rattle.world_logs.proofs.Standing.{Stands}
+use Rattle.world_logs.proofs.Start.{first_scene, start_stands}
+use Rattle.world_logs.specs.Doings.{did}
+use Rattle.world_logs.specs.Logs.{LogsStand}
+use Rattle.world_logs.specs.Owed.{HorizonsReached, IsOpening, NoneOpens, board_of}
+use Rattle.world_logs.specs.Shelves.{group_at, shelf_at, shelf_of}
+use Rattle.xfs_base.specs.declared.node.NodeId.TheVariants.{Client, Server, Registry}
+use Rattle.xfs_base.specs.declared.setup.Setup.{Setup}
+
+-- the laws that the logs stand on
+pub record Below : Type 0 where
+  pub nodes : NodeLaws
+  pub groups : GroupsStay
+  pub setting : SomeSetting
+  pub whole : LogsStayWhole
+  pub text : OneNameOneText
+
+-- events lead to the world at their end
+at_end : (events : List Event) (w end : World AnyNode) → Leads any_step w events end → fold (next_world any_step) w (take (length events) events) ≡ end
+at_end [] w end leads = leads
+at_end (event ∷ events) w end leads = at_end events (next_world any_step w event) end leads.1
+
+owed_nothing : (g : Setting) (n : Net) (p : Phase) → (IsOpening p → ⊥) → PhaseOwed g n p
+owed_nothing g n (clients.Down l) shut = tt
+owed_nothing g n (clients.Opening l o) shut = absurd (shut tt)
+owed_nothing g n (clients.Serving s) shut = tt
+
+module _ (below : Below) (e : Estate AnyNode) (ok : IsSetup e.script.setup) (run : IsRun any_step any_start e.script e.events e.world) (low : HorizonsReached e) (none : NoneOpens e) where
+  abbrev setup : Setup
+  setup = e.script.setup
+
+  abbrev k : Cluster
+  k = cluster_of e.script.setup
+
+  abbrev base : Setting
+  base = below.setting.0
+
+  abbrev g : ℕ → Setting
+  g c = setting_of base e.world e.script.setup.servers c
+
+  -- no client opens its log in a world
+  Q : World AnyNode → Type 0
+  Q w = (c : ℕ) (node : ClientNode) → node_named w (Client c) ≡ Some (any.Client node) → IsOpening node.phase → ⊥
+
+  opens : (w : World AnyNode) → w.cluster ≡ k → Q w → (c : ℕ) → 0 < c → c ≤ setup.clients → (node : ClientNode)
+      → node_in w.nodes (place_of k (Client c)) ≡ Some (any.Client node)
+      → (v : Scene) (told : List Act) → Stands (g c) c v k w.nodes w.sent told → PhaseOwed (g c) v.net node.phase
+  unfolding Q
+  opens w cluster q c some most node here v told st =
+      owed_nothing (g c) v.net node.phase (q c node (subst (λ cl. node_in w.nodes (place_of cl (Client c)) ≡ Some (any.Client node)) (sym cluster) here))
+
+  first_named : (c : ℕ) → NamesGroups (g c) (groups.started setup.servers setup.groups)
+  unfolding start_world
+  first_named c = named_so below.nodes below.groups base e.world setup ok Q (start_world any_start e.script) refl (in_run below.groups e.events (start_world any_start e.script) e.world run)
+      (registry_start setup (items_of e.script.lines Registry)).board (ap board_of (first_stands e.script Registry (setup.clients + setup.managers + setup.servers + 1) refl)) c
+
+  good_at : (count : ℕ) → Good below.nodes base e.world setup ok (moment e count).nodes (moment e count).sent (λ c. did e c count)
+  unfolding start_world Q
+  good_at count = front_keeps below.nodes below.groups base e.world setup ok Q opens e.events count (start_world any_start e.script) (λ c. []) refl run
+      (tokens.front below.nodes.tokens e ok run 0 0 (omega arith)).1 (λ n c some most b is. low n c some most b is) (λ n c node is opening. none n c node is opening)
+      (record {
+        fits = λ q h. absurd h;
+        logs = λ c some most. (
+          first_scene below.nodes.client_starts below.nodes.server_starts below.nodes.cleaner_starts below.nodes.registry_starts e.script ok
+              (g c) c refl refl some (let m = ok.clients.1 in omega arith) (first_named c),
+          start_stands below.nodes.client_starts below.nodes.server_starts below.nodes.cleaner_starts below.nodes.registry_starts e.script ok
+              (g c) c refl refl some (let m = ok.clients.1 in omega arith) (first_named c),
+        );
+      })
+
+  -- a server of the run has a shelf
+  shelf_there : (count v : ℕ) → 1 ≤ v → v ≤ setup.servers → (shelf : ShelfState) × (shelf_at (moment e count) v ≡ Some shelf)
+  shelf_there count v some most =
+      let f = tokens.front below.nodes.tokens e ok run count 0 (omega arith) in
+      let s = f.1.1.placed.servers v some most in
+      (s.0.shelf, ap shelf_of (subst (λ cl. node_in (moment e count).nodes (place_of cl (Server v)) ≡ Some (any.Server s.0)) (sym f.0) s.1))
+
+  -- the members of a group of the registry's at the end are servers
+  exist : (count c : ℕ) → 0 < c → c ≤ setup.clients → (id : ℕ) (group : Group) → group_at e.world id ≡ Some group → (place : ℕ) → place < length group.members
+      → (shelf : ShelfState) × (shelf_at (moment e count) (server_of group.members place) ≡ Some shelf)
+  exist count c some most id group is place below_ =
+      let end = length e.events in
+      let same : moment e end ≡ e.world = at_end e.events (start_world any_start e.script) e.world run in
+      let f = tokens.front below.nodes.tokens e ok run end 0 (omega arith) in
+      let l = (good_at end).logs c some most in
+      let s = members_exist base e.world (moment e end) setup.servers c k f.0 l.0 (did e c end) l.1 f.1.0.registry f.1.1.placed.registry id group
+      (ap (λ w. group_at w id) same ∙ is) place below_ in
+      shelf_there count (server_of group.members place) s.0 s.1
+
+  pub logs_stand : LogsStand e
+  logs_stand count c some most =
+      let l = (good_at count).logs c some most in
+      let f = tokens.front below.nodes.tokens e ok run count 0 (omega arith) in
+      record {
+        whole = λ name is kept. is_whole base e.world (moment e count) setup.servers c k f.0 l.0 (did e c count) l.1 below.whole (exist count c some most) name is kept;
+        one_text = λ name of. has_text base e.world (moment e count) setup.servers c k f.0 l.0 (did e c count) l.1 below.text name of;
+      }

@@ -1,0 +1,17 @@
+pub mod Lists
+pub mod Managers
+pub mod ManagerTables
+pub mod ManagerLogs
+pub mod Standing
+pub mod Frames
+pub mod Turns
+pub mod StoreTurns
+pub mod ClientTurns
+pub mod Groups
+pub mod Settings
+pub mod Says
+pub mod Start
+pub mod Events
+pub mod Fronts
+pub mod Reading
+pub mod Laws

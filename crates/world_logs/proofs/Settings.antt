@@ -1,0 +1,51 @@
+-- The setting of a client's log: its group ids name the stripes that the registry has at the end of the run.
+use Rattle.std.proofs.Common.{◌≡◌, ◌^◌, ℕ, ◌+◌, ◌==◌, ◌<◌, ◌≤◌, true, List, [], ◌∷◌, Option, None, Some, length, unwrap_or, refl, sym, ap, subst, ◌∙◌, arith}
+use Rattle.std.specs.Prelude.{find}
+use Rattle.client_log_tie.specs.Texts.{MapFits}
+use Rattle.core_world.specs.declared.any_node.AnyNode.{AnyNode}
+use Rattle.group_map.specs.declared.group.Group.{Group}
+use Rattle.group_map.specs.GroupMapState.{GroupMapState}
+use Rattle.group_map.specs.WellFormed.{IsGroupMap, IsNumbered}
+use Rattle.log_tie.specs.Setting.{Setting, Stripe, stripe_of_group}
+use Rattle.node_log_tie.proofs.WholeMaps.{Chosen, the_chosen}
+use Rattle.world_base.specs.declared.world.World.{World}
+use Rattle.world_logs.proofs.Groups.{Names}
+use Rattle.world_logs.specs.Shelves.{group_at}
+use Rattle.xfs_base.proofs.Booleans.{by_test}
+
+-- no stripe where there is no group
+abbrev pub stripe_by : Option Group → Stripe
+stripe_by None = record { members = []; parity = 0 }
+stripe_by (Some group) = stripe_of_group group
+
+module _ (base : Setting) (end : World AnyNode) (servers : ℕ) where
+  abbrev pub setting_of : ℕ → Setting
+  setting_of c = record base { log = record { 0 = c }; servers = servers; doubts = true; stripe = λ id. stripe_by (group_at end id) }
+
+  pub names_at_end : (o : Option Group) (stripe : Stripe) → Names o stripe → stripe_by o ≡ stripe
+  names_at_end o stripe n = ap stripe_by n.is ∙ n.stripe_is
+
+  -- a stripe with a member is the one of a group
+  pub striped : (o : Option Group) → 0 < length (stripe_by o).members → (group : Group) × (o ≡ Some group)
+  striped None some = absurd (let s = some in omega arith)
+  striped (Some group) some = (group, refl)
+
+-- ---- ids are small
+
+numbered_below : (first id : ℕ) (gs : List Group) (group : Group) → IsNumbered first gs → find (λ (g : Group). g.id == id) gs ≡ Some group
+    → group.id < first + length gs
+numbered_below first id [] group numbered is = absurd cc
+numbered_below first id (g ∷ gs) group numbered is = by_test (λ (o : Option Group). o ≡ Some group → group.id < first + length (g ∷ gs)) (g.id == id) (Some g) (find (λ (x : Group). x.id == id) gs)
+    (λ t e. let same : g.id ≡ group.id = ap (λ (o : Option Group). (unwrap_or o g).id) e in let n = numbered.0 in omega arith)
+    (λ t e. let below = numbered_below (first + 1) id gs group numbered.1 e in omega arith) is
+
+-- the ids of the groups of a map fit their range
+pub map_fits : (m : GroupMapState) → IsGroupMap m → MapFits m
+map_fits m ok log seq =
+    let c : Chosen m ok log seq = the_chosen m ok log seq in
+    let below = numbered_below 1 c.group.id m.groups c.group ok.by_id c.found in
+    let few = ok.few in
+    subst (λ (g : Group). g.id < 2 ^ 32) (sym c.is) (small c.group.id (length m.groups) below few)
+  where
+    small : (id count : ℕ) → id < 1 + count → count ≤ 4294967295 → id < 2 ^ 32
+    small id count below few = omega arith

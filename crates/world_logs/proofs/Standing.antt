@@ -1,0 +1,90 @@
+-- How a moment of a run stands to a moment of the small world of one client's log: each node is seen there, and what was sent, filed and deleted is so there.
+use Rattle.std.proofs.Common.{◌≡◌, ℕ, List, Some}
+use Rattle.client_log_tie.specs.ClientEvents.{PhaseWritten}
+use Rattle.client_log_tie.specs.Owner.{Scene, ClientAgrees, asker}
+use Rattle.client_node.specs.declared.phase.Phase.{Phase}
+use Rattle.core_world.specs.declared.any_node.AnyNode.{AnyNode}
+use Rattle.core_world.specs.declared.any_node.AnyNode.TheVariants as any
+use Rattle.log_law.specs.Laws.{Moment}
+use Rattle.log_protocol.specs.Tables as tables
+use Rattle.log_tie.specs.Setting.{Setting}
+use Rattle.node_log_tie.specs.CleanerEvents.{CleanerSeen}
+use Rattle.node_log_tie.specs.RegistryEvents.{RegistrySeen}
+use Rattle.node_log_tie.specs.ServerEvents.{ServerSeen}
+use Rattle.node_log_tie.specs.Sight.{PacketSeen}
+use Rattle.token_protocol.specs.Basics.{In}
+use Rattle.version_model.specs.declared.act.Act.{Act}
+use Rattle.version_model.specs.declared.act.Act.TheVariants as act
+use Rattle.wire_msg.specs.declared.body.Body.TheVariants as body
+use Rattle.wire_msg.specs.declared.packet.Packet.{Packet}
+use Rattle.world_base.specs.Cluster.{place_of}
+use Rattle.world_base.specs.declared.cluster.Cluster.{Cluster}
+use Rattle.world_law.specs.Owners.{node_in}
+use Rattle.world_logs.proofs.Managers.{WritesItsLog}
+use Rattle.xfs_base.specs.declared.node.NodeId.{NodeId}
+use Rattle.xfs_base.specs.declared.node.NodeId.TheVariants.{Client, Manager, Server, Cleaner, Registry}
+use Rattle.xfs_base.specs.declared.segment.SegName.{SegName}
+
+-- a Delete of the segment is among these
+abbrev pub Deletes : SegName → List Packet → Type 0
+Deletes name packets = (p : Packet) × In p packets × (p.body ≡ body.Delete (record { name = name }))
+
+module _ (g : Setting) (c : ℕ) (w : Scene) where
+  -- the log's owner
+  pub record OwnerSeen (p : Phase) : Type 0 where
+    pub agrees : ClientAgrees g c w p
+    pub written : PhaseWritten p
+
+  -- ---- a node of this name
+
+  abbrev pub ClientThere : ℕ → AnyNode → Type 0
+  ClientThere d (any.Client node) = d ≡ c → OwnerSeen node.phase
+  ClientThere d (any.Manager node) = ⊥
+  ClientThere d (any.Server node) = ⊥
+  ClientThere d (any.Cleaner node) = ⊥
+  ClientThere d (any.Registry node) = ⊥
+
+  abbrev pub ManagerThere : AnyNode → Type 0
+  ManagerThere (any.Client node) = ⊥
+  ManagerThere (any.Manager node) = WritesItsLog node.phase
+  ManagerThere (any.Server node) = ⊥
+  ManagerThere (any.Cleaner node) = ⊥
+  ManagerThere (any.Registry node) = ⊥
+
+  abbrev pub ServerThere : ℕ → AnyNode → Type 0
+  ServerThere v (any.Client node) = ⊥
+  ServerThere v (any.Manager node) = ⊥
+  ServerThere v (any.Server node) = ServerSeen g w.net v node
+  ServerThere v (any.Cleaner node) = ⊥
+  ServerThere v (any.Registry node) = ⊥
+
+  abbrev pub CleanerThere : AnyNode → Type 0
+  CleanerThere (any.Client node) = ⊥
+  CleanerThere (any.Manager node) = ⊥
+  CleanerThere (any.Server node) = ⊥
+  CleanerThere (any.Cleaner node) = CleanerSeen g w.net node.phase
+  CleanerThere (any.Registry node) = ⊥
+
+  abbrev pub RegistryThere : AnyNode → Type 0
+  RegistryThere (any.Client node) = ⊥
+  RegistryThere (any.Manager node) = ⊥
+  RegistryThere (any.Server node) = ⊥
+  RegistryThere (any.Cleaner node) = ⊥
+  RegistryThere (any.Registry node) = RegistrySeen g w.net node.board
+
+  abbrev pub Seen : NodeId → AnyNode → Type 0
+  Seen (Client d) x = ClientThere d x
+  Seen (Manager j) x = ManagerThere x
+  Seen (Server v) x = ServerThere v x
+  Seen Cleaner x = CleanerThere x
+  Seen Registry x = RegistryThere x
+
+  -- ---- the moment; `told` is what the owner did
+
+  module _ (k : Cluster) (nodes : List AnyNode) (sent : List Packet) (told : List Act) where
+    pub record Stands : Type 0 where
+      pub moment : Moment g w.net
+      pub seen : (name : NodeId) (x : AnyNode) → node_in nodes (place_of k name) ≡ Some x → Seen name x
+      pub facts : (p : Packet) → In p sent → PacketSeen g (asker c w) w.net p
+      pub filed : (name : SegName) → In (act.Filed name) told → tables.In name w.net.filed
+      pub deleted : (name : SegName) → tables.In name w.net.dropped → Deletes name sent

@@ -1,0 +1,4 @@
+pub mod Doings
+pub mod Shelves
+pub mod Logs
+pub mod Owed

@@ -1,0 +1,39 @@
+//! The laws of every run of the nodes' world about the logs of clients: what was told to be filed is whole, and one name has one text. It has no code of the
+//! product: each function below calls the laws that it stands on, and its contract is a law. The proof carries, for each client, a run of the small world of its
+//! log (`log_law`) beside the run of the nodes; `proofs/Standing.antt` says how the two stand to each other.
+#![tactic(auto)]
+
+ghost use Rattle.world_logs.specs.Logs.{RunsKeepLogs};
+
+use client_log_tie::client_log_events_are_seen;
+use group_map::laws::groups_stay_as_made;
+use log_law::{logs_stay_whole, one_name_one_text};
+use log_tie::settings_exist;
+use node_log_tie::{cleaner_events_are_seen, registry_events_are_seen, server_events_are_seen};
+use node_tie::{
+    client_events_are_seen, clients_ask_for_their_call, manager_events_are_seen,
+    other_events_are_seen,
+};
+
+/// In every run, whatever messages are lost, repeated or reordered and whichever nodes stop, logs are whole at each of its moments (the 1996 paper, on RAID):
+/// of each segment that a client told to be filed, and of which no Delete was sent, each member of its group holds its fragment, or its server has lost its disk
+/// since the group was made; and whatever is held, stored or sent under a name of a client's log is a fragment of one segment, the same for all of that name.
+///
+/// - `keeps`: so it is of every run of a script of whose setup a run can be started, in which no horizon is kept beyond what was filed and no client opens its
+///   log again. That the first holds of each run, and that the second isn't needed, is open.
+pub fn runs_keep_logs()
+    ensures keeps { RunsKeepLogs }
+{
+    clients_ask_for_their_call();
+    client_events_are_seen();
+    manager_events_are_seen();
+    other_events_are_seen();
+    client_log_events_are_seen();
+    server_events_are_seen();
+    registry_events_are_seen();
+    cleaner_events_are_seen();
+    groups_stay_as_made();
+    settings_exist();
+    logs_stay_whole();
+    one_name_one_text();
+}
