@@ -1,0 +1,15 @@
+pub mod Lists
+mod Leaving
+mod LogNumbers
+mod Bounding
+mod Taking
+mod Slots
+mod SlotPhases
+mod Tables
+mod Checkpointing
+mod Serving
+mod Managers
+mod Weakening
+mod Filing
+mod Floors
+mod Registries

@@ -3,3 +3,7 @@ pub mod OpeningReach
 pub mod ClientReach
 pub mod CleanerReach
 pub mod ServerReach
+pub mod Bounds
+pub mod ManagerReach
+pub mod ManagerFloor
+pub mod RegistryReach

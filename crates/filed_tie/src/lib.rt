@@ -4,6 +4,9 @@
 
 ghost use Rattle.filed_tie.specs.CleanerReach.{CleanerStartsReaching, CleanerTellsFiled};
 ghost use Rattle.filed_tie.specs.ClientReach.{ClientStartsReaching, ClientsTellFiled};
+ghost use Rattle.filed_tie.specs.ManagerFloor.{ManagerStartsAbove, ManagersStayAbove};
+ghost use Rattle.filed_tie.specs.ManagerReach.{ManagerStartsReaching, ManagersTellFiled};
+ghost use Rattle.filed_tie.specs.RegistryReach.{RegistryStartsReaching, RegistryTellsFiled};
 ghost use Rattle.filed_tie.specs.ServerReach.{ServersTellFiled};
 
 /// What a client tells of its log was filed.
@@ -29,4 +32,35 @@ pub fn cleaner_tells_what_is_filed()
 /// A storage server tells nothing of what was filed.
 pub fn servers_tell_what_is_filed()
     ensures { ServersTellFiled }
+{}
+
+/// What a manager has applied of logs, and what its checkpoints cover, was filed.
+///
+/// - `start`: a manager at its start holds nothing that wasn't.
+/// - `events`: where what a manager holds, and what the packet that comes tells, was filed before an event, what it holds then, and what each packet that it
+///   sends tells, was filed before the event or in it: no horizon is more than one beyond the last segment that was filed of its log.
+pub fn managers_tell_what_is_filed()
+    ensures start { ManagerStartsReaching }
+    ensures events { ManagersTellFiled }
+{}
+
+/// What the registry keeps of checkpoints, and what its maps tell of them, was filed.
+///
+/// - `start`: at the start of a run it keeps no horizon above 1.
+/// - `events`: where the horizons that the registry keeps, and those of a checkpoint of which it is told, are no more than one beyond what was filed before an
+///   event, those that it keeps then, and those of the maps that it sends, are no more than one beyond what was filed before the event or in it.
+pub fn registry_tells_what_is_filed()
+    ensures start { RegistryStartsReaching }
+    ensures events { RegistryTellsFiled }
+{}
+
+/// What a manager has applied of logs never falls below the horizons that it was told: from the checkpoint on with which it took a slot over, nothing of a log
+/// is missing.
+///
+/// - `start`: a manager at its start has epoch 1 of its slots, with nothing applied, where no horizon of epoch 1 is above 1.
+/// - `events`: where what a manager has applied of a slot in an epoch, and each horizon of a slot and an epoch in the packet that comes, is above the floor of
+///   that slot and epoch, so is what it has applied after the event, and each horizon that it tells.
+pub fn managers_stay_above_their_floor()
+    ensures start { ManagerStartsAbove }
+    ensures events { ManagersStayAbove }
 {}

@@ -1,0 +1,8 @@
+use Rattle.filed_tie.proofs.Filing.{managers_start, managers_tell}
+use Rattle.filed_tie.proofs.managers_tell_what_is_filed.Goals as goal
+
+pub returns : goal.returns
+returns c = record {
+  start = managers_start;
+  events = managers_tell;
+}
