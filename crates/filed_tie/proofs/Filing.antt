@@ -1,4 +1,4 @@
--- That nothing is held and told but what was filed is a bound to which managers keep.
+-- That nothing is held and told but what was filed is a bound to which managers and the registry keep.
 use Rattle.std.proofs.Common.{◌≡◌, ℕ, zero, suc, ◌-◌, ◌==◌, ◌≤◌, ◌&&◌, max, min, Bool, true, false, List, [], ◌∷◌, refl, sym, ap, subst, arith}
 use Rattle.std.specs.Prelude.{Option, Some, None, nat_le}
 use Rattle.std.specs.List.{AllByRecursion}
@@ -13,6 +13,8 @@ use Rattle.manager_node.specs.Phases.{lasting_of}
 use Rattle.manager_node.specs.Serving.{fed_log}
 use Rattle.manager_node.specs.SlotTable.{next_of, horizon_of}
 use Rattle.node_base.specs.Effects.{packets_of}
+use Rattle.registry.specs.Checkpoints.{horizon_at as horizon_kept}
+use Rattle.store_nodes.specs.RegistryEvents.{takes as registry_takes}
 use Rattle.takeover.specs.declared.report.Report.{Report}
 use Rattle.takeover.specs.Reports.{same_node, writer_of, no_end, end_from, end_of, horizon_at, applied_at, applied_of as applied_from}
 use Rattle.token_manager.specs.Recalls.{applied_of}
@@ -31,11 +33,13 @@ use Rattle.xfs_base.specs.declared.segment.LogId.{LogId}
 use Rattle.xfs_base.specs.Nodes.{node_cmp}
 use Rattle.filed_tie.specs.Bounds.{ReportBounded, KnownBounded, BodyBounded, PacketBounded, DoBounded}
 use Rattle.filed_tie.specs.ManagerReach.{filed, ManagerStartsReaching, ManagersTellFiled}
+use Rattle.filed_tie.specs.RegistryReach.{RegistryReaches, RegistryStartsReaching, RegistryTellsFiled}
 use Rattle.filed_tie.specs.Reach.{Reach, Rises, AppliedReaches, HorizonReaches, LogReaches, BodyTells, PacketTells, DoTells}
 use Rattle.filed_tie.proofs.Bounding.{Bounding, packets_bounded}
 use Rattle.filed_tie.proofs.Lists.{all_weaker}
 use Rattle.filed_tie.proofs.LogNumbers.{number_at, number_put, numbers_of, applied_later, horizon_later, log_later}
 use Rattle.filed_tie.proofs.Managers.{first_bounded, manager_goes}
+use Rattle.filed_tie.proofs.Registries.{first_registry, registry_goes}
 use Rattle.filed_tie.proofs.Weakening.{Weaker, phase_weaker, do_weaker}
 
 -- ---- who writes a log
@@ -154,4 +158,17 @@ managers_tell reach later m what rises h told acts =
     record {
       node = d.state;
       packets = packets_tell later (packets_of node (happens m what).outs) (packets_bounded (filed later) node (happens m what).outs d.outs);
+    }
+
+pub registry_starts : RegistryStartsReaching
+registry_starts reach setup works =
+    first_registry (filed reach) setup works (λ slot. numbers_of (λ log. suc (reach log)) (λ log. 1) (λ log from_one. omega arith))
+
+pub registry_tells : RegistryTellsFiled
+registry_tells reach later node what rises h told acts =
+    let before : RegistryReaches later node = λ slot within. horizon_later reach later rises (horizon_kept node.board.checkpoints slot) (h slot within) in
+    let d = registry_goes (filed later) node what before (do_later reach later rises what told) (λ slot within other. before slot within) in
+    record {
+      node = d.state;
+      packets = packets_tell later (packets_of Registry (registry_takes node what).outs) (packets_bounded (filed later) Registry (registry_takes node what).outs d.outs);
     }

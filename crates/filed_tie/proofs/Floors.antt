@@ -1,5 +1,5 @@
--- That no log is applied less far than a horizon covered is a bound to which managers keep.
-use Rattle.std.proofs.Common.{◌≡◌, ℕ, zero, suc, ◌+◌, ◌-◌, ◌≤◌, ◌&&◌, max, min, true, List, map, get_or, sym, subst, arith}
+-- That no log is applied or covered less far than where an epoch began is a bound to which managers and the registry keep.
+use Rattle.std.proofs.Common.{◌≡◌, ℕ, zero, suc, ◌+◌, ◌-◌, ◌≤◌, ◌&&◌, max, min, true, List, map, replicate, get_or, sym, subst, arith}
 use Rattle.std.specs.Prelude.{slice_index, nat_le, nat_lt}
 use Rattle.std.specs.List.{range_with_len}
 use Rattle.std.proofs.lemmas.Bool.Decides.{nat_tests}
@@ -7,6 +7,7 @@ use Rattle.std.proofs.lemmas.List.FromFn.{get_or-map-range_with_len}
 use Rattle.manager_node.specs.Events.{happens}
 use Rattle.manager_node.specs.Phases.{lasting_of}
 use Rattle.manager_node.specs.SlotTable.{next_of, horizon_of}
+use Rattle.store_nodes.specs.RegistryEvents.{takes as registry_takes}
 use Rattle.takeover.specs.declared.report.Report.{Report}
 use Rattle.takeover.specs.Reports.{end_of, horizon_at, applied_at, applied_of as applied_from}
 use Rattle.token_manager.specs.Recalls.{applied_of}
@@ -14,13 +15,14 @@ use Rattle.token_manager.specs.SlotState.{SlotState}
 use Rattle.token_manager.specs.Transition.{applied_upto, joins_on}
 use Rattle.xfs_base.proofs.Booleans.{and_second}
 use Rattle.xfs_base.specs.declared.node.NodeId.{NodeId}
-use Rattle.xfs_base.specs.declared.node.NodeId.TheVariants.{Manager as AManager}
+use Rattle.xfs_base.specs.declared.node.NodeId.TheVariants.{Manager as AManager, Registry}
 use Rattle.xfs_base.specs.declared.segment.LogId.{LogId}
 use Rattle.filed_tie.specs.Bounds.{KnownBounded}
-use Rattle.filed_tie.specs.ManagerFloor.{Floor, above, ManagerStartsAbove, ManagersStayAbove}
+use Rattle.filed_tie.specs.Floor.{Floor, least, above, ManagerStartsAbove, ManagersStayAbove, RegistryStartsAbove, RegistryKeepsAbove}
 use Rattle.filed_tie.proofs.Bounding.{Bounding, packets_bounded}
 use Rattle.filed_tie.proofs.LogNumbers.{not_below}
 use Rattle.filed_tie.proofs.Managers.{first_bounded, manager_goes}
+use Rattle.filed_tie.proofs.Registries.{first_registry, registry_goes}
 
 -- the number of a log, where each of the nine has its own
 number_is : (number : ℕ → ℕ) (log : ℕ) → 1 ≤ log → log ≤ 9 → slice_index (map number (range_with_len 1 9)) (log - 1) ≡ number log
@@ -68,3 +70,17 @@ managers_stay_above floor m what h told =
     let node : NodeId = AManager (lasting_of m.phase).number in
     let d = manager_goes (above floor) (keeping floor) node m what h told in
     record { node = d.state; packets = packets_bounded (above floor) node (happens m what).outs d.outs }
+
+pub registry_starts_above : RegistryStartsAbove
+registry_starts_above floor setup works low = first_registry (above floor) setup works one
+  where
+    one : (slot log : ℕ) → 1 ≤ log → log ≤ 9 → least floor slot 1 log ≤ horizon_at (replicate 9 1) log
+    one slot log from_one to_nine =
+        let is : horizon_at (replicate 9 1) log ≡ 1 = number_is (λ k. 1) log from_one to_nine in
+        let l = low slot log in
+        omega arith
+
+pub registry_keeps_above : RegistryKeepsAbove
+registry_keeps_above floor node what h told new =
+    let d = registry_goes (above floor) node what h told new in
+    record { node = d.state; packets = packets_bounded (above floor) Registry (registry_takes node what).outs d.outs }

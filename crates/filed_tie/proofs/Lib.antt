@@ -10,6 +10,6 @@ mod Checkpointing
 mod Serving
 mod Managers
 mod Weakening
+mod Registries
 mod Filing
 mod Floors
-mod Registries

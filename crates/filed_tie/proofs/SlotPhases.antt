@@ -47,7 +47,6 @@ use Rattle.filed_tie.proofs.Slots.{InputBounded as SlotInBounded, slot_goes}
 use Rattle.filed_tie.proofs.Taking.{InputBounded as TakeInBounded, OutBounded, take_goes}
 
 module _ (b : Bounds) (laws : Bounding b) (node : NodeId) (k : ℕ) where
-
   -- ---- a slot that is managed takes an input
 
   abbrev pub Goes : Stepped SlotPhase Effect → Type 0

@@ -1,5 +1,5 @@
--- Where a manager has numbers of the logs of the clients and of the cleaner, and what is to hold of them.
-use Rattle.std.specs.Prelude.{◌≡◌, ℕ, zero, suc, true, List, [], ◌∷◌, Option, Some, IfSome, All}
+-- Where managers and the registry have numbers of the logs of the clients and of the cleaner, and what is to hold of them.
+use Rattle.std.specs.Prelude.{◌≢◌, ◌<◌, ℕ, suc, List, [], ◌∷◌, Option, IfSome}
 use Rattle.std.specs.List.{AllByRecursion}
 use Rattle.checkpoint.specs.WriterState.{WorkState, WriterState}
 use Rattle.manager_node.specs.declared.checkpointing.Checkpointing.{Checkpointing}
@@ -9,8 +9,10 @@ use Rattle.manager_node.specs.declared.phase.Phase.TheVariants.{Down, Waiting, S
 use Rattle.manager_node.specs.declared.serving.Serving.{Serving}
 use Rattle.manager_node.specs.declared.slot_phase.SlotPhase.{SlotPhase}
 use Rattle.manager_node.specs.declared.slot_phase.SlotPhase.TheVariants as phase
-use Rattle.manager_node.specs.Events.{manager_step}
 use Rattle.manager_node.specs.Serving.{fed_log}
+use Rattle.registry.specs.Checkpoints.{horizon_at}
+use Rattle.registry.specs.Slots.{entry_of}
+use Rattle.store_nodes.specs.declared.registry_node.RegistryNode.{RegistryNode}
 use Rattle.takeover.specs.declared.report.Report.{Report}
 use Rattle.takeover.specs.TakeState.{TakeState}
 use Rattle.wire_msg.specs.declared.body.Body.{Body}
@@ -84,6 +86,18 @@ PhaseBounded b (Serves s) = ServingBounded b s
 
 abbrev pub ManagerBounded : Bounds → Manager → Type 0
 ManagerBounded b manager = PhaseBounded b manager.phase
+
+-- ---- the registry
+
+-- the checkpoint that is kept of each slot, in the epoch that the slot has
+abbrev pub RegistryBounded : Bounds → RegistryNode → Type 0
+RegistryBounded b node = (slot : ℕ) → slot < 8 → b.horizon slot (entry_of node.board.entries slot).epoch (horizon_at node.board.checkpoints slot)
+
+-- where a slot gets another epoch, the checkpoint that was kept of it before
+abbrev pub NewEpochsBounded : Bounds → RegistryNode → RegistryNode → Type 0
+NewEpochsBounded b before node =
+    (slot : ℕ) → slot < 8 → (entry_of node.board.entries slot).epoch ≢ (entry_of before.board.entries slot).epoch
+    → b.horizon slot (entry_of node.board.entries slot).epoch (horizon_at before.board.checkpoints slot)
 
 -- ---- packets
 

@@ -5,5 +5,5 @@ pub mod CleanerReach
 pub mod ServerReach
 pub mod Bounds
 pub mod ManagerReach
-pub mod ManagerFloor
+pub mod Floor
 pub mod RegistryReach

@@ -1,19 +1,16 @@
 -- What the registry keeps of what was filed of the logs of the clients and of the cleaner.
 use Rattle.std.specs.Prelude.{List}
-use Rattle.std.specs.List.{AllByRecursion}
-use Rattle.registry.specs.declared.checkpoint.Checkpoint.{Checkpoint}
 use Rattle.store_nodes.specs.declared.registry_node.RegistryNode.{RegistryNode}
 use Rattle.store_nodes.specs.RegistryEvents.{registry_start, registry_step}
 use Rattle.version_model.specs.declared.work.Work.{Work}
 use Rattle.xfs_base.specs.declared.setup.Setup.{Setup}
-use Rattle.filed_tie.specs.Reach.{Reach, HorizonReaches, EventsTellFiled}
-
-abbrev pub CheckpointReaches : Reach → Checkpoint → Type 0
-CheckpointReaches reach checkpoint = HorizonReaches reach checkpoint.horizon
+use Rattle.filed_tie.specs.Bounds.{RegistryBounded}
+use Rattle.filed_tie.specs.ManagerReach.{filed}
+use Rattle.filed_tie.specs.Reach.{Reach, EventsTellFiled}
 
 -- the horizons of the slots' newest checkpoints are above nothing but what was filed
 abbrev pub RegistryReaches : Reach → RegistryNode → Type 0
-RegistryReaches reach node = AllByRecursion (CheckpointReaches reach) node.board.checkpoints
+RegistryReaches reach node = RegistryBounded (filed reach) node
 
 -- at the start of a run no checkpoint covers anything
 abbrev pub RegistryStartsReaching : Type 0
