@@ -74,7 +74,8 @@ module _ (b : Bounds) (laws : Bounding b) (node : NodeId) where
       by : (asked_ : Option ℕ) → Writes (writer.acked s asked_ epoch number)
       by None = record { state = before; outs = tt }
       by (Some own) =
-          by_test Writes (not (number == s.number) || nat_lt epoch own) (still s) (record { state = record s { asked = None }; outs = writer.answer own epoch ∷ [] })
+          by_test Writes (not (number == s.number) || nat_lt epoch own) (still s)
+          (record { state = record s { asked = None }; outs = writer.answer own epoch ∷ [] })
           (λ _. record { state = before; outs = tt }) (λ _. record { state = before; outs = answer_on own })
 
   writer_goes : (s : WriterState) (given : WriterIn) → WriterBounded b s → WriterInBounded b laws node given → Writes (writer.transition s given)
@@ -117,7 +118,8 @@ module _ (b : Bounds) (laws : Bounding b) (node : NodeId) where
   says_on : (s : Serving) (o : Out) → ServingBounded b s → OutBounded o → Goes (says s o)
   unfolding says
   says_on s (out.Parts items) h told = parts_on s items h
-  says_on s (out.Done slot epoch parts horizon) h told = registers_on (asked s) _ (record { slots = h.slots; writer = h.writer; checkpoint = h.checkpoint }) told
+  says_on s (out.Done slot epoch parts horizon) h told =
+      registers_on (asked s) _ (record { slots = h.slots; writer = h.writer; checkpoint = h.checkpoint }) told
   says_on s out.Kept h told = record { state = h; outs = tt }
   says_on s (out.Stale epoch) h told = record { state = h; outs = tt }
 
@@ -133,7 +135,8 @@ module _ (b : Bounds) (laws : Bounding b) (node : NodeId) where
   settles_on : (s : Serving) (end : End) → ServingBounded b s → Goes (on_settled s end)
   unfolding on_settled
   settles_on s end h =
-      goes_after (ServingBounded b) (EffectBounded b node) (filed s end) (writer_takes s (writer_in.Settled end)) (tt, tt) (writer_on s (writer_in.Settled end) h tt)
+      goes_after (ServingBounded b) (EffectBounded b node) (filed s end) (writer_takes s (writer_in.Settled end)) (tt, tt)
+      (writer_on s (writer_in.Settled end) h tt)
 
   log_says_on : (s : Serving) (o : LogOut) → ServingBounded b s → Unit {0} → Goes (log_says s o)
   unfolding log_says
@@ -147,7 +150,8 @@ module _ (b : Bounds) (laws : Bounding b) (node : NodeId) where
   unfolding writes log_says_each
   writes_on s given h =
       leaves_each (ServingBounded b) (EffectBounded b node) Any log_says log_says_on (record s { log = (log.transition s.log given).state })
-      (log.transition s.log given).outs (record { slots = h.slots; writer = h.writer; checkpoint = h.checkpoint }) (all_each Any (λ o. tt) (log.transition s.log given).outs)
+      (log.transition s.log given).outs (record { slots = h.slots; writer = h.writer; checkpoint = h.checkpoint })
+      (all_each Any (λ o. tt) (log.transition s.log given).outs)
 
   pub stored_on : (s : Serving) (stored_ : Stored) → ServingBounded b s → Goes (on_stored s stored_)
   stored_on s stored_ h = writes_on s (log_input.Acked stored_.name stored_.index stored_.generation) h
@@ -168,7 +172,8 @@ module _ (b : Bounds) (laws : Bounding b) (node : NodeId) where
   unfolding begins_slot
   begins_on s slot h =
       writes_slot-on (record s { slots = cleaned_at s.slots slot }) (begin_at s.slots slot)
-      (record { slots = table_cleaned b laws node s.slots slot h.slots; writer = h.writer; checkpoint = h.checkpoint }) (begin_bounded b laws node s.slots slot h.slots)
+      (record { slots = table_cleaned b laws node s.slots slot h.slots; writer = h.writer; checkpoint = h.checkpoint })
+      (begin_bounded b laws node s.slots slot h.slots)
 
   next_on : (s : Serving) → ServingBounded b s → Goes (next_slot s)
   unfolding next_slot
@@ -177,7 +182,8 @@ module _ (b : Bounds) (laws : Bounding b) (node : NodeId) where
       by_slot : (job : Checkpointing) → IfSome job.done (DoneBounded b) → (o : Option ℕ) → Goes (next_from s job o)
       by_slot job told None = no_more-on s job h
       by_slot job told (Some slot) =
-          begins_on (record s { checkpoint = Some (record job { next = slot_after slot }) }) slot (record { slots = h.slots; writer = h.writer; checkpoint = told })
+          begins_on (record s { checkpoint = Some (record job { next = slot_after slot }) }) slot
+          (record { slots = h.slots; writer = h.writer; checkpoint = told })
 
       by : (checkpoint : Option Checkpointing) → JobBounded b checkpoint → Goes (next_for s checkpoint)
       by None told = record { state = h; outs = tt }
@@ -188,7 +194,8 @@ module _ (b : Bounds) (laws : Bounding b) (node : NodeId) where
   pub checkpoint_on : (s : Serving) (number : ℕ) → ServingBounded b s → Goes (on_checkpoint s number)
   unfolding on_checkpoint
   checkpoint_on s number h =
-      by_test Goes (is_some s.lasting.items.unanswered) (gives s (Answers number answer.Busy ∷ [])) (next_slot (waits s number)) (λ _. record { state = h; outs = (tt, tt) })
+      by_test Goes (is_some s.lasting.items.unanswered) (gives s (Answers number answer.Busy ∷ [])) (next_slot (waits s number))
+      (λ _. record { state = h; outs = (tt, tt) })
       (λ _. next_on (waits s number) (record { slots = h.slots; writer = h.writer; checkpoint = tt }))
 
   counted_bounded : (checkpoint : Option Checkpointing) (o : Out) → JobBounded b checkpoint → JobBounded b (counted checkpoint o)
@@ -208,7 +215,8 @@ module _ (b : Bounds) (laws : Bounding b) (node : NodeId) where
 
   answered_on : (s : Serving) (r : Stepped WriterState Out) → ServingBounded b s → WriterBounded b r.state → Goes (answered_by s r)
   answered_on s r h left =
-      by_test Goes (length r.outs == 0) (still (record s { writer = r.state })) (next_slot (record s { writer = r.state; checkpoint = fold counted s.checkpoint r.outs }))
+      by_test Goes (length r.outs == 0) (still (record s { writer = r.state }))
+      (next_slot (record s { writer = r.state; checkpoint = fold counted s.checkpoint r.outs }))
       (λ _. record { state = record { slots = h.slots; writer = left; checkpoint = h.checkpoint }; outs = tt })
       (λ _. next_on (record s { writer = r.state; checkpoint = fold counted s.checkpoint r.outs })
       (record { slots = h.slots; writer = left; checkpoint = all_counted s.checkpoint r.outs h.checkpoint }))
@@ -217,7 +225,8 @@ module _ (b : Bounds) (laws : Bounding b) (node : NodeId) where
   unfolding on_ckpt_ack
   acks_on s ack h =
       by_test Goes (awaits s.checkpoint ack.ask) (answered_by s (writer.transition s.writer (writer_in.Ack ack.epoch s.dones))) (still s)
-      (λ _. answered_on s (writer.transition s.writer (writer_in.Ack ack.epoch s.dones)) h (let d = writer_goes s.writer (writer_in.Ack ack.epoch s.dones) h.writer tt in d.state))
+      (λ _. answered_on s (writer.transition s.writer (writer_in.Ack ack.epoch s.dones)) h
+      (let d = writer_goes s.writer (writer_in.Ack ack.epoch s.dones) h.writer tt in d.state))
       (λ _. record { state = h; outs = tt })
 
   pub tells_on : (s : Serving) → ServingBounded b s → Goes (tells_again s)

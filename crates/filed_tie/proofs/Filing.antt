@@ -65,7 +65,8 @@ module _ (reach : Reach) where
   nothing_reaches (Some log) = omega arith
 
   -- the end that a node reported, or none
-  end_from-reaches : (node : NodeId) (reports : List Report) → AllByRecursion (ReportBounded (filed reach)) reports → LogReaches reach (fed_log node) (end_from node reports).seq
+  end_from-reaches : (node : NodeId) (reports : List Report) → AllByRecursion (ReportBounded (filed reach)) reports
+      → LogReaches reach (fed_log node) (end_from node reports).seq
   end_from-reaches node [] all = nothing_reaches (fed_log node)
   end_from-reaches node (r ∷ reports) all =
       by_test (λ (end : End). LogReaches reach (fed_log node) end.seq) (same_node r.from node) r.end (end_from node reports)
@@ -168,7 +169,5 @@ pub registry_tells : RegistryTellsFiled
 registry_tells reach later node what rises h told acts =
     let before : RegistryReaches later node = λ slot within. horizon_later reach later rises (horizon_kept node.board.checkpoints slot) (h slot within) in
     let d = registry_goes (filed later) node what before (do_later reach later rises what told) (λ slot within other. before slot within) in
-    record {
-      node = d.state;
-      packets = packets_tell later (packets_of Registry (registry_takes node what).outs) (packets_bounded (filed later) Registry (registry_takes node what).outs d.outs);
-    }
+    let outs = (registry_takes node what).outs in
+    record { node = d.state; packets = packets_tell later (packets_of Registry outs) (packets_bounded (filed later) Registry outs d.outs) }

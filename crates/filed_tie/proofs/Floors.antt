@@ -46,7 +46,8 @@ module _ (floor : Floor) where
   merged_above : (slot epoch : ℕ) (applied : List ℕ) (log : LogId) (first upto : ℕ) → joins_on (applied_of applied log.0) first upto ≡ true
       → (above floor).applied slot epoch applied → (above floor).applied slot epoch (applied_upto applied log upto)
   merged_above slot epoch applied log first upto joins h other from_one to_nine =
-      let leads : nat_lt (applied_of applied log.0) upto ≡ true = and_second (nat_le first (applied_of applied log.0 + 1)) (nat_lt (applied_of applied log.0) upto) joins in
+      let leads : nat_lt (applied_of applied log.0) upto ≡ true =
+      and_second (nat_le first (applied_of applied log.0 + 1)) (nat_lt (applied_of applied log.0) upto) joins in
       let up : applied_of applied log.0 ≤ upto = grind (arith, nat_tests) in
       let kept = not_below applied (log.0 - 1) upto (other - 1) up in
       let before = h other from_one to_nine in

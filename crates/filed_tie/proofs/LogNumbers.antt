@@ -26,7 +26,8 @@ numbers_of most number upto =
     (at 0, (at 1, (at 2, (at 3, (at 4, (at 5, (at 6, (at 7, (at 8, tt)))))))))
 
 -- none is below itself, where one rises
-pub not_below : (numbers : List ℕ) (place new other : ℕ) → slice_index numbers place ≤ new → slice_index numbers other ≤ slice_index (slice_set numbers place new) other
+pub not_below : (numbers : List ℕ) (place new other : ℕ) → slice_index numbers place ≤ new
+    → slice_index numbers other ≤ slice_index (slice_set numbers place new) other
 not_below [] place new other up = omega arith
 not_below (n ∷ ns) zero new zero up = up
 not_below (n ∷ ns) zero new (suc other) up = omega arith

@@ -4,8 +4,6 @@ use Rattle.std.specs.Prelude.{Option, Some, None}
 use Rattle.std.specs.List.{AllByRecursion}
 use Rattle.manager_map.specs.Slots.{start_entries, entry_at}
 use Rattle.manager_node.specs.Checkpoints.{on_checkpoint}
-use Rattle.manager_node.specs.declared.beginning.Wish.{Wish}
-use Rattle.manager_node.specs.declared.beginning.Wish.TheVariants.{Crash, Restart, Checkpoint}
 use Rattle.manager_node.specs.declared.lasting.Lasting.{Lasting as Life}
 use Rattle.manager_node.specs.declared.manager.Manager.{Manager}
 use Rattle.manager_node.specs.declared.phase.Phase.{Phase}
@@ -13,11 +11,11 @@ use Rattle.manager_node.specs.declared.phase.Phase.TheVariants.{Down, Waiting, S
 use Rattle.manager_node.specs.declared.serving.Serving.{Serving}
 use Rattle.manager_node.specs.declared.slot_phase.SlotPhase.TheVariants as phase
 use Rattle.manager_node.specs.Events.{first_manager, takes_welcome, on_welcome, on_waiting, on_packet, on_deliver, on_time, on_event, happens, manager_step}
-use Rattle.manager_node.specs.Phases.{Went_to, lasting_of, phase_has_room, serves, crashes, restarts, wish_of, down_wish, waiting_wish, serving_wish, with_begun, down_item, waiting_item, serving_item, begin_down, begin_waiting, begin_serving, on_begin}
+use Rattle.manager_node.specs.Phases.{Went_to, lasting_of, phase_has_room, serves, crashes, restarts, wish_at, down_wish, waiting_wish, serving_wish, with_begun, down_item, waiting_item, serving_item, begin_down, begin_waiting, begin_serving, on_begin}
 use Rattle.manager_node.specs.Serving.{again, on_news, hears, on_tick}
 use Rattle.manager_node.specs.Slots.{first_active}
 use Rattle.manager_node.specs.SlotTable.{first_phase}
-use Rattle.node_base.specs.Beginning.{next_item, answers_unanswered}
+use Rattle.node_base.specs.Beginning.{next_item, work_at, answers_unanswered}
 use Rattle.node_base.specs.declared.effects.Effect.{Effect}
 use Rattle.node_base.specs.declared.effects.Effect.TheVariants.{Answer as Answers}
 use Rattle.node_base.specs.declared.peers.Peers.{Peers}
@@ -25,6 +23,7 @@ use Rattle.node_base.specs.Maps.{forgotten}
 use Rattle.node_base.specs.Shape.{is_well_formed}
 use Rattle.version_model.specs.declared.answer.Answer.TheVariants as answer
 use Rattle.version_model.specs.declared.work.Work.{Work}
+use Rattle.version_model.specs.declared.work.Work.TheVariants as work
 use Rattle.wire_msg.specs.declared.body.Body.{Body}
 use Rattle.wire_msg.specs.declared.body.Body.TheVariants as body
 use Rattle.wire_msg.specs.declared.packet.Do.{Do}
@@ -85,27 +84,27 @@ module _ (b : Bounds) (laws : Bounding b) (node : NodeId) where
   unfolding begin_down
   down_on life = by (next_item life.items)
     where
-      by_wish : (number : ℕ) (wish : Wish) → Goes (down_wish (with_begun life) number wish)
-      by_wish number Restart = restarts_on (with_begun life) number
-      by_wish number Crash = record { state = tt; outs = (tt, tt) }
-      by_wish number Checkpoint = record { state = tt; outs = (tt, tt) }
+      by_wish : (number : ℕ) (asked : Option Work) → Goes (down_wish (with_begun life) number (wish_at asked))
+      by_wish number None = record { state = tt; outs = (tt, tt) }
+      by_wish number (Some (work.Restart node)) = restarts_on (with_begun life) number
+      by_wish number (Some _) = record { state = tt; outs = (tt, tt) }
 
       by : (item : Option ℕ) → Goes (down_item (with_begun life) item)
       by None = record { state = tt; outs = tt }
-      by (Some number) = by_wish number (wish_of (with_begun life) number)
+      by (Some number) = by_wish number (work_at (with_begun life).items number)
 
   waiting_on : (life : Life) (hello : ℕ) → Goes (begin_waiting life hello)
   unfolding begin_waiting
   waiting_on life hello = by (next_item life.items)
     where
-      by_wish : (number : ℕ) (wish : Wish) → Goes (waiting_wish (with_begun life) hello number wish)
-      by_wish number Crash = crashes_on (with_begun life) number
-      by_wish number Restart = record { state = tt; outs = (tt, tt) }
-      by_wish number Checkpoint = record { state = tt; outs = (tt, tt) }
+      by_wish : (number : ℕ) (asked : Option Work) → Goes (waiting_wish (with_begun life) hello number (wish_at asked))
+      by_wish number None = record { state = tt; outs = (tt, tt) }
+      by_wish number (Some (work.Crash node)) = crashes_on (with_begun life) number
+      by_wish number (Some _) = record { state = tt; outs = (tt, tt) }
 
       by : (item : Option ℕ) → Goes (waiting_item (with_begun life) hello item)
       by None = record { state = tt; outs = tt }
-      by (Some number) = by_wish number (wish_of (with_begun life) number)
+      by (Some number) = by_wish number (work_at (with_begun life).items number)
 
   serving_on : (s : Serving) → ServingBounded b s → Goes (begin_serving s)
   unfolding begin_serving
@@ -114,14 +113,20 @@ module _ (b : Bounds) (laws : Bounding b) (node : NodeId) where
       kept : ServingBounded b (record s { lasting = with_begun s.lasting })
       kept = record { slots = h.slots; writer = h.writer; checkpoint = h.checkpoint }
 
-      by_wish : (number : ℕ) (wish : Wish) → Goes (serving_wish (record s { lasting = with_begun s.lasting }) number wish)
-      by_wish number Crash = crashes_on (with_begun s.lasting) number
-      by_wish number Restart = record { state = kept; outs = (tt, tt) }
-      by_wish number Checkpoint = let d = checkpoint_on b laws node (record s { lasting = with_begun s.lasting }) number kept in record { state = d.state; outs = d.outs }
+      checkpoint : (number : ℕ) → Goes (serves (on_checkpoint (record s { lasting = with_begun s.lasting }) number))
+      checkpoint number =
+          let d = checkpoint_on b laws node (record s { lasting = with_begun s.lasting }) number kept in
+          record { state = d.state; outs = d.outs }
+
+      by_wish : (number : ℕ) (asked : Option Work) → Goes (serving_wish (record s { lasting = with_begun s.lasting }) number (wish_at asked))
+      by_wish number None = checkpoint number
+      by_wish number (Some (work.Crash node)) = crashes_on (with_begun s.lasting) number
+      by_wish number (Some (work.Restart node)) = record { state = kept; outs = (tt, tt) }
+      by_wish number (Some _) = checkpoint number
 
       by : (item : Option ℕ) → Goes (serving_item (record s { lasting = with_begun s.lasting }) item)
       by None = record { state = kept; outs = tt }
-      by (Some number) = by_wish number (wish_of (with_begun s.lasting) number)
+      by (Some number) = by_wish number (work_at (with_begun s.lasting).items number)
 
   begins_on : (p : Phase) → PhaseBounded b p → Goes (on_begin p)
   begins_on (Down life) h = down_on life
@@ -134,13 +139,16 @@ module _ (b : Bounds) (laws : Bounding b) (node : NodeId) where
   again_bounded : (life : Life) (peers : Peers) (welcome : Welcome) → ServingBounded b (again life (forgotten peers.servers) welcome.news.groups)
   again_bounded life peers welcome = record { slots = (tt, (tt, (tt, (tt, (tt, (tt, (tt, (tt, tt)))))))); writer = tt; checkpoint = tt }
 
-  welcome_on : (peers : Peers) (life : Life) (hello : ℕ) (welcome : Welcome) → AllByRecursion (NewsBounded b) welcome.news.slots → Goes (on_welcome peers life hello welcome)
+  welcome_on : (peers : Peers) (life : Life) (hello : ℕ) (welcome : Welcome) → AllByRecursion (NewsBounded b) welcome.news.slots
+      → Goes (on_welcome peers life hello welcome)
   unfolding on_welcome
   welcome_on peers life hello welcome told =
-      by_test Goes (takes_welcome peers life hello welcome) (serves (on_news (again life (forgotten peers.servers) welcome.news.groups) peers.clients welcome.news))
+      by_test Goes (takes_welcome peers life hello welcome)
+      (serves (on_news (again life (forgotten peers.servers) welcome.news.groups) peers.clients welcome.news))
       (still (Waiting life hello))
       (λ _.
-      let d = news_on b laws node (again life (forgotten peers.servers) welcome.news.groups) peers.clients welcome.news (again_bounded life peers welcome) told in
+      let before = again_bounded life peers welcome in
+      let d = news_on b laws node (again life (forgotten peers.servers) welcome.news.groups) peers.clients welcome.news before told in
       record { state = d.state; outs = d.outs })
       (λ _. record { state = tt; outs = tt })
 
@@ -174,4 +182,5 @@ module _ (b : Bounds) (laws : Bounding b) (node : NodeId) where
   pub manager_goes : (m : Manager) (what : Do) → ManagerBounded b m → DoBounded b what → Goes (happens m what)
   unfolding happens
   manager_goes m what h told =
-      by_test Goes (phase_has_room m.phase) (on_event m.peers m.phase what) (still m.phase) (λ _. event_goes m.peers m.phase what h told) (λ _. unmoved m.phase h)
+      by_test Goes (phase_has_room m.phase) (on_event m.peers m.phase what) (still m.phase) (λ _. event_goes m.peers m.phase what h told)
+      (λ _. unmoved m.phase h)

@@ -41,8 +41,8 @@ use Rattle.filed_tie.proofs.Leaving.{Leaves}
 use Rattle.filed_tie.proofs.Lists.{all_append, all_map, all_flat_map}
 
 -- what holds of each slot's horizon goes on to where one slot has another checkpoint
-one_put : (P : ℕ → List ℕ → Type 0) (kept_ : List Checkpoint) (slot : ℕ) (new : Checkpoint) → P slot new.horizon → ((k : ℕ) → P k (horizon_at kept_ k)) → (k : ℕ)
-    → P k (horizon_at (slice_set kept_ slot new) k)
+one_put : (P : ℕ → List ℕ → Type 0) (kept_ : List Checkpoint) (slot : ℕ) (new : Checkpoint) → P slot new.horizon
+    → ((k : ℕ) → P k (horizon_at kept_ k)) → (k : ℕ) → P k (horizon_at (slice_set kept_ slot new) k)
 one_put P [] slot new here all k = all k
 one_put P (c ∷ kept_) zero new here all zero = here
 one_put P (c ∷ kept_) zero new here all (suc k) = all (suc k)
@@ -77,7 +77,8 @@ module _ (b : Bounds) where
         at : (e : Bool) → ((entry_of t.entries slot).epoch == (entry_of s.entries slot).epoch) ≡ e
             → b.horizon slot (entry_of t.entries slot).epoch (horizon_at s.checkpoints slot)
         at true is =
-            subst (λ epoch. b.horizon slot epoch (horizon_at s.checkpoints slot)) (sym (eqb-true (entry_of t.entries slot).epoch (entry_of s.entries slot).epoch is))
+            subst (λ epoch. b.horizon slot epoch (horizon_at s.checkpoints slot))
+            (sym (eqb-true (entry_of t.entries slot).epoch (entry_of s.entries slot).epoch is))
             (h slot within)
         at false is = new slot within (apart is)
 
@@ -90,7 +91,8 @@ module _ (b : Bounds) where
     server_keeps : (server generation : ℕ) → Leads (server_hello s server generation)
     unfolding server_hello
     server_keeps server generation =
-        by_test Leads (hears_server s server generation) (record { state = server_lost s server generation; outs = Changed ∷ [] }) (still s) (λ _ new. h) (λ _ new. h)
+        by_test Leads (hears_server s server generation) (record { state = server_lost s server generation; outs = Changed ∷ [] }) (still s)
+        (λ _ new. h) (λ _ new. h)
 
     slot_keeps : (slot manager : ℕ) → Leads (reassign s slot manager)
     unfolding reassign
@@ -130,12 +132,13 @@ module _ (b : Bounds) where
 
   -- ---- what is sent
 
+  below : (slot : ℕ) → nat_lt slot 8 ≡ true → slot < 8
+  below slot is = grind (arith, nat_tests)
+
   news_bounded : (s : BoardState) → BoardBounded s → AllByRecursion (NewsBounded b) (all_news s)
   news_bounded s h =
-      let at = λ (slot : ℕ) (within : slot < 8). h slot within in (
-        at 0 (omega arith),
-        (at 1 (omega arith), (at 2 (omega arith), (at 3 (omega arith), (at 4 (omega arith), (at 5 (omega arith), (at 6 (omega arith), (at 7 (omega arith), tt))))))),
-      )
+      let at = λ (slot : ℕ) (is : nat_lt slot 8 ≡ true). h slot (below slot is) in
+      (at 0 refl, (at 1 refl, (at 2 refl, (at 3 refl, (at 4 refl, (at 5 refl, (at 6 refl, (at 7 refl, tt))))))))
 
   abbrev Tells : Effect → Type 0
   Tells e = EffectBounded b Registry e
@@ -190,7 +193,8 @@ module _ (b : Bounds) where
 
   -- ---- a manager has written a checkpoint
 
-  done_on : (node : RegistryNode) (from : NodeId) (m : CkptDone) → RegistryBounded b node → b.horizon m.slot m.epoch m.horizon → GoesIf node (on_done node from m)
+  done_on : (node : RegistryNode) (from : NodeId) (m : CkptDone) → RegistryBounded b node → b.horizon m.slot m.epoch m.horizon
+      → GoesIf node (on_done node from m)
   unfolding on_done
   done_on node from m h told new =
       let made = transition node.board (input.Done m.slot m.epoch m.parts m.horizon) in

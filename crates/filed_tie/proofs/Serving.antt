@@ -90,7 +90,8 @@ module _ (b : Bounds) (laws : Bounding b) (node : NodeId) where
   report_on s from report h told =
       by_asker s (table.on_report (asker_of s) from report) h (table_reports b laws node (asker_of s) from report told h.slots)
 
-  answer_on : (s : Serving) (which : Option (ℕ × ℕ)) (given : ℕ → TakeIn) → ServingBounded b s → ((own at : ℕ) → TakeInBounded b laws at (given own)) → Does (answered_by s which given)
+  answer_on : (s : Serving) (which : Option (ℕ × ℕ)) (given : ℕ → TakeIn) → ServingBounded b s
+      → ((own at : ℕ) → TakeInBounded b laws at (given own)) → Does (answered_by s which given)
   answer_on s None given h told = unmoved s h
   answer_on s (Some which) given h told = take_on s which.0 (given which.1) h (told which.1)
 
@@ -111,7 +112,8 @@ module _ (b : Bounds) (laws : Bounding b) (node : NodeId) where
   unfolding regroups
   regroups_on s groups h = by_asker s (table.regroups_all groups (asker_of s)) h (table_regroups b laws node groups (asker_of s) h.slots)
 
-  slots_on : (s : Serving) (clients : ℕ) (slots : List SlotNews) → ServingBounded b s → AllByRecursion (NewsBounded b) slots → Does (hears_slots s clients slots)
+  slots_on : (s : Serving) (clients : ℕ) (slots : List SlotNews) → ServingBounded b s → AllByRecursion (NewsBounded b) slots
+      → Does (hears_slots s clients slots)
   unfolding hears_slots
   slots_on s clients slots h told = by s.maps.groups
     where
@@ -128,14 +130,16 @@ module _ (b : Bounds) (laws : Bounding b) (node : NodeId) where
       (then_goes (regroups s news.groups) (λ t. hears_slots t clients news.slots) (regroups_on s news.groups h) (λ t k. slots_on t clients news.slots k told))
       (λ t k. writes_on b laws node t (log_input.Maps news.groups) k)
 
-  pub news_on : (s : Serving) (clients : ℕ) (news : News) → ServingBounded b s → AllByRecursion (NewsBounded b) news.slots → Goes b laws node (on_news s clients news)
+  pub news_on : (s : Serving) (clients : ℕ) (news : News) → ServingBounded b s → AllByRecursion (NewsBounded b) news.slots
+      → Goes b laws node (on_news s clients news)
   unfolding on_news
   news_on s clients news h told =
       by_test Does (is_older s.maps news) (on_newer (record s { maps = taken s.maps news }) clients news) (hears_slots s clients news.slots)
       (λ _. newer_on (record s { maps = taken s.maps news }) clients news (record { slots = h.slots; writer = h.writer; checkpoint = h.checkpoint }) told)
       (λ _. slots_on s clients news.slots h told)
 
-  fitting_on : (s : Serving) (clients : ℕ) (news : News) → ServingBounded b s → AllByRecursion (NewsBounded b) news.slots → Does (on_fitting_news s clients news)
+  fitting_on : (s : Serving) (clients : ℕ) (news : News) → ServingBounded b s → AllByRecursion (NewsBounded b) news.slots
+      → Does (on_fitting_news s clients news)
   fitting_on s clients news h told =
       by_test Does (fits s.maps news) (on_news s clients news) (still s) (λ _. news_on s clients news h told) (λ _. unmoved s h)
 
@@ -144,7 +148,8 @@ module _ (b : Bounds) (laws : Bounding b) (node : NodeId) where
   body_on : (s : Serving) (clients : ℕ) (from : NodeId) (said : Body) → ServingBounded b s → BodyBounded b from said → Does (on_body s clients from said)
   body_on s clients from (body.MapNews news) h told = fitting_on s clients news h told
   body_on s clients from (body.Welcome welcome) h told =
-      by_test Does (welcome.inc == s.lasting.inc) (on_fitting_news s clients welcome.news) (still s) (λ _. fitting_on s clients welcome.news h told) (λ _. unmoved s h)
+      by_test Does (welcome.inc == s.lasting.inc) (on_fitting_news s clients welcome.news) (still s)
+      (λ _. fitting_on s clients welcome.news h told) (λ _. unmoved s h)
   body_on s clients from (body.Want want) h told = want_on s (client_in from) want h
   body_on s clients from (body.Gave gave) h told = gave_on s (client_in from) gave h
   body_on s clients from (body.Deltas deltas) h told = deltas_on s (fed_log from) deltas h told

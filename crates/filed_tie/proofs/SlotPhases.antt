@@ -131,7 +131,8 @@ module _ (b : Bounds) (laws : Bounding b) (node : NodeId) (k : ℕ) where
   each_said number a outs h all =
       leaves_each AskerBounded (EffectBounded b node) (OutBounded b laws k) (says number) (says_on number) a outs h all
 
-  heard_on : (p : SlotPhase) (given : TakeIn) → SlotBounded b k p → TakeInBounded b laws k given → Leaves (SlotBounded b k) (OutBounded b laws k) (heard p given)
+  heard_on : (p : SlotPhase) (given : TakeIn) → SlotBounded b k p → TakeInBounded b laws k given
+      → Leaves (SlotBounded b k) (OutBounded b laws k) (heard p given)
   unfolding heard
   heard_on (phase.Taking t) given h told = let d = take_goes b laws k t.take given h told in record { state = d.state; outs = d.outs }
   heard_on (phase.Away epoch) given h told = record { state = tt; outs = tt }
@@ -160,14 +161,16 @@ module _ (b : Bounds) (laws : Bounding b) (node : NodeId) (k : ℕ) where
   pub asker_hears : (h : Hearer) (news : SlotNews) (one : Asker) → AskerBounded one → b.horizon k news.epoch news.horizon → Asks (hears_of h news one)
   unfolding hears_of
   asker_hears h news one before told =
-      by_test Asks (nat_lt (epoch_of one.phase) news.epoch) (takeovers.takes (record one { phase = phase_of h.ears.number news h.groups h.ears.clients }) news.slot take_in.Tick)
+      by_test Asks (nat_lt (epoch_of one.phase) news.epoch)
+      (takeovers.takes (record one { phase = phase_of h.ears.number news h.groups h.ears.clients }) news.slot take_in.Tick)
       (still one)
       (λ _. asker_takes (record one { phase = phase_of h.ears.number news h.groups h.ears.clients }) news.slot take_in.Tick new tt)
       (λ _. record { state = before; outs = tt })
     where
       new : SlotBounded b k (phase_of h.ears.number news h.groups h.ears.clients)
       new =
-          by_test (SlotBounded b k) (news.manager == h.ears.number) (phase.Taking (record { epoch = news.epoch; take = started news h.groups h.ears.clients; fetches = record { own = 0; ask = 0 } }))
+          by_test (SlotBounded b k) (news.manager == h.ears.number)
+          (phase.Taking (record { epoch = news.epoch; take = started news h.groups h.ears.clients; fetches = record { own = 0; ask = 0 } }))
           (phase.Away news.epoch) (λ _. record { covered = told; reported = tt }) (λ _. tt)
 
   -- ---- checkpoints

@@ -43,11 +43,13 @@ module _ (b : Bounds) (laws : Bounding b) (k : ℕ) where
       by_test Goes (is_dropped s want end) (still s) (recall_or_finish s want (others s.beliefs want.block want.client (not (is_own want.mode)))) (λ _. h)
       (λ _. recall_on s want (others s.beliefs want.block want.client (not (is_own want.mode))) h)
 
-  noted_on : (s : SlotState) (client : ℕ) (block : BlockId) (want : Wanted) (awaited : List Awaited) → StateBounded s → Goes (gave_noted s client block want awaited)
+  noted_on : (s : SlotState) (client : ℕ) (block : BlockId) (want : Wanted) (awaited : List Awaited) → StateBounded s
+      → Goes (gave_noted s client block want awaited)
   unfolding gave_noted
   noted_on s client block want awaited h =
       by_test Goes (is_ready s.applied awaited) (gave_last s client block want) (still (gave_one s client block want awaited))
-      (λ _. by_test Goes (has_turns s.turn 1) (finished (record (given s want client block) { jobs = without_job s.jobs block }) want) (still s) (λ _. h) (λ _. h))
+      (λ _. by_test Goes (has_turns s.turn 1) (finished (record (given s want client block) { jobs = without_job s.jobs block }) want) (still s) (λ _. h)
+      (λ _. h))
       (λ _. h)
 
   gave_on : (s : SlotState) (client : ℕ) (block : BlockId) (stamp : Stamp) (end : ℕ) → StateBounded s → Goes (on_gave s client block stamp end)

@@ -53,7 +53,8 @@ module _ (b : Bounds) (laws : Bounding b) (node : NodeId) where
   pub table_wants : (t : Table) (client : ℕ) (want : Want) → TableBounded t → TableGoes (on_want t client want)
   unfolding on_want
   table_wants t client want h =
-      at_slot-goes t (slot_of want.block.ino.0) (λ p. tokens.on_want p client want) (λ p here. phase_wants b laws node (slot_of want.block.ino.0) p client want here) h
+      at_slot-goes t (slot_of want.block.ino.0) (λ p. tokens.on_want p client want)
+      (λ p here. phase_wants b laws node (slot_of want.block.ino.0) p client want here) h
 
   pub table_gaves : (t : Table) (client : ℕ) (gave : Gave) → TableBounded t → TableGoes (on_gave t client gave)
   unfolding on_gave
@@ -101,7 +102,8 @@ module _ (b : Bounds) (laws : Bounding b) (node : NodeId) where
   abbrev pub TableAsks : Asks → Type 0
   TableAsks d = Leaves TableAskerBounded (EffectBounded b node) d
 
-  at_taken-goes : (a : TableAsker) (k : ℕ) (event : Asker → Stepped Asker Effect) → ((one : Asker) → AskerBounded b laws node k one → PhaseAsks b laws node k (event one))
+  at_taken-goes : (a : TableAsker) (k : ℕ) (event : Asker → Stepped Asker Effect)
+      → ((one : Asker) → AskerBounded b laws node k one → PhaseAsks b laws node k (event one))
       → TableAskerBounded a → TableAsks (at_taken a k event)
   at_taken-goes a k event one h = by (slice_get a.table k) (slot_read b 0 a.table k k (omega arith) h)
     where
@@ -129,7 +131,6 @@ module _ (b : Bounds) (laws : Bounding b) (node : NodeId) where
   table_asks polls a h = leaves_each TableAskerBounded (EffectBounded b node) Any (asks polls) (one_asks polls) a all_slots h any_slots
 
   one_regroups : (groups : GroupMapState) (a : TableAsker) (k : ℕ) → TableAskerBounded a → Any k → TableAsks (regroups groups a k)
-  unfolding regroups
   one_regroups groups a k h any = table_takes a k (take_in.Maps groups) h tt
 
   pub table_regroups : (groups : GroupMapState) (a : TableAsker) → TableAskerBounded a → TableAsks (regroups_all groups a)
@@ -139,7 +140,8 @@ module _ (b : Bounds) (laws : Bounding b) (node : NodeId) where
   unfolding hears
   one_hears h a news before told = at_taken-goes a news.slot (hears_of h news) (λ one here. asker_hears b laws node news.slot h news one here told) before
 
-  pub table_hears : (h : Hearer) (a : TableAsker) (slots : List SlotNews) → AllByRecursion (NewsBounded b) slots → TableAskerBounded a → TableAsks (hears_all h a slots)
+  pub table_hears : (h : Hearer) (a : TableAsker) (slots : List SlotNews) → AllByRecursion (NewsBounded b) slots → TableAskerBounded a
+      → TableAsks (hears_all h a slots)
   table_hears h a slots told before = leaves_each TableAskerBounded (EffectBounded b node) (NewsBounded b) (hears h) (one_hears h) a slots before told
 
   -- ---- checkpoints

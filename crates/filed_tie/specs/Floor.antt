@@ -37,7 +37,8 @@ ManagerAbove floor manager = ManagerBounded (above floor) manager
 -- a manager at its start has epoch 1 of its slots, in which no horizon is above 1
 abbrev pub ManagerStartsAbove : Type 0
 ManagerStartsAbove =
-    (floor : Floor) (number : ℕ) (setup : Setup) (works : List Work) → ((slot log : ℕ) → floor slot 1 log ≤ 1) → ManagerAbove floor (first_manager number setup works)
+    (floor : Floor) (number : ℕ) (setup : Setup) (works : List Work) → ((slot log : ℕ) → floor slot 1 log ≤ 1)
+    → ManagerAbove floor (first_manager number setup works)
 
 -- what a manager has after an event, and sends in it, is above the floor
 pub record StaysAbove (floor : Floor) (manager : Manager) (what : Do) : Type 0 where
@@ -60,9 +61,9 @@ RegistryStartsAbove =
     (floor : Floor) (setup : Setup) (works : List Work) → ((slot log : ℕ) → floor slot 1 log ≤ 1) → RegistryAbove floor (registry_start setup works)
 
 -- what the registry keeps after an event, and each horizon that it sends in it, is above the floor
-pub record KeepsAbove (floor : Floor) (node : RegistryNode) (what : Do) : Type 0 where
-  pub node : RegistryAbove floor (registry_step node what).node
-  pub packets : AllByRecursion (PacketBounded (above floor)) (registry_step node what).packets
+pub record KeepsAbove (floor : Floor) (registry : RegistryNode) (what : Do) : Type 0 where
+  pub node : RegistryAbove floor (registry_step registry what).node
+  pub packets : AllByRecursion (PacketBounded (above floor)) (registry_step registry what).packets
 
 -- Whatever happens to the registry: where what it keeps, and each horizon that the packet that comes names, is above the floor of its slot and epoch, and the
 -- floor of each new epoch is no higher than the horizon with which it begins, so it stays, and so is each horizon that it sends.

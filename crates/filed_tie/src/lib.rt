@@ -68,8 +68,8 @@ pub fn managers_stay_above_their_floor()
 /// What the registry keeps of checkpoints never falls below the horizons with which the epochs of the slots began.
 ///
 /// - `start`: the registry at its start has epoch 1 of each slot, whose horizons are 1.
-/// - `events`: where each horizon that the registry keeps, and each in the packet that comes, is above the floor of its slot and epoch, and the floor of an epoch
-///   that begins in the event is no higher than the horizon that is kept of its slot, so is each that it keeps after the event, and each that it sends.
+/// - `events`: where each horizon that the registry keeps, and each in the packet that comes, is above the floor of its slot and epoch, and the floor of an
+///   epoch that begins in the event is no higher than the horizon that is kept of its slot, so is each that it keeps after the event, and each that it sends.
 pub fn registry_stays_above_its_floor()
     ensures start { RegistryStartsAbove }
     ensures events { RegistryKeepsAbove }
