@@ -12,14 +12,16 @@ use Rattle.log_owner.specs.Opening.{Went}
 use Rattle.log_owner.specs.Sending.{pushes_all}
 use Rattle.node_base.specs.Beginning.{next_item, answers_unanswered}
 use Rattle.node_base.specs.declared.effects.Effect.{Effect}
+use Rattle.node_base.specs.declared.effects.Effect.TheVariants.{Answer as Answers}
 use Rattle.node_base.specs.declared.peers.Peers.{Peers}
 use Rattle.node_base.specs.Nodes.{has_node}
 use Rattle.node_base.specs.Shape.{is_well_formed, has_logs, has_slot}
+use Rattle.version_model.specs.declared.answer.Answer.{Answer}
 use Rattle.version_model.specs.declared.answer.Answer.TheVariants as answer
 use Rattle.wire_msg.specs.declared.packet.Do.{Do}
 use Rattle.wire_msg.specs.declared.packet.Do.TheVariants.{Begin, Deliver, Tick}
 use Rattle.wire_msg.specs.declared.packet.Packet.{Packet}
-use Rattle.store_nodes.specs.CleanerEvents.{Went_to, serves_on, crashes, next_life, owner_of, after_opening, opened_on, restarts, down_wishes, opening_wishes, serving_wishes, begun_life, wish_at, down_at, opening_at, serving_at, on_begin, hears, on_deliver, on_time, happens, phase_room, takes}
+use Rattle.store_nodes.specs.CleanerEvents.{Went_to, serves_on, crashes, next_life, owner_of, after_opening, opened_on, restarts, answers, down_wishes, opening_wishes, serving_wishes, begun_life, wish_at, down_at, opening_at, serving_at, on_begin, hears, on_deliver, on_time, happens, phase_room, takes}
 use Rattle.store_nodes.specs.declared.cleaner.Phase.{Phase}
 use Rattle.store_nodes.specs.declared.cleaner.Phase.TheVariants.{Down, Opening, Serving}
 use Rattle.store_nodes.specs.declared.cleaner.Wish.{Wish}
@@ -53,6 +55,9 @@ module _ (reach : Reach) where
 
   at_once : (p : Phase) (outs : List Effect) → PhaseSo p → frames.AllSay reach TheCleaner outs → Goes (record { state = p; outs = outs })
   at_once p outs h says = frames.goes_plain reach TheCleaner PhaseSo p outs h says
+
+  answered : (p : Phase) (number : ℕ) (a : Answer) → PhaseSo p → Goes (answers p number a)
+  answered p number a h = at_once p (Answers number a ∷ []) h (tt, tt)
 
   serves : (d : Done) → jobs.Goes reach d → Goes (serves_on d)
   serves d p acts = p acts
@@ -92,17 +97,17 @@ module _ (reach : Reach) where
 
   down_wish : (servers : ℕ) (l : Lasting) (number : ℕ) (wish : Wish) → Goes (down_wishes servers l number wish)
   down_wish servers l number Restart = restarted servers l number
-  down_wish servers l number Crash = at_once (Down l) _ tt (tt, tt)
-  down_wish servers l number (Clean count) = at_once (Down l) _ tt (tt, tt)
+  down_wish servers l number Crash = answered (Down l) number answer.Down tt
+  down_wish servers l number (Clean count) = answered (Down l) number answer.Down tt
 
   opening_wish : (l : Lasting) (o : openings.Opening) (number : ℕ) (wish : Wish) → OpeningReaches reach cleaner_log.0 o → Goes (opening_wishes l o number wish)
   opening_wish l o number Crash h = crashed l number
-  opening_wish l o number Restart h = at_once (Opening l o) _ h (tt, tt)
-  opening_wish l o number (Clean count) h = at_once (Opening l o) _ h (tt, tt)
+  opening_wish l o number Restart h = answered (Opening l o) number answer.Up h
+  opening_wish l o number (Clean count) h = answered (Opening l o) number answer.Down h
 
   serving_wish : (e : Emptying) (number : ℕ) (wish : Wish) → jobs.At reach e → Goes (serving_wishes e number wish)
   serving_wish e number Crash h = crashed e.lasting number
-  serving_wish e number Restart h = at_once (Serving e) _ h (tt, tt)
+  serving_wish e number Restart h = answered (Serving e) number answer.Up h
   serving_wish e number (Clean count) h = serves (on_clean e number count) (cleaning_wished reach e number count h)
 
   down_item : (servers : ℕ) (l : Lasting) (item : Option ℕ) → Goes (down_at servers l item)

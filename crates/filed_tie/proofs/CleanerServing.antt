@@ -34,8 +34,10 @@ use Rattle.xfs_base.specs.Steps.{still, after, steps}
 use Rattle.client_log.specs.LogState.{LogState}
 use Rattle.delta_feed.specs.Transition as feed
 use Rattle.log_owner.specs.Sending.{store, name_of, pushes_all, server_in}
-use Rattle.node_base.specs.declared.effects.Effect.TheVariants.{Does}
+use Rattle.node_base.specs.declared.effects.Effect.{Effect}
+use Rattle.node_base.specs.declared.effects.Effect.TheVariants.{Answer as Answers, Does, Send}
 use Rattle.version_model.specs.declared.act.Act.TheVariants.{Filed}
+use Rattle.version_model.specs.declared.answer.Answer.TheVariants.{Busy}
 use Rattle.store_nodes.specs.EmptyingEvents.{cleaner_log, promises_slot, promises_all, with_new_job, begins_job, on_clean, fed, settles, writes_one, writes, on_ack, renews, promises, reports, on_poll, hears_slot, hears_slots, job_regrouped, log_regrouped, takes_news, on_news, hello_of, greeted, welcomes_over, welcomes, on_welcome, on_body, asks_for_maps, on_packet, on_tick}
 use Rattle.filed_tie.specs.Reach.{Reach}
 use Rattle.filed_tie.proofs.CleanerJobs as jobs
@@ -72,7 +74,8 @@ module _ (reach : Reach) where
   pub cleaning_wished : (e : Emptying) (number count : ℕ) → At e → Goes (on_clean e number count)
   unfolding on_clean
   cleaning_wished e number count h =
-      by_test (λ (d : Done). Goes d) (is_some e.lasting.items.unanswered) (record { state = e; outs = _ ∷ [] }) (begins_job e number count) (λ t. jobs.at_once reach e _ h (tt, tt))
+      by_test (λ (d : Done). Goes d) (is_some e.lasting.items.unanswered) (record { state = e; outs = Answers number Busy ∷ [] }) (begins_job e number count)
+      (λ t. jobs.at_once reach e (Answers number Busy ∷ []) h (tt, tt))
       (λ t. job_begun e number count h)
 
   -- ---- the log
@@ -127,7 +130,6 @@ module _ (reach : Reach) where
   -- ---- promises
 
   renewed : (e : Emptying) (slot epoch : ℕ) → At e → At (renews e slot epoch)
-  unfolding renews
   renewed e slot epoch h =
       by_test (λ (t : Emptying). At t) (nat_lt (epoch_of e.promised slot) epoch) (record e { feed = feed.new_epoch e.feed slot }) e
       (λ t. record { end = h.end; feed = renewed_end (reach cleaner_log.0) e.feed slot h.feed }) (λ t. h)
@@ -136,11 +138,15 @@ module _ (reach : Reach) where
   unfolding promises
   promised e slot epoch manager h = renewed e slot epoch h
 
+  -- what the cleaner answers to a Poll
+  abbrev answer : ℕ → Poll → End → Effect
+  answer manager m end = Send (node.Manager manager) (body.Report (record { slot = m.slot; epoch = m.epoch; held = []; end = end }))
+
   reported : (e : Emptying) (manager : ℕ) (m : Poll) → At e → Goes (reports e manager m)
   reported e manager m h =
       let kept : Emptying = promises e m.slot m.epoch manager in
       let k : At kept = promised e m.slot m.epoch manager h in
-      frames.goes_after reach node.Cleaner At _ (cleans kept (input.Promise m.slot m.epoch)) (k.end, tt) (jobs.job_goes_on reach kept (input.Promise m.slot m.epoch) k)
+      frames.goes_after reach node.Cleaner At (answer manager m kept.log.end ∷ []) (cleans kept (input.Promise m.slot m.epoch)) (k.end, tt) (jobs.job_goes_on reach kept (input.Promise m.slot m.epoch) k)
 
   poll_heard : (e : Emptying) (from : NodeId) (m : Poll) → At e → Goes (on_poll e from m)
   unfolding on_poll

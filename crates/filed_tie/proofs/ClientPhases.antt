@@ -1,8 +1,6 @@
 -- What each event makes of a client, and what it sends, where all that it acts to be filed is reached.
 use Rattle.std.proofs.Common.{◌≡◌, ◌≤◌, ℕ, ◌&&◌, true, List, [], ◌∷◌, ◌++◌, Option, Some, None, is_some, refl, sym, subst, arith}
 use Rattle.std.specs.List.{AllByRecursion}
-use Rattle.client_node.specs.declared.beginning.Wish.{Wish}
-use Rattle.client_node.specs.declared.beginning.Wish.TheVariants as wish
 use Rattle.client_node.specs.declared.call.Going.{Going}
 use Rattle.client_node.specs.declared.client.Client.{Client}
 use Rattle.client_node.specs.declared.lasting.Lasting.{Lasting}
@@ -10,7 +8,7 @@ use Rattle.client_node.specs.declared.phase.Phase.{Phase}
 use Rattle.client_node.specs.declared.phase.Phase.TheVariants.{Down, Opening, Serving as Serves}
 use Rattle.client_node.specs.declared.serving.Serving.{Serving}
 use Rattle.client_node.specs.Packets as packets
-use Rattle.client_node.specs.Phases.{Went_to, crashed, next_life, owner_of, restarted, back, after_opening, opened_on, answers, begins_call, call_at, opens, serves_on, wish_of, wish_at, down_begins, opening_begins, serving_begins, falls, lasting_of, with_begun, item_begins, begins_item, on_begin, on_deliver, on_time, delivers, happens, client_room, takes}
+use Rattle.client_node.specs.Phases.{Went_to, crashed, next_life, owner_of, restarted, back, after_opening, opened_on, answers, begins_call, call_at, opens, serves_on, wish_of, down_begins, opening_begins, serving_begins, falls, lasting_of, begins_item, on_begin, on_deliver, on_time, delivers, happens, client_room, takes}
 use Rattle.client_node.specs.Running.{goes_on}
 use Rattle.client_node.specs.Sends.{Done, gives}
 use Rattle.log_owner.specs.declared.opened.Opened.{Opened}
@@ -20,7 +18,7 @@ use Rattle.log_owner.specs.declared.opening.Opening as openings
 use Rattle.log_owner.specs.Opening as opening
 use Rattle.log_owner.specs.Opening.{Went}
 use Rattle.log_owner.specs.Sending.{pushes_all}
-use Rattle.node_base.specs.Beginning.{next_item, work_at, waiting, answered, answers_unanswered}
+use Rattle.node_base.specs.Beginning.{next_item, begun, work_at, waiting, answered, answers_unanswered}
 use Rattle.node_base.specs.declared.effects.Effect.{Effect}
 use Rattle.node_base.specs.declared.effects.Effect.TheVariants.{Answer as Answers, Does}
 use Rattle.node_base.specs.declared.peers.Peers.{Peers}
@@ -30,6 +28,7 @@ use Rattle.version_model.specs.declared.act.Act.TheVariants.{Back}
 use Rattle.version_model.specs.declared.answer.Answer.{Answer}
 use Rattle.version_model.specs.declared.answer.Answer.TheVariants as answer
 use Rattle.version_model.specs.declared.work.Work.{Work}
+use Rattle.version_model.specs.declared.work.Work.TheVariants as work
 use Rattle.wire_msg.specs.declared.packet.Do.{Do}
 use Rattle.wire_msg.specs.declared.packet.Do.TheVariants.{Begin, Deliver, Tick}
 use Rattle.wire_msg.specs.declared.packet.Packet.{Packet}
@@ -118,28 +117,29 @@ module _ (reach : Reach) (c : ℕ) where
       (begins_call s number (call_at s number (work_at s.lasting.items number)))
       (λ t. tokens.plain_so reach c s (Answers number answer.Busy ∷ []) h (tt, tt)) (λ t. begins_so s number (call_at s number (work_at s.lasting.items number)) h)
 
-  down_so : (servers number : ℕ) (l : Lasting) (w : Wish) → l.number ≡ c → Goes (down_begins servers l number w)
-  down_so servers number l wish.Restart own = restarts_so servers (next_life l number) own
-  down_so servers number l wish.Crash own = answers_so (Down l) number answer.Down own
-  down_so servers number l wish.Call own = answers_so (Down l) number answer.Down own
+  down_so : (servers number : ℕ) (l : Lasting) (wanted : Option Work) → l.number ≡ c → Goes (down_begins servers l number (wish_of wanted))
+  down_so servers number l (Some (work.Restart node)) own = restarts_so servers (next_life l number) own
+  down_so servers number l (Some _) own = answers_so (Down l) number answer.Down own
+  down_so servers number l None own = answers_so (Down l) number answer.Down own
 
-  opening_so : (l : Lasting) (o : openings.Opening) (number : ℕ) (w : Wish) → PhaseSo (Opening l o) → Goes (opening_begins l o number w)
-  opening_so l o number wish.Crash h = crashes_so l number h.0
-  opening_so l o number wish.Restart h = answers_so (Opening l o) number answer.Up h
-  opening_so l o number wish.Call h = answers_so (Opening l o) number answer.Down h
+  opening_so : (l : Lasting) (o : openings.Opening) (number : ℕ) (wanted : Option Work) → PhaseSo (Opening l o) → Goes (opening_begins l o number (wish_of wanted))
+  opening_so l o number (Some (work.Crash node)) h = crashes_so l number h.0
+  opening_so l o number (Some (work.Restart node)) h = answers_so (Opening l o) number answer.Up h
+  opening_so l o number (Some _) h = answers_so (Opening l o) number answer.Down h
+  opening_so l o number None h = answers_so (Opening l o) number answer.Down h
 
-  serving_so : (s : Serving) (number : ℕ) (w : Wish) → tokens.At reach c s → Goes (serving_begins s number w)
-  serving_so s number wish.Crash h = frames.goes_after reach (AClient c) PhaseSo (falls s ∷ []) (crashed s.lasting number) (tt, tt) (crashes_so s.lasting number h.own)
-  serving_so s number wish.Restart h = answers_so (Serves s) number answer.Up h
-  serving_so s number wish.Call h = serves_so (opens s number) (opens_so s number h)
+  serving_so : (s : Serving) (number : ℕ) (wanted : Option Work) → tokens.At reach c s → Goes (serving_begins s number (wish_of wanted))
+  serving_so s number (Some (work.Crash node)) h = frames.goes_after reach (AClient c) PhaseSo (falls s ∷ []) (crashed s.lasting number) (tt, tt) (crashes_so s.lasting number h.own)
+  serving_so s number (Some (work.Restart node)) h = answers_so (Serves s) number answer.Up h
+  serving_so s number (Some _) h = serves_so (opens s number) (opens_so s number h)
+  serving_so s number None h = serves_so (opens s number) (opens_so s number h)
 
   item_so : (servers : ℕ) (p : Phase) (item : Option ℕ) → PhaseSo p → Goes (begins_item servers p item)
   item_so servers p None h = still_so p h
-  item_so servers (Down l) (Some number) h = down_so servers number (lasting_of (with_begun (Down l))) (wish_at (lasting_of (with_begun (Down l))) number) h
-  item_so servers (Opening l o) (Some number) h =
-      opening_so (lasting_of (with_begun (Opening l o))) o number (wish_at (lasting_of (with_begun (Opening l o))) number) h
+  item_so servers (Down l) (Some number) h = down_so servers number (record l { items = begun l.items }) (work_at (begun l.items) number) h
+  item_so servers (Opening l o) (Some number) h = opening_so (record l { items = begun l.items }) o number (work_at (begun l.items) number) h
   item_so servers (Serves s) (Some number) h =
-      serving_so (record s { lasting = lasting_of (with_begun (Serves s)) }) number (wish_at (lasting_of (with_begun (Serves s))) number) h
+      serving_so (record s { lasting = record s.lasting { items = begun s.lasting.items } }) number (work_at (begun s.lasting.items) number) h
 
   -- ---- the events
 

@@ -17,11 +17,7 @@ use Rattle.client_log.specs.declared.input.In.TheVariants as log_in
 use Rattle.client_log.specs.declared.output.Out.{Out as LogOut}
 use Rattle.client_log.specs.declared.output.Out.TheVariants as log_out
 use Rattle.client_log.specs.Transition as log_steps
-use Rattle.log_owner.specs.declared.ended.Chain.{Chain}
-use Rattle.log_owner.specs.declared.ended.Ended.{Ended}
-use Rattle.log_owner.specs.declared.ended.Ended.TheVariants as ended
 use Rattle.log_owner.specs.declared.ended.Owner.{Owner}
-use Rattle.log_owner.specs.declared.ended.Sent.{Sent}
 use Rattle.log_owner.specs.declared.known.Known.{Known}
 use Rattle.log_owner.specs.declared.opened.Progress.{Progress}
 use Rattle.log_owner.specs.declared.opened.Progress.TheVariants as progress
@@ -39,7 +35,7 @@ use Rattle.log_scan.specs.declared.input.In.TheVariants as input
 use Rattle.log_scan.specs.declared.output.Out.{Out}
 use Rattle.log_scan.specs.declared.output.Out.TheVariants as out
 use Rattle.log_scan.specs.Transition as scan
-use Rattle.node_base.specs.Asking.{next_ask, drawn, own_of}
+use Rattle.node_base.specs.Asking.{next_ask, drawn, own_of, asked_as, drawn_for}
 use Rattle.node_base.specs.declared.effects.Effect.{Effect}
 use Rattle.node_base.specs.declared.effects.Effect.TheVariants.{Lose}
 use Rattle.node_base.specs.declared.maps.Maps.{Maps}
@@ -154,61 +150,62 @@ module _ (reach : Reach) (node : NodeId) (log : ℕ) where
 
     -- ---- the end of the scan
 
-    starts_so : (s : Scanning) (chain : Chain) (groups : GroupMapState) → ScanReaches reach log s.scan → AreOfLog log chain.segments → chain.low ≡ s.scan.opening.low
-        → Goes (starts_log k s chain groups)
-    starts_so s chain groups h of_log low =
-        by_test (λ (m : Moved). Goes m) (is_log k.owner.log.0) (writes k (behind k chain groups) (log_in.Parts [])) (still (at_scan k s))
-        (λ t. writes_so (behind k chain groups) (log_in.Parts [])
-        (record { low = (let a = h.low (some t) in omega (arith, a, low)); chain = of_log }))
+    starts_so : (s : Scanning) (segments : List Segment) (end : End) (low : ℕ) (groups : GroupMapState) → ScanReaches reach log s.scan → AreOfLog log segments
+        → s.scan.opening.low ≡ low → Goes (starts_log k s (record { segments = segments; end = end; low = low }) groups)
+    starts_so s segments end low groups h of_log is =
+        by_test (λ (m : Moved). Goes m) (is_log k.owner.log.0) (writes k (behind k (record { segments = segments; end = end; low = low }) groups) (log_in.Parts [])) (still (at_scan k s))
+        (λ t. writes_so (behind k (record { segments = segments; end = end; low = low }) groups) (log_in.Parts [])
+        (record { low = (let a = h.low (some t) in omega (arith, a, is)); chain = of_log }))
         (λ t. frames.goes_still reach node ProgressReaches (at_scan k s) (at_scan_so s h))
       where
         some : is_log k.owner.log.0 ≡ true → 1 ≤ log
         some t = (let one : nat_le 1 k.owner.log.0 ≡ true = and_first (nat_le 1 k.owner.log.0) _ t in subst (λ l. 1 ≤ l) own (grind (arith, nat_tests)))
 
-    settles_so : (s : Scanning) (chain : Chain) (groups : Option GroupMapState) → ScanReaches reach log s.scan → AreOfLog log chain.segments → chain.low ≡ s.scan.opening.low
-        → Goes (settles_over k s chain groups)
-    settles_so s chain None h of_log low = frames.goes_still reach node ProgressReaches (at_scan k s) (at_scan_so s h)
-    settles_so s chain (Some groups) h of_log low = starts_so s chain groups h of_log low
-
-    -- what a scan ended with
-    abbrev EndedSo : ℕ → Option Ended → Type 0
-    EndedSo low None = Unit {0}
-    EndedSo low (Some (ended.Found chain)) = AreOfLog log chain.segments × (chain.low ≡ low)
-    EndedSo low (Some (ended.Lost seg)) = Unit {0}
-
-    follows_so : (s : Scanning) (e : Option Ended) → ScanReaches reach log s.scan → EndedSo s.scan.opening.low e → Goes (follows k s e)
-    unfolding follows
-    follows_so s None h so = frames.goes_still reach node ProgressReaches (at_scan k s) (at_scan_so s h)
-    follows_so s (Some (ended.Found chain)) h so = settles_so s chain k.maps.groups h so.0 so.1
-    follows_so s (Some (ended.Lost seg)) h so = frames.goes_plain reach node ProgressReaches (progress.Lost seg) (Lose seg ∷ []) tt (tt, tt)
+    settles_so : (s : Scanning) (segments : List Segment) (end : End) (low : ℕ) (groups : Option GroupMapState) → ScanReaches reach log s.scan → AreOfLog log segments
+        → s.scan.opening.low ≡ low → Goes (settles_over k s (record { segments = segments; end = end; low = low }) groups)
+    settles_so s segments end low None h of_log is = frames.goes_still reach node ProgressReaches (at_scan k s) (at_scan_so s h)
+    settles_so s segments end low (Some groups) h of_log is = starts_so s segments end low groups h of_log is
 
     module _ (low : ℕ) where
-      scanned_ends : (st : Sent) (outs : List Out) → AllByRecursion (ChainTells log) outs → EndedSo low st.ended → EndedSo low (steps (said k.owner low) st outs).state.ended
-      unfolding said
-      scanned_ends st [] all so = so
-      scanned_ends st (out.Hello own ∷ outs) all so = scanned_ends _ outs all.1 so
-      scanned_ends st (out.Fence server ∷ outs) all so = scanned_ends st outs all.1 so
-      scanned_ends st (out.Fetch server name own ∷ outs) all so = scanned_ends _ outs all.1 so
-      scanned_ends st (out.Chain segments end prior ∷ outs) all so = scanned_ends _ outs all.1 (all.0, refl)
-      scanned_ends st (out.Lost name ∷ outs) all so = scanned_ends _ outs all.1 tt
+      -- whatever the scan tells, what is next behind it goes so
+      scanned_ends : (a : Asked) (q : Questions) (e : _) (outs : List Out) → AllByRecursion (ChainTells log) outs
+          → ((s : Scanning) → ScanReaches reach log s.scan → s.scan.opening.low ≡ low → Goes (follows k s e))
+          → (s : Scanning) → ScanReaches reach log s.scan → s.scan.opening.low ≡ low
+          → Goes (follows k s (steps (said k.owner low) (record { asked = a; questions = q; ended = e }) outs).state.ended)
+      unfolding follows said
+      scanned_ends a q e [] all ends = ends
+      scanned_ends a q e (out.Hello own ∷ outs) all ends = scanned_ends (asked_as a q own) (drawn_for a q own) e outs all.1 ends
+      scanned_ends a q e (out.Fence server ∷ outs) all ends = scanned_ends a q e outs all.1 ends
+      scanned_ends a q e (out.Fetch server name own ∷ outs) all ends = scanned_ends (asked_as a q own) (drawn_for a q own) e outs all.1 ends
+      scanned_ends a q e (out.Chain segments end prior ∷ outs) all ends = scanned_ends a q _ outs all.1 (λ s h is. settles_so s segments end low k.maps.groups h all.0 is)
+      scanned_ends a q e (out.Lost name ∷ outs) all ends =
+          scanned_ends a q _ outs all.1 (λ s h is. frames.goes_plain reach node ProgressReaches (progress.Lost name) (Lose name ∷ []) tt (tt, tt))
 
-      scanned_says : (st : Sent) (outs : List Out) → AllSay (steps (said k.owner low) st outs).outs
+      none_ends : (s : Scanning) → ScanReaches reach log s.scan → s.scan.opening.low ≡ low → Goes (follows k s None)
+      unfolding follows
+      none_ends s h is = frames.goes_still reach node ProgressReaches (at_scan k s) (at_scan_so s h)
+
+      one_said : (st : _) (o : Out) → AllSay (said k.owner low st o).outs
       unfolding said
+      one_said st (out.Hello own) = (tt, tt)
+      one_said st (out.Fence server) = (tt, tt)
+      one_said st (out.Fetch server name own) = (tt, tt)
+      one_said st (out.Chain segments end prior) = tt
+      one_said st (out.Lost name) = tt
+
+      scanned_says : (st : _) (outs : List Out) → AllSay (steps (said k.owner low) st outs).outs
       scanned_says st [] = tt
-      scanned_says st (out.Hello own ∷ outs) = (tt, scanned_says _ outs)
-      scanned_says st (out.Fence server ∷ outs) = (tt, scanned_says st outs)
-      scanned_says st (out.Fetch server name own ∷ outs) = (tt, scanned_says _ outs)
-      scanned_says st (out.Chain segments end prior ∷ outs) = scanned_says _ outs
-      scanned_says st (out.Lost name ∷ outs) = scanned_says _ outs
+      scanned_says st (o ∷ outs) =
+          frames.all_append (frames.Says reach node) (said k.owner low st o).outs (steps (said k.owner low) (said k.owner low st o).state outs).outs (one_said st o)
+          (scanned_says (said k.owner low st o).state outs)
 
     stepped_so : (q : Questions) (s : Scanning) (r : scan.Done) → ScanKeeps reach log r → WentSo (stepped k q s r)
     stepped_so q s r kept =
         let low : ℕ = r.state.opening.low in
-        let st : Sent = record { asked = s.asked; questions = q; ended = None } in
-        let e : Stepped Sent Effect = scanned k.owner low s.asked q r.outs in
+        let e = scanned k.owner low s.asked q r.outs in
         let next : Scanning = record { scan = r.state; asked = e.state.asked } in
-        frames.goes_after reach node ProgressReaches e.outs (follows k next e.state.ended) (scanned_says low st r.outs)
-        (follows_so next e.state.ended kept.state (scanned_ends low st r.outs kept.outs tt))
+        frames.goes_after reach node ProgressReaches e.outs (follows k next e.state.ended) (scanned_says low (record { asked = s.asked; questions = q; ended = None }) r.outs)
+        (scanned_ends low s.asked q None r.outs kept.outs (none_ends low) next kept.state refl)
 
     scans_so : (q : Questions) (s : Scanning) (i : In) → ScanReaches reach log s.scan → InputTells reach log i → WentSo (scans_on k q s i)
     unfolding scans_on
@@ -338,7 +335,8 @@ module _ (reach : Reach) (node : NodeId) (log : ℕ) where
   unfolding on_packet
   packet_goes o q p h shape tells =
       by_test (λ (w : Went). WentSo w) (names_known o.known.maps p.body) (on_body o q p.from p.body) (went (progress.Opening o) (drawn q) (hello o.known.owner.inc (next_ask q) ∷ []))
-      (λ t. body_so o q p.from p.body h shape tells) (λ t. frames.goes_plain reach node ProgressReaches (progress.Opening o) _ h (tt, tt))
+      (λ t. body_so o q p.from p.body h shape tells) 
+      (λ t. frames.goes_plain reach node ProgressReaches (progress.Opening o) (hello o.known.owner.inc (next_ask q) ∷ []) h (tt, tt))
 
   pub tick_goes : (o : Opening) (q : Questions) → OpeningReaches reach log o → WentSo (on_tick o q)
   tick_goes o q h = tick_so o.known o.stage q h.own h.stage

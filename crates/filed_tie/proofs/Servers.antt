@@ -10,7 +10,7 @@ use Rattle.xfs_base.specs.declared.segment.SegName.{SegName}
 use Rattle.xfs_base.specs.Segments.{pass_cmp}
 use Rattle.xfs_base.specs.Steps.{still, steps}
 use Rattle.group_map.specs.GroupMapState.{GroupMapState}
-use Rattle.fragment_store.specs.Calls.{barred, store_refused}
+use Rattle.fragment_store.specs.Calls.{barred, store_refused, on_fence as fenced_at}
 use Rattle.fragment_store.specs.ShelfState.{ShelfState, held_at, fence_of}
 use Rattle.group_rebuild.specs.declared.input.In.{In as Input}
 use Rattle.group_rebuild.specs.declared.input.In.TheVariants as input
@@ -149,7 +149,7 @@ module _ (reach : Reach) (v : ℕ) where
   unfolding on_fence on_delete
   heard node from (body.Store m) = store_says node from m
   heard node from (body.Fetch m) = (answer_says from node.shelf m (held_at node.shelf.held m.name), tt)
-  heard node from (body.Fence m) = fence_says from m _
+  heard node from (body.Fence m) = fence_says from m (fenced_at node.shelf m.log m.pass)
   heard node from (body.List m) = (tt, tt)
   heard node from (body.Delete m) = (tt, tt)
   heard node from (body.Listed m) = listed_says node (server_in from) m

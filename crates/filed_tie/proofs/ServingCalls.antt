@@ -50,7 +50,7 @@ module _ (reach : Reach) (c : ℕ) where
   gets_so s block h =
       by_test (λ (m : Made). Goes m.done) (is_nothing (held_at s block).mode) (needs s block Copy) (got s block (held_at s block))
       (λ t. needs_so s block Copy h)
-      (λ t. frames.goes_plain reach (Client c) At (record s { cache = touched s.cache block }) _ h (tt, tt))
+      (λ t. tokens.plain_so reach c (got s block (held_at s block)).done.state (got s block (held_at s block)).done.outs h (tt, tt))
 
   -- once the tokens have the write, the log takes it
   changes_so : (s : Serving) (block : BlockId) (value : Option (List ℕ)) → At s → Goes (changes s block value).done
