@@ -1,6 +1,6 @@
 -- What the cleaner that serves does for its job: the end of its log and of its feed stay, but where a segment that it wrote is settled.
-use Rattle.std.proofs.Common.{◌≡◌, ℕ, ◌≤◌, Bool, true, false, List, [], ◌∷◌, Option, Some, None, sym, subst}
-use Rattle.std.specs.List.{AllByRecursion, flat_map}
+use Rattle.std.proofs.Common.{ℕ, ◌≤◌, Bool, true, false, List, [], ◌∷◌, Option, Some, None, sym, subst}
+use Rattle.std.specs.List.{flat_map}
 use Rattle.xfs_base.specs.declared.block.BlockId.{BlockId}
 use Rattle.xfs_base.specs.declared.entry.Entry.{Entry}
 use Rattle.xfs_base.specs.declared.entry.Place.{Place}
@@ -23,7 +23,6 @@ use Rattle.stripe_cleaner.specs.declared.input.In.{In as Input}
 use Rattle.stripe_cleaner.specs.declared.input.In.TheVariants as input
 use Rattle.stripe_cleaner.specs.declared.output.Out.{Out}
 use Rattle.stripe_cleaner.specs.declared.output.Out.TheVariants as out
-use Rattle.stripe_cleaner.specs.Transition.{transition}
 use Rattle.stripe_code.specs.declared.reading.Next.{Next}
 use Rattle.stripe_code.specs.declared.reading.Next.TheVariants as next
 use Rattle.stripe_code.specs.declared.round.Told.{Told}
@@ -38,7 +37,7 @@ use Rattle.store_nodes.specs.declared.emptying.Emptying.{Emptying}
 use Rattle.store_nodes.specs.declared.hand.Hand.{Hand}
 use Rattle.store_nodes.specs.declared.job.Job.{Job}
 use Rattle.store_nodes.specs.Hands.{Heard, fetches_for, fetches}
-use Rattle.store_nodes.specs.Jobs.{Done, with_questions, asks_maps, asks_list, asks_usage, job_checks, hand_checks_in, checked_in, checks_block, check_sent, asks_check, hand_of, holds_in, holds, reads, puts, puts_block, moves, is_whole, drops, deletes, finishes, says, takes_in, job_takes, cleans, lists_of, usages_of, check_of, is_out, on_listed, on_usage, on_live, on_dead, on_deleted, job_read, ends_reading, hand_hears_in, job_hears, hand_confirmed_in, job_confirmed, told_in, told_by, confirmed_in, confirmed, after_confirmed, reads_again, after_told, on_told}
+use Rattle.store_nodes.specs.Jobs.{Done, with_questions, asks_maps, asks_list, asks_usage, checked_in, checks_block, check_sent, asks_check, hand_of, holds_in, holds, reads, puts, puts_block, moves, is_whole, drops, deletes, finishes, says, takes_in, job_takes, cleans, lists_of, usages_of, check_of, is_out, on_listed, on_usage, on_live, on_dead, on_deleted, job_read, ends_reading, told_in, told_by, confirmed_in, confirmed, after_confirmed, reads_again, after_told, on_told}
 use Rattle.xfs_base.proofs.Booleans.{by_test}
 use Rattle.store_nodes.specs.EmptyingEvents.{cleaner_log}
 use Rattle.filed_tie.specs.Reach.{Reach}
@@ -233,7 +232,8 @@ module _ (reach : Reach) where
   told_so e (next.Read segment) h = reading_ended e (Some segment) h
   told_so e next.Lost h = reading_ended e None h
 
-  hears_told : (e : Emptying) (job : Option Job) (groups : Option GroupMapState) (ask server : ℕ) (t : Told) → At e → At (told_in e job groups ask server t).state
+  hears_told : (e : Emptying) (job : Option Job) (groups : Option GroupMapState) (ask server : ℕ) (t : Told) → At e
+      → At (told_in e job groups ask server t).state
   hears_told e None groups ask server t h = h
   hears_told e (Some job) None ask server t h = h
   hears_told e (Some job) (Some groups) ask server t h = h

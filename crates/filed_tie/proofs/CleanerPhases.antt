@@ -1,6 +1,5 @@
 -- What each event makes of the cleaner, and what it sends, where all that it acts to be filed is reached.
-use Rattle.std.proofs.Common.{◌≡◌, ◌≤◌, ℕ, ◌&&◌, true, List, [], ◌∷◌, Option, Some, None, refl, arith}
-use Rattle.std.specs.List.{AllByRecursion}
+use Rattle.std.proofs.Common.{◌≡◌, ℕ, true, List, [], ◌∷◌, Option, Some, None, refl, arith}
 use Rattle.xfs_base.proofs.Booleans.{by_test, and_first, and_second}
 use Rattle.xfs_base.specs.declared.node.NodeId.TheVariants.{Cleaner as TheCleaner}
 use Rattle.xfs_base.specs.Steps.{still}
@@ -67,8 +66,7 @@ module _ (reach : Reach) where
   crashed : (l : Lasting) (number : ℕ) → Goes (crashes l number)
   unfolding crashes
   crashed l number =
-      at_once (crashes l number).state (crashes l number).outs tt
-      (frames.all_append (frames.Says reach TheCleaner) (answers_unanswered l.items.unanswered answer.Cut) _ (frames.answers_say reach TheCleaner l.items.unanswered answer.Cut) (tt, tt))
+      at_once (crashes l number).state (crashes l number).outs tt (frames.both_say reach TheCleaner l.items.unanswered answer.Cut number answer.Done)
 
   progressed : (l : Lasting) (p : Progress) → events.ProgressReaches reach TheCleaner cleaner_log.0 p → Goes (after_opening l p)
   unfolding after_opening
@@ -78,13 +76,15 @@ module _ (reach : Reach) where
       (frames.all_append (frames.Says reach TheCleaner) (pushes_all o.promised.managers o.feed) (answers_unanswered l.items.unanswered answer.Done)
       (pushes_all_say reach TheCleaner o.promised.managers o.feed h.feed_reached) (frames.answers_say reach TheCleaner l.items.unanswered answer.Done))
   progressed l (progress.Lost seg) h =
-      at_once (after_opening l (progress.Lost seg)).state (after_opening l (progress.Lost seg)).outs tt (frames.answers_say reach TheCleaner l.items.unanswered (answer.Lost seg))
+      at_once (after_opening l (progress.Lost seg)).state (after_opening l (progress.Lost seg)).outs tt
+      (frames.answers_say reach TheCleaner l.items.unanswered (answer.Lost seg))
 
   opened : (l : Lasting) (w : Went) → events.WentSo reach TheCleaner cleaner_log.0 w → Goes (opened_on l w)
   opened l w p acts =
-      let e : Went_to = after_opening (record l { questions = w.questions }) w.progress in
+      let m : Lasting = record l { questions = w.questions } in
+      let e : Went_to = after_opening m w.progress in
       let first = p (frames.all_before (frames.Reached reach TheCleaner) w.effects e.outs acts) in
-      let second = progressed (record l { questions = w.questions }) w.progress first.0 (frames.all_behind (frames.Reached reach TheCleaner) w.effects e.outs acts) in
+      let second = progressed m w.progress first.0 (frames.all_behind (frames.Reached reach TheCleaner) w.effects e.outs acts) in
       (second.0, frames.all_append (frames.Says reach TheCleaner) w.effects e.outs first.1 second.1)
 
   restarted : (servers : ℕ) (l : Lasting) (number : ℕ) → Goes (restarts servers l number)
@@ -133,7 +133,8 @@ module _ (reach : Reach) where
   heard : (p : Phase) (packet : Packet) → has_logs packet.body ≡ true → BodyTells reach packet.from packet.body → PhaseSo p → Goes (hears p packet)
   unfolding hears
   heard (Down l) packet shape tells h = stays (Down l) tt
-  heard (Opening l o) packet shape tells h = opened l (opening.on_packet o l.questions packet) (events.packet_goes reach TheCleaner cleaner_log.0 o l.questions packet h shape tells)
+  heard (Opening l o) packet shape tells h =
+      opened l (opening.on_packet o l.questions packet) (events.packet_goes reach TheCleaner cleaner_log.0 o l.questions packet h shape tells)
   heard (Serving e) packet shape tells h = serves (on_packet e packet) (packet_heard reach e packet h)
 
   delivered : (peers : Peers) (p : Phase) (packet : Packet) → BodyTells reach packet.from packet.body → PhaseSo p → Goes (on_deliver peers p packet)

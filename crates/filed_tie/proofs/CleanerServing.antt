@@ -1,5 +1,6 @@
--- What packets and time make of a cleaner that serves: where a segment is settled it is acted to be filed, so the end of the log and of the feed are filed then.
-use Rattle.std.proofs.Common.{⊎_elim, ◌≡◌, ℕ, ◌==◌, ◌&&◌, ◌≤◌, Bool, true, false, List, [], ◌∷◌, Option, Some, None, sym, subst}
+-- What packets and time make of a cleaner that serves: where a segment is settled it is acted to be filed, so the end of the log and of the feed are filed
+-- then.
+use Rattle.std.proofs.Common.{⊎_elim, ℕ, ◌==◌, ◌&&◌, ◌≤◌, Bool, true, false, List, [], ◌∷◌, Option, Some, None, sym, subst}
 use Rattle.std.specs.Prelude.{nat_lt}
 use Rattle.std.specs.List.{AllByRecursion, range_with_len}
 use Rattle.std.specs.Option.{is_some}
@@ -69,7 +70,8 @@ module _ (reach : Reach) where
   unfolding begins_job
   job_begun e number count h =
       let d : Done = promises_all (with_new_job e number count) in
-      frames.goes_on reach node.Cleaner At d (cleans d.state input.Tick) (all_promised (with_new_job e number count) h) (λ k. jobs.job_goes_on reach d.state input.Tick k)
+      frames.goes_on reach node.Cleaner At d (cleans d.state input.Tick) (all_promised (with_new_job e number count) h)
+      (λ k. jobs.job_goes_on reach d.state input.Tick k)
 
   pub cleaning_wished : (e : Emptying) (number count : ℕ) → At e → Goes (on_clean e number count)
   unfolding on_clean
@@ -93,7 +95,8 @@ module _ (reach : Reach) where
   unfolding writes_one
   sends_so e [] h all = stays e h
   sends_so e (log_out.Send f member ∷ outs) h all =
-      frames.goes_on reach node.Cleaner At (record { state = e; outs = store f member ∷ [] }) (steps writes_one e outs) (jobs.at_once reach e (store f member ∷ []) h (tt, tt))
+      frames.goes_on reach node.Cleaner At (record { state = e; outs = store f member ∷ [] }) (steps writes_one e outs)
+      (jobs.at_once reach e (store f member ∷ []) h (tt, tt))
       (λ k. sends_so e outs k all.1)
   sends_so e (log_out.Settled end rows ∷ outs) h all = absurd all.0
 
@@ -146,12 +149,14 @@ module _ (reach : Reach) where
   reported e manager m h =
       let kept : Emptying = promises e m.slot m.epoch manager in
       let k : At kept = promised e m.slot m.epoch manager h in
-      frames.goes_after reach node.Cleaner At (answer manager m kept.log.end ∷ []) (cleans kept (input.Promise m.slot m.epoch)) (k.end, tt) (jobs.job_goes_on reach kept (input.Promise m.slot m.epoch) k)
+      frames.goes_after reach node.Cleaner At (answer manager m kept.log.end ∷ []) (cleans kept (input.Promise m.slot m.epoch)) (k.end, tt)
+      (jobs.job_goes_on reach kept (input.Promise m.slot m.epoch) k)
 
   poll_heard : (e : Emptying) (from : NodeId) (m : Poll) → At e → Goes (on_poll e from m)
   unfolding on_poll
   poll_heard e (node.Manager manager) m h =
-      by_test (λ (d : Done). Goes d) (nat_lt m.epoch (epoch_of e.promised m.slot)) (still e) (reports e manager m) (λ t. stays e h) (λ t. reported e manager m h)
+      by_test (λ (d : Done). Goes d) (nat_lt m.epoch (epoch_of e.promised m.slot)) (still e) (reports e manager m) (λ t. stays e h)
+      (λ t. reported e manager m h)
   poll_heard e (node.Client c) m h = stays e h
   poll_heard e (node.Server v) m h = stays e h
   poll_heard e node.Cleaner m h = stays e h
@@ -162,9 +167,9 @@ module _ (reach : Reach) where
   slot_heard : (e : Emptying) (news : SlotNews) → At e → Goes (hears_slot e news)
   unfolding hears_slot
   slot_heard e news h =
-      by_test (λ (d : Done). Goes d) (nat_lt (epoch_of e.promised news.slot) news.epoch) (cleans (promises e news.slot news.epoch news.manager) (input.Promise news.slot news.epoch)) (still e)
-      (λ t. jobs.job_goes_on reach (promises e news.slot news.epoch news.manager) (input.Promise news.slot news.epoch) (promised e news.slot news.epoch news.manager h))
-      (λ t. stays e h)
+      let kept : Emptying = promises e news.slot news.epoch news.manager in
+      by_test (λ (d : Done). Goes d) (nat_lt (epoch_of e.promised news.slot) news.epoch) (cleans kept (input.Promise news.slot news.epoch)) (still e)
+      (λ t. jobs.job_goes_on reach kept (input.Promise news.slot news.epoch) (promised e news.slot news.epoch news.manager h)) (λ t. stays e h)
 
   slots_heard : (e : Emptying) (slots : List SlotNews) → At e → Goes (hears_slots e slots)
   unfolding hears_slots
@@ -229,7 +234,8 @@ module _ (reach : Reach) where
   pub packet_heard : (e : Emptying) (packet : Packet) → At e → Goes (on_packet e packet)
   unfolding on_packet
   packet_heard e packet h =
-      by_test (λ (d : Done). Goes d) (names_known e.maps packet.body) (on_body e packet.from packet.body) (asks_for_maps e) (λ t. body_heard e packet.from packet.body h)
+      by_test (λ (d : Done). Goes d) (names_known e.maps packet.body) (on_body e packet.from packet.body) (asks_for_maps e)
+      (λ t. body_heard e packet.from packet.body h)
       (λ t. jobs.at_once reach (asks_for_maps e).state (asks_for_maps e).outs h (tt, tt))
 
   pub time_passes : (e : Emptying) → At e → Goes (on_tick e)
@@ -240,4 +246,4 @@ module _ (reach : Reach) where
       let p : Done = record { state = l.state; outs = pushes_all l.state.promised.managers l.state.feed } in
       frames.goes_on reach node.Cleaner At j (after l.outs p) (jobs.job_goes_on reach e input.Tick h)
       (λ k. frames.goes_on reach node.Cleaner At l p (log_takes j.state log_in.Tick k)
-      (λ m. jobs.at_once reach l.state (pushes_all l.state.promised.managers l.state.feed) m (pushes_all_say reach node.Cleaner l.state.promised.managers l.state.feed m.feed)))
+      (λ m. jobs.at_once reach l.state p.outs m (pushes_all_say reach node.Cleaner l.state.promised.managers l.state.feed m.feed)))

@@ -1,6 +1,5 @@
 -- What each event makes of a client, and what it sends, where all that it acts to be filed is reached.
-use Rattle.std.proofs.Common.{◌≡◌, ◌≤◌, ℕ, ◌&&◌, true, List, [], ◌∷◌, ◌++◌, Option, Some, None, is_some, refl, sym, subst, arith}
-use Rattle.std.specs.List.{AllByRecursion}
+use Rattle.std.proofs.Common.{◌≡◌, ◌≤◌, ℕ, true, [], ◌∷◌, Option, Some, None, is_some, refl, sym, subst, arith}
 use Rattle.client_node.specs.declared.call.Going.{Going}
 use Rattle.client_node.specs.declared.client.Client.{Client}
 use Rattle.client_node.specs.declared.lasting.Lasting.{Lasting}
@@ -19,12 +18,10 @@ use Rattle.log_owner.specs.Opening as opening
 use Rattle.log_owner.specs.Opening.{Went}
 use Rattle.log_owner.specs.Sending.{pushes_all}
 use Rattle.node_base.specs.Beginning.{next_item, begun, work_at, waiting, answered, answers_unanswered}
-use Rattle.node_base.specs.declared.effects.Effect.{Effect}
-use Rattle.node_base.specs.declared.effects.Effect.TheVariants.{Answer as Answers, Does}
+use Rattle.node_base.specs.declared.effects.Effect.TheVariants.{Answer as Answers}
 use Rattle.node_base.specs.declared.peers.Peers.{Peers}
 use Rattle.node_base.specs.Nodes.{has_node}
 use Rattle.node_base.specs.Shape.{is_well_formed, has_logs, has_slot}
-use Rattle.version_model.specs.declared.act.Act.TheVariants.{Back}
 use Rattle.version_model.specs.declared.answer.Answer.{Answer}
 use Rattle.version_model.specs.declared.answer.Answer.TheVariants as answer
 use Rattle.version_model.specs.declared.work.Work.{Work}
@@ -34,8 +31,8 @@ use Rattle.wire_msg.specs.declared.packet.Do.TheVariants.{Begin, Deliver, Tick}
 use Rattle.wire_msg.specs.declared.packet.Packet.{Packet}
 use Rattle.xfs_base.proofs.Booleans.{by_test, and_first, and_second}
 use Rattle.xfs_base.specs.declared.node.NodeId.TheVariants.{Client as AClient}
-use Rattle.xfs_base.specs.Steps.{still, after}
-use Rattle.filed_tie.specs.ClientReach.{ServingReaches, PhaseReaches, ClientReaches, ClientStartsReaching, ClientsTellFiled}
+use Rattle.xfs_base.specs.Steps.{still}
+use Rattle.filed_tie.specs.ClientReach.{PhaseReaches, ClientStartsReaching, ClientsTellFiled}
 use Rattle.filed_tie.specs.OpeningReach.{OpeningReaches}
 use Rattle.filed_tie.specs.Reach.{Reach, Rises, BodyTells, DoTells}
 use Rattle.filed_tie.proofs.Feeds.{pushes_all_say}
@@ -68,7 +65,7 @@ module _ (reach : Reach) (c : ℕ) where
   crashes_so : (l : Lasting) (number : ℕ) → l.number ≡ c → Goes (crashed l number)
   crashes_so l number own =
       frames.goes_plain reach (AClient c) PhaseSo (Down (record l { items = answered l.items })) (crashed l number).outs own
-      (frames.all_append (frames.Says reach (AClient c)) (answers_unanswered l.items.unanswered answer.Cut) _ (frames.answers_say reach (AClient c) l.items.unanswered answer.Cut) (tt, tt))
+      (frames.both_say reach (AClient c) l.items.unanswered answer.Cut number answer.Done)
 
   restarts_so : (servers : ℕ) (l : Lasting) → l.number ≡ c → Goes (restarted servers l)
   restarts_so servers l own =
@@ -77,14 +74,18 @@ module _ (reach : Reach) (c : ℕ) where
 
   -- ---- the end of an opening
 
-  back_so : (l : Lasting) (capacity : ℕ) (o : Opened) → l.number ≡ c → events.OpensReaching reach (AClient c) c o.log.end.seq o.feed.end → Goes (back l capacity o)
+  back_so : (l : Lasting) (capacity : ℕ) (o : Opened) → l.number ≡ c → events.OpensReaching reach (AClient c) c o.log.end.seq o.feed.end
+      → Goes (back l capacity o)
   back_so l capacity o own h =
       frames.goes_plain reach (AClient c) PhaseSo (back l capacity o).state (back l capacity o).outs
-      (record { own = own; end = h.end_reached; feed = h.feed_reached })
-      (tt, frames.all_append (frames.Says reach (AClient c)) (pushes_all o.promised.managers o.feed) _
-      (pushes_all_say reach (AClient c) o.promised.managers o.feed h.feed_reached) (frames.answers_say reach (AClient c) l.items.unanswered answer.Done))
+      (record { own = own; end = h.end_reached; feed = h.feed_reached }) (
+        tt,
+        frames.all_append (frames.Says reach (AClient c)) (pushes_all o.promised.managers o.feed) _
+            (pushes_all_say reach (AClient c) o.promised.managers o.feed h.feed_reached) (frames.answers_say reach (AClient c) l.items.unanswered answer.Done),
+      )
 
-  after_opening_so : (l : Lasting) (capacity : ℕ) (p : Progress) → l.number ≡ c → events.ProgressReaches reach (AClient c) c p → Goes (after_opening l capacity p)
+  after_opening_so : (l : Lasting) (capacity : ℕ) (p : Progress) → l.number ≡ c → events.ProgressReaches reach (AClient c) c p
+      → Goes (after_opening l capacity p)
   after_opening_so l capacity (progress.Opening o) own h = still_so (Opening l o) (own, h)
   after_opening_so l capacity (progress.Opened o) own h = back_so l capacity o own h
   after_opening_so l capacity (progress.Lost seg) own h =
@@ -115,21 +116,24 @@ module _ (reach : Reach) (c : ℕ) where
   opens_so s number h =
       by_test (λ (d : Done). tokens.Goes reach c d) (is_some s.lasting.items.unanswered) (gives s (Answers number answer.Busy ∷ []))
       (begins_call s number (call_at s number (work_at s.lasting.items number)))
-      (λ t. tokens.plain_so reach c s (Answers number answer.Busy ∷ []) h (tt, tt)) (λ t. begins_so s number (call_at s number (work_at s.lasting.items number)) h)
+      (λ t. tokens.plain_so reach c s (Answers number answer.Busy ∷ []) h (tt, tt))
+      (λ t. begins_so s number (call_at s number (work_at s.lasting.items number)) h)
 
   down_so : (servers number : ℕ) (l : Lasting) (wanted : Option Work) → l.number ≡ c → Goes (down_begins servers l number (wish_of wanted))
   down_so servers number l (Some (work.Restart node)) own = restarts_so servers (next_life l number) own
   down_so servers number l (Some _) own = answers_so (Down l) number answer.Down own
   down_so servers number l None own = answers_so (Down l) number answer.Down own
 
-  opening_so : (l : Lasting) (o : openings.Opening) (number : ℕ) (wanted : Option Work) → PhaseSo (Opening l o) → Goes (opening_begins l o number (wish_of wanted))
+  opening_so : (l : Lasting) (o : openings.Opening) (number : ℕ) (wanted : Option Work) → PhaseSo (Opening l o)
+      → Goes (opening_begins l o number (wish_of wanted))
   opening_so l o number (Some (work.Crash node)) h = crashes_so l number h.0
   opening_so l o number (Some (work.Restart node)) h = answers_so (Opening l o) number answer.Up h
   opening_so l o number (Some _) h = answers_so (Opening l o) number answer.Down h
   opening_so l o number None h = answers_so (Opening l o) number answer.Down h
 
   serving_so : (s : Serving) (number : ℕ) (wanted : Option Work) → tokens.At reach c s → Goes (serving_begins s number (wish_of wanted))
-  serving_so s number (Some (work.Crash node)) h = frames.goes_after reach (AClient c) PhaseSo (falls s ∷ []) (crashed s.lasting number) (tt, tt) (crashes_so s.lasting number h.own)
+  serving_so s number (Some (work.Crash node)) h =
+      frames.goes_after reach (AClient c) PhaseSo (falls s ∷ []) (crashed s.lasting number) (tt, tt) (crashes_so s.lasting number h.own)
   serving_so s number (Some (work.Restart node)) h = answers_so (Serves s) number answer.Up h
   serving_so s number (Some _) h = serves_so (opens s number) (opens_so s number h)
   serving_so s number None h = serves_so (opens s number) (opens_so s number h)
@@ -147,17 +151,21 @@ module _ (reach : Reach) (c : ℕ) where
   unfolding on_begin
   on_begin_so servers p h = item_so servers p (next_item (lasting_of p).items) h
 
-  on_deliver_so : (capacity : ℕ) (p : Phase) (packet : Packet) → has_logs packet.body ≡ true → BodyTells reach packet.from packet.body → PhaseSo p → Goes (on_deliver capacity p packet)
+  on_deliver_so : (capacity : ℕ) (p : Phase) (packet : Packet) → has_logs packet.body ≡ true → BodyTells reach packet.from packet.body → PhaseSo p
+      → Goes (on_deliver capacity p packet)
   unfolding on_deliver
   on_deliver_so capacity (Down l) packet shape tells h = still_so (Down l) h
   on_deliver_so capacity (Opening l o) packet shape tells h =
       opened_on_so l capacity (opening.on_packet o l.questions packet) h.0 (events.packet_goes reach (AClient c) c o l.questions packet h.1 shape tells)
-  on_deliver_so capacity (Serves s) packet shape tells h = serves_so (serving.and_runs reach c (packets.on_packet s packet)) (serving.packet_so reach c s packet h)
+  on_deliver_so capacity (Serves s) packet shape tells h =
+      serves_so (serving.and_runs reach c (packets.on_packet s packet)) (serving.packet_so reach c s packet h)
 
-  delivers_so : (peers : Peers) (capacity : ℕ) (p : Phase) (packet : Packet) → BodyTells reach packet.from packet.body → PhaseSo p → Goes (delivers peers capacity p packet)
+  delivers_so : (peers : Peers) (capacity : ℕ) (p : Phase) (packet : Packet) → BodyTells reach packet.from packet.body → PhaseSo p
+      → Goes (delivers peers capacity p packet)
   delivers_so peers capacity p packet tells h =
       by_test (λ (x : Went_to). Goes x) (is_well_formed peers packet) (on_deliver capacity p packet) (still p)
-      (λ t. on_deliver_so capacity p packet (and_first (has_logs packet.body) (has_slot packet.body) (and_second (has_node peers packet.from) _ t)) tells h) (λ t. still_so p h)
+      (λ t. on_deliver_so capacity p packet (and_first (has_logs packet.body) (has_slot packet.body) (and_second (has_node peers packet.from) _ t)) tells h)
+      (λ t. still_so p h)
 
   on_time_so : (capacity : ℕ) (p : Phase) → PhaseSo p → Goes (on_time capacity p)
   unfolding on_time
@@ -172,7 +180,8 @@ module _ (reach : Reach) (c : ℕ) where
 
   takes_so : (client : Client) (what : Do) → DoTells reach what → PhaseSo client.phase → Goes (takes client what)
   takes_so client what tells h =
-      by_test (λ (x : Went_to). Goes x) (client_room client) (happens client what) (still client.phase) (λ t. happens_so client what tells h) (λ t. still_so client.phase h)
+      by_test (λ (x : Went_to). Goes x) (client_room client) (happens client what) (still client.phase) (λ t. happens_so client what tells h)
+      (λ t. still_so client.phase h)
 
 -- ---- the law
 
@@ -189,7 +198,8 @@ module _ (reach later : Reach) (rises : Rises reach later) where
 reaches : (reach : Reach) (c : ℕ) (p : Phase) → PhaseSo reach c p → PhaseReaches reach p
 reaches reach c (Down l) h = tt
 reaches reach c (Opening l o) h = subst (λ k. OpeningReaches reach k o) (sym h.0) h.1
-reaches reach c (Serves s) h = record { end = subst (λ k. s.log.end.seq ≤ reach k) (sym h.own) h.end; feed = subst (λ k. s.feed.end ≤ reach k) (sym h.own) h.feed }
+reaches reach c (Serves s) h =
+    record { end = subst (λ k. s.log.end.seq ≤ reach k) (sym h.own) h.end; feed = subst (λ k. s.feed.end ≤ reach k) (sym h.own) h.feed }
 
 pub clients_tell : ClientsTellFiled
 clients_tell reach later client what rises holds tells acts =

@@ -1,10 +1,9 @@
 -- What a feed tells was filed: it tells up to its end; and how a feed goes on.
-use Rattle.std.proofs.Common.{◌≡◌, ℕ, ◌-◌, ◌≤◌, suc, ◌&&◌, List, [], ◌∷◌, ◌++◌, map, nat_lt, arith}
+use Rattle.std.proofs.Common.{ℕ, ◌-◌, ◌≤◌, suc, ◌&&◌, List, [], ◌∷◌, ◌++◌, map, nat_lt, arith}
 use Rattle.std.specs.List.{AllByRecursion, flat_map, range_with_len}
 use Rattle.delta_feed.specs.declared.output.Out.{Out}
-use Rattle.delta_feed.specs.declared.output.Out.TheVariants.{Range}
 use Rattle.delta_feed.specs.FeedState.{FeedState, acked_of, started}
-use Rattle.delta_feed.specs.Transition.{rows_after, settled, acknowledged, new_epoch, pushed, ticked}
+use Rattle.delta_feed.specs.Transition.{settled, acknowledged, new_epoch, pushed}
 use Rattle.log_owner.specs.declared.promised.Managers.{Managers}
 use Rattle.log_owner.specs.Opened.{with_segment, fed, feed_of}
 use Rattle.log_owner.specs.Sending.{range, pushes, pushes_all}
@@ -17,7 +16,7 @@ use Rattle.xfs_base.specs.declared.entry.Entry.{Entry}
 use Rattle.xfs_base.specs.declared.node.NodeId.{NodeId}
 use Rattle.xfs_base.specs.declared.segment.End.{End}
 use Rattle.filed_tie.specs.Reach.{Reach, LogReaches}
-use Rattle.filed_tie.proofs.Frames.{all_append, AllSay, Says}
+use Rattle.filed_tie.proofs.Frames.{AllSay}
 
 -- ---- its end
 
@@ -51,7 +50,8 @@ module _ (reach : Reach) (node : NodeId) (managers : Managers) (f : FeedState) (
       by_test (λ (outs : List Out). AllSay reach node (map (range managers) outs)) (nat_lt slot 8 && nat_lt (acked_of f slot) f.end) _ []
       (λ t. (h, tt)) (λ t. tt)
 
-  map_append : (xs ys : List Out) → AllSay reach node (map (range managers) xs) → AllSay reach node (map (range managers) ys) → AllSay reach node (map (range managers) (xs ++ ys))
+  map_append : (xs ys : List Out) → AllSay reach node (map (range managers) xs) → AllSay reach node (map (range managers) ys)
+      → AllSay reach node (map (range managers) (xs ++ ys))
   map_append [] ys all more = more
   map_append (x ∷ xs) ys all more = (all.0, map_append xs ys all.1 more)
 

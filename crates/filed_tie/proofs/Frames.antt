@@ -1,7 +1,8 @@
--- What an event has a node do, step by step: where all that is acted to be filed is reached, the node stands so then, and what it sends tells of nothing beyond.
+-- What an event has a node do, step by step: where all that it acts to be filed is reached, the node stands so then, and what it sends tells of nothing
+-- beyond.
 use Rattle.std.proofs.Common.{ℕ, List, [], ◌∷◌, ◌++◌, map, Option, Some, None}
 use Rattle.std.specs.Prelude.{fold}
-use Rattle.std.specs.List.{AllByRecursion, flat_map}
+use Rattle.std.specs.List.{AllByRecursion}
 use Rattle.node_base.specs.Beginning.{answers_unanswered}
 use Rattle.node_base.specs.declared.effects.Effect.{Effect}
 use Rattle.node_base.specs.declared.effects.Effect.TheVariants.{Send, Answer as Answers, Lose, Does}
@@ -56,6 +57,10 @@ module _ (reach : Reach) (node : NodeId) where
   answers_say None answer = tt
   answers_say (Some number) answer = (tt, tt)
 
+  -- what was open is answered so, and then the item that ended it
+  pub both_say : (item : Option ℕ) (first : Answer) (number : ℕ) (second : Answer) → AllSay (answers_unanswered item first ++ Answers number second ∷ [])
+  both_say item first number second = all_append Says (answers_unanswered item first) (Answers number second ∷ []) (answers_say item first) (tt, tt)
+
   one_packet : (e : Effect) → Says e → AllByRecursion (PacketTells reach) (packet_of node e)
   one_packet (Send to said) says = (says, tt)
   one_packet (Answers item answer) says = tt
@@ -77,8 +82,8 @@ module _ (reach : Reach) (node : NodeId) where
   pub acts_reached : (es : List Effect) → ActsReach reach (acts_of node es) → AllReached es
   acts_reached [] acts = tt
   acts_reached (e ∷ es) acts = (
-      one_act e (all_before (ActReached reach) (act_of node e) (acts_of node es) acts),
-      acts_reached es (all_behind (ActReached reach) (act_of node e) (acts_of node es) acts),
+    one_act e (all_before (ActReached reach) (act_of node e) (acts_of node es) acts),
+    acts_reached es (all_behind (ActReached reach) (act_of node e) (acts_of node es) acts),
   )
 
   -- ---- steps

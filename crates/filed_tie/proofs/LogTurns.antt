@@ -1,5 +1,5 @@
 -- What an input makes of a log: its end stays and it tells none, or it tells first that a segment is settled, which is its end then.
-use Rattle.std.proofs.Common.{◌≡◌, ◌⊎◌, ℕ, ◌+◌, true, false, cond, ◌&&◌, List, [], ◌∷◌, ◌++◌, Option, Some, None, refl, sym, ap, inl, inr, nat_lt}
+use Rattle.std.proofs.Common.{◌≡◌, ◌⊎◌, ℕ, ◌+◌, true, false, cond, ◌&&◌, List, [], ◌∷◌, ◌++◌, Some, None, refl, sym, ap, inl, inr, nat_lt}
 use Rattle.std.specs.Prelude.{length, drop, take}
 use Rattle.std.specs.List.{AllByRecursion}
 use Rattle.xfs_base.specs.declared.block.BlockId.{BlockId}
@@ -8,7 +8,7 @@ use Rattle.xfs_base.specs.declared.segment.End.{End}
 use Rattle.xfs_base.specs.declared.segment.Prior.{Prior}
 use Rattle.xfs_base.specs.declared.segment.SegName.{SegName}
 use Rattle.xfs_base.specs.Limits.{segment_blocks}
-use Rattle.xfs_base.specs.Steps.{still, after}
+use Rattle.xfs_base.specs.Steps.{still}
 use Rattle.xfs_base.proofs.Booleans.{by_test}
 use Rattle.segment_format.specs.declared.segment.Item.{Item}
 use Rattle.segment_format.specs.Rows.{rows_of}
@@ -83,11 +83,13 @@ if_full_rests s = by_test (Rests s.end) (is_full s) (sealed s) (still s) (λ t. 
 pub put_rests : (s : LogState) (block : BlockId) (change : Change) → Rests s.end (on_put s block change)
 unfolding on_put
 put_rests s block change =
-    by_test (Rests s.end) (can_go_on (waits s block change)) (if_full (waits s block change)) (still s) (λ t. if_full_rests (waits s block change)) (λ t. still_rests s)
+    by_test (Rests s.end) (can_go_on (waits s block change)) (if_full (waits s block change)) (still s) (λ t. if_full_rests (waits s block change))
+    (λ t. still_rests s)
 
 pub seal_rests : (s : LogState) → Rests s.end (on_seal s)
 unfolding on_seal
-seal_rests s = by_test (Rests s.end) (is_idle s && nat_lt 0 (length s.dirty) && has_next s.end.seq) (sealed s) (still s) (λ t. sealed_rests s) (λ t. still_rests s)
+seal_rests s =
+    by_test (Rests s.end) (is_idle s && nat_lt 0 (length s.dirty) && has_next s.end.seq) (sealed s) (still s) (λ t. sealed_rests s) (λ t. still_rests s)
 
 parts_rest : (s : LogState) (items : List Item) → Rests s.end (on_parts s items)
 unfolding on_parts
@@ -100,8 +102,9 @@ parts_rest s items =
 settled_lands : (s : LogState) (f : FlightState) → Lands (settled s f)
 unfolding settled
 settled_lands s f =
-    let r : Rests (end_from f.segment) (if_full (landed s f)) = if_full_rests (landed s f) in
-    record { rows = rows_of f.segment; rest = (if_full (landed s f)).outs; outs = ap (λ (e : End). Settled e (rows_of f.segment) ∷ (if_full (landed s f)).outs) (sym r.same); sends = r.sends }
+    let d : Done = if_full (landed s f) in
+    let r : Rests (end_from f.segment) d = if_full_rests (landed s f) in
+    record { rows = rows_of f.segment; rest = d.outs; outs = ap (λ (e : End). Settled e (rows_of f.segment) ∷ d.outs) (sym r.same); sends = r.sends }
 
 follows_on : (s : LogState) (f : FlightState) (fate : Fate) → Turns s.end (followed s f fate)
 unfolding restriped
@@ -120,7 +123,8 @@ unfolding on_acked
 acked_turns s name index generation =
     elim s.flight as (λ o. Turns s.end (elim o [ None ↦ still s | Some f ↦ cond (is_of f name index generation) (looked_at s s (noting f index)) (still s) ])) [
       | None ↦ inl (still_rests s)
-      | Some f ↦ by_test (Turns s.end) (is_of f name index generation) (looked_at s s (noting f index)) (still s) (λ t. looks_on s s (noting f index) refl) (λ t. inl (still_rests s))
+      | Some f ↦ by_test (Turns s.end) (is_of f name index generation) (looked_at s s (noting f index)) (still s) (λ t. looks_on s s (noting f index) refl)
+          (λ t. inl (still_rests s))
     ]
 
 maps_turn : (s : LogState) (groups : GroupMapState) → Turns s.end (on_maps s groups)

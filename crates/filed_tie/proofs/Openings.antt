@@ -1,15 +1,14 @@
--- What each event makes of the opening of a log: it holds nothing beyond what was filed, and nor does the log that is open then, with its feed, since the opening
--- acts the chain that was read back and its opening segment to be filed.
-use Rattle.std.proofs.Common.{⊎_elim, ◌≡◌, ◌⊎◌, ℕ, ◌≤◌, suc, ◌==◌, ◌&&◌, Bool, true, List, [], ◌∷◌, ◌++◌, map, Option, Some, None, refl, sym, subst, nat_le, arith}
+-- What each event makes of the opening of a log: it holds nothing beyond what was filed, and nor does the log that is open then, with its feed, since the
+-- opening acts the chain that was read back and its opening segment to be filed.
+use Rattle.std.proofs.Common.{⊎_elim, ◌≡◌, ℕ, ◌≤◌, ◌==◌, ◌&&◌, true, List, [], ◌∷◌, map, Option, Some, None, refl, sym, subst, nat_le, arith}
 use Rattle.std.specs.Prelude.{length}
 use Rattle.std.specs.List.{AllByRecursion}
 use Rattle.std.proofs.lemmas.Bool.Decides.{nat_tests}
-use Rattle.xfs_base.proofs.Booleans.{by_test, and_first, and_second}
+use Rattle.xfs_base.proofs.Booleans.{by_test, and_first}
 use Rattle.xfs_base.specs.declared.node.NodeId.{NodeId}
 use Rattle.xfs_base.specs.declared.node.NodeId.TheVariants.{Client, Manager, Server, Cleaner, Registry}
 use Rattle.xfs_base.specs.declared.segment.End.{End}
-use Rattle.xfs_base.specs.declared.segment.LogId.{LogId}
-use Rattle.xfs_base.specs.Steps.{Stepped, still, after, steps}
+use Rattle.xfs_base.specs.Steps.{still, steps}
 use Rattle.segment_format.specs.declared.segment.Segment.{Segment}
 use Rattle.group_map.specs.GroupMapState.{GroupMapState}
 use Rattle.client_log.specs.declared.input.In.{In as LogIn}
@@ -26,10 +25,10 @@ use Rattle.log_owner.specs.declared.opening.Scanning.{Scanning}
 use Rattle.log_owner.specs.declared.opening.Settling.{Settling}
 use Rattle.log_owner.specs.declared.opening.Stage.{Stage}
 use Rattle.log_owner.specs.declared.opening.Stage.TheVariants as stage
-use Rattle.log_owner.specs.Opened.{filed, files}
-use Rattle.log_owner.specs.Opening.{Went, Moved, stays, drops, asking, at_scan, at_log, said, scanned, wrote_one, written, opened, opens, logged, writes, behind, starts_log, settles_over, settles, follows, told, stepped, scans_on, scans_at, scans, at_first, welcomed_with, welcomed, welcomed_as, is_meant, welcomed_in, on_welcome, regrouped, on_news, is_fenced, fenced_by, on_fenced, own_in, answers, found_by, missing_by, on_found, on_missing, on_stored, on_tick, on_body, on_packet, went, nothing_asked}
+use Rattle.log_owner.specs.Opened.{filed}
+use Rattle.log_owner.specs.Opening.{Went, Moved, stays, drops, at_scan, at_log, said, scanned, wrote_one, written, opens, logged, writes, behind, starts_log, settles_over, follows, stepped, scans_on, scans_at, scans, at_first, welcomed_with, welcomed, welcomed_as, is_meant, welcomed_in, on_welcome, regrouped, on_news, is_fenced, fenced_by, on_fenced, own_in, answers, on_found, on_missing, on_stored, on_tick, on_body, on_packet, went, nothing_asked}
 use Rattle.log_owner.specs.Promised.{promised_in}
-use Rattle.log_owner.specs.Sending.{hello, store}
+use Rattle.log_owner.specs.Sending.{hello}
 use Rattle.log_scan.specs.declared.input.In.{In}
 use Rattle.log_scan.specs.declared.input.In.TheVariants as input
 use Rattle.log_scan.specs.declared.output.Out.{Out}
@@ -43,7 +42,7 @@ use Rattle.node_base.specs.declared.questions.Asked.{Asked}
 use Rattle.node_base.specs.declared.questions.Questions.{Questions}
 use Rattle.node_base.specs.Known.{names_known}
 use Rattle.node_base.specs.Maps.{fits, is_older, taken}
-use Rattle.node_base.specs.Shape.{is_log, has_logs, is_news, are_from, is_slot_news}
+use Rattle.node_base.specs.Shape.{is_log, has_logs, is_news}
 use Rattle.wire_msg.specs.declared.body.Body.{Body}
 use Rattle.wire_msg.specs.declared.body.Body.TheVariants as body
 use Rattle.wire_msg.specs.declared.packet.Packet.{Packet}
@@ -54,7 +53,7 @@ use Rattle.wire_msg.specs.declared.storage.Found.{Found}
 use Rattle.wire_msg.specs.declared.storage.Missing.{Missing}
 use Rattle.wire_msg.specs.declared.storage.Stored.{Stored}
 use Rattle.filed_tie.specs.OpeningReach.{AreOfLog, ScanReaches, SettlingReaches, StageReaches, OpeningReaches}
-use Rattle.filed_tie.specs.Reach.{Reach, BodyTells, SlotsReach}
+use Rattle.filed_tie.specs.Reach.{Reach, BodyTells}
 use Rattle.filed_tie.proofs.Feeds.{opened_end}
 use Rattle.filed_tie.proofs.Frames as frames
 use Rattle.filed_tie.proofs.LogTurns.{IsSend, Rests, Lands, Turns, log_turns}
@@ -99,7 +98,8 @@ module _ (reach : Reach) (node : NodeId) (log : ℕ) where
     at_log_so : (s : Settling) → SettlingReaches reach log s → ProgressReaches (at_log k s)
     at_log_so s h = record { own = own; stage = h }
 
-    filed_reached : (chain : List Segment) → AreOfLog log chain → frames.AllReached reach node (map filed chain) → AllByRecursion (λ s. s.name.seq ≤ reach log) chain
+    filed_reached : (chain : List Segment) → AreOfLog log chain → frames.AllReached reach node (map filed chain)
+        → AllByRecursion (λ s. s.name.seq ≤ reach log) chain
     filed_reached [] of_log acts = tt
     filed_reached (s ∷ chain) of_log acts = (subst (λ l. s.name.seq ≤ reach l) of_log.0 acts.0, filed_reached chain of_log.1 acts.1)
 
@@ -112,8 +112,7 @@ module _ (reach : Reach) (node : NodeId) (log : ℕ) where
         let last : s.log.end.seq ≤ reach log =
         subst (λ l. s.log.end.seq ≤ reach l) own (frames.all_behind (frames.Reached reach node) (map filed s.chain) _ acts).0 in
         let chain : AllByRecursion (λ x. x.name.seq ≤ reach log) s.chain =
-        filed_reached s.chain h.chain (frames.all_before (frames.Reached reach node) (map filed s.chain) _ acts) in
-        (
+        filed_reached s.chain h.chain (frames.all_before (frames.Reached reach node) (map filed s.chain) _ acts) in (
           record { end_reached = last; feed_reached = opened_end (reach log) s.low s.chain s.log.end h.low chain last },
           frames.all_append (frames.Says reach node) (map filed s.chain) _ (filed_said s.chain) (tt, tt),
         )
@@ -153,7 +152,8 @@ module _ (reach : Reach) (node : NodeId) (log : ℕ) where
     starts_so : (s : Scanning) (segments : List Segment) (end : End) (low : ℕ) (groups : GroupMapState) → ScanReaches reach log s.scan → AreOfLog log segments
         → s.scan.opening.low ≡ low → Goes (starts_log k s (record { segments = segments; end = end; low = low }) groups)
     starts_so s segments end low groups h of_log is =
-        by_test (λ (m : Moved). Goes m) (is_log k.owner.log.0) (writes k (behind k (record { segments = segments; end = end; low = low }) groups) (log_in.Parts [])) (still (at_scan k s))
+        by_test (λ (m : Moved). Goes m) (is_log k.owner.log.0)
+        (writes k (behind k (record { segments = segments; end = end; low = low }) groups) (log_in.Parts [])) (still (at_scan k s))
         (λ t. writes_so (behind k (record { segments = segments; end = end; low = low }) groups) (log_in.Parts [])
         (record { low = (let a = h.low (some t) in omega (arith, a, is)); chain = of_log }))
         (λ t. frames.goes_still reach node ProgressReaches (at_scan k s) (at_scan_so s h))
@@ -161,7 +161,8 @@ module _ (reach : Reach) (node : NodeId) (log : ℕ) where
         some : is_log k.owner.log.0 ≡ true → 1 ≤ log
         some t = (let one : nat_le 1 k.owner.log.0 ≡ true = and_first (nat_le 1 k.owner.log.0) _ t in subst (λ l. 1 ≤ l) own (grind (arith, nat_tests)))
 
-    settles_so : (s : Scanning) (segments : List Segment) (end : End) (low : ℕ) (groups : Option GroupMapState) → ScanReaches reach log s.scan → AreOfLog log segments
+    settles_so : (s : Scanning) (segments : List Segment) (end : End) (low : ℕ) (groups : Option GroupMapState) → ScanReaches reach log s.scan
+        → AreOfLog log segments
         → s.scan.opening.low ≡ low → Goes (settles_over k s (record { segments = segments; end = end; low = low }) groups)
     settles_so s segments end low None h of_log is = frames.goes_still reach node ProgressReaches (at_scan k s) (at_scan_so s h)
     settles_so s segments end low (Some groups) h of_log is = starts_so s segments end low groups h of_log is
@@ -177,7 +178,8 @@ module _ (reach : Reach) (node : NodeId) (log : ℕ) where
       scanned_ends a q e (out.Hello own ∷ outs) all ends = scanned_ends (asked_as a q own) (drawn_for a q own) e outs all.1 ends
       scanned_ends a q e (out.Fence server ∷ outs) all ends = scanned_ends a q e outs all.1 ends
       scanned_ends a q e (out.Fetch server name own ∷ outs) all ends = scanned_ends (asked_as a q own) (drawn_for a q own) e outs all.1 ends
-      scanned_ends a q e (out.Chain segments end prior ∷ outs) all ends = scanned_ends a q _ outs all.1 (λ s h is. settles_so s segments end low k.maps.groups h all.0 is)
+      scanned_ends a q e (out.Chain segments end prior ∷ outs) all ends =
+          scanned_ends a q _ outs all.1 (λ s h is. settles_so s segments end low k.maps.groups h all.0 is)
       scanned_ends a q e (out.Lost name ∷ outs) all ends =
           scanned_ends a q _ outs all.1 (λ s h is. frames.goes_plain reach node ProgressReaches (progress.Lost name) (Lose name ∷ []) tt (tt, tt))
 
@@ -196,7 +198,8 @@ module _ (reach : Reach) (node : NodeId) (log : ℕ) where
       scanned_says : (st : _) (outs : List Out) → AllSay (steps (said k.owner low) st outs).outs
       scanned_says st [] = tt
       scanned_says st (o ∷ outs) =
-          frames.all_append (frames.Says reach node) (said k.owner low st o).outs (steps (said k.owner low) (said k.owner low st o).state outs).outs (one_said st o)
+          frames.all_append (frames.Says reach node) (said k.owner low st o).outs (steps (said k.owner low) (said k.owner low st o).state outs).outs
+          (one_said st o)
           (scanned_says (said k.owner low st o).state outs)
 
     stepped_so : (q : Questions) (s : Scanning) (r : scan.Done) → ScanKeeps reach log r → WentSo (stepped k q s r)
@@ -204,7 +207,8 @@ module _ (reach : Reach) (node : NodeId) (log : ℕ) where
         let low : ℕ = r.state.opening.low in
         let e = scanned k.owner low s.asked q r.outs in
         let next : Scanning = record { scan = r.state; asked = e.state.asked } in
-        frames.goes_after reach node ProgressReaches e.outs (follows k next e.state.ended) (scanned_says low (record { asked = s.asked; questions = q; ended = None }) r.outs)
+        frames.goes_after reach node ProgressReaches e.outs (follows k next e.state.ended)
+        (scanned_says low (record { asked = s.asked; questions = q; ended = None }) r.outs)
         (scanned_ends low s.asked q None r.outs kept.outs (none_ends low) next kept.state refl)
 
     scans_so : (q : Questions) (s : Scanning) (i : In) → ScanReaches reach log s.scan → InputTells reach log i → WentSo (scans_on k q s i)
@@ -278,7 +282,8 @@ module _ (reach : Reach) (node : NodeId) (log : ℕ) where
 
   -- ---- maps
 
-  regrouped_so : (k : Known) (q : Questions) (groups : GroupMapState) (at : Stage) → k.owner.log.0 ≡ log → StageReaches reach log at → WentSo (regrouped k q groups at)
+  regrouped_so : (k : Known) (q : Questions) (groups : GroupMapState) (at : Stage) → k.owner.log.0 ≡ log → StageReaches reach log at
+      → WentSo (regrouped k q groups at)
   regrouped_so k q groups (stage.Scanning s) own h = scans_so k own q s (input.Maps groups) h tt
   regrouped_so k q groups (stage.Settling s) own h = writes_so k own s (log_in.Maps groups) h
 
@@ -298,7 +303,8 @@ module _ (reach : Reach) (node : NodeId) (log : ℕ) where
     welcomed_with_so maps news asked None tells =
         frames.goes_still reach node ProgressReaches (at_scan (record k { maps = maps }) s) (at_scan_so (record k { maps = maps }) own s h)
     welcomed_with_so maps news asked (Some groups) tells =
-        scans_so (record k { maps = maps; promised = promised_in news.slots }) own q (record s { asked = nothing_asked }) (input.Welcome asked news.slots groups) h tells
+        scans_so (record k { maps = maps; promised = promised_in news.slots }) own q (record s { asked = nothing_asked })
+        (input.Welcome asked news.slots groups) h tells
 
     welcomed_so : (news : News) (asked : ℕ) → NewsReach reach log news.slots → WentSo (welcomed k q s news asked)
     unfolding welcomed
@@ -321,7 +327,8 @@ module _ (reach : Reach) (node : NodeId) (log : ℕ) where
 
   -- ---- a packet
 
-  body_so : (o : Opening) (q : Questions) (from : NodeId) (b : Body) → OpeningReaches reach log o → has_logs b ≡ true → BodyTells reach from b → WentSo (on_body o q from b)
+  body_so : (o : Opening) (q : Questions) (from : NodeId) (b : Body) → OpeningReaches reach log o → has_logs b ≡ true → BodyTells reach from b
+      → WentSo (on_body o q from b)
   unfolding on_body
   body_so o q from (body.Welcome m) h shape tells = welcome_so o.known o.stage q m h.own h.stage (some_slots m.news shape, tells)
   body_so o q from (body.MapNews m) h shape tells = news_so o q m h
@@ -331,11 +338,13 @@ module _ (reach : Reach) (node : NodeId) (log : ℕ) where
   body_so o q from (body.Stored m) h shape tells = stored_so o.known o.stage q m h.own h.stage
   body_so o q from _ h shape tells = opening_so o q h
 
-  pub packet_goes : (o : Opening) (q : Questions) (p : Packet) → OpeningReaches reach log o → has_logs p.body ≡ true → BodyTells reach p.from p.body → WentSo (on_packet o q p)
+  pub packet_goes : (o : Opening) (q : Questions) (p : Packet) → OpeningReaches reach log o → has_logs p.body ≡ true → BodyTells reach p.from p.body
+      → WentSo (on_packet o q p)
   unfolding on_packet
   packet_goes o q p h shape tells =
-      by_test (λ (w : Went). WentSo w) (names_known o.known.maps p.body) (on_body o q p.from p.body) (went (progress.Opening o) (drawn q) (hello o.known.owner.inc (next_ask q) ∷ []))
-      (λ t. body_so o q p.from p.body h shape tells) 
+      by_test (λ (w : Went). WentSo w) (names_known o.known.maps p.body) (on_body o q p.from p.body)
+      (went (progress.Opening o) (drawn q) (hello o.known.owner.inc (next_ask q) ∷ []))
+      (λ t. body_so o q p.from p.body h shape tells)
       (λ t. frames.goes_plain reach node ProgressReaches (progress.Opening o) (hello o.known.owner.inc (next_ask q) ∷ []) h (tt, tt))
 
   pub tick_goes : (o : Opening) (q : Questions) → OpeningReaches reach log o → WentSo (on_tick o q)

@@ -1,7 +1,6 @@
 -- What was reached is reached later; and what a horizon of slots comes to.
 use Rattle.std.proofs.Common.{◌≡◌, ℕ, zero, suc, ◌+◌, ◌-◌, ◌≤◌, List, [], ◌∷◌, Option, Some, None, subst, arith}
 use Rattle.std.specs.Prelude.{length, unwrap_or, slice_get}
-use Rattle.std.specs.List.{AllByRecursion}
 use Rattle.log_scan.specs.Transition.{horizon_of, least_horizon}
 use Rattle.manager_node.specs.Serving.{fed_log}
 use Rattle.wire_msg.specs.declared.body.Body.{Body}
@@ -17,7 +16,8 @@ use Rattle.filed_tie.specs.Reach.{Reach, Rises, NumbersUpto, AppliedReaches, Hor
 
 numbers_rise : (most more : Reach) → Rises most more → (log : ℕ) (numbers : List ℕ) → NumbersUpto most log numbers → NumbersUpto more log numbers
 numbers_rise most more rises log [] all = tt
-numbers_rise most more rises log (number ∷ numbers) all = (let a = all.0 in let b = rises log in omega (arith, a, b), numbers_rise most more rises (suc log) numbers all.1)
+numbers_rise most more rises log (number ∷ numbers) all =
+    (let a = all.0 in let b = rises log in omega (arith, a, b), numbers_rise most more rises (suc log) numbers all.1)
 
 module _ (reach later : Reach) (rises : Rises reach later) where
   pub applied_rises : (applied : List ℕ) → AppliedReaches reach applied → AppliedReaches later applied
@@ -35,8 +35,8 @@ module _ (reach later : Reach) (rises : Rises reach later) where
   log_rises (Some log) number h = (let a = rises log.0 in omega (arith, a, h))
 
   pub body_rises : (from : NodeId) (b : Body) → BodyTells reach from b → BodyTells later from b
-  body_rises from (body.Deltas m) h = log_rises (fed_log from) m.upto h
-  body_rises from (body.Report m) h = log_rises (fed_log from) m.end.seq h
+  body_rises from (body.Deltas m) h = log_rises (fed_log from) _ h
+  body_rises from (body.Report m) h = log_rises (fed_log from) _ h
   body_rises from (body.CkptDone m) h = horizon_rises m.horizon h
   body_rises from (body.MapNews m) h = slots_rise m.slots h
   body_rises from (body.Welcome m) h = slots_rise m.news.slots h

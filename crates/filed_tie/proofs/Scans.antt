@@ -1,12 +1,11 @@
 -- What each input makes of the reading back of a log: all that is read is of the log, and the horizon below which nothing is read is above nothing but what was
 -- filed, where the maps that come tell so.
-use Rattle.std.proofs.Common.{◌≡◌, ℕ, ◌+◌, ◌≤◌, suc, ◌&&◌, List, [], ◌∷◌, ◌++◌, map, Option, Some, None, refl, sym, ap, ◌∙◌, subst, arith}
+use Rattle.std.proofs.Common.{◌≡◌, ℕ, ◌+◌, ◌≤◌, suc, ◌&&◌, List, [], ◌∷◌, ◌++◌, map, Option, Some, None, sym, ap, ◌∙◌, subst, arith}
 use Rattle.std.specs.Prelude.{◌==◌, reverse, length, IfSome}
 use Rattle.std.specs.List.{AllByRecursion}
 use Rattle.std.proofs.lemmas.List.{reverse-append}
 use Rattle.group_map.specs.declared.group.Group.{Group}
 use Rattle.group_map.specs.GroupMapState.{GroupMapState}
-use Rattle.segment_format.specs.declared.segment.Segment.{Segment}
 use Rattle.stripe_code.specs.declared.reading.Next.{Next}
 use Rattle.stripe_code.specs.declared.reading.Next.TheVariants as next
 use Rattle.stripe_code.specs.declared.round.Told.{Told}
@@ -36,7 +35,8 @@ use Rattle.filed_tie.proofs.Rising.{least_low}
 
 all_reverse : {X : Type 0} (P : X → Type 0) (xs : List X) → AllByRecursion P xs → AllByRecursion P (reverse xs)
 all_reverse P [] all = tt
-all_reverse P (x ∷ xs) all = subst (AllByRecursion P) (sym (reverse-append (x ∷ []) xs)) (all_append P (reverse xs) (x ∷ []) (all_reverse P xs all.1) (all.0, tt))
+all_reverse P (x ∷ xs) all =
+    subst (AllByRecursion P) (sym (reverse-append (x ∷ []) xs)) (all_append P (reverse xs) (x ∷ []) (all_reverse P xs all.1) (all.0, tt))
 
 -- a chain that is told is of the log
 abbrev pub ChainTells : ℕ → Out → Type 0
@@ -91,9 +91,11 @@ module _ (reach : Reach) (log : ℕ) where
     keeps_follows : (b : Backward) → AreOfLog log b.chain → Keeps (follows o b)
     unfolding follows
     keeps_follows b so =
-        by_test (λ (d : Done). Keeps d) (is_bottom o.low b.next) (goes o Over (chain_of b ∷ [])) (begins_round o b) (λ t. keeps_chain b so) (λ t. keeps_begins b so)
+        by_test (λ (d : Done). Keeps d) (is_bottom o.low b.next) (goes o Over (chain_of b ∷ [])) (begins_round o b) (λ t. keeps_chain b so)
+        (λ t. keeps_begins b so)
 
-    keeps_goes_on : (b : Backward) (r : ReadingState) (n : Next) → AreOfLog log b.chain → LooksFor (Some r) → ReadsName r.target.seg.name n → Keeps (goes_on o b r n)
+    keeps_goes_on : (b : Backward) (r : ReadingState) (n : Next) → AreOfLog log b.chain → LooksFor (Some r) → ReadsName r.target.seg.name n
+        → Keeps (goes_on o b r n)
     unfolding goes_on
     keeps_goes_on b r next.Wait so looks name = keeps_stay (Reads b (Some r)) (so, looks)
     keeps_goes_on b r next.Ask so looks name =
@@ -103,7 +105,8 @@ module _ (reach : Reach) (log : ℕ) where
         keeps_follows (with_segment b s) (all_append (λ x. x.name.log.0 ≡ log) b.chain (s ∷ []) so (ap (λ (n : SegName). n.log.0) name ∙ looks, tt))
     keeps_goes_on b r next.Lost so looks name = record { opening = is; stage = tt; outs = (tt, tt) }
 
-    keeps_step : (b : Backward) (r : ReadingState) (step : reading.Step) → AreOfLog log b.chain → LooksFor (Some r) → KeepsTarget r step → Keeps (goes_on o b step.state step.next)
+    keeps_step : (b : Backward) (r : ReadingState) (step : reading.Step) → AreOfLog log b.chain → LooksFor (Some r) → KeepsTarget r step
+        → Keeps (goes_on o b step.state step.next)
     keeps_step b r step so looks k =
         keeps_goes_on b step.state step.next so (ap (λ t. t.seg.name.log.0) k.same ∙ looks) (subst (λ t. ReadsName t.seg.name step.next) (sym k.same) k.name)
 
@@ -150,14 +153,14 @@ module _ (reach : Reach) (log : ℕ) where
   least_is_low o slots is news some =
       subst (λ (l : ℕ). least_horizon l slots ≤ suc (reach log)) (sym is.own) (least_low reach log slots some news.0 news.1)
 
-  keeps_on_welcome : (o : Opening) (stage : Stage) (ask : ℕ) (slots : List SlotNews) (groups : GroupMapState) → IsOpening o → NewsReach slots → ReadsLog log stage
-      → Keeps (on_welcome o stage ask slots groups)
+  keeps_on_welcome : (o : Opening) (stage : Stage) (ask : ℕ) (slots : List SlotNews) (groups : GroupMapState) → IsOpening o → NewsReach slots
+      → ReadsLog log stage → Keeps (on_welcome o stage ask slots groups)
   unfolding on_welcome
   keeps_on_welcome o stage ask slots groups is news st =
-      by_test (λ (d : Done). Keeps d) ((ask == o.ask) && (can_ask o && awaits_welcome stage))
-      (welcomed (record o { groups = Some groups }) stage (least_horizon o.log.0 slots)) (stays o stage)
-      (λ t. keeps_welcomed (record o { groups = Some groups }) stage (least_horizon o.log.0 slots) (record { own = is.own; low = is.low }) (least_is_low o slots is news) st)
-      (λ t. keeps_stay o is stage st)
+      let p : Opening = record o { groups = Some groups } in
+      let least : ℕ = least_horizon o.log.0 slots in
+      by_test (λ (d : Done). Keeps d) ((ask == o.ask) && (can_ask o && awaits_welcome stage)) (welcomed p stage least) (stays o stage)
+      (λ t. keeps_welcomed p stage least (record { own = is.own; low = is.low }) (least_is_low o slots is news) st) (λ t. keeps_stay o is stage st)
 
   -- ---- the other inputs
 
@@ -177,10 +180,12 @@ module _ (reach : Reach) (log : ℕ) where
   keeps_on_fenced o (Reads b r) l is st = keeps_stay o is (Reads b r) st
   keeps_on_fenced o Over l is st = keeps_stay o is Over tt
 
-  keeps_heard_with : (o : Opening) (b : Backward) (r : ReadingState) (groups : Option GroupMapState) (ask server : ℕ) (t : Told) → IsOpening o → AreOfLog log b.chain
+  keeps_heard_with : (o : Opening) (b : Backward) (r : ReadingState) (groups : Option GroupMapState) (ask server : ℕ) (t : Told) → IsOpening o
+      → AreOfLog log b.chain
       → LooksFor (Some r) → Keeps (heard_with o b r groups ask server t)
   keeps_heard_with o b r None ask server t is so looks = keeps_stay o is (Reads b (Some r)) (so, looks)
-  keeps_heard_with o b r (Some groups) ask server t is so looks = keeps_step o is b r (on_answer r groups ask server t) so looks (answered_keeps r groups ask server t)
+  keeps_heard_with o b r (Some groups) ask server t is so looks =
+      keeps_step o is b r (on_answer r groups ask server t) so looks (answered_keeps r groups ask server t)
 
   keeps_heard : (o : Opening) (b : Backward) (r : Option ReadingState) (ask server : ℕ) (t : Told) → IsOpening o → AreOfLog log b.chain → LooksFor r
       → Keeps (heard o b r ask server t)
@@ -200,7 +205,8 @@ module _ (reach : Reach) (log : ℕ) where
   again_tells : (o : Opening) (r : Option ReadingState) → AllByRecursion (ChainTells log) (asked_again o r)
   again_tells o None = (tt, tt)
   again_tells o (Some r) =
-      by_test (AllByRecursion (ChainTells log)) (is_asking r.stage) (fetches r) (out.Hello o.ask ∷ []) (λ t. fetches_tell r.target.seg.name r.ask (to_ask r)) (λ t. (tt, tt))
+      by_test (AllByRecursion (ChainTells log)) (is_asking r.stage) (fetches r) (out.Hello o.ask ∷ []) (λ t. fetches_tell r.target.seg.name r.ask (to_ask r))
+      (λ t. (tt, tt))
 
   tick_tells : (o : Opening) (stage : Stage) → AllByRecursion (ChainTells log) (on_tick o stage)
   unfolding on_tick
@@ -221,7 +227,8 @@ module _ (reach : Reach) (log : ℕ) where
 
   keeps_takes : (o : Opening) (stage : Stage) (input : In) → IsOpening o → ReadsLog log stage → InputTells input → Keeps (takes o stage input)
   keeps_takes o stage (Welcome ask news groups) is st tells = keeps_on_welcome o stage ask news groups is tells st
-  keeps_takes o stage (Fenced server generation held) is st tells = keeps_on_fenced o stage (record { server = server; generation = generation; held = held }) is st
+  keeps_takes o stage (Fenced server generation held) is st tells =
+      keeps_on_fenced o stage (record { server = server; generation = generation; held = held }) is st
   keeps_takes o stage (Got ask server generation fragment) is st tells = keeps_on_told o stage ask server _ is st
   keeps_takes o stage (Missing ask server generation) is st tells = keeps_on_told o stage ask server _ is st
   keeps_takes o stage (Maps groups) is st tells = record { opening = record { own = is.own; low = is.low }; stage = st; outs = tt }

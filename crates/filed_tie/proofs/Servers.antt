@@ -74,7 +74,8 @@ module _ (reach : Reach) (v : ℕ) where
   all_say : (node : nodes.Server) (outs : List Out) → Quiet (steps says node outs)
   all_say node [] = tt
   all_say node (o ∷ outs) =
-      frames.all_append (frames.Says reach (Server v)) (says node o).outs (steps says (says node o).state outs).outs (one_says node o) (all_say (says node o).state outs)
+      frames.all_append (frames.Says reach (Server v)) (says node o).outs (steps says (says node o).state outs).outs (one_says node o)
+      (all_say (says node o).state outs)
 
   goes_on_says : (node : nodes.Server) (r : Option Rebuilding) (given : Input) → Quiet (goes_on node r given)
   goes_on_says node None given = tt
@@ -136,7 +137,8 @@ module _ (reach : Reach) (v : ℕ) where
   welcomed : (node : nodes.Server) (m : Welcome) → Quiet (on_welcome node m)
   unfolding on_welcome
   welcomed node m =
-      by_test Quiet ((m.inc == node.shelf.generation) && fits node.maps m.news) (takes_news (record node { hello = left_hello node.hello m.ask }) m.news) (still node)
+      by_test Quiet ((m.inc == node.shelf.generation) && fits node.maps m.news) (takes_news (record node { hello = left_hello node.hello m.ask }) m.news)
+      (still node)
       (λ t. news_say (record node { hello = left_hello node.hello m.ask }) m.news) (λ t. tt)
 
   asks_say : (node : nodes.Server) → Quiet (asks_for_maps node)
@@ -158,7 +160,8 @@ module _ (reach : Reach) (v : ℕ) where
   heard node from _ = tt
 
   heard_known : (node : nodes.Server) (from : NodeId) (said : Body) → Quiet (hears_known node from said)
-  heard_known node from said = by_test Quiet (names_known node.maps said) (hears node from said) (asks_for_maps node) (λ t. heard node from said) (λ t. asks_say node)
+  heard_known node from said =
+      by_test Quiet (names_known node.maps said) (hears node from said) (asks_for_maps node) (λ t. heard node from said) (λ t. asks_say node)
 
   body_heard : (node : nodes.Server) (from : NodeId) (said : Body) → Quiet (on_body node from said)
   body_heard node from (body.MapNews news) = news_heard node news
@@ -167,14 +170,17 @@ module _ (reach : Reach) (v : ℕ) where
 
   packet_heard : (node : nodes.Server) (packet : Packet) → Quiet (on_packet node packet)
   unfolding on_packet
-  packet_heard node packet = by_test Quiet (is_well_formed node.peers packet) (on_body node packet.from packet.body) (still node) (λ t. body_heard node packet.from packet.body) (λ t. tt)
+  packet_heard node packet =
+      by_test Quiet (is_well_formed node.peers packet) (on_body node packet.from packet.body) (still node) (λ t. body_heard node packet.from packet.body)
+      (λ t. tt)
 
   -- ---- items
 
   lose_says : (node : nodes.Server) (number : ℕ) → Quiet (on_lose node number)
   unfolding on_lose
   lose_says node number =
-      frames.all_append (frames.Says reach (Server v)) (answers_unanswered node.items.unanswered answers.Cut) _ (frames.answers_say reach (Server v) node.items.unanswered answers.Cut)
+      frames.all_append (frames.Says reach (Server v)) (answers_unanswered node.items.unanswered answers.Cut) _
+      (frames.answers_say reach (Server v) node.items.unanswered answers.Cut)
       (tt, (tt, tt))
 
   begun_says : (node : nodes.Server) (number : ℕ) (groups : Option GroupMapState) → Quiet (begins_rebuild node number groups)
@@ -209,7 +215,8 @@ module _ (reach : Reach) (v : ℕ) where
   ticks : (node : nodes.Server) → Quiet (on_tick node)
   unfolding on_tick
   ticks node =
-      frames.all_append (frames.Says reach (Server v)) (hello_again node node.hello) (rebuilds node input.Tick).outs (hello_says node node.hello) (rebuild_says node input.Tick)
+      frames.all_append (frames.Says reach (Server v)) (hello_again node node.hello) (rebuilds node input.Tick).outs (hello_says node node.hello)
+      (rebuild_says node input.Tick)
 
   happens : (node : nodes.Server) (what : Do) → Quiet (on_event node what)
   happens node Begin = begins node

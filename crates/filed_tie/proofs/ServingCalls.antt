@@ -1,5 +1,5 @@
 -- What a client that serves does for the open call: its puts and seals.
-use Rattle.std.proofs.Common.{◌≡◌, ℕ, zero, suc, ◌==◌, true, List, [], ◌∷◌, Option, Some, None, is_none}
+use Rattle.std.proofs.Common.{ℕ, zero, suc, ◌==◌, List, [], ◌∷◌, Option, Some, None, is_none}
 use Rattle.client_log.specs.declared.input.In.TheVariants as log_in
 use Rattle.client_node.specs.Blocks.{Made, needs, got, gets, wrote, put_of, changes, puts, lets_go, changed, puts_again, puts_at, is_settled, synced_acts, syncs, makes}
 use Rattle.client_node.specs.declared.call.Call.{Call}
@@ -10,7 +10,6 @@ use Rattle.client_node.specs.Flights.{held_at}
 use Rattle.client_node.specs.Follow.{notes_gone, seals}
 use Rattle.client_node.specs.Running.{after_answer, goes_on, Ran, answers_call, ran, runs_call, runs_once, runs_upto, runs, most_steps}
 use Rattle.client_node.specs.Sends.{Done}
-use Rattle.coop_cache.specs.Transition.{touched}
 use Rattle.file_plan.specs.declared.block_call.BlockAnswer.{BlockAnswer}
 use Rattle.file_plan.specs.declared.block_call.BlockCall.{BlockCall}
 use Rattle.file_plan.specs.declared.block_call.BlockCall.TheVariants.{Get, Put, PutAt, Sync}
@@ -89,7 +88,8 @@ module _ (reach : Reach) (c : ℕ) where
   syncs_so s h =
       let d : Done = seals s in
       frames.goes_and_gives reach (Client c) At d d.state (synced_acts d.state) (tokens.seals_so reach c s h) (λ k. k)
-      (λ k. by_test (λ (es : List Effect). tokens.AllSay reach c es) (is_settled d.state) (Does (Synced d.state.lasting.number) ∷ []) [] (λ t. (tt, tt)) (λ t. tt))
+      (λ k. by_test (λ (es : List Effect). tokens.AllSay reach c es) (is_settled d.state) (Does (Synced d.state.lasting.number) ∷ []) []
+      (λ t. (tt, tt)) (λ t. tt))
 
   makes_so : (s : Serving) (call : BlockCall) → At s → Goes (makes s call).done
   unfolding makes
@@ -104,7 +104,8 @@ module _ (reach : Reach) (c : ℕ) where
   unfolding goes_on
   goes_on_so s (On call) h = tokens.still_so reach c (record s { call = Some call }) h
   goes_on_so s (Ends answer) h =
-      tokens.plain_so reach c (record s { lasting = record s.lasting { items = answered s.lasting.items } }) (answers_unanswered s.lasting.items.unanswered answer) h
+      tokens.plain_so reach c (record s { lasting = record s.lasting { items = answered s.lasting.items } })
+      (answers_unanswered s.lasting.items.unanswered answer) h
       (frames.answers_say reach (Client c) s.lasting.items.unanswered answer)
 
   answers_call_so : (s : Serving) (call : Call) (answer : Option BlockAnswer) → At s → Goes (answers_call s call answer).done
@@ -114,7 +115,8 @@ module _ (reach : Reach) (c : ℕ) where
   -- what was made is told to the call
   ran_so : (call : Call) (made : Made) → Goes made.done → Goes (ran call made).done
   ran_so call made p =
-      frames.goes_on reach (Client c) At made.done (answers_call made.done.state call made.answer).done p (λ k. answers_call_so made.done.state call made.answer k)
+      frames.goes_on reach (Client c) At made.done (answers_call made.done.state call made.answer).done p
+      (λ k. answers_call_so made.done.state call made.answer k)
 
   runs_call_so : (s : Serving) (call : Option Call) → At s → Goes (runs_call s call).done
   runs_call_so s None h = tokens.still_so reach c s h

@@ -1,6 +1,6 @@
 -- What a client that serves does once its log takes an input: where a segment is settled it is acted to be filed, so the end of the log and of the feed are
 -- filed then.
-use Rattle.std.proofs.Common.{⊎_elim, ◌≡◌, ℕ, ◌≤◌, ◌&&◌, not, Bool, List, [], ◌∷◌, Option, Some, None, sym, subst}
+use Rattle.std.proofs.Common.{⊎_elim, ℕ, ◌≤◌, ◌&&◌, not, Bool, List, [], ◌∷◌, Option, Some, None, sym, subst}
 use Rattle.std.specs.Prelude.{fold}
 use Rattle.std.specs.List.{AllByRecursion, list_any}
 use Rattle.client_log.specs.declared.input.In.{In as Input}
@@ -13,7 +13,6 @@ use Rattle.client_node.specs.Flights.{held_at, log_of, notes_settled, keeps_clea
 use Rattle.client_node.specs.Follow.{notes_clean, seals}
 use Rattle.client_node.specs.Sends.{Done, gives}
 use Rattle.log_owner.specs.Sending.{store, name_of, pushes_all}
-use Rattle.node_base.specs.declared.effects.Effect.{Effect}
 use Rattle.node_base.specs.declared.effects.Effect.TheVariants.{Does}
 use Rattle.token_client.specs.declared.held.Giving.{Giving}
 use Rattle.token_client.specs.Held.{is_dirty}
@@ -74,7 +73,8 @@ module _ (reach : Reach) (c : ℕ) where
       let k : At t = settled_rows_so s rows h in
       let fed : Serving = feeds t end rows in
       let at : At fed = record { own = k.own; end = k.end; feed = settled_end (reach c) t.feed end.seq rows k.feed filed } in
-      frames.goes_after reach (Client c) At (Does (Filed (name_of (log_of s.lasting) end)) ∷ pushes_all fed.managers fed.feed) (steps gives_if_clean fed (dirty_in s.tokens.blocks))
+      frames.goes_after reach (Client c) At (Does (Filed (name_of (log_of s.lasting) end)) ∷ pushes_all fed.managers fed.feed)
+      (steps gives_if_clean fed (dirty_in s.tokens.blocks))
       (tt, pushes_all_say reach (Client c) fed.managers fed.feed at.feed)
       (frames.goes_steps reach (Client c) At gives_if_clean gives_if_clean_so fed (dirty_in s.tokens.blocks) at)
 
@@ -84,7 +84,8 @@ module _ (reach : Reach) (c : ℕ) where
   unfolding writes_one
   sends_so s [] h all = tokens.still_so reach c s h
   sends_so s (Send fragment member ∷ outs) h all =
-      frames.goes_on reach (Client c) At (gives s (store fragment member ∷ [])) (steps writes_one s outs) (tokens.plain_so reach c s (store fragment member ∷ []) h (tt, tt))
+      frames.goes_on reach (Client c) At (gives s (store fragment member ∷ [])) (steps writes_one s outs)
+      (tokens.plain_so reach c s (store fragment member ∷ []) h (tt, tt))
       (λ k. sends_so s outs k all.1)
   sends_so s (Settled end rows ∷ outs) h all = absurd all.0
 

@@ -1,5 +1,5 @@
 -- What packets and time make of a client that serves.
-use Rattle.std.proofs.Common.{◌≡◌, ℕ, ◌==◌, Bool, List, [], ◌∷◌, ◌++◌, Option, Some, None, nat_lt, ◌&&◌, not}
+use Rattle.std.proofs.Common.{ℕ, ◌==◌, Bool, List, [], ◌∷◌, ◌++◌, Option, Some, None, nat_lt, ◌&&◌, not}
 use Rattle.std.specs.List.{flat_map}
 use Rattle.client_log.specs.declared.input.In.TheVariants as log_in
 use Rattle.client_node.specs.declared.serving.Serving.{Serving}
@@ -66,7 +66,8 @@ module _ (reach : Reach) (c : ℕ) where
   on_grant_so : (s : Serving) (m : Grant) → At s → Goes (on_grant s m)
   unfolding on_grant
   on_grant_so s m h =
-      by_test (λ (d : Done). Goes d) (is_own m.mode && not (has_long_room m.entry.ver)) (still s) (hands s (input.Granted m.block m.stamp m.inc m.req m.mode m.entry))
+      by_test (λ (d : Done). Goes d) (is_own m.mode && not (has_long_room m.entry.ver)) (still s)
+      (hands s (input.Granted m.block m.stamp m.inc m.req m.mode m.entry))
       (λ t. still_so s h) (λ t. tokens.hands_so reach c s (input.Granted m.block m.stamp m.inc m.req m.mode m.entry) h)
 
   on_supply_so : (s : Serving) (m : Supply) → At s → Goes (on_supply s m)
@@ -102,7 +103,8 @@ module _ (reach : Reach) (c : ℕ) where
 
   on_gone_so : (s : Serving) (m : Gone) → At s → Goes (on_gone s m)
   unfolding on_gone
-  on_gone_so s m h = by_test (λ (d : Done). Goes d) (is_gone s m) (loses s m.block m.seg) (still s) (λ t. tokens.loses_so reach c s m.block m.seg h) (λ t. still_so s h)
+  on_gone_so s m h =
+      by_test (λ (d : Done). Goes d) (is_gone s m) (loses s m.block m.seg) (still s) (λ t. tokens.loses_so reach c s m.block m.seg h) (λ t. still_so s h)
 
   on_ack_so : (s : Serving) (a : DeltaAck) → At s → Goes (still (on_ack s a))
   unfolding on_ack
@@ -154,7 +156,8 @@ module _ (reach : Reach) (c : ℕ) where
 
   reports_so : (slot epoch : ℕ) (p : Stepped Serving outputs.Out) → At p.state → Goes (reports slot epoch p)
   reports_so slot epoch p h =
-      frames.goes_after reach (node.Client c) At (report p.state slot epoch ∷ []) (follows p.state p.outs) (h.end, tt) (tokens.follows_so reach c p.state p.outs h)
+      frames.goes_after reach (node.Client c) At (report p.state slot epoch ∷ []) (follows p.state p.outs) (h.end, tt)
+      (tokens.follows_so reach c p.state p.outs h)
 
   polled_so : (s : Serving) (manager : ℕ) (p : Poll) → At s → Goes (polled s manager p)
   unfolding polled
@@ -176,14 +179,16 @@ module _ (reach : Reach) (c : ℕ) where
   hears_so s news h = by_test (λ (d : Done). Goes d) (is_news s news) (promised_in s news) (still s) (λ t. promised_in_so s news h) (λ t. still_so s h)
 
   regroups_so : (s : Serving) (newer : Bool) (m : GroupMapState) → At s → Goes (regroups s newer m)
-  regroups_so s newer m h = by_test (λ (d : Done). Goes d) newer (writes s (log_in.Maps m)) (still s) (λ t. flights.writes_so reach c s (log_in.Maps m) h) (λ t. still_so s h)
+  regroups_so s newer m h =
+      by_test (λ (d : Done). Goes d) newer (writes s (log_in.Maps m)) (still s) (λ t. flights.writes_so reach c s (log_in.Maps m) h) (λ t. still_so s h)
 
   takes_news_so : (s : Serving) (news : News) → At s → Goes (takes_news s news)
   unfolding takes_news
   takes_news_so s news h =
       let t : Serving = record s { maps = taken s.maps news } in
       let d : Done = steps hears t news.slots in
-      frames.goes_on reach (node.Client c) At d (regroups d.state (is_older s.maps news) news.groups) (frames.goes_steps reach (node.Client c) At hears hears_so t news.slots h)
+      frames.goes_on reach (node.Client c) At d (regroups d.state (is_older s.maps news) news.groups)
+      (frames.goes_steps reach (node.Client c) At hears hears_so t news.slots h)
       (λ k. regroups_so d.state (is_older s.maps news) news.groups k)
 
   on_news_so : (s : Serving) (news : News) → At s → Goes (on_news s news)
@@ -217,7 +222,8 @@ module _ (reach : Reach) (c : ℕ) where
   packet_goes : (s : Serving) (p : Packet) → At s → Goes (on_packet s p)
   unfolding on_packet
   packet_goes s p h =
-      by_test (λ (d : Done). Goes d) (names_known s.maps p.body) (on_body s p.from p.body) (asks_for_maps s) (λ t. body_so s p.from p.body h) (λ t. asks_for_maps_so s h)
+      by_test (λ (d : Done). Goes d) (names_known s.maps p.body) (on_body s p.from p.body) (asks_for_maps s) (λ t. body_so s p.from p.body h)
+      (λ t. asks_for_maps_so s h)
 
   -- what is done, and then the open call runs
   abbrev pub and_runs : Done → Done

@@ -1,6 +1,6 @@
 -- What a client that serves does at an input of its tokens: the cache, the readings, the seals of its log, and what it says.
-use Rattle.std.proofs.Common.{◌≡◌, ℕ, ◌==◌, ◌≤◌, Bool, List, [], ◌∷◌, map, Option, Some, None, is_none, refl, sym, subst}
-use Rattle.std.specs.List.{AllByRecursion, flat_map}
+use Rattle.std.proofs.Common.{◌≡◌, ℕ, ◌==◌, ◌≤◌, Bool, List, [], ◌∷◌, Option, Some, None, is_none, sym, subst}
+use Rattle.std.specs.List.{flat_map}
 use Rattle.client_log.specs.declared.output.Out.{Out as LogOut}
 use Rattle.client_log.specs.declared.output.Out.TheVariants as log_out
 use Rattle.client_log.specs.Transition as log
@@ -90,7 +90,8 @@ module _ (reach : Reach) (c : ℕ) where
 
   pub notes_gone_so : (s : Serving) (block : BlockId) → At s → At (notes_gone s block)
   unfolding notes_gone
-  notes_gone_so s block h = by_test (λ (t : Serving). At t) (is_nothing (held_of s.tokens.blocks block).mode) (record s { cache = left s.cache block }) s (λ t. h) (λ t. h)
+  notes_gone_so s block h =
+      by_test (λ (t : Serving). At t) (is_nothing (held_of s.tokens.blocks block).mode) (record s { cache = left s.cache block }) s (λ t. h) (λ t. h)
 
   notes_copy_so : (s : Serving) (block : BlockId) → At s → At (notes_copy s block)
   unfolding notes_copy

@@ -1,5 +1,5 @@
 -- What the cleaner holds of what was filed of its log.
-use Rattle.std.specs.Prelude.{ℕ, ◌≤◌, List}
+use Rattle.std.specs.Prelude.{◌≤◌, List}
 use Rattle.store_nodes.specs.CleanerEvents.{cleaner_start, cleaner_step}
 use Rattle.store_nodes.specs.EmptyingEvents.{cleaner_log}
 use Rattle.store_nodes.specs.declared.cleaner.Cleaner.{Cleaner}
