@@ -29,7 +29,7 @@ use Rattle.store_nodes.specs.declared.emptying.Emptying.{Emptying}
 use Rattle.store_nodes.specs.declared.lasting.Lasting.{Lasting}
 use Rattle.store_nodes.specs.EmptyingEvents.{cleaner_log, on_clean, on_packet, on_tick}
 use Rattle.store_nodes.specs.Jobs.{Done}
-use Rattle.filed_tie.specs.CleanerReach.{PhaseReaches, CleanerStartsReaching, CleanerTellsFiled}
+use Rattle.filed_tie.specs.CleanerReach.{PhaseReaches, CleanerReachRises, CleanerStartsReaching, CleanerTellsFiled}
 use Rattle.filed_tie.specs.OpeningReach.{OpeningReaches}
 use Rattle.filed_tie.specs.Reach.{Reach, Rises, BodyTells, DoTells}
 use Rattle.filed_tie.proofs.CleanerJobs as jobs
@@ -173,6 +173,9 @@ reaches : (reach : Reach) (p : Phase) → PhaseSo reach p → PhaseReaches reach
 reaches reach (Down l) h = tt
 reaches reach (Opening l o) h = h
 reaches reach (Serving e) h = record { end = h.end; feed = h.feed }
+
+pub cleaner_rises : CleanerReachRises
+cleaner_rises reach later cleaner rises holds = reaches later cleaner.phase (stands reach later rises cleaner.phase holds)
 
 pub cleaner_tells : CleanerTellsFiled
 cleaner_tells reach later cleaner what rises holds tells acts =

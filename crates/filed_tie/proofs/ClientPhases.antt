@@ -32,7 +32,7 @@ use Rattle.wire_msg.specs.declared.packet.Packet.{Packet}
 use Rattle.xfs_base.proofs.Booleans.{by_test, and_first, and_second}
 use Rattle.xfs_base.specs.declared.node.NodeId.TheVariants.{Client as AClient}
 use Rattle.xfs_base.specs.Steps.{still}
-use Rattle.filed_tie.specs.ClientReach.{PhaseReaches, ClientStartsReaching, ClientsTellFiled}
+use Rattle.filed_tie.specs.ClientReach.{PhaseReaches, ClientReachRises, ClientStartsReaching, ClientsTellFiled}
 use Rattle.filed_tie.specs.OpeningReach.{OpeningReaches}
 use Rattle.filed_tie.specs.Reach.{Reach, Rises, BodyTells, DoTells}
 use Rattle.filed_tie.proofs.Feeds.{pushes_all_say}
@@ -200,6 +200,9 @@ reaches reach c (Down l) h = tt
 reaches reach c (Opening l o) h = subst (λ k. OpeningReaches reach k o) (sym h.0) h.1
 reaches reach c (Serves s) h =
     record { end = subst (λ k. s.log.end.seq ≤ reach k) (sym h.own) h.end; feed = subst (λ k. s.feed.end ≤ reach k) (sym h.own) h.feed }
+
+pub client_rises : ClientReachRises
+client_rises reach later client rises holds = reaches later (lasting_of client.phase).number client.phase (stands reach later rises client.phase holds)
 
 pub clients_tell : ClientsTellFiled
 clients_tell reach later client what rises holds tells acts =

@@ -84,6 +84,10 @@ pub record TellsFiled {N : Type 0} (Reaches : Reach → N → Type 0) (reach : R
   pub node : Reaches reach step.node
   pub packets : AllByRecursion (PacketTells reach) step.packets
 
+-- what a node of this kind holds of what was filed it holds of what is filed later
+abbrev pub ReachesRise : (N : Type 0) → (Reach → N → Type 0) → Type 0
+ReachesRise N Reaches = (reach later : Reach) (node : N) → Rises reach later → Reaches reach node → Reaches later node
+
 -- Each event of a node of this kind: where the node held, and the packet that comes told, of nothing beyond what was filed before, the node holds and tells
 -- of nothing then beyond what was filed before and in the event.
 abbrev pub EventsTellFiled : (N : Type 0) → (Reach → N → Type 0) → (N → Do → NodeStep N) → Type 0
