@@ -74,7 +74,8 @@ module _ (log : ℕ) (acts : List Act) where
   with_first act rest =
       elim (either (filed_number log act) (filed_upto acts log)) [
         | inl e ↦ subst (λ n. (n ≡ 0) ⊎ FiledAt (act ∷ acts) log n) (sym e) (first_filed act)
-        | inr e ↦ subst (λ n. (n ≡ 0) ⊎ FiledAt (act ∷ acts) log n) (sym e) (elim rest [ inl none ↦ inl none | inr f ↦ inr (later_filed act (filed_upto acts log) f) ])
+        | inr e ↦ subst (λ n. (n ≡ 0) ⊎ FiledAt (act ∷ acts) log n) (sym e)
+            (elim rest [ inl none ↦ inl none | inr f ↦ inr (later_filed act (filed_upto acts log) f) ])
       ]
 
 pub is_filed : (acts : List Act) (log : ℕ) → IsFiledUpto acts log

@@ -99,11 +99,16 @@ module _ (laws : NodeLaws) where
 
     any_tells : (node : AnyNode) (what : Do) → AnyReaches reach node → DoTells reach what → ActsReach later (any_step node what).acts
         → TellsFiled AnyReaches later (any_step node what)
-    any_tells (any.Client node) what h tells acts = (let t = laws.client reach later node what rises h tells acts in record { node = t.node; packets = t.packets })
-    any_tells (any.Manager node) what h tells acts = (let t = laws.manager reach later node what rises h tells acts in record { node = t.node; packets = t.packets })
-    any_tells (any.Server node) what h tells acts = (let t = laws.server reach later node what rises h tells acts in record { node = t.node; packets = t.packets })
-    any_tells (any.Cleaner node) what h tells acts = (let t = laws.cleaner reach later node what rises h tells acts in record { node = t.node; packets = t.packets })
-    any_tells (any.Registry node) what h tells acts = (let t = laws.registry reach later node what rises h tells acts in record { node = t.node; packets = t.packets })
+    any_tells (any.Client node) what h tells acts =
+        (let t = laws.client reach later node what rises h tells acts in record { node = t.node; packets = t.packets })
+    any_tells (any.Manager node) what h tells acts =
+        (let t = laws.manager reach later node what rises h tells acts in record { node = t.node; packets = t.packets })
+    any_tells (any.Server node) what h tells acts =
+        (let t = laws.server reach later node what rises h tells acts in record { node = t.node; packets = t.packets })
+    any_tells (any.Cleaner node) what h tells acts =
+        (let t = laws.cleaner reach later node what rises h tells acts in record { node = t.node; packets = t.packets })
+    any_tells (any.Registry node) what h tells acts =
+        (let t = laws.registry reach later node what rises h tells acts in record { node = t.node; packets = t.packets })
 
   -- ---- an event
 
@@ -114,7 +119,8 @@ module _ (laws : NodeLaws) where
   clocked reach clock [] all = tt
   clocked reach clock (p ∷ ps) all = (all.0, clocked reach clock ps all.1)
 
-  delivered : (w : World AnyNode) (event : Event) → MayHappen w event → AllByRecursion (PacketTells (filed_upto w.acts)) w.sent → DoTells (filed_upto w.acts) (what_of event)
+  delivered : (w : World AnyNode) (event : Event) → MayHappen w event → AllByRecursion (PacketTells (filed_upto w.acts)) w.sent
+      → DoTells (filed_upto w.acts) (what_of event)
   delivered w (Begin node) may all = tt
   delivered w (Deliver packet) may all = all_got (PacketTells (filed_upto w.acts)) w.sent may.0 packet all may.1
   delivered w (Tick node) may all = tt
@@ -127,9 +133,9 @@ module _ (laws : NodeLaws) where
         let later : Reach = filed_upto (w.acts ++ (any_step node what).acts) in
         let rises : Rises reach later = filed_rises w.acts (any_step node what).acts in
         let t : TellsFiled AnyReaches later (any_step node what) =
-        any_tells reach later rises node what (all_got (AnyReaches reach) w.nodes place node told.nodes is) tells (filed_reached w.acts (any_step node what).acts)
-        in
-        (
+        any_tells reach later rises node what (all_got (AnyReaches reach) w.nodes place node told.nodes is) tells
+        (filed_reached w.acts (any_step node what).acts)
+        in (
           all_set (AnyReaches later) w.nodes place (any_step node what).node (nodes_rise reach later rises w.nodes told.nodes) t.node,
           all_append (PacketTells later) w.sent (map (sent_at clock) (any_step node what).packets) (packets_rise reach later rises w.sent told.packets)
               (clocked later clock (any_step node what).packets t.packets),
@@ -164,16 +170,18 @@ module _ (laws : NodeLaws) where
 
 module _ (reach : Reach) (registry : RegistryNode) (h : RegistryReaches reach registry) where
   news_reach : SlotsReach reach (all_news registry.board)
-  news_reach = (h 0 (omega arith), h 1 (omega arith), h 2 (omega arith), h 3 (omega arith), h 4 (omega arith), h 5 (omega arith), h 6 (omega arith), h 7 (omega arith), tt)
+  news_reach =
+      (h 0 (omega arith), (h 1 (omega arith), (h 2 (omega arith), (h 3 (omega arith), (h 4 (omega arith), (h 5 (omega arith), (h 6 (omega arith), (h 7 (omega arith), tt))))))))
 
   low_reached : (log : ℕ) → 1 ≤ log → least_horizon log (all_news registry.board) ≤ suc (reach log)
   low_reached log some = least_low reach log (all_news registry.board) some (omega arith) news_reach
 
 was_filed : (acts : List Act) (log low : ℕ) → low ≤ suc (filed_upto acts log) → IsFiledUpto acts log → HorizonWasFiled acts log low
 was_filed acts log low upto (inl none) = inl (omega (arith, upto, none))
-was_filed acts log low upto (inr f) = inr (record { name = f.name; among = f.among; own = f.own; low = (let at = f.at in omega (arith, upto, at)) })
+was_filed acts log low upto (inr f) = inr (record { name = f.name; among = f.among; own = f.own; near = (let at = f.at in omega (arith, upto, at)) })
 
 pub horizons_filed : ToldHorizonsWereFiled
 horizons_filed w told registry log among some =
     was_filed w.acts log (least_horizon log (all_news registry.board))
-    (low_reached (filed_upto w.acts) registry (all_among (AnyReaches (filed_upto w.acts)) w.nodes (any.Registry registry) told.nodes among) log some) (is_filed w.acts log)
+    (low_reached (filed_upto w.acts) registry (all_among (AnyReaches (filed_upto w.acts)) w.nodes (any.Registry registry) told.nodes among) log some)
+    (is_filed w.acts log)

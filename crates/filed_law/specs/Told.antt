@@ -42,7 +42,7 @@ pub record FiledBelow (acts : List Act) (log low : ℕ) : Type 0 where
   pub name : SegName
   pub among : In (Filed name) acts
   pub own : name.log.0 ≡ log
-  pub low : low ≤ suc name.seq
+  pub near : low ≤ suc name.seq
 
 -- below a horizon nothing lies but what was filed: it is 1 at most, or no more than one beyond a segment that was filed
 abbrev pub HorizonWasFiled : List Act → ℕ → ℕ → Type 0
@@ -51,7 +51,8 @@ HorizonWasFiled acts log low = (low ≤ 1) ⊎ FiledBelow acts log low
 -- so is the least horizon of each log that the registry keeps
 abbrev pub HorizonsWereFiled : World AnyNode → Type 0
 HorizonsWereFiled w =
-    (registry : RegistryNode) (log : ℕ) → In (any.Registry registry) w.nodes → 1 ≤ log → HorizonWasFiled w.acts log (least_horizon log (all_news registry.board))
+    (registry : RegistryNode) (log : ℕ) → In (any.Registry registry) w.nodes → 1 ≤ log → HorizonWasFiled w.acts log
+    (least_horizon log (all_news registry.board))
 
 -- ---- the laws
 
