@@ -127,7 +127,8 @@ module _ (laws : NodeLaws) where
 
   module _ (w : World AnyNode) (told : ToldWasFiled w) (what : Do) (tells : DoTells (filed_upto w.acts) what) where
     turned : (place : ℕ) (node : AnyNode) (clock : ℕ) → slice_get w.nodes place ≡ Some node
-        → Told (slice_set w.nodes place (any_step node what).node) (w.sent ++ map (sent_at clock) (any_step node what).packets) (w.acts ++ (any_step node what).acts)
+        → Told (slice_set w.nodes place (any_step node what).node) (w.sent ++ map (sent_at clock) (any_step node what).packets)
+        (w.acts ++ (any_step node what).acts)
     turned place node clock is =
         let reach : Reach = filed_upto w.acts in
         let later : Reach = filed_upto (w.acts ++ (any_step node what).acts) in
@@ -171,7 +172,10 @@ module _ (laws : NodeLaws) where
 module _ (reach : Reach) (registry : RegistryNode) (h : RegistryReaches reach registry) where
   news_reach : SlotsReach reach (all_news registry.board)
   news_reach =
-      (h 0 (omega arith), (h 1 (omega arith), (h 2 (omega arith), (h 3 (omega arith), (h 4 (omega arith), (h 5 (omega arith), (h 6 (omega arith), (h 7 (omega arith), tt))))))))
+      let upper : SlotsReach reach (map (slot_news registry.board) (4 ∷ 5 ∷ 6 ∷ 7 ∷ [])) =
+      (h 4 (omega arith), (h 5 (omega arith), (h 6 (omega arith), (h 7 (omega arith), tt))))
+      in
+      (h 0 (omega arith), (h 1 (omega arith), (h 2 (omega arith), (h 3 (omega arith), upper))))
 
   low_reached : (log : ℕ) → 1 ≤ log → least_horizon log (all_news registry.board) ≤ suc (reach log)
   low_reached log some = least_low reach log (all_news registry.board) some (omega arith) news_reach
