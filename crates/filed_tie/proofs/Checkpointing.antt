@@ -31,8 +31,7 @@ use Rattle.xfs_base.specs.declared.segment.End.{End}
 use Rattle.xfs_base.specs.Steps.{Stepped, still, after, steps}
 use Rattle.filed_tie.specs.Bounds.{Bounds, WorkBounded, WriterBounded, DoneBounded, JobBounded, ServingBounded}
 use Rattle.filed_tie.proofs.Bounding.{Bounding, EffectBounded, AllBounded, answers_bounded}
-use Rattle.filed_tie.proofs.Leaving.{Leaves, goes_after, leaves_each, all_each}
-use Rattle.filed_tie.proofs.Lists.{all_flat_map}
+use Rattle.filed_tie.proofs.Leaving.{Leaves, goes_after, leaves_each, all_each, all_flat_map}
 use Rattle.filed_tie.proofs.Tables.{WriterInBounded, begin_bounded, table_cleaned, table_named}
 
 module _ (b : Bounds) (laws : Bounding b) (node : NodeId) where

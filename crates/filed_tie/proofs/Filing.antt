@@ -8,12 +8,14 @@ use Rattle.std.specs.Ordering.{is_eq, nat_cmp}
 use Rattle.std.proofs.lemmas.Bool.{eqb-true}
 use Rattle.std.proofs.lemmas.Bool.Decides.{nat_tests}
 use Rattle.std.proofs.lemmas.Map.Lookups.{exact_unsigned}
+use Rattle.manager_node.specs.declared.phase.Phase.{Phase}
 use Rattle.manager_node.specs.Events.{happens}
 use Rattle.manager_node.specs.Phases.{lasting_of}
 use Rattle.manager_node.specs.Serving.{fed_log}
 use Rattle.manager_node.specs.SlotTable.{next_of, horizon_of}
 use Rattle.node_base.specs.Effects.{packets_of}
 use Rattle.registry.specs.Checkpoints.{horizon_at as horizon_kept}
+use Rattle.store_nodes.specs.declared.registry_node.RegistryNode.{RegistryNode}
 use Rattle.store_nodes.specs.RegistryEvents.{takes as registry_takes}
 use Rattle.takeover.specs.declared.report.Report.{Report}
 use Rattle.takeover.specs.Reports.{same_node, writer_of, no_end, end_from, end_of, horizon_at, applied_at, applied_of as applied_from}
@@ -31,16 +33,17 @@ use Rattle.xfs_base.specs.declared.node.NodeId.TheVariants.{Client, Manager as A
 use Rattle.xfs_base.specs.declared.segment.End.{End}
 use Rattle.xfs_base.specs.declared.segment.LogId.{LogId}
 use Rattle.xfs_base.specs.Nodes.{node_cmp}
-use Rattle.filed_tie.specs.Bounds.{ReportBounded, KnownBounded, BodyBounded, PacketBounded, DoBounded}
-use Rattle.filed_tie.specs.ManagerReach.{filed, ManagerStartsReaching, ManagersTellFiled}
-use Rattle.filed_tie.specs.RegistryReach.{RegistryReaches, RegistryStartsReaching, RegistryTellsFiled}
+use Rattle.filed_tie.proofs.Leaving.{all_weaker}
+use Rattle.filed_tie.specs.Bounds.{ReportBounded, KnownBounded, PhaseBounded, BodyBounded, PacketBounded, DoBounded}
+use Rattle.filed_tie.specs.ManagerReach.{filed, ManagerReachRises, ManagerStartsReaching, ManagersTellFiled}
+use Rattle.filed_tie.specs.RegistryReach.{RegistryReaches, RegistryReachRises, RegistryStartsReaching, RegistryTellsFiled}
 use Rattle.filed_tie.specs.Reach.{Reach, Rises, AppliedReaches, HorizonReaches, LogReaches, BodyTells, PacketTells, DoTells}
 use Rattle.filed_tie.proofs.Bounding.{Bounding, packets_bounded}
-use Rattle.filed_tie.proofs.Lists.{all_weaker}
-use Rattle.filed_tie.proofs.LogNumbers.{number_at, number_put, numbers_of, applied_later, horizon_later, log_later}
+use Rattle.filed_tie.proofs.LogNumbers.{number_at, number_put, numbers_of}
 use Rattle.filed_tie.proofs.Managers.{first_bounded, manager_goes}
 use Rattle.filed_tie.proofs.Registries.{first_registry, registry_goes}
-use Rattle.filed_tie.proofs.Weakening.{Weaker, phase_weaker, do_weaker}
+use Rattle.filed_tie.proofs.Rising.{applied_rises, horizon_rises, log_rises, do_rises}
+use Rattle.filed_tie.proofs.Weakening.{Weaker, phase_weaker}
 
 -- ---- who writes a log
 
@@ -130,44 +133,53 @@ module _ (reach : Reach) where
   do_bounded (Deliver packet) h = body_bounded packet.from packet.body h
   do_bounded Tick h = tt
 
-  pub packets_tell : (packets : List Packet) → AllByRecursion (PacketBounded (filed reach)) packets → AllByRecursion (PacketTells reach) packets
-  packets_tell packets all = all_weaker (PacketBounded (filed reach)) (PacketTells reach) (λ p h. body_tells p.from p.body h) packets all
+  packets_told : (packets : List Packet) → AllByRecursion (PacketBounded (filed reach)) packets → AllByRecursion (PacketTells reach) packets
+  packets_told packets all = all_weaker (PacketBounded (filed reach)) (PacketTells reach) (λ p h. body_tells p.from p.body h) packets all
 
 -- ---- later
 
 module _ (reach later : Reach) (rises : Rises reach later) where
   filed_later : Weaker (filed reach) (filed later)
   filed_later = record {
-    applied = λ slot epoch applied h. applied_later reach later rises applied h;
-    horizon = λ slot epoch horizon h. horizon_later reach later rises horizon h;
-    told = λ log number h. log_later reach later rises log number h;
+    applied = λ slot epoch applied h. applied_rises reach later rises applied h;
+    horizon = λ slot epoch horizon h. horizon_rises reach later rises horizon h;
+    told = λ log number h. log_rises reach later rises log number h;
   }
 
-  pub do_later : (what : Do) → DoTells reach what → DoBounded (filed later) what
-  do_later what h = do_weaker (filed reach) (filed later) filed_later what (do_bounded reach what h)
+  manager_later : (p : Phase) → PhaseBounded (filed reach) p → PhaseBounded (filed later) p
+  manager_later p h = phase_weaker (filed reach) (filed later) filed_later p h
+
+  do_later : (what : Do) → DoTells reach what → DoBounded (filed later) what
+  do_later what h = do_bounded later what (do_rises reach later rises what h)
+
+  registry_later : (node : RegistryNode) → RegistryReaches reach node → RegistryReaches later node
+  registry_later node h slot within = horizon_rises reach later rises (horizon_kept node.board.checkpoints slot) (h slot within)
 
 -- ---- the law
 
 pub managers_start : ManagerStartsReaching
 managers_start reach number setup works = first_bounded (filed reach) number setup works (λ slot. numbers_of reach (λ log. 0) (λ log from_one. omega arith))
 
+pub managers_rise : ManagerReachRises
+managers_rise reach later m rises h = manager_later reach later rises m.phase h
+
 pub managers_tell : ManagersTellFiled
 managers_tell reach later m what rises h told acts =
     let node : NodeId = AManager (lasting_of m.phase).number in
-    let before = phase_weaker (filed reach) (filed later) (filed_later reach later rises) m.phase h in
-    let d = manager_goes (filed later) (filing later) node m what before (do_later reach later rises what told) in
-    record {
-      node = d.state;
-      packets = packets_tell later (packets_of node (happens m what).outs) (packets_bounded (filed later) node (happens m what).outs d.outs);
-    }
+    let outs = (happens m what).outs in
+    let d = manager_goes (filed later) (filing later) node m what (manager_later reach later rises m.phase h) (do_later reach later rises what told) in
+    record { node = d.state; packets = packets_told later (packets_of node outs) (packets_bounded (filed later) node outs d.outs) }
 
 pub registry_starts : RegistryStartsReaching
 registry_starts reach setup works =
     first_registry (filed reach) setup works (λ slot. numbers_of (λ log. suc (reach log)) (λ log. 1) (λ log from_one. omega arith))
 
+pub registry_rises : RegistryReachRises
+registry_rises reach later node rises h = registry_later reach later rises node h
+
 pub registry_tells : RegistryTellsFiled
 registry_tells reach later node what rises h told acts =
-    let before : RegistryReaches later node = λ slot within. horizon_later reach later rises (horizon_kept node.board.checkpoints slot) (h slot within) in
-    let d = registry_goes (filed later) node what before (do_later reach later rises what told) (λ slot within other. before slot within) in
+    let before : RegistryReaches later node = registry_later reach later rises node h in
     let outs = (registry_takes node what).outs in
-    record { node = d.state; packets = packets_tell later (packets_of Registry outs) (packets_bounded (filed later) Registry outs d.outs) }
+    let d = registry_goes (filed later) node what before (do_later reach later rises what told) (λ slot within other. before slot within) in
+    record { node = d.state; packets = packets_told later (packets_of Registry outs) (packets_bounded (filed later) Registry outs d.outs) }

@@ -1,12 +1,19 @@
 -- Steps of a machine that keep a fact of its state, and of which each thing that they give is as it should be.
-use Rattle.std.proofs.Common.{ℕ, zero, suc, Bool, List, [], ◌∷◌, ◌++◌, filter}
-use Rattle.std.specs.Prelude.{IfSome, slice_get, slice_set}
-use Rattle.std.specs.List.{AllByRecursion}
+use Rattle.std.proofs.Common.{Bool, List, [], ◌∷◌, ◌++◌, filter}
+use Rattle.std.specs.List.{AllByRecursion, flat_map}
 use Rattle.xfs_base.proofs.Booleans.{by_test}
 use Rattle.xfs_base.specs.Steps.{Stepped, still, after, steps}
-use Rattle.filed_tie.proofs.Lists.{all_append}
+use Rattle.filed_tie.proofs.Frames.{all_append}
 
 -- ---- lists
+
+pub all_flat_map : {X Y : Type 0} (P : Y → Type 0) (f : X → List Y) → ((x : X) → AllByRecursion P (f x)) → (xs : List X) → AllByRecursion P (flat_map f xs)
+all_flat_map P f each [] = tt
+all_flat_map P f each (x ∷ xs) = all_append P (f x) (flat_map f xs) (each x) (all_flat_map P f each xs)
+
+pub all_weaker : {X : Type 0} (P Q : X → Type 0) → ((x : X) → P x → Q x) → (xs : List X) → AllByRecursion P xs → AllByRecursion Q xs
+all_weaker P Q weaker [] all = tt
+all_weaker P Q weaker (x ∷ xs) all = (weaker x all.0, all_weaker P Q weaker xs all.1)
 
 pub all_each : {X : Type 0} (P : X → Type 0) → ((x : X) → P x) → (xs : List X) → AllByRecursion P xs
 all_each P each [] = tt
@@ -16,18 +23,6 @@ pub all_filter : {X : Type 0} (P : X → Type 0) (p : X → Bool) (xs : List X) 
 all_filter P p [] all = tt
 all_filter P p (x ∷ xs) all =
     by_test (AllByRecursion P) (p x) (x ∷ filter p xs) (filter p xs) (λ _. (all.0, all_filter P p xs all.1)) (λ _. all_filter P p xs all.1)
-
--- what holds of all holds of what is read at a place
-pub all_get : {X : Type 0} (P : X → Type 0) (xs : List X) (place : ℕ) → AllByRecursion P xs → IfSome (slice_get xs place) P
-all_get P [] place all = tt
-all_get P (x ∷ xs) zero all = all.0
-all_get P (x ∷ xs) (suc place) all = all_get P xs place all.1
-
--- and goes on to where another of which it holds is put there
-pub all_set : {X : Type 0} (P : X → Type 0) (xs : List X) (place : ℕ) (x : X) → P x → AllByRecursion P xs → AllByRecursion P (slice_set xs place x)
-all_set P [] place x new all = tt
-all_set P (y ∷ ys) zero x new all = (new, all.1)
-all_set P (y ∷ ys) (suc place) x new all = (all.0, all_set P ys place x new all.1)
 
 -- ---- steps
 

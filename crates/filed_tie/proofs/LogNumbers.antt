@@ -1,9 +1,8 @@
--- Lists that have a number of each log: one is read, one is put in, the nine are given, and later there are more.
+-- Lists that have a number of each log: one is read, one is put in, and the nine are given.
 use Rattle.std.proofs.Common.{◌≡◌, ℕ, zero, suc, ◌+◌, ◌≤◌, List, [], ◌∷◌, map, subst, arith}
-use Rattle.std.specs.Prelude.{slice_index, slice_set, Option, Some, None}
+use Rattle.std.specs.Prelude.{slice_index, slice_set}
 use Rattle.std.specs.List.{range_with_len}
-use Rattle.xfs_base.specs.declared.segment.LogId.{LogId}
-use Rattle.filed_tie.specs.Reach.{Reach, Rises, NumbersUpto, AppliedReaches, HorizonReaches, LogReaches}
+use Rattle.filed_tie.specs.Reach.{Reach, NumbersUpto}
 
 -- the number of the log at a place
 pub number_at : (most : Reach) (log : ℕ) (numbers : List ℕ) (place at : ℕ) → log + place ≡ at → NumbersUpto most log numbers
@@ -33,21 +32,3 @@ not_below (n ∷ ns) zero new zero up = up
 not_below (n ∷ ns) zero new (suc other) up = omega arith
 not_below (n ∷ ns) (suc place) new zero up = omega arith
 not_below (n ∷ ns) (suc place) new (suc other) up = not_below ns place new other up
-
--- ---- later
-
-numbers_later : (most more : Reach) → Rises most more → (log : ℕ) (numbers : List ℕ) → NumbersUpto most log numbers → NumbersUpto more log numbers
-numbers_later most more up log [] all = tt
-numbers_later most more up log (n ∷ ns) all = ((let u = up log in let h = all.0 in omega arith), numbers_later most more up (suc log) ns all.1)
-
-module _ (reach later : Reach) (rises : Rises reach later) where
-  pub applied_later : (applied : List ℕ) → AppliedReaches reach applied → AppliedReaches later applied
-  applied_later applied h = numbers_later reach later rises 1 applied h
-
-  pub horizon_later : (horizon : List ℕ) → HorizonReaches reach horizon → HorizonReaches later horizon
-  horizon_later horizon h =
-      numbers_later (λ log. suc (reach log)) (λ log. suc (later log)) (λ log. let r = rises log in omega arith) 1 horizon h
-
-  pub log_later : (log : Option LogId) (number : ℕ) → LogReaches reach log number → LogReaches later log number
-  log_later None number h = tt
-  log_later (Some log) number h = let r = rises log.0 in omega arith

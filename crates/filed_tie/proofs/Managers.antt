@@ -36,11 +36,11 @@ use Rattle.xfs_base.specs.declared.node.NodeId.{NodeId}
 use Rattle.xfs_base.specs.declared.node.NodeId.TheVariants.{Manager as AManager}
 use Rattle.xfs_base.specs.declared.setup.Setup.{Setup}
 use Rattle.xfs_base.specs.Steps.{still}
+use Rattle.filed_tie.proofs.Frames.{all_append}
 use Rattle.filed_tie.specs.Bounds.{Bounds, SlotBounded, ServingBounded, PhaseBounded, ManagerBounded, NewsBounded, BodyBounded, PacketBounded, DoBounded}
 use Rattle.filed_tie.proofs.Bounding.{Bounding, EffectBounded, answers_bounded}
 use Rattle.filed_tie.proofs.Checkpointing.{checkpoint_on}
 use Rattle.filed_tie.proofs.Leaving.{Leaves}
-use Rattle.filed_tie.proofs.Lists.{all_append}
 use Rattle.filed_tie.proofs.Serving.{news_on, packet_on, tick_on}
 
 -- ---- the start

@@ -35,10 +35,10 @@ use Rattle.xfs_base.specs.declared.node.NodeId.TheVariants.{Client, Manager, Ser
 use Rattle.xfs_base.specs.declared.segment.SegRef.{SegRef}
 use Rattle.xfs_base.specs.declared.setup.Setup.{Setup}
 use Rattle.xfs_base.specs.Steps.{still}
+use Rattle.filed_tie.proofs.Frames.{all_append, all_map}
 use Rattle.filed_tie.specs.Bounds.{Bounds, RegistryBounded, NewEpochsBounded, NewsBounded, BodyBounded, PacketBounded, DoBounded}
 use Rattle.filed_tie.proofs.Bounding.{EffectBounded, AllBounded}
-use Rattle.filed_tie.proofs.Leaving.{Leaves}
-use Rattle.filed_tie.proofs.Lists.{all_append, all_map, all_flat_map}
+use Rattle.filed_tie.proofs.Leaving.{Leaves, all_flat_map}
 
 -- what holds of each slot's horizon goes on to where one slot has another checkpoint
 one_put : (P : ℕ → List ℕ → Type 0) (kept_ : List Checkpoint) (slot : ℕ) (new : Checkpoint) → P slot new.horizon

@@ -41,8 +41,7 @@ use Rattle.xfs_base.specs.Steps.{Stepped, still}
 use Rattle.manager_node.specs.Serving.{fed_log}
 use Rattle.filed_tie.specs.Bounds.{Bounds, SlotBounded}
 use Rattle.filed_tie.proofs.Bounding.{Bounding, EffectBounded, AllBounded}
-use Rattle.filed_tie.proofs.Leaving.{Leaves, stays, leaves_each, all_filter}
-use Rattle.filed_tie.proofs.Lists.{all_flat_map}
+use Rattle.filed_tie.proofs.Leaving.{Leaves, stays, leaves_each, all_filter, all_flat_map}
 use Rattle.filed_tie.proofs.Slots.{InputBounded as SlotInBounded, slot_goes}
 use Rattle.filed_tie.proofs.Taking.{InputBounded as TakeInBounded, OutBounded, take_goes}
 

@@ -29,10 +29,10 @@ use Rattle.xfs_base.specs.declared.node.NodeId.{NodeId}
 use Rattle.xfs_base.specs.declared.segment.End.{End}
 use Rattle.xfs_base.specs.declared.segment.SegName.{SegName}
 use Rattle.xfs_base.specs.Steps.{still}
+use Rattle.filed_tie.proofs.Frames.{all_append, all_map}
 use Rattle.filed_tie.specs.Bounds.{Bounds, ReportBounded, KnownBounded, TakeBounded}
 use Rattle.filed_tie.proofs.Bounding.{Bounding}
 use Rattle.filed_tie.proofs.Leaving.{Leaves, all_each}
-use Rattle.filed_tie.proofs.Lists.{all_append, all_map}
 
 module _ (b : Bounds) (laws : Bounding b) (k : ℕ) where
   -- ---- what is said

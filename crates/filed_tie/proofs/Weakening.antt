@@ -8,15 +8,9 @@ use Rattle.manager_node.specs.declared.phase.Phase.TheVariants.{Down, Waiting, S
 use Rattle.manager_node.specs.declared.slot_phase.SlotPhase.{SlotPhase}
 use Rattle.manager_node.specs.declared.slot_phase.SlotPhase.TheVariants as phase
 use Rattle.manager_node.specs.Serving.{fed_log}
-use Rattle.wire_msg.specs.declared.body.Body.{Body}
-use Rattle.wire_msg.specs.declared.body.Body.TheVariants as body
-use Rattle.wire_msg.specs.declared.packet.Do.{Do}
-use Rattle.wire_msg.specs.declared.packet.Do.TheVariants.{Begin, Deliver, Tick}
-use Rattle.xfs_base.specs.declared.news.SlotNews.{SlotNews}
-use Rattle.xfs_base.specs.declared.node.NodeId.{NodeId}
 use Rattle.xfs_base.specs.declared.segment.LogId.{LogId}
-use Rattle.filed_tie.specs.Bounds.{Bounds, ReportBounded, KnownBounded, SlotBounded, SlotsBounded, WorkBounded, DoneBounded, JobBounded, PhaseBounded, NewsBounded, BodyBounded, DoBounded}
-use Rattle.filed_tie.proofs.Lists.{all_weaker}
+use Rattle.filed_tie.proofs.Leaving.{all_weaker}
+use Rattle.filed_tie.specs.Bounds.{Bounds, ReportBounded, KnownBounded, SlotBounded, SlotsBounded, WorkBounded, DoneBounded, JobBounded, PhaseBounded}
 
 -- what the first bounds allow the others do
 pub record Weaker (b c : Bounds) : Type 0 where
@@ -54,19 +48,3 @@ module _ (b c : Bounds) (weaker : Weaker b c) where
     writer = if_some (WorkBounded b) (WorkBounded c) (λ w told. weaker.horizon w.slot w.epoch w.horizon told) s.writer.work h.writer;
     checkpoint = job_weaker s.checkpoint h.checkpoint;
   }
-
-  news_weaker : (slots : List SlotNews) → AllByRecursion (NewsBounded b) slots → AllByRecursion (NewsBounded c) slots
-  news_weaker slots all = all_weaker (NewsBounded b) (NewsBounded c) (λ news told. weaker.horizon news.slot news.epoch news.horizon told) slots all
-
-  body_weaker : (from : NodeId) (said : Body) → BodyBounded b from said → BodyBounded c from said
-  body_weaker from (body.Deltas deltas) h = weaker.told (fed_log from) deltas.upto h
-  body_weaker from (body.Report report) h = weaker.told (fed_log from) report.end.seq h
-  body_weaker from (body.CkptDone done) h = weaker.horizon done.slot done.epoch done.horizon h
-  body_weaker from (body.MapNews news) h = news_weaker news.slots h
-  body_weaker from (body.Welcome welcome) h = news_weaker welcome.news.slots h
-  body_weaker from _ h = tt
-
-  pub do_weaker : (what : Do) → DoBounded b what → DoBounded c what
-  do_weaker Begin h = tt
-  do_weaker (Deliver packet) h = body_weaker packet.from packet.body h
-  do_weaker Tick h = tt

@@ -1,5 +1,5 @@
 -- What the cleaner holds of what was filed of its log.
-use Rattle.std.specs.Prelude.{ℕ, ◌≤◌, List}
+use Rattle.std.specs.Prelude.{◌≤◌, List}
 use Rattle.store_nodes.specs.CleanerEvents.{cleaner_start, cleaner_step}
 use Rattle.store_nodes.specs.EmptyingEvents.{cleaner_log}
 use Rattle.store_nodes.specs.declared.cleaner.Cleaner.{Cleaner}
@@ -9,7 +9,7 @@ use Rattle.store_nodes.specs.declared.emptying.Emptying.{Emptying}
 use Rattle.version_model.specs.declared.work.Work.{Work}
 use Rattle.xfs_base.specs.declared.setup.Setup.{Setup}
 use Rattle.filed_tie.specs.OpeningReach.{OpeningReaches}
-use Rattle.filed_tie.specs.Reach.{Reach, EventsTellFiled}
+use Rattle.filed_tie.specs.Reach.{Reach, ReachesRise, EventsTellFiled}
 
 -- the newest settled segment was filed, and so were all of which the feed tells
 pub record EmptyingReaches (reach : Reach) (e : Emptying) : Type 0 where
@@ -27,6 +27,10 @@ CleanerReaches reach cleaner = PhaseReaches reach cleaner.phase
 -- the cleaner at its start holds nothing
 abbrev pub CleanerStartsReaching : Type 0
 CleanerStartsReaching = (reach : Reach) (setup : Setup) (works : List Work) → CleanerReaches reach (cleaner_start setup works)
+
+-- what was filed stays so
+abbrev pub CleanerReachRises : Type 0
+CleanerReachRises = ReachesRise Cleaner CleanerReaches
 
 -- whatever happens to the cleaner
 abbrev pub CleanerTellsFiled : Type 0

@@ -9,7 +9,7 @@ use Rattle.client_node.specs.Starting.{first_client}
 use Rattle.version_model.specs.declared.work.Work.{Work}
 use Rattle.xfs_base.specs.declared.setup.Setup.{Setup}
 use Rattle.filed_tie.specs.OpeningReach.{OpeningReaches}
-use Rattle.filed_tie.specs.Reach.{Reach, EventsTellFiled}
+use Rattle.filed_tie.specs.Reach.{Reach, ReachesRise, EventsTellFiled}
 
 -- the newest settled segment was filed, and so were all of which the feed tells
 pub record ServingReaches (reach : Reach) (s : Serving) : Type 0 where
@@ -27,6 +27,10 @@ ClientReaches reach client = PhaseReaches reach client.phase
 -- a client at its start holds nothing
 abbrev pub ClientStartsReaching : Type 0
 ClientStartsReaching = (reach : Reach) (number : ℕ) (setup : Setup) (works : List Work) → ClientReaches reach (first_client number setup works)
+
+-- what was filed stays so
+abbrev pub ClientReachRises : Type 0
+ClientReachRises = ReachesRise Client ClientReaches
 
 -- whatever happens to a client
 abbrev pub ClientsTellFiled : Type 0

@@ -5,7 +5,7 @@ use Rattle.manager_node.specs.Events.{first_manager, manager_step}
 use Rattle.version_model.specs.declared.work.Work.{Work}
 use Rattle.xfs_base.specs.declared.setup.Setup.{Setup}
 use Rattle.filed_tie.specs.Bounds.{Bounds, ManagerBounded}
-use Rattle.filed_tie.specs.Reach.{Reach, AppliedReaches, HorizonReaches, LogReaches, EventsTellFiled}
+use Rattle.filed_tie.specs.Reach.{Reach, AppliedReaches, HorizonReaches, LogReaches, ReachesRise, EventsTellFiled}
 
 -- nothing is applied but what was filed, no horizon is above anything else, and no number is told of it
 abbrev pub filed : Reach → Bounds
@@ -21,6 +21,10 @@ ManagerReaches reach manager = ManagerBounded (filed reach) manager
 -- a manager at its start holds nothing
 abbrev pub ManagerStartsReaching : Type 0
 ManagerStartsReaching = (reach : Reach) (number : ℕ) (setup : Setup) (works : List Work) → ManagerReaches reach (first_manager number setup works)
+
+-- what a manager holds was filed later too
+abbrev pub ManagerReachRises : Type 0
+ManagerReachRises = ReachesRise Manager ManagerReaches
 
 -- whatever happens to a manager
 abbrev pub ManagersTellFiled : Type 0

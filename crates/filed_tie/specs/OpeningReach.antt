@@ -9,7 +9,6 @@ use Rattle.log_scan.specs.declared.stage.Stage as scan_stages
 use Rattle.log_scan.specs.declared.stage.Stage.TheVariants.{Hails, Gathers, Asks, Reads, Over}
 use Rattle.log_scan.specs.ScanState.{ScanState}
 use Rattle.segment_format.specs.declared.segment.Segment.{Segment}
-use Rattle.xfs_base.specs.declared.segment.LogId.{LogId}
 use Rattle.filed_tie.specs.Reach.{Reach}
 
 -- the segments are of this log

@@ -9,7 +9,6 @@ use Rattle.wire_msg.specs.declared.body.Body.TheVariants as body
 use Rattle.wire_msg.specs.declared.packet.Do.{Do}
 use Rattle.wire_msg.specs.declared.packet.Do.TheVariants.{Begin, Deliver, Tick}
 use Rattle.wire_msg.specs.declared.packet.Packet.{Packet}
-use Rattle.wire_msg.specs.declared.registry.News.{News}
 use Rattle.wire_msg.specs.NodeStep.{NodeStep}
 use Rattle.xfs_base.specs.declared.node.NodeId.{NodeId}
 use Rattle.xfs_base.specs.declared.news.SlotNews.{SlotNews}
@@ -84,6 +83,10 @@ DoTells reach Tick = Unit {0}
 pub record TellsFiled {N : Type 0} (Reaches : Reach → N → Type 0) (reach : Reach) (step : NodeStep N) : Type 0 where
   pub node : Reaches reach step.node
   pub packets : AllByRecursion (PacketTells reach) step.packets
+
+-- what a node of this kind holds of what was filed it holds of what is filed later
+abbrev pub ReachesRise : (N : Type 0) → (Reach → N → Type 0) → Type 0
+ReachesRise N Reaches = (reach later : Reach) (node : N) → Rises reach later → Reaches reach node → Reaches later node
 
 -- Each event of a node of this kind: where the node held, and the packet that comes told, of nothing beyond what was filed before, the node holds and tells
 -- of nothing then beyond what was filed before and in the event.

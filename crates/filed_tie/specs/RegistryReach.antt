@@ -6,7 +6,7 @@ use Rattle.version_model.specs.declared.work.Work.{Work}
 use Rattle.xfs_base.specs.declared.setup.Setup.{Setup}
 use Rattle.filed_tie.specs.Bounds.{RegistryBounded}
 use Rattle.filed_tie.specs.ManagerReach.{filed}
-use Rattle.filed_tie.specs.Reach.{Reach, EventsTellFiled}
+use Rattle.filed_tie.specs.Reach.{Reach, ReachesRise, EventsTellFiled}
 
 -- the horizons of the slots' newest checkpoints are above nothing but what was filed
 abbrev pub RegistryReaches : Reach → RegistryNode → Type 0
@@ -15,6 +15,10 @@ RegistryReaches reach node = RegistryBounded (filed reach) node
 -- at the start of a run no checkpoint covers anything
 abbrev pub RegistryStartsReaching : Type 0
 RegistryStartsReaching = (reach : Reach) (setup : Setup) (works : List Work) → RegistryReaches reach (registry_start setup works)
+
+-- what the registry keeps was filed later too
+abbrev pub RegistryReachRises : Type 0
+RegistryReachRises = ReachesRise RegistryNode RegistryReaches
 
 -- whatever happens to the registry
 abbrev pub RegistryTellsFiled : Type 0

@@ -2,30 +2,34 @@
 //! below has an empty body, and its contract is a law. `specs/Reach.antt` says what of a packet tells of it.
 #![tactic(auto)]
 
-ghost use Rattle.filed_tie.specs.CleanerReach.{CleanerStartsReaching, CleanerTellsFiled};
-ghost use Rattle.filed_tie.specs.ClientReach.{ClientStartsReaching, ClientsTellFiled};
+ghost use Rattle.filed_tie.specs.CleanerReach.{CleanerReachRises, CleanerStartsReaching, CleanerTellsFiled};
+ghost use Rattle.filed_tie.specs.ClientReach.{ClientReachRises, ClientStartsReaching, ClientsTellFiled};
 ghost use Rattle.filed_tie.specs.Floor.{ManagerStartsAbove, ManagersStayAbove, RegistryKeepsAbove, RegistryStartsAbove};
-ghost use Rattle.filed_tie.specs.ManagerReach.{ManagerStartsReaching, ManagersTellFiled};
-ghost use Rattle.filed_tie.specs.RegistryReach.{RegistryStartsReaching, RegistryTellsFiled};
+ghost use Rattle.filed_tie.specs.ManagerReach.{ManagerReachRises, ManagerStartsReaching, ManagersTellFiled};
+ghost use Rattle.filed_tie.specs.RegistryReach.{RegistryReachRises, RegistryStartsReaching, RegistryTellsFiled};
 ghost use Rattle.filed_tie.specs.ServerReach.{ServersTellFiled};
 
 /// What a client tells of its log was filed.
 ///
 /// - `start`: a client at its start holds nothing that wasn't.
+/// - `rises`: what was filed stays so: where more is filed, what a client holds was.
 /// - `events`: where what a client holds, and what the packet that comes tells, was filed before an event, what it holds then, and what each packet that it
 ///   sends tells, was filed before the event or in it.
 pub fn clients_tell_what_is_filed()
     ensures start { ClientStartsReaching }
+    ensures rises { ClientReachRises }
     ensures events { ClientsTellFiled }
 {}
 
 /// What the cleaner tells of its log was filed.
 ///
 /// - `start`: the cleaner at its start holds nothing that wasn't.
+/// - `rises`: what was filed stays so: where more is filed, what the cleaner holds was.
 /// - `events`: where what the cleaner holds, and what the packet that comes tells, was filed before an event, what it holds then, and what each packet that it
 ///   sends tells, was filed before the event or in it.
 pub fn cleaner_tells_what_is_filed()
     ensures start { CleanerStartsReaching }
+    ensures rises { CleanerReachRises }
     ensures events { CleanerTellsFiled }
 {}
 
@@ -37,20 +41,24 @@ pub fn servers_tell_what_is_filed()
 /// What a manager has applied of logs, and what its checkpoints cover, was filed.
 ///
 /// - `start`: a manager at its start holds nothing that wasn't.
+/// - `rises`: what was filed stays so: where more is filed, what a manager holds was.
 /// - `events`: where what a manager holds, and what the packet that comes tells, was filed before an event, what it holds then, and what each packet that it
 ///   sends tells, was filed before the event or in it: no horizon is more than one beyond the last segment that was filed of its log.
 pub fn managers_tell_what_is_filed()
     ensures start { ManagerStartsReaching }
+    ensures rises { ManagerReachRises }
     ensures events { ManagersTellFiled }
 {}
 
 /// What the registry keeps of checkpoints, and what its maps tell of them, was filed.
 ///
 /// - `start`: at the start of a run it keeps no horizon above 1.
+/// - `rises`: what was filed stays so: where more is filed, what the registry keeps was.
 /// - `events`: where the horizons that the registry keeps, and those of a checkpoint of which it is told, are no more than one beyond what was filed before an
 ///   event, those that it keeps then, and those of the maps that it sends, are no more than one beyond what was filed before the event or in it.
 pub fn registry_tells_what_is_filed()
     ensures start { RegistryStartsReaching }
+    ensures rises { RegistryReachRises }
     ensures events { RegistryTellsFiled }
 {}
 
