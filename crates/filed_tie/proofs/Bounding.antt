@@ -1,5 +1,5 @@
 -- What bounds of the numbers of logs have to keep to, so that a manager keeps to them; and what of an event is bounded.
-use Rattle.std.proofs.Common.{◌≡◌, ℕ, zero, suc, ◌+◌, true, List, [], ◌∷◌, sym, subst, arith}
+use Rattle.std.proofs.Common.{◌≡◌, ℕ, zero, suc, ◌+◌, true, List, [], ◌∷◌, subst, arith}
 use Rattle.std.specs.Prelude.{Option, Some, None, IfSome, slice_get, slice_set}
 use Rattle.std.specs.List.{AllByRecursion}
 use Rattle.manager_node.specs.declared.slot_phase.SlotPhase.{SlotPhase}

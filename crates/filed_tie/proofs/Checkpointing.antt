@@ -1,7 +1,7 @@
 -- The checkpoints of a manager keep to the bounds, and so do those of which the registry is told.
-use Rattle.std.proofs.Common.{◌≡◌, ℕ, ◌+◌, ◌==◌, ◌||◌, ◌&&◌, not, Bool, true, false, List, [], ◌∷◌, ◌++◌, length, take, drop, is_some}
+use Rattle.std.proofs.Common.{ℕ, ◌+◌, ◌==◌, ◌||◌, not, List, [], ◌∷◌, ◌++◌, length, is_some}
 use Rattle.std.specs.Prelude.{Option, Some, None, IfSome, fold, nat_lt}
-use Rattle.std.specs.List.{AllByRecursion, flat_map}
+use Rattle.std.specs.List.{AllByRecursion}
 use Rattle.checkpoint.specs.declared.input.In.{In as WriterIn}
 use Rattle.checkpoint.specs.declared.input.In.TheVariants as writer_in
 use Rattle.checkpoint.specs.declared.output.Out.{Out}
@@ -13,7 +13,7 @@ use Rattle.client_log.specs.declared.input.In.TheVariants as log_input
 use Rattle.client_log.specs.declared.output.Out.{Out as LogOut}
 use Rattle.client_log.specs.declared.output.Out.TheVariants as log_out
 use Rattle.client_log.specs.Transition as log
-use Rattle.manager_node.specs.Checkpoints.{Done, gives, stored, gives_parts, registers, awaiting, asked, says, says_each, writer_takes, filed, on_settled, log_says, log_says_each, writes, on_stored, no_more, writes_slot, begins_slot, next_from, next_for, next_slot, waits, on_checkpoint, awaits, kept_in, stale_in, counted, answered_by, on_ckpt_ack, done_again, told_again, tells_again}
+use Rattle.manager_node.specs.Checkpoints.{Done, gives, stored, gives_parts, registers, awaiting, asked, says, says_each, writer_takes, filed, on_settled, log_says, log_says_each, writes, on_stored, no_more, writes_slot, begins_slot, next_from, next_for, next_slot, waits, on_checkpoint, awaits, counted, answered_by, on_ckpt_ack, done_again, told_again, tells_again}
 use Rattle.manager_node.specs.declared.checkpointing.Checkpointing.{Checkpointing}
 use Rattle.manager_node.specs.declared.serving.Serving.{Serving}
 use Rattle.manager_node.specs.Numbers.{slot_after}
@@ -28,7 +28,7 @@ use Rattle.wire_msg.specs.declared.storage.Stored.{Stored}
 use Rattle.xfs_base.proofs.Booleans.{by_test}
 use Rattle.xfs_base.specs.declared.node.NodeId.{NodeId}
 use Rattle.xfs_base.specs.declared.segment.End.{End}
-use Rattle.xfs_base.specs.Steps.{Stepped, still, after, steps}
+use Rattle.xfs_base.specs.Steps.{Stepped, still}
 use Rattle.filed_tie.specs.Bounds.{Bounds, WorkBounded, WriterBounded, DoneBounded, JobBounded, ServingBounded}
 use Rattle.filed_tie.proofs.Bounding.{Bounding, EffectBounded, AllBounded, answers_bounded}
 use Rattle.filed_tie.proofs.Leaving.{Leaves, goes_after, leaves_each, all_each, all_flat_map}

@@ -1,5 +1,5 @@
 -- That nothing is held and told but what was filed is a bound to which managers and the registry keep.
-use Rattle.std.proofs.Common.{◌≡◌, ℕ, zero, suc, ◌-◌, ◌==◌, ◌≤◌, ◌&&◌, max, min, Bool, true, false, List, [], ◌∷◌, refl, sym, ap, subst, arith}
+use Rattle.std.proofs.Common.{◌≡◌, ℕ, suc, ◌-◌, ◌==◌, ◌≤◌, true, List, [], ◌∷◌, refl, sym, ap, subst, arith}
 use Rattle.std.specs.Prelude.{Option, Some, None, nat_le}
 use Rattle.std.specs.List.{AllByRecursion}
 use Rattle.std.specs.declared.cmp.Ordering.{Ordering}
@@ -18,7 +18,7 @@ use Rattle.registry.specs.Checkpoints.{horizon_at as horizon_kept}
 use Rattle.store_nodes.specs.declared.registry_node.RegistryNode.{RegistryNode}
 use Rattle.store_nodes.specs.RegistryEvents.{takes as registry_takes}
 use Rattle.takeover.specs.declared.report.Report.{Report}
-use Rattle.takeover.specs.Reports.{same_node, writer_of, no_end, end_from, end_of, horizon_at, applied_at, applied_of as applied_from}
+use Rattle.takeover.specs.Reports.{same_node, end_from, end_of, horizon_at, applied_at, applied_of as applied_from}
 use Rattle.token_manager.specs.Recalls.{applied_of}
 use Rattle.token_manager.specs.SlotState.{SlotState}
 use Rattle.token_manager.specs.Transition.{is_followed}
@@ -29,10 +29,9 @@ use Rattle.wire_msg.specs.declared.packet.Do.TheVariants.{Begin, Deliver, Tick}
 use Rattle.wire_msg.specs.declared.packet.Packet.{Packet}
 use Rattle.xfs_base.proofs.Booleans.{by_test, contrary, and_first}
 use Rattle.xfs_base.specs.declared.node.NodeId.{NodeId}
-use Rattle.xfs_base.specs.declared.node.NodeId.TheVariants.{Client, Manager as AManager, Server, Cleaner, Registry}
+use Rattle.xfs_base.specs.declared.node.NodeId.TheVariants.{Client, Manager as AManager, Cleaner, Registry}
 use Rattle.xfs_base.specs.declared.segment.End.{End}
 use Rattle.xfs_base.specs.declared.segment.LogId.{LogId}
-use Rattle.xfs_base.specs.Nodes.{node_cmp}
 use Rattle.filed_tie.proofs.Leaving.{all_weaker}
 use Rattle.filed_tie.specs.Bounds.{ReportBounded, KnownBounded, PhaseBounded, BodyBounded, PacketBounded, DoBounded}
 use Rattle.filed_tie.specs.ManagerReach.{filed, ManagerReachRises, ManagerStartsReaching, ManagersTellFiled}

@@ -1,5 +1,5 @@
 -- That no log is applied or covered less far than where an epoch began is a bound to which managers and the registry keep.
-use Rattle.std.proofs.Common.{◌≡◌, ℕ, zero, suc, ◌+◌, ◌-◌, ◌≤◌, ◌&&◌, max, min, true, List, map, replicate, get_or, sym, subst, arith}
+use Rattle.std.proofs.Common.{◌≡◌, ℕ, ◌+◌, ◌-◌, ◌≤◌, true, List, map, replicate, arith}
 use Rattle.std.specs.Prelude.{slice_index, nat_le, nat_lt}
 use Rattle.std.specs.List.{range_with_len}
 use Rattle.std.proofs.lemmas.Bool.Decides.{nat_tests}
@@ -9,7 +9,7 @@ use Rattle.manager_node.specs.Phases.{lasting_of}
 use Rattle.manager_node.specs.SlotTable.{next_of, horizon_of}
 use Rattle.store_nodes.specs.RegistryEvents.{takes as registry_takes}
 use Rattle.takeover.specs.declared.report.Report.{Report}
-use Rattle.takeover.specs.Reports.{end_of, horizon_at, applied_at, applied_of as applied_from}
+use Rattle.takeover.specs.Reports.{horizon_at, applied_at, applied_of as applied_from}
 use Rattle.token_manager.specs.Recalls.{applied_of}
 use Rattle.token_manager.specs.SlotState.{SlotState}
 use Rattle.token_manager.specs.Transition.{applied_upto, joins_on}

@@ -1,5 +1,5 @@
 -- Steps of a machine that keep a fact of its state, and of which each thing that they give is as it should be.
-use Rattle.std.proofs.Common.{Bool, List, [], ◌∷◌, ◌++◌, filter}
+use Rattle.std.proofs.Common.{Bool, List, [], ◌∷◌, filter}
 use Rattle.std.specs.List.{AllByRecursion, flat_map}
 use Rattle.xfs_base.proofs.Booleans.{by_test}
 use Rattle.xfs_base.specs.Steps.{Stepped, still, after, steps}

@@ -1,5 +1,5 @@
 -- Whatever happens to the registry, the checkpoints that it keeps, and what it sends of them, keep to the bounds.
-use Rattle.std.proofs.Common.{◌≡◌, ◌≢◌, ℕ, zero, suc, ◌==◌, ◌≤◌, ◌<◌, Bool, true, false, cond, List, [], ◌∷◌, ◌++◌, replicate, refl, sym, subst, arith}
+use Rattle.std.proofs.Common.{◌≡◌, ◌≢◌, ℕ, zero, suc, ◌==◌, ◌<◌, Bool, true, false, cond, List, [], ◌∷◌, replicate, refl, sym, subst, arith}
 use Rattle.std.specs.Prelude.{Option, Some, None, slice_set, nat_lt}
 use Rattle.std.specs.List.{AllByRecursion, flat_map}
 use Rattle.std.proofs.lemmas.Bool.{eqb-true}
@@ -10,11 +10,10 @@ use Rattle.node_base.specs.declared.effects.Effect.TheVariants.{Send}
 use Rattle.node_base.specs.Nodes.{others}
 use Rattle.node_base.specs.Room.{has_room}
 use Rattle.node_base.specs.Shape.{is_well_formed}
-use Rattle.registry.specs.Board.{Made, hears_manager, manager_restarted, manager_hello, hears_server, server_lost, server_hello, can_move, moved as board_moved, reassign, is_kept, checkpointed, keep, done, transition, slot_news, all_news}
+use Rattle.registry.specs.Board.{Made, hears_manager, manager_restarted, manager_hello, hears_server, server_lost, server_hello, can_move, moved as board_moved, reassign, is_kept, checkpointed, keep, done, transition, all_news}
 use Rattle.registry.specs.BoardState.{BoardState}
 use Rattle.registry.specs.Checkpoints.{covers_kept, horizon_at}
 use Rattle.registry.specs.declared.checkpoint.Checkpoint.{Checkpoint}
-use Rattle.registry.specs.declared.input.In.{In as Input}
 use Rattle.registry.specs.declared.input.In.TheVariants as input
 use Rattle.registry.specs.declared.output.Out.{Out}
 use Rattle.registry.specs.declared.output.Out.TheVariants.{Changed, Epoch, Kept}

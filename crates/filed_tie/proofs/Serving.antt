@@ -1,5 +1,5 @@
 -- What a manager that serves has of the logs, and what it tells of them, keeps to the bounds, whatever packet comes and however time passes.
-use Rattle.std.proofs.Common.{◌≡◌, ℕ, ◌==◌, Bool, true, false, List, [], ◌∷◌}
+use Rattle.std.proofs.Common.{ℕ, ◌==◌, Bool, true, false, List}
 use Rattle.std.specs.Prelude.{Option, Some, None}
 use Rattle.std.specs.List.{AllByRecursion}
 use Rattle.client_log.specs.declared.input.In.TheVariants as log_input
@@ -7,7 +7,7 @@ use Rattle.group_map.specs.GroupMapState.{GroupMapState}
 use Rattle.log_owner.specs.Sending.{server_in}
 use Rattle.manager_node.specs.Checkpoints.{Done, writes, tells_again}
 use Rattle.manager_node.specs.declared.serving.Serving.{Serving}
-use Rattle.manager_node.specs.Serving.{and_then, asker_of, with_slots, with_asker, client_in, fed_log, on_want, on_gave, on_deltas, on_check, on_usage_ask, takes, on_report, answered_by, fetch_of, on_found, on_missing, regroups, hearer_of, hears_with, hears_slots, on_newer, on_news, on_fitting_news, on_welcome, asks_for_maps, on_body, hears, recalls_again, asks_again, on_tick}
+use Rattle.manager_node.specs.Serving.{and_then, asker_of, with_slots, with_asker, client_in, fed_log, on_want, on_gave, on_deltas, on_check, on_usage_ask, takes, on_report, answered_by, fetch_of, on_found, on_missing, regroups, hearer_of, hears_with, hears_slots, on_newer, on_news, on_fitting_news, asks_for_maps, on_body, hears, recalls_again, asks_again, on_tick}
 use Rattle.manager_node.specs.SlotTable as table
 use Rattle.node_base.specs.Known.{names_known}
 use Rattle.node_base.specs.Maps.{fits, is_older, taken}
@@ -33,7 +33,7 @@ use Rattle.xfs_base.specs.Steps.{still}
 use Rattle.filed_tie.specs.Bounds.{Bounds, ServingBounded, NewsBounded, BodyBounded, PacketBounded}
 use Rattle.filed_tie.proofs.Bounding.{Bounding, EffectBounded}
 use Rattle.filed_tie.proofs.Checkpointing.{Goes, writes_on, stored_on, acks_on, tells_on}
-use Rattle.filed_tie.proofs.Leaving.{Leaves, goes_after}
+use Rattle.filed_tie.proofs.Leaving.{goes_after}
 use Rattle.filed_tie.proofs.Tables.{TableGoes, TableAsks, table_wants, table_gaves, table_deltas, table_checks, table_tells_usage, table_recalls, table_takes, table_reports, table_asks, table_regroups, table_hears}
 use Rattle.filed_tie.proofs.Taking.{InputBounded as TakeInBounded}
 

@@ -1,7 +1,7 @@
 -- What a manager has of a slot keeps to the bounds, whatever happens to the slot.
-use Rattle.std.proofs.Common.{◌≡◌, ℕ, ◌==◌, Bool, true, false, not, List, [], ◌∷◌, filter}
+use Rattle.std.proofs.Common.{ℕ, ◌==◌, Bool, List, filter}
 use Rattle.std.specs.Prelude.{nat_lt}
-use Rattle.std.specs.List.{AllByRecursion, flat_map}
+use Rattle.std.specs.List.{AllByRecursion}
 use Rattle.manager_node.specs.declared.slot_phase.Active.{Active}
 use Rattle.manager_node.specs.declared.slot_phase.SlotPhase.{SlotPhase}
 use Rattle.manager_node.specs.declared.slot_phase.SlotPhase.TheVariants as phase
@@ -9,9 +9,8 @@ use Rattle.manager_node.specs.declared.slot_phase.Taking.{Taking}
 use Rattle.manager_node.specs.Slots.{epoch_of}
 use Rattle.manager_node.specs.SlotTable.{Hearer, hears_of, cleaned_phase, named_phase}
 use Rattle.manager_node.specs.Takeovers as takeovers
-use Rattle.manager_node.specs.Takeovers.{Asker, asker, fetches, says, says_each, heard, is_wanted, asks_again, report_input, on_report, phase_of}
-use Rattle.manager_node.specs.Tokens as tokens
-use Rattle.manager_node.specs.Tokens.{said, takes, want_input, on_want, deltas_input, on_deltas, check_input, check_said, checked, on_check, on_usage_ask}
+use Rattle.manager_node.specs.Takeovers.{Asker, fetches, says, says_each, heard, is_wanted, asks_again, report_input, on_report, phase_of}
+use Rattle.manager_node.specs.Tokens.{said, takes, want_input, on_want, check_input, check_said, on_check, on_usage_ask}
 use Rattle.node_base.specs.declared.effects.Effect.{Effect}
 use Rattle.node_base.specs.declared.questions.Questions.{Questions}
 use Rattle.takeover.specs.declared.input.In.{In as TakeIn}
@@ -19,29 +18,25 @@ use Rattle.takeover.specs.declared.input.In.TheVariants as take_in
 use Rattle.takeover.specs.declared.output.Out.{Out as TakeOut}
 use Rattle.takeover.specs.declared.output.Out.TheVariants as take_out
 use Rattle.takeover.specs.TakeState.{started}
-use Rattle.takeover.specs.Transition as take
 use Rattle.token_manager.specs.declared.input.In.{In as SlotIn}
-use Rattle.token_manager.specs.declared.input.In.TheVariants as slot_in
 use Rattle.token_manager.specs.declared.output.Out.{Out as SlotOut}
 use Rattle.token_manager.specs.declared.output.Out.TheVariants as slot_out
 use Rattle.token_manager.specs.Transition as slot
 use Rattle.wire_msg.specs.declared.cleaning.Check.{Check}
 use Rattle.wire_msg.specs.declared.cleaning.UsageAsk.{UsageAsk}
-use Rattle.wire_msg.specs.declared.deltas.Deltas.{Deltas}
 use Rattle.wire_msg.specs.declared.deltas.Report.{Report}
 use Rattle.wire_msg.specs.declared.tokens.Want.{Want}
 use Rattle.xfs_base.proofs.Booleans.{by_test}
 use Rattle.xfs_base.specs.Blocks.{slot_of}
 use Rattle.xfs_base.specs.declared.news.SlotNews.{SlotNews}
 use Rattle.xfs_base.specs.declared.node.NodeId.{NodeId}
-use Rattle.xfs_base.specs.declared.segment.LogId.{LogId}
 use Rattle.xfs_base.specs.declared.segment.SegName.{SegName}
 use Rattle.xfs_base.specs.declared.segment.SegRef.{SegRef}
 use Rattle.xfs_base.specs.Steps.{Stepped, still}
 use Rattle.manager_node.specs.Serving.{fed_log}
 use Rattle.filed_tie.specs.Bounds.{Bounds, SlotBounded}
 use Rattle.filed_tie.proofs.Bounding.{Bounding, EffectBounded, AllBounded}
-use Rattle.filed_tie.proofs.Leaving.{Leaves, stays, leaves_each, all_filter, all_flat_map}
+use Rattle.filed_tie.proofs.Leaving.{Leaves, leaves_each, all_filter, all_flat_map}
 use Rattle.filed_tie.proofs.Slots.{InputBounded as SlotInBounded, slot_goes}
 use Rattle.filed_tie.proofs.Taking.{InputBounded as TakeInBounded, OutBounded, take_goes}
 

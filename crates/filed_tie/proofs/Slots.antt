@@ -1,7 +1,7 @@
 -- What a slot has applied of the logs keeps to the bounds, whatever it is told.
-use Rattle.std.proofs.Common.{◌≡◌, ℕ, zero, suc, ◌+◌, ◌-◌, ◌==◌, ◌≤◌, ◌&&◌, not, Bool, true, false, List, [], ◌∷◌, length, arith}
+use Rattle.std.proofs.Common.{ℕ, ◌==◌, not, List, [], ◌∷◌, length}
 use Rattle.std.specs.Prelude.{Option, Some, None}
-use Rattle.std.specs.List.{AllByRecursion, list_any}
+use Rattle.std.specs.List.{list_any}
 use Rattle.token_manager.specs.declared.input.In.{In as Input}
 use Rattle.token_manager.specs.declared.input.In.TheVariants as input
 use Rattle.token_manager.specs.declared.job.Awaited.{Awaited}
@@ -10,7 +10,7 @@ use Rattle.token_manager.specs.declared.job.Wanted.{Wanted}
 use Rattle.token_manager.specs.Beliefs.{others}
 use Rattle.token_manager.specs.Recalls.{applied_of, answers, noted, is_ready, ready_blocks}
 use Rattle.token_manager.specs.SlotState.{SlotState}
-use Rattle.token_manager.specs.Transition.{Done, has_turns, job_at, without_job, finished, finish, recalled, recall, recall_or_finish, is_dropped, on_want, given, gave_last, gave_one, gave_noted, gave_job, on_gave, finished_job, finished_at, applied_upto, with_deltas, apply, can_apply, apply_or_not, joins_on, is_followed, told_applied, deltas_of, on_deltas, on_check, on_tick, want_of, transition}
+use Rattle.token_manager.specs.Transition.{Done, has_turns, job_at, without_job, finished, finish, recalled, recall, recall_or_finish, is_dropped, on_want, given, gave_last, gave_one, gave_noted, gave_job, on_gave, finished_job, finished_at, applied_upto, with_deltas, apply, can_apply, apply_or_not, joins_on, is_followed, told_applied, deltas_of, on_deltas, want_of, transition}
 use Rattle.xfs_base.proofs.Booleans.{by_test}
 use Rattle.xfs_base.specs.declared.block.BlockId.{BlockId}
 use Rattle.xfs_base.specs.declared.entry.Entry.{Entry}

@@ -1,5 +1,5 @@
 -- The slots of a manager keep to the bounds, whatever happens to one of them, or to each in order.
-use Rattle.std.proofs.Common.{◌≡◌, ℕ, zero, suc, ◌+◌, ◌-◌, ◌≤◌, Bool, List, [], ◌∷◌, min, map, arith}
+use Rattle.std.proofs.Common.{ℕ, Bool, List, arith}
 use Rattle.std.specs.Prelude.{Option, Some, None, IfSome, slice_get}
 use Rattle.std.specs.List.{AllByRecursion}
 use Rattle.checkpoint.specs.declared.input.In.{In as WriterIn}
@@ -8,7 +8,7 @@ use Rattle.group_map.specs.GroupMapState.{GroupMapState}
 use Rattle.manager_node.specs.declared.slot_phase.SlotPhase.{SlotPhase}
 use Rattle.manager_node.specs.declared.slot_phase.SlotPhase.TheVariants as phase
 use Rattle.manager_node.specs.Serving.{fed_log}
-use Rattle.manager_node.specs.SlotTable.{Table, Done, TableAsker, Asks, Hearer, all_slots, put_at, in_slot, at_slot, on_want, on_gave, on_deltas, on_check, usage_in, on_usage_ask, recalls, recalls_all, put_asker, in_taken, at_taken, takes, on_report, asks, asks_all, regroups, regroups_all, hears_of, hears, hears_all, begin_with, begin_in, begin_one, begin_at, cleaned_phase, named_phase, changed_in, cleaned_at, named_at}
+use Rattle.manager_node.specs.SlotTable.{Table, Done, TableAsker, Asks, Hearer, all_slots, in_slot, at_slot, on_want, on_gave, on_deltas, on_check, usage_in, on_usage_ask, recalls, recalls_all, in_taken, at_taken, takes, on_report, asks, asks_all, regroups, regroups_all, hears_of, hears, hears_all, begin_one, begin_at, cleaned_phase, named_phase, changed_in, cleaned_at, named_at}
 use Rattle.manager_node.specs.Takeovers as takeovers
 use Rattle.manager_node.specs.Takeovers.{Asker, asker}
 use Rattle.manager_node.specs.Tokens as tokens
@@ -27,7 +27,7 @@ use Rattle.xfs_base.specs.declared.news.SlotNews.{SlotNews}
 use Rattle.xfs_base.specs.declared.node.NodeId.{NodeId}
 use Rattle.xfs_base.specs.declared.segment.LogId.{LogId}
 use Rattle.xfs_base.specs.declared.segment.SegRef.{SegRef}
-use Rattle.xfs_base.specs.Steps.{Stepped, still, steps}
+use Rattle.xfs_base.specs.Steps.{Stepped}
 use Rattle.filed_tie.specs.Bounds.{Bounds, SlotBounded, SlotsBounded, NewsBounded}
 use Rattle.filed_tie.proofs.Bounding.{Bounding, slot_read, slot_put, EffectBounded, AllBounded}
 use Rattle.filed_tie.proofs.Leaving.{Leaves, leaves_each, all_each}

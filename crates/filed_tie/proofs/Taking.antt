@@ -1,5 +1,5 @@
 -- What a takeover knows of the logs keeps to the bounds, whatever it is told, and so does what is applied of the slot that it hands out.
-use Rattle.std.proofs.Common.{◌≡◌, ℕ, zero, suc, ◌+◌, ◌-◌, ◌==◌, ◌≤◌, ◌&&◌, max, Bool, true, false, List, [], ◌∷◌, ◌++◌, length, refl, sym, ap, subst, arith}
+use Rattle.std.proofs.Common.{ℕ, ◌+◌, ◌==◌, ◌&&◌, List, [], ◌∷◌, ◌++◌, length}
 use Rattle.std.specs.Prelude.{Option, Some, None}
 use Rattle.std.specs.List.{AllByRecursion}
 use Rattle.group_map.specs.GroupMapState.{GroupMapState}
@@ -23,16 +23,15 @@ use Rattle.takeover.specs.declared.source.Source.{Source}
 use Rattle.takeover.specs.Rows.{told_of}
 use Rattle.takeover.specs.Sources.{sources_of, back_from}
 use Rattle.takeover.specs.TakeState.{TakeState}
-use Rattle.takeover.specs.Transition.{Done, awaited, awaits, can_ask, fetches, polls, reads, asks, target_of, sought_over, sought, is_index, active, handed, next_of, go_on, with_chain, goes_on_from, has_read, lost, confirmed_as, again, judged_as, told_in, told_at, on_told, begun_if_all, on_report, waits_in, waiting, sought_again, on_maps, unanswered, repeated, on_tick, transition}
+use Rattle.takeover.specs.Transition.{Done, awaited, awaits, can_ask, fetches, polls, reads, asks, target_of, sought_over, sought, is_index, active, handed, next_of, go_on, with_chain, goes_on_from, has_read, confirmed_as, again, judged_as, told_in, told_at, on_told, begun_if_all, on_report, waiting, sought_again, on_maps, unanswered, repeated, on_tick, transition}
 use Rattle.xfs_base.proofs.Booleans.{by_test}
 use Rattle.xfs_base.specs.declared.node.NodeId.{NodeId}
-use Rattle.xfs_base.specs.declared.segment.End.{End}
 use Rattle.xfs_base.specs.declared.segment.SegName.{SegName}
 use Rattle.xfs_base.specs.Steps.{still}
 use Rattle.filed_tie.proofs.Frames.{all_append, all_map}
 use Rattle.filed_tie.specs.Bounds.{Bounds, ReportBounded, KnownBounded, TakeBounded}
 use Rattle.filed_tie.proofs.Bounding.{Bounding}
-use Rattle.filed_tie.proofs.Leaving.{Leaves, all_each}
+use Rattle.filed_tie.proofs.Leaving.{Leaves}
 
 module _ (b : Bounds) (laws : Bounding b) (k : ℕ) where
   -- ---- what is said

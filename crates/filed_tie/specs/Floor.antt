@@ -1,5 +1,5 @@
 -- How far the logs are applied and covered at least: from the horizon on with which an epoch of a slot began, nothing of them is ever missing.
-use Rattle.std.specs.Prelude.{ℕ, suc, ◌≤◌, min, List, Option}
+use Rattle.std.specs.Prelude.{ℕ, suc, ◌≤◌, min, List}
 use Rattle.std.specs.List.{AllByRecursion}
 use Rattle.manager_node.specs.declared.manager.Manager.{Manager}
 use Rattle.manager_node.specs.Events.{first_manager, manager_step}
