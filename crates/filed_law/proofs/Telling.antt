@@ -176,10 +176,10 @@ module _ (reach : Reach) (registry : RegistryNode) (h : RegistryReaches reach re
       in
       (h 0 (omega arith), (h 1 (omega arith), (h 2 (omega arith), (h 3 (omega arith), upper))))
 
-  low_reached : (log : ℕ) → 1 ≤ log → least_horizon log (all_news registry.board) ≤ suc (reach log)
+  pub low_reached : (log : ℕ) → 1 ≤ log → least_horizon log (all_news registry.board) ≤ suc (reach log)
   low_reached log some = least_low reach log (all_news registry.board) some (omega arith) news_reach
 
-was_filed : (acts : List Act) (log low : ℕ) → low ≤ suc (filed_upto acts log) → IsFiledUpto acts log → HorizonWasFiled acts log low
+pub was_filed : (acts : List Act) (log low : ℕ) → low ≤ suc (filed_upto acts log) → IsFiledUpto acts log → HorizonWasFiled acts log low
 was_filed acts log low upto (inl none) = inl (omega (arith, upto, none))
 was_filed acts log low upto (inr f) = inr (record { name = f.name; among = f.among; own = f.own; near = (let at = f.at in omega (arith, upto, at)) })
 
