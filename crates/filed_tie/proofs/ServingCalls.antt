@@ -1,11 +1,12 @@
 -- What a client that serves does for the open call: its puts and seals.
-use Rattle.std.proofs.Common.{ℕ, zero, suc, ◌==◌, List, [], ◌∷◌, Option, Some, None, is_none}
+use Rattle.std.proofs.Common.{ℕ, zero, suc, ◌+◌, ◌==◌, List, [], ◌∷◌, Option, Some, None, is_none}
 use Rattle.client_log.specs.declared.input.In.TheVariants as log_in
-use Rattle.client_node.specs.Blocks.{Made, needs, got, gets, wrote, put_of, changes, puts, lets_go, changed, puts_again, puts_at, is_settled, synced_acts, syncs, makes}
+use Rattle.client_node.specs.Blocks.{Made, needs, got, gets, wrote, put_of, changes, held_back, changes_if_fits, puts, lets_go, changed, puts_again, puts_at, is_settled, synced_acts, syncs, makes}
 use Rattle.client_node.specs.declared.call.Call.{Call}
 use Rattle.client_node.specs.declared.call.Going.{Going}
 use Rattle.client_node.specs.declared.call.Going.TheVariants.{On, Ends}
 use Rattle.client_node.specs.declared.serving.Serving.{Serving}
+use Rattle.client_node.specs.Fitting.{put_fits}
 use Rattle.client_node.specs.Flights.{held_at}
 use Rattle.client_node.specs.Follow.{notes_gone, seals}
 use Rattle.client_node.specs.Running.{after_answer, goes_on, Ran, answers_call, ran, runs_call, runs_once, runs_upto, runs, most_steps}
@@ -59,21 +60,30 @@ module _ (reach : Reach) (c : ℕ) where
       frames.goes_after reach (Client c) At (Does (Wrote s.lasting.number block value) ∷ []) (put_of t block value) (tt, tt)
       (flights.writes_so reach c t (log_in.Put block (record { ver = (held_at t block).ver; hop = 0; place = None }) value) h)
 
-  puts_so : (s : Serving) (block : BlockId) (value : Option (List ℕ)) → At s → Goes (puts s block value).done
-  unfolding puts
-  puts_so s block value h =
-      by_test (λ (m : Made). Goes m.done) (may_write (held_at s block)) (changes s block value) (needs s block Own) (λ t. changes_so s block value h)
-      (λ t. needs_so s block Own h)
-
   lets_go_so : (s : Serving) (block : BlockId) → At s → At (lets_go s block)
   lets_go_so s block h =
       let t : Serving = record s { tokens = (client.on_evict s.tokens block).state } in
       by_test (λ (u : Serving). At u) (is_none (held_at s block).value) (notes_gone t block) s (λ e. tokens.notes_gone_so reach c t block h) (λ e. h)
 
+  held_back_so : (s : Serving) (block : BlockId) → At s → Goes (held_back s block).done
+  held_back_so s block h = tokens.still_so reach c (lets_go s block) (lets_go_so s block h)
+
+  changes_if_fits_so : (s : Serving) (block : BlockId) (value : Option (List ℕ)) → At s → Goes (changes_if_fits s block value).done
+  unfolding changes_if_fits
+  changes_if_fits_so s block value h =
+      by_test (λ (m : Made). Goes m.done) (put_fits block ((held_at s block).ver + 1) value) (changes s block value) (held_back s block)
+      (λ t. changes_so s block value h) (λ t. held_back_so s block h)
+
+  puts_so : (s : Serving) (block : BlockId) (value : Option (List ℕ)) → At s → Goes (puts s block value).done
+  unfolding puts
+  puts_so s block value h =
+      by_test (λ (m : Made). Goes m.done) (may_write (held_at s block)) (changes_if_fits s block value) (needs s block Own) (λ t. changes_if_fits_so s block value h)
+      (λ t. needs_so s block Own h)
+
   puts_again_so : (s : Serving) (block : BlockId) (ver : ℕ) (value : Option (List ℕ)) → At s
       → Goes (puts_again s block ver value).done
   puts_again_so s block ver value h =
-      by_test (λ (m : Made). Goes m.done) ((held_at s block).ver == ver) (changes s block value) (changed s block) (λ t. changes_so s block value h)
+      by_test (λ (m : Made). Goes m.done) ((held_at s block).ver == ver) (changes_if_fits s block value) (changed s block) (λ t. changes_if_fits_so s block value h)
       (λ t. tokens.still_so reach c (lets_go s block) (lets_go_so s block h))
 
   puts_at_so : (s : Serving) (block : BlockId) (ver : ℕ) (value : Option (List ℕ)) → At s
