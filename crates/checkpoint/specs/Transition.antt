@@ -4,6 +4,7 @@ use Rattle.xfs_base.specs.Steps.{Stepped, still}
 use Rattle.xfs_base.specs.declared.segment.End.{End}
 use Rattle.xfs_base.specs.declared.segment.LogId.{LogId}
 use Rattle.xfs_base.specs.declared.segment.SegRef.{SegRef}
+use Rattle.xfs_base.specs.Limits.{u32_end}
 use Rattle.checkpoint.specs.declared.input.In.{In}
 use Rattle.checkpoint.specs.declared.input.In.TheVariants.{Begin, Settled, Ack}
 use Rattle.checkpoint.specs.declared.output.Out.{Out}
@@ -37,7 +38,7 @@ go_on s w = if length w.left == 0 then finished s w else gives s w
 
 -- a checkpoint is begun where none is in hand
 abbrev pub is_idle : WriterState → Bool
-is_idle s = not (is_some s.work || (is_some s.asked || (s.number == 4294967295)))
+is_idle s = not (is_some s.work || (is_some s.asked || (s.number == u32_end)))
 
 abbrev pub begun : WriterState → WorkState → Stepped WriterState Out
 begun s w = if is_idle s then go_on (record s { number = s.number + 1 }) w else still s

@@ -1,11 +1,12 @@
 -- The open call runs: that keeps a fact of a client that serves; and it writes at once, or lets go, what was just granted to be written.
-use Rattle.std.proofs.Common.{◌≡◌, inl, inr, ℕ, zero, suc, ◌<◌, Bool, true, false, ◌==◌, List, Option, Some, None, is_some, is_none, refl, sym, ap, subst, ◌∙◌, arith}
+use Rattle.std.proofs.Common.{◌≡◌, inl, inr, ℕ, zero, suc, ◌+◌, ◌<◌, Bool, true, false, ◌==◌, List, Option, Some, None, is_some, is_none, refl, sym, ap, subst, ◌∙◌, arith}
 use Rattle.client_log.specs.declared.input.In.TheVariants as log_in
-use Rattle.client_node.specs.Blocks.{Made, changed, changes, got, gets, lets_go, makes, needs, puts, puts_again, puts_at, syncs, wrote}
+use Rattle.client_node.specs.Blocks.{Made, changed, changes, changes_if_fits, got, gets, held_back, lets_go, makes, needs, puts, puts_again, puts_at, syncs, wrote}
 use Rattle.client_node.specs.declared.call.Call.{Call}
 use Rattle.client_node.specs.declared.call.Going.{Going}
 use Rattle.client_node.specs.declared.call.Going.TheVariants.{On, Ends}
 use Rattle.client_node.specs.declared.serving.Serving.{Serving}
+use Rattle.client_node.specs.Fitting.{put_fits}
 use Rattle.client_node.specs.Flights.{held_at}
 use Rattle.client_node.specs.Follow.{hands, notes_gone}
 use Rattle.client_node.specs.Running.{Ran, after_answer, answers_call, goes_on, most_steps, runs, runs_call, runs_once, runs_upto}
@@ -74,20 +75,29 @@ module _ (s : Serving) (p : Sound s) (block : BlockId) where
         let w : Serving = wrote s block value in
         writes-sound w (log_in.Put block (record { ver = (held_at w block).ver; hop = 0; place = None }) value) (transition-sound s.tokens (input.Wrote block value) p)
 
-    puts-sound : Sound (puts s block value).done.state
-    unfolding puts
-    puts-sound = by_test (λ (m : Made). Sound m.done.state) (may_write (held_at s block)) (changes s block value) (needs s block Own) (λ x. changes-sound) (λ x. needs-sound Own)
-
-    changed-sound : Sound (changed s block).done.state
-    changed-sound =
+    lets_go-sound : Sound (lets_go s block)
+    lets_go-sound =
         by_test Sound (is_none (held_at s block).value) (notes_gone (record s { tokens = (on_evict s.tokens block).state }) block) s
         (λ x. notes_gone-sound (record s { tokens = (on_evict s.tokens block).state }) block (transition-sound s.tokens (input.Evict block) p)) (λ x. p)
+
+    changes_if_fits-sound : Sound (changes_if_fits s block value).done.state
+    unfolding changes_if_fits
+    changes_if_fits-sound =
+        by_test (λ (m : Made). Sound m.done.state) (put_fits block ((held_at s block).ver + 1) value) (changes s block value) (held_back s block)
+        (λ x. changes-sound) (λ x. lets_go-sound)
+
+    puts-sound : Sound (puts s block value).done.state
+    unfolding puts
+    puts-sound =
+        by_test (λ (m : Made). Sound m.done.state) (may_write (held_at s block)) (changes_if_fits s block value) (needs s block Own)
+        (λ x. changes_if_fits-sound) (λ x. needs-sound Own)
 
     puts_at-sound : (ver : ℕ) → Sound (puts_at s block ver value).done.state
     unfolding puts_at
     puts_at-sound ver =
         by_test (λ (m : Made). Sound m.done.state) (may_write (held_at s block)) (puts_again s block ver value) (needs s block Own)
-        (λ x. by_test (λ (m : Made). Sound m.done.state) ((held_at s block).ver == ver) (changes s block value) (changed s block) (λ y. changes-sound) (λ y. changed-sound))
+        (λ x. by_test (λ (m : Made). Sound m.done.state) ((held_at s block).ver == ver) (changes_if_fits s block value) (changed s block)
+        (λ y. changes_if_fits-sound) (λ y. lets_go-sound))
         (λ x. needs-sound Own)
 
 makes-sound : (s : Serving) (b : BlockCall) → Sound s → Sound (makes s b).done.state
@@ -117,16 +127,23 @@ module _ (A : BlockId → Type 0) (M : GroupMapState → Type 0) (B : Fact) (P :
         by_test MadeSo (is_nothing (held_at s block).mode) (needs s block Copy) (got s block (held_at s block)) (λ x. needs-keeps Copy)
         (λ x. k.touches s.tokens s.log s.cache block p)
 
+    changes_if_fits-keeps : (value : Option (List ℕ)) → may_write (held_at s block) ≡ true → MadeSo (changes_if_fits s block value)
+    unfolding changes_if_fits
+    changes_if_fits-keeps value may =
+        by_test MadeSo (put_fits block ((held_at s block).ver + 1) value) (changes s block value) (held_back s block)
+        (λ x. k.puts s block value sound may p) (λ x. lets_go-keeps (P 0) T s block p)
+
     puts-keeps : (value : Option (List ℕ)) → MadeSo (puts s block value)
     unfolding puts
     puts-keeps value =
-        by_test MadeSo (may_write (held_at s block)) (changes s block value) (needs s block Own) (λ x. k.puts s block value sound x p) (λ x. needs-keeps Own)
+        by_test MadeSo (may_write (held_at s block)) (changes_if_fits s block value) (needs s block Own) (λ x. changes_if_fits-keeps value x)
+        (λ x. needs-keeps Own)
 
     puts_at-keeps : (ver : ℕ) (value : Option (List ℕ)) → MadeSo (puts_at s block ver value)
     unfolding puts_at
     puts_at-keeps ver value =
         by_test MadeSo (may_write (held_at s block)) (puts_again s block ver value) (needs s block Own)
-        (λ x. by_test MadeSo ((held_at s block).ver == ver) (changes s block value) (changed s block) (λ y. k.puts s block value sound x p)
+        (λ x. by_test MadeSo ((held_at s block).ver == ver) (changes_if_fits s block value) (changed s block) (λ y. changes_if_fits-keeps value x)
         (λ y. lets_go-keeps (P 0) T s block p)) (λ x. needs-keeps Own)
 
   makes-keeps : (s : Serving) (b : BlockCall) → Sound s → At (P 0) s → MadeSo (makes s b)
@@ -137,19 +154,31 @@ module _ (A : BlockId → Type 0) (M : GroupMapState → Type 0) (B : Fact) (P :
   makes-keeps s Sync sound p = seals-keeps (P 0) T s p
 
   -- what was just granted is written, or let go
-  fresh-put : (s : Serving) (block : BlockId) (value : Option (List ℕ)) → Sound s → may_write (held_at s block) ≡ true → At (Q block) s → MadeSo (puts s block value)
-  unfolding puts
-  fresh-put s block value sound may q =
-      by_test MadeSo (may_write (held_at s block)) (changes s block value) (needs s block Own) (λ x. k.puts_owned s block value sound may q) (λ x. contrary (sym x ∙ may))
+  module _ (s : Serving) (block : BlockId) (sound : Sound s) (may : may_write (held_at s block) ≡ true) (empty : is_none (held_at s block).value ≡ true)
+      (q : At (Q block) s) where
+    lets-fresh : At (P 0) (lets_go s block)
+    lets-fresh =
+        by_test (At (P 0)) (is_none (held_at s block).value) (notes_gone (record s { tokens = (on_evict s.tokens block).state }) block) s
+        (λ z. k.lets_owned s block sound q) (λ z. contrary (sym z ∙ empty))
 
-  fresh-put_at : (s : Serving) (block : BlockId) (ver : ℕ) (value : Option (List ℕ)) → Sound s → may_write (held_at s block) ≡ true
-      → is_none (held_at s block).value ≡ true → At (Q block) s → MadeSo (puts_at s block ver value)
-  unfolding puts_at
-  fresh-put_at s block ver value sound may empty q =
-      by_test MadeSo (may_write (held_at s block)) (puts_again s block ver value) (needs s block Own)
-      (λ x. by_test MadeSo ((held_at s block).ver == ver) (changes s block value) (changed s block) (λ y. k.puts_owned s block value sound may q)
-      (λ y. by_test (At (P 0)) (is_none (held_at s block).value) (notes_gone (record s { tokens = (on_evict s.tokens block).state }) block) s
-      (λ z. k.lets_owned s block sound q) (λ z. contrary (sym z ∙ empty)))) (λ x. contrary (sym x ∙ may))
+    fresh-change : (value : Option (List ℕ)) → MadeSo (changes_if_fits s block value)
+    unfolding changes_if_fits
+    fresh-change value =
+        by_test MadeSo (put_fits block ((held_at s block).ver + 1) value) (changes s block value) (held_back s block)
+        (λ x. k.puts_owned s block value sound may q) (λ x. lets-fresh)
+
+    fresh-put : (value : Option (List ℕ)) → MadeSo (puts s block value)
+    unfolding puts
+    fresh-put value =
+        by_test MadeSo (may_write (held_at s block)) (changes_if_fits s block value) (needs s block Own) (λ x. fresh-change value)
+        (λ x. contrary (sym x ∙ may))
+
+    fresh-put_at : (ver : ℕ) (value : Option (List ℕ)) → MadeSo (puts_at s block ver value)
+    unfolding puts_at
+    fresh-put_at ver value =
+        by_test MadeSo (may_write (held_at s block)) (puts_again s block ver value) (needs s block Own)
+        (λ x. by_test MadeSo ((held_at s block).ver == ver) (changes_if_fits s block value) (changed s block) (λ y. fresh-change value) (λ y. lets-fresh))
+        (λ x. contrary (sym x ∙ may))
 
   abbrev block_in : BlockId → Option (BlockId × Mode) → BlockId
   block_in other None = other
@@ -168,11 +197,12 @@ module _ (A : BlockId → Type 0) (M : GroupMapState → Type 0) (B : Fact) (P :
   fresh-makes s block (Get other) is sound may empty q = contrary (ap is_to_write is)
   fresh-makes s block (Put other value) is sound may empty q =
       let same : block ≡ other = sym (ap (block_in block) is) in
-      fresh-put s other value sound (subst (λ c. may_write (held_at s c) ≡ true) same may) (subst (λ c. At (Q c) s) same q)
+      fresh-put s other sound (subst (λ c. may_write (held_at s c) ≡ true) same may) (subst (λ c. is_none (held_at s c).value ≡ true) same empty)
+      (subst (λ c. At (Q c) s) same q) value
   fresh-makes s block (PutAt other ver value) is sound may empty q =
       let same : block ≡ other = sym (ap (block_in block) is) in
-      fresh-put_at s other ver value sound (subst (λ c. may_write (held_at s c) ≡ true) same may) (subst (λ c. is_none (held_at s c).value ≡ true) same empty)
-      (subst (λ c. At (Q c) s) same q)
+      fresh-put_at s other sound (subst (λ c. may_write (held_at s c) ≡ true) same may) (subst (λ c. is_none (held_at s c).value ≡ true) same empty)
+      (subst (λ c. At (Q c) s) same q) ver value
   fresh-makes s block Sync is sound may empty q = contrary (ap is_to_write is)
 
   -- ---- the open call

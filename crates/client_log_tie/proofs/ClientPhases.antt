@@ -57,8 +57,8 @@ use Rattle.log_law.specs.Events.Runs.{Begun, On}
 use Rattle.node_log_tie.specs.Sight.{BodySeen, PacketSeen, AllSeen, AskedBy}
 use Rattle.node_log_tie.specs.Sight.Question.{OfOpening}
 use Rattle.client_log_tie.specs.Owner.{Scene, asker, LastsAs, ClientAgrees}
-use Rattle.client_log_tie.specs.Texts.{StaysWritten, RunsFit}
-use Rattle.client_log_tie.specs.ClientEvents.{ActSeen, StageWritten, PhaseWritten, begun_serving, BeginOwed, RunOwed, PacketOwed, ClientOwed, Grown, ClientTakes}
+use Rattle.client_log_tie.specs.Texts.{StaysWritten}
+use Rattle.client_log_tie.specs.ClientEvents.{ActSeen, StageWritten, PhaseWritten, PhaseOwed, PacketOwed, ClientOwed, Grown, ClientTakes}
 use Rattle.client_log_tie.proofs.Frames.{ClientDoes, ClientDid}
 use Rattle.client_log_tie.proofs.Frames as frames
 use Rattle.client_log_tie.proofs.OpeningEvents as events
@@ -277,47 +277,42 @@ module _ (g : Setting) (c : ℕ) (is : g.log ≡ record { 0 = c }) (small : is_l
   says_so : (s : Serving) (number : ℕ) (a : Answer) → AtServing s → frames.Goes g c w (gives s (Answers number a ∷ []))
   says_so s number a h = frames.goes_plain g c w s (Answers number a ∷ []) h (tokens.plain_one g c _ (λ v. tt))
 
-  begins_so : (s : Serving) (number : ℕ) (going : Option Going)
-      → ((x : Going) → going ≡ Some x → RunsFit (goes_on (record s { lasting = record s.lasting { items = waiting s.lasting.items number } }) x).state) → AtServing s
-      → frames.Goes g c w (begins_call s number going)
-  begins_so s number None fits h = says_so s number answer.Done h
-  begins_so s number (Some x) fits h =
+  begins_so : (s : Serving) (number : ℕ) (going : Option Going) → AtServing s → frames.Goes g c w (begins_call s number going)
+  begins_so s number None h = says_so s number answer.Done h
+  begins_so s number (Some x) h =
       let t : Serving = record s { lasting = record s.lasting { items = waiting s.lasting.items number } } in
-      serving.going_so g c is w (goes_on t x) (fits x refl) (calls.goes_on_so g c is w t x h)
+      serving.runs_after g c is w (goes_on t x) (calls.goes_on_so g c is w t x h)
 
-  opens_so : (s : Serving) (number : ℕ)
-      → ((x : Going) → call_at s number (work_at s.lasting.items number) ≡ Some x → RunsFit (goes_on (record s { lasting = record s.lasting { items = waiting s.lasting.items number } }) x).state)
-      → AtServing s → frames.Goes g c w (opens s number)
+  opens_so : (s : Serving) (number : ℕ) → AtServing s → frames.Goes g c w (opens s number)
   unfolding opens
-  opens_so s number fits h =
+  opens_so s number h =
       by_test (λ (d : Done). frames.Goes g c w d) (is_some s.lasting.items.unanswered) (gives s (Answers number answer.Busy ∷ []))
       (begins_call s number (call_at s number (work_at s.lasting.items number)))
-      (λ t. says_so s number answer.Busy h) (λ t. begins_so s number (call_at s number (work_at s.lasting.items number)) fits h)
+      (λ t. says_so s number answer.Busy h) (λ t. begins_so s number (call_at s number (work_at s.lasting.items number)) h)
 
   serving_begins_so : (s : Serving) (number : ℕ) (wanted : Option Work) → ClientAgrees g c w (Serves s) → StaysWritten s.log
-      → ((x : Going) → call_at s number (work_at s.lasting.items number) ≡ Some x → RunsFit (goes_on (record s { lasting = record s.lasting { items = waiting s.lasting.items number } }) x).state)
       → Goes (serving_begins s number (wish_of wanted))
-  serving_begins_so s number (Some (work.Crash node)) sees written fits = crashes_serving s number sees
-  serving_begins_so s number (Some (work.Restart node)) sees written fits = answers_so (Serves s) number answer.Up sees written
-  serving_begins_so s number (Some _) sees written fits = serves_so (opens s number) (opens_so s number fits (stands s sees written))
-  serving_begins_so s number None sees written fits = serves_so (opens s number) (opens_so s number fits (stands s sees written))
+  serving_begins_so s number (Some (work.Crash node)) sees written = crashes_serving s number sees
+  serving_begins_so s number (Some (work.Restart node)) sees written = answers_so (Serves s) number answer.Up sees written
+  serving_begins_so s number (Some _) sees written = serves_so (opens s number) (opens_so s number (stands s sees written))
+  serving_begins_so s number None sees written = serves_so (opens s number) (opens_so s number (stands s sees written))
 
   -- ---- the events
 
-  item_so : (servers : ℕ) (p : Phase) (item : Option ℕ) → next_item (lasting_of p).items ≡ item → ClientAgrees g c w p → PhaseWritten p → BeginOwed p → has_room (lasting_of p).inc ≡ true
+  item_so : (servers : ℕ) (p : Phase) (item : Option ℕ) → ClientAgrees g c w p → PhaseWritten p → has_room (lasting_of p).inc ≡ true
       → has_room (lasting_of p).questions.last ≡ true → Goes (begins_item servers p item)
-  item_so servers p None at sees written owed room asks_room = still_so p sees written
-  item_so servers (Down l) (Some number) at sees written owed room asks_room =
+  item_so servers p None sees written room asks_room = still_so p sees written
+  item_so servers (Down l) (Some number) sees written room asks_room =
       down_begins_so servers number (record l { items = begun l.items }) (work_at (begun l.items) number) sees room asks_room
-  item_so servers (Opening l o) (Some number) at sees written owed room asks_room =
+  item_so servers (Opening l o) (Some number) sees written room asks_room =
       opening_begins_so (record l { items = begun l.items }) o number (work_at (begun l.items) number) sees written
-  item_so servers (Serves s) (Some number) at sees written owed room asks_room =
-      serving_begins_so (begun_serving s) number (work_at (begun s.lasting.items) number) sees written (λ x calls_it. owed.fits number x at calls_it)
+  item_so servers (Serves s) (Some number) sees written room asks_room =
+      serving_begins_so (record s { lasting = record s.lasting { items = begun s.lasting.items } }) number (work_at (begun s.lasting.items) number) sees written
 
-  on_begin_so : (servers : ℕ) (p : Phase) → ClientAgrees g c w p → PhaseWritten p → BeginOwed p → has_room (lasting_of p).inc ≡ true → has_room (lasting_of p).questions.last ≡ true
+  on_begin_so : (servers : ℕ) (p : Phase) → ClientAgrees g c w p → PhaseWritten p → has_room (lasting_of p).inc ≡ true → has_room (lasting_of p).questions.last ≡ true
       → Goes (on_begin servers p)
   unfolding on_begin
-  on_begin_so servers p sees written owed room asks_room = item_so servers p (next_item (lasting_of p).items) refl sees written owed room asks_room
+  on_begin_so servers p sees written room asks_room = item_so servers p (next_item (lasting_of p).items) sees written room asks_room
 
   on_deliver_so : (capacity : ℕ) (p : Phase) (packet : wire.Packet) → ClientAgrees g c w p → PhaseWritten p → PacketOwed g c w p packet → has_room (lasting_of p).questions.last ≡ true
       → Goes (on_deliver capacity p packet)
@@ -325,9 +320,9 @@ module _ (g : Setting) (c : ℕ) (is : g.log ≡ record { 0 = c }) (small : is_l
   on_deliver_so capacity (Down l) packet sees written owed room = still_so (Down l) sees tt
   on_deliver_so capacity (Opening l o) packet sees written owed room =
       opened_so l capacity (opening.on_packet o l.questions packet)
-      (events.packet_so g c its_log w l.number l.inc l.questions sees.0 room o packet owed.own owed.seen owed.fits (record { sees = sees.1; written = written; owed = owed.runs }))
+      (events.packet_so g c its_log w l.number l.inc l.questions sees.0 room o packet owed.own owed.seen owed.fits (record { sees = sees.1; written = written; owed = owed.scans }))
   on_deliver_so capacity (Serves s) packet sees written owed room =
-      serves_so (serving.and_runs g c is (packets.on_packet s packet)) (serving.packet_so g c is w s packet owed.seen owed.fits owed.runs room (stands s sees written))
+      serves_so (serving.and_runs g c is (packets.on_packet s packet)) (serving.packet_so g c is w s packet owed.seen owed.fits room (stands s sees written))
 
   delivers_so : (peers : Peers) (capacity : ℕ) (p : Phase) (packet : wire.Packet) → ClientAgrees g c w p → PhaseWritten p → PacketOwed g c w p packet
       → has_room (lasting_of p).questions.last ≡ true → Goes (delivers peers capacity p packet)
@@ -335,7 +330,7 @@ module _ (g : Setting) (c : ℕ) (is : g.log ≡ record { 0 = c }) (small : is_l
       by_test (λ (x : Went_to). Goes x) (is_well_formed peers packet) (on_deliver capacity p packet) (still p)
       (λ t. on_deliver_so capacity p packet sees written owed room) (λ t. still_so p sees written)
 
-  on_time_so : (capacity : ℕ) (p : Phase) → ClientAgrees g c w p → PhaseWritten p → RunOwed g w.net p (λ s. (packets.on_tick s).state) → has_room (lasting_of p).questions.last ≡ true
+  on_time_so : (capacity : ℕ) (p : Phase) → ClientAgrees g c w p → PhaseWritten p → PhaseOwed g w.net p → has_room (lasting_of p).questions.last ≡ true
       → Goes (on_time capacity p)
   unfolding on_time
   on_time_so capacity (Down l) sees written owed room = still_so (Down l) sees tt
@@ -343,12 +338,12 @@ module _ (g : Setting) (c : ℕ) (is : g.log ≡ record { 0 = c }) (small : is_l
       opened_so l capacity (opening.on_tick o l.questions)
       (events.tick_so g c its_log w l.number l.inc l.questions sees.0 room o (record { sees = sees.1; written = written; owed = owed }))
   on_time_so capacity (Serves s) sees written owed room =
-      serves_so (serving.and_runs g c is (packets.on_tick s)) (serving.time_so g c is w s owed (stands s sees written))
+      serves_so (serving.and_runs g c is (packets.on_tick s)) (serving.time_so g c is w s (stands s sees written))
 
   happens_so : (client : Client) (what : Do) → ClientAgrees g c w client.phase → PhaseWritten client.phase → ClientOwed g c w client.phase what → client_room client ≡ true
       → Goes (happens client what)
   happens_so client Begin sees written owed room =
-      on_begin_so client.peers.servers client.phase sees written owed (and_first (has_room (lasting_of client.phase).inc) _ room)
+      on_begin_so client.peers.servers client.phase sees written (and_first (has_room (lasting_of client.phase).inc) _ room)
       (and_first (has_room (lasting_of client.phase).questions.last) (phase_room client.phase)
       (and_second (has_room (lasting_of client.phase).inc) (has_room (lasting_of client.phase).questions.last && phase_room client.phase) room))
   happens_so client (Deliver packet) sees written owed room =

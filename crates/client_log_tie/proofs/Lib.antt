@@ -4,6 +4,7 @@ mod Logs
 mod Questions
 mod ServingTokens
 mod ServingLog
+mod Fitting
 mod ServingCalls
 mod ServingPackets
 mod OpeningTurns

@@ -53,7 +53,7 @@ use Rattle.log_law.specs.Events.Runs.{Begun}
 use Rattle.node_log_tie.specs.Sight.{BodySeen, AskedBy}
 use Rattle.node_log_tie.specs.Sight.Question.{OfMaps}
 use Rattle.client_log_tie.specs.Owner.{Scene, asker}
-use Rattle.client_log_tie.specs.Texts.{MapFits, RunsFit}
+use Rattle.client_log_tie.specs.Texts.{MapFits}
 use Rattle.client_log_tie.specs.ClientEvents.{BodyFits}
 use Rattle.client_log_tie.proofs.Frames.{ClientDoes}
 use Rattle.client_log_tie.proofs.Frames as frames
@@ -264,12 +264,12 @@ module _ (g : Setting) (c : ℕ) (is : g.log ≡ record { 0 = c }) where
   abbrev pub and_runs : Done → Done
   and_runs d = after d.outs (runs d.state)
 
-  runs_after : (w : Scene) (d : Done) → RunsFit d.state → Goes w d → Goes w (and_runs d)
-  runs_after w d small p = frames.goes_on g c w d (runs d.state) p (λ v h. calls.runs_so g c is v d.state small h)
+  pub runs_after : (w : Scene) (d : Done) → Goes w d → Goes w (and_runs d)
+  runs_after w d p = frames.goes_on g c w d (runs d.state) p (λ v h. calls.runs_so g c is v d.state h)
 
-  pub packet_so : (w : Scene) (s : Serving) (p : Packet) → BodySeen g (asker c w) w.net p.from p.to p.body → BodyFits p.body → RunsFit (on_packet s p).state
+  pub packet_so : (w : Scene) (s : Serving) (p : Packet) → BodySeen g (asker c w) w.net p.from p.to p.body → BodyFits p.body
       → has_room s.lasting.questions.last ≡ true → At w s → Goes w (and_runs (on_packet s p))
-  packet_so w s p seen small runs_small room h = runs_after w (on_packet s p) runs_small (packet_goes w s p seen small room h)
+  packet_so w s p seen small room h = runs_after w (on_packet s p) (packet_goes w s p seen small room h)
 
   -- ---- time
 
@@ -288,10 +288,5 @@ module _ (g : Setting) (c : ℕ) (is : g.log ≡ record { 0 = c }) where
       (frames.goes_and_gives g c v l l.state (pushes_all l.state.managers l.state.feed) (flights.ticks_so g c is v a.state k) (λ u i. i)
       (tokens.plain_pushes_all g c l.state.managers l.state.feed)))
 
-  pub time_so : (w : Scene) (s : Serving) → RunsFit (on_tick s).state → At w s → Goes w (and_runs (on_tick s))
-  time_so w s runs_small h = runs_after w (on_tick s) runs_small (tick_goes w s h)
-
-  -- ---- a call begins
-
-  pub going_so : (w : Scene) (d : Done) → RunsFit d.state → Goes w d → Goes w (and_runs d)
-  going_so w d runs_small p = runs_after w d runs_small p
+  pub time_so : (w : Scene) (s : Serving) → At w s → Goes w (and_runs (on_tick s))
+  time_so w s h = runs_after w (on_tick s) (tick_goes w s h)

@@ -1,13 +1,9 @@
 -- What an event makes of a client, as the small world of its log sees it.
-use Rattle.std.specs.Prelude.{◌≡◌, ℕ, true, List, Some, All}
-use Rattle.client_node.specs.declared.call.Going.{Going}
+use Rattle.std.specs.Prelude.{◌≡◌, ℕ, true, List, All}
 use Rattle.client_node.specs.declared.client.Client as clients
 use Rattle.client_node.specs.declared.phase.Phase.{Phase}
 use Rattle.client_node.specs.declared.phase.Phase.TheVariants.{Down, Opening, Serving as Serves}
-use Rattle.client_node.specs.declared.serving.Serving.{Serving}
-use Rattle.client_node.specs.Packets.{on_packet, on_tick}
-use Rattle.client_node.specs.Phases.{client_step, call_at}
-use Rattle.client_node.specs.Running.{goes_on}
+use Rattle.client_node.specs.Phases.{client_step}
 use Rattle.client_node.specs.Starting.{first_client}
 use Rattle.group_map.specs.Groups as groups
 use Rattle.log_owner.specs.declared.opening.Stage as stages
@@ -15,7 +11,6 @@ use Rattle.log_owner.specs.declared.opening.Stage.TheVariants as stage
 use Rattle.log_scan.specs.declared.input.In as scan_ins
 use Rattle.log_scan.specs.ScanState.{ScanState}
 use Rattle.log_scan.specs.Transition as scan
-use Rattle.node_base.specs.Beginning.{next_item, begun, waiting, work_at}
 use Rattle.node_base.specs.Shape.{is_log}
 use Rattle.version_model.specs.declared.act.Act.{Act}
 use Rattle.version_model.specs.declared.act.Act.TheVariants.{Filed}
@@ -36,7 +31,7 @@ use Rattle.log_law.specs.Events.{CameToScan, Runs}
 use Rattle.node_log_tie.specs.Sight.{AllSeen, PacketSeen}
 use Rattle.node_log_tie.specs.Sight.Question.{Unasked}
 use Rattle.client_log_tie.specs.Owner.{Scene, asker, ClientAgrees}
-use Rattle.client_log_tie.specs.Texts.{MapFits, StaysWritten, ChainFits, RunsFit}
+use Rattle.client_log_tie.specs.Texts.{MapFits, StaysWritten, ChainFits}
 
 -- ---- what the world owes it
 
@@ -59,31 +54,16 @@ abbrev pub StageOwed : Setting → Net → stages.Stage → Type 0
 StageOwed g n (stage.Scanning s) = ScanOwed g n s.scan
 StageOwed g n (stage.Settling s) = Unit {0}
 
--- what the open call puts fits, where a call begins, after a packet, and in time
-abbrev pub begun_serving : Serving → Serving
-begun_serving s = record s { lasting = record s.lasting { items = begun s.lasting.items } }
-
-abbrev pub waiting_serving : Serving → ℕ → Serving
-waiting_serving s number = record s { lasting = record s.lasting { items = waiting s.lasting.items number } }
-
-pub record ServingBegins (s : Serving) : Type 0 where
-  pub fits : (number : ℕ) (going : Going) → next_item s.lasting.items ≡ Some number
-      → call_at (begun_serving s) number (work_at (begun_serving s).lasting.items number) ≡ Some going → RunsFit (goes_on (waiting_serving (begun_serving s) number) going).state
-
-abbrev pub BeginOwed : Phase → Type 0
-BeginOwed (Down l) = Unit {0}
-BeginOwed (Opening l o) = Unit {0}
-BeginOwed (Serves s) = ServingBegins s
+-- an opening is owed what its scan is; a client that serves is owed nothing
+abbrev pub PhaseOwed : Setting → Net → Phase → Type 0
+PhaseOwed g n (Down l) = Unit {0}
+PhaseOwed g n (Opening l o) = StageOwed g n o.stage
+PhaseOwed g n (Serves s) = Unit {0}
 
 abbrev pub BodyFits : Body → Type 0
 BodyFits (body.MapNews m) = MapFits m.groups
 BodyFits (body.Welcome m) = MapFits m.news.groups
 BodyFits _ = Unit {0}
-
-abbrev pub RunOwed : Setting → Net → Phase → (Serving → Serving) → Type 0
-RunOwed g n (Down l) then_is = Unit {0}
-RunOwed g n (Opening l o) then_is = StageOwed g n o.stage
-RunOwed g n (Serves s) then_is = RunsFit (then_is s)
 
 module _ (g : Setting) (c : ℕ) (w : Scene) where
   -- a packet that was sent to it
@@ -91,12 +71,12 @@ module _ (g : Setting) (c : ℕ) (w : Scene) where
     pub own : packet.to ≡ Client c
     pub seen : PacketSeen g (asker c w) w.net packet
     pub fits : BodyFits packet.body
-    pub runs : RunOwed g w.net p (λ s. (on_packet s packet).state)
+    pub scans : PhaseOwed g w.net p
 
   abbrev pub ClientOwed : Phase → Do → Type 0
-  ClientOwed p Begin = BeginOwed p
+  ClientOwed p Begin = Unit {0}
   ClientOwed p (Deliver packet) = PacketOwed p packet
-  ClientOwed p Tick = RunOwed g w.net p (λ s. (on_tick s).state)
+  ClientOwed p Tick = PhaseOwed g w.net p
 
 -- ---- what an event makes of it
 

@@ -1,5 +1,5 @@
 -- That what a client's log writes can be spelled: a premise on what it holds and puts, by the limits of the format.
-use Rattle.std.specs.Prelude.{◌≡◌, ◌<◌, ◌^◌, ℕ, zero, suc, true, List, [], length, Option, Some, None, IfSome}
+use Rattle.std.specs.Prelude.{◌≡◌, ◌<◌, ◌^◌, ℕ, true, List, [], length, Option, IfSome}
 use Rattle.std.specs.List.{AllByRecursion}
 use Rattle.xfs_base.specs.declared.block.BlockId.{BlockId}
 use Rattle.xfs_base.specs.declared.entry.Entry.{Entry}
@@ -15,13 +15,6 @@ use Rattle.client_log.specs.History.{state_after}
 use Rattle.client_log.specs.LogState.{LogState, started}
 use Rattle.client_log.specs.Transition.{group_for, has_next}
 use Rattle.log_scan.specs.Transition as scan
-use Rattle.client_node.specs.Blocks.{wrote}
-use Rattle.client_node.specs.declared.call.Call.{Call}
-use Rattle.client_node.specs.declared.serving.Serving.{Serving}
-use Rattle.client_node.specs.Flights.{held_at}
-use Rattle.client_node.specs.Running.{runs_once, most_steps}
-use Rattle.file_plan.specs.declared.block_call.BlockCall.{BlockCall}
-use Rattle.file_plan.specs.declared.block_call.BlockCall.TheVariants as call
 use Rattle.log_tie.specs.Setting.{Setting}
 use Rattle.log_law.specs.Net.{Told, chain_in}
 use Rattle.log_law.specs.Events.{IsWritten}
@@ -58,30 +51,6 @@ StartFits g inc d t = (has_next t.end.seq ≡ true) × IfSome d.state.opening.gr
 
 abbrev pub ChainFits : Setting → ℕ → scan.Done → Type 0
 ChainFits g inc d = IfSome (chain_in d.outs) (StartFits g inc d)
-
--- ---- the open call
-
--- the version that a call on blocks writes
-abbrev pub written_as : Serving → BlockId → Option (List ℕ) → Entry
-written_as s block value = record { ver = (held_at (wrote s block value) block).ver; hop = 0; place = None }
-
-abbrev pub CallFits : Serving → BlockCall → Type 0
-CallFits s (call.Get block) = Unit {0}
-CallFits s (call.Put block value) = PutFits block (written_as s block value) value
-CallFits s (call.PutAt block ver value) = PutFits block (written_as s block value) value
-CallFits s call.Sync = Unit {0}
-
-abbrev pub StepFits : Serving → Option Call → Type 0
-StepFits s None = Unit {0}
-StepFits s (Some call) = CallFits (record s { call = None }) call.step
-
--- each call on blocks that the open call makes, of so many
-unfoldable pub RunFits : ℕ → Serving → Type 0
-RunFits zero s = Unit {0}
-RunFits (suc n) s = StepFits s s.call × ((runs_once s).goes ≡ true → RunFits n (runs_once s).done.state)
-
-abbrev pub RunsFit : Serving → Type 0
-RunsFit s = RunFits most_steps s
 
 -- ---- what stays written
 

@@ -5,8 +5,9 @@
 ghost use Rattle.client_log_tie.specs.ClientEvents.{ClientStarts, ClientTakes};
 ghost use Rattle.client_log_tie.specs.Texts.{WhatFitsStaysWritten};
 
-/// What an event makes of a client is a run of the small world of its log, if the packet that comes was sent there, if what the open call puts fits the format,
-/// and if an opening has questions left and the log can go on behind the chain that it reads.
+/// What an event makes of a client is a run of the small world of its log. Owed are these: a packet that comes is for the client and was sent there, the group
+/// ids of a map that comes fit the format, an opening has questions left, and the log can go on behind the chain that it reads. A client that serves is owed
+/// nothing more: what it puts fits the format, by the test that it puts by.
 ///
 /// - `start`: a client at its start is seen in the opening of the small world; its log can be spelled where the ids of the setup's groups fit.
 /// - `events`: a client that is seen there before an event is seen after it in a world to which that one runs on, by its owner alone; all that the client sends

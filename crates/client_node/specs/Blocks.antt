@@ -1,7 +1,8 @@
 -- Calls on blocks.
-use Rattle.std.specs.Prelude.{ℕ, Bool, ◌==◌, ◌&&◌, is_none, if◌then◌else◌, List, [], ◌∷◌, ◌++◌, Option, Some, None, length, unwrap_or}
+use Rattle.std.specs.Prelude.{ℕ, ◌+◌, Bool, ◌==◌, ◌&&◌, is_none, if◌then◌else◌, List, [], ◌∷◌, ◌++◌, Option, Some, None, length, unwrap_or}
 use Rattle.client_log.specs.declared.input.In.TheVariants as log_in
 use Rattle.client_node.specs.declared.serving.Serving.{Serving}
+use Rattle.client_node.specs.Fitting.{put_fits}
 use Rattle.client_node.specs.Flights.{held_at, writes}
 use Rattle.client_node.specs.Follow.{hands, seals, notes_gone}
 use Rattle.client_node.specs.Sends.{Done, gives}
@@ -65,10 +66,6 @@ changes s block value =
     let d = put_of w block value in
     answers (gives d.state (Does (Wrote s.lasting.number block value) ∷ d.outs)) (answer.Put (held_at w block).ver)
 
--- Put: a block that may be written is: it is owned and isn't to be given up.
-unfoldable pub puts : Serving → BlockId → Option (List ℕ) → Made
-puts s block value = if may_write (held_at s block) then changes s block value else needs s block Own
-
 -- a block that was granted to be written, and isn't, is let go: it has no value yet
 abbrev pub lets_go : Serving → BlockId → Serving
 lets_go s block =
@@ -76,11 +73,23 @@ lets_go s block =
     then notes_gone (record s { tokens = (on_evict s.tokens block).state }) block
     else s
 
+-- What no segment can hold is never written: the call waits. The types of a program's numbers leave no such call.
+abbrev pub held_back : Serving → BlockId → Made
+held_back s block = waits (gives (lets_go s block) [])
+
+unfoldable pub changes_if_fits : Serving → BlockId → Option (List ℕ) → Made
+changes_if_fits s block value =
+    if put_fits block ((held_at s block).ver + 1) value then changes s block value else held_back s block
+
+-- Put: a block that may be written is: it is owned and isn't to be given up.
+unfoldable pub puts : Serving → BlockId → Option (List ℕ) → Made
+puts s block value = if may_write (held_at s block) then changes_if_fits s block value else needs s block Own
+
 abbrev pub changed : Serving → BlockId → Made
 changed s block = answers (gives (lets_go s block) []) answer.Changed
 
 abbrev pub puts_again : Serving → BlockId → ℕ → Option (List ℕ) → Made
-puts_again s block ver value = if (held_at s block).ver == ver then changes s block value else changed s block
+puts_again s block ver value = if (held_at s block).ver == ver then changes_if_fits s block value else changed s block
 
 -- PutAt: the same, where the version is still the named one.
 unfoldable pub puts_at : Serving → BlockId → ℕ → Option (List ℕ) → Made

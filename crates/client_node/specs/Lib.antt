@@ -2,6 +2,7 @@ pub mod Blocks
 pub mod Bodies
 pub mod Clocks
 pub mod Follow
+pub mod Fitting
 pub mod Flights
 pub mod Packets
 pub mod Phases

@@ -1,10 +1,12 @@
 //! Calls on blocks.
-ghost use Rattle.std.specs.Prelude.{◌≡◌, ◌++◌, IfOk, OnOk};
-ghost use Rattle.client_node.specs.Blocks.{gets, got, value_of, puts, puts_at, puts_again, syncs, synced_acts, synced_answer, is_settled, needs, wrote, put_of, changes, lets_go, makes};
+ghost use Rattle.std.specs.Prelude.{◌≡◌, ◌+◌, ◌++◌, IfOk, OnOk, true};
+ghost use Rattle.client_node.specs.Blocks.{gets, got, value_of, puts, puts_at, puts_again, syncs, synced_acts, synced_answer, is_settled, needs, wrote, put_of, changes, changes_if_fits, lets_go, makes};
+ghost use Rattle.client_node.specs.Fitting.{put_fits};
 ghost use Rattle.client_node.specs.Flights.{held_at};
 ghost use Rattle.token_client.specs.Held.{may_write};
 
 use crate::Serving;
+use crate::fitting::{is_value, is_word};
 use file_plan::{BlockAnswer, BlockCall};
 use node_base::Effects;
 use std::alloc::Global;
@@ -100,7 +102,7 @@ impl Serving {
         if !self.may_put(block) {
             return self.need(alloc, effects, block, Mode::Own);
         }
-        self.change(alloc, effects, block, value)
+        self.change_if_fits(alloc, effects, block, value)
     }
 
     #[tactic(auto, unfolding(crate::specs::Blocks::puts_at))]
@@ -131,12 +133,13 @@ impl Serving {
         ver: u64,
         value: &Value,
     ) -> Mem<Option<BlockAnswer>>
+        requires { may_write (held_at self.old block) ≡ true }
         ensures state { OnOk result (self.new ≡ (puts_again self.old block ver value.now).done.state) }
         ensures effects { OnOk result (effects.new ≡ effects.old ++ (puts_again self.old block ver value.now).done.outs) }
         ensures answer { IfOk result (λ answer. answer ≡ (puts_again self.old block ver value.now).answer) }
     {
         if self.tokens.ver(block) == ver {
-            return self.change(alloc, effects, block, value);
+            return self.change_if_fits(alloc, effects, block, value);
         }
         self.let_go(alloc, block)?;
         Ok(Some(BlockAnswer::Changed))
@@ -196,6 +199,34 @@ impl Serving {
     {
         self.hand(alloc, effects, In::Need { block, mode })?;
         Ok(None)
+    }
+
+    // Writes a block that may be written, as a segment can hold what is put.
+    #[tactic(auto, unfolding(crate::specs::Blocks::changes_if_fits))]
+    fn change_if_fits(
+        &mut self,
+        alloc: Global,
+        effects: &mut Effects,
+        block: BlockId,
+        value: &Value,
+    ) -> Mem<Option<BlockAnswer>>
+        requires { may_write (held_at self.old block) ≡ true }
+        ensures state { OnOk result (self.new ≡ (changes_if_fits self.old block value.now).done.state) }
+        ensures effects { OnOk result (effects.new ≡ effects.old ++ (changes_if_fits self.old block value.now).done.outs) }
+        ensures answer { IfOk result (λ answer. answer ≡ (changes_if_fits self.old block value.now).answer) }
+    {
+        self.fits(block, value);
+        self.change(alloc, effects, block, value)
+    }
+
+    // A segment can hold each version of each block that may be written.
+    fn fits(&self, block: BlockId, value: &Value)
+        requires { may_write (held_at self.now block) ≡ true }
+        ensures { put_fits block ((held_at self.now block).ver + 1) value.now ≡ true }
+    {
+        is_word(block.ino.0);
+        is_word(block.blk);
+        is_value(value);
     }
 
     // Writes a block that may be written.

@@ -8,6 +8,7 @@ mod blocks;
 pub mod call;
 pub mod client;
 mod crash;
+mod fitting;
 mod flights;
 mod follow;
 mod grants;

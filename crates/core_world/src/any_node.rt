@@ -1,8 +1,9 @@
 //! A node of any kind.
+use cleaner_node::Cleaner;
 use client_node::Client;
 use manager_node::Manager;
 use std::alloc::Global;
-use store_nodes::{Cleaner, RegistryNode, Server};
+use store_nodes::{RegistryNode, Server};
 use version_model::{Act, Work};
 use wire_msg::{Actor, Do, Packet};
 use world_base::Member;

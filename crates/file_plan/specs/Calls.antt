@@ -2,7 +2,7 @@
 use Rattle.std.specs.Prelude.{ℕ}
 use Rattle.xfs_base.specs.declared.block.BlockId.{BlockId}
 use Rattle.xfs_base.specs.declared.block.Ino.{Ino}
-use Rattle.xfs_base.specs.Limits.{file_block}
+use Rattle.xfs_base.specs.Limits.{file_block, u32_end}
 
 abbrev pub block_at : Ino → ℕ → BlockId
 block_at ino blk = record { ino = ino; blk = blk }
@@ -13,7 +13,7 @@ root = record { 0 = 0 }
 
 -- the block of a file in which its size stands
 abbrev pub size_block : ℕ
-size_block = 4294967295
+size_block = u32_end
 
 -- a file's blocks have this many bytes, and so has the longest bucket
 abbrev pub block_size : ℕ

@@ -66,7 +66,8 @@ calls =
 abbrev pub told : List (Option Answer)
 told =
     Some (Made 136) ∷ Some Done ∷ Some (Made 392) ∷ Some Done ∷ Some (Bytes (104 ∷ 105 ∷ [])) ∷ Some (File NoEntry) ∷ Some (Names ((100 ∷ 47 ∷ []) ∷ [])) ∷ Some Done
-    ∷ Some (Bytes (105 ∷ 0 ∷ 0 ∷ 33 ∷ [])) ∷ Some (File Exists) ∷ Some (File NotDir) ∷ Some (File IsDir) ∷ Some (File TooBig) ∷ Some (File BadName) ∷ Some Done ∷ Some (File NoEntry) ∷ Some (Names []) ∷ []
+    ∷ Some (Bytes (105 ∷ 0 ∷ 0 ∷ 33 ∷ [])) ∷ Some (File Exists) ∷ Some (File NotDir) ∷ Some (File IsDir) ∷ Some (File TooBig)
+    ∷ Some (File BadName) ∷ Some Done ∷ Some (File NoEntry) ∷ Some (Names []) ∷ []
 
 -- ---- longer texts
 
@@ -92,4 +93,5 @@ long_calls =
 
 abbrev pub long_told : List (Option Answer)
 long_told =
-    Some (Made 136) ∷ Some (Made 264) ∷ Some Done ∷ Some (Names (a_txt ∷ [])) ∷ Some (Size 10000) ∷ Some (Bytes (replicate 12 120)) ∷ Some Done ∷ Some (File NoEntry) ∷ Some (Made 648) ∷ Some (File BadName) ∷ []
+    Some (Made 136) ∷ Some (Made 264) ∷ Some Done ∷ Some (Names (a_txt ∷ [])) ∷ Some (Size 10000) ∷ Some (Bytes (replicate 12 120))
+    ∷ Some Done ∷ Some (File NoEntry) ∷ Some (Made 648) ∷ Some (File BadName) ∷ []

@@ -1,2 +1,2 @@
-mod Reaching
-mod Telling
+pub mod Reaching
+pub mod Telling

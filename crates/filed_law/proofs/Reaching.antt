@@ -1,5 +1,5 @@
 -- How far logs are filed rises with the acts, reaches each of them, and is what was filed.
-use Rattle.std.proofs.Common.{◌≡◌, ◌⊎◌, ℕ, ◌≤◌, ◌==◌, max, Bool, true, false, List, [], ◌∷◌, ◌++◌, refl, sym, ap, subst, ◌∙◌, inl, inr, nat_le, arith}
+use Rattle.std.proofs.Common.{◌≡◌, ◌⊎◌, ℕ, ◌≤◌, ◌==◌, max, Bool, true, false, List, [], ◌∷◌, ◌++◌, refl, sym, subst, ◌∙◌, inl, inr, nat_le, arith}
 use Rattle.std.proofs.lemmas.Bool.Decides.{nat_tests}
 use Rattle.xfs_base.proofs.Booleans.{by_test, contrary}
 use Rattle.xfs_base.specs.declared.segment.SegName.{SegName}
@@ -14,7 +14,7 @@ pub filed_rises : (acts more : List Act) → Rises (filed_upto acts) (filed_upto
 filed_rises [] more log = omega arith
 filed_rises (act ∷ acts) more log = (let a = filed_rises acts more log in omega (arith, a))
 
-one_more : (act : Act) (acts : List Act) → Rises (filed_upto acts) (filed_upto (act ∷ acts))
+pub one_more : (act : Act) (acts : List Act) → Rises (filed_upto acts) (filed_upto (act ∷ acts))
 one_more act acts log = omega arith
 
 -- ---- it reaches each act
@@ -38,7 +38,7 @@ first_reached : (act : Act) (acts : List Act) → ActReached (filed_upto (act �
 first_reached (Filed name) acts = (let a = own_number name in omega (arith, a))
 first_reached _ acts = tt
 
-all_reached : (acts : List Act) → ActsReach (filed_upto acts) acts
+pub all_reached : (acts : List Act) → ActsReach (filed_upto acts) acts
 all_reached [] = tt
 all_reached (act ∷ acts) = (first_reached act acts, acts_rise (filed_upto acts) (filed_upto (act ∷ acts)) (one_more act acts) acts (all_reached acts))
 

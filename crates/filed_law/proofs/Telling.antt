@@ -1,5 +1,5 @@
 -- Each event keeps it that nothing is held or told of logs but what was filed; so it is of each run, and so are the horizons that the registry keeps.
-use Rattle.std.proofs.Common.{◌≡◌, ◌⊎◌, ℕ, zero, suc, ◌≤◌, ◌<◌, List, [], ◌∷◌, ◌++◌, Option, Some, None, map, slice_get, slice_set, unwrap_or, length, refl, sym, ap, subst, inl, inr, arith}
+use Rattle.std.proofs.Common.{◌≡◌, ℕ, zero, suc, ◌≤◌, List, [], ◌∷◌, ◌++◌, Some, None, map, slice_get, slice_set, unwrap_or, sym, ap, subst, inl, inr, arith}
 use Rattle.std.specs.List.{AllByRecursion}
 use Rattle.core_world.specs.AnyNode.{any_start, any_step}
 use Rattle.core_world.specs.declared.any_node.AnyNode.{AnyNode}
@@ -7,7 +7,6 @@ use Rattle.core_world.specs.declared.any_node.AnyNode.TheVariants as any
 use Rattle.log_protocol.specs.Tables.{In}
 use Rattle.log_scan.specs.Transition.{least_horizon}
 use Rattle.registry.specs.Board.{slot_news, all_news}
-use Rattle.registry.specs.BoardState.{BoardState}
 use Rattle.script_text.specs.declared.script.Script.{Script}
 use Rattle.store_nodes.specs.declared.registry_node.RegistryNode.{RegistryNode}
 use Rattle.version_model.specs.declared.act.Act.{Act}
@@ -34,7 +33,7 @@ use Rattle.filed_tie.specs.ServerReach.{ServersTellFiled}
 use Rattle.filed_tie.proofs.Frames.{all_append}
 use Rattle.filed_tie.proofs.Rising.{body_rises, least_low}
 use Rattle.filed_law.specs.FiledUpto.{filed_upto, IsFiledUpto}
-use Rattle.filed_law.specs.Told.{AnyReaches, ToldWasFiled, HorizonWasFiled, HorizonsWereFiled, RunsStartTold, EventsKeepTold, EveryRunToldWasFiled, ToldHorizonsWereFiled}
+use Rattle.filed_law.specs.Told.{AnyReaches, ToldWasFiled, HorizonWasFiled, RunsStartTold, EventsKeepTold, EveryRunToldWasFiled, ToldHorizonsWereFiled}
 use Rattle.filed_law.proofs.Reaching.{filed_rises, filed_reached, is_filed}
 
 -- ---- lists
@@ -177,10 +176,10 @@ module _ (reach : Reach) (registry : RegistryNode) (h : RegistryReaches reach re
       in
       (h 0 (omega arith), (h 1 (omega arith), (h 2 (omega arith), (h 3 (omega arith), upper))))
 
-  low_reached : (log : ℕ) → 1 ≤ log → least_horizon log (all_news registry.board) ≤ suc (reach log)
+  pub low_reached : (log : ℕ) → 1 ≤ log → least_horizon log (all_news registry.board) ≤ suc (reach log)
   low_reached log some = least_low reach log (all_news registry.board) some (omega arith) news_reach
 
-was_filed : (acts : List Act) (log low : ℕ) → low ≤ suc (filed_upto acts log) → IsFiledUpto acts log → HorizonWasFiled acts log low
+pub was_filed : (acts : List Act) (log low : ℕ) → low ≤ suc (filed_upto acts log) → IsFiledUpto acts log → HorizonWasFiled acts log low
 was_filed acts log low upto (inl none) = inl (omega (arith, upto, none))
 was_filed acts log low upto (inr f) = inr (record { name = f.name; among = f.among; own = f.own; near = (let at = f.at in omega (arith, upto, at)) })
 

@@ -1,10 +1,10 @@
 -- What holds of the world of all nodes: nothing is held or told of logs but what was filed.
-use Rattle.std.specs.Prelude.{◌≡◌, ◌⊎◌, ◌≤◌, ℕ, suc, List, Some}
+use Rattle.std.specs.Prelude.{◌≡◌, ◌⊎◌, ◌≤◌, ℕ, suc, List}
 use Rattle.std.specs.List.{AllByRecursion}
 use Rattle.core_world.specs.AnyNode.{any_start, any_step}
 use Rattle.core_world.specs.declared.any_node.AnyNode.{AnyNode}
 use Rattle.core_world.specs.declared.any_node.AnyNode.TheVariants as any
-use Rattle.filed_law.specs.FiledUpto.{filed_upto, IsFiledUpto}
+use Rattle.filed_law.specs.FiledUpto.{filed_upto}
 use Rattle.filed_tie.specs.CleanerReach.{CleanerReaches}
 use Rattle.filed_tie.specs.ClientReach.{ClientReaches}
 use Rattle.filed_tie.specs.ManagerReach.{ManagerReaches}

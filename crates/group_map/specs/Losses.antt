@@ -1,5 +1,6 @@
 -- Any list of losses, one after the other.
 use Rattle.std.specs.Prelude.{◌≡◌, ℕ, ◌+◌, ◌<◌, ◌≤◌, IsTrue, List, [], ◌∷◌, length, filter}
+use Rattle.xfs_base.specs.Limits.{u32_end}
 use Rattle.group_map.specs.declared.group.Group.{Group}
 use Rattle.group_map.specs.GroupMapState.{GroupMapState}
 use Rattle.group_map.specs.Groups.{generation_at, is_hit, lost}
@@ -14,7 +15,7 @@ pub record Loss : Type 0 where
 pub record MayLose (state : GroupMapState) (loss : Loss) : Type 0 where
   pub exists : IsServer state.servers loss.server
   pub newer : generation_at state.generations loss.server < loss.generation
-  pub room : length state.groups + length (filter (is_hit loss.server) state.groups) ≤ 4294967295
+  pub room : length state.groups + length (filter (is_hit loss.server) state.groups) ≤ u32_end
 
 abbrev pub after_losses : GroupMapState → List Loss → GroupMapState
 after_losses state [] = state

@@ -1,6 +1,7 @@
 -- What is true of every stripe group map.
 use Rattle.std.specs.Prelude.{◌≡◌, ℕ, ◌+◌, ◌≤◌, IsTrue, List, [], ◌∷◌, All, length, map, nat_eq}
 use Rattle.std.specs.List.{list_any, IsDistinct}
+use Rattle.xfs_base.specs.Limits.{u32_end}
 use Rattle.group_map.specs.declared.group.Group.{Group}
 use Rattle.group_map.specs.declared.group.Member.{Member}
 use Rattle.group_map.specs.GroupMapState.{GroupMapState}
@@ -32,7 +33,7 @@ IsPresent generations g = IsTrue g.current → All (λ m. m.generation ≡ gener
 pub record IsGroupMap (state : GroupMapState) : Type 0 where
   pub each_server : length state.generations ≡ state.servers
   pub by_id : IsNumbered 1 state.groups
-  pub few : length state.groups ≤ 4294967295
+  pub few : length state.groups ≤ u32_end
   pub stripes : All (λ g. IsStripe state.servers g.parity g.members) state.groups
   pub present : All (IsPresent state.generations) state.groups
   pub current : IsTrue (list_any (λ g. g.current) state.groups)

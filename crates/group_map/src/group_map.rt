@@ -1,6 +1,7 @@
 //! The map of groups.
 ghost use Rattle.std.specs.Prelude.{◌≡◌, ◌↔◌, ◌+◌, ◌<◌, ◌≤◌, IfOk, OnOk, OnErr, IsErrOf, IsTrue, MatchResult, IsSomeAnd, Some, None, All, length, filter, nat_eq, slice_index};
 ghost use Rattle.std.specs.List.{IsDistinct};
+ghost use Rattle.xfs_base.specs.Limits.{u32_end};
 ghost use Rattle.group_map.specs.Groups.{group_of, generation_at, current_ids, chosen, started, is_hit, lost};
 ghost use Rattle.group_map.specs.Sizes.{IsParity, bad_size};
 ghost use Rattle.group_map.specs.WellFormed.{IsServer, IsStripe, IsPresent};
@@ -39,7 +40,7 @@ impl GroupMap {
     /// exactly where a group has fewer servers than two more than its parity, or more than 8, with the
     /// size of the first such.
     pub fn start(alloc: Global, servers: u8, groups: &[GroupSetup]) -> Result<GroupMap, GroupError>
-        requires count { (1 ≤ length groups.now) × (length groups.now ≤ 4294967295) }
+        requires count { (1 ≤ length groups.now) × (length groups.now ≤ u32_end) }
         requires exist { All (λ g. All (IsServer servers) g.servers) groups.now }
         requires differ { All (λ g. IsDistinct nat_eq g.servers) groups.now }
         requires parity { All (λ g. IsParity g.parity) groups.now }
@@ -58,7 +59,7 @@ impl GroupMap {
 
     /// The map of groups whose sizes are right.
     fn of_groups(alloc: Global, servers: u8, groups: &[GroupSetup]) -> Mem<GroupMap>
-        requires count { (1 ≤ length groups.now) × (length groups.now ≤ 4294967295) }
+        requires count { (1 ≤ length groups.now) × (length groups.now ≤ u32_end) }
         requires exist { All (λ g. All (IsServer servers) g.servers) groups.now }
         requires differ { All (λ g. IsDistinct nat_eq g.servers) groups.now }
         requires parity { All (λ g. IsParity g.parity) groups.now }
@@ -124,7 +125,7 @@ impl GroupMap {
     pub fn after_loss(&mut self, alloc: Global, server: u8, generation: u32) -> Mem<()>
         requires exists { IsServer self.old.servers server }
         requires newer { generation_at self.old.generations server < generation }
-        requires room { length self.old.groups + length (filter (is_hit server) self.old.groups) ≤ 4294967295 }
+        requires room { length self.old.groups + length (filter (is_hit server) self.old.groups) ≤ u32_end }
         ensures ok { OnOk result (self.new ≡ lost self.old server generation) }
         ensures err { OnErr result (self.new ≡ self.old) }
     {

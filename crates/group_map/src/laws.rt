@@ -9,6 +9,7 @@ ghost use Rattle.group_map.specs.Losses.{Loss, after_losses, MayLoseAll, IsLater
 ghost use Rattle.group_map.specs.Sizes.{IsParity, bad_size};
 ghost use Rattle.group_map.specs.WellFormed.{IsServer, IsGroupMap};
 ghost use Rattle.xfs_base.specs.declared.setup.GroupSetup.{GroupSetup};
+ghost use Rattle.xfs_base.specs.Limits.{u32_end};
 
 /// A group once made never changes but for `current`, and one that is obsolete stays so.
 pub fn groups_stay_as_made()
@@ -22,7 +23,7 @@ pub fn generations_never_fall()
 
 /// What is true of every map is true of each that starts.
 pub fn map_starts_well_formed()
-    ensures { (servers : ℕ) (groups : List GroupSetup) → 1 ≤ length groups → length groups ≤ 4294967295 → bad_size groups ≡ None → All (λ g. All (IsServer servers) g.servers) groups → All (λ g. IsDistinct nat_eq g.servers) groups → All (λ g. IsParity g.parity) groups → IsGroupMap (started servers groups) }
+    ensures { (servers : ℕ) (groups : List GroupSetup) → 1 ≤ length groups → length groups ≤ u32_end → bad_size groups ≡ None → All (λ g. All (IsServer servers) g.servers) groups → All (λ g. IsDistinct nat_eq g.servers) groups → All (λ g. IsParity g.parity) groups → IsGroupMap (started servers groups) }
 {}
 
 /// What is true of a map stays true: among others, there is always a current group.

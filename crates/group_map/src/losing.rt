@@ -1,5 +1,6 @@
 //! The parts of a map after a loss.
 ghost use Rattle.std.specs.Prelude.{◌≡◌, ◌+◌, ◌≤◌, ◌++◌, IfOk, OnOk, length, map, filter};
+ghost use Rattle.xfs_base.specs.Limits.{u32_end};
 ghost use Rattle.group_map.specs.Groups.{generation_at, present_members, retired, is_hit, followers, numbered};
 
 use crate::{Group, Member};
@@ -54,7 +55,7 @@ pub(crate) fn follow(
     server: u8,
     after: &mut List<Group>,
 ) -> Mem<()>
-    requires { length after.old + length (filter (is_hit server) groups.now) ≤ 4294967295 }
+    requires { length after.old + length (filter (is_hit server) groups.now) ≤ u32_end }
     ensures { OnOk result (after.new ≡ after.old ++ numbered (length after.old + 1) (followers generations.now server groups.now)) }
 {
     for group in groups {

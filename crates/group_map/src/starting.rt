@@ -1,5 +1,6 @@
 //! The parts of a map at its start.
 ghost use Rattle.std.specs.Prelude.{◌≡◌, ◌≤◌, IfOk, length, map};
+ghost use Rattle.xfs_base.specs.Limits.{u32_end};
 ghost use Rattle.group_map.specs.Groups.{first_members, first_layout, numbered};
 ghost use Rattle.group_map.specs.Sizes.{bad_size};
 
@@ -36,7 +37,7 @@ fn members_of(alloc: Global, servers: &[u8]) -> Mem<List<Member>>
 
 /// Current groups of these setups, with ids from 1.
 pub(crate) fn first_groups(alloc: Global, groups: &[GroupSetup]) -> Mem<List<Group>>
-    requires { length groups.now ≤ 4294967295 }
+    requires { length groups.now ≤ u32_end }
     ensures { IfOk result (λ made. made ≡ numbered 1 (map first_layout groups.now)) }
 {
     let mut made = List::new(alloc);

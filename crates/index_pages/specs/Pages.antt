@@ -5,6 +5,7 @@ use Rattle.std.specs.BTreeMap.{is_at, insert_entry}
 use Rattle.xfs_base.specs.declared.block.BlockId.{BlockId}
 use Rattle.xfs_base.specs.declared.entry.Entry.{Entry}
 use Rattle.xfs_base.specs.Blocks.{block_cmp}
+use Rattle.xfs_base.specs.Limits.{u32_end}
 use Rattle.delta_index.specs.Entries.{is_newer}
 use Rattle.delta_index.specs.Index.{entry_of}
 use Rattle.index_pages.specs.declared.layout.Page.{Page}
@@ -68,7 +69,7 @@ put_newer s block entry = if is_newer entry (entry_of s.rows block) then put s b
 
 abbrev pub room_for : Option ℕ → ℕ → Bool
 room_for (Some page) count = true
-room_for None count = nat_lt count 4294967295
+room_for None count = nat_lt count u32_end
 
 -- whether the page of a block is there, or can be begun
 abbrev pub has_room : PagesState → BlockId → Bool

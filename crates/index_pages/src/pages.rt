@@ -1,5 +1,6 @@
 //! The index in pages.
 ghost use Rattle.std.specs.Prelude.{◌≡◌, ◌<◌, length, IfOk, OnOk, OnErr, None};
+ghost use Rattle.xfs_base.specs.Limits.{u32_end};
 ghost use Rattle.delta_index.specs.Entries.{is_newer};
 ghost use Rattle.delta_index.specs.Index.{entry_of};
 ghost use Rattle.index_pages.specs.Layout.{first_block};
@@ -23,13 +24,14 @@ pub struct Pages {
 
 impl Model for Pages {
     ghost use Rattle.std.specs.Prelude.{◌≤◌, length};
+    ghost use Rattle.xfs_base.specs.Limits.{u32_end};
     ghost use Rattle.index_pages.specs.Pages.{PagesState};
 
     ghost Value = { PagesState };
 
     ghost view = { λ p. record { rows = p.rows.entries; numbers = p.numbers.entries; pages = p.pages.items } };
 
-    ghost invariant = { λ p. length p.pages.items ≤ 4294967295 };
+    ghost invariant = { λ p. length p.pages.items ≤ u32_end };
 }
 
 impl Crosses for Pages {}
@@ -116,7 +118,7 @@ impl Pages {
     /// memory is wanting nothing changes. The time is logarithmic in what was put.
     #[tactic(auto, unfolding(crate::specs::Pages::put))]
     pub fn put(&mut self, _alloc: Global, block: BlockId, entry: Entry) -> Mem<()>
-        requires { page_of self.old block ≡ None → length self.old.pages < 4294967295 }
+        requires { page_of self.old block ≡ None → length self.old.pages < u32_end }
         ensures ok { OnOk result (self.new ≡ put self.old block entry) }
         ensures err { OnErr result (self.new ≡ self.old) }
     {
@@ -143,7 +145,7 @@ impl Pages {
 
     // Begins the page of a block.
     fn begin_page(&mut self, block: BlockId) -> Mem<()>
-        requires room { length self.old.pages < 4294967295 }
+        requires room { length self.old.pages < u32_end }
         ensures ok { OnOk result (self.new ≡ begun self.old block) }
         ensures err { OnErr result (self.new ≡ self.old) }
     {
@@ -163,7 +165,7 @@ impl Pages {
     // Puts the first entry of a page.
     fn put_anew(&mut self, block: BlockId, entry: Entry) -> Mem<()>
         requires absent { page_of self.old block ≡ None }
-        requires room { length self.old.pages < 4294967295 }
+        requires room { length self.old.pages < u32_end }
         ensures ok { OnOk result (self.new ≡ put_anew self.old block entry) }
         ensures err { OnErr result (self.new ≡ self.old) }
     {

@@ -1,6 +1,7 @@
 -- The manager map, as the entries of its slots in order.
-use Rattle.std.specs.Prelude.{ℕ, ◌+◌, ◌-◌, ◌%◌, ◌^◌, List, map, if◌then◌else◌, nat_lt, slice_get, slice_set, unwrap_or}
+use Rattle.std.specs.Prelude.{ℕ, ◌+◌, ◌%◌, List, map, if◌then◌else◌, nat_lt, slice_get, slice_set, unwrap_or}
 use Rattle.std.specs.List.{range_with_len}
+use Rattle.xfs_base.specs.Limits.{u32_end}
 use Rattle.manager_map.specs.declared.entry.SlotEntry.{SlotEntry}
 
 -- where a slot starts: epoch 1, and the managers in turn
@@ -18,7 +19,7 @@ entry_at slots slot = unwrap_or (slice_get slots slot) (record { epoch = 0; mana
 -- the entry with its next epoch and this manager; the last epoch has no next, and its entry stays
 abbrev pub next_entry : SlotEntry → ℕ → SlotEntry
 next_entry entry manager =
-    if nat_lt entry.epoch (2 ^ 32 - 1) then record { epoch = entry.epoch + 1; manager = manager } else entry
+    if nat_lt entry.epoch u32_end then record { epoch = entry.epoch + 1; manager = manager } else entry
 
 -- the map once this slot is given to this manager
 abbrev pub after_move : List SlotEntry → ℕ → ℕ → List SlotEntry

@@ -1,5 +1,6 @@
 //! What holds over any list of calls.
-ghost use Rattle.std.specs.Prelude.{◌≡◌, ◌<◌, ◌≤◌, ◌+◌, ◌-◌, ◌^◌, ℕ, List, min};
+ghost use Rattle.std.specs.Prelude.{◌≡◌, ◌<◌, ◌≤◌, ◌+◌, ℕ, List, min};
+ghost use Rattle.xfs_base.specs.Limits.{u32_end};
 ghost use Rattle.manager_map.specs.declared.entry.SlotEntry.{SlotEntry};
 ghost use Rattle.manager_map.specs.Slots.{start_entries, entry_at};
 ghost use Rattle.manager_map.specs.Moves.{Move, after_moves, moves_of};
@@ -14,5 +15,5 @@ pub fn epochs_only_rise()
         → (entry_at (after_moves slots moves) slot).epoch ≡ (entry_at slots slot).epoch
         → entry_at (after_moves slots moves) slot ≡ entry_at slots slot }
     ensures counted { (managers : ℕ) (moves : List Move) (slot : ℕ) → slot < 8
-        → (entry_at (after_moves (start_entries managers) moves) slot).epoch ≡ min (1 + moves_of slot moves) (2 ^ 32 - 1) }
+        → (entry_at (after_moves (start_entries managers) moves) slot).epoch ≡ min (1 + moves_of slot moves) u32_end }
 {}

@@ -1,6 +1,7 @@
 //! The slots and their entries.
-ghost use Rattle.std.specs.Prelude.{◌≡◌, ◌<◌, ◌≤◌, ◌+◌, ◌-◌, ◌^◌, ◌↔◌, IsErr, OnOk, OnErr, IfOk};
+ghost use Rattle.std.specs.Prelude.{◌≡◌, ◌<◌, ◌≤◌, ◌+◌, ◌↔◌, IsErr, OnOk, OnErr, IfOk};
 ghost use Rattle.xfs_base.specs.Blocks.{slot_of};
+ghost use Rattle.xfs_base.specs.Limits.{u32_end};
 ghost use Rattle.manager_map.specs.Slots.{start_entries, entry_at, after_move};
 
 use crate::SlotEntry;
@@ -69,7 +70,7 @@ impl ManagerMap {
         ensures unchanged { OnErr result (self.new ≡ self.old) }
         ensures moved { OnOk result (self.new ≡ after_move self.old slot manager) }
         ensures answer { IfOk result (λ epoch. epoch ≡ (entry_at self.new slot).epoch) }
-        ensures raised { (entry_at self.old slot).epoch < 2 ^ 32 - 1
+        ensures raised { (entry_at self.old slot).epoch < u32_end
             → IfOk result (λ epoch. epoch ≡ (entry_at self.old slot).epoch + 1) }
     {
         if usize::from(slot) >= SLOTS {

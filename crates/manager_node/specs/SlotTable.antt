@@ -29,7 +29,7 @@ use Rattle.xfs_base.specs.declared.segment.SegRef.{SegRef}
 use Rattle.xfs_base.specs.Steps.{Stepped, still, steps}
 use Rattle.manager_node.specs.declared.slot_phase.Active.{Active}
 use Rattle.manager_node.specs.declared.slot_phase.SlotPhase.{SlotPhase}
-use Rattle.manager_node.specs.declared.slot_table.Ears.{Ears}
+use Rattle.manager_node.specs.declared.slot_takeovers.Ears.{Ears}
 use Rattle.manager_node.specs.declared.slot_phase.SlotPhase.TheVariants as phase
 use Rattle.manager_node.specs.Numbers.{risen}
 use Rattle.manager_node.specs.Slots.{epoch_of, is_active, slot_has_room, fetch_of, first_active}

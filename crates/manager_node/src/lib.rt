@@ -12,6 +12,7 @@ mod phase;
 mod serving;
 mod slot_phase;
 mod slot_table;
+mod slot_takeovers;
 mod takeovers;
 mod tokens;
 

@@ -5,7 +5,8 @@ ghost use Rattle.manager_node.specs.Serving.{begun, first, again, serving_room, 
 
 use crate::checkpointing::Checkpointing;
 use crate::lasting::Lasting;
-use crate::slot_table::{Ears, SlotTable};
+use crate::slot_table::SlotTable;
+use crate::slot_takeovers::Ears;
 use checkpoint::Writer;
 use client_log::Log;
 use group_map::GroupMap;

@@ -1,23 +1,21 @@
 //! The slots of a manager.
 ghost use Rattle.std.specs.Prelude.{◌≡◌, ◌++◌, ◌≤◌, IfOk, OnOk, map, find, slice_get};
 ghost use Rattle.xfs_base.specs.Steps.{steps};
-ghost use Rattle.manager_node.specs.Takeovers.{asker};
-ghost use Rattle.manager_node.specs.SlotTable.{table_asker, hearer, first_phase, first_table, unknown_phase, unknown_table, table_has_room, is_active_at, is_next, next_active, all_slots, on_want, on_gave, on_deltas, on_check, on_usage_ask, usage_in, recalls, recalls_all, takes, on_report, asks, asks_all, regroups, regroups_all, hears_of, hears, hears_all, fetch_at, fetch_among, next_of, begin_with, begin_in, begin_at, cleaned_phase, named_phase, cleaned_at, named_at};
+ghost use Rattle.manager_node.specs.SlotTable.{first_phase, first_table, unknown_phase, unknown_table, table_has_room, is_active_at, is_next, next_active, on_want, on_gave, on_deltas, on_check, on_usage_ask, usage_in, recalls, recalls_all, next_of, begin_with, begin_in, begin_at, cleaned_phase, named_phase, cleaned_at, named_at};
 
 use crate::slot_phase::{Active, SlotPhase, first_active};
-use crate::{takeovers, tokens};
+use crate::tokens;
 use checkpoint::{In, Plan, plan_of};
-use group_map::GroupMap;
 use manager_map::ManagerMap;
-use node_base::{Effects, Questions};
+use node_base::Effects;
 use std::alloc::Global;
 use std::marker::Model;
 use token_manager::Slot;
-use wire_msg::{Check, Deltas, Gave, Report, UsageAsk, Want};
-use xfs_base::{Ino, List, LogId, Mem, NodeId, SegRef, SlotNews};
+use wire_msg::{Check, Deltas, Gave, UsageAsk, Want};
+use xfs_base::{Ino, List, LogId, Mem, SegRef};
 
 /// All slots.
-const SLOTS: [u8; 8] = [0, 1, 2, 3, 4, 5, 6, 7];
+pub(crate) const SLOTS: [u8; 8] = [0, 1, 2, 3, 4, 5, 6, 7];
 
 /// The logs of the clients and the cleaner.
 const LOGS: [u8; 9] = [1, 2, 3, 4, 5, 6, 7, 8, 9];
@@ -25,7 +23,7 @@ const LOGS: [u8; 9] = [1, 2, 3, 4, 5, 6, 7, 8, 9];
 /// What a manager has of each slot. Contracts see the list, from slot 0 on.
 #[derive(Drop)]
 pub(crate) struct SlotTable {
-    phases: Vec<SlotPhase>,
+    pub(crate) phases: Vec<SlotPhase>,
 }
 
 impl Model for SlotTable {
@@ -35,15 +33,6 @@ impl Model for SlotTable {
     ghost Value = { prelude.List SlotPhase };
 
     ghost view = { λ t. t.phases.items };
-}
-
-/// Who hears of slots.
-#[derive(Clone, Copy)]
-pub(crate) struct Ears {
-    /// The number of the manager.
-    pub number: u8,
-    /// How many clients there are.
-    pub clients: u8,
 }
 
 impl SlotTable {
@@ -185,197 +174,6 @@ impl SlotTable {
         }
     }
 
-    /// The takeover of a slot takes an input.
-    #[tactic(auto, unfolding(crate::specs::SlotTable::takes))]
-    pub fn take(
-        &mut self,
-        alloc: Global,
-        effects: &mut Effects,
-        questions: &mut Questions,
-        slot: u8,
-        input: takeover::In,
-    ) -> Mem<()>
-        ensures state { OnOk result (self.new ≡ (takes (table_asker self.old questions.old) slot input).state.table) }
-        ensures questions { OnOk result (questions.new ≡ (takes (table_asker self.old questions.old) slot input).state.questions) }
-        ensures effects { OnOk result (effects.new ≡ effects.old ++ (takes (table_asker self.old questions.old) slot input).outs) }
-    {
-        match self.phases.get_mut(usize::from(slot)) {
-            Some(phase) => takeovers::take(alloc, effects, questions, phase, slot, input),
-            None => Ok(()),
-        }
-    }
-
-    /// A client or the cleaner says what it holds.
-    #[tactic(auto, unfolding(crate::specs::SlotTable::on_report))]
-    pub fn on_report(
-        &mut self,
-        alloc: Global,
-        effects: &mut Effects,
-        questions: &mut Questions,
-        from: NodeId,
-        report: &Report,
-    ) -> Mem<()>
-        ensures state { OnOk result (self.new ≡ (on_report (table_asker self.old questions.old) from report.now).state.table) }
-        ensures questions { OnOk result (questions.new ≡ (on_report (table_asker self.old questions.old) from report.now).state.questions) }
-        ensures effects { OnOk result (effects.new ≡ effects.old ++ (on_report (table_asker self.old questions.old) from report.now).outs) }
-    {
-        match self.phases.get_mut(usize::from(report.slot)) {
-            Some(phase) => takeovers::on_report(alloc, effects, questions, phase, from, report),
-            None => Ok(()),
-        }
-    }
-
-    /// The takeovers' polls are sent again, or what else they ask.
-    pub fn ask_again(
-        &mut self,
-        alloc: Global,
-        effects: &mut Effects,
-        questions: &mut Questions,
-        polls: bool,
-    ) -> Mem<()>
-        ensures state { OnOk result (self.new ≡ (asks_all polls (table_asker self.old questions.old)).state.table) }
-        ensures questions { OnOk result (questions.new ≡ (asks_all polls (table_asker self.old questions.old)).state.questions) }
-        ensures effects { OnOk result (effects.new ≡ effects.old ++ (asks_all polls (table_asker self.old questions.old)).outs) }
-    {
-        self.ask_each(alloc, effects, questions, polls, &SLOTS)
-    }
-
-    fn ask_each(
-        &mut self,
-        alloc: Global,
-        effects: &mut Effects,
-        questions: &mut Questions,
-        polls: bool,
-        slots: &[u8],
-    ) -> Mem<()>
-        ensures state { OnOk result (self.new ≡ (steps (asks polls) (table_asker self.old questions.old) slots.now).state.table) }
-        ensures questions { OnOk result (questions.new ≡ (steps (asks polls) (table_asker self.old questions.old) slots.now).state.questions) }
-        ensures effects { OnOk result (effects.new ≡ effects.old ++ (steps (asks polls) (table_asker self.old questions.old) slots.now).outs) }
-    {
-        for slot in slots {
-            self.ask(alloc, effects, questions, polls, *slot)?;
-        }
-        Ok(())
-    }
-
-    #[tactic(auto, unfolding(crate::specs::SlotTable::asks))]
-    fn ask(
-        &mut self,
-        alloc: Global,
-        effects: &mut Effects,
-        questions: &mut Questions,
-        polls: bool,
-        slot: u8,
-    ) -> Mem<()>
-        ensures state { OnOk result (self.new ≡ (asks polls (table_asker self.old questions.old) slot).state.table) }
-        ensures questions { OnOk result (questions.new ≡ (asks polls (table_asker self.old questions.old) slot).state.questions) }
-        ensures effects { OnOk result (effects.new ≡ effects.old ++ (asks polls (table_asker self.old questions.old) slot).outs) }
-    {
-        match self.phases.get_mut(usize::from(slot)) {
-            Some(phase) => takeovers::ask_again(alloc, effects, questions, phase, slot, polls),
-            None => Ok(()),
-        }
-    }
-
-    /// Newer groups are told to each takeover.
-    pub fn regroup(
-        &mut self,
-        alloc: Global,
-        effects: &mut Effects,
-        questions: &mut Questions,
-        groups: &GroupMap,
-    ) -> Mem<()>
-        ensures state { OnOk result (self.new ≡ (regroups_all groups.now (table_asker self.old questions.old)).state.table) }
-        ensures questions { OnOk result (questions.new ≡ (regroups_all groups.now (table_asker self.old questions.old)).state.questions) }
-        ensures effects { OnOk result (effects.new ≡ effects.old ++ (regroups_all groups.now (table_asker self.old questions.old)).outs) }
-    {
-        self.regroup_each(alloc, effects, questions, groups, &SLOTS)
-    }
-
-    fn regroup_each(
-        &mut self,
-        alloc: Global,
-        effects: &mut Effects,
-        questions: &mut Questions,
-        groups: &GroupMap,
-        slots: &[u8],
-    ) -> Mem<()>
-        ensures state { OnOk result (self.new ≡ (steps (regroups groups.now) (table_asker self.old questions.old) slots.now).state.table) }
-        ensures questions { OnOk result (questions.new ≡ (steps (regroups groups.now) (table_asker self.old questions.old) slots.now).state.questions) }
-        ensures effects { OnOk result (effects.new ≡ effects.old ++ (steps (regroups groups.now) (table_asker self.old questions.old) slots.now).outs) }
-    {
-        for slot in slots {
-            self.regroup_one(alloc, effects, questions, groups, *slot)?;
-        }
-        Ok(())
-    }
-
-    #[tactic(auto, unfolding(crate::specs::SlotTable::takes))]
-    fn regroup_one(
-        &mut self,
-        alloc: Global,
-        effects: &mut Effects,
-        questions: &mut Questions,
-        groups: &GroupMap,
-        slot: u8,
-    ) -> Mem<()>
-        ensures state { OnOk result (self.new ≡ (regroups groups.now (table_asker self.old questions.old) slot).state.table) }
-        ensures questions { OnOk result (questions.new ≡ (regroups groups.now (table_asker self.old questions.old) slot).state.questions) }
-        ensures effects { OnOk result (effects.new ≡ effects.old ++ (regroups groups.now (table_asker self.old questions.old) slot).outs) }
-    {
-        match self.phases.get_mut(usize::from(slot)) {
-            Some(phase) => takeovers::regroup(alloc, effects, questions, phase, slot, groups),
-            None => Ok(()),
-        }
-    }
-
-    /// The maps tell of slots, in order.
-    pub fn hear_each(
-        &mut self,
-        alloc: Global,
-        effects: &mut Effects,
-        questions: &mut Questions,
-        ears: Ears,
-        groups: &GroupMap,
-        slots: &[SlotNews],
-    ) -> Mem<()>
-        ensures state { OnOk result (self.new ≡ (hears_all (hearer ears groups.now) (table_asker self.old questions.old) slots.now).state.table) }
-        ensures questions { OnOk result (questions.new ≡ (hears_all (hearer ears groups.now) (table_asker self.old questions.old) slots.now).state.questions) }
-        ensures effects { OnOk result (effects.new ≡ effects.old ++ (hears_all (hearer ears groups.now) (table_asker self.old questions.old) slots.now).outs) }
-    {
-        for news in slots {
-            self.hear(alloc, effects, questions, ears, groups, news)?;
-        }
-        Ok(())
-    }
-
-    #[tactic(auto, unfolding(crate::specs::SlotTable::hears))]
-    fn hear(
-        &mut self,
-        alloc: Global,
-        effects: &mut Effects,
-        questions: &mut Questions,
-        ears: Ears,
-        groups: &GroupMap,
-        news: &SlotNews,
-    ) -> Mem<()>
-        ensures state { OnOk result (self.new ≡ (hears (hearer ears groups.now) (table_asker self.old questions.old) news.now).state.table) }
-        ensures questions { OnOk result (questions.new ≡ (hears (hearer ears groups.now) (table_asker self.old questions.old) news.now).state.questions) }
-        ensures effects { OnOk result (effects.new ≡ effects.old ++ (hears (hearer ears groups.now) (table_asker self.old questions.old) news.now).outs) }
-    {
-        match self.phases.get_mut(usize::from(news.slot)) {
-            Some(phase) => hear_of(alloc, effects, questions, ears, groups, phase, news),
-            None => Ok(()),
-        }
-    }
-
-    /// The first slot whose takeover awaits the answer to this question, and its number of the question.
-    pub fn fetch_of(&self, ask: u32) -> Option<(u8, u32)>
-        ensures { result ≡ fetch_among self.now ask all_slots }
-    {
-        fetch_among(&self.phases, &SLOTS, ask)
-    }
-
     /// What the writer is to write of a slot, by the pages and the horizon of this moment. From here on no
     /// page of it has changed. None where the slot isn't managed.
     pub fn begin(&mut self, alloc: Global, slot: u8) -> Mem<Option<In>>
@@ -475,56 +273,6 @@ fn say_usage(alloc: Global, effects: &mut Effects, phases: &[SlotPhase], asked: 
         Some(phase) => tokens::on_usage_ask(alloc, effects, phase, asked),
         None => Ok(()),
     }
-}
-
-fn fetch_among(phases: &[SlotPhase], slots: &[u8], ask: u32) -> Option<(u8, u32)>
-    ensures { result ≡ fetch_among phases.now ask slots.now }
-{
-    for slot in slots {
-        if let Some(own) = fetch_at(phases, *slot, ask) {
-            return Some((*slot, own));
-        }
-    }
-    None
-}
-
-fn fetch_at(phases: &[SlotPhase], slot: u8, ask: u32) -> Option<u32>
-    ensures { result ≡ fetch_at phases.now ask slot }
-{
-    match phases.get(usize::from(slot)) {
-        Some(phase) => phase.fetch_of(ask),
-        None => None,
-    }
-}
-
-// The maps name a slot: where its epoch is greater, and they give it to this manager, it takes the slot over,
-// and else it leaves it.
-#[tactic(auto, unfolding(crate::specs::SlotTable::hears_of))]
-fn hear_of(
-    alloc: Global,
-    effects: &mut Effects,
-    questions: &mut Questions,
-    ears: Ears,
-    groups: &GroupMap,
-    phase: &mut SlotPhase,
-    news: &SlotNews,
-) -> Mem<()>
-    ensures state { OnOk result (phase.new ≡ (hears_of (hearer ears groups.now) news.now (asker phase.old questions.old)).state.phase) }
-    ensures questions { OnOk result (questions.new ≡ (hears_of (hearer ears groups.now) news.now (asker phase.old questions.old)).state.questions) }
-    ensures effects { OnOk result (effects.new ≡ effects.old ++ (hears_of (hearer ears groups.now) news.now (asker phase.old questions.old)).outs) }
-{
-    if news.epoch <= phase.epoch() {
-        return Ok(());
-    }
-    *phase = takeovers::phase_of(alloc, ears.number, news, groups, ears.clients)?;
-    takeovers::take(
-        alloc,
-        effects,
-        questions,
-        phase,
-        news.slot,
-        takeover::In::Tick,
-    )
 }
 
 fn begin_at(alloc: Global, phases: &[SlotPhase], slot: u8) -> Mem<Option<In>>

@@ -17,10 +17,10 @@ use Rattle.stripe_cleaner.specs.declared.phase.Phase.{Phase}
 use Rattle.stripe_cleaner.specs.declared.phase.Phase.TheVariants.{Greeting, Listing, Counting, Reading, Checking, Deleting, Over}
 use Rattle.version_model.specs.declared.act.Act.{Act}
 use Rattle.version_model.specs.declared.act.Act.TheVariants as act
-use Rattle.store_nodes.specs.declared.emptying.Emptying.{Emptying}
-use Rattle.store_nodes.specs.declared.job.Job.{Job}
-use Rattle.store_nodes.specs.EmptyingEvents.{cleaner_log}
-use Rattle.store_nodes.specs.Jobs.{Done}
+use Rattle.cleaner_node.specs.declared.emptying.Emptying.{Emptying}
+use Rattle.cleaner_node.specs.declared.job.Job.{Job}
+use Rattle.cleaner_node.specs.EmptyingEvents.{cleaner_log}
+use Rattle.cleaner_node.specs.Jobs.{Done}
 use Rattle.log_protocol.specs.Tables.{In}
 use Rattle.log_tie.specs.Setting.{Setting}
 use Rattle.log_tie.specs.Shelves.{is_of_log}

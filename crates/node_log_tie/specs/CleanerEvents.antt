@@ -20,13 +20,13 @@ use Rattle.version_model.specs.declared.act.Act.TheVariants.{Dropped}
 use Rattle.version_model.specs.declared.work.Work.{Work}
 use Rattle.wire_msg.specs.declared.packet.Do.{Do}
 use Rattle.wire_msg.specs.declared.packet.Do.TheVariants.{Begin, Deliver, Tick}
-use Rattle.store_nodes.specs.CleanerEvents.{cleaner_start, cleaner_step}
-use Rattle.store_nodes.specs.declared.cleaner.Cleaner as cleaners
-use Rattle.store_nodes.specs.declared.cleaner.Phase.{Phase}
-use Rattle.store_nodes.specs.declared.cleaner.Phase.TheVariants.{Down, Opening, Serving}
-use Rattle.store_nodes.specs.declared.emptying.Emptying.{Emptying}
-use Rattle.store_nodes.specs.declared.job.Job.{Job}
-use Rattle.store_nodes.specs.EmptyingEvents.{cleaner_log}
+use Rattle.cleaner_node.specs.CleanerEvents.{cleaner_start, cleaner_step}
+use Rattle.cleaner_node.specs.declared.cleaner.Cleaner as cleaners
+use Rattle.cleaner_node.specs.declared.cleaner.Phase.{Phase}
+use Rattle.cleaner_node.specs.declared.cleaner.Phase.TheVariants.{Down, Opening, Serving}
+use Rattle.cleaner_node.specs.declared.emptying.Emptying.{Emptying}
+use Rattle.cleaner_node.specs.declared.job.Job.{Job}
+use Rattle.cleaner_node.specs.EmptyingEvents.{cleaner_log}
 use Rattle.log_protocol.specs.Tables.{In}
 use Rattle.log_tie.specs.Setting.{Setting}
 use Rattle.log_tie.specs.Shelves.{is_of_log}

@@ -1,11 +1,12 @@
 -- A client whose open call runs asks for its call still: while a call on blocks waits, for the block that it needs; once it is answered, for none.
-use Rattle.std.proofs.Common.{◌≡◌, ℕ, zero, suc, ◌^◌, ◌-◌, Bool, true, false, ◌||◌, ◌&&◌, ◌==◌, nat_lt, List, Option, Some, None, is_none, is_some, refl, sym, ap, subst, ◌∙◌}
+use Rattle.std.proofs.Common.{◌≡◌, ℕ, zero, suc, ◌+◌, ◌^◌, ◌-◌, Bool, true, false, ◌||◌, ◌&&◌, ◌==◌, nat_lt, List, Option, Some, None, is_none, is_some, refl, sym, ap, subst, ◌∙◌}
 use Rattle.client_log.specs.declared.input.In.TheVariants as log_in
-use Rattle.client_node.specs.Blocks.{Made, answers, changed, changes, got, gets, lets_go, makes, needs, put_of, puts, puts_again, puts_at, synced_answer, syncs, waits, wrote}
+use Rattle.client_node.specs.Blocks.{Made, answers, changed, changes, changes_if_fits, got, gets, held_back, lets_go, makes, needs, put_of, puts, puts_again, puts_at, synced_answer, syncs, waits, wrote}
 use Rattle.client_node.specs.declared.call.Call.{Call}
 use Rattle.client_node.specs.declared.call.Going.{Going}
 use Rattle.client_node.specs.declared.call.Going.TheVariants.{On, Ends}
 use Rattle.client_node.specs.declared.serving.Serving.{Serving}
+use Rattle.client_node.specs.Fitting.{put_fits}
 use Rattle.client_node.specs.Flights.{held_at}
 use Rattle.client_node.specs.Follow.{hands, notes_gone, seals}
 use Rattle.client_node.specs.Running.{Ran, after_answer, answers_call, goes_on, most_steps, runs, runs_call, runs_once, runs_upto}
@@ -28,7 +29,7 @@ use Rattle.xfs_base.specs.Steps.{after}
 use Rattle.xfs_base.proofs.Booleans.{by_test, and_first, contrary}
 use Rattle.node_tie.specs.Asks.{AsksForCall, needed, needed_by}
 use Rattle.node_tie.proofs.AsksBlock.{Need, WantSuits}
-use Rattle.node_tie.proofs.AsksInputs.{AsksAs, nothing_asks, transition-asks}
+use Rattle.node_tie.proofs.AsksInputs.{AsksAs, none_asks, nothing_asks, transition-asks}
 use Rattle.node_tie.proofs.AsksFrames.{Keeps, Kept, asks_as, asks_for, asks_none, closed_same, keeps_same, keeps_through, open_in, step_of, takes-keeps}
 use Rattle.node_tie.proofs.AsksFollow.{hands-keeps, notes_gone-keeps, seals-keeps}
 use Rattle.node_tie.proofs.AsksFlights.{writes-keeps}
@@ -124,12 +125,6 @@ module _ (s : Serving) (block : BlockId) where
     unfolding changes
     changes-for a = (let k : Kept None s (changes s block value).done.state = changes-kept a in record { asks = k.asks; call = k.call; item = k.item })
 
-    puts-for : AsksAs (Some (block, Own)) s.tokens → MadeFor (Some (block, Own)) s (puts s block value)
-    unfolding puts
-    puts-for a =
-        by_test (MadeFor (Some (block, Own)) s) (may_write (held_at s block)) (changes s block value) (needs s block Own)
-        (λ t. changes-for (written_none a t)) (λ t. needs-for s block Own a)
-
     lets_go-keeps : Keeps None s (lets_go s block)
     lets_go-keeps =
         let t : Serving = record s { tokens = (on_evict s.tokens block).state } in
@@ -139,12 +134,30 @@ module _ (s : Serving) (block : BlockId) where
     changed-for : AsksAs None s.tokens → MadeFor (Some (block, Own)) s (changed s block)
     changed-for a = (let k : Kept None s (lets_go s block) = lets_go-keeps a in record { asks = k.asks; call = k.call; item = k.item })
 
+    -- it waits, and asks for nothing
+    held_back-for : AsksAs None s.tokens → MadeFor (Some (block, Own)) s (held_back s block)
+    held_back-for a =
+        let k : Kept None s (lets_go s block) = lets_go-keeps a in
+        record { asks = none_asks (Some (block, Own)) (lets_go s block).tokens k.asks; call = k.call; item = k.item }
+
+    changes_if_fits-for : AsksAs None s.tokens → MadeFor (Some (block, Own)) s (changes_if_fits s block value)
+    unfolding changes_if_fits
+    changes_if_fits-for a =
+        by_test (MadeFor (Some (block, Own)) s) (put_fits block ((held_at s block).ver + 1) value) (changes s block value) (held_back s block)
+        (λ t. changes-for a) (λ t. held_back-for a)
+
+    puts-for : AsksAs (Some (block, Own)) s.tokens → MadeFor (Some (block, Own)) s (puts s block value)
+    unfolding puts
+    puts-for a =
+        by_test (MadeFor (Some (block, Own)) s) (may_write (held_at s block)) (changes_if_fits s block value) (needs s block Own)
+        (λ t. changes_if_fits-for (written_none a t)) (λ t. needs-for s block Own a)
+
     puts_at-for : (ver : ℕ) → AsksAs (Some (block, Own)) s.tokens → MadeFor (Some (block, Own)) s (puts_at s block ver value)
     unfolding puts_at
     puts_at-for ver a =
         by_test (MadeFor (Some (block, Own)) s) (may_write (held_at s block)) (puts_again s block ver value) (needs s block Own)
-        (λ t. by_test (MadeFor (Some (block, Own)) s) ((held_at s block).ver == ver) (changes s block value) (changed s block)
-        (λ same. changes-for (written_none a t)) (λ other. changed-for (written_none a t))) (λ t. needs-for s block Own a)
+        (λ t. by_test (MadeFor (Some (block, Own)) s) ((held_at s block).ver == ver) (changes_if_fits s block value) (changed s block)
+        (λ same. changes_if_fits-for (written_none a t)) (λ other. changed-for (written_none a t))) (λ t. needs-for s block Own a)
 
 -- ---- Sync
 

@@ -13,7 +13,7 @@ use Rattle.log_owner.specs.declared.opened.Progress.TheVariants as progress
 use Rattle.log_owner.specs.declared.opening.Opening as openings
 use Rattle.log_owner.specs.declared.promised.Promised.{Promised}
 use Rattle.log_owner.specs.Opening as opening
-use Rattle.log_owner.specs.Opening.{Went, is_meant}
+use Rattle.log_owner.specs.Opening.{Went}
 use Rattle.log_owner.specs.Sending.{pushes_all}
 use Rattle.node_base.specs.Beginning.{answers_unanswered, next_item}
 use Rattle.node_base.specs.declared.effects.Effect.{Effect}
@@ -24,16 +24,15 @@ use Rattle.node_base.specs.Maps.{fits}
 use Rattle.node_base.specs.Nodes.{has_node}
 use Rattle.node_base.specs.Room.{has_room}
 use Rattle.node_base.specs.Shape.{are_from, has_logs, has_slot, is_slot_news, is_well_formed}
-use Rattle.store_nodes.specs.CleanerEvents.{Went_to, crashes, next_life, owner_of, back, after_opening, opened_on, restarts, restarts_in, down_wishes, opening_wishes, serving_wishes, serves_on, begun_life, wish_at, down_at, opening_at, serving_at, on_begin, hears, on_deliver, on_time, happens, phase_room, lasting_of, takes, cleaner_step}
-use Rattle.store_nodes.specs.declared.cleaner.Cleaner.{Cleaner}
-use Rattle.store_nodes.specs.declared.cleaner.Phase.{Phase}
-use Rattle.store_nodes.specs.declared.cleaner.Phase.TheVariants.{Down, Opening, Serving as Serves}
-use Rattle.store_nodes.specs.declared.cleaner.Wish.{Wish}
-use Rattle.store_nodes.specs.declared.cleaner.Wish.TheVariants.{Crash, Restart, Clean}
-use Rattle.store_nodes.specs.declared.emptying.Emptying.{Emptying}
-use Rattle.store_nodes.specs.declared.lasting.Lasting.{Lasting}
-use Rattle.store_nodes.specs.EmptyingEvents.{lasting_room, on_clean, on_packet, on_tick}
-use Rattle.store_nodes.specs.Jobs.{Done}
+use Rattle.cleaner_node.specs.CleanerEvents.{Went_to, crashes, next_life, owner_of, back, after_opening, opened_on, restarts, restarts_in, down_wishes, opening_wishes, serving_wishes, serves_on, begun_life, wish_at, down_at, opening_at, serving_at, on_begin, hears, on_deliver, on_time, happens, phase_room, lasting_of}
+use Rattle.cleaner_node.specs.declared.cleaner.Phase.{Phase}
+use Rattle.cleaner_node.specs.declared.cleaner.Phase.TheVariants.{Down, Opening, Serving as Serves}
+use Rattle.cleaner_node.specs.declared.cleaner.Wish.{Wish}
+use Rattle.cleaner_node.specs.declared.cleaner.Wish.TheVariants.{Crash, Restart, Clean}
+use Rattle.cleaner_node.specs.declared.emptying.Emptying.{Emptying}
+use Rattle.cleaner_node.specs.declared.lasting.Lasting.{Lasting}
+use Rattle.cleaner_node.specs.EmptyingEvents.{lasting_room, on_clean, on_packet, on_tick}
+use Rattle.cleaner_node.specs.Jobs.{Done}
 use Rattle.token_client.specs.State.{epoch_of}
 use Rattle.token_law.proofs.Start.{all_ones}
 use Rattle.version_model.specs.declared.answer.Answer.{Answer as AnAnswer}
@@ -45,7 +44,6 @@ use Rattle.wire_msg.specs.declared.packet.Do.TheVariants.{Begin, Deliver, Tick}
 use Rattle.wire_msg.specs.declared.packet.Packet.{Packet}
 use Rattle.xfs_base.proofs.Booleans.{by_test, and_first, and_second}
 use Rattle.xfs_base.specs.declared.news.SlotNews.{SlotNews}
-use Rattle.xfs_base.specs.declared.node.NodeId.TheVariants.{Cleaner as TheCleaner}
 use Rattle.xfs_base.specs.Limits.{u32_end}
 use Rattle.xfs_base.specs.Steps.{after, still}
 use Rattle.node_tie.specs.CleanerEvents.{Bounded, CleanerDoes, CleanerGets, CleanerGoes, CleanerOwed, CleanerStands, CleanerStarts, CleanerTakes, OpensLater, OpensSo, ServesSo}
@@ -55,7 +53,7 @@ use Rattle.node_tie.specs.StoreEvents.{AllSay, Says}
 use Rattle.node_tie.proofs.CleanerEmptying as emptying
 use Rattle.node_tie.proofs.ClientOpening as client_opening
 use Rattle.node_tie.proofs.OpeningSends.{start_does, packet_does, tick_does, cleaner_opening}
-use Rattle.node_tie.proofs.StoreFrames.{all_append, all_weaker, packets_from}
+use Rattle.node_tie.proofs.StoreFrames.{all_append, all_weaker}
 
 same : (n m : ℕ) → (n == m) ≡ true → n ≡ m
 same n m t = grind (arith, nat_tests)
@@ -331,6 +329,3 @@ cleaner_takes part promised most small low cleaner what stands owed =
 
 pub cleaner_starts : CleanerStarts
 cleaner_starts part most small setup works = record { eight = refl; is = all_ones part small }
-
-pub cleaner_from : (cleaner : Cleaner) (what : Do) → All (λ (p : Packet). p.from ≡ TheCleaner) (cleaner_step cleaner what).packets
-cleaner_from cleaner what = packets_from TheCleaner (takes cleaner.peers cleaner.phase what).outs

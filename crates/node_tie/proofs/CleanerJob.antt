@@ -10,11 +10,11 @@ use Rattle.log_owner.specs.Sending.{fetch}
 use Rattle.node_base.specs.Asking.{next_ask, drawn}
 use Rattle.group_map.specs.GroupMapState.{GroupMapState}
 use Rattle.segment_format.specs.declared.segment.Segment.{Segment}
-use Rattle.store_nodes.specs.declared.emptying.Emptying.{Emptying}
-use Rattle.store_nodes.specs.declared.hand.Hand.{Hand}
-use Rattle.store_nodes.specs.declared.job.Job.{Job}
-use Rattle.store_nodes.specs.Hands.{Heard, fetches_for, fetches}
-use Rattle.store_nodes.specs.Jobs.{Done, with_questions, asks_maps, asks_list, asks_usage, checks_block, check_sent, asks_check, hand_of, holds, reads, puts, puts_block, moves, is_whole, drops, deletes, says, job_takes, cleans, lists_of, usages_of, check_of, is_out, takes_in, checked_in, holds_in, told_in, confirmed_in, on_listed, on_usage, on_live, on_dead, on_deleted, job_read, ends_reading, told_by, confirmed, after_confirmed, reads_again, after_told, on_told}
+use Rattle.cleaner_node.specs.declared.emptying.Emptying.{Emptying}
+use Rattle.cleaner_node.specs.declared.hand.Hand.{Hand}
+use Rattle.cleaner_node.specs.declared.job.Job.{Job}
+use Rattle.cleaner_node.specs.Hands.{Heard, fetches_for, fetches}
+use Rattle.cleaner_node.specs.Jobs.{Done, with_questions, asks_maps, asks_list, asks_usage, checks_block, check_sent, asks_check, hand_of, holds, reads, puts, puts_block, moves, is_whole, drops, deletes, says, job_takes, cleans, lists_of, usages_of, check_of, is_out, takes_in, checked_in, holds_in, told_in, confirmed_in, on_listed, on_usage, on_live, on_dead, on_deleted, job_read, ends_reading, told_by, confirmed, after_confirmed, reads_again, after_told, on_told}
 use Rattle.stripe_cleaner.specs.declared.input.In.{In}
 use Rattle.stripe_cleaner.specs.declared.input.In.TheVariants as input
 use Rattle.stripe_cleaner.specs.declared.output.Out.{Out}

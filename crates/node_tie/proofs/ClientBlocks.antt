@@ -1,12 +1,13 @@
 -- What a client that serves does for the open call.
-use Rattle.std.proofs.Common.{◌<◌, ℕ, zero, suc, ◌==◌, List, [], ◌∷◌, Option, Some, None, is_none, refl}
+use Rattle.std.proofs.Common.{◌<◌, ℕ, zero, suc, ◌+◌, ◌==◌, List, [], ◌∷◌, Option, Some, None, is_none, refl}
 use Rattle.std.proofs.lemmas.List.Elements.{All-nil, All-cons}
 use Rattle.client_log.specs.declared.input.In.TheVariants as log_in
-use Rattle.client_node.specs.Blocks.{Made, needs, got, gets, wrote, put_of, changes, puts, lets_go, changed, puts_again, puts_at, is_settled, synced_acts, syncs, makes}
+use Rattle.client_node.specs.Blocks.{Made, needs, got, gets, wrote, put_of, changes, changes_if_fits, puts, lets_go, held_back, changed, puts_again, puts_at, is_settled, synced_acts, syncs, makes}
 use Rattle.client_node.specs.declared.call.Call.{Call}
 use Rattle.client_node.specs.declared.call.Going.{Going}
 use Rattle.client_node.specs.declared.call.Going.TheVariants.{On, Ends}
 use Rattle.client_node.specs.declared.serving.Serving.{Serving}
+use Rattle.client_node.specs.Fitting.{put_fits}
 use Rattle.client_node.specs.Flights.{held_at}
 use Rattle.client_node.specs.Follow.{notes_gone, seals}
 use Rattle.client_node.specs.Running.{after_answer, goes_on, Ran, answers_call, ran, runs_call, runs_once, runs_upto, runs}
@@ -72,12 +73,6 @@ module _ (members part most c life : ℕ) (pos : 0 < c) (less : c < members) whe
       (tokens.acts_so members part most c life pos less n s (input.Wrote block value) tt tt h)
       (λ m k. changes_from m s block value k)
 
-  puts_so : (n : Net) (s : Serving) (block : BlockId) (value : Option (List ℕ)) → At n s → Goes n (puts s block value).done
-  unfolding puts
-  puts_so n s block value h =
-      by_test (λ (m : Made). Goes n m.done) (may_write (held_at s block)) (changes s block value) (needs s block Own) (λ t. changes_so n s block value h)
-      (λ t. needs_so n s block Own h)
-
   -- once the tokens have let it go
   pub gone_from : (n : Net) (s : Serving) (block : BlockId) → At n (record s { tokens = (client.on_evict s.tokens block).state })
       → Goes n (still (notes_gone (record s { tokens = (client.on_evict s.tokens block).state }) block))
@@ -93,10 +88,22 @@ module _ (members part most c life : ℕ) (pos : 0 < c) (less : c < members) whe
       (tokens.acts_so members part most c life pos less n s (input.Evict block) tt tt h) (λ m k. gone_from m s block k))
       (λ is. frames.goes_still members part most c life n s h)
 
+  changes_if_fits_so : (n : Net) (s : Serving) (block : BlockId) (value : Option (List ℕ)) → At n s → Goes n (changes_if_fits s block value).done
+  unfolding changes_if_fits
+  changes_if_fits_so n s block value h =
+      by_test (λ (m : Made). Goes n m.done) (put_fits block ((held_at s block).ver + 1) value) (changes s block value) (held_back s block)
+      (λ t. changes_so n s block value h) (λ t. lets_go_so n s block h)
+
+  puts_so : (n : Net) (s : Serving) (block : BlockId) (value : Option (List ℕ)) → At n s → Goes n (puts s block value).done
+  unfolding puts
+  puts_so n s block value h =
+      by_test (λ (m : Made). Goes n m.done) (may_write (held_at s block)) (changes_if_fits s block value) (needs s block Own)
+      (λ t. changes_if_fits_so n s block value h) (λ t. needs_so n s block Own h)
+
   puts_again_so : (n : Net) (s : Serving) (block : BlockId) (ver : ℕ) (value : Option (List ℕ)) → At n s → Goes n (puts_again s block ver value).done
   puts_again_so n s block ver value h =
-      by_test (λ (m : Made). Goes n m.done) ((held_at s block).ver == ver) (changes s block value) (changed s block) (λ t. changes_so n s block value h)
-      (λ t. lets_go_so n s block h)
+      by_test (λ (m : Made). Goes n m.done) ((held_at s block).ver == ver) (changes_if_fits s block value) (changed s block)
+      (λ t. changes_if_fits_so n s block value h) (λ t. lets_go_so n s block h)
 
   puts_at_so : (n : Net) (s : Serving) (block : BlockId) (ver : ℕ) (value : Option (List ℕ)) → At n s → Goes n (puts_at s block ver value).done
   unfolding puts_at

@@ -1,9 +1,10 @@
 -- A client that serves gets a grant. One to own is used in its event: the open call, for which it was asked, runs on and writes, or lets it go.
-use Rattle.std.proofs.Common.{◌≡◌, ◌<◌, ◌-◌, ◌^◌, ℕ, ◌==◌, ◌&&◌, not, Bool, true, false, cond, List, [], ◌∷◌, Option, Some, None, is_none, nat_lt, refl, sym, ap, subst, ◌∙◌, arith}
+use Rattle.std.proofs.Common.{◌≡◌, ◌<◌, ◌+◌, ◌-◌, ◌^◌, ℕ, ◌==◌, ◌&&◌, not, Bool, true, false, cond, List, [], ◌∷◌, Option, Some, None, is_none, nat_lt, refl, sym, ap, subst, ◌∙◌, arith}
 use Rattle.std.proofs.lemmas.Bool.Decides.{nat_tests}
-use Rattle.client_node.specs.Blocks.{Made, changes, puts, needs, changed, puts_again, puts_at, makes}
+use Rattle.client_node.specs.Blocks.{Made, changes, changes_if_fits, puts, needs, changed, held_back, puts_again, puts_at, makes}
 use Rattle.client_node.specs.declared.call.Call.{Call}
 use Rattle.client_node.specs.declared.serving.Serving.{Serving}
+use Rattle.client_node.specs.Fitting.{put_fits}
 use Rattle.client_node.specs.Flights.{held_at}
 use Rattle.client_node.specs.Follow.{notes_clean, notes_copy, notes_gone, follows_one, follows, hands}
 use Rattle.client_node.specs.Packets.{on_grant}
@@ -214,21 +215,27 @@ module _ (members part most c life : ℕ) (pos : 0 < c) (less : c < members) whe
         (blocks.gone_from members part most c life pos less k.next running block k.stands))
         (λ is. contrary (sym is ∙ valueless))
 
+    writes_if_fits : (value : Option (List ℕ)) → Goes n (changes_if_fits running block value).done
+    unfolding changes_if_fits
+    writes_if_fits value =
+        by_test (λ (m : Made). Goes n m.done) (put_fits block ((held_at running block).ver + 1) value) (changes running block value) (held_back running block)
+        (λ t. writes_it value) (λ t. lets_it_go)
+
     -- PutAt
     puts_it_at : (ver : ℕ) (value : Option (List ℕ)) → Goes n (puts_at running block ver value).done
     unfolding puts_at
     puts_it_at ver value =
         by_test (λ (m : Made). Goes n m.done) (may_write (held_at running block)) (puts_again running block ver value) (needs running block Own)
-        (λ t. by_test (λ (m : Made). Goes n m.done) ((held_at running block).ver == ver) (changes running block value) (changed running block)
-        (λ u. writes_it value) (λ u. lets_it_go))
+        (λ t. by_test (λ (m : Made). Goes n m.done) ((held_at running block).ver == ver) (changes_if_fits running block value) (changed running block)
+        (λ u. writes_if_fits value) (λ u. lets_it_go))
         (λ t. contrary (sym t ∙ may))
 
     -- Put
     puts_it : (value : Option (List ℕ)) → Goes n (puts running block value).done
     unfolding puts
     puts_it value =
-        by_test (λ (m : Made). Goes n m.done) (may_write (held_at running block)) (changes running block value) (needs running block Own)
-        (λ t. writes_it value) (λ t. contrary (sym t ∙ may))
+        by_test (λ (m : Made). Goes n m.done) (may_write (held_at running block)) (changes_if_fits running block value) (needs running block Own)
+        (λ t. writes_if_fits value) (λ t. contrary (sym t ∙ may))
 
     -- the call on blocks that needs it
     makes_it : (step : BlockCall) → needed_by step ≡ Some (block, Own) → Goes n (makes running step).done

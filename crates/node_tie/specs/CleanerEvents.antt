@@ -4,12 +4,12 @@ use Rattle.log_owner.specs.declared.opening.Opening as openings
 use Rattle.log_owner.specs.declared.promised.Promised.{Promised}
 use Rattle.node_base.specs.declared.effects.Effect.{Effect}
 use Rattle.node_base.specs.declared.effects.Effect.TheVariants.{Send, Answer, Lose, Does}
-use Rattle.store_nodes.specs.CleanerEvents.{cleaner_start, lasting_of, takes}
-use Rattle.store_nodes.specs.declared.cleaner.Cleaner.{Cleaner}
-use Rattle.store_nodes.specs.declared.cleaner.Phase.{Phase}
-use Rattle.store_nodes.specs.declared.cleaner.Phase.TheVariants.{Down, Opening, Serving as Serves}
-use Rattle.store_nodes.specs.declared.emptying.Emptying.{Emptying}
-use Rattle.store_nodes.specs.declared.lasting.Lasting.{Lasting}
+use Rattle.cleaner_node.specs.CleanerEvents.{cleaner_start, lasting_of, takes}
+use Rattle.cleaner_node.specs.declared.cleaner.Cleaner.{Cleaner}
+use Rattle.cleaner_node.specs.declared.cleaner.Phase.{Phase}
+use Rattle.cleaner_node.specs.declared.cleaner.Phase.TheVariants.{Down, Opening, Serving as Serves}
+use Rattle.cleaner_node.specs.declared.emptying.Emptying.{Emptying}
+use Rattle.cleaner_node.specs.declared.lasting.Lasting.{Lasting}
 use Rattle.token_client.specs.State.{epoch_of}
 use Rattle.version_model.specs.declared.work.Work.{Work}
 use Rattle.wire_msg.specs.declared.body.Body.{Body}

@@ -10,6 +10,7 @@ use Rattle.xfs_base.specs.declared.node.NodeId.{NodeId}
 use Rattle.xfs_base.specs.declared.node.NodeId.TheVariants.{Client, Manager, Server, Cleaner, Registry}
 use Rattle.xfs_base.specs.declared.segment.SegRef.{SegRef}
 use Rattle.xfs_base.specs.declared.setup.Setup.{Setup}
+use Rattle.xfs_base.specs.Limits.{u32_end}
 use Rattle.group_map.specs.GroupMapState.{GroupMapState}
 use Rattle.group_map.specs.Groups.{group_of, generation_at, lost, started as first_groups}
 use Rattle.manager_map.specs.Slots.{start_entries, entry_at, after_move}
@@ -41,7 +42,7 @@ may_lose groups server generation =
 -- ---- a manager that has restarted
 
 abbrev pub hears_manager : BoardState → ℕ → ℕ → Bool
-hears_manager s manager inc = nat_lt s.version 4294967295 && (nat_lt (inc_of s.incs manager) inc && can_rise manager s.entries)
+hears_manager s manager inc = nat_lt s.version u32_end && (nat_lt (inc_of s.incs manager) inc && can_rise manager s.entries)
 
 -- its slots are given to it again, and its incarnation is kept
 abbrev pub manager_restarted : BoardState → ℕ → ℕ → BoardState
@@ -53,7 +54,7 @@ manager_hello s manager inc = if hears_manager s manager inc then record { state
 -- ---- a server that has lost what it kept
 
 abbrev pub hears_server : BoardState → ℕ → ℕ → Bool
-hears_server s server generation = nat_lt s.version 4294967295 && may_lose s.groups server generation
+hears_server s server generation = nat_lt s.version u32_end && may_lose s.groups server generation
 
 abbrev pub server_lost : BoardState → ℕ → ℕ → BoardState
 server_lost s server generation = record s { version = s.version + 1; groups = lost s.groups server generation }
@@ -71,7 +72,7 @@ hello s Registry inc = still s
 -- ---- a slot that is given to a manager
 
 abbrev pub can_move : BoardState → ℕ → Bool
-can_move s slot = nat_lt slot 8 && (nat_lt s.version 4294967295 && nat_lt (entry_of s.entries slot).epoch 4294967295)
+can_move s slot = nat_lt slot 8 && (nat_lt s.version u32_end && nat_lt (entry_of s.entries slot).epoch u32_end)
 
 abbrev pub moved : BoardState → ℕ → ℕ → BoardState
 moved s slot manager = record s { version = s.version + 1; entries = after_move s.entries slot manager }
@@ -93,7 +94,7 @@ checkpointed s slot parts horizon =
     record s { version = s.version + 1; checkpoints = slice_set s.checkpoints slot (record { parts = parts; horizon = horizon }) }
 
 unfoldable pub keep : BoardState → ℕ → ℕ → List SegRef → List ℕ → Made
-keep s slot epoch parts horizon = if s.version == 4294967295 then still s else record { state = checkpointed s slot parts horizon; outs = Kept epoch ∷ [] }
+keep s slot epoch parts horizon = if s.version == u32_end then still s else record { state = checkpointed s slot parts horizon; outs = Kept epoch ∷ [] }
 
 unfoldable pub done : BoardState → ℕ → ℕ → List SegRef → List ℕ → Made
 done s slot epoch parts horizon =

@@ -2,6 +2,7 @@
 use Rattle.std.specs.Prelude.{ℕ, Bool, List, [], ◌∷◌, ◌==◌, ◌||◌, not, nat_lt, fold, if◌then◌else◌}
 use Rattle.std.specs.List.{list_all}
 use Rattle.xfs_base.specs.Blocks.{slot_of}
+use Rattle.xfs_base.specs.Limits.{u32_end}
 use Rattle.manager_map.specs.declared.entry.SlotEntry.{SlotEntry}
 use Rattle.manager_map.specs.Slots.{entry_at, after_move}
 
@@ -21,7 +22,7 @@ abbrev pub raised : ℕ → List SlotEntry → List SlotEntry
 raised manager entries = fold (raise_one manager) entries all_slots
 
 abbrev pub can_rise_one : ℕ → List SlotEntry → ℕ → Bool
-can_rise_one manager entries slot = not ((entry_of entries slot).manager == manager) || nat_lt (entry_of entries slot).epoch 4294967295
+can_rise_one manager entries slot = not ((entry_of entries slot).manager == manager) || nat_lt (entry_of entries slot).epoch u32_end
 
 -- each slot of this manager has a next epoch
 abbrev pub can_rise : ℕ → List SlotEntry → Bool

@@ -1,6 +1,7 @@
 //! The registry.
 ghost use Rattle.std.specs.Prelude.{◌≡◌, ◌+◌, ◌≤◌, ◌++◌, ℕ, None, All, IfOk, OnOk, length, map, nat_eq};
 ghost use Rattle.std.specs.List.{IsDistinct};
+ghost use Rattle.xfs_base.specs.Limits.{u32_end};
 ghost use Rattle.group_map.specs.Sizes.{IsParity, bad_size};
 ghost use Rattle.group_map.specs.WellFormed.{IsServer};
 ghost use Rattle.registry.specs.Board.{inc_of, has_room, may_lose, hears_manager, manager_hello, hears_server, server_hello, hello, can_move, reassign, is_kept, keep, done, transition, started, slot_news, all_news};
@@ -79,7 +80,7 @@ impl Board {
     /// differ, of a size that their parity allows.
     pub fn start(alloc: Global, setup: &Setup) -> Mem<Board>
         requires managers { 1 ≤ setup.now.managers }
-        requires count { (1 ≤ length setup.now.groups) × (length setup.now.groups ≤ 4294967295) }
+        requires count { (1 ≤ length setup.now.groups) × (length setup.now.groups ≤ u32_end) }
         requires exist { All (λ g. All (IsServer setup.now.servers) g.servers) setup.now.groups }
         requires differ { All (λ g. IsDistinct nat_eq g.servers) setup.now.groups }
         requires parity { All (λ g. IsParity g.parity) setup.now.groups }

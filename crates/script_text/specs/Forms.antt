@@ -4,6 +4,7 @@ use Rattle.std.specs.List.{list_all}
 use Rattle.std.specs.Str.{bytes_eq}
 use Rattle.xfs_base.specs.declared.block.BlockId.{BlockId}
 use Rattle.xfs_base.specs.declared.node.NodeId.TheVariants as nodes
+use Rattle.xfs_base.specs.Limits.{u32_end}
 use Rattle.version_model.specs.declared.work.Work.{Work}
 use Rattle.version_model.specs.declared.work.Work.TheVariants as works
 use Rattle.version_model.specs.declared.file_call.FileCall.TheVariants as calls
@@ -50,13 +51,13 @@ verb NetStep = codes "step"
 
 -- the parts of a line of each form, from left to right
 abbrev pub parts : Form → List Part
-parts Bput = part.Client ∷ part.Verb ∷ part.Raw ∷ part.Number 0 4294967295 ∷ part.BlockText ∷ []
-parts Bget = part.Client ∷ part.Verb ∷ part.Number 0 4294967295 ∷ part.Number 0 4294967295 ∷ []
+parts Bput = part.Client ∷ part.Verb ∷ part.Raw ∷ part.Number 0 u32_end ∷ part.BlockText ∷ []
+parts Bget = part.Client ∷ part.Verb ∷ part.Number 0 u32_end ∷ part.Number 0 u32_end ∷ []
 parts Sync = part.Client ∷ part.Verb ∷ []
 parts Mk = part.Client ∷ part.Verb ∷ part.Path ∷ []
 parts Mkdir = part.Client ∷ part.Verb ∷ part.Path ∷ []
-parts Put = part.Client ∷ part.Verb ∷ part.Path ∷ part.Number 0 4294967295 ∷ part.FileText ∷ []
-parts Get = part.Client ∷ part.Verb ∷ part.Path ∷ part.Number 0 4294967295 ∷ part.Number 0 65536 ∷ []
+parts Put = part.Client ∷ part.Verb ∷ part.Path ∷ part.Number 0 u32_end ∷ part.FileText ∷ []
+parts Get = part.Client ∷ part.Verb ∷ part.Path ∷ part.Number 0 u32_end ∷ part.Number 0 65536 ∷ []
 parts Size = part.Client ∷ part.Verb ∷ part.Path ∷ []
 parts Ls = part.Client ∷ part.Verb ∷ part.Path ∷ []
 parts Rm = part.Client ∷ part.Verb ∷ part.Path ∷ []
@@ -85,7 +86,12 @@ parts NetStep = part.Network ∷ part.Verb ∷ part.Number 0 20000 ∷ []
 
 -- all forms
 abbrev pub all_forms : List Form
-all_forms = Bput ∷ Bget ∷ Sync ∷ Mk ∷ Mkdir ∷ Put ∷ Get ∷ Size ∷ Ls ∷ Rm ∷ Mv ∷ ClientCrash ∷ ClientRestart ∷ CleanerCrash ∷ CleanerRestart ∷ Clean ∷ ManagerCrash ∷ ManagerRestart ∷ Checkpoint ∷ Lose ∷ Rebuild ∷ ServerStop ∷ ServerStart ∷ Move ∷ BoardStop ∷ BoardStart ∷ NetLose ∷ NetAgain ∷ NetMix ∷ NetHold ∷ NetGo ∷ NetStep ∷ []
+all_forms =
+    Bput ∷ Bget ∷ Sync ∷ Mk ∷ Mkdir ∷ Put ∷ Get ∷ Size ∷ Ls ∷ Rm ∷ Mv
+    ∷ ClientCrash ∷ ClientRestart ∷ CleanerCrash ∷ CleanerRestart ∷ Clean
+    ∷ ManagerCrash ∷ ManagerRestart ∷ Checkpoint
+    ∷ Lose ∷ Rebuild ∷ ServerStop ∷ ServerStart ∷ Move ∷ BoardStop ∷ BoardStart
+    ∷ NetLose ∷ NetAgain ∷ NetMix ∷ NetHold ∷ NetGo ∷ NetStep ∷ []
 
 -- the forms that speak of the network
 abbrev pub is_net : Form → Bool

@@ -10,6 +10,7 @@ use Rattle.xfs_base.specs.Blocks.{creator_of}
 use Rattle.xfs_base.specs.declared.setup.Setup.{Setup}
 use Rattle.xfs_base.specs.declared.setup.GroupSetup.{GroupSetup}
 use Rattle.xfs_base.specs.declared.node.NodeId.{NodeId}
+use Rattle.xfs_base.specs.Limits.{u32_end}
 use Rattle.version_model.specs.declared.work.Work.{Work}
 use Rattle.version_model.specs.declared.work.Work.TheVariants as works
 use Rattle.script_text.specs.declared.form.Form.{Form}
@@ -261,7 +262,7 @@ read_work c f ws = read_parts c (parts f) ws >>= λ v. Ok (work_of f v)
 
 -- the N of `after N`
 abbrev pub read_after : List (List ℕ) → Result ℕ Kind
-read_after ws = if is_timed ws then or_fault BadNumber (number_in 0 4294967295 (first (behind ws))) else Ok 0
+read_after ws = if is_timed ws then or_fault BadNumber (number_in 0 u32_end (first (behind ws))) else Ok 0
 
 -- the form of an item
 abbrev pub form_in : List (List ℕ) → Result Form Kind

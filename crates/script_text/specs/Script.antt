@@ -7,6 +7,7 @@ use Rattle.std.specs.Fmt.{decimal}
 use Rattle.xfs_base.specs.declared.setup.GroupSetup.{GroupSetup}
 use Rattle.xfs_base.specs.declared.node.NodeId.{NodeId}
 use Rattle.xfs_base.specs.declared.node.NodeId.TheVariants.{Client, Manager, Cleaner}
+use Rattle.xfs_base.specs.Limits.{u32_end}
 use Rattle.version_model.specs.declared.work.Work.{Work}
 use Rattle.version_model.specs.declared.work.Work.TheVariants as works
 use Rattle.version_model.specs.declared.file_call.FileCall.TheVariants as calls
@@ -37,7 +38,7 @@ untimed ws = if is_timed ws then or_empty (behind (behind ws)) else ws
 
 -- the N of `after N`
 abbrev pub a_time : Part
-a_time = part.Number 0 4294967295
+a_time = part.Number 0 u32_end
 
 -- the words are of this form; before one that speaks of the network no `after N` stands
 abbrev pub IsOfForm : List (List ℕ) → Form → Type 0

@@ -2,8 +2,3 @@ pub mod Clocks
 pub mod RegistryEvents
 pub mod Rebuilds
 pub mod ServerEvents
-pub mod CleanerClocks
-pub mod CleanerEvents
-pub mod EmptyingEvents
-pub mod Hands
-pub mod Jobs

@@ -8,6 +8,7 @@ use crate::server::Rebuilding;
 use group_rebuild::{In, Out};
 use node_base::Effects;
 use std::alloc::Global;
+use std::mem;
 use version_model::Answer;
 use wire_msg::{Body, Fetch, Found, ListAsk, Listed, Missing};
 use xfs_base::{List, Mem, NodeId, SegName};
@@ -20,6 +21,8 @@ impl Server {
         ensures effects { OnOk result (effects.new ≡ effects.old ++ (rebuilds self.old given).outs) }
     {
         let Some(rebuilding) = self.rebuilding.take() else {
+            // It is dropped by a call, here and below, so that each part of it is dropped in one proof.
+            drop(given);
             return Ok(());
         };
         self.goes_on(alloc, effects, rebuilding, given)
@@ -35,18 +38,17 @@ impl Server {
         ensures state { OnOk result (self.new ≡ (goes_on self.old (Some rebuilding) given).state) }
         ensures effects { OnOk result (effects.new ≡ effects.old ++ (goes_on self.old (Some rebuilding) given).outs) }
     {
-        let Rebuilding {
-            mut rebuild,
-            lists,
-            fetches,
-        } = rebuilding;
-        let outs = rebuild.take(alloc, given)?;
-        self.rebuilding = Some(Rebuilding {
-            rebuild,
-            lists,
-            fetches,
-        });
-        self.says_all(alloc, effects, outs)
+        let mut rebuilding = rebuilding;
+        match rebuilding.rebuild.take(alloc, given) {
+            Ok(outs) => {
+                drop(mem::replace(&mut self.rebuilding, Some(rebuilding)));
+                self.says_all(alloc, effects, outs)
+            }
+            Err(error) => {
+                drop(rebuilding);
+                Err(error)
+            }
+        }
     }
 
     fn says_all(&mut self, alloc: Global, effects: &mut Effects, outs: List<Out>) -> Mem<()>
@@ -72,7 +74,7 @@ impl Server {
                 Ok(())
             }
             Out::Finished(filled, gone) => {
-                self.rebuilding = None;
+                drop(self.rebuilding.take());
                 self.items.answer(effects, Answer::Rebuilt(filled, gone))
             }
         }
@@ -100,21 +102,13 @@ impl Server {
         ensures state { OnOk result (self.new ≡ (fetch_asked self.old self.old.rebuilding server name own).state) }
         ensures effects { OnOk result (effects.new ≡ effects.old ++ (fetch_asked self.old self.old.rebuilding server name own).outs) }
     {
-        let Some(rebuilding) = self.rebuilding.take() else {
-            return Ok(());
-        };
-        let Rebuilding {
-            rebuild,
-            lists,
-            mut fetches,
-        } = rebuilding;
-        let ask = fetches.number(&mut self.questions, own);
-        self.rebuilding = Some(Rebuilding {
-            rebuild,
-            lists,
-            fetches,
-        });
-        effects.send(NodeId::Server(server), Body::Fetch(Fetch { name, ask }))
+        match &mut self.rebuilding {
+            None => Ok(()),
+            Some(rebuilding) => {
+                let ask = rebuilding.fetches.number(&mut self.questions, own);
+                effects.send(NodeId::Server(server), Body::Fetch(Fetch { name, ask }))
+            }
+        }
     }
 
     /// A server says what it holds.

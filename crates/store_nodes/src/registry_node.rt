@@ -5,7 +5,7 @@ ghost use Rattle.wire_msg.specs.declared.body.Body.TheVariants.{Welcome as Welco
 ghost use Rattle.node_base.specs.declared.effects.Effect.TheVariants.{Send};
 ghost use Rattle.node_base.specs.Beginning.{work_at};
 ghost use Rattle.node_base.specs.Setups.{IsSetup};
-ghost use Rattle.store_nodes.specs.RegistryEvents.{registry_start, news_of, tells_all, moved, on_move, changed, welcome_of, welcomes, on_hello, kept, on_done, move_of, on_begin, hears, on_packet, on_event, takes};
+ghost use Rattle.store_nodes.specs.RegistryEvents.{registry_start, news_of, tells_all, moved, on_move, changed, welcome_of, welcomes, on_hello, kept, on_done, move_of, on_begin, hears, on_packet, on_event, takes, registry_step};
 
 use node_base::{Effects, Items, Peers, has_room, is_well_formed};
 use registry::{Board, In, Out};
@@ -31,10 +31,14 @@ impl Actor for RegistryNode {
 
     fn step(self, alloc: Global, what: &Do) -> Mem<(RegistryNode, List<Packet>, List<Act>)> {
         let mut node = self;
-        let mut effects = Effects::new(alloc);
-        node.takes(alloc, &mut effects, what)?;
-        let (packets, acts) = effects.into_parts(alloc, NodeId::Registry)?;
-        Ok((node, packets, acts))
+        // It is dropped by a call, so that each part of it is dropped in one proof.
+        match node.turn(alloc, what) {
+            Ok((packets, acts)) => Ok((node, packets, acts)),
+            Err(error) => {
+                drop(node);
+                Err(error)
+            }
+        }
     }
 
     ghost no_clock = { registry_sends_clock_0 };
@@ -65,6 +69,17 @@ impl RegistryNode {
         ensures { result.now ≡ self.now.items }
     {
         &self.items
+    }
+
+    // An event, with what the world sees of it.
+    fn turn(&mut self, alloc: Global, what: &Do) -> Mem<(List<Packet>, List<Act>)>
+        ensures state { OnOk result (self.new ≡ (registry_step self.old what.now).node) }
+        ensures packets { IfOk result (λ parts. parts.0 ≡ (registry_step self.old what.now).packets) }
+        ensures acts { IfOk result (λ parts. parts.1 ≡ (registry_step self.old what.now).acts) }
+    {
+        let mut effects = Effects::new(alloc);
+        self.takes(alloc, &mut effects, what)?;
+        effects.into_parts(alloc, NodeId::Registry)
     }
 
     // An event is taken where no counter is near its end.

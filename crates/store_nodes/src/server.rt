@@ -3,14 +3,14 @@ ghost use Rattle.std.specs.Prelude.{◌≡◌, ◌++◌, ◌∷◌, [], IfOk, On
 ghost use Rattle.node_base.specs.Beginning.{work_at};
 ghost use Rattle.node_base.specs.Setups.{IsSetup};
 ghost use Rattle.store_nodes.specs.Rebuilds.{server_in};
-ghost use Rattle.store_nodes.specs.ServerEvents.{server_start, hello_of, takes_news, on_news, left_hello, on_welcome, asks_for_maps, hears, hears_known, on_body, on_packet, on_lose, begins_rebuild, on_rebuild, wish_of, on_wish, on_begin, hello_again, on_tick, on_event, is_far_from_ends, takes};
+ghost use Rattle.store_nodes.specs.ServerEvents.{server_start, hello_of, takes_news, on_news, left_hello, on_welcome, asks_for_maps, hears, hears_known, on_body, on_packet, on_lose, begins_rebuild, on_rebuild, wish_of, on_wish, on_begin, hello_again, on_tick, on_event, is_far_from_ends, takes, server_step};
 
 use fragment_store::Shelf;
 use group_map::GroupMap;
 use group_rebuild::{In, Rebuild};
-pub(crate) use node_base::groups_of;
 use node_base::{
-    Asked, Effects, Items, Maps, Peers, Questions, has_room, is_well_formed, names_known_groups,
+    Asked, Effects, Items, Maps, Peers, Questions, groups_of, has_room, is_well_formed,
+    names_known_groups,
 };
 use std::alloc::Global;
 use std::mem;
@@ -60,11 +60,14 @@ impl Actor for Server {
 
     fn step(self, alloc: Global, what: &Do) -> Mem<(Server, List<Packet>, List<Act>)> {
         let mut node = self;
-        let id = NodeId::Server(node.number);
-        let mut effects = Effects::new(alloc);
-        node.takes(alloc, &mut effects, what)?;
-        let (packets, acts) = effects.into_parts(alloc, id)?;
-        Ok((node, packets, acts))
+        // It is dropped by a call, here and below, so that each part of it is dropped in one proof.
+        match node.turn(alloc, what) {
+            Ok((packets, acts)) => Ok((node, packets, acts)),
+            Err(error) => {
+                drop(node);
+                Err(error)
+            }
+        }
     }
 
     ghost no_clock = { server_sends_clock_0 };
@@ -104,6 +107,18 @@ impl Server {
         ensures { result.now ≡ self.now.items }
     {
         &self.items
+    }
+
+    // An event, with what the world sees of it.
+    fn turn(&mut self, alloc: Global, what: &Do) -> Mem<(List<Packet>, List<Act>)>
+        ensures state { OnOk result (self.new ≡ (server_step self.old what.now).node) }
+        ensures packets { IfOk result (λ parts. parts.0 ≡ (server_step self.old what.now).packets) }
+        ensures acts { IfOk result (λ parts. parts.1 ≡ (server_step self.old what.now).acts) }
+    {
+        let node = NodeId::Server(self.number);
+        let mut effects = Effects::new(alloc);
+        self.takes(alloc, &mut effects, what)?;
+        effects.into_parts(alloc, node)
     }
 
     // An event is taken where no counter is near its end.
@@ -228,8 +243,9 @@ impl Server {
         ensures effects { OnOk result (effects.new ≡ effects.old ++ (on_lose self.old number).outs) }
     {
         self.items.answer(effects, Answer::Cut)?;
-        self.rebuilding = None;
-        self.shelf = mem::replace(&mut self.shelf, Shelf::new(alloc)).lose();
+        drop(self.rebuilding.take());
+        let lost = mem::replace(&mut self.shelf, Shelf::new(alloc)).lose();
+        drop(mem::replace(&mut self.shelf, lost));
         effects.answer(number, Answer::Done)?;
         let ask = self.questions.draw();
         self.hello = Some(ask);
@@ -263,11 +279,12 @@ impl Server {
             return Ok(());
         };
         self.items.wait(number);
-        self.rebuilding = Some(Rebuilding {
+        let rebuilding = Rebuilding {
             rebuild: Rebuild::start(alloc, self.number, groups)?,
             lists: self.questions.draw(),
             fetches: Asked::new(),
-        });
+        };
+        drop(mem::replace(&mut self.rebuilding, Some(rebuilding)));
         self.rebuilds(alloc, effects, In::Tick)
     }
 
@@ -366,7 +383,7 @@ fn left_hello(hello: Option<u32>, ask: u32) -> Option<u32>
 }
 
 // The number of a server.
-pub(crate) fn server_in(node: NodeId) -> Option<u8>
+fn server_in(node: NodeId) -> Option<u8>
     ensures { result ≡ server_in node }
 {
     match node {

@@ -1,5 +1,5 @@
 -- What a client knows of one block, and how each event changes it.
-use Rattle.std.specs.Prelude.{ℕ, ◌+◌, ◌-◌, ◌^◌, Bool, false, ◌&&◌, ◌||◌, ◌==◌, nat_lt, nat_le, not, List, Option, Some, None, is_some, is_none, if◌then◌else◌}
+use Rattle.std.specs.Prelude.{ℕ, ◌+◌, Bool, false, ◌&&◌, ◌||◌, ◌==◌, nat_lt, nat_le, not, List, Option, Some, None, is_some, is_none, if◌then◌else◌}
 use Rattle.xfs_base.specs.declared.entry.Entry.{Entry}
 use Rattle.xfs_base.specs.declared.entry.Place.{Place}
 use Rattle.xfs_base.specs.declared.token.Mode.{Mode}
@@ -7,6 +7,7 @@ use Rattle.xfs_base.specs.declared.token.Mode.TheVariants.{Nothing, Copy, Own}
 use Rattle.xfs_base.specs.declared.token.Stamp.{Stamp}
 use Rattle.xfs_base.specs.Modes.{is_held, is_own, same_mode, allows}
 use Rattle.xfs_base.specs.Stamps.{is_later}
+use Rattle.xfs_base.specs.Limits.{u64_end}
 use Rattle.token_client.specs.declared.held.Fetch.{Fetch}
 use Rattle.token_client.specs.declared.held.Giving.{Giving}
 use Rattle.token_client.specs.declared.held.Held.{Held}
@@ -39,7 +40,7 @@ is_answer h stamp req mode = is_wanted h.want req mode && is_later stamp h.stamp
 
 -- whether the block may be written: it is owned and nobody waits to be given it
 abbrev pub may_write : Held → Bool
-may_write h = (is_own h.mode && is_none h.giving) && nat_lt h.ver (2 ^ 64 - 1)
+may_write h = (is_own h.mode && is_none h.giving) && nat_lt h.ver u64_end
 
 -- whether a version that is settled is news
 abbrev pub is_settled_by : Held → ℕ → Bool

@@ -77,8 +77,10 @@ NumbersRise = (s : TokensState) (inputs : List In) → IsSound s → s.req ≤ (
 
 -- A want or a fetch is open only where one was open before or a call needed the block since.
 abbrev pub OpensByNeed : Type 0
-OpensByNeed = (s : TokensState) (inputs : List In) (block : BlockId) → IsSound s → is_asking (held_of (state_after s inputs).blocks block) ≡ true → (is_asking (held_of s.blocks block) ≡ true) ⊎ (list_any (needs block) inputs ≡ true)
+OpensByNeed = (s : TokensState) (inputs : List In) (block : BlockId) → IsSound s → is_asking (held_of (state_after s inputs).blocks block) ≡ true
+    → (is_asking (held_of s.blocks block) ≡ true) ⊎ (list_any (needs block) inputs ≡ true)
 
 -- The version of a dirty block doesn't fall: what of the block is in flight stays at most its version.
 abbrev pub DirtyVersionsNeverFall : Type 0
-DirtyVersionsNeverFall = (s : TokensState) (input : In) (block : BlockId) → IsSound s → is_dirty (held_of s.blocks block) ≡ true → (held_of s.blocks block).ver ≤ (held_of (transition s input).state.blocks block).ver
+DirtyVersionsNeverFall = (s : TokensState) (input : In) (block : BlockId) → IsSound s → is_dirty (held_of s.blocks block) ≡ true
+    → (held_of s.blocks block).ver ≤ (held_of (transition s input).state.blocks block).ver

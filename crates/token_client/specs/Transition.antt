@@ -1,5 +1,5 @@
 -- What the tokens of a client do on each input: one definition for each, named for it.
-use Rattle.std.specs.Prelude.{ℕ, ◌+◌, ◌-◌, ◌^◌, Bool, false, ◌&&◌, ◌||◌, ◌==◌, nat_lt, nat_le, List, [], ◌∷◌, Option, Some, None, is_some, is_none, if◌then◌else◌, map, length, slice_set}
+use Rattle.std.specs.Prelude.{ℕ, ◌+◌, ◌-◌, Bool, false, ◌&&◌, ◌||◌, ◌==◌, nat_lt, nat_le, List, [], ◌∷◌, Option, Some, None, is_some, is_none, if◌then◌else◌, map, length, slice_set}
 use Rattle.std.specs.List.{filter, list_any}
 use Rattle.std.specs.Map.{keys_of, values_of}
 use Rattle.xfs_base.specs.declared.block.BlockId.{BlockId}
@@ -12,6 +12,7 @@ use Rattle.xfs_base.specs.Blocks.{slot_of}
 use Rattle.xfs_base.specs.Steps.{Stepped, still, after, steps}
 use Rattle.xfs_base.specs.Modes.{same_mode, is_own}
 use Rattle.xfs_base.specs.Stamps.{is_later}
+use Rattle.xfs_base.specs.Limits.{u32_end}
 use Rattle.token_client.specs.declared.held.Held.{Held}
 use Rattle.token_client.specs.declared.held.Wanted.{Wanted}
 use Rattle.token_client.specs.declared.input.In.{In}
@@ -32,7 +33,7 @@ is_promised s block stamp = epoch_of s.epochs (slot_of block.ino.0) == stamp.epo
 -- A new want, with the next number. Where there is no next number, nothing happens.
 unfoldable pub new_want : TokensState → BlockId → Mode → Done
 new_want s block mode =
-    if nat_lt s.req (2 ^ 32 - 1)
+    if nat_lt s.req u32_end
     then record { state = record (with_held s block (asked (held_of s.blocks block) (s.req + 1) mode)) { req = s.req + 1 }; outs = Want block (s.req + 1) 0 mode ∷ [] }
     else still s
 
@@ -95,7 +96,7 @@ give s block stamp keep =
 
 -- whether a fetch could be asked for again
 abbrev pub can_refetch : TokensState → BlockId → Bool
-can_refetch s block = is_none (held_of s.blocks block).fetch || nat_lt s.req (2 ^ 32 - 1)
+can_refetch s block = is_none (held_of s.blocks block).fetch || nat_lt s.req u32_end
 
 -- A recall above the block's stamp drops the fetch, whose call wants again, and has the block given.
 unfoldable pub recalled_above : TokensState → BlockId → Stamp → Bool → Done
@@ -170,7 +171,7 @@ ask_copy s block = new_want s block Copy
 
 -- whether an epoch is at least the promised one, and there are numbers for all wants that it makes new
 abbrev pub may_promise : TokensState → ℕ → ℕ → Bool
-may_promise s slot epoch = (nat_lt slot 8 && nat_le (epoch_of s.epochs slot) epoch) && nat_le (length (fetched_in slot s.blocks)) (2 ^ 32 - 1 - s.req)
+may_promise s slot epoch = (nat_lt slot 8 && nat_le (epoch_of s.epochs slot) epoch) && nat_le (length (fetched_in slot s.blocks)) (u32_end - s.req)
 
 -- A promise drops fetch and giving of the slot's blocks; calls whose fetch was dropped want again.
 unfoldable pub on_promise : TokensState → ℕ → ℕ → Done
@@ -183,7 +184,7 @@ wanted_in blocks = keys_of (filter (λ e. is_some e.1.want) blocks)
 -- whether a want can't be counted once more
 abbrev pub is_spent : Option Wanted → Bool
 is_spent None = false
-is_spent (Some w) = w.again == 2 ^ 32 - 1
+is_spent (Some w) = w.again == u32_end
 
 abbrev pub repeated : TokensState → BlockId → Option Wanted → Done
 repeated s block None = still s

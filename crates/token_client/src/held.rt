@@ -1,5 +1,6 @@
 //! What a client knows of one block.
-ghost use Rattle.std.specs.Prelude.{◌≡◌, ◌<◌, ◌^◌, ◌-◌};
+ghost use Rattle.std.specs.Prelude.{◌≡◌, ◌<◌};
+ghost use Rattle.xfs_base.specs.Limits.{u64_end};
 ghost use Rattle.token_client.specs.Held.{gives_after};
 
 use xfs_base::{Crosses, Entry, Mode, Place, Stamp, Value};
@@ -236,7 +237,7 @@ impl Held {
 
     /// Takes a new version.
     pub(crate) fn write(&mut self, value: Value)
-        requires { self.old.ver < 2 ^ 64 - 1 }
+        requires { self.old.ver < u64_end }
         ensures { self.new ≡ written self.old value }
     {
         self.ver += 1;

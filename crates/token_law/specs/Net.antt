@@ -1,13 +1,14 @@
 -- A small world of token machines: the tokens of clients, the slots of all managers that one slot of the map had, each under its epoch (deposed ones
 -- go on), and the packets that were sent, of which any may come any number of times, in any order, or never.
 -- Logs aren't trusted here: Deltas may tell anything, and a version may be told settled at any time.
-use Rattle.std.specs.Prelude.{◌≡◌, ℕ, ◌-◌, ◌^◌, ◌<◌, ◌≤◌, Bool, true, false, nat_lt, List, [], ◌∷◌, ◌++◌, length, Option, Some, None, All, Contains}
+use Rattle.std.specs.Prelude.{◌≡◌, ℕ, ◌-◌, ◌<◌, ◌≤◌, Bool, true, false, nat_lt, List, [], ◌∷◌, ◌++◌, length, Option, Some, None, All, Contains}
 use Rattle.xfs_base.specs.declared.block.BlockId.{BlockId}
 use Rattle.xfs_base.specs.declared.entry.Entry.{Entry}
 use Rattle.xfs_base.specs.declared.token.Mode.{Mode}
 use Rattle.xfs_base.specs.declared.token.Mode.TheVariants.{Copy, Own}
 use Rattle.xfs_base.specs.declared.segment.LogId.{LogId}
 use Rattle.xfs_base.specs.declared.token.Stamp.{Stamp}
+use Rattle.xfs_base.specs.Limits.{u64_end}
 use Rattle.token_client.specs.declared.input.In as inputs
 use Rattle.token_client.specs.declared.input.In.TheVariants as input
 use Rattle.token_client.specs.declared.output.Out as outputs
@@ -116,7 +117,7 @@ pub data Happens (members part : ℕ) : Net → Net → Type 0 where
       → Happens members part n (after_client n c end (client.transition (n.tokens c) (input.Granted block stamp inc req Copy entry)))
   -- a client gets a Grant to own that it accepts, and writes in the same event
   GetsOwn : {n : Net} (c end : ℕ) (block : BlockId) (stamp : Stamp) (inc req : ℕ) (entry : Entry) (value : Option (List ℕ)) → 0 < c → c < members → n.up c ≡ true → In (GrantSent c block stamp inc req Own entry) n.sent
-      → client.accepts (n.tokens c) block stamp inc req Own ≡ true → nat_lt entry.ver (2 ^ 64 - 1) ≡ true → Happens members part n (after_client n c end (granted_and_wrote (n.tokens c) stamp inc req block entry value))
+      → client.accepts (n.tokens c) block stamp inc req Own ≡ true → nat_lt entry.ver u64_end ≡ true → Happens members part n (after_client n c end (granted_and_wrote (n.tokens c) stamp inc req block entry value))
   -- a client gets a Grant to own that it accepts, and lets it go in the same event
   Declines : {n : Net} (c end : ℕ) (block : BlockId) (stamp : Stamp) (inc req : ℕ) (entry : Entry) → 0 < c → c < members → n.up c ≡ true → In (GrantSent c block stamp inc req Own entry) n.sent
       → client.accepts (n.tokens c) block stamp inc req Own ≡ true → Happens members part n (after_client n c end (granted_and_evicted (n.tokens c) stamp inc req block entry))

@@ -8,6 +8,7 @@ use Rattle.xfs_base.specs.declared.block.BlockId.{BlockId}
 use Rattle.xfs_base.specs.declared.entry.Entry.{Entry}
 use Rattle.xfs_base.specs.declared.entry.Place.{Place}
 use Rattle.xfs_base.specs.declared.segment.SegName.{SegName}
+use Rattle.xfs_base.specs.Limits.{u32_end}
 use Rattle.delta_index.specs.Entries.{is_newer}
 use Rattle.delta_index.specs.Index.{entry_of, merged}
 use Rattle.usage_table.specs.Counts.{IsTable, count_of, blocks_at, after_shift}
@@ -71,7 +72,7 @@ indexed_all i (m ∷ ms) = indexed_all (indexed i m) ms
 -- whether a count can rise by so many
 abbrev pub can_rise : ℕ → List (SegName × ℕ) → Option SegName → Bool
 can_rise more usage None = true
-can_rise more usage (Some seg) = nat_le more (2 ^ 32 - 1 - count_of usage seg)
+can_rise more usage (Some seg) = nat_le more (u32_end - count_of usage seg)
 
 -- whether each segment of these rows can get as many live blocks more as there are rows
 abbrev pub has_room : ℕ → List (SegName × ℕ) → List (BlockId × Entry) → Bool

@@ -1,7 +1,8 @@
 //! Where the blocks of a slot lie, in pages, and how many of them live in each segment. All that a slot does
 //! with its index is here.
-ghost use Rattle.std.specs.Prelude.{◌≡◌, ◌<◌, ◌-◌, ◌^◌, OnOk, IfOk, length};
+ghost use Rattle.std.specs.Prelude.{◌≡◌, ◌<◌, OnOk, IfOk, length};
 ghost use Rattle.std.specs.Option.{ForSome};
+ghost use Rattle.xfs_base.specs.Limits.{u32_end};
 ghost use Rattle.usage_table.specs.Counts.{count_of};
 ghost use Rattle.delta_index.specs.Index.{entry_of};
 ghost use Rattle.token_manager.specs.Index.{Indexed, nothing_indexed, pages_of, cleaned_index, segment_of, indexed, indexed_all, can_rise, has_room, Fits, IsCounted};
@@ -102,7 +103,7 @@ impl BlockIndex {
     // One entry is merged, and the counts follow. Where memory is wanting in between, both are given up.
     #[tactic(auto, unfolding(crate::specs::Index::indexed))]
     fn merge(&mut self, alloc: Global, row: (BlockId, Entry)) -> Mem<()>
-        requires { ForSome (segment_of row.1) (λ seg. count_of self.old.usage seg < 2 ^ 32 - 1) }
+        requires { ForSome (segment_of row.1) (λ seg. count_of self.old.usage seg < u32_end) }
         ensures ok { OnOk result (self.new ≡ indexed self.old row) }
         ensures counted { OnOk result (IsCounted self.old × IsCounted self.new) }
     {

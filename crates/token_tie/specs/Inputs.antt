@@ -1,5 +1,5 @@
 -- What a client's tokens need of the world when they take an input, and the laws.
-use Rattle.std.specs.Prelude.{◌≡◌, ℕ, ◌-◌, ◌^◌, ◌≤◌, Bool, true, false, nat_lt, List, Option}
+use Rattle.std.specs.Prelude.{◌≡◌, ℕ, ◌≤◌, Bool, true, false, nat_lt, List, Option}
 use Rattle.xfs_base.specs.declared.block.BlockId.{BlockId}
 use Rattle.xfs_base.specs.declared.entry.Entry.{Entry}
 use Rattle.xfs_base.specs.declared.entry.Place.{Place}
@@ -7,6 +7,7 @@ use Rattle.xfs_base.specs.declared.token.Mode.{Mode}
 use Rattle.xfs_base.specs.declared.token.Mode.TheVariants.{Nothing, Copy, Own}
 use Rattle.xfs_base.specs.declared.token.Stamp.{Stamp}
 use Rattle.xfs_base.specs.Steps.{after}
+use Rattle.xfs_base.specs.Limits.{u64_end}
 use Rattle.token_client.specs.declared.input.In as inputs
 use Rattle.token_client.specs.declared.input.In.TheVariants.{Need, Granted, Supplied, Forwarded, Recalled, Wrote, Settled, Fetched, Evict, Reask, Quit, Promise, Tick}
 use Rattle.token_client.specs.Held.{is_settled_by}
@@ -73,7 +74,7 @@ abbrev pub OwnsAndWrites : Type 0
 OwnsAndWrites =
     (logs : Bool) (g : Setting) (end : ℕ) (w : World) (s : TokensState) (stamp : Stamp) (inc req : ℕ) (entry : Entry) (value : Option (List ℕ))
     → Ready logs g end w s → SentOffer g.client w stamp inc req Own (entry_seen entry)
-    → accepts s g.block stamp inc req Own ≡ true → nat_lt entry.ver (2 ^ 64 - 1) ≡ true
+    → accepts s g.block stamp inc req Own ≡ true → nat_lt entry.ver u64_end ≡ true
     → Took logs g end w (granted_and_wrote s stamp inc req g.block entry value)
 
 -- a grant to own, let go unwritten

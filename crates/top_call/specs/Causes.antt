@@ -1,9 +1,10 @@
 -- When a fault may be answered.
-use Rattle.std.specs.Prelude.{ℕ, ◌+◌, ◌-◌, ◌^◌, ◌≤◌, min, Result, OnErr}
+use Rattle.std.specs.Prelude.{ℕ, ◌+◌, ◌≤◌, min, Result, OnErr}
+use Rattle.xfs_base.specs.Limits.{u64_end}
 
 -- one more, but for a count that stands at the end of u64
 abbrev pub next_count : ℕ → ℕ
-next_count n = min (n + 1) (2 ^ 64 - 1)
+next_count n = min (n + 1) u64_end
 
 -- a count rose, or stands at the end of u64
 abbrev pub Rose : ℕ → ℕ → Type 0

@@ -1,5 +1,5 @@
 -- What clients that are back have lost: each block whose history got shorter, and the version to which it fell.
-use Rattle.std.specs.Prelude.{ℕ, ◌+◌, ◌-◌, ◌^◌, min, Bool, nat_lt, List, [], ◌∷◌, ◌++◌, map, unwrap_or, if◌then◌else◌}
+use Rattle.std.specs.Prelude.{ℕ, ◌+◌, min, Bool, nat_lt, List, [], ◌∷◌, ◌++◌, map, unwrap_or, if◌then◌else◌}
 use Rattle.std.specs.List.{fold}
 use Rattle.std.specs.Map.{lookup, remove_entry}
 use Rattle.std.specs.BTreeMap.{is_at, insert_entry}
@@ -12,6 +12,7 @@ use Rattle.version_model.specs.Effects.{holds_flight}
 use Rattle.xfs_base.specs.Blocks.{block_cmp}
 use Rattle.xfs_base.specs.declared.block.BlockId.{BlockId}
 use Rattle.xfs_base.specs.declared.segment.SegName.{SegName}
+use Rattle.xfs_base.specs.Limits.{u64_end}
 use Rattle.transcript.specs.declared.falls.Fallen.{Fallen}
 
 -- a number for each of some blocks, in order of blocks
@@ -35,7 +36,7 @@ count_of versions block = unwrap_or (lookup (is_at (block_cmp block)) versions) 
 
 -- one more, but for a count that stands at the end of u64
 abbrev pub one_more : ℕ → ℕ
-one_more n = min (n + 1) (2 ^ 64 - 1)
+one_more n = min (n + 1) u64_end
 
 abbrev pub with_version : ByBlock → BlockId → ByBlock
 with_version versions block = insert_entry block_cmp versions block (one_more (count_of versions block))

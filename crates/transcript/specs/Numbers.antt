@@ -1,5 +1,5 @@
 -- How many lines of each node came so far.
-use Rattle.std.specs.Prelude.{◌≡◌, ℕ, ◌-◌, ◌^◌, min, List, Option, Some, None, unwrap_or}
+use Rattle.std.specs.Prelude.{◌≡◌, ℕ, min, List, Option, Some, None, unwrap_or}
 use Rattle.std.specs.List.{count_by}
 use Rattle.std.specs.Map.{lookup}
 use Rattle.std.specs.BTreeMap.{is_at, insert_entry}
@@ -7,6 +7,7 @@ use Rattle.script_text.specs.declared.script.Line.{Line}
 use Rattle.world_base.specs.Items.{actor_of, is_for, works_of}
 use Rattle.xfs_base.specs.declared.node.NodeId.{NodeId}
 use Rattle.xfs_base.specs.Nodes.{node_cmp}
+use Rattle.xfs_base.specs.Limits.{u32_end}
 use Rattle.transcript.specs.Text.{number_behind}
 
 -- the number of each node's last item, in order of nodes; at most the greatest number
@@ -32,4 +33,4 @@ behind_line numbers line = behind_item numbers (actor_of line.work)
 
 -- the numbers are those of the lines that came so far
 abbrev pub AreOf : Numbers → List Line → Type 0
-AreOf numbers before = (node : NodeId) → last_of numbers node ≡ min (count_by (is_for node) (works_of before)) (2 ^ 32 - 1)
+AreOf numbers before = (node : NodeId) → last_of numbers node ≡ min (count_by (is_for node) (works_of before)) u32_end

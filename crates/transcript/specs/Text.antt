@@ -1,5 +1,5 @@
 -- The text of an estate: a line for each item, with its answer; then the acts, where the script asks for them; then the end line.
-use Rattle.std.specs.Prelude.{ℕ, ◌+◌, ◌-◌, ◌^◌, min, Bool, List, [], ◌∷◌, ◌++◌, codes, Option, Some, None, if◌then◌else◌}
+use Rattle.std.specs.Prelude.{ℕ, ◌+◌, min, Bool, List, [], ◌∷◌, ◌++◌, codes, Option, Some, None, if◌then◌else◌}
 use Rattle.std.specs.List.{count_by}
 use Rattle.std.specs.Fmt.{decimal}
 use Rattle.act_text.specs.Acts.{acts_text}
@@ -11,13 +11,14 @@ use Rattle.version_model.specs.declared.answer.Answer.{Answer}
 use Rattle.world_base.specs.declared.estate.Estate.{Estate}
 use Rattle.world_base.specs.Items.{actor_of, is_for, works_of}
 use Rattle.xfs_base.specs.declared.node.NodeId.{NodeId}
+use Rattle.xfs_base.specs.Limits.{u32_end}
 use Rattle.transcript.specs.declared.falls.Fallen.{Fallen}
 use Rattle.transcript.specs.declared.replies.Reply.{Reply}
 use Rattle.transcript.specs.Replies.{Table, answer_at, items_in, open_items, replies_of, reply_of}
 
 -- the number of an item of a node, where so many lines of the node stand before it
 abbrev pub number_behind : ℕ → ℕ
-number_behind count = min (count + 1) (2 ^ 32 - 1)
+number_behind count = min (count + 1) u32_end
 
 -- the number of the item that a line of a node behind these lines is: it counts the node's lines up to it
 abbrev pub number_of : List Line → NodeId → ℕ

@@ -1,10 +1,11 @@
 //! The table of live blocks.
-ghost use Rattle.std.specs.Prelude.{◌≡◌, ◌≢◌, ◌<◌, ◌+◌, ◌-◌, ◌^◌, ◌↔◌, ℕ, [], OnOk, OnErr, IfOk, Some, Contains};
+ghost use Rattle.std.specs.Prelude.{◌≡◌, ◌≢◌, ◌<◌, ◌+◌, ◌↔◌, ℕ, [], OnOk, OnErr, IfOk, Some, Contains};
 ghost use Rattle.std.specs.Option.{ForSome};
 ghost use Rattle.std.specs.List.Sorted.{IsStrictlySortedBy};
 ghost use Rattle.std.specs.Map.{keys_of};
 ghost use Rattle.xfs_base.specs.Segments.{seg_cmp};
 ghost use Rattle.xfs_base.specs.declared.segment.SegName.{SegName};
+ghost use Rattle.xfs_base.specs.Limits.{u32_end};
 ghost use Rattle.usage_table.specs.Counts.{count_of, blocks_at, is_same, with_one_more, with_one_less, after_shift};
 
 use std::alloc::Global;
@@ -48,7 +49,7 @@ impl Usage {
     /// less than 4,294,967,295. Where memory is wanting the table is unchanged.
     pub fn shift(&mut self, _alloc: Global, from: Option<SegName>, to: Option<SegName>) -> Mem<()>
         requires held { ForSome from (λ seg. 0 < count_of self.old seg) }
-        requires room { ForSome to (λ seg. from ≢ Some seg → count_of self.old seg < 2 ^ 32 - 1) }
+        requires room { ForSome to (λ seg. from ≢ Some seg → count_of self.old seg < u32_end) }
         ensures moved { OnOk result (self.new ≡ after_shift self.old from to) }
         ensures counted { OnOk result ((seg : SegName)
             → count_of self.new seg + blocks_at from seg ≡ count_of self.old seg + blocks_at to seg) }
@@ -108,7 +109,7 @@ fn listed(alloc: Global, counts: &BTreeMap<SegName, u32>) -> Mem<List<(SegName, 
 
 // Memory is taken here, before anything changes, and for a new segment alone.
 fn give(counts: &mut BTreeMap<SegName, u32>, to: Option<SegName>) -> Mem<()>
-    requires { ForSome to (λ seg. count_of counts.old.entries seg < 2 ^ 32 - 1) }
+    requires { ForSome to (λ seg. count_of counts.old.entries seg < u32_end) }
     ensures ok { OnOk result (counts.new.entries ≡ with_one_more counts.old.entries to) }
     ensures err { OnErr result (counts.new.entries ≡ counts.old.entries) }
 {

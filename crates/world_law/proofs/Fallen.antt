@@ -1,7 +1,6 @@
 -- While a client that fell with a block isn't back, no client holds the block: so it is in the small world, in which its tokens have the block dirty.
 use Rattle.std.proofs.Common.{◌≡◌, ℕ, ◌<◌, ◌==◌, true, false, Some, subst, arith}
 use Rattle.std.proofs.lemmas.Bool.Decides.{nat_tests}
-use Rattle.node_base.specs.Setups.{IsSetup}
 use Rattle.node_tie.specs.RegistryEvents.{RegistrySound}
 use Rattle.token_client.specs.State.{TokensState, held_of}
 use Rattle.token_law.proofs.Promises.{with_promise}
@@ -13,11 +12,10 @@ use Rattle.world_law.proofs.Falls.{WaitsDirty}
 use Rattle.world_law.proofs.Laws.{GoodWorld, NodeLaws, ServesThere, front, serves_there}
 use Rattle.world_law.proofs.RegistryTurns.{slot_below}
 use Rattle.world_law.proofs.Standing.{Scene, Stands, members}
-use Rattle.world_law.specs.Fallen.{HasFallen, NobodyHolds, NobodyHoldsWhatFell}
-use Rattle.world_law.specs.Owners.{moment, node_in, tokens_at, tokens_of}
+use Rattle.world_law.specs.Fallen.{NobodyHolds, NobodyHoldsWhatFell}
+use Rattle.world_law.specs.Owners.{moment, node_in, tokens_of}
 use Rattle.core_world.specs.declared.any_node.AnyNode.{AnyNode}
 use Rattle.xfs_base.specs.Blocks.{slot_of}
-use Rattle.xfs_base.specs.declared.block.BlockId.{BlockId}
 use Rattle.xfs_base.specs.declared.node.NodeId.TheVariants.{Client}
 use Rattle.xfs_base.specs.Modes.{is_held}
 

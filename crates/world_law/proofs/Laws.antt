@@ -18,7 +18,7 @@ use Rattle.node_tie.specs.ManagerEvents.{FirstManagerAgrees, ManagerEventGoes, M
 use Rattle.node_tie.specs.RegistryEvents.{RegistryEventGoes, RegistryGoes, RegistrySound, RegistryStarts}
 use Rattle.node_tie.specs.Sight.{ManagerDoes}
 use Rattle.node_tie.specs.StoreEvents.{ServersSay}
-use Rattle.store_nodes.specs.CleanerEvents as cleaners
+use Rattle.cleaner_node.specs.CleanerEvents as cleaners
 use Rattle.store_nodes.specs.declared.server.Server.{Server as ServerNode}
 use Rattle.token_client.specs.State.{TokensState, held_of}
 use Rattle.token_law.proofs.Promises.{with_promise}

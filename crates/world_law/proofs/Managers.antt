@@ -14,8 +14,8 @@ use Rattle.node_tie.specs.CleanerEvents.{CleanerStands}
 use Rattle.node_tie.specs.ManagerEvents.{HeldAt, PhaseAgrees, SameButPages, phase_at, slot_in}
 use Rattle.node_tie.specs.RegistryEvents.{RegistrySound}
 use Rattle.node_tie.specs.Sight.{GrantSeen}
-use Rattle.store_nodes.specs.declared.cleaner.Phase.{Phase as CleanerPhase}
-use Rattle.store_nodes.specs.declared.cleaner.Phase.TheVariants as cleaners
+use Rattle.cleaner_node.specs.declared.cleaner.Phase.{Phase as CleanerPhase}
+use Rattle.cleaner_node.specs.declared.cleaner.Phase.TheVariants as cleaners
 use Rattle.token_client.specs.State.{TokensState, epoch_of, held_of, is_in_slot}
 use Rattle.token_client.specs.Transition.{accepts}
 use Rattle.token_law.proofs.Promises.{with_promise}

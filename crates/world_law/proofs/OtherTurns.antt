@@ -11,10 +11,10 @@ use Rattle.node_tie.proofs.StoreServer.{server_from}
 use Rattle.node_tie.specs.CleanerEvents.{CleanerDoes, CleanerGoes, CleanerWelcomed}
 use Rattle.node_tie.specs.Sight.{ServerSends}
 use Rattle.node_tie.specs.StoreEvents.{PacketsSay}
-use Rattle.store_nodes.specs.CleanerEvents.{Went_to, lasting_of}
-use Rattle.store_nodes.specs.declared.cleaner.Cleaner.{Cleaner as CleanerNode}
-use Rattle.store_nodes.specs.declared.cleaner.Phase.{Phase}
-use Rattle.store_nodes.specs.declared.cleaner.Phase.TheVariants.{Down, Opening, Serving as Serves}
+use Rattle.cleaner_node.specs.CleanerEvents.{Went_to, lasting_of}
+use Rattle.cleaner_node.specs.declared.cleaner.Cleaner.{Cleaner as CleanerNode}
+use Rattle.cleaner_node.specs.declared.cleaner.Phase.{Phase}
+use Rattle.cleaner_node.specs.declared.cleaner.Phase.TheVariants.{Down, Opening, Serving as Serves}
 use Rattle.store_nodes.specs.declared.registry_node.RegistryNode.{RegistryNode}
 use Rattle.store_nodes.specs.declared.server.Server.{Server as ServerNode}
 use Rattle.store_nodes.specs.ServerEvents.{server_step}

@@ -13,8 +13,8 @@ use Rattle.node_tie.specs.CleanerEvents.{CleanerStands, CleanerWelcomed}
 use Rattle.node_tie.specs.ClientEvents.{WelcomeRises}
 use Rattle.node_tie.specs.ManagerEvents.{HeldAt, slot_in}
 use Rattle.node_tie.specs.RegistryEvents.{HearsHello, NewsAre, RegistryGoes, RegistrySends, RegistrySound, Welcomes, epoch_in, inc_in, manager_in}
-use Rattle.store_nodes.specs.declared.cleaner.Phase.{Phase as CleanerPhase}
-use Rattle.store_nodes.specs.declared.cleaner.Phase.TheVariants as cleaners
+use Rattle.cleaner_node.specs.declared.cleaner.Phase.{Phase as CleanerPhase}
+use Rattle.cleaner_node.specs.declared.cleaner.Phase.TheVariants as cleaners
 use Rattle.store_nodes.specs.declared.registry_node.RegistryNode.{RegistryNode}
 use Rattle.store_nodes.specs.RegistryEvents.{registry_step}
 use Rattle.token_client.specs.State.{epoch_of}

@@ -15,8 +15,8 @@ use Rattle.node_tie.specs.ManagerEvents.{ManagerAgrees, HeldAt, epoch_in, slot_i
 use Rattle.node_tie.specs.Sight.{ClientSends, CleanerSends, ManagerSends, ServerSends}
 use Rattle.registry.specs.Board.{inc_of}
 use Rattle.registry.specs.Slots.{entry_of}
-use Rattle.store_nodes.specs.CleanerEvents as cleaners
-use Rattle.store_nodes.specs.declared.cleaner.Cleaner.{Cleaner as CleanerNode}
+use Rattle.cleaner_node.specs.CleanerEvents as cleaners
+use Rattle.cleaner_node.specs.declared.cleaner.Cleaner.{Cleaner as CleanerNode}
 use Rattle.store_nodes.specs.declared.registry_node.RegistryNode.{RegistryNode}
 use Rattle.store_nodes.specs.declared.server.Server.{Server as ServerNode}
 use Rattle.token_law.proofs.Promises.{with_promise}

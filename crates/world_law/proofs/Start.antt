@@ -18,7 +18,7 @@ use Rattle.node_tie.specs.ClientEvents.{ClientAgrees}
 use Rattle.node_tie.specs.ManagerEvents.{FirstManagerAgrees, HeldAt}
 use Rattle.node_tie.specs.RegistryEvents.{RegistryBegins, RegistrySound, manager_in}
 use Rattle.script_text.specs.declared.script.Script.{Script}
-use Rattle.store_nodes.specs.CleanerEvents.{cleaner_start}
+use Rattle.cleaner_node.specs.CleanerEvents.{cleaner_start}
 use Rattle.store_nodes.specs.RegistryEvents.{registry_start}
 use Rattle.token_client.specs.State.{epoch_of}
 use Rattle.token_law.specs.Net.{opening}

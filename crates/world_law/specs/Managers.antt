@@ -9,8 +9,8 @@ use Rattle.manager_node.specs.declared.slot_phase.SlotPhase.TheVariants as phase
 use Rattle.node_base.specs.Setups.{IsSetup}
 use Rattle.node_tie.specs.ManagerEvents.{slot_in}
 use Rattle.registry.specs.Slots.{entry_of}
-use Rattle.store_nodes.specs.declared.cleaner.Phase.{Phase as CleanerPhase}
-use Rattle.store_nodes.specs.declared.cleaner.Phase.TheVariants as cleaners
+use Rattle.cleaner_node.specs.declared.cleaner.Phase.{Phase as CleanerPhase}
+use Rattle.cleaner_node.specs.declared.cleaner.Phase.TheVariants as cleaners
 use Rattle.token_client.specs.State.{TokensState, epoch_of, held_of, is_in_slot}
 use Rattle.token_client.specs.Transition.{accepts}
 use Rattle.token_manager.specs.Laws.{share_of}

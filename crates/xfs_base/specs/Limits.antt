@@ -1,5 +1,5 @@
 -- The limits that a run keeps, each stated once.
-use Rattle.std.specs.Prelude.{ℕ}
+use Rattle.std.specs.Prelude.{ℕ, ◌^◌, ◌-◌}
 
 -- the most bytes that the value of a block may have
 abbrev pub max_value : ℕ
@@ -24,6 +24,10 @@ max_bytes = 1048576
 -- the greatest number of a u32
 abbrev pub u32_end : ℕ
 u32_end = 4294967295
+
+-- the greatest number of a u64
+abbrev pub u64_end : ℕ
+u64_end = 2 ^ 64 - 1
 
 -- how far below its type's end each counter of a node stands before the node takes an event
 abbrev pub counter_room : ℕ

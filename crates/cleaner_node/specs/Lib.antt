@@ -1,0 +1,5 @@
+pub mod CleanerClocks
+pub mod CleanerEvents
+pub mod EmptyingEvents
+pub mod Hands
+pub mod Jobs
