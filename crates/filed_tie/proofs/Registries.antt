@@ -33,6 +33,7 @@ use Rattle.xfs_base.specs.declared.node.NodeId.{NodeId}
 use Rattle.xfs_base.specs.declared.node.NodeId.TheVariants.{Client, Manager, Server, Cleaner, Registry}
 use Rattle.xfs_base.specs.declared.segment.SegRef.{SegRef}
 use Rattle.xfs_base.specs.declared.setup.Setup.{Setup}
+use Rattle.xfs_base.specs.Limits.{u32_end}
 use Rattle.xfs_base.specs.Steps.{still}
 use Rattle.filed_tie.proofs.Frames.{all_append, all_map}
 use Rattle.filed_tie.specs.Bounds.{Bounds, RegistryBounded, NewEpochsBounded, NewsBounded, BodyBounded, PacketBounded, DoBounded}
@@ -111,7 +112,7 @@ module _ (b : Bounds) where
         → BoardBounded (keep s slot epoch parts horizon).state
     unfolding keep
     keeps slot epoch parts horizon is told =
-        by_test (λ (m : Made). BoardBounded m.state) (s.version == 4294967295) (still s)
+        by_test (λ (m : Made). BoardBounded m.state) (s.version == u32_end) (still s)
         (record { state = checkpointed s slot parts horizon; outs = Kept epoch ∷ [] }) (λ _. h)
         (λ _. one_put (λ k x. k < 8 → b.horizon k (entry_of s.entries k).epoch x) s.checkpoints slot (record { parts = parts; horizon = horizon })
         (λ within. subst (λ e. b.horizon slot e horizon) (sym present) told) h)

@@ -174,8 +174,8 @@ module _ (b : Bounds) (laws : Bounding b) (k : ℕ) where
   InputBounded input.Tick = Unit {0}
 
   pub take_goes : (s : TakeState) (given : Input) → TakeBounded b k s → InputBounded given → Goes (transition s given)
-  take_goes s (input.Report from held end) known filed_ = reported_on s (record { from = from; held = held; end = end }) known filed_
-  take_goes s (input.Got ask server generation fragment) known filed_ = told_on s ask server (Held fragment) known
-  take_goes s (input.Missing ask server generation) known filed_ = told_on s ask server (told.Missing generation) known
-  take_goes s (input.Maps groups) known filed_ = maps_on s groups known
-  take_goes s input.Tick known filed_ = record { state = known; outs = tick_bounded s }
+  take_goes s (input.Report from held end) known said = reported_on s (record { from = from; held = held; end = end }) known said
+  take_goes s (input.Got ask server generation fragment) known said = told_on s ask server (Held fragment) known
+  take_goes s (input.Missing ask server generation) known said = told_on s ask server (told.Missing generation) known
+  take_goes s (input.Maps groups) known said = maps_on s groups known
+  take_goes s input.Tick known said = record { state = known; outs = tick_bounded s }
