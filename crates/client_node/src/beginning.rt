@@ -1,6 +1,7 @@
 //! The next item of a client begins.
 ghost use Rattle.std.specs.Prelude.{◌≡◌, ◌++◌, IfOk, OnOk};
 ghost use Rattle.client_node.specs.declared.phase.Phase.TheVariants.{Down, Opening as Opens, Serving as Serves};
+ghost use Rattle.node_base.specs.Beginning.{answered};
 ghost use Rattle.client_node.specs.Phases.{wish_at, on_begin, down_begins, opening_begins, serving_begins, serving_crashes, answers, opens, crashed, next_life, restarted};
 
 use crate::{Lasting, Phase, Serving};
@@ -11,7 +12,7 @@ use version_model::{Answer, Work};
 use xfs_base::Mem;
 
 /// What an item asks for.
-#[derive(Clone, Copy, Debug, PartialEq, Eq)]
+#[derive(Clone, Copy)]
 pub(crate) enum Wish {
     /// That the client crashes.
     Crash,
@@ -97,7 +98,10 @@ fn opening_begins(
     ensures effects { OnOk result (effects.new ≡ effects.old ++ (opening_begins lasting opening number wish).outs) }
 {
     match wish {
-        Wish::Crash => crash(effects, lasting, number),
+        Wish::Crash => {
+            drop(opening);
+            crash(effects, lasting, number)
+        }
         Wish::Restart => answer(
             effects,
             Phase::Opening(lasting, opening),
@@ -181,7 +185,23 @@ fn crash_serving(alloc: Global, effects: &mut Effects, serving: Serving, number:
 fn what_outlives(serving: Serving) -> Lasting
     ensures { result ≡ serving.lasting }
 {
-    serving.lasting
+    let Serving {
+        lasting,
+        maps,
+        tokens,
+        log,
+        feed,
+        cache,
+        call,
+        ..
+    } = serving;
+    drop(maps);
+    drop(tokens);
+    drop(log);
+    drop(feed);
+    drop(cache);
+    drop(call);
+    lasting
 }
 
 // The item is answered at its begin, and nothing changes.
@@ -204,9 +224,22 @@ fn crash(effects: &mut Effects, lasting: Lasting, number: u32) -> Mem<Phase>
     ensures effects { OnOk result (effects.new ≡ effects.old ++ (crashed lasting number).outs) }
 {
     let mut lasting = lasting;
+    match cut(effects, &mut lasting, number) {
+        Ok(()) => Ok(Phase::Down(lasting)),
+        Err(error) => {
+            drop(lasting);
+            Err(error)
+        }
+    }
+}
+
+// The item that is open is cut, and that of the crash is answered.
+fn cut(effects: &mut Effects, lasting: &mut Lasting, number: u32) -> Mem<()>
+    ensures lasting { OnOk result (lasting.new ≡ record lasting.old { items = answered lasting.old.items }) }
+    ensures effects { OnOk result (effects.new ≡ effects.old ++ (crashed lasting.old number).outs) }
+{
     lasting.answer(effects, Answer::Cut)?;
-    effects.answer(number, Answer::Done)?;
-    Ok(Phase::Down(lasting))
+    effects.answer(number, Answer::Done)
 }
 
 // The client starts again.
@@ -235,6 +268,11 @@ fn open_log(alloc: Global, effects: &mut Effects, servers: u8, lasting: Lasting)
         log: lasting.log(),
         inc: lasting.inc,
     };
-    let opening = Opening::start(alloc, effects, &mut lasting.questions, owner, servers)?;
-    Ok(Phase::Opening(lasting, opening))
+    match Opening::start(alloc, effects, &mut lasting.questions, owner, servers) {
+        Ok(opening) => Ok(Phase::Opening(lasting, opening)),
+        Err(error) => {
+            drop(lasting);
+            Err(error)
+        }
+    }
 }

@@ -67,7 +67,7 @@ impl Serving {
     {
         let value = self.value_of(alloc, block)?;
         let ver = self.tokens.ver(block);
-        let _outs = self.cache.take(alloc, coop_cache::In::Touch(block))?;
+        drop(self.cache.take(alloc, coop_cache::In::Touch(block))?);
         effects.act(Act::Read {
             client: self.lasting.number,
             block,
@@ -261,8 +261,8 @@ impl Serving {
             block,
             value: value.copy(alloc)?,
         };
-        let _outs = self.tokens.take(alloc, wrote)?;
-        let _outs = self.cache.take(alloc, coop_cache::In::Dirty(block))?;
+        drop(self.tokens.take(alloc, wrote)?);
+        drop(self.cache.take(alloc, coop_cache::In::Dirty(block))?);
         Ok(())
     }
 
@@ -294,7 +294,7 @@ impl Serving {
         ensures { OnOk result (self.new ≡ lets_go self.old block) }
     {
         if self.tokens.value(block).is_none() {
-            let _outs = self.tokens.take(alloc, In::Evict { block })?;
+            drop(self.tokens.take(alloc, In::Evict { block })?);
             self.note_gone(alloc, block)?;
         }
         Ok(())

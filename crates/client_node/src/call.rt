@@ -76,7 +76,11 @@ impl Plan {
     {
         match self {
             Plan::One => Ok(Going::Ends(answer_of(answer))),
-            Plan::File(plan) => stands_by(alloc, plan.after(alloc, &answer)?),
+            Plan::File(plan) => {
+                let after = plan.after(alloc, &answer);
+                drop(answer);
+                stands_by(alloc, after?)
+            }
         }
     }
 }
@@ -101,9 +105,16 @@ fn may_make(number: u32, client: u8) -> bool
 fn stands_by(alloc: Global, plan: FilePlan) -> Mem<Going>
     ensures { IfOk result (λ stands. stands ≡ going plan) }
 {
-    match plan.next(alloc)? {
-        Next::Step(step) => Ok(Going::On(Call::new(Plan::File(plan), step))),
-        Next::Reply(answer) => Ok(Going::Ends(answer)),
+    match plan.next(alloc) {
+        Ok(Next::Step(step)) => Ok(Going::On(Call::new(Plan::File(plan), step))),
+        Ok(Next::Reply(answer)) => {
+            drop(plan);
+            Ok(Going::Ends(answer))
+        }
+        Err(error) => {
+            drop(plan);
+            Err(error)
+        }
     }
 }
 

@@ -1,15 +1,18 @@
 //! The client as a node: what each event makes of it.
 ghost use Rattle.std.specs.Prelude.{◌≡◌, ◌++◌, IfOk, OnOk};
-ghost use Rattle.client_node.specs.Phases.{on_begin, delivers, on_deliver, on_time, on_event, happens, client_room, phase_room, takes};
+ghost use Rattle.client_node.specs.declared.phase.Phase.TheVariants.{Serving as Serves};
+ghost use Rattle.client_node.specs.Phases.{on_begin, delivers, on_deliver, on_time, on_event, opened_on, happens, client_room, phase_room, takes};
 ghost use Rattle.client_node.specs.Packets.{on_packet, on_tick};
 ghost use Rattle.client_node.specs.Running.{runs};
 ghost use Rattle.client_node.specs.Starting.{first_client};
+ghost use Rattle.log_owner.specs.Opening as log_opening;
 ghost use Rattle.node_base.specs.Setups.{IsSetup};
 ghost use Rattle.segment_format.specs.Format.{IsLog};
 
 use crate::beginning::{begin_down, begin_opening, begin_serving};
 use crate::returning::after;
 use crate::{Lasting, Phase, Serving};
+use log_owner::Opening;
 use node_base::{Effects, Peers, groups_of, has_room, is_well_formed};
 use std::alloc::Global;
 use version_model::{Act, Work};
@@ -33,11 +36,16 @@ impl Actor for Client {
     fn step(self, alloc: Global, what: &Do) -> Mem<(Client, List<Packet>, List<Act>)> {
         let node = NodeId::Client(self.phase.lasting().number);
         let mut effects = Effects::new(alloc);
-        let client = self.takes(alloc, &mut effects, what)?;
-        match effects.into_parts(alloc, node) {
-            Ok((packets, acts)) => Ok((client, packets, acts)),
+        match self.takes(alloc, &mut effects, what) {
+            Ok(client) => match effects.into_parts(alloc, node) {
+                Ok((packets, acts)) => Ok((client, packets, acts)),
+                Err(error) => {
+                    drop(client);
+                    Err(error)
+                }
+            },
             Err(error) => {
-                drop(client);
+                drop(effects);
                 Err(error)
             }
         }
@@ -213,19 +221,48 @@ fn take(
     match phase {
         Phase::Down(lasting) => Ok(Phase::Down(lasting)),
         Phase::Opening(lasting, opening) => {
-            let mut lasting = lasting;
-            let progress = opening.take(alloc, effects, &mut lasting.questions, packet)?;
-            after(alloc, effects, lasting, cache, progress)
+            take_opening(alloc, effects, cache, lasting, opening, packet)
         }
-        Phase::Serving(serving) => {
-            let mut serving = serving;
-            match take_and_run(alloc, effects, &mut serving, packet) {
-                Ok(()) => Ok(Phase::Serving(serving)),
-                Err(error) => {
-                    drop(serving);
-                    Err(error)
-                }
-            }
+        Phase::Serving(serving) => take_serving(alloc, effects, serving, packet),
+    }
+}
+
+fn take_opening(
+    alloc: Global,
+    effects: &mut Effects,
+    cache: u16,
+    lasting: Lasting,
+    opening: Opening,
+    packet: &Packet,
+) -> Mem<Phase>
+    ensures phase { IfOk result (λ after. after ≡ (opened_on lasting cache (log_opening.on_packet opening lasting.questions packet.now)).state) }
+    ensures effects { OnOk result (effects.new ≡ effects.old ++ (opened_on lasting cache (log_opening.on_packet opening lasting.questions packet.now)).outs) }
+{
+    let mut lasting = lasting;
+    match opening.take(alloc, effects, &mut lasting.questions, packet) {
+        Ok(progress) => after(alloc, effects, lasting, cache, progress),
+        Err(error) => {
+            drop(lasting);
+            Err(error)
+        }
+    }
+}
+
+fn take_serving(
+    alloc: Global,
+    effects: &mut Effects,
+    serving: Serving,
+    packet: &Packet,
+) -> Mem<Phase>
+    ensures phase { IfOk result (λ after. after ≡ Serves (runs (on_packet serving packet.now).state).state) }
+    ensures effects { OnOk result (effects.new ≡ effects.old ++ ((on_packet serving packet.now).outs ++ (runs (on_packet serving packet.now).state).outs)) }
+{
+    let mut serving = serving;
+    match take_and_run(alloc, effects, &mut serving, packet) {
+        Ok(()) => Ok(Phase::Serving(serving)),
+        Err(error) => {
+            drop(serving);
+            Err(error)
         }
     }
 }
@@ -238,20 +275,41 @@ fn tick(alloc: Global, effects: &mut Effects, cache: u16, phase: Phase) -> Mem<P
 {
     match phase {
         Phase::Down(lasting) => Ok(Phase::Down(lasting)),
-        Phase::Opening(lasting, opening) => {
-            let mut lasting = lasting;
-            let progress = opening.tick(alloc, effects, &mut lasting.questions)?;
-            after(alloc, effects, lasting, cache, progress)
+        Phase::Opening(lasting, opening) => tick_opening(alloc, effects, cache, lasting, opening),
+        Phase::Serving(serving) => tick_serving(alloc, effects, serving),
+    }
+}
+
+fn tick_opening(
+    alloc: Global,
+    effects: &mut Effects,
+    cache: u16,
+    lasting: Lasting,
+    opening: Opening,
+) -> Mem<Phase>
+    ensures phase { IfOk result (λ after. after ≡ (opened_on lasting cache (log_opening.on_tick opening lasting.questions)).state) }
+    ensures effects { OnOk result (effects.new ≡ effects.old ++ (opened_on lasting cache (log_opening.on_tick opening lasting.questions)).outs) }
+{
+    let mut lasting = lasting;
+    match opening.tick(alloc, effects, &mut lasting.questions) {
+        Ok(progress) => after(alloc, effects, lasting, cache, progress),
+        Err(error) => {
+            drop(lasting);
+            Err(error)
         }
-        Phase::Serving(serving) => {
-            let mut serving = serving;
-            match tick_and_run(alloc, effects, &mut serving) {
-                Ok(()) => Ok(Phase::Serving(serving)),
-                Err(error) => {
-                    drop(serving);
-                    Err(error)
-                }
-            }
+    }
+}
+
+fn tick_serving(alloc: Global, effects: &mut Effects, serving: Serving) -> Mem<Phase>
+    ensures phase { IfOk result (λ after. after ≡ Serves (runs (on_tick serving).state).state) }
+    ensures effects { OnOk result (effects.new ≡ effects.old ++ ((on_tick serving).outs ++ (runs (on_tick serving).state).outs)) }
+{
+    let mut serving = serving;
+    match tick_and_run(alloc, effects, &mut serving) {
+        Ok(()) => Ok(Phase::Serving(serving)),
+        Err(error) => {
+            drop(serving);
+            Err(error)
         }
     }
 }

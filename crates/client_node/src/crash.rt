@@ -1,6 +1,7 @@
 //! What a crashed client may lose.
 ghost use Rattle.std.specs.Prelude.{◌≡◌, ◌++◌, ◌∷◌, [], map, IfOk, OnOk};
 ghost use Rattle.client_node.specs.Phases.{version_of, version_in, flown_version, fall_of, flight_of, falls};
+ghost use Rattle.token_client.specs.State.{dirty_in};
 
 use crate::Serving;
 use node_base::Effects;
@@ -15,14 +16,22 @@ impl Serving {
     pub(crate) fn fall(&self, alloc: Global, effects: &mut Effects) -> Mem<()>
         ensures { OnOk result (effects.new ≡ effects.old ++ falls self.now ∷ []) }
     {
-        let dirty = self.tokens.dirty(alloc)?;
-        let falls = self.falls_of(alloc, dirty.as_slice())?;
+        let falls = self.falls(alloc)?;
         let flight = self.flight();
         effects.act(Act::Fell {
             client: self.lasting.number,
             flight,
             falls,
         })
+    }
+
+    fn falls(&self, alloc: Global) -> Mem<List<Fall>>
+        ensures { IfOk result (λ falls. falls ≡ map (fall_of self.now) (dirty_in self.now.tokens.blocks)) }
+    {
+        let dirty = self.tokens.dirty(alloc)?;
+        let falls = self.falls_of(alloc, dirty.as_slice());
+        drop(dirty);
+        falls
     }
 
     // The segment in flight: its number, and the incarnation that writes it.

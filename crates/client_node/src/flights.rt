@@ -119,9 +119,7 @@ impl Serving {
         self.note_settled(alloc, rows.as_slice())?;
         self.keep_clean(alloc, rows.as_slice())?;
         let seq = end.seq;
-        let _outs = self
-            .feed
-            .take(alloc, delta_feed::In::Settled { seq, rows })?;
+        drop(self.feed.take(alloc, delta_feed::In::Settled { seq, rows })?);
         Ok(())
     }
 
@@ -152,7 +150,7 @@ impl Serving {
             block: row.0,
             ver: row.1.ver,
         };
-        let _outs = self.tokens.take(alloc, input)?;
+        drop(self.tokens.take(alloc, input)?);
         Ok(())
     }
 

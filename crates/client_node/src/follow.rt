@@ -200,7 +200,7 @@ impl Serving {
         ensures { OnOk result (self.new ≡ evicts self.old out) }
     {
         let coop_cache::Out::Victim(block) = out;
-        let _outs = self.tokens.take(alloc, In::Evict { block })?;
+        drop(self.tokens.take(alloc, In::Evict { block })?);
         Ok(())
     }
 
@@ -210,7 +210,7 @@ impl Serving {
         ensures { OnOk result (self.new ≡ notes_gone self.old block) }
     {
         if self.tokens.mode(block).is_nothing() {
-            let _outs = self.cache.take(alloc, coop_cache::In::Gone(block))?;
+            drop(self.cache.take(alloc, coop_cache::In::Gone(block))?);
         }
         Ok(())
     }

@@ -141,8 +141,8 @@ impl Serving {
     {
         effects.lose(seg)?;
         self.lasting.answer(effects, Answer::Lost(seg))?;
-        self.call = None;
-        let _outs = self.tokens.take(alloc, In::Quit { block })?;
+        drop(self.call.take());
+        drop(self.tokens.take(alloc, In::Quit { block })?);
         Ok(())
     }
 }

@@ -40,8 +40,13 @@ impl Serving {
             return Ok(());
         }
         let outs = self.promise(alloc, slot, epoch, manager)?;
-        self.report(alloc, effects, slot, epoch)?;
-        self.follow(alloc, effects, outs)
+        match self.report(alloc, effects, slot, epoch) {
+            Ok(()) => self.follow(alloc, effects, outs),
+            Err(error) => {
+                drop(outs);
+                Err(error)
+            }
+        }
     }
 
     // The slot is promised to this epoch of this manager; what the tokens have the client do.
@@ -65,7 +70,7 @@ impl Serving {
         ensures { OnOk result (self.new ≡ renews self.old slot epoch) }
     {
         if self.tokens.promised(slot) < epoch {
-            let _outs = self.feed.take(alloc, delta_feed::In::NewEpoch { slot })?;
+            drop(self.feed.take(alloc, delta_feed::In::NewEpoch { slot })?);
         }
         Ok(())
     }

@@ -10,6 +10,7 @@ use log_owner::send_fetch;
 use node_base::Effects;
 use segment_format::{Item, Segment};
 use std::alloc::Global;
+use std::mem;
 use stripe_code::{BlockAt, Next, Reading, Stage, Target, Told};
 use token_client::{In, Tokens};
 use wire_msg::{Found, Missing};
@@ -62,6 +63,7 @@ impl Serving {
         if same_target(reading.target(), target) {
             self.confirm(alloc, effects, reading)
         } else {
+            drop(reading);
             self.begin_reading(alloc, effects, target)
         }
     }
@@ -78,9 +80,29 @@ impl Serving {
             return Ok(());
         };
         let reading = Reading::start(alloc, target, group, self.lasting.questions.draw())?;
-        send_fetches(alloc, effects, &reading)?;
-        set_reading(&mut self.call, Some(reading));
-        Ok(())
+        self.ask_reading(alloc, effects, reading)
+    }
+
+    // The servers are asked, and the call reads so.
+    fn ask_reading(
+        &mut self,
+        alloc: Global,
+        effects: &mut Effects,
+        reading: Reading,
+    ) -> Mem<()>
+        ensures state { OnOk result (self.new ≡ with_reading self.old (Some reading)) }
+        ensures effects { OnOk result (effects.new ≡ effects.old ++ fetches reading) }
+    {
+        match send_fetches(alloc, effects, &reading) {
+            Ok(()) => {
+                set_reading(&mut self.call, Some(reading));
+                Ok(())
+            }
+            Err(error) => {
+                drop(reading);
+                Err(error)
+            }
+        }
     }
 
     // The place of a block was confirmed: a further round begins, or the segment is lost.
@@ -91,8 +113,13 @@ impl Serving {
     {
         let mut reading = reading;
         let ask = self.ask_after(reading.ask(), reading.stage());
-        let next = reading.confirmed(alloc, ask)?;
-        self.go_on_reading(alloc, effects, reading, next)
+        match reading.confirmed(alloc, ask) {
+            Ok(next) => self.go_on_reading(alloc, effects, reading, next),
+            Err(error) => {
+                drop(reading);
+                Err(error)
+            }
+        }
     }
 
     // The question under which a further round asks.
@@ -119,13 +146,10 @@ impl Serving {
         match next {
             Next::Lost => {
                 let Target { seg, block } = reading.target();
+                drop(reading);
                 self.lose_at(alloc, effects, block, seg.name)
             }
-            Next::Ask => {
-                send_fetches(alloc, effects, &reading)?;
-                set_reading(&mut self.call, Some(reading));
-                Ok(())
-            }
+            Next::Ask => self.ask_reading(alloc, effects, reading),
             Next::Wait | Next::Again | Next::Read(_) => {
                 set_reading(&mut self.call, Some(reading));
                 Ok(())
@@ -192,7 +216,10 @@ impl Serving {
     {
         match from {
             NodeId::Server(server) => self.told_by(alloc, effects, server, ask, told),
-            NodeId::Client(_) | NodeId::Manager(_) | NodeId::Cleaner | NodeId::Registry => Ok(()),
+            NodeId::Client(_) | NodeId::Manager(_) | NodeId::Cleaner | NodeId::Registry => {
+                drop(told);
+                Ok(())
+            }
         }
     }
 
@@ -209,6 +236,7 @@ impl Serving {
         ensures effects { OnOk result (effects.new ≡ effects.old ++ (told_by self.old server ask told).outs) }
     {
         let Some(at) = block_read(&self.call) else {
+            drop(told);
             return Ok(());
         };
         let next = hear(alloc, &mut self.call, &self.maps.groups, ask, server, told)?;
@@ -229,9 +257,11 @@ impl Serving {
         match next {
             Next::Again => self.hand(alloc, effects, In::Reask { block: at.block }),
             Next::Read(segment) => {
+                let value = value_at(alloc, &segment, at.item);
+                drop(segment);
                 let input = In::Fetched {
                     block: at.block,
-                    value: value_at(alloc, &segment, at.item)?,
+                    value: value?,
                 };
                 self.hand(alloc, effects, input)
             }
@@ -245,7 +275,7 @@ impl Serving {
     {
         if let Some(call) = &mut self.call {
             let reading = call.reading.take();
-            call.reading = kept_while(&self.tokens, reading);
+            drop(mem::replace(&mut call.reading, kept_while(&self.tokens, reading)));
         }
     }
 
@@ -316,34 +346,33 @@ fn hear(
     ensures call { OnOk result (call.new ≡ call_with call.old (heard (reading_in call.old) groups.now ask server told).reading) }
     ensures next { IfOk result (λ next. next ≡ (heard (reading_in call.old) groups.now ask server told).next) }
 {
-    let Some(reader) = call else {
-        return Ok(Next::Wait);
-    };
-    let reading = reader.reading.take();
-    let (reading, next) = heard(alloc, reading, groups, ask, server, told)?;
-    reader.reading = reading;
-    Ok(next)
+    match call {
+        Some(call) => hear_reading(alloc, &mut call.reading, groups, ask, server, told),
+        None => {
+            drop(told);
+            Ok(Next::Wait)
+        }
+    }
 }
 
-fn heard(
+fn hear_reading(
     alloc: Global,
-    reading: Option<Reading>,
+    reading: &mut Option<Reading>,
     groups: &Option<GroupMap>,
     ask: u32,
     server: u8,
     told: Told,
-) -> Mem<(Option<Reading>, Next)>
-    ensures reading { IfOk result (λ r. r.0 ≡ (heard reading groups.now ask server told).reading) }
-    ensures next { IfOk result (λ r. r.1 ≡ (heard reading groups.now ask server told).next) }
+) -> Mem<Next>
+    ensures reading { OnOk result (reading.new ≡ (heard reading.old groups.now ask server told).reading) }
+    ensures next { IfOk result (λ next. next ≡ (heard reading.old groups.now ask server told).next) }
 {
-    let Some(mut reading) = reading else {
-        return Ok((None, Next::Wait));
-    };
-    let Some(groups) = groups else {
-        return Ok((Some(reading), Next::Wait));
-    };
-    let next = reading.take(alloc, groups, ask, server, told)?;
-    Ok((Some(reading), next))
+    match (reading, groups) {
+        (Some(reading), Some(groups)) => reading.take(alloc, groups, ask, server, told),
+        _ => {
+            drop(told);
+            Ok(Next::Wait)
+        }
+    }
 }
 
 fn kept_while(tokens: &Tokens, reading: Option<Reading>) -> Option<Reading>
@@ -355,6 +384,7 @@ fn kept_while(tokens: &Tokens, reading: Option<Reading>) -> Option<Reading>
     if is_fetched(tokens, reading.target().block) {
         Some(reading)
     } else {
+        drop(reading);
         None
     }
 }
@@ -371,8 +401,9 @@ fn is_fetched(tokens: &Tokens, at: Option<BlockAt>) -> bool
 fn set_reading(call: &mut Option<Call>, reading: Option<Reading>)
     ensures { call.new ≡ call_with call.old reading }
 {
-    if let Some(call) = call {
-        call.reading = reading;
+    match call {
+        Some(call) => drop(mem::replace(&mut call.reading, reading)),
+        None => drop(reading),
     }
 }
 

@@ -1,5 +1,6 @@
 //! A client whose log is open again.
 ghost use Rattle.std.specs.Prelude.{◌≡◌, ◌++◌, ◌∷◌, IfOk, OnOk};
+ghost use Rattle.client_node.specs.declared.phase.Phase.TheVariants.{Down};
 ghost use Rattle.client_node.specs.Phases.{after_opening, back};
 ghost use Rattle.log_owner.specs.Sending.{pushes_all};
 ghost use Rattle.node_base.specs.Beginning.{answered, answers_unanswered};
@@ -29,10 +30,21 @@ pub(crate) fn after(
     match progress {
         Progress::Opening(opening) => Ok(Phase::Opening(lasting, opening)),
         Progress::Opened(opened) => back(alloc, effects, lasting, cache, opened),
-        Progress::Lost(seg) => {
-            let mut lasting = lasting;
-            lasting.answer(effects, Answer::Lost(seg))?;
-            Ok(Phase::Down(lasting))
+        Progress::Lost(seg) => lost(effects, lasting, seg),
+    }
+}
+
+// The log is lost: the client is down, and the restart is answered so.
+fn lost(effects: &mut Effects, lasting: Lasting, seg: SegName) -> Mem<Phase>
+    ensures phase { IfOk result (λ phase. phase ≡ Down (record lasting { items = answered lasting.items })) }
+    ensures effects { OnOk result (effects.new ≡ effects.old ++ answers_unanswered lasting.items.unanswered (answer.Lost seg)) }
+{
+    let mut lasting = lasting;
+    match lasting.answer(effects, Answer::Lost(seg)) {
+        Ok(()) => Ok(Phase::Down(lasting)),
+        Err(error) => {
+            drop(lasting);
+            Err(error)
         }
     }
 }
@@ -55,11 +67,19 @@ fn back(
         feed,
         chain,
     } = opened;
-    let mut serving = Serving::back(alloc, lasting, cache, maps, promised, log, feed)?;
-    match say_back(alloc, effects, &mut serving, chain) {
-        Ok(()) => Ok(Phase::Serving(serving)),
+    match Serving::back(alloc, lasting, cache, maps, promised, log, feed) {
+        Ok(serving) => {
+            let mut serving = serving;
+            match say_back(alloc, effects, &mut serving, chain) {
+                Ok(()) => Ok(Phase::Serving(serving)),
+                Err(error) => {
+                    drop(serving);
+                    Err(error)
+                }
+            }
+        }
         Err(error) => {
-            drop(serving);
+            drop(chain);
             Err(error)
         }
     }

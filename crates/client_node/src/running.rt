@@ -1,11 +1,12 @@
 //! The open call: it is looked at at the end of each event.
-ghost use Rattle.std.specs.Prelude.{◌≡◌, ◌++◌, IfOk, OnOk};
+ghost use Rattle.std.specs.Prelude.{◌≡◌, ◌++◌, IfOk, OnOk, Some};
 ghost use Rattle.client_node.specs.Running.{goes_on, runs_once, answers_call, runs_upto, runs};
 
 use crate::{Call, Going, Serving};
 use file_plan::BlockAnswer;
 use node_base::Effects;
 use std::alloc::Global;
+use std::mem;
 use xfs_base::Mem;
 
 /// How many calls on blocks a call makes in one event at most.
@@ -47,8 +48,13 @@ impl Serving {
         let Some(call) = self.call.take() else {
             return Ok(false);
         };
-        let made = self.make(alloc, effects, &call.step)?;
-        self.take_answer(alloc, effects, call, made)
+        match self.make(alloc, effects, &call.step) {
+            Ok(made) => self.take_answer(alloc, effects, call, made),
+            Err(error) => {
+                drop(call);
+                Err(error)
+            }
+        }
     }
 
     // The open call was answered so by its call on blocks; says whether it was answered.
@@ -65,11 +71,17 @@ impl Serving {
     {
         match made {
             None => {
-                self.call = Some(call);
+                self.hold(call);
                 Ok(false)
             }
             Some(answer) => {
-                let Call { plan, .. } = call;
+                let Call {
+                    plan,
+                    step,
+                    reading,
+                } = call;
+                drop(step);
+                drop(reading);
                 let going = plan.after(alloc, answer)?;
                 self.go_on(effects, going)?;
                 Ok(true)
@@ -85,10 +97,17 @@ impl Serving {
     {
         match going {
             Going::On(call) => {
-                self.call = Some(call);
+                self.hold(call);
                 Ok(())
             }
             Going::Ends(answer) => self.lasting.answer(effects, answer),
         }
+    }
+
+    // This call is open.
+    fn hold(&mut self, call: Call)
+        ensures { self.new ≡ record self.old { call = Some call } }
+    {
+        drop(mem::replace(&mut self.call, Some(call)));
     }
 }

@@ -1,5 +1,5 @@
 //! A client that serves.
-ghost use Rattle.std.specs.Prelude.{◌≡◌, ◌++◌, IfOk, OnOk, None, Some, replicate};
+ghost use Rattle.std.specs.Prelude.{◌≡◌, ◌++◌, IfOk, OnOk, None, Some};
 ghost use Rattle.client_node.specs.Bodies.{on_log_body, on_map_body};
 ghost use Rattle.client_node.specs.Packets.{asks_for_maps, epochs_room, on_ack, on_body, on_packet, on_tick};
 ghost use Rattle.client_node.specs.Phases.{begins_call, call_at, opens, returned, serving_room};
@@ -7,6 +7,9 @@ ghost use Rattle.client_node.specs.Starting.{cached_upto, empty_end, first_servi
 ghost use Rattle.node_base.specs.Beginning.{work_at};
 ghost use Rattle.segment_format.specs.Format.{IsLog};
 ghost use Rattle.token_client.specs.State.{started};
+ghost use Rattle.client_log.specs.LogState as logs;
+ghost use Rattle.coop_cache.specs.CacheState as caches;
+ghost use Rattle.delta_feed.specs.FeedState as feeds;
 
 use crate::{Call, Going, Lasting};
 use client_log::Log;
@@ -20,7 +23,7 @@ use std::alloc::Global;
 use token_client::Tokens;
 use version_model::Answer;
 use wire_msg::{Body, DeltaAck, Packet};
-use xfs_base::{End, Mem, NodeId, Pass};
+use xfs_base::{End, LogId, Mem, NodeId, Pass};
 
 /// What a client that serves has. The tokens keep which epoch each slot is promised to.
 #[derive(Drop)]
@@ -55,19 +58,18 @@ impl Serving {
         requires { IsLog lasting.number }
         ensures { IfOk result (λ made. made ≡ first_serving lasting managers cache groups) }
     {
-        let tokens = first_tokens(alloc)?;
-        let copy = groups.copy(alloc)?;
-        let log = Log::start(alloc, lasting.log(), 1, empty_end(), copy)?;
-        Ok(Serving {
-            lasting,
-            maps: Maps::start(groups),
-            managers: Managers::start(managers),
-            tokens,
-            log,
-            feed: Feed::start(alloc, 0)?,
-            cache: Cache::start(alloc, cached_upto(cache))?,
-            call: None,
-        })
+        match first_log(alloc, lasting.log(), &groups) {
+            Ok((log, feed)) => {
+                let maps = Maps::start(groups);
+                let promised = Promised::start(managers);
+                serves(alloc, lasting, 1, cache, maps, promised, (log, feed))
+            }
+            Err(error) => {
+                drop(lasting);
+                drop(groups);
+                Err(error)
+            }
+        }
     }
 
     /// A client whose log is open again: nothing is cached.
@@ -82,17 +84,8 @@ impl Serving {
     ) -> Mem<Serving>
         ensures { IfOk result (λ made. made ≡ returned lasting cache maps promised log feed) }
     {
-        let tokens = Tokens::start(alloc, lasting.inc, promised.listed(alloc)?)?;
-        Ok(Serving {
-            lasting,
-            maps,
-            managers: promised.managers,
-            tokens,
-            log,
-            feed,
-            cache: Cache::start(alloc, cached_upto(cache))?,
-            call: None,
-        })
+        let inc = lasting.inc;
+        serves(alloc, lasting, inc, cache, maps, promised, (log, feed))
     }
 
     /// Takes a packet. One that names a group that isn't known is dropped, and the maps are asked for.
@@ -250,7 +243,7 @@ impl Serving {
                 slot: ack.slot,
                 applied: ack.applied,
             };
-            let _outs = self.feed.take(alloc, input)?;
+            drop(self.feed.take(alloc, input)?);
         }
         Ok(())
     }
@@ -269,11 +262,70 @@ fn epochs_have_room(tokens: &Tokens) -> bool
     true
 }
 
-// The tokens of the start: nothing is known of any block, and each slot is at epoch 1.
-fn first_tokens(alloc: Global) -> Mem<Tokens>
-    ensures { IfOk result (λ tokens. tokens ≡ started 1 (replicate 8 1)) }
+// A client that begins to serve in this incarnation: it holds no block, and nothing is cached.
+fn serves(
+    alloc: Global,
+    lasting: Lasting,
+    inc: u32,
+    cache: u16,
+    maps: Maps,
+    promised: Promised,
+    written: (Log, Feed),
+) -> Mem<Serving>
+    ensures { IfOk result (λ made. made ≡ record (returned lasting cache maps promised written.0 written.1) { tokens = started inc promised.epochs }) }
 {
-    Tokens::start(alloc, 1, Promised::start(1).listed(alloc)?)
+    let (log, feed) = written;
+    match fresh(alloc, inc, promised, cache) {
+        Ok((tokens, cache)) => Ok(Serving {
+            lasting,
+            maps,
+            managers: promised.managers,
+            tokens,
+            log,
+            feed,
+            cache,
+            call: None,
+        }),
+        Err(error) => {
+            drop(lasting);
+            drop(maps);
+            drop(log);
+            drop(feed);
+            Err(error)
+        }
+    }
+}
+
+// Tokens that know of no block, and a cache of none.
+fn fresh(alloc: Global, inc: u32, promised: Promised, cache: u16) -> Mem<(Tokens, Cache)>
+    ensures tokens { IfOk result (λ made. made.0 ≡ started inc promised.epochs) }
+    ensures cache { IfOk result (λ made. made.1 ≡ caches.started (cached_upto cache)) }
+{
+    let tokens = Tokens::start(alloc, inc, promised.listed(alloc)?)?;
+    match Cache::start(alloc, cached_upto(cache)) {
+        Ok(cache) => Ok((tokens, cache)),
+        Err(error) => {
+            drop(tokens);
+            Err(error)
+        }
+    }
+}
+
+// The empty log of the start, and its feed.
+fn first_log(alloc: Global, log: LogId, groups: &GroupMap) -> Mem<(Log, Feed)>
+    requires { IsLog log.0 }
+    ensures log { IfOk result (λ made. made.0 ≡ logs.started log 1 empty_end groups.now) }
+    ensures feed { IfOk result (λ made. made.1 ≡ feeds.started 0) }
+{
+    let copy = groups.copy(alloc)?;
+    let log = Log::start(alloc, log, 1, empty_end(), copy)?;
+    match Feed::start(alloc, 0) {
+        Ok(feed) => Ok((log, feed)),
+        Err(error) => {
+            drop(log);
+            Err(error)
+        }
+    }
 }
 
 // The end of an empty log.
