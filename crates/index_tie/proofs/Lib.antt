@@ -1,9 +1,9 @@
 mod Answers
 mod Chains
 mod CheckLists
-mod Checkpoints
+pub mod Checkpoints
 mod Cleaning
-mod Events
+pub mod Events
 mod Feeds
 mod Growth
 mod Jobs
@@ -14,7 +14,7 @@ mod Registry
 mod Rows
 mod RunExists
 mod Runs
-mod Slots
-mod Tables
-mod Takeovers
+pub mod Slots
+pub mod Tables
+pub mod Takeovers
 mod Views

@@ -1,0 +1,12 @@
+pub mod Moves
+pub mod Puts
+pub mod Agreeing
+pub mod Inputs
+pub mod Flights
+pub mod Active
+pub mod Reading
+pub mod Taking
+pub mod Handing
+pub mod Tables
+pub mod Turning
+pub mod Writing
