@@ -10,3 +10,6 @@ pub mod Handing
 pub mod Tables
 pub mod Turning
 pub mod Writing
+pub mod Settling
+pub mod Planning
+pub mod Serving
