@@ -13,3 +13,5 @@ pub mod Writing
 pub mod Settling
 pub mod Planning
 pub mod Serving
+pub mod Hearing
+pub mod Events

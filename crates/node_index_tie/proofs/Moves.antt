@@ -112,6 +112,10 @@ pub runs_through : {part : ℕ} {holds : _} (n m o : Net) → Runs part holds n 
 runs_through n m o r Begun = r
 runs_through n m o r (On {m = x} s h) = On (runs_through n m x r s) h
 
+-- no epoch is named
+abbrev pub Nothing : ℕ → Type 0
+Nothing e = ⊥
+
 module _ (part : ℕ) (texts : Texts) (asked : Questions) where
   abbrev pub DoesAt : Net → Effect → Type 0
   DoesAt n e = ManagerDoes part asked n e
@@ -147,9 +151,6 @@ module _ (part : ℕ) (texts : Texts) (asked : Questions) where
     pub rises : epoch_of p ≤ epoch_of q
     pub does : AllDone next outs
     pub agrees : At next
-
-  abbrev pub Nothing : ℕ → Type 0
-  Nothing e = ⊥
 
   module _ (named : ℕ → Type 0) where
     -- nothing happens there

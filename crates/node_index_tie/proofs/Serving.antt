@@ -159,7 +159,7 @@ module _ (part : ℕ) (texts : Texts) (questions : Questions) (exists : part < 8
     answered_next : (x : Out) → Of n s (node.next_slot (answered_serving x))
     answered_next x = next_serves n (answered_serving x) is_open no_work refl (answered_agrees x)
 
-  ack_serves : (n : Net) (s : Serving) (ack : CkptAck) → ServingAgrees part texts n s → Of n s (node.on_ckpt_ack s ack)
+  pub ack_serves : (n : Net) (s : Serving) (ack : CkptAck) → ServingAgrees part texts n s → Of n s (node.on_ckpt_ack s ack)
   unfolding node.on_ckpt_ack
   ack_serves n s ack agrees =
       by_test (Of n s) (node.awaits s.checkpoint ack.ask) (node.answered_by s (writer.acked s.writer s.writer.asked ack.epoch s.dones)) (still s) (λ _. by_asked s.writer.asked refl) (λ _. still_of n s agrees)
@@ -172,7 +172,7 @@ module _ (part : ℕ) (texts : Texts) (questions : Questions) (exists : part < 8
 
   -- ---- time, for what awaits the registry's answer
 
-  tells_serves : (n : Net) (s : Serving) → ServingAgrees part texts n s → Of n s (node.tells_again s)
+  pub tells_serves : (n : Net) (s : Serving) → ServingAgrees part texts n s → Of n s (node.tells_again s)
   unfolding node.tells_again
   tells_serves n s agrees = serves_same part texts questions exists named n s (node.told_again s.checkpoint) agrees (by s.checkpoint agrees.done)
     where

@@ -6,7 +6,7 @@ use Rattle.group_map.specs.GroupMapState.{GroupMapState}
 use Rattle.index_tie.specs.Net.{Net, Packet, Runs, opening}
 use Rattle.log_protocol.specs.Tables.{In}
 use Rattle.manager_node.specs.Events.{first_manager, happens}
-use Rattle.manager_node.specs.Phases.{Went_to}
+use Rattle.manager_node.specs.Phases.{Went_to, lasting_of}
 use Rattle.manager_node.specs.declared.manager.Manager.{Manager as AManager}
 use Rattle.manager_node.specs.declared.phase.Phase.{Phase}
 use Rattle.manager_node.specs.declared.phase.Phase.TheVariants.{Down, Waiting, Serving as Serves}
@@ -215,7 +215,7 @@ pub record ManagerGoes (part : ℕ) (texts : Texts) (asked : Questions) (j : ℕ
 -- Each event of manager j, where the world owes it what it needs.
 abbrev pub ManagerEventGoes : Type 0
 ManagerEventGoes =
-    (part : ℕ) (texts : Texts) (asked : Questions) (j : ℕ) (n : Net) (m : AManager) (what : Do) → part < 8 → ManagerAgrees part texts n m.phase
+    (part : ℕ) (texts : Texts) (asked : Questions) (j : ℕ) (n : Net) (m : AManager) (what : Do) → part < 8 → (lasting_of m.phase).number ≡ j → ManagerAgrees part texts n m.phase
     → ManagerOwed part texts asked j n m.phase what (happens m what).state → ManagerGoes part texts asked j n m.phase what (happens m what)
 
 -- At the start of a run a manager is seen in the opening of the small world.
