@@ -1,5 +1,5 @@
 -- Each event of a manager is a list of things that happen in the small world of one slot's index.
-use Rattle.std.proofs.Common.{◌≡◌, ℕ, zero, suc, ◌+◌, ◌==◌, ◌<◌, ◌≤◌, ◌&&◌, ◌⊎◌, inl, inr, true, false, List, [], ◌∷◌, ◌++◌, Option, Some, None, refl, sym, ap, subst, ◌∙◌, arith}
+use Rattle.std.proofs.Common.{◌≡◌, ℕ, zero, suc, ◌+◌, ◌==◌, ◌<◌, ◌≤◌, ◌&&◌, ◌⊎◌, inl, inr, true, false, List, [], ◌∷◌, ◌++◌, length, Option, Some, None, refl, sym, ap, subst, ◌∙◌, arith}
 use Rattle.std.specs.List.{All}
 use Rattle.std.proofs.lemmas.Bool.{eqb-true}
 use Rattle.std.proofs.lemmas.List.Elements.{All-from_recursion}
@@ -11,8 +11,11 @@ use Rattle.manager_node.specs.Checkpoints.{Done, on_checkpoint}
 use Rattle.manager_node.specs.Events.{takes_welcome, on_welcome, on_waiting, on_packet, on_deliver, on_time, on_event, happens}
 use Rattle.manager_node.specs.Lasting.{log_of}
 use Rattle.manager_node.specs.Phases.{Went_to, lasting_of, phase_has_room, serves, crashes, restarts, wish_at, down_wish, waiting_wish, serving_wish, with_begun, down_item, waiting_item, serving_item, begin_down, begin_waiting, begin_serving, on_begin}
-use Rattle.manager_node.specs.Serving.{again, on_news, hears, on_tick}
-use Rattle.manager_node.specs.SlotTable.{unknown_table}
+use Rattle.manager_node.specs.Serving.{again, begun as serving_begun, no_end, on_news, hears, on_tick}
+use Rattle.manager_node.specs.SlotTable.{Table, unknown_table}
+use Rattle.manager_node.specs.Slots.{epoch_of}
+use Rattle.checkpoint.specs.Transition.{started as writer_started}
+use Rattle.client_log.specs.LogState.{started as log_started}
 use Rattle.manager_node.specs.declared.lasting.Lasting.{Lasting as Kept}
 use Rattle.manager_node.specs.declared.phase.Phase.{Phase}
 use Rattle.manager_node.specs.declared.phase.Phase.TheVariants.{Down, Waiting, Serving as Serves}
@@ -28,7 +31,7 @@ use Rattle.node_base.specs.declared.effects.Effect.TheVariants.{Answer as Answer
 use Rattle.node_base.specs.declared.items.Items.{Items}
 use Rattle.node_base.specs.declared.maps.Maps.{Maps}
 use Rattle.node_base.specs.declared.peers.Peers.{Peers}
-use Rattle.node_tie.specs.ManagerEvents.{phase_at, Names, NamedBy, slot_in}
+use Rattle.node_tie.specs.ManagerEvents.{phase_at, HeldAt, Names, NamedBy, slot_in}
 use Rattle.version_model.specs.declared.answer.Answer.{Answer}
 use Rattle.version_model.specs.declared.answer.Answer.TheVariants as answer
 use Rattle.version_model.specs.declared.work.Work.{Work}
@@ -39,7 +42,7 @@ use Rattle.wire_msg.specs.declared.packet.Do.{Do}
 use Rattle.wire_msg.specs.declared.packet.Do.TheVariants.{Begin, Deliver, Tick}
 use Rattle.wire_msg.specs.declared.packet.Packet.{Packet as Sent}
 use Rattle.wire_msg.specs.declared.registry.Welcome.{Welcome}
-use Rattle.node_index_tie.specs.ManagerEvents.{PhaseAgrees, ServingAgrees, ManagerAgrees, WaitingGets, PacketGets, EventGets, WritesTexts, ManagerOwed, ManagerGoes, ManagerEventGoes}
+use Rattle.node_index_tie.specs.ManagerEvents.{PhaseAgrees, ServingAgrees, ManagerAgrees, AllNewsGets, WaitingGets, PacketGets, EventGets, WritesTexts, ManagerOwed, ManagerGoes, ManagerEventGoes}
 use Rattle.node_index_tie.specs.Pages.{Desk, FlightIsText}
 use Rattle.node_index_tie.specs.Sight.{Texts, Questions, AreTexts, ManagerDoes}
 use Rattle.node_index_tie.proofs.Hearing.{tick_serves, hears_serves, news_serves}
@@ -174,3 +177,82 @@ module _ (part : ℕ) (texts : Texts) (questions : Questions) (exists : part < 8
   unknown_at (suc (suc (suc (suc (suc (suc zero)))))) = refl
   unknown_at (suc (suc (suc (suc (suc (suc (suc zero))))))) = refl
   unknown_at (suc (suc (suc (suc (suc (suc (suc (suc k)))))))) = refl
+
+  -- a log and a writer that have begun
+  pub begun_agreed : (kept : Kept) (maps : Maps) (slots : Table) (groups : GroupMapState) → length slots ≡ 8 → PhaseAgrees part texts n (record { log = log_started (log_of kept.number) kept.inc no_end groups; given = []; writer = writer_started (log_of kept.number) }) (phase_at slots part)
+      → ServingAgrees part texts n (serving_begun kept maps slots groups)
+  begun_agreed kept maps slots groups eight here = record {
+    eight = eight;
+    given = [];
+    here = here;
+    writer = record {
+      same_log = refl;
+      named = λ f is. absurd (some_none f (sym is));
+      nothing_waits = refl;
+      idle = λ _. refl;
+      answered = λ e is. refl;
+      work = λ w is of. absurd (some_none w (sym is));
+    };
+    closed = λ _. (refl, refl);
+    done = tt;
+  }
+
+  -- the Welcome that it awaited: it serves
+  opens_goes : (peers : Peers) (kept : Kept) (hello : ℕ) (packet : Sent) (welcome : Welcome) → kept.number ≡ j → AreTexts texts n.filed → packet.body ≡ body.Welcome welcome → WaitingGets part texts questions j n kept.inc (body.Welcome welcome)
+      → takes_welcome peers kept hello welcome ≡ true → FlightIsText texts (on_news (again kept (forgotten peers.servers) welcome.news.groups) peers.clients welcome.news).state.log
+      → Goes (Waiting kept hello) (Deliver packet) (serves (on_news (again kept (forgotten peers.servers) welcome.news.groups) peers.clients welcome.news))
+  opens_goes peers kept hello packet welcome number filed is gets takes writes =
+      let what : Do = Deliver packet in
+      let answered : (welcome.inc == kept.inc) && (welcome.ask == hello) ≡ true = and_first ((welcome.inc == kept.inc) && (welcome.ask == hello)) (fits (forgotten peers.servers) welcome.news) takes in
+      let same_inc : welcome.inc ≡ kept.inc = eqb-true welcome.inc kept.inc (and_first (welcome.inc == kept.inc) (welcome.ask == hello) answered) in
+      let s : Serving = again kept (forgotten peers.servers) welcome.news.groups in
+      let none : epoch_of (phase_at unknown_table part) ≡ 0 = ap epoch_of (unknown_at part) in
+      let h = news_serves part texts questions exists (λ e. Names part j e what) j n s peers.clients welcome.news number
+      (begun_agreed kept (forgotten peers.servers) unknown_table welcome.news.groups refl (subst (PhaseAgrees part texts n _) (sym (unknown_at part)) tt)) filed (λ f there. absurd (some_none f (sym there)))
+      (subst (λ k. AllNewsGets part texts questions j n k welcome.news.slots) (sym none) (gets same_inc)) (λ x there of ours. subst (NamedBy part j x.epoch) (sym is) (x, there, of, refl, ours)) in
+      record {
+        next = h.next;
+        runs = h.runs;
+        agrees = (h.agrees, writes);
+        rest = h.grows.rest;
+        slots = λ e other not_named. h.slots e (λ at. subst (λ p. HeldAt p e) (unknown_at part) at) not_named;
+        stay = h.grows.stay;
+        grows = h.grows.sent;
+        does = All-from_recursion (ManagerDoes part questions h.next) _ h.does;
+      }
+
+  waiting_gets : (peers : Peers) (kept : Kept) (hello : ℕ) (packet : Sent) (b : Body) → kept.number ≡ j → AreTexts texts n.filed → packet.body ≡ b → WaitingGets part texts questions j n kept.inc b
+      → WritesTexts part texts questions j n (on_waiting peers kept hello b).state → Goes (Waiting kept hello) (Deliver packet) (on_waiting peers kept hello b)
+  unfolding on_welcome
+  waiting_gets peers kept hello packet (body.Welcome welcome) number filed is gets writes =
+      by_test (λ (w : Went_to). WritesTexts part texts questions j n w.state → Goes (Waiting kept hello) (Deliver packet) w) (takes_welcome peers kept hello welcome)
+      (serves (on_news (again kept (forgotten peers.servers) welcome.news.groups) peers.clients welcome.news)) (still (Waiting kept hello))
+      (λ takes text. opens_goes peers kept hello packet welcome number filed is gets takes text) (λ _ _. to_itself (Waiting kept hello) (Deliver packet) tt) writes
+  waiting_gets peers kept hello packet _ number filed is gets writes = to_itself (Waiting kept hello) (Deliver packet) tt
+
+  packet_goes : (peers : Peers) (p : Phase) (packet : Sent) → (lasting_of p).number ≡ j → ManagerAgrees part texts n p → AreTexts texts n.filed → PacketGets part texts questions j n p packet → WritesTexts part texts questions j n (on_packet peers p packet).state
+      → Goes p (Deliver packet) (on_packet peers p packet)
+  packet_goes peers (Down kept) packet number agrees filed gets writes = to_itself (Down kept) (Deliver packet) tt
+  packet_goes peers (Waiting kept hello) packet number agrees filed gets writes = waiting_gets peers kept hello packet packet.body number filed refl gets writes
+  packet_goes peers (Serves s) packet number agrees filed gets writes =
+      to_serving s (Deliver packet) (hears s peers.clients packet) writes
+      (hears_serves part texts questions exists (λ e. Names part j e (Deliver packet)) j n s peers.clients packet number agrees.0 filed agrees.1 gets (λ e is. is))
+
+  deliver_goes : (peers : Peers) (p : Phase) (packet : Sent) → (lasting_of p).number ≡ j → ManagerAgrees part texts n p → AreTexts texts n.filed → PacketGets part texts questions j n p packet → WritesTexts part texts questions j n (on_deliver peers p packet).state
+      → Goes p (Deliver packet) (on_deliver peers p packet)
+  unfolding on_deliver
+  deliver_goes peers p packet number agrees filed gets writes =
+      by_test (λ (w : Went_to). WritesTexts part texts questions j n w.state → Goes p (Deliver packet) w) (is_well_formed peers packet) (on_packet peers p packet) (still p)
+      (λ _ text. packet_goes peers p packet number agrees filed gets text) (λ _ _. to_itself p (Deliver packet) agrees) writes
+
+  event_goes : (peers : Peers) (p : Phase) (what : Do) → (lasting_of p).number ≡ j → ManagerAgrees part texts n p → AreTexts texts n.filed → EventGets part texts questions j n p what → WritesTexts part texts questions j n (on_event peers p what).state
+      → Goes p what (on_event peers p what)
+  event_goes peers p Begin number agrees filed gets writes = begin_goes p agrees writes
+  event_goes peers p (Deliver packet) number agrees filed gets writes = deliver_goes peers p packet number agrees filed gets writes
+  event_goes peers p Tick number agrees filed gets writes = time_goes p agrees filed writes
+
+pub manager_event_goes : ManagerEventGoes
+unfolding happens
+manager_event_goes part texts questions j n m what exists number agrees owed =
+    by_test (λ (w : Went_to). WritesTexts part texts questions j n w.state → ManagerGoes part texts questions j n m.phase what w) (phase_has_room m.phase) (on_event m.peers m.phase what) (still m.phase)
+    (λ _ text. event_goes part texts questions exists j n m.peers m.phase what number agrees owed.filed owed.gets text) (λ _ _. to_itself part texts questions exists j n m.phase what agrees) owed.writes

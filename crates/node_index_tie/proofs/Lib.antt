@@ -15,3 +15,4 @@ pub mod Planning
 pub mod Serving
 pub mod Hearing
 pub mod Events
+pub mod Start

@@ -1,2 +1,16 @@
-//! draft
+//! What a node does in one event, as inputs of the machines that know where blocks lie: the tie of the nodes to the small world
+//! of `index_tie`, for one slot of the map. It has no code: each function below has an empty body, and its contract is a law.
+//! `specs/Sight.antt` says how what nodes send is seen in the small world.
 #![tactic(auto)]
+
+ghost use Rattle.node_index_tie.specs.ManagerEvents.{FirstManagerAgrees, ManagerEventGoes};
+
+/// What an event makes of a manager is a run of the small world, if the packet that comes was sent there and tells what is so.
+///
+/// - `start`: a manager at its start is seen in the opening of the small world.
+/// - `events`: a manager that is seen there before an event is seen after it in a world to which that one runs on; what it sends of the slot
+///   was sent there.
+pub fn manager_events_are_seen()
+    ensures start { FirstManagerAgrees }
+    ensures events { ManagerEventGoes }
+{}
