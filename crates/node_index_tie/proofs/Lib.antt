@@ -16,3 +16,4 @@ pub mod Serving
 pub mod Hearing
 pub mod Events
 pub mod Start
+pub mod Registry

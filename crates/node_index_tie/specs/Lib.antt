@@ -1,3 +1,4 @@
 pub mod Sight
 pub mod Pages
 pub mod ManagerEvents
+pub mod RegistryEvents

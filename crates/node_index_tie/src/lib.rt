@@ -4,6 +4,7 @@
 #![tactic(auto)]
 
 ghost use Rattle.node_index_tie.specs.ManagerEvents.{FirstManagerAgrees, ManagerEventGoes};
+ghost use Rattle.node_index_tie.specs.RegistryEvents.{RegistryEventGoes, RegistryStarts};
 
 /// What an event makes of a manager is a run of the small world, if the packet that comes was sent there and tells what is so.
 ///
@@ -13,4 +14,15 @@ ghost use Rattle.node_index_tie.specs.ManagerEvents.{FirstManagerAgrees, Manager
 pub fn manager_events_are_seen()
     ensures start { FirstManagerAgrees }
     ensures events { ManagerEventGoes }
+{}
+
+/// What an event makes of the registry is a run of the small world, if the checkpoint that comes was sent there: the epoch of the slot rises,
+/// or a checkpoint of it is kept.
+///
+/// - `start`: the registry at its start is seen in the opening of the small world.
+/// - `events`: a registry that is seen there before an event is seen after it in a world to which that one runs on; its maps tell of the slot
+///   what that one keeps.
+pub fn registry_events_are_seen()
+    ensures start { RegistryStarts }
+    ensures events { RegistryEventGoes }
 {}
