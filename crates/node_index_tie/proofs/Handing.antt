@@ -164,11 +164,11 @@ module _ (part : ℕ) (texts : Texts) (asked : Questions) (named : ℕ → Type 
 
     ends : (l : ℕ) → 0 < l → l ≤ 9 → of_log k.news.horizon l ≤ (end_of later.reports l).seq → IsEnd n.filed l (end_of later.reports l)
     ends l some most = of_end part n t.epoch later.reports known l (λ end. of_log k.news.horizon l ≤ end.seq → IsEnd n.filed l end)
-        (λ low. absurd (let h = k.known.from_one l some most in omega arith)) (λ end e. subst (λ (h : List ℕ). of_log h l ≤ end.seq → IsEnd n.filed l end) horizon e.filed)
+        (λ low. absurd (let h = k.known.from_one l some most in omega arith)) (λ end e. subst (λ (h : List ℕ). 0 < of_log h l → of_log h l ≤ end.seq → IsEnd n.filed l end) horizon e.filed (k.known.from_one l some most))
 
     linked : (l : ℕ) → 0 < l → l ≤ 9 → Linked n.filed l (of_log k.news.horizon l) (end_of later.reports l).seq
     linked l some most = of_end part n t.epoch later.reports known l (λ end. Linked n.filed l (of_log k.news.horizon l) end.seq)
-        (λ q low high. absurd (omega arith)) (λ end e. subst (λ (h : List ℕ). Linked n.filed l (of_log h l) end.seq) horizon e.linked)
+        (λ q low high. absurd (omega arith)) (λ end e. subst (λ (h : List ℕ). 0 < of_log h l → Linked n.filed l (of_log h l) end.seq) horizon e.linked (k.known.from_one l some most))
 
     short : (l : ℕ) → 0 < l → l ≤ 9 → applied_at k.news.horizon later.reports l < u32_end
     short l some most =

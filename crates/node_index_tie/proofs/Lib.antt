@@ -17,3 +17,4 @@ pub mod Hearing
 pub mod Events
 pub mod Start
 pub mod Registry
+pub mod Staying

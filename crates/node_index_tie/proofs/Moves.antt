@@ -85,8 +85,8 @@ grows_sent n new = record { rest = refl; stay = λ e h. h; sent = λ x is. in_mo
 module _ (part : ℕ) (n m : Net) (g : Grows n m) where
   pub end_on : (epoch log : ℕ) (end : End) → EndKnown part n epoch log end → EndKnown part m epoch log end
   end_on epoch log end k = record {
-    filed = subst (λ (x : Net). of_log (x.horizon epoch) log ≤ end.seq → IsEnd x.filed log end) (sym g.rest) k.filed;
-    linked = subst (λ (x : Net). Linked x.filed log (of_log (x.horizon epoch) log) end.seq) (sym g.rest) k.linked;
+    filed = subst (λ (x : Net). 0 < of_log (x.horizon epoch) log → of_log (x.horizon epoch) log ≤ end.seq → IsEnd x.filed log end) (sym g.rest) k.filed;
+    linked = subst (λ (x : Net). 0 < of_log (x.horizon epoch) log → Linked x.filed log (of_log (x.horizon epoch) log) end.seq) (sym g.rest) k.linked;
     short = k.short;
   }
 

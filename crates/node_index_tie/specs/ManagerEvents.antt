@@ -3,6 +3,7 @@ use Rattle.std.specs.Prelude.{◌≡◌, ◌≤◌, ◌<◌, ℕ, List, [], Opti
 use Rattle.std.specs.List.{All, AllByRecursion}
 use Rattle.checkpoint.specs.WriterState.{Rows}
 use Rattle.group_map.specs.GroupMapState.{GroupMapState}
+use Rattle.index_tie.specs.Growth.{IsMore}
 use Rattle.index_tie.specs.Net.{Net, Packet, Runs, opening}
 use Rattle.log_protocol.specs.Tables.{In}
 use Rattle.manager_node.specs.Events.{first_manager, happens}
@@ -222,3 +223,17 @@ ManagerEventGoes =
 abbrev pub FirstManagerAgrees : Type 0
 FirstManagerAgrees =
     (part : ℕ) (texts : Texts) (any : ℕ → ℕ → Segment) (number : ℕ) (setup : Setup) (works : List Work) → part < 8 → ManagerAgrees part texts (opening any) (first_manager number setup works).phase
+
+-- The small world has gone on, and of the slots those that a manager holds have stayed, as has what the registry keeps of epochs that it takes over.
+pub record Passes (n m : Net) (p : SlotPhase) : Type 0 where
+  pub slots : (e : ℕ) → HeldAt p e → m.slots e ≡ n.slots e
+  pub stay : (e : ℕ) → m.slots e ≡ None → n.slots e ≡ None
+  pub sent : (x : Packet) → In x n.sent → In x m.sent
+  pub filed : IsMore n.filed m.filed
+  pub epoch : n.epoch ≤ m.epoch
+  pub horizon : (e : ℕ) → HeldAt p e → n.slots e ≡ None → m.horizon e ≡ n.horizon e
+  pub parts : (e : ℕ) → HeldAt p e → n.slots e ≡ None → m.parts e ≡ n.parts e
+
+-- What others do leaves a manager seen.
+abbrev pub ManagersStay : Type 0
+ManagersStay = (part : ℕ) (texts : Texts) (n m : Net) (p : Phase) → Passes n m (slot_in part p) → ManagerAgrees part texts n p → ManagerAgrees part texts m p

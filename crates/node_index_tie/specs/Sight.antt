@@ -63,10 +63,11 @@ module _ (part : ℕ) (n : Net) where
     pub fit : RowsFit m.rows
     pub short : m.upto < u32_end
 
-  -- The end of a log that is reported to the manager of this epoch: where it isn't below the epoch's horizon it is filed, and the log is linked from there to it.
+  -- The end of a log that is reported to the manager of this epoch: where it isn't below the epoch's horizon, which is 1 at least, it is filed, and the log is
+  -- linked from there to it.
   pub record EndKnown (epoch log : ℕ) (end : End) : Type 0 where
-    pub filed : of_log (n.horizon epoch) log ≤ end.seq → IsEnd n.filed log end
-    pub linked : Linked n.filed log (of_log (n.horizon epoch) log) end.seq
+    pub filed : 0 < of_log (n.horizon epoch) log → of_log (n.horizon epoch) log ≤ end.seq → IsEnd n.filed log end
+    pub linked : 0 < of_log (n.horizon epoch) log → Linked n.filed log (of_log (n.horizon epoch) log) end.seq
     pub short : end.seq < u32_end
 
   -- what is known of a report; that of the cleaner was sent, in this epoch

@@ -3,7 +3,7 @@
 //! `specs/Sight.antt` says how what nodes send is seen in the small world.
 #![tactic(auto)]
 
-ghost use Rattle.node_index_tie.specs.ManagerEvents.{FirstManagerAgrees, ManagerEventGoes};
+ghost use Rattle.node_index_tie.specs.ManagerEvents.{FirstManagerAgrees, ManagerEventGoes, ManagersStay};
 ghost use Rattle.node_index_tie.specs.RegistryEvents.{RegistryEventGoes, RegistryStarts};
 
 /// What an event makes of a manager is a run of the small world, if the packet that comes was sent there and tells what is so.
@@ -11,9 +11,11 @@ ghost use Rattle.node_index_tie.specs.RegistryEvents.{RegistryEventGoes, Registr
 /// - `start`: a manager at its start is seen in the opening of the small world.
 /// - `events`: a manager that is seen there before an event is seen after it in a world to which that one runs on; what it sends of the slot
 ///   was sent there.
+/// - `others`: what others do leaves a manager seen, where they leave it the slots that it holds.
 pub fn manager_events_are_seen()
     ensures start { FirstManagerAgrees }
     ensures events { ManagerEventGoes }
+    ensures others { ManagersStay }
 {}
 
 /// What an event makes of the registry is a run of the small world, if the checkpoint that comes was sent there: the epoch of the slot rises,
