@@ -1,5 +1,5 @@
 -- What the slot that is managed makes of a want, a gave, Deltas, a check and time.
-use Rattle.std.proofs.Common.{◌≡◌, ℕ, ◌-◌, ◌<◌, ◌≤◌, ◌==◌, Bool, true, false, cond, List, [], ◌∷◌, ◌++◌, inl, inr, length, length-set, get_or, Some, None, refl, sym, ap, subst, ◌∙◌, arith}
+use Rattle.std.proofs.Common.{◌≡◌, ℕ, ◌-◌, ◌<◌, ◌≤◌, ◌==◌, Bool, true, false, cond, List, [], ◌∷◌, ◌++◌, inl, length, length-set, get_or, Some, refl, sym, ap, subst, ◌∙◌, arith}
 use Rattle.std.specs.List.{flat_map, slice_set}
 use Rattle.std.proofs.lemmas.Bool.{eqb-true}
 use Rattle.std.proofs.lemmas.Bool.Decides.{nat_tests}
@@ -8,42 +8,35 @@ use Rattle.xfs_base.proofs.Booleans.{by_test}
 use Rattle.xfs_base.specs.Blocks.{slot_of}
 use Rattle.xfs_base.specs.Limits.{u32_end}
 use Rattle.xfs_base.specs.Steps.{still}
-use Rattle.xfs_base.specs.declared.block.BlockId.{BlockId}
-use Rattle.xfs_base.specs.declared.entry.Entry.{Entry}
 use Rattle.xfs_base.specs.declared.segment.LogId.{LogId}
 use Rattle.node_index_tie.specs.Pages.{Desk}
 use Rattle.index_tie.specs.Net.{Net, Happens, with_slot, IsOfTokens, answer_packets}
 use Rattle.index_tie.specs.Net.Packet.{AnsweredLive, AnsweredDead}
 use Rattle.index_tie.specs.Net.Happens.{GetsDeltas, GetsOther, Answers}
-use Rattle.index_tie.proofs.Events.{epoch_stays}
 use Rattle.index_tie.proofs.Slots.{Same}
-use Rattle.log_protocol.specs.Tables.{In}
-use Rattle.manager_node.specs.Slots.{epoch_of, with_slot as holding}
-use Rattle.manager_node.specs.Tokens.{said, takes, want_input, gone, on_want, gave_input, on_gave, deltas_input, on_deltas, check_input, checked, check_said, on_check, on_usage_ask, on_tick}
+use Rattle.manager_node.specs.Slots.{with_slot as holding}
+use Rattle.manager_node.specs.Tokens.{said, takes, want_input, gone, on_want, deltas_input, on_deltas, check_input, check_said, on_check, on_usage_ask}
 use Rattle.manager_node.specs.declared.slot_phase.Active.{Active}
 use Rattle.manager_node.specs.declared.slot_phase.SlotPhase.{SlotPhase}
 use Rattle.manager_node.specs.declared.slot_phase.SlotPhase.TheVariants as phase
 use Rattle.node_base.specs.declared.effects.Effect.{Effect}
-use Rattle.node_tie.specs.ManagerEvents.{HeldAt}
-use Rattle.token_manager.specs.Index.{Indexed, pages_of, indexed_all}
+use Rattle.token_manager.specs.Index.{Indexed, pages_of}
 use Rattle.token_manager.specs.Recalls.{applied_of}
 use Rattle.token_manager.specs.SlotState.{SlotState}
 use Rattle.token_manager.specs.Transition as slot
 use Rattle.token_manager.specs.declared.input.In.{In as Input}
-use Rattle.token_manager.specs.declared.input.In.TheVariants as input
 use Rattle.token_manager.specs.declared.output.Out.{Out}
 use Rattle.token_manager.specs.declared.output.Out.TheVariants as out
 use Rattle.wire_msg.specs.declared.cleaning.Check.{Check}
 use Rattle.wire_msg.specs.declared.cleaning.UsageAsk.{UsageAsk}
 use Rattle.wire_msg.specs.declared.deltas.Deltas.{Deltas}
-use Rattle.wire_msg.specs.declared.tokens.Gave.{Gave}
 use Rattle.wire_msg.specs.declared.tokens.Want.{Want}
 use Rattle.node_index_tie.specs.ManagerEvents.{PhaseAgrees, ActiveAgrees}
 use Rattle.node_index_tie.specs.Pages.{Paged}
 use Rattle.node_index_tie.specs.Sight.{Texts, Questions, held_in, DeltasKnown, CheckKnown}
 use Rattle.node_index_tie.proofs.Agreeing.{phase_on}
 use Rattle.node_index_tie.proofs.Inputs.{tokens_same, deltas_take}
-use Rattle.node_index_tie.proofs.Moves.{AllDone, Sees, Grows, grows_slot, grows_sent, put_here, sees_same, sees_sent, sees_slot}
+use Rattle.node_index_tie.proofs.Moves.{AllDone, Sees, grows_slot, grows_sent, put_here, sees_same, sees_sent, sees_slot}
 use Rattle.node_index_tie.proofs.Puts.{paged_put, paged_on, pages-indexed_all}
 
 module _ (part : ℕ) (texts : Texts) (asked : Questions) (named : ℕ → Type 0) (desk : Desk) where

@@ -1,6 +1,5 @@
 -- How a manager is seen depends on the slots that it holds, on what was sent and on what the registry keeps of its epochs alone: it stays while the small world goes on.
-use Rattle.std.proofs.Common.{◌≡◌, ℕ, List, Option, Some, None, refl, sym, ap, subst, ◌∙◌}
-use Rattle.checkpoint.specs.WriterState.{WorkState}
+use Rattle.std.proofs.Common.{◌≡◌, ℕ, Option, Some, None, refl, sym, subst, ◌∙◌}
 use Rattle.node_index_tie.specs.Pages.{Desk, desk_of}
 use Rattle.index_tie.specs.Net.{Net}
 use Rattle.manager_node.specs.declared.checkpointing.Checkpointing.{Checkpointing}

@@ -1,9 +1,8 @@
 -- Each event of a manager is a list of things that happen in the small world of one slot's index.
-use Rattle.std.proofs.Common.{◌≡◌, ℕ, zero, suc, ◌+◌, ◌==◌, ◌<◌, ◌≤◌, ◌&&◌, ◌⊎◌, inl, inr, true, false, List, [], ◌∷◌, ◌++◌, length, Option, Some, None, refl, sym, ap, subst, ◌∙◌, arith}
-use Rattle.std.specs.List.{All}
+use Rattle.std.proofs.Common.{◌≡◌, ℕ, zero, suc, ◌+◌, ◌==◌, ◌<◌, ◌&&◌, true, List, [], ◌∷◌, ◌++◌, length, Option, Some, None, refl, sym, ap, subst, ◌∙◌}
 use Rattle.std.proofs.lemmas.Bool.{eqb-true}
 use Rattle.std.proofs.lemmas.List.Elements.{All-from_recursion}
-use Rattle.xfs_base.proofs.Booleans.{by_test, and_first, and_second}
+use Rattle.xfs_base.proofs.Booleans.{by_test, and_first}
 use Rattle.xfs_base.specs.Steps.{still}
 use Rattle.index_tie.specs.Net.{Net}
 use Rattle.index_tie.specs.Net.Runs.{Begun}
@@ -20,7 +19,6 @@ use Rattle.manager_node.specs.declared.lasting.Lasting.{Lasting as Kept}
 use Rattle.manager_node.specs.declared.phase.Phase.{Phase}
 use Rattle.manager_node.specs.declared.phase.Phase.TheVariants.{Down, Waiting, Serving as Serves}
 use Rattle.manager_node.specs.declared.serving.Serving.{Serving}
-use Rattle.manager_node.specs.declared.slot_phase.SlotPhase.{SlotPhase}
 use Rattle.manager_node.specs.declared.slot_phase.SlotPhase.TheVariants as phase
 use Rattle.group_map.specs.GroupMapState.{GroupMapState}
 use Rattle.node_base.specs.Beginning.{is_left, next_item, work_at, answers_unanswered, begun}
@@ -31,7 +29,7 @@ use Rattle.node_base.specs.declared.effects.Effect.TheVariants.{Answer as Answer
 use Rattle.node_base.specs.declared.items.Items.{Items}
 use Rattle.node_base.specs.declared.maps.Maps.{Maps}
 use Rattle.node_base.specs.declared.peers.Peers.{Peers}
-use Rattle.node_tie.specs.ManagerEvents.{phase_at, HeldAt, Names, NamedBy, slot_in}
+use Rattle.node_tie.specs.ManagerEvents.{phase_at, HeldAt, Names, NamedBy}
 use Rattle.version_model.specs.declared.answer.Answer.{Answer}
 use Rattle.version_model.specs.declared.answer.Answer.TheVariants as answer
 use Rattle.version_model.specs.declared.work.Work.{Work}
@@ -42,13 +40,12 @@ use Rattle.wire_msg.specs.declared.packet.Do.{Do}
 use Rattle.wire_msg.specs.declared.packet.Do.TheVariants.{Begin, Deliver, Tick}
 use Rattle.wire_msg.specs.declared.packet.Packet.{Packet as Sent}
 use Rattle.wire_msg.specs.declared.registry.Welcome.{Welcome}
-use Rattle.node_index_tie.specs.ManagerEvents.{PhaseAgrees, ServingAgrees, ManagerAgrees, AllNewsGets, WaitingGets, PacketGets, EventGets, WritesTexts, ManagerOwed, ManagerGoes, ManagerEventGoes}
-use Rattle.node_index_tie.specs.Pages.{Desk, FlightIsText}
+use Rattle.node_index_tie.specs.ManagerEvents.{PhaseAgrees, ServingAgrees, ManagerAgrees, AllNewsGets, WaitingGets, PacketGets, EventGets, WritesTexts, ManagerGoes, ManagerEventGoes}
+use Rattle.node_index_tie.specs.Pages.{FlightIsText}
 use Rattle.node_index_tie.specs.Sight.{Texts, Questions, AreTexts, ManagerDoes}
 use Rattle.node_index_tie.proofs.Hearing.{tick_serves, hears_serves, news_serves}
-use Rattle.node_index_tie.proofs.Moves.{AllDone, DoesAt, Sees, some_none, all_both, sees_quiet}
-use Rattle.node_index_tie.proofs.Serving.{Of, still_of, checkpoint_serves}
-use Rattle.node_index_tie.proofs.Writing.{serves_same}
+use Rattle.node_index_tie.proofs.Moves.{AllDone, some_none}
+use Rattle.node_index_tie.proofs.Serving.{Of, checkpoint_serves}
 
 module _ (part : ℕ) (texts : Texts) (questions : Questions) (exists : part < 8) (j : ℕ) (n : Net) where
   abbrev Goes : Phase → Do → Went_to → Type 0

@@ -1,11 +1,11 @@
 -- What the log that checkpoints are written to makes of its inputs: what it has in flight goes on with its items, or is settled, and nothing else is written.
-use Rattle.std.proofs.Common.{◌≡◌, ℕ, ◌+◌, ◌&&◌, ◌⊎◌, inl, inr, Bool, true, false, cond, List, [], ◌∷◌, ◌++◌, Option, Some, None, refl, sym, ap, subst, ◌∙◌}
+use Rattle.std.proofs.Common.{◌≡◌, ℕ, ◌+◌, ◌&&◌, ◌⊎◌, inl, inr, Bool, true, false, cond, List, [], ◌∷◌, Option, Some, None, refl, sym, ap, subst, ◌∙◌}
 use Rattle.std.specs.List.{AllByRecursion}
 use Rattle.std.specs.Prelude.{nat_le, length}
 use Rattle.xfs_base.specs.Limits.{segment_blocks}
 use Rattle.segment_format.specs.Rows.{rows_of}
 use Rattle.xfs_base.proofs.Booleans.{by_test}
-use Rattle.xfs_base.specs.Steps.{Stepped, still, after}
+use Rattle.xfs_base.specs.Steps.{still, after}
 use Rattle.xfs_base.specs.declared.block.BlockId.{BlockId}
 use Rattle.xfs_base.specs.declared.entry.Entry.{Entry}
 use Rattle.xfs_base.specs.declared.segment.SegName.{SegName}
@@ -21,7 +21,7 @@ use Rattle.client_log.specs.declared.output.Out.{Out}
 use Rattle.client_log.specs.declared.output.Out.TheVariants.{Send, Settled}
 use Rattle.client_log.specs.Fate.{fate_of}
 use Rattle.client_log.specs.LogState.{FlightState, LogState, is_noted}
-use Rattle.client_log.specs.Transition.{Done, send_at, sends, all_sends, launched, next_name, prior_from, writes, has_next, is_idle, is_full, sealed, if_full, on_parts, next_attempt, restriped, end_from, landed, settled, can_follow, followed, looked_at, is_of, noting, on_acked, on_maps, on_tick, transition}
+use Rattle.client_log.specs.Transition.{Done, send_at, sends, all_sends, launched, writes, has_next, is_idle, is_full, sealed, if_full, on_parts, restriped, end_from, landed, settled, can_follow, followed, looked_at, is_of, noting, on_acked, on_maps, on_tick, transition}
 use Rattle.client_log.specs.Texts.{has_text}
 use Rattle.node_index_tie.proofs.Moves.{some_none, all_both}
 

@@ -1,5 +1,5 @@
 -- What a takeover makes of an input in the small world: it is seen as before with one input more, or the slot that it hands out is active there.
-use Rattle.std.proofs.Common.{◌≡◌, ℕ, ◌-◌, ◌<◌, ◌≤◌, ◌==◌, ◌⊎◌, inl, inr, ⊎_elim, nat_lt, nat_le, max, Bool, true, false, cond, List, [], ◌∷◌, ◌++◌, map, length, Some, None, refl, sym, ap, subst, ◌∙◌, arith}
+use Rattle.std.proofs.Common.{◌≡◌, ℕ, ◌-◌, ◌<◌, ◌≤◌, ◌==◌, ◌⊎◌, inl, inr, ⊎_elim, nat_lt, max, Bool, true, false, cond, List, [], ◌∷◌, ◌++◌, map, length, Some, None, refl, sym, ap, subst, ◌∙◌, arith}
 use Rattle.std.specs.Prelude.{Contains, ◌||◌}
 use Rattle.std.specs.List.{range_with_len}
 use Rattle.std.proofs.lemmas.Bool.{eqb-true}
@@ -9,13 +9,12 @@ use Rattle.xfs_base.proofs.Members.{contains_first}
 use Rattle.xfs_base.specs.Limits.{u32_end}
 use Rattle.xfs_base.specs.Steps.{still}
 use Rattle.xfs_base.specs.declared.block.BlockId.{BlockId}
-use Rattle.xfs_base.specs.declared.entry.Entry.{Entry}
 use Rattle.xfs_base.specs.declared.news.SlotNews.{SlotNews}
 use Rattle.xfs_base.specs.declared.node.NodeId.{NodeId}
 use Rattle.xfs_base.specs.declared.node.NodeId.TheVariants.{Client, Cleaner}
 use Rattle.xfs_base.specs.declared.segment.End.{End}
 use Rattle.xfs_base.specs.declared.token.Mode.{Mode}
-use Rattle.checkpoint.specs.WriterState.{Rows, WorkState}
+use Rattle.checkpoint.specs.WriterState.{WorkState}
 use Rattle.node_index_tie.specs.Pages.{Desk}
 use Rattle.group_map.specs.GroupMapState.{GroupMapState}
 use Rattle.index_tie.specs.Net.{Net, with_slot, HasRead}
@@ -30,19 +29,17 @@ use Rattle.manager_node.specs.Takeovers.{Asker, asker, Done, says, says_each, he
 use Rattle.manager_node.specs.declared.slot_phase.SlotPhase.{SlotPhase}
 use Rattle.manager_node.specs.declared.slot_phase.SlotPhase.TheVariants as phase
 use Rattle.manager_node.specs.declared.slot_phase.Taking.{Taking}
-use Rattle.node_base.specs.declared.effects.Effect.{Effect}
 use Rattle.node_base.specs.declared.questions.Questions.{Questions as Numbers}
 use Rattle.node_tie.specs.ManagerEvents.{HeldAt}
-use Rattle.node_tie.proofs.ManagerTakes.{ArePlain, Hands, Brings, took, all_heard, same_node_is}
+use Rattle.node_tie.proofs.ManagerTakes.{Hands, Brings, took, all_heard, same_node_is}
 use Rattle.segment_format.specs.declared.segment.Segment.{Segment}
 use Rattle.takeover.specs.Course.{Course, course_of, after_input, IsTakenOver}
 use Rattle.takeover.specs.ReadBack.{told_by_all}
-use Rattle.takeover.specs.Reports.{applied_of, applied_at, beliefs_of, same_node, is_heard, end_of, end_from, no_end, writer_of, polled, client_after, unheard, awaited_of, horizon_at}
+use Rattle.takeover.specs.Reports.{applied_of, applied_at, beliefs_of, same_node, is_heard, end_of, end_from, no_end, writer_of, polled, client_after, awaited_of, horizon_at}
 use Rattle.takeover.specs.TakeState.{TakeState, started}
-use Rattle.takeover.specs.Transition.{active, awaited, transition}
+use Rattle.takeover.specs.Transition.{active, transition}
 use Rattle.takeover.specs.declared.input.In.{In as Input}
 use Rattle.takeover.specs.declared.input.In.TheVariants as input
-use Rattle.takeover.specs.declared.output.Out.{Out}
 use Rattle.takeover.specs.declared.output.Out.TheVariants as out
 use Rattle.takeover.specs.declared.report.Report.{Report as Heard}
 use Rattle.takeover.proofs.Standing.{taken_over}
@@ -52,10 +49,10 @@ use Rattle.token_manager.specs.SlotState.{SlotState}
 use Rattle.token_manager.specs.Transition.{started as slot_started}
 use Rattle.token_protocol.specs.Basics.{In as Among}
 use Rattle.wire_msg.specs.declared.deltas.Report.{Report}
-use Rattle.node_index_tie.specs.ManagerEvents.{TakingAgrees, PhaseAgrees, ReportGets, completes}
+use Rattle.node_index_tie.specs.ManagerEvents.{TakingAgrees, PhaseAgrees, completes}
 use Rattle.node_index_tie.specs.Sight.{Texts, Questions, held_in, RowsFit, IsRead, AreTexts, EndKnown, ReportKnown, NewsKnown}
 use Rattle.node_index_tie.proofs.Active.{Event, event_same}
-use Rattle.node_index_tie.proofs.Moves.{AllDone, Sees, held_is, put_here, grows_slot, sees_quiet, sees_slot}
+use Rattle.node_index_tie.proofs.Moves.{AllDone, put_here, grows_slot, sees_quiet, sees_slot}
 use Rattle.node_index_tie.proofs.Puts.{paged_first, paged_on}
 use Rattle.node_index_tie.proofs.Reading.{after_one, AllRead, read_on, tells_parts, its_texts, fit_by_all, end_from_is}
 use Rattle.node_index_tie.proofs.Taking.{all_fits, takes_done, Stays, stays_each, stays_ticks}

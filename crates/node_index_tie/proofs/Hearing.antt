@@ -1,14 +1,13 @@
 -- What each packet, and time, makes of a manager that serves, in the small world: what comes for its slots, news of the maps, and what is said again.
-use Rattle.std.proofs.Common.{◌≡◌, ℕ, ◌==◌, ◌<◌, ◌≤◌, ◌⊎◌, inl, inr, ⊎_elim, Bool, true, false, List, [], ◌∷◌, ◌++◌, length, Option, Some, None, refl, sym, ap, subst, ◌∙◌, arith}
+use Rattle.std.proofs.Common.{◌≡◌, ℕ, ◌==◌, ◌<◌, ◌≤◌, inl, Bool, true, false, List, [], ◌∷◌, Option, Some, None, refl, sym, subst, ◌∙◌, arith}
 use Rattle.std.specs.Prelude.{unwrap_or}
 use Rattle.std.specs.List.{slice_get}
 use Rattle.std.proofs.lemmas.Bool.{eqb-true}
 use Rattle.xfs_base.proofs.Booleans.{by_test}
-use Rattle.xfs_base.specs.Steps.{Stepped, still, after}
+use Rattle.xfs_base.specs.Steps.{still, after}
 use Rattle.xfs_base.specs.declared.news.SlotNews.{SlotNews}
 use Rattle.xfs_base.specs.declared.node.NodeId.{NodeId}
 use Rattle.xfs_base.specs.declared.node.NodeId.TheVariants.{Client, Manager, Server, Cleaner, Registry}
-use Rattle.checkpoint.specs.WriterState.{WorkState}
 use Rattle.client_log.specs.declared.input.In.TheVariants as log_input
 use Rattle.group_map.specs.GroupMapState.{GroupMapState}
 use Rattle.index_tie.specs.Net.{Net}
@@ -25,8 +24,7 @@ use Rattle.manager_node.specs.declared.slot_phase.SlotPhase.{SlotPhase}
 use Rattle.manager_node.specs.declared.slot_phase.SlotPhase.TheVariants as phase
 use Rattle.node_base.specs.Known.{names_known}
 use Rattle.node_base.specs.Maps.{fits, is_older, taken}
-use Rattle.node_base.specs.declared.effects.Effect.{Effect}
-use Rattle.node_tie.specs.ManagerEvents.{phase_at, HeldAt, NamedBy}
+use Rattle.node_tie.specs.ManagerEvents.{phase_at, NamedBy}
 use Rattle.takeover.specs.declared.input.In.{In as TakeoverIn}
 use Rattle.takeover.specs.declared.input.In.TheVariants.{Got, Missing}
 use Rattle.takeover.specs.declared.report.Report.{Report as Heard}
@@ -44,18 +42,18 @@ use Rattle.wire_msg.specs.declared.storage.Found.{Found}
 use Rattle.wire_msg.specs.declared.storage.Missing.{Missing as Absent}
 use Rattle.wire_msg.specs.declared.tokens.Gave.{Gave}
 use Rattle.wire_msg.specs.declared.tokens.Want.{Want}
-use Rattle.node_index_tie.specs.ManagerEvents.{PhaseAgrees, ServingAgrees, DeltasGets, AllNewsGets, AnswerGets, FoundGets, AbsentGets, ServingGets}
-use Rattle.node_index_tie.specs.Pages.{Desk, desk_of, FlightIsText}
+use Rattle.node_index_tie.specs.ManagerEvents.{ServingAgrees, DeltasGets, AllNewsGets, AnswerGets, FoundGets, AbsentGets, ServingGets}
+use Rattle.node_index_tie.specs.Pages.{desk_of, FlightIsText}
 use Rattle.node_index_tie.specs.Sight.{Texts, Questions, AreTexts, CheckKnown, ReportKnown}
 use Rattle.xfs_base.specs.Blocks.{slot_of}
 use Rattle.node_index_tie.proofs.Agreeing.{writer_on, done_seen}
 use Rattle.node_index_tie.proofs.Handing.{OwesAt}
-use Rattle.node_index_tie.proofs.Moves.{Nothing, Grows, AllDone, Sees, held_is, some_none, news_on, sees_quiet, sees_as, sees_then, sees_named}
-use Rattle.node_index_tie.proofs.Serving.{Of, still_of, checkpoint_serves, ack_serves, tells_serves}
+use Rattle.node_index_tie.proofs.Moves.{Nothing, Grows, Sees, held_is, some_none, news_on, sees_quiet, sees_as, sees_then, sees_named}
+use Rattle.node_index_tie.proofs.Serving.{Of, still_of, ack_serves, tells_serves}
 use Rattle.node_index_tie.proofs.Settling.{writes_serves}
-use Rattle.node_index_tie.proofs.Tables.{TableAgrees, TableEvent, TableRose, table_wants, table_gaves, table_deltas, table_checks, table_usage, table_takes, table_reports, table_recalls_all, table_asks_all, table_regroups, table_hears_all}
+use Rattle.node_index_tie.proofs.Tables.{TableAgrees, TableEvent, table_wants, table_gaves, table_deltas, table_checks, table_usage, table_takes, table_reports, table_recalls_all, table_asks_all, table_regroups, table_hears_all}
 use Rattle.node_index_tie.proofs.Turning.{some_is}
-use Rattle.node_index_tie.proofs.Writing.{Serves, serves_same, serves_then}
+use Rattle.node_index_tie.proofs.Writing.{serves_same, serves_then}
 
 -- ---- the takeover that asked
 

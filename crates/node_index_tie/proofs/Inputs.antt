@@ -1,6 +1,5 @@
 -- What a slot's inputs leave of its index, of what is applied, and of its epoch.
-use Rattle.std.proofs.Common.{◌≡◌, ℕ, ◌-◌, ◌<◌, List, refl, arith, sym, ap, ◌∙◌, length, length-set, get_or}
-use Rattle.std.proofs.lemmas.List.{get_or-set_other, get_or-set_same}
+use Rattle.std.proofs.Common.{ℕ, List, refl}
 use Rattle.xfs_base.specs.declared.block.BlockId.{BlockId}
 use Rattle.xfs_base.specs.declared.entry.Entry.{Entry}
 use Rattle.xfs_base.specs.declared.segment.LogId.{LogId}
@@ -8,7 +7,7 @@ use Rattle.index_tie.specs.Net.{IsOfTokens}
 use Rattle.index_tie.proofs.Slots.{Same, same_itself, answering}
 use Rattle.token_manager.specs.declared.input.In.{In}
 use Rattle.token_manager.specs.declared.input.In.TheVariants.{Want, Gave, Deltas, Check, Tick}
-use Rattle.token_manager.specs.Recalls.{applied_of, ready_blocks}
+use Rattle.token_manager.specs.Recalls.{ready_blocks}
 use Rattle.token_manager.specs.SlotState.{SlotState}
 use Rattle.token_manager.specs.Transition.{want_of, applied_upto, with_deltas, transition}
 use Rattle.token_manager.proofs.Cases.{by_want, by_gave, by_deltas}

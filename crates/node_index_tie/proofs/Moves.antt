@@ -1,11 +1,11 @@
 -- What a manager's steps are in the small world, how they compose, and that what was seen there stays seen.
-use Rattle.std.proofs.Common.{◌≡◌, ◌≤◌, ◌<◌, ℕ, List, [], ◌∷◌, ◌++◌, ◌⊎◌, inl, inr, ⊎_elim, Some, None, refl, sym, ap, subst, ◌∙◌, arith}
+use Rattle.std.proofs.Common.{◌≡◌, ◌≤◌, ◌<◌, ℕ, List, [], ◌∷◌, ◌++◌, ◌⊎◌, inl, inr, ⊎_elim, Some, None, refl, sym, subst, ◌∙◌, arith}
 use Rattle.std.specs.List.{AllByRecursion}
 use Rattle.xfs_base.specs.declared.news.SlotNews.{SlotNews}
 use Rattle.xfs_base.specs.declared.node.NodeId.{NodeId}
 use Rattle.xfs_base.specs.declared.node.NodeId.TheVariants.{Client, Manager, Server, Cleaner, Registry}
 use Rattle.xfs_base.specs.declared.segment.End.{End}
-use Rattle.index_tie.specs.Net.{Net, Packet, Happens, Runs, with_slot, with_packet}
+use Rattle.index_tie.specs.Net.{Net, Packet, Happens, Runs, with_slot}
 use Rattle.index_tie.specs.Net.Runs.{Begun, On}
 use Rattle.index_tie.specs.Takeovers.{of_log, IsEnd, Linked}
 use Rattle.index_tie.proofs.Tables.{at_same, at_other, put_each}
@@ -19,9 +19,8 @@ use Rattle.node_tie.specs.ManagerEvents.{HeldAt}
 use Rattle.token_manager.specs.SlotState.{SlotState}
 use Rattle.wire_msg.specs.declared.body.Body.{Body}
 use Rattle.wire_msg.specs.declared.body.Body.TheVariants as body
-use Rattle.wire_msg.specs.declared.cleaning.Dead.{Dead}
 use Rattle.node_index_tie.specs.ManagerEvents.{rest}
-use Rattle.node_index_tie.specs.Sight.{Texts, Questions, held_in, EndKnown, ReportKnown, NewsKnown, DeadKnown, ManagerSends, ManagerDoes}
+use Rattle.node_index_tie.specs.Sight.{Texts, Questions, held_in, EndKnown, ReportKnown, NewsKnown, ManagerSends, ManagerDoes}
 
 -- ---- lists
 

@@ -1,28 +1,25 @@
 -- How the checkpoint of a slot begins: the small world has it planned, by the pages and the horizon of this moment, and the writing goes on.
-use Rattle.std.proofs.Common.{◌≡◌, ℕ, zero, suc, ◌+◌, ◌-◌, ◌<◌, ◌≤◌, ◌==◌, ◌⊎◌, inl, inr, Bool, true, false, not, List, [], ◌∷◌, ◌++◌, length, map, get_or, Option, Some, None, is_some, refl, sym, ap, subst, ◌∙◌, arith}
-use Rattle.std.specs.Prelude.{◌||◌, min, unwrap_or}
+use Rattle.std.proofs.Common.{◌≡◌, ℕ, zero, suc, ◌+◌, ◌-◌, ◌<◌, ◌≤◌, ◌==◌, inl, Bool, true, false, not, List, [], ◌∷◌, length, map, get_or, Option, Some, None, is_some, refl, sym, ap, subst, ◌∙◌, arith}
+use Rattle.std.specs.Prelude.{◌||◌, unwrap_or}
 use Rattle.std.specs.List.{slice_get}
 use Rattle.std.proofs.lemmas.Bool.{eqb-true}
 use Rattle.std.proofs.lemmas.Bool.Decides.{nat_tests}
 use Rattle.std.proofs.lemmas.List.{append-nil}
 use Rattle.xfs_base.proofs.Booleans.{by_test, contrary}
 use Rattle.xfs_base.specs.Limits.{u32_end}
-use Rattle.xfs_base.specs.Steps.{Stepped, still, steps}
+use Rattle.xfs_base.specs.Steps.{Stepped, still}
 use Rattle.xfs_base.specs.declared.segment.SegRef.{SegRef}
-use Rattle.checkpoint.specs.declared.input.In.{In}
-use Rattle.checkpoint.specs.declared.input.In.TheVariants.{Begin}
 use Rattle.checkpoint.specs.declared.output.Out.{Out}
 use Rattle.checkpoint.specs.Laws.{Event, rows_of, Checkpointed, nothing_checkpointed, slot_after, AllMayCome}
 use Rattle.checkpoint.specs.Plan.{plan_of}
-use Rattle.checkpoint.specs.Transition.{is_idle, go_on, begun}
-use Rattle.checkpoint.specs.WriterState.{Rows, WorkState, WriterState}
+use Rattle.checkpoint.specs.Transition.{is_idle, go_on}
+use Rattle.checkpoint.specs.WriterState.{WorkState, WriterState}
 use Rattle.index_pages.specs.Pages.{PagesState, cleaned}
 use Rattle.index_tie.specs.Checkpoints.{IsNext}
 use Rattle.index_tie.specs.Net.{Net, with_slot, with_packet}
 use Rattle.index_tie.specs.Net.Packet.{CheckpointPlanned}
 use Rattle.index_tie.specs.Net.Happens.{Plans, Cleans}
 use Rattle.index_tie.specs.Net.Runs.{Begun, On}
-use Rattle.index_tie.specs.Takeovers.{of_log}
 use Rattle.index_tie.proofs.Takeovers.{of_log_in}
 use Rattle.manager_node.specs.Checkpoints as node
 use Rattle.manager_node.specs.Checkpoints.{Done}
@@ -33,21 +30,20 @@ use Rattle.manager_node.specs.declared.serving.Serving.{Serving}
 use Rattle.manager_node.specs.declared.slot_phase.Active.{Active}
 use Rattle.manager_node.specs.declared.slot_phase.SlotPhase.{SlotPhase}
 use Rattle.manager_node.specs.declared.slot_phase.SlotPhase.TheVariants as phase
-use Rattle.node_base.specs.declared.effects.Effect.{Effect}
 use Rattle.node_tie.specs.ManagerEvents.{phase_at, HeldAt}
 use Rattle.token_manager.specs.Index.{Indexed, pages_of, cleaned_index}
 use Rattle.token_manager.specs.Recalls.{applied_of}
 use Rattle.token_manager.specs.SlotState.{SlotState}
 use Rattle.token_manager.specs.Transition as slot
 use Rattle.node_index_tie.specs.ManagerEvents.{ActiveAgrees, PhaseAgrees, ServingAgrees}
-use Rattle.node_index_tie.specs.Pages.{checkpointed, Desk, desk_of, IsWork, Paged, WorkSeen, WriterAgrees}
+use Rattle.node_index_tie.specs.Pages.{checkpointed, desk_of, IsWork, Paged, WorkSeen, WriterAgrees}
 use Rattle.node_index_tie.specs.Pages.Paged.{Covered, Written, Ended}
 use Rattle.node_index_tie.specs.Sight.{Texts, Questions, held_in}
 use Rattle.node_index_tie.proofs.Agreeing.{writer_on, done_seen}
-use Rattle.node_index_tie.proofs.Moves.{AllDone, Sees, Grows, some_none, grows_then, grows_sent, grows_slot, put_here, put_there, sees_quiet, sees_same, sees_slot, sees_then}
+use Rattle.node_index_tie.proofs.Moves.{Sees, Grows, some_none, grows_then, grows_sent, grows_slot, put_here, put_there, sees_quiet, sees_slot, sees_then}
 use Rattle.node_index_tie.proofs.Tables.{by_part}
 use Rattle.node_index_tie.proofs.Turning.{some_is, changed_here, changed_there, changed_length}
-use Rattle.node_index_tie.proofs.Writing.{Serves, serves_same, goes_on}
+use Rattle.node_index_tie.proofs.Writing.{Serves, goes_on}
 
 -- ---- a writer that may begin
 

@@ -1,11 +1,8 @@
 -- Rows that are put onto pages: what a slot's index has after Deltas, and how its pages stand to its last checkpoint then.
-use Rattle.std.proofs.Common.{◌≡◌, ◌^◌, ◌<◌, ℕ, List, [], ◌∷◌, ◌++◌, map, Some, None, refl, sym, ap, subst, ◌∙◌, arith}
-use Rattle.std.specs.List.{AllByRecursion}
-use Rattle.xfs_base.specs.declared.block.BlockId.{BlockId}
-use Rattle.xfs_base.specs.declared.entry.Entry.{Entry}
+use Rattle.std.proofs.Common.{◌≡◌, ◌^◌, ◌<◌, ℕ, List, [], ◌∷◌, ◌++◌, Some, refl, sym, ap, ◌∙◌}
 use Rattle.xfs_base.specs.declared.segment.SegRef.{SegRef}
-use Rattle.checkpoint.specs.Laws.{Event, Checkpointed, nothing_checkpointed, after_event, after_events, slot_after, MayCome, AllMayCome}
-use Rattle.checkpoint.specs.Laws.Event.{Merged, Written as Laid}
+use Rattle.checkpoint.specs.Laws.{Event, Checkpointed, nothing_checkpointed, after_event, after_events, slot_after, AllMayCome}
+use Rattle.checkpoint.specs.Laws.Event.{Merged}
 use Rattle.checkpoint.specs.WriterState.{Rows, WorkState}
 use Rattle.index_pages.specs.Pages.{PagesState, put_newer, cleaned}
 use Rattle.index_tie.specs.Net.{Net}

@@ -1,25 +1,21 @@
 -- What a takeover has read once it took one more input, and that what it hands out then is what the small world needs to know.
-use Rattle.std.proofs.Common.{◌≡◌, ℕ, ◌-◌, ◌<◌, ◌≤◌, ◌==◌, ◌⊎◌, inl, inr, Bool, true, false, cond, List, [], ◌∷◌, ◌++◌, take, length, Option, Some, None, refl, sym, ap, subst, ◌∙◌, arith, zero, suc}
-use Rattle.std.specs.List.{AllByRecursion, flat_map}
+use Rattle.std.proofs.Common.{◌≡◌, ℕ, ◌<◌, inl, inr, List, [], ◌∷◌, ◌++◌, take, Option, Some, None, refl, sym, ap, ◌∙◌, zero, suc}
+use Rattle.std.specs.List.{AllByRecursion}
 use Rattle.xfs_base.proofs.Booleans.{by_test}
-use Rattle.xfs_base.specs.declared.block.BlockId.{BlockId}
-use Rattle.xfs_base.specs.declared.entry.Entry.{Entry}
-use Rattle.xfs_base.specs.declared.news.SlotNews.{SlotNews}
 use Rattle.xfs_base.specs.declared.node.NodeId.{NodeId}
-use Rattle.xfs_base.specs.declared.node.NodeId.TheVariants.{Client, Cleaner}
 use Rattle.xfs_base.specs.declared.segment.End.{End}
 use Rattle.xfs_base.specs.declared.segment.SegRef.{SegRef}
 use Rattle.segment_format.specs.declared.segment.Segment.{Segment}
 use Rattle.stripe_code.specs.Reading.{ReadingState, on_answer}
 use Rattle.stripe_code.specs.declared.round.Told.{Told}
 use Rattle.stripe_code.specs.declared.round.Told.TheVariants.{Held, Missing as Lacks}
-use Rattle.takeover.specs.Course.{Course, segment_of, and_of, read_in, read_at, read_by, read_after, course_of, after_input, after_inputs}
-use Rattle.takeover.specs.ReadBack.{Read, and_read, nothing_read, told_along, told_by_all}
-use Rattle.takeover.specs.Reports.{same_node, writer_of, no_end, end_from, end_of}
+use Rattle.takeover.specs.Course.{Course, segment_of, and_of, read_in, read_at, read_by, read_after, after_input, after_inputs}
+use Rattle.takeover.specs.ReadBack.{Read, and_read, told_along, told_by_all}
+use Rattle.takeover.specs.Reports.{same_node, no_end, end_from}
 use Rattle.takeover.specs.Rows.{told_of}
 use Rattle.takeover.specs.Sources.{goes_back}
-use Rattle.takeover.specs.TakeState.{TakeState, started}
-use Rattle.takeover.specs.Transition.{can_ask, transition}
+use Rattle.takeover.specs.TakeState.{TakeState}
+use Rattle.takeover.specs.Transition.{can_ask}
 use Rattle.takeover.specs.declared.input.In.{In as Input}
 use Rattle.takeover.specs.declared.input.In.TheVariants as input
 use Rattle.takeover.specs.declared.report.Report.{Report as Heard}

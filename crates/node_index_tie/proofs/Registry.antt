@@ -1,5 +1,5 @@
 -- Each event of the registry is a list of things that happen in the small world of one slot's index.
-use Rattle.std.proofs.Common.{◌≡◌, ℕ, zero, suc, ◌+◌, ◌-◌, ◌%◌, ◌<◌, ◌≤◌, ◌==◌, ◌&&◌, ◌⊎◌, inl, inr, ⊎_elim, nat_lt, nat_le, Bool, true, false, cond, List, [], ◌∷◌, map, length, length-set, get_or, get_or-set_same, get_or-set_other, Option, Some, None, refl, sym, ap, subst, ◌∙◌, arith}
+use Rattle.std.proofs.Common.{◌≡◌, ℕ, zero, suc, ◌+◌, ◌-◌, ◌<◌, ◌≤◌, ◌==◌, ◌⊎◌, inl, inr, ⊎_elim, nat_lt, nat_le, Bool, true, false, cond, List, [], ◌∷◌, map, length, length-set, get_or, get_or-set_same, get_or-set_other, Option, Some, None, refl, sym, ap, subst, ◌∙◌, arith}
 use Rattle.std.specs.Prelude.{unwrap_or, slice_index}
 use Rattle.std.specs.List.{slice_get, slice_set, list_all}
 use Rattle.std.proofs.lemmas.Bool.{eqb-true}
@@ -11,9 +11,7 @@ use Rattle.xfs_base.specs.Steps.{still}
 use Rattle.xfs_base.specs.declared.news.SlotNews.{SlotNews}
 use Rattle.xfs_base.specs.declared.node.NodeId.{NodeId}
 use Rattle.xfs_base.specs.declared.node.NodeId.TheVariants.{Client, Manager, Server, Cleaner, Registry}
-use Rattle.xfs_base.specs.declared.segment.SegRef.{SegRef}
-use Rattle.xfs_base.specs.declared.setup.Setup.{Setup}
-use Rattle.index_tie.specs.Net.{Net, opening}
+use Rattle.index_tie.specs.Net.{Net}
 use Rattle.index_tie.specs.Net.Happens.{Keeps, Moves}
 use Rattle.index_tie.specs.Net.Packet.{CheckpointDone}
 use Rattle.log_protocol.specs.Tables.{In}
@@ -25,7 +23,7 @@ use Rattle.manager_map.specs.Slots.{after_move, entry_at}
 use Rattle.node_base.specs.Beginning.{begun, next_item, work_at}
 use Rattle.node_base.specs.Room.{has_room}
 use Rattle.node_base.specs.Shape.{is_well_formed}
-use Rattle.node_tie.specs.RegistryEvents.{epoch_in, manager_in, RegistrySound, SlotGoes}
+use Rattle.node_tie.specs.RegistryEvents.{epoch_in, RegistrySound}
 use Rattle.node_tie.proofs.RegistryNode.{registry_goes, registry_begins}
 use Rattle.registry.specs.Board.{Made, transition, hello, hears_manager, manager_restarted, manager_hello, hears_server, server_lost, server_hello, can_move, moved, reassign, is_kept, checkpointed, keep, done, slot_news, all_news}
 use Rattle.registry.specs.BoardState.{BoardState}
@@ -34,18 +32,16 @@ use Rattle.registry.specs.Slots.{all_slots, entry_of}
 use Rattle.registry.specs.declared.checkpoint.Checkpoint.{Checkpoint}
 use Rattle.registry.specs.declared.input.In.TheVariants as board
 use Rattle.registry.specs.declared.output.Out.TheVariants.{Changed, Epoch, Kept}
-use Rattle.segment_format.specs.declared.segment.Segment.{Segment}
-use Rattle.store_nodes.specs.RegistryEvents.{Done, registry_start, registry_step, on_move, on_hello, on_done, move_of, on_item, at_item, on_begin, hears, on_packet, on_event, takes}
+use Rattle.store_nodes.specs.RegistryEvents.{Done, registry_step, on_move, on_hello, on_done, move_of, on_item, at_item, on_begin, hears, on_packet, on_event}
 use Rattle.store_nodes.specs.declared.registry_node.RegistryNode.{RegistryNode}
 use Rattle.token_protocol.specs.Basics.{In as Among}
-use Rattle.version_model.specs.declared.work.Work.{Work}
 use Rattle.wire_msg.specs.declared.body.Body.{Body}
 use Rattle.wire_msg.specs.declared.body.Body.TheVariants as body
 use Rattle.wire_msg.specs.declared.packet.Do.{Do}
 use Rattle.wire_msg.specs.declared.packet.Do.TheVariants.{Begin, Deliver, Tick}
 use Rattle.wire_msg.specs.declared.registry.CkptDone.{CkptDone}
-use Rattle.node_index_tie.specs.RegistryEvents.{IsHorizon, RegistryAgrees, DoneKnown, BodyGets, DoGets, RegistryOwed, NewsTold, RegistryGoes, RegistryEventGoes, RegistryStarts}
-use Rattle.node_index_tie.specs.Sight.{Texts, held_in}
+use Rattle.node_index_tie.specs.RegistryEvents.{IsHorizon, RegistryAgrees, BodyGets, DoGets, RegistryOwed, NewsTold, RegistryGoes, RegistryEventGoes, RegistryStarts}
+use Rattle.node_index_tie.specs.Sight.{Texts}
 
 -- ---- the checkpoints of the slots
 

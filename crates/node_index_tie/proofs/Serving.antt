@@ -1,62 +1,34 @@
 -- What each packet, and time, makes of a manager that serves, in the small world.
-use Rattle.std.proofs.Common.{◌≡◌, ℕ, ◌==◌, ◌<◌, ◌≤◌, ◌⊎◌, inl, inr, ⊎_elim, Bool, true, false, cond, not, List, [], ◌∷◌, ◌++◌, length, Option, Some, None, is_some, refl, sym, ap, subst, ◌∙◌, arith}
-use Rattle.std.specs.Prelude.{fold, ◌||◌, nat_lt}
-use Rattle.std.proofs.lemmas.Bool.{eqb-true}
-use Rattle.std.proofs.lemmas.Bool.Decides.{nat_tests}
-use Rattle.xfs_base.proofs.Booleans.{by_test, contrary}
-use Rattle.xfs_base.specs.Steps.{Stepped, still, after, steps}
-use Rattle.xfs_base.specs.declared.news.SlotNews.{SlotNews}
-use Rattle.xfs_base.specs.declared.node.NodeId.{NodeId}
-use Rattle.xfs_base.specs.declared.node.NodeId.TheVariants.{Client, Manager, Server, Cleaner, Registry}
-use Rattle.checkpoint.specs.declared.input.In.TheVariants as writer_in
+use Rattle.std.proofs.Common.{◌≡◌, ℕ, ◌==◌, ◌<◌, inl, cond, not, [], ◌∷◌, Option, Some, None, is_some, refl, sym, ◌∙◌, arith}
+use Rattle.std.specs.Prelude.{◌||◌, nat_lt}
+use Rattle.xfs_base.proofs.Booleans.{by_test}
+use Rattle.xfs_base.specs.Steps.{Stepped, still}
 use Rattle.checkpoint.specs.declared.output.Out.{Out}
 use Rattle.checkpoint.specs.declared.output.Out.TheVariants as out
 use Rattle.checkpoint.specs.Transition as writer
-use Rattle.checkpoint.specs.WriterState.{WorkState, WriterState}
-use Rattle.client_log.specs.declared.input.In.TheVariants as log_input
-use Rattle.group_map.specs.GroupMapState.{GroupMapState}
+use Rattle.checkpoint.specs.WriterState.{WriterState}
 use Rattle.index_tie.specs.Net.{Net}
-use Rattle.log_owner.specs.Sending.{server_in}
 use Rattle.manager_node.specs.Checkpoints as node
 use Rattle.manager_node.specs.Checkpoints.{Done, gives}
 use Rattle.manager_node.specs.Numbers.{slot_after}
-use Rattle.manager_node.specs.Serving as serving
-use Rattle.manager_node.specs.Serving.{and_then, asker_of, with_slots, with_asker}
 use Rattle.manager_node.specs.SlotTable as table
 use Rattle.manager_node.specs.SlotTable.{Table, Asks}
-use Rattle.manager_node.specs.Slots.{epoch_of, fetch_of as fetch_in}
 use Rattle.manager_node.specs.declared.checkpointing.Checkpointing.{Checkpointing}
 use Rattle.manager_node.specs.declared.serving.Serving.{Serving}
-use Rattle.manager_node.specs.declared.slot_phase.SlotPhase.{SlotPhase}
-use Rattle.manager_node.specs.declared.slot_phase.SlotPhase.TheVariants as phase
 use Rattle.node_base.specs.Beginning.{answers_unanswered}
-use Rattle.node_base.specs.Known.{names_known}
-use Rattle.node_base.specs.Maps.{fits, is_older, taken}
-use Rattle.node_base.specs.declared.effects.Effect.{Effect}
 use Rattle.node_base.specs.declared.effects.Effect.TheVariants.{Answer as Answers}
-use Rattle.node_tie.specs.ManagerEvents.{phase_at, HeldAt, NamedBy}
-use Rattle.takeover.specs.declared.input.In.{In as TakeoverIn}
-use Rattle.takeover.specs.declared.input.In.TheVariants.{Got, Missing}
-use Rattle.token_protocol.specs.Basics.{In as Among}
+use Rattle.node_tie.specs.ManagerEvents.{phase_at}
 use Rattle.version_model.specs.declared.answer.Answer.{Answer}
 use Rattle.version_model.specs.declared.answer.Answer.TheVariants as answer
-use Rattle.wire_msg.specs.declared.body.Body.{Body}
-use Rattle.wire_msg.specs.declared.body.Body.TheVariants as body
-use Rattle.wire_msg.specs.declared.packet.Packet.{Packet as Sent}
 use Rattle.wire_msg.specs.declared.registry.CkptAck.{CkptAck}
 use Rattle.wire_msg.specs.declared.registry.CkptDone.{CkptDone}
-use Rattle.wire_msg.specs.declared.registry.News.{News}
-use Rattle.node_index_tie.specs.ManagerEvents.{PhaseAgrees, ServingAgrees, AllNewsGets, AnswerGets, ServingGets}
-use Rattle.node_index_tie.specs.Pages.{Desk, desk_of, DoneIn, DoneSeen, FlightIsText}
-use Rattle.node_index_tie.specs.Sight.{Texts, Questions, AreTexts, DeltasKnown, NewsKnown}
-use Rattle.node_index_tie.proofs.Agreeing.{writer_on, done_seen}
-use Rattle.node_index_tie.proofs.Handing.{OwesAt}
-use Rattle.node_index_tie.proofs.Moves.{Nothing, Grows, AllDone, Sees, held_is, some_none, sees_quiet, sees_as, sees_then, sees_named}
+use Rattle.node_index_tie.specs.ManagerEvents.{ServingAgrees}
+use Rattle.node_index_tie.specs.Pages.{desk_of, DoneIn, DoneSeen}
+use Rattle.node_index_tie.specs.Sight.{Texts, Questions}
+use Rattle.node_index_tie.proofs.Moves.{AllDone, some_none, sees_quiet}
 use Rattle.node_index_tie.proofs.Planning.{begins_serves}
-use Rattle.node_index_tie.proofs.Settling.{writes_serves}
-use Rattle.node_index_tie.proofs.Tables.{TableAgrees, TableEvent, TableRose, table_wants, table_gaves, table_deltas, table_checks, table_usage, table_takes, table_reports, table_recalls_all, table_asks_all, table_regroups, table_hears_all}
-use Rattle.node_index_tie.proofs.Turning.{Turn, phase_turn, seen_turn}
-use Rattle.node_index_tie.proofs.Writing.{Serves, serves_same, serves_then}
+use Rattle.node_index_tie.proofs.Turning.{Turn, phase_turn}
+use Rattle.node_index_tie.proofs.Writing.{Serves, serves_same}
 
 module _ (part : ℕ) (texts : Texts) (questions : Questions) (exists : part < 8) (named : ℕ → Type 0) where
   abbrev pub Of : Net → Serving → Done → Type 0

@@ -1,17 +1,16 @@
 -- What the log of a manager's checkpoints makes of its inputs: a segment that is settled holds what was given out for it, and the writing goes on.
-use Rattle.std.proofs.Common.{◌≡◌, ℕ, ◌<◌, inl, inr, ⊎_elim, List, [], ◌∷◌, ◌++◌, Option, Some, None, refl, sym, ap, subst, ◌∙◌, append_assoc}
+use Rattle.std.proofs.Common.{◌≡◌, ℕ, ◌<◌, ⊎_elim, List, [], ◌∷◌, ◌++◌, Option, Some, None, refl, sym, ap, subst, ◌∙◌, append_assoc}
 use Rattle.std.specs.List.{AllByRecursion}
 use Rattle.std.proofs.lemmas.List.{append-nil}
-use Rattle.xfs_base.specs.Steps.{still, after, steps}
+use Rattle.xfs_base.specs.Steps.{steps}
 use Rattle.xfs_base.specs.declared.segment.LogId.{LogId}
 use Rattle.xfs_base.specs.declared.segment.SegName.{SegName}
 use Rattle.xfs_base.specs.declared.segment.SegRef.{SegRef}
-use Rattle.segment_format.specs.declared.segment.Segment.{Segment}
 use Rattle.checkpoint.specs.declared.input.In.TheVariants as writer_in
 use Rattle.checkpoint.specs.Laws.{Event, rows_of, rows_in, rows_of_items, slot_after}
 use Rattle.checkpoint.specs.Plan.{plan_of}
 use Rattle.checkpoint.specs.Transition.{part_at, settled}
-use Rattle.checkpoint.specs.WriterState.{Rows, WorkState, items_of}
+use Rattle.checkpoint.specs.WriterState.{WorkState, items_of}
 use Rattle.checkpoint.proofs.Holding.{rows_in-append}
 use Rattle.client_log.specs.declared.input.In.{In as LogIn}
 use Rattle.client_log.specs.declared.output.Out.{Out as LogOut}
@@ -23,14 +22,13 @@ use Rattle.index_tie.proofs.Checkpoints.{parts_tell}
 use Rattle.manager_node.specs.Checkpoints as node
 use Rattle.manager_node.specs.Checkpoints.{Done}
 use Rattle.manager_node.specs.declared.serving.Serving.{Serving}
-use Rattle.node_base.specs.declared.effects.Effect.{Effect}
 use Rattle.node_tie.specs.ManagerEvents.{phase_at}
 use Rattle.takeover.specs.Rows.{told_of}
 use Rattle.node_index_tie.specs.ManagerEvents.{ServingAgrees}
 use Rattle.node_index_tie.specs.Pages.{Desk, desk_of, IsWork, FlightIsText}
 use Rattle.node_index_tie.specs.Sight.{Texts, Questions, held_in}
-use Rattle.node_index_tie.proofs.Flights.{IsSend, Before, GoesOn, Lands, IsNoWrite, log_went}
-use Rattle.node_index_tie.proofs.Moves.{AllDone, some_none, sees_then}
+use Rattle.node_index_tie.proofs.Flights.{IsSend, GoesOn, Lands, IsNoWrite, log_went}
+use Rattle.node_index_tie.proofs.Moves.{some_none, sees_then}
 use Rattle.node_index_tie.proofs.Turning.{some_is, Forth, Turn, seen_turn, phase_turn}
 use Rattle.node_index_tie.proofs.Writing.{items_rows, Serves, serves_same, serves_one, serves_then, goes_on}
 

@@ -1,11 +1,9 @@
 -- A manager at the start of a run is seen in the opening of the small world of one slot's index.
-use Rattle.std.proofs.Common.{◌≡◌, ℕ, zero, suc, ◌-◌, ◌==◌, ◌<◌, ◌≤◌, List, [], ◌∷◌, map, get_or, Some, None, refl, sym, ap, subst, ◌∙◌, arith}
+use Rattle.std.proofs.Common.{◌≡◌, ℕ, zero, suc, ◌-◌, ◌==◌, ◌<◌, List, [], ◌∷◌, map, get_or, None, refl, sym, subst, ◌∙◌, arith}
 use Rattle.xfs_base.proofs.Booleans.{by_test}
 use Rattle.xfs_base.specs.Blocks.{slot_of}
-use Rattle.xfs_base.specs.Limits.{u32_end}
 use Rattle.xfs_base.specs.declared.setup.Setup.{Setup}
-use Rattle.checkpoint.specs.WriterState.{WorkState}
-use Rattle.index_tie.specs.Net.{Net, opening}
+use Rattle.index_tie.specs.Net.{opening}
 use Rattle.manager_map.specs.Slots.{start_entries, entry_at}
 use Rattle.manager_node.specs.Events.{first_manager, first_life}
 use Rattle.manager_node.specs.SlotTable.{all_slots, first_phase, first_table}
@@ -16,7 +14,6 @@ use Rattle.group_map.specs.Groups.{started as groups_started}
 use Rattle.node_base.specs.Maps.{at_start}
 use Rattle.node_tie.specs.ManagerEvents.{phase_at}
 use Rattle.segment_format.specs.declared.segment.Segment.{Segment}
-use Rattle.token_manager.specs.Recalls.{applied_of}
 use Rattle.version_model.specs.declared.work.Work.{Work}
 use Rattle.node_index_tie.specs.ManagerEvents.{PhaseAgrees, ManagerAgrees, FirstManagerAgrees}
 use Rattle.node_index_tie.specs.Pages.{Desk}

@@ -1,5 +1,5 @@
 -- What others do in the small world leaves a manager seen there.
-use Rattle.std.proofs.Common.{◌≡◌, ℕ, zero, suc, ◌<◌, ◌≤◌, List, Option, Some, None, refl, sym, ap, subst, ◌∙◌, arith}
+use Rattle.std.proofs.Common.{◌≡◌, ℕ, suc, ◌<◌, ◌≤◌, List, Option, Some, None, refl, sym, ap, subst, ◌∙◌, arith}
 use Rattle.xfs_base.specs.declared.node.NodeId.{NodeId}
 use Rattle.xfs_base.specs.declared.node.NodeId.TheVariants.{Client, Manager, Server, Cleaner, Registry}
 use Rattle.xfs_base.specs.declared.segment.End.{End}
@@ -7,19 +7,18 @@ use Rattle.checkpoint.specs.Laws.{Event}
 use Rattle.checkpoint.specs.WriterState.{WorkState}
 use Rattle.index_pages.specs.Pages.{PagesState}
 use Rattle.index_tie.specs.Net.{Net}
-use Rattle.index_tie.specs.Takeovers.{of_log, IsEnd, Linked}
+use Rattle.index_tie.specs.Takeovers.{of_log, IsEnd}
 use Rattle.manager_node.specs.declared.checkpointing.Checkpointing.{Checkpointing}
-use Rattle.manager_node.specs.declared.phase.Phase.{Phase}
 use Rattle.manager_node.specs.declared.phase.Phase.TheVariants.{Down, Waiting, Serving as Serves}
 use Rattle.manager_node.specs.declared.slot_phase.SlotPhase.{SlotPhase}
 use Rattle.manager_node.specs.declared.slot_phase.SlotPhase.TheVariants as phase
-use Rattle.node_tie.specs.ManagerEvents.{phase_at, HeldAt, slot_in}
+use Rattle.node_tie.specs.ManagerEvents.{phase_at, HeldAt}
 use Rattle.segment_format.specs.declared.segment.Segment.{Segment}
 use Rattle.takeover.specs.TakeState.{TakeState}
 use Rattle.token_manager.specs.Index.{pages_of}
 use Rattle.wire_msg.specs.declared.registry.CkptDone.{CkptDone}
 use Rattle.xfs_base.specs.declared.segment.SegRef.{SegRef}
-use Rattle.node_index_tie.specs.ManagerEvents.{TakingAgrees, PhaseAgrees, ManagerAgrees, Passes, ManagersStay}
+use Rattle.node_index_tie.specs.ManagerEvents.{TakingAgrees, PhaseAgrees, Passes, ManagersStay}
 use Rattle.node_index_tie.specs.Pages.{Desk, desk_of, IsWork, Paged, WriterAgrees, DoneIn, DoneSeen}
 use Rattle.node_index_tie.specs.Pages.Paged.{Covered, Written, Ended}
 use Rattle.node_index_tie.specs.Sight.{Texts, EndKnown, ReportKnown}

@@ -1,5 +1,5 @@
 -- What an event of one slot of a manager's table, or of each, makes of the table and of the small world.
-use Rattle.std.proofs.Common.{◌≡◌, ℕ, zero, suc, ◌==◌, ◌<◌, ◌≤◌, ◌⊎◌, inl, inr, ⊎_elim, Bool, true, false, List, [], ◌∷◌, ◌++◌, length, length-set, get_or, get_or-set_same, get_or-set_other, Option, Some, None, refl, sym, ap, subst, ◌∙◌, arith}
+use Rattle.std.proofs.Common.{◌≡◌, ℕ, zero, suc, ◌==◌, ◌<◌, ◌≤◌, ◌⊎◌, inl, inr, ⊎_elim, Bool, true, false, List, [], ◌∷◌, length, length-set, get_or, get_or-set_same, get_or-set_other, Option, Some, None, refl, sym, ap, subst, ◌∙◌, arith}
 use Rattle.std.specs.List.{slice_get, slice_set}
 use Rattle.std.specs.Prelude.{unwrap_or}
 use Rattle.std.proofs.lemmas.Bool.{eqb-true}
@@ -10,7 +10,6 @@ use Rattle.xfs_base.specs.Steps.{Stepped, steps}
 use Rattle.xfs_base.specs.declared.news.SlotNews.{SlotNews}
 use Rattle.xfs_base.specs.declared.node.NodeId.{NodeId}
 use Rattle.xfs_base.specs.declared.segment.LogId.{LogId}
-use Rattle.checkpoint.specs.WriterState.{WorkState}
 use Rattle.node_index_tie.specs.Pages.{Desk}
 use Rattle.group_map.specs.GroupMapState.{GroupMapState}
 use Rattle.index_tie.specs.Net.{Net}
@@ -37,8 +36,8 @@ use Rattle.wire_msg.specs.declared.tokens.Gave.{Gave}
 use Rattle.wire_msg.specs.declared.tokens.Want.{Want}
 use Rattle.node_index_tie.specs.ManagerEvents.{PhaseAgrees}
 use Rattle.node_index_tie.specs.Sight.{Texts, Questions, AreTexts, DeltasKnown, ReportKnown, CheckKnown, NewsKnown}
-use Rattle.node_index_tie.proofs.Active.{Event, event_same, slot_takes, slot_wants, slot_deltas, slot_checks, other_checks, other_takes, other_wants, usage_done}
-use Rattle.node_index_tie.proofs.Handing.{Busy, OwesAt, AskEvent, event_staying, slot_hears, slot_reports, slot_hears_of, Rose}
+use Rattle.node_index_tie.proofs.Active.{Event, slot_takes, slot_wants, slot_deltas, slot_checks, other_checks, other_takes, other_wants, usage_done}
+use Rattle.node_index_tie.proofs.Handing.{Busy, OwesAt, AskEvent, event_staying, slot_hears, slot_reports, slot_hears_of}
 use Rattle.node_index_tie.proofs.Moves.{Grows, AllDone, DoesAt, Sees, some_none, sees_same, sees_then, all_both}
 use Rattle.node_index_tie.proofs.Taking.{takes_done, asks_done, reports_done, hears_done, stays_asks}
 

@@ -1,67 +1,39 @@
 -- What a takeover makes of its inputs in the small world: nothing, or in the end that the slot is active there.
-use Rattle.std.proofs.Common.{◌≡◌, ℕ, zero, suc, ◌+◌, ◌-◌, ◌^◌, ◌<◌, ◌≤◌, ◌==◌, ◌⊎◌, inl, inr, ⊎_elim, nat_lt, Bool, true, false, List, [], ◌∷◌, ◌++◌, filter, length, Some, None, refl, sym, ap, subst, ◌∙◌, arith}
-use Rattle.std.specs.Prelude.{Contains}
-use Rattle.std.specs.List.{AllByRecursion}
+use Rattle.std.proofs.Common.{◌≡◌, ℕ, ◌^◌, ◌<◌, ◌==◌, nat_lt, Bool, List, [], ◌∷◌, filter, refl, ◌∙◌}
 use Rattle.std.specs.BTreeMap.{insert_entry}
 use Rattle.std.specs.Ordering.{match_ordering}
 use Rattle.std.specs.declared.cmp.Ordering.{Ordering}
 use Rattle.std.specs.declared.cmp.Ordering.TheVariants.{Less, Equal, Greater}
 use Rattle.xfs_base.specs.Blocks.{block_cmp}
-use Rattle.std.proofs.lemmas.Bool.{eqb-true}
-use Rattle.std.proofs.lemmas.Bool.Decides.{nat_tests}
 use Rattle.xfs_base.proofs.Booleans.{by_test}
-use Rattle.xfs_base.proofs.Members.{contains_first}
-use Rattle.xfs_base.specs.Limits.{u32_end}
 use Rattle.xfs_base.specs.Steps.{still}
 use Rattle.xfs_base.specs.declared.block.BlockId.{BlockId}
 use Rattle.xfs_base.specs.declared.entry.Entry.{Entry}
 use Rattle.xfs_base.specs.declared.news.SlotNews.{SlotNews}
 use Rattle.xfs_base.specs.declared.node.NodeId.{NodeId}
-use Rattle.xfs_base.specs.declared.node.NodeId.TheVariants.{Client, Manager, Server, Cleaner, Registry}
-use Rattle.xfs_base.specs.declared.segment.End.{End}
 use Rattle.xfs_base.specs.declared.segment.SegName.{SegName}
-use Rattle.checkpoint.specs.WriterState.{Rows, WorkState}
+use Rattle.checkpoint.specs.WriterState.{Rows}
 use Rattle.node_index_tie.specs.Pages.{Desk}
 use Rattle.delta_index.specs.Entries.{is_newer}
 use Rattle.delta_index.specs.Index.{entry_of, merged, merged_all}
-use Rattle.group_map.specs.GroupMapState.{GroupMapState}
-use Rattle.index_tie.specs.Net.{Net, with_slot, HasRead}
-use Rattle.index_tie.specs.Net.Happens.{Activates}
-use Rattle.index_tie.specs.Takeovers.{of_log, IsEnd, Linked}
-use Rattle.index_tie.proofs.Takeovers.{applied_in, of_log_in}
-use Rattle.log_protocol.specs.Tables.{In}
+use Rattle.index_tie.specs.Net.{Net}
 use Rattle.manager_node.specs.Slots.{epoch_of}
 use Rattle.manager_node.specs.SlotTable.{Hearer, hears_of}
 use Rattle.manager_node.specs.Takeovers.{Asker, asker, Done, fetches, says, says_each, heard, takes, is_wanted, asks_again, report_input, on_report, phase_of}
 use Rattle.manager_node.specs.declared.slot_phase.SlotPhase.{SlotPhase}
 use Rattle.manager_node.specs.declared.slot_phase.SlotPhase.TheVariants as phase
-use Rattle.manager_node.specs.declared.slot_phase.Taking.{Taking}
-use Rattle.node_base.specs.declared.effects.Effect.{Effect}
 use Rattle.node_base.specs.declared.questions.Questions.{Questions as Numbers}
 use Rattle.node_tie.specs.ManagerEvents.{HeldAt}
-use Rattle.node_tie.proofs.ManagerTakes.{IsPlain, ArePlain, Hands, Brings, Took, took, tick_said, kept_plain, all_heard, heard_is, in_last}
-use Rattle.segment_format.specs.declared.segment.Segment.{Segment}
-use Rattle.takeover.specs.Course.{Course, course_of, after_input, after_inputs, IsTakenOver}
-use Rattle.takeover.specs.ReadBack.{told_by_all, nothing_read}
-use Rattle.takeover.specs.Reports.{applied_of, applied_at, beliefs_of, end_of, end_from, no_end, writer_of, polled, horizon_at}
-use Rattle.takeover.specs.TakeState.{TakeState, started}
-use Rattle.takeover.specs.Transition.{active, awaited, transition}
+use Rattle.node_tie.proofs.ManagerTakes.{IsPlain, ArePlain, tick_said, kept_plain}
+use Rattle.takeover.specs.Transition.{transition}
 use Rattle.takeover.specs.declared.input.In.{In as Input}
 use Rattle.takeover.specs.declared.input.In.TheVariants as input
 use Rattle.takeover.specs.declared.output.Out.{Out}
 use Rattle.takeover.specs.declared.output.Out.TheVariants as out
-use Rattle.takeover.specs.declared.report.Report.{Report as Heard}
-use Rattle.takeover.proofs.Standing.{taken_over}
-use Rattle.token_manager.specs.Recalls.{applied_of as applied_in_slot}
-use Rattle.token_manager.specs.SlotState.{SlotState}
-use Rattle.token_manager.specs.Transition.{started as slot_started}
 use Rattle.wire_msg.specs.declared.deltas.Report.{Report}
-use Rattle.node_index_tie.specs.ManagerEvents.{TakingAgrees, ActiveAgrees, PhaseAgrees, ReportGets, completes}
-use Rattle.node_index_tie.specs.Sight.{Texts, Questions, held_in, RowsFit, IsRead, AreTexts, EndKnown, ReportKnown, NewsKnown}
-use Rattle.node_index_tie.proofs.Active.{Event, event_same}
-use Rattle.node_index_tie.proofs.Moves.{all_both, DoesAt, AllDone, Sees, held_is, put_here, grows_slot, sees_quiet, sees_slot, sees_then, some_none}
-use Rattle.node_index_tie.proofs.Puts.{paged_first, paged_on}
-use Rattle.node_index_tie.proofs.Reading.{after_one, AllRead, read_on, tells_parts, its_texts, fit_by_all, end_from_is}
+use Rattle.node_index_tie.specs.ManagerEvents.{PhaseAgrees}
+use Rattle.node_index_tie.specs.Sight.{Texts, Questions, RowsFit}
+use Rattle.node_index_tie.proofs.Moves.{all_both, DoesAt, AllDone}
 
 -- ---- rows that fit
 

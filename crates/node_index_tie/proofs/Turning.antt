@@ -1,24 +1,21 @@
 -- When the log or the writer of a manager's checkpoints has gone on, the slot's pages and what is written of them are seen as before.
-use Rattle.std.proofs.Common.{◌≡◌, ℕ, ◌<◌, arith, List, [], ◌∷◌, ◌++◌, Option, Some, None, refl, sym, ap, subst, ◌∙◌}
-use Rattle.std.specs.List.{slice_get, slice_set}
+use Rattle.std.proofs.Common.{◌≡◌, ℕ, ◌<◌, arith, List, Option, Some, None, refl, sym, ap, subst, ◌∙◌}
+use Rattle.std.specs.List.{slice_get}
 use Rattle.std.specs.Prelude.{length, unwrap_or}
 use Rattle.std.proofs.Common.{length-set}
-use Rattle.std.proofs.lemmas.Option.{slice_get_within}
 use Rattle.xfs_base.specs.declared.segment.SegRef.{SegRef}
 use Rattle.checkpoint.specs.Laws.{Event}
 use Rattle.checkpoint.specs.WriterState.{WorkState}
-use Rattle.client_log.specs.LogState.{FlightState, LogState}
 use Rattle.index_pages.specs.Pages.{PagesState}
 use Rattle.index_tie.specs.Net.{Net}
 use Rattle.manager_node.specs.SlotTable.{Table, changed_in}
 use Rattle.manager_node.specs.declared.slot_phase.SlotPhase.{SlotPhase}
 use Rattle.manager_node.specs.declared.slot_phase.SlotPhase.TheVariants as phase
 use Rattle.node_tie.specs.ManagerEvents.{phase_at}
-use Rattle.node_index_tie.specs.ManagerEvents.{ActiveAgrees, PhaseAgrees}
+use Rattle.node_index_tie.specs.ManagerEvents.{PhaseAgrees}
 use Rattle.node_index_tie.specs.Pages.{Desk, IsWork, Paged, WorkSeen}
 use Rattle.node_index_tie.specs.Pages.Paged.{Covered, Written, Ended}
 use Rattle.node_index_tie.specs.Sight.{Texts}
-use Rattle.node_index_tie.proofs.Moves.{some_none}
 use Rattle.node_index_tie.proofs.Tables.{past, set_here, set_there}
 
 pub some_is : {X : Type 0} (x y : X) → Some x ≡ Some y → x ≡ y

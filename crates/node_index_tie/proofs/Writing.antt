@@ -1,28 +1,25 @@
 -- How the writing of a checkpoint goes on: each segment that is settled holds what was given out for it, and once all is written the small world has the checkpoint.
-use Rattle.std.proofs.Common.{◌≡◌, ℕ, ◌<◌, ◌==◌, ◌⊎◌, inl, inr, ⊎_elim, Bool, true, false, List, [], ◌∷◌, ◌++◌, take, drop, length, Option, Some, None, refl, sym, ap, subst, ◌∙◌, append_assoc, arith}
-use Rattle.std.specs.List.{AllByRecursion, flat_map}
+use Rattle.std.proofs.Common.{◌≡◌, ℕ, ◌<◌, ◌==◌, inl, false, List, [], ◌∷◌, ◌++◌, take, drop, length, Option, Some, None, refl, sym, ap, subst, ◌∙◌, append_assoc, arith}
+use Rattle.std.specs.List.{flat_map}
 use Rattle.std.proofs.lemmas.Bool.{eqb-true}
 use Rattle.std.proofs.lemmas.Bool.Decides.{nat_tests}
 use Rattle.std.proofs.lemmas.List.{append-nil, take-append-drop, nil_from_length}
 use Rattle.xfs_base.proofs.Booleans.{by_test}
-use Rattle.xfs_base.specs.Steps.{Stepped, still, after, steps}
-use Rattle.xfs_base.specs.declared.segment.SegName.{SegName}
+use Rattle.xfs_base.specs.Steps.{Stepped, after, steps}
 use Rattle.xfs_base.specs.declared.segment.SegRef.{SegRef}
 use Rattle.checkpoint.specs.declared.output.Out.{Out}
 use Rattle.checkpoint.specs.declared.output.Out.TheVariants as out
-use Rattle.checkpoint.specs.Laws.{Event, rows_of, rows_in, rows_of_items, Checkpointed, nothing_checkpointed, after_event, slot_after, AllMayCome}
+use Rattle.checkpoint.specs.Laws.{rows_of, rows_in, rows_of_items, nothing_checkpointed, after_event, slot_after, AllMayCome}
 use Rattle.checkpoint.specs.Laws.Event.{Written as Laid}
 use Rattle.checkpoint.specs.Plan.{plan_of}
-use Rattle.checkpoint.specs.Transition.{part_at, finished, gives, go_on}
+use Rattle.checkpoint.specs.Transition.{finished, gives, go_on}
 use Rattle.checkpoint.specs.WriterState.{Rows, WorkState, WriterState, items_of}
-use Rattle.checkpoint.proofs.Holding.{rows_in-append}
 use Rattle.client_log.specs.declared.input.In.TheVariants as log_input
 use Rattle.client_log.specs.declared.output.Out.{Out as LogOut}
 use Rattle.client_log.specs.declared.output.Out.TheVariants as log_out
-use Rattle.client_log.specs.LogState.{FlightState, LogState}
 use Rattle.client_log.specs.Transition as log
-use Rattle.index_pages.specs.Pages.{PagesState, cleaned}
-use Rattle.index_tie.specs.Net.{Net, Packet}
+use Rattle.index_pages.specs.Pages.{PagesState}
+use Rattle.index_tie.specs.Net.{Net}
 use Rattle.index_tie.specs.Net.Packet.{CheckpointDone}
 use Rattle.index_tie.specs.Net.Happens.{Checkpoints}
 use Rattle.manager_node.specs.Checkpoints as node
@@ -31,7 +28,6 @@ use Rattle.manager_node.specs.Slots.{epoch_of}
 use Rattle.manager_node.specs.SlotTable.{named_phase, named_at}
 use Rattle.manager_node.specs.declared.checkpointing.Checkpointing.{Checkpointing}
 use Rattle.manager_node.specs.declared.serving.Serving.{Serving}
-use Rattle.manager_node.specs.declared.slot_phase.Active.{Active}
 use Rattle.manager_node.specs.declared.slot_phase.SlotPhase.{SlotPhase}
 use Rattle.manager_node.specs.declared.slot_phase.SlotPhase.TheVariants as phase
 use Rattle.node_base.specs.Asking.{next_ask}
@@ -40,16 +36,16 @@ use Rattle.node_tie.specs.ManagerEvents.{phase_at, HeldAt}
 use Rattle.segment_format.specs.declared.segment.Item.{Item}
 use Rattle.token_manager.specs.Index.{pages_of}
 use Rattle.wire_msg.specs.declared.registry.CkptDone.{CkptDone}
-use Rattle.node_index_tie.specs.ManagerEvents.{ActiveAgrees, PhaseAgrees, ServingAgrees}
-use Rattle.node_index_tie.specs.Pages.{put_all, checkpointed, Desk, desk_of, IsWork, Paged, WorkSeen, WriterAgrees, DoneSeen}
+use Rattle.node_index_tie.specs.ManagerEvents.{PhaseAgrees, ServingAgrees}
+use Rattle.node_index_tie.specs.Pages.{checkpointed, Desk, desk_of, Paged, WriterAgrees, DoneSeen}
 use Rattle.node_index_tie.specs.Pages.Paged.{Covered, Written, Ended}
 use Rattle.node_index_tie.specs.Sight.{Texts, Questions, held_in, CkptSeen}
 use Rattle.node_index_tie.proofs.Agreeing.{phase_on}
 use Rattle.node_index_tie.proofs.Flights.{Writes, parts_went}
-use Rattle.node_index_tie.proofs.Moves.{AllDone, DoesAt, Sees, Grows, some_none, grows_sent, all_both, sees_quiet, sees_same, sees_sent, sees_then}
+use Rattle.node_index_tie.proofs.Moves.{AllDone, Sees, Grows, some_none, grows_sent, sees_quiet, sees_same, sees_sent, sees_then}
 use Rattle.node_index_tie.proofs.Puts.{merges, after_both, may_both, after_merges, may_merges}
 use Rattle.node_index_tie.proofs.Tables.{by_part}
-use Rattle.node_index_tie.proofs.Turning.{some_is, changed_here, changed_there, changed_length, Forth, Back, Turn, paged_turn, seen_turn, phase_turn}
+use Rattle.node_index_tie.proofs.Turning.{some_is, changed_here, changed_there, changed_length, Forth, Turn, seen_turn, phase_turn}
 
 pub rows_of-append : (ps qs : List Rows) → rows_of (ps ++ qs) ≡ rows_of ps ++ rows_of qs
 rows_of-append [] qs = refl

@@ -22,7 +22,7 @@ use Rattle.segment_format.specs.declared.segment.Segment.{Segment}
 use Rattle.stripe_code.specs.Reading.{ReadingState, on_answer}
 use Rattle.stripe_code.specs.declared.round.Told.{Told}
 use Rattle.stripe_code.specs.declared.round.Told.TheVariants.{Held, Missing as Lacks}
-use Rattle.takeover.specs.Course.{Course, course_of, segment_of}
+use Rattle.takeover.specs.Course.{course_of, segment_of}
 use Rattle.takeover.specs.Transition.{awaited}
 use Rattle.takeover.specs.TakeState.{TakeState}
 use Rattle.takeover.specs.declared.input.In.{In as TakeoverIn}
@@ -31,7 +31,6 @@ use Rattle.takeover.specs.declared.report.Report.{Report as Heard}
 use Rattle.takeover.specs.declared.source.Present.{Present}
 use Rattle.token_manager.specs.Index.{pages_of}
 use Rattle.token_manager.specs.Recalls.{applied_of}
-use Rattle.token_manager.specs.SlotState.{SlotState}
 use Rattle.token_protocol.specs.Basics.{In as Among}
 use Rattle.version_model.specs.declared.work.Work.{Work}
 use Rattle.wire_msg.specs.declared.body.Body.{Body}

@@ -1,5 +1,5 @@
 -- How the pages of a slot's index stand to its last checkpoint, and how the writing of a checkpoint is seen.
-use Rattle.std.specs.Prelude.{◌≡◌, ℕ, ◌<◌, List, [], ◌∷◌, ◌++◌, Option, Some, None}
+use Rattle.std.specs.Prelude.{◌≡◌, ℕ, List, [], ◌∷◌, ◌++◌, Option, Some, None}
 use Rattle.checkpoint.specs.Laws.{Event, rows_of, rows_in, Checkpointed, nothing_checkpointed, slot_after, AllMayCome}
 use Rattle.checkpoint.specs.Plan.{plan_of}
 use Rattle.checkpoint.specs.WriterState.{Rows, WorkState, WriterState, items_of}
