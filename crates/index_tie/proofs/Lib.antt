@@ -4,7 +4,7 @@ mod CheckLists
 pub mod Checkpoints
 mod Cleaning
 pub mod Events
-mod Feeds
+pub mod Feeds
 mod Growth
 mod Jobs
 mod JobsStay

@@ -18,3 +18,4 @@ pub mod Events
 pub mod Start
 pub mod Registry
 pub mod Staying
+pub mod Owners

@@ -2,3 +2,4 @@ pub mod Sight
 pub mod Pages
 pub mod ManagerEvents
 pub mod RegistryEvents
+pub mod OwnerEvents

@@ -4,6 +4,7 @@
 #![tactic(auto)]
 
 ghost use Rattle.node_index_tie.specs.ManagerEvents.{FirstManagerAgrees, ManagerEventGoes, ManagersStay};
+ghost use Rattle.node_index_tie.specs.OwnerEvents.{FeedsStay, OwnersTell};
 ghost use Rattle.node_index_tie.specs.RegistryEvents.{RegistryEventGoes, RegistryStarts};
 
 /// What an event makes of a manager is a run of the small world, if the packet that comes was sent there and tells what is so.
@@ -27,4 +28,13 @@ pub fn manager_events_are_seen()
 pub fn registry_events_are_seen()
     ensures start { RegistryStarts }
     ensures events { RegistryEventGoes }
+{}
+
+/// What the owner of a log, a client or the cleaner, tells managers of a slot is what the log filed.
+///
+/// - `tell`: Deltas that a feed has it send tell what was filed in their range, where the feed was told of what was filed.
+/// - `stay`: an acknowledgement, and a new epoch of a slot, leave the feed so.
+pub fn what_owners_tell_is_filed()
+    ensures tell { OwnersTell }
+    ensures stay { FeedsStay }
 {}
