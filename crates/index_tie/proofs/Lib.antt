@@ -5,7 +5,7 @@ pub mod Checkpoints
 mod Cleaning
 pub mod Events
 pub mod Feeds
-mod Growth
+pub mod Growth
 mod Jobs
 mod JobsStay
 mod Laws

@@ -66,11 +66,13 @@ module _ (part : ℕ) (texts : Texts) (asked : Questions) (named : ℕ → Type 
     pages : Paged part texts n desk a.slot.epoch (pages_of t.index) a.parts
 
   -- the slot steps in the small world
-  steps_to : (n : Net) (a : Active) (t : SlotState) (outs : List Effect) → Happens part (held_in part texts) n (with_slot n a.slot.epoch t) → Stands n a t → AllDone part texts asked (with_slot n a.slot.epoch t) outs
+  steps_to : (n : Net) (a : Active) (t : SlotState) (outs : List Effect) → Happens part (held_in part texts) n (with_slot n a.slot.epoch t) → Stands n a t
+      → AllDone part texts asked (with_slot n a.slot.epoch t) outs
       → Event n (phase.Active a) (holding a t) outs
   steps_to n a t outs happens stands done =
       let e = a.slot.epoch in
-      sees_slot part texts asked named n (phase.Active a) (holding a t) e t outs (λ m. PhaseAgrees part texts m desk (holding a t)) happens refl (λ d h. sym stands.epoch ∙ h) (let h = stands.epoch in omega arith) done
+      sees_slot part texts asked named n (phase.Active a) (holding a t) e t outs (λ m. PhaseAgrees part texts m desk (holding a t)) happens refl
+      (λ d h. sym stands.epoch ∙ h) (let h = stands.epoch in omega arith) done
       (record {
         there = ap (with_slot n e t).slots stands.epoch ∙ put_here n.slots e (Some t);
         nine = stands.nine;
@@ -88,17 +90,20 @@ module _ (part : ℕ) (texts : Texts) (asked : Questions) (named : ℕ → Type 
   }
 
   -- an input of tokens
-  pub slot_takes : (n : Net) (k : ℕ) (p : SlotPhase) (given : Input) → IsOfTokens given → PhaseAgrees part texts n desk p → Event n p (takes p k given).state (takes p k given).outs
+  pub slot_takes : (n : Net) (k : ℕ) (p : SlotPhase) (given : Input) → IsOfTokens given → PhaseAgrees part texts n desk p
+      → Event n p (takes p k given).state (takes p k given).outs
   unfolding takes
   slot_takes n k (phase.Active a) given of agrees =
       let d = slot.transition a.slot given in
-      steps_to n a d.state (flat_map (said k a.slot.epoch) d.outs) (GetsOther a.slot.epoch a.slot given agrees.there of) (stands_same n a d.state (tokens_same a.slot given of) agrees)
+      steps_to n a d.state (flat_map (said k a.slot.epoch) d.outs) (GetsOther a.slot.epoch a.slot given agrees.there of)
+      (stands_same n a d.state (tokens_same a.slot given of) agrees)
       (said_done (with_slot n a.slot.epoch d.state) k a.slot.epoch d.outs)
   slot_takes n k (phase.Away epoch) given of agrees = event_same n (phase.Away epoch) [] agrees tt
   slot_takes n k (phase.Taking t) given of agrees = event_same n (phase.Taking t) [] agrees tt
   slot_takes n k (phase.Broken epoch seg) given of agrees = event_same n (phase.Broken epoch seg) [] agrees tt
 
-  pub slot_wants : (n : Net) (p : SlotPhase) (c : ℕ) (want : Want) → PhaseAgrees part texts n desk p → Event n p (on_want p c want).state (on_want p c want).outs
+  pub slot_wants : (n : Net) (p : SlotPhase) (c : ℕ) (want : Want) → PhaseAgrees part texts n desk p
+      → Event n p (on_want p c want).state (on_want p c want).outs
   unfolding on_want
   slot_wants n (phase.Broken epoch seg) c want agrees = event_same n (phase.Broken epoch seg) (gone epoch seg c want) agrees (tt, tt)
   slot_wants n (phase.Active a) c want agrees = slot_takes n (slot_of want.block.ino.0) (phase.Active a) (want_input c want) tt agrees
@@ -108,7 +113,8 @@ module _ (part : ℕ) (texts : Texts) (asked : Questions) (named : ℕ → Type 
   -- ---- Deltas
 
   -- a number that is put into a list of numbers that are short
-  short_put : (xs : List ℕ) (at upto l : ℕ) → length xs ≡ 9 → at < 9 → upto < u32_end → applied_of xs l < u32_end → applied_of (slice_set xs at upto) l < u32_end
+  short_put : (xs : List ℕ) (at upto l : ℕ) → length xs ≡ 9 → at < 9 → upto < u32_end → applied_of xs l < u32_end
+      → applied_of (slice_set xs at upto) l < u32_end
   short_put xs at upto l nine within fits was = by (l - 1 == at) refl
     where
       apart : (x : ℕ) → (x == at) ≡ false → x ≡ at → ⊥
@@ -117,16 +123,19 @@ module _ (part : ℕ) (texts : Texts) (asked : Questions) (named : ℕ → Type 
       by : (t : Bool) → (l - 1 == at) ≡ t → applied_of (slice_set xs at upto) l < u32_end
       by true is =
           let same : l - 1 ≡ at = eqb-true (l - 1) at is in
-          subst (λ k. get_or (slice_set xs at upto) k 0 < u32_end) (sym same) (subst (λ x. x < u32_end) (sym (get_or-set_same xs at upto 0 (omega arith))) fits)
+          subst (λ k. get_or (slice_set xs at upto) k 0 < u32_end) (sym same)
+          (subst (λ x. x < u32_end) (sym (get_or-set_same xs at upto 0 (omega arith))) fits)
       by false is = subst (λ x. x < u32_end) (sym (get_or-set_other xs at (l - 1) upto 0 (apart (l - 1) is))) was
 
-  stands_deltas : (n : Net) (a : Active) (of : LogId) (m : Deltas) → of.0 - 1 < 9 → DeltasKnown part n of.0 m → ActiveAgrees part texts n desk a → Stands n a (slot.transition a.slot (deltas_input of m)).state
+  stands_deltas : (n : Net) (a : Active) (of : LogId) (m : Deltas) → of.0 - 1 < 9 → DeltasKnown part n of.0 m → ActiveAgrees part texts n desk a
+      → Stands n a (slot.transition a.slot (deltas_input of m)).state
   stands_deltas n a of m within known k =
       deltas_take (Stands n a) a.slot of m.first m.upto m.rows (stands_same n a a.slot (record { epoch = refl; applied = refl; index = refl }) k)
       (λ t same. record {
         epoch = same.epoch;
         nine = ap (λ (x : List ℕ). length x) same.applied ∙ length-set a.slot.applied (of.0 - 1) m.upto ∙ k.nine;
-        short = λ l some most. subst (λ x. applied_of x l < u32_end) (sym same.applied) (short_put a.slot.applied (of.0 - 1) m.upto l k.nine within known.short (k.short l some most));
+        short = λ l some most. subst (λ x. applied_of x l < u32_end) (sym same.applied)
+            (short_put a.slot.applied (of.0 - 1) m.upto l k.nine within known.short (k.short l some most));
         pages = subst (λ p. Paged part texts n desk a.slot.epoch p a.parts) (sym (ap pages_of same.index ∙ pages-indexed_all a.slot.index m.rows))
             (paged_put part texts n desk a.slot.epoch (pages_of a.slot.index) a.parts m.rows known.fit k.pages);
       })
@@ -146,11 +155,14 @@ module _ (part : ℕ) (texts : Texts) (asked : Questions) (named : ℕ → Type 
           let d = slot.transition a.slot (deltas_input of m) in
           let w = within of.0 is in
           let nine = agrees.nine in
-          steps_to n a d.state (flat_map (said m.slot a.slot.epoch) d.outs) (GetsDeltas a.slot.epoch a.slot of m.first m.upto m.rows agrees.there (omega arith) known.tells) (stands_deltas n a of m w known agrees)
+          steps_to n a d.state (flat_map (said m.slot a.slot.epoch) d.outs)
+          (GetsDeltas a.slot.epoch a.slot of m.first m.upto m.rows agrees.there (omega arith) known.tells) (stands_deltas n a of m w known agrees)
           (said_done (with_slot n a.slot.epoch d.state) m.slot a.slot.epoch d.outs)
-      by false is = subst (IsEvent n a m.slot) (sym (ap (λ t. cond t (slot.deltas_of a.slot of m.first m.upto m.rows) (still a.slot)) is)) (event_same n (phase.Active a) [] agrees tt)
+      by false is = subst (IsEvent n a m.slot) (sym (ap (λ t. cond t (slot.deltas_of a.slot of m.first m.upto m.rows) (still a.slot)) is))
+          (event_same n (phase.Active a) [] agrees tt)
 
-  pub slot_deltas : (n : Net) (p : SlotPhase) (of : LogId) (m : Deltas) → DeltasKnown part n of.0 m → PhaseAgrees part texts n desk p → Event n p (on_deltas p of m).state (on_deltas p of m).outs
+  pub slot_deltas : (n : Net) (p : SlotPhase) (of : LogId) (m : Deltas) → DeltasKnown part n of.0 m → PhaseAgrees part texts n desk p
+      → Event n p (on_deltas p of m).state (on_deltas p of m).outs
   unfolding takes
   slot_deltas n (phase.Active a) of m known agrees = active_deltas n a of m known agrees
   slot_deltas n (phase.Away epoch) of m known agrees = event_same n (phase.Away epoch) [] agrees tt
@@ -166,16 +178,22 @@ module _ (part : ℕ) (texts : Texts) (asked : Questions) (named : ℕ → Type 
       let e = a.slot.epoch in
       let s = a.slot in
       let happens = Answers e s known.number check.block check.place known.below agrees.there known.sent in
-      by_test (λ (o : Out). Happens part (held_in part texts) n (record n { sent = answer_packets known.number check.block check.place.seg.name known.below e (o ∷ []) ++ n.sent })
+      by_test (λ (o : Out). Happens part (held_in part texts) n (record n
+      { sent = answer_packets known.number check.block check.place.seg.name known.below e (o ∷ []) ++ n.sent })
       → Event n (phase.Active a) (phase.Active a) (flat_map (check_said check e) (o ∷ []))) (slot.is_place (slot.entry_at s check.block).place check.place) (out.Live (slot.entry_at s check.block)) out.Dead
-      (λ _ it. sees_sent part texts asked named n (phase.Active a) (phase.Active a) (AnsweredLive check.block (slot.entry_at s check.block) ∷ []) _ (λ m. PhaseAgrees part texts m desk (phase.Active a)) it (λ d h. h) (omega arith) ((λ _. inl refl), tt)
+      (λ _ it. sees_sent part texts asked named n (phase.Active a) (phase.Active a) (AnsweredLive check.block (slot.entry_at s check.block) ∷ []) _
+      (λ m. PhaseAgrees part texts m desk (phase.Active a)) it (λ d h. h) (omega arith) ((λ _. inl refl), tt)
       (phase_on part texts n _ (grows_sent n (AnsweredLive check.block (slot.entry_at s check.block) ∷ [])) desk (phase.Active a) (λ d _. refl) agrees))
-      (λ _ it. sees_sent part texts asked named n (phase.Active a) (phase.Active a) (AnsweredDead known.number check.block check.place.seg.name known.below e ∷ []) _ (λ m. PhaseAgrees part texts m desk (phase.Active a)) it (λ d h. h) (omega arith)
+      (λ _ it. sees_sent part texts asked named n (phase.Active a) (phase.Active a)
+      (AnsweredDead known.number check.block check.place.seg.name known.below e ∷ []) _ (λ m. PhaseAgrees part texts m desk (phase.Active a)) it (λ d h. h)
+      (omega arith)
       ((λ _. record { number = known.number; name = check.place.seg.name; below = known.below; sent = inl refl; question = known.question }), tt)
-      (phase_on part texts n _ (grows_sent n (AnsweredDead known.number check.block check.place.seg.name known.below e ∷ [])) desk (phase.Active a) (λ d _. refl) agrees))
+      (phase_on part texts n _ (grows_sent n (AnsweredDead known.number check.block check.place.seg.name known.below e ∷ [])) desk (phase.Active a)
+      (λ d _. refl) agrees))
       happens
 
-  pub slot_checks : (n : Net) (p : SlotPhase) (check : Check) → CheckKnown part asked n check → PhaseAgrees part texts n desk p → Event n p (on_check p check).state (on_check p check).outs
+  pub slot_checks : (n : Net) (p : SlotPhase) (check : Check) → CheckKnown part asked n check → PhaseAgrees part texts n desk p
+      → Event n p (on_check p check).state (on_check p check).outs
   unfolding on_check
   slot_checks n (phase.Active a) check known agrees = active_check n a check known agrees
   slot_checks n (phase.Away epoch) check known agrees = event_same n (phase.Away epoch) [] agrees tt
@@ -186,7 +204,8 @@ module _ (part : ℕ) (texts : Texts) (asked : Questions) (named : ℕ → Type 
   elsewhere : {X : Type 0} (k : ℕ) → (k ≡ part → ⊥) → k ≡ part → X
   elsewhere k other same = absurd (other same)
 
-  check_done : (n : Net) (check : Check) (epoch : ℕ) (outs : List Out) → (slot_of check.block.ino.0 ≡ part → ⊥) → AllDone part texts asked n (flat_map (check_said check epoch) outs)
+  check_done : (n : Net) (check : Check) (epoch : ℕ) (outs : List Out) → (slot_of check.block.ino.0 ≡ part → ⊥)
+      → AllDone part texts asked n (flat_map (check_said check epoch) outs)
   unfolding check_said
   check_done n check epoch [] other = tt
   check_done n check epoch (out.Grant client block stamp inc req mode entry ∷ os) other = ((λ same. absurd (other same)), check_done n check epoch os other)

@@ -43,7 +43,8 @@ module _ (part : ℕ) (texts : Texts) (n m : Net) (g : Grows n m) where
     pages = paged_on part texts n m g desk a.slot.epoch (pages_of a.slot.index) a.parts k.pages;
   }
 
-  pub phase_on : (desk : Desk) (p : SlotPhase) → ((e : ℕ) → HeldAt p e → m.slots e ≡ n.slots e) → PhaseAgrees part texts n desk p → PhaseAgrees part texts m desk p
+  pub phase_on : (desk : Desk) (p : SlotPhase) → ((e : ℕ) → HeldAt p e → m.slots e ≡ n.slots e) → PhaseAgrees part texts n desk p
+      → PhaseAgrees part texts m desk p
   phase_on desk (phase.Taking t) same k = taking_on t.epoch t.take (same t.epoch refl) k
   phase_on desk (phase.Active a) same k = active_on desk a (same a.slot.epoch refl) k
   phase_on desk (phase.Away epoch) same k = tt
@@ -68,7 +69,8 @@ module _ (part : ℕ) (texts : Texts) (n m : Net) (g : Grows n m) where
   done_seen (Some job) h = done_in job.done h
 
   -- what others do: the slots that this manager holds stay, and so does what is known of their epochs
-  pub serving_on : (s : Serving) → ((e : ℕ) → HeldAt (phase_at s.slots part) e → m.slots e ≡ n.slots e) → ServingAgrees part texts n s → ServingAgrees part texts m s
+  pub serving_on : (s : Serving) → ((e : ℕ) → HeldAt (phase_at s.slots part) e → m.slots e ≡ n.slots e) → ServingAgrees part texts n s
+      → ServingAgrees part texts m s
   serving_on s same k = record {
     eight = k.eight;
     given = k.given;

@@ -32,7 +32,8 @@ IsSend (Settled end rows) = ⊥
 
 sends_send : (f : FlightState) (ms : List Member) (place : ℕ) → AllByRecursion IsSend (sends f ms place)
 sends_send f [] place = tt
-sends_send f (m ∷ ms) place = all_both IsSend (send_at f m place) (sends f ms (place + 1)) (by_test (AllByRecursion IsSend) (is_noted f.noted place) [] _ (λ _. tt) (λ _. (tt, tt))) (sends_send f ms (place + 1))
+sends_send f (m ∷ ms) place = all_both IsSend (send_at f m place) (sends f ms (place + 1))
+    (by_test (AllByRecursion IsSend) (is_noted f.noted place) [] _ (λ _. tt) (λ _. (tt, tt))) (sends_send f ms (place + 1))
 
 all_send : (f : FlightState) → AllByRecursion IsSend (all_sends f)
 unfolding all_sends
@@ -65,13 +66,16 @@ module _ (s : LogState) where
   abbrev pub Went : Done → Type 0
   Went d = GoesOn d ⊎ Lands d
 
-  stays : (t : LogState) → t.log ≡ s.log → t.dirty ≡ s.dirty → t.flight ≡ s.flight → (outs : List Out) → AllByRecursion IsSend outs → Went (record { state = t; outs = outs })
-  stays t same_log dirty flight outs sends_ = inl (record { same_log = same_log; dirty = dirty; flight = λ f is. record { old = f; was = sym flight ∙ is; items = refl; of = refl }; sends = sends_ })
+  stays : (t : LogState) → t.log ≡ s.log → t.dirty ≡ s.dirty → t.flight ≡ s.flight → (outs : List Out) → AllByRecursion IsSend outs
+      → Went (record { state = t; outs = outs })
+  stays t same_log dirty flight outs sends_ = inl (record { same_log = same_log; dirty = dirty; flight = λ f is. record
+      { old = f; was = sym flight ∙ is; items = refl; of = refl }; sends = sends_ })
 
   some_is : {X : Type 0} (x y : X) → Some x ≡ Some y → x ≡ y
   some_is x y same = cc
 
-  module _ (nothing_waits : s.dirty ≡ []) (t : LogState) (same_log : t.log ≡ s.log) (dirty : t.dirty ≡ s.dirty) (f g : FlightState) (was : s.flight ≡ Some f) (segment : g.segment ≡ f.segment) where
+  module _ (nothing_waits : s.dirty ≡ []) (t : LogState) (same_log : t.log ≡ s.log) (dirty : t.dirty ≡ s.dirty) (f g : FlightState) (was : s.flight ≡ Some f)
+      (segment : g.segment ≡ f.segment) where
     not_full : (u : LogState) → u.dirty ≡ [] → is_full u ≡ false
     not_full u none = ap (λ ds. is_idle u && nat_le segment_blocks (length ds)) none ∙ never (is_idle u)
       where
@@ -93,7 +97,8 @@ module _ (s : LogState) where
       sends = all_send _;
     })
     followed_went Settle =
-        subst (λ b. Went (after (Settled (end_from g.segment) (rows_of g.segment) ∷ []) (cond b (sealed (landed t g)) (still (landed t g))))) (sym (not_full (landed t g) (dirty ∙ nothing_waits)))
+        subst (λ b. Went (after (Settled (end_from g.segment) (rows_of g.segment) ∷ []) (cond b (sealed (landed t g)) (still (landed t g)))))
+        (sym (not_full (landed t g) (dirty ∙ nothing_waits)))
         (inr (record {
           old = f;
           was = was;
@@ -117,21 +122,25 @@ module _ (s : LogState) where
 
     looked_went : Went (looked_at s t g)
     unfolding looked_at
-    looked_went = by_test Went (can_follow t g (fate_of t.groups g)) (followed t g (fate_of t.groups g)) (still s) (λ _. followed_went (fate_of t.groups g)) (λ _. stays s refl refl refl [] tt)
+    looked_went = by_test Went (can_follow t g (fate_of t.groups g)) (followed t g (fate_of t.groups g)) (still s) (λ _. followed_went (fate_of t.groups g))
+        (λ _. stays s refl refl refl [] tt)
 
   acked_went : s.dirty ≡ [] → (name : SegName) (index generation : ℕ) → Went (on_acked s name index generation)
   unfolding on_acked
   acked_went none name index generation = by s.flight refl
     where
-      by : (o : Option FlightState) → s.flight ≡ o → Went (elim o [ None ↦ still s | Some f ↦ cond (is_of f name index generation) (looked_at s s (noting f index)) (still s) ])
+      by : (o : Option FlightState) → s.flight ≡ o
+          → Went (elim o [ None ↦ still s | Some f ↦ cond (is_of f name index generation) (looked_at s s (noting f index)) (still s) ])
       by None is = stays s refl refl refl [] tt
-      by (Some f) is = by_test Went (is_of f name index generation) (looked_at s s (noting f index)) (still s) (λ _. looked_went none s refl refl f (noting f index) is refl) (λ _. stays s refl refl refl [] tt)
+      by (Some f) is = by_test Went (is_of f name index generation) (looked_at s s (noting f index)) (still s)
+          (λ _. looked_went none s refl refl f (noting f index) is refl) (λ _. stays s refl refl refl [] tt)
 
   maps_went : s.dirty ≡ [] → (groups : GroupMapState) → Went (on_maps s groups)
   unfolding on_maps
   maps_went none groups = by s.flight refl
     where
-      by : (o : Option FlightState) → s.flight ≡ o → Went (elim o [ None ↦ still (record s { groups = groups }) | Some f ↦ looked_at s (record s { groups = groups }) f ])
+      by : (o : Option FlightState) → s.flight ≡ o
+          → Went (elim o [ None ↦ still (record s { groups = groups }) | Some f ↦ looked_at s (record s { groups = groups }) f ])
       by None is = stays (record s { groups = groups }) refl refl refl [] tt
       by (Some f) is = looked_went none (record s { groups = groups }) refl refl f f is refl
 
@@ -178,4 +187,5 @@ module _ (s : LogState) where
         items_are = λ f is. ap (λ (x : FlightState). x.segment.items) (sym (some_is _ f is));
         of = λ f is. ap (λ (x : FlightState). x.segment.name.log) (sym (some_is _ f is));
       })
-      (λ _. record { same_log = refl; dirty = refl; items_are = λ f is. absurd (some_none f (sym is ∙ none)); of = λ f is. absurd (some_none f (sym is ∙ none)) })
+      (λ _. record { same_log = refl; dirty = refl; items_are = λ f is. absurd (some_none f (sym is ∙ none)); of = λ f is. absurd
+      (some_none f (sym is ∙ none)) })

@@ -19,3 +19,4 @@ pub mod Start
 pub mod Registry
 pub mod Staying
 pub mod Owners
+pub mod Feeding

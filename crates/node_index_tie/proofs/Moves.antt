@@ -124,7 +124,8 @@ module _ (part : ℕ) (texts : Texts) (asked : Questions) where
 
   sends_on : (n m : Net) → Grows n m → (b : Body) → ManagerSends part asked n b → ManagerSends part asked m b
   sends_on n m g (body.Live x) h = λ inside. g.sent _ (h inside)
-  sends_on n m g (body.Dead x) h = λ inside. let k = h inside in record { number = k.number; name = k.name; below = k.below; sent = g.sent _ k.sent; question = k.question }
+  sends_on n m g (body.Dead x) h = λ inside. let k = h inside in record
+      { number = k.number; name = k.name; below = k.below; sent = g.sent _ k.sent; question = k.question }
   sends_on n m g (body.CkptDone x) h = λ inside. g.sent _ (h inside)
   sends_on n m g _ h = h
 
@@ -153,14 +154,17 @@ module _ (part : ℕ) (texts : Texts) (asked : Questions) where
 
   module _ (named : ℕ → Type 0) where
     -- nothing happens there
-    pub sees_quiet : (n : Net) (p q : SlotPhase) (outs : List Effect) (At : Net → Type 0) → ((e : ℕ) → HeldAt q e → HeldAt p e ⊎ named e) → epoch_of p ≤ epoch_of q → AllDone n outs → At n → Sees named n p q outs At
-    sees_quiet n p q outs At held rises done at = record { next = n; runs = Begun; grows = grows_itself n; slots = λ e other _. refl; held = held; rises = rises; does = done; agrees = at }
+    pub sees_quiet : (n : Net) (p q : SlotPhase) (outs : List Effect) (At : Net → Type 0) → ((e : ℕ) → HeldAt q e → HeldAt p e ⊎ named e)
+        → epoch_of p ≤ epoch_of q → AllDone n outs → At n → Sees named n p q outs At
+    sees_quiet n p q outs At held rises done at = record { next = n; runs = Begun; grows = grows_itself n; slots = λ e other _. refl; held = held;
+        rises = rises; does = done; agrees = at }
 
     pub sees_same : (n : Net) (p : SlotPhase) (outs : List Effect) (At : Net → Type 0) → AllDone n outs → At n → Sees named n p p outs At
     sees_same n p outs At done at = sees_quiet n p p outs At (λ e h. inl h) (omega arith) done at
 
     -- one thing happens there, which changes packets alone
-    pub sees_sent : (n : Net) (p q : SlotPhase) (new : List Packet) (outs : List Effect) (At : Net → Type 0) → Happens part (held_in part texts) n (record n { sent = new ++ n.sent }) → ((d : ℕ) → HeldAt q d → HeldAt p d)
+    pub sees_sent : (n : Net) (p q : SlotPhase) (new : List Packet) (outs : List Effect) (At : Net → Type 0)
+        → Happens part (held_in part texts) n (record n { sent = new ++ n.sent }) → ((d : ℕ) → HeldAt q d → HeldAt p d)
         → epoch_of p ≤ epoch_of q → AllDone (record n { sent = new ++ n.sent }) outs → At (record n { sent = new ++ n.sent }) → Sees named n p q outs At
     sees_sent n p q new outs At happens held rises done at = record {
       next = record n { sent = new ++ n.sent };
@@ -174,7 +178,8 @@ module _ (part : ℕ) (texts : Texts) (asked : Questions) where
     }
 
     -- one thing happens there, which changes a slot that is held
-    pub sees_slot : (n : Net) (p q : SlotPhase) (e : ℕ) (s : SlotState) (outs : List Effect) (At : Net → Type 0) → Happens part (held_in part texts) n (with_slot n e s) → HeldAt p e → ((d : ℕ) → HeldAt q d → HeldAt p d)
+    pub sees_slot : (n : Net) (p q : SlotPhase) (e : ℕ) (s : SlotState) (outs : List Effect) (At : Net → Type 0)
+        → Happens part (held_in part texts) n (with_slot n e s) → HeldAt p e → ((d : ℕ) → HeldAt q d → HeldAt p d)
         → epoch_of p ≤ epoch_of q → AllDone (with_slot n e s) outs → At (with_slot n e s) → Sees named n p q outs At
     sees_slot n p q e s outs At happens here held rises done at = record {
       next = with_slot n e s;
@@ -187,7 +192,8 @@ module _ (part : ℕ) (texts : Texts) (asked : Questions) where
       agrees = at;
     }
 
-    pub sees_then : (n : Net) (p q r : SlotPhase) (outs more : List Effect) (At Bt : Net → Type 0) → Sees named n p q outs At → ((m : Net) → Grows n m → At m → Sees named m q r more Bt) → Sees named n p r (outs ++ more) Bt
+    pub sees_then : (n : Net) (p q r : SlotPhase) (outs more : List Effect) (At Bt : Net → Type 0) → Sees named n p q outs At
+        → ((m : Net) → Grows n m → At m → Sees named m q r more Bt) → Sees named n p r (outs ++ more) Bt
     sees_then n p q r outs more At Bt h f =
         let k = f h.next h.grows h.agrees in
         record {
@@ -201,8 +207,10 @@ module _ (part : ℕ) (texts : Texts) (asked : Questions) where
           agrees = k.agrees;
         }
 
-    pub sees_as : (n : Net) (p q : SlotPhase) (outs : List Effect) (At Bt : Net → Type 0) → ((m : Net) → Grows n m → At m → Bt m) → Sees named n p q outs At → Sees named n p q outs Bt
-    sees_as n p q outs At Bt f h = record { next = h.next; runs = h.runs; grows = h.grows; slots = h.slots; held = h.held; rises = h.rises; does = h.does; agrees = f h.next h.grows h.agrees }
+    pub sees_as : (n : Net) (p q : SlotPhase) (outs : List Effect) (At Bt : Net → Type 0) → ((m : Net) → Grows n m → At m → Bt m) → Sees named n p q outs At
+        → Sees named n p q outs Bt
+    sees_as n p q outs At Bt f h = record { next = h.next; runs = h.runs; grows = h.grows; slots = h.slots; held = h.held; rises = h.rises; does = h.does;
+        agrees = f h.next h.grows h.agrees }
 
     -- where nothing is named, the more so
     pub sees_named : (n : Net) (p q : SlotPhase) (outs : List Effect) (At : Net → Type 0) → Sees Nothing n p q outs At → Sees named n p q outs At

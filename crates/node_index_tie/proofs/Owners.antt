@@ -45,10 +45,12 @@ fit_slot slot (row ∷ rows) fit = by (slot_of row.0.ino.0 == slot) (fit_slot sl
 fit_after : (slot number : ℕ) (fs : List FiledDeltas) → AllByRecursion (λ (f : FiledDeltas). RowsFit f.rows) fs → RowsFit (rows_after slot number fs)
 fit_after slot number [] all = tt
 fit_after slot number (f ∷ fs) all =
-    all_both (λ row. row.0.blk < 4294967296) (cond (nat_lt number f.seq) (slot_rows slot f.rows) []) (rows_after slot number fs) (by_test RowsFit (nat_lt number f.seq) (slot_rows slot f.rows) [] (λ _. fit_slot slot f.rows all.0) (λ _. tt))
+    all_both (λ row. row.0.blk < 4294967296) (cond (nat_lt number f.seq) (slot_rows slot f.rows) []) (rows_after slot number fs)
+    (by_test RowsFit (nat_lt number f.seq) (slot_rows slot f.rows) [] (λ _. fit_slot slot f.rows all.0) (λ _. tt))
     (fit_after slot number fs all.1)
 
-fit_each : (f : Filed) (l : ℕ) → ((q : ℕ) → RowsFit (rows_at f l q)) → (qs : List ℕ) → AllByRecursion (λ (d : FiledDeltas). RowsFit d.rows) (map (fed_at f l) qs)
+fit_each : (f : Filed) (l : ℕ) → ((q : ℕ) → RowsFit (rows_at f l q)) → (qs : List ℕ)
+    → AllByRecursion (λ (d : FiledDeltas). RowsFit d.rows) (map (fed_at f l) qs)
 fit_each f l fit [] = tt
 fit_each f l fit (q ∷ qs) = (fit q, fit_each f l fit qs)
 
@@ -57,8 +59,10 @@ fit_each f l fit (q ∷ qs) = (fit q, fit_each f l fit qs)
 module _ (part : ℕ) (n : Net) (l : ℕ) (some : 0 < l) (most : l ≤ 9) (feed : FeedState) (k : FeedSeen part n l feed) (managers : Managers) where
   fits : (slot : ℕ) → RowsFit (rows_after slot (acked_of feed slot) feed.filed)
   fits slot =
-      let filed : feed.filed ≡ map (fed_at n.filed l) (range_with_len (suc k.base) (n.filed.head l - k.base)) = ap (λ (s : FeedState). s.filed) k.is ∙ (is_after k.base k.inputs).filed_is ∙ k.fed.each in
-      fit_after slot (acked_of feed slot) feed.filed (subst (AllByRecursion (λ (d : FiledDeltas). RowsFit d.rows)) (sym filed) (fit_each n.filed l k.fit (range_with_len (suc k.base) (n.filed.head l - k.base))))
+      let filed : feed.filed ≡ map (fed_at n.filed l) (range_with_len (suc k.base) (n.filed.head l - k.base)) = ap (λ (s : FeedState). s.filed) k.is ∙
+      (is_after k.base k.inputs).filed_is ∙ k.fed.each in
+      fit_after slot (acked_of feed slot) feed.filed (subst (AllByRecursion (λ (d : FiledDeltas). RowsFit d.rows)) (sym filed)
+      (fit_each n.filed l k.fit (range_with_len (suc k.base) (n.filed.head l - k.base))))
 
   ends : feed.end ≡ n.filed.head l
   ends = ap (λ (s : FeedState). s.end) k.is ∙ (is_after k.base k.inputs).end_is ∙ k.fed.end
@@ -67,8 +71,10 @@ module _ (part : ℕ) (n : Net) (l : ℕ) (some : 0 < l) (most : l ≤ 9) (feed 
   known : (slot : ℕ) (input : In) → Contains (transition feed input).outs (Range slot (acked_of feed slot + 1) feed.end (rows_after slot (acked_of feed slot) feed.filed)) → slot ≡ part
       → DeltasKnown part n l (record { slot = slot; first = acked_of feed slot + 1; upto = feed.end; rows = rows_after slot (acked_of feed slot) feed.filed })
   known slot input given ours = record {
-    tells = λ b inside. ranges_tell b n.filed l k.base k.inputs input slot (acked_of feed slot + 1) feed.end (rows_after slot (acked_of feed slot) feed.filed) some most k.fed (inside ∙ sym ours)
-        (subst (λ (s : FeedState). Contains (transition s input).outs (Range slot (acked_of feed slot + 1) feed.end (rows_after slot (acked_of feed slot) feed.filed))) k.is given);
+    tells = λ b inside. ranges_tell b n.filed l k.base k.inputs input slot (acked_of feed slot + 1) feed.end
+        (rows_after slot (acked_of feed slot) feed.filed) some most k.fed (inside ∙ sym ours)
+        (subst (λ (s : FeedState). Contains (transition s input).outs
+        (Range slot (acked_of feed slot + 1) feed.end (rows_after slot (acked_of feed slot) feed.filed))) k.is given);
     fit = fits slot;
     short = let e = ends in let s = k.short in omega arith;
   }
@@ -81,7 +87,8 @@ module _ (part : ℕ) (n : Net) (l : ℕ) (some : 0 < l) (most : l ≤ 9) (feed 
           → AllByRecursion (OwnerDoes part n l) (map (range managers) (cond t (Range slot (acked_of feed slot + 1) feed.end (rows_after slot (acked_of feed slot) feed.filed) ∷ []) []))
       by true is =
           (known slot (Push slot) (subst (λ os. Contains os (Range slot (acked_of feed slot + 1) feed.end (rows_after slot (acked_of feed slot) feed.filed)))
-          (ap (λ t. cond t (Range slot (acked_of feed slot + 1) feed.end (rows_after slot (acked_of feed slot) feed.filed) ∷ []) []) (sym is)) (contains_first _ [])), tt)
+          (ap (λ t. cond t (Range slot (acked_of feed slot + 1) feed.end (rows_after slot (acked_of feed slot) feed.filed) ∷ []) []) (sym is))
+          (contains_first _ [])), tt)
       by false is = tt
 
   map_both : (xs ys : List Out) → map (range managers) (xs ++ ys) ≡ map (range managers) xs ++ map (range managers) ys
@@ -90,7 +97,8 @@ module _ (part : ℕ) (n : Net) (l : ℕ) (some : 0 < l) (most : l ≤ 9) (feed 
 
   told_each : (slots : List ℕ) → AllByRecursion (OwnerDoes part n l) (map (range managers) (flat_map (pushed feed) slots))
   told_each [] = tt
-  told_each (slot ∷ slots) = subst (AllByRecursion (OwnerDoes part n l)) (sym (map_both (pushed feed slot) (flat_map (pushed feed) slots))) (all_both (OwnerDoes part n l) (pushes managers feed slot) (map (range managers) (flat_map (pushed feed) slots)) (told slot) (told_each slots))
+  told_each (slot ∷ slots) = subst (AllByRecursion (OwnerDoes part n l)) (sym (map_both (pushed feed slot) (flat_map (pushed feed) slots)))
+      (all_both (OwnerDoes part n l) (pushes managers feed slot) (map (range managers) (flat_map (pushed feed) slots)) (told slot) (told_each slots))
 
 pub owners_tell : OwnersTell
 owners_tell part n l feed managers some most k = record {
@@ -108,7 +116,7 @@ IsQuiet (NewEpoch slot) = Unit {0}
 IsQuiet (Push slot) = Unit {0}
 IsQuiet Tick = Unit {0}
 
-one_more : (s : FeedState) (xs : List In) (i : In) → (steps transition s (xs ++ i ∷ [])).state ≡ (transition (steps transition s xs).state i).state
+pub one_more : (s : FeedState) (xs : List In) (i : In) → (steps transition s (xs ++ i ∷ [])).state ≡ (transition (steps transition s xs).state i).state
 one_more s [] i = refl
 one_more s (x ∷ xs) i = one_more (transition s x).state xs i
 

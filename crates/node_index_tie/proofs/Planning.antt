@@ -48,7 +48,8 @@ use Rattle.node_index_tie.proofs.Writing.{Serves, goes_on}
 -- ---- a writer that may begin
 
 free_writer : (writer : WriterState) → writer.work ≡ None → writer.asked ≡ None → is_idle writer ≡ not (writer.number == u32_end)
-free_writer writer no_work no_asked = ap (λ (o : Option WorkState). not (is_some o || (is_some writer.asked || (writer.number == u32_end)))) no_work ∙ ap (λ (o : Option ℕ). not (is_some o || (writer.number == u32_end))) no_asked
+free_writer writer no_work no_asked = ap (λ (o : Option WorkState). not (is_some o || (is_some writer.asked || (writer.number == u32_end)))) no_work ∙ ap
+    (λ (o : Option ℕ). not (is_some o || (writer.number == u32_end))) no_asked
 
 spent : (writer : WriterState) → writer.work ≡ None → writer.asked ≡ None → is_idle writer ≡ false → writer.number ≡ u32_end
 spent writer no_work no_asked busy = by (writer.number == u32_end) refl (sym (free_writer writer no_work no_asked) ∙ busy)
@@ -86,7 +87,8 @@ each_log f (suc (suc (suc (suc (suc (suc (suc (suc (suc k))))))))) h = absurd (o
 
 -- it begins, in each log, where what the slot has applied ends
 horizon_next : (s : SlotState) → ((l : ℕ) → 0 < l → l ≤ 9 → applied_of s.applied l < u32_end) → IsNext s (horizon_of s)
-horizon_next s short l some most = of_log_in (horizon_of s) l some most ∙ each_log (next_of s) (l - 1) (omega arith) ∙ ap (next_of s) (before l some) ∙ risen_is (applied_of s.applied l) (short l some most)
+horizon_next s short l some most = of_log_in (horizon_of s) l some most ∙ each_log (next_of s) (l - 1) (omega arith) ∙ ap (next_of s) (before l some) ∙
+    risen_is (applied_of s.applied l) (short l some most)
   where
     before : (k : ℕ) → 0 < k → suc (k - 1) ≡ k
     before k h = omega arith
@@ -125,15 +127,18 @@ module _ (part : ℕ) (texts : Texts) (questions : Questions) (exists : part < 8
     none : agrees.given ≡ []
 
   -- the writer goes on with a checkpoint that was begun
-  begins_on : (n : Net) (s v : Serving) (w : WorkState) (p : SlotPhase) → v.writer.work ≡ Some w → v.log.flight ≡ None → p ≡ phase_at s.slots part → Sees part texts questions named n p (phase_at v.slots part) [] (λ m. Clear m v)
+  begins_on : (n : Net) (s v : Serving) (w : WorkState) (p : SlotPhase) → v.writer.work ≡ Some w → v.log.flight ≡ None → p ≡ phase_at s.slots part
+      → Sees part texts questions named n p (phase_at v.slots part) [] (λ m. Clear m v)
       → Sees part texts questions named n p (phase_at (node.says_each (record v { writer = (go_on v.writer w).state }) (go_on v.writer w).outs).state.slots part) (node.says_each (record v { writer = (go_on v.writer w).state }) (go_on v.writer w).outs).outs
       (λ m. ServingAgrees part texts m (node.says_each (record v { writer = (go_on v.writer w).state }) (go_on v.writer w).outs).state)
   begins_on n s v w p there landed at h =
       let d = node.says_each (record v { writer = (go_on v.writer w).state }) (go_on v.writer w).outs in
-      sees_then part texts questions named n p (phase_at v.slots part) (phase_at d.state.slots part) [] d.outs (λ m. Clear m v) (λ m. ServingAgrees part texts m d.state) h
+      sees_then part texts questions named n p (phase_at v.slots part) (phase_at d.state.slots part) [] d.outs (λ m. Clear m v)
+      (λ m. ServingAgrees part texts m d.state) h
       (λ m g k. goes_on part texts questions exists named m v w there k.agrees k.none landed)
 
-  module _ (n : Net) (s : Serving) (open_item : s.lasting.items.unanswered ≡ None → ⊥) (no_work : s.writer.work ≡ None) (no_asked : s.writer.asked ≡ None) (agrees : ServingAgrees part texts n s) where
+  module _ (n : Net) (s : Serving) (open_item : s.lasting.items.unanswered ≡ None → ⊥) (no_work : s.writer.work ≡ None) (no_asked : s.writer.asked ≡ None)
+      (agrees : ServingAgrees part texts n s) where
     landed : s.log.flight ≡ None
     landed = agrees.writer.idle no_work
 
@@ -144,7 +149,8 @@ module _ (part : ℕ) (texts : Texts) (questions : Questions) (exists : part < 8
     abbrev at_work : WorkState → WriterState
     at_work w = record s.writer { number = s.writer.number + 1; work = Some w }
 
-    writer_begun : (m : Net) → WriterAgrees part texts m (desk_of s agrees.given) → (w : WorkState) → (w.slot ≡ part → WorkSeen part texts m (record { log = s.log; given = []; writer = at_work w }) w)
+    writer_begun : (m : Net) → WriterAgrees part texts m (desk_of s agrees.given) → (w : WorkState)
+        → (w.slot ≡ part → WorkSeen part texts m (record { log = s.log; given = []; writer = at_work w }) w)
         → WriterAgrees part texts m (record { log = s.log; given = []; writer = at_work w })
     writer_begun m k w seen = record {
       same_log = k.same_log;
@@ -152,7 +158,8 @@ module _ (part : ℕ) (texts : Texts) (questions : Questions) (exists : part < 8
       nothing_waits = k.nothing_waits;
       idle = λ _. landed;
       answered = λ e is. absurd (some_none e (sym is ∙ no_asked));
-      work = λ x is of. let same = some_is w x is in subst (λ y. WorkSeen part texts m (record { log = s.log; given = []; writer = at_work w }) y) same (seen (ap (λ (y : WorkState). y.slot) same ∙ of));
+      work = λ x is of. let same = some_is w x is in subst (λ y. WorkSeen part texts m (record { log = s.log; given = []; writer = at_work w }) y) same
+          (seen (ap (λ (y : WorkState). y.slot) same ∙ of));
     }
 
     -- ---- the slot itself
@@ -173,7 +180,8 @@ module _ (part : ℕ) (texts : Texts) (questions : Questions) (exists : part < 8
       epoch = a.slot.epoch
 
       abbrev asked_work : WorkState
-      asked_work = record { slot = part; epoch = epoch; left = (plan_of (pages_of a.slot.index) a.parts).pages; parts = (plan_of (pages_of a.slot.index) a.parts).parts; horizon = horizon_of a.slot }
+      asked_work = record { slot = part; epoch = epoch; left = (plan_of (pages_of a.slot.index) a.parts).pages;
+          parts = (plan_of (pages_of a.slot.index) a.parts).parts; horizon = horizon_of a.slot }
 
       cleaned_active : phase_at cleaned_here.slots part ≡ phase.Active (record a { slot = slot.cleaned a.slot })
       unfolding cleaned_phase
@@ -191,19 +199,22 @@ module _ (part : ℕ) (texts : Texts) (questions : Questions) (exists : part < 8
           let t = slot.cleaned a.slot in
           let m : Net = with_slot n epoch t in
           let g = grows_slot n epoch t in
-          sees_slot part texts questions named n now (phase_at cleaned_here.slots part) epoch t [] (λ m. ServingAgrees part texts m cleaned_here) (Cleans epoch a.slot k.there) (subst (λ p. HeldAt p epoch) (sym is_now) refl) held_before rises_not tt
+          sees_slot part texts questions named n now (phase_at cleaned_here.slots part) epoch t [] (λ m. ServingAgrees part texts m cleaned_here)
+          (Cleans epoch a.slot k.there) (subst (λ p. HeldAt p epoch) (sym is_now) refl) held_before rises_not tt
           (record {
             eight = cleaned_eight;
             given = agrees.given;
             here = subst (PhaseAgrees part texts m (desk_of s agrees.given)) (sym cleaned_active)
-                (record { there = put_here n.slots epoch (Some t); nine = k.nine; short = k.short; pages = Ended (spent s.writer no_work no_asked busy) no_work });
+                (record { there = put_here n.slots epoch (Some t); nine = k.nine; short = k.short; pages = Ended (spent s.writer no_work no_asked busy)
+                no_work });
             writer = writer_on part texts n m g (desk_of s agrees.given) agrees.writer;
             closed = agrees.closed;
             done = done_seen part texts n m g s.checkpoint agrees.done;
           })
 
       -- or it begins
-      module _ (events : List Event) (may : AllMayCome (held_in part texts) nothing_checkpointed events) (is : slot_after events ≡ checkpointed (pages_of a.slot.index) a.parts) where
+      module _ (events : List Event) (may : AllMayCome (held_in part texts) nothing_checkpointed events)
+          (is : slot_after events ≡ checkpointed (pages_of a.slot.index) a.parts) where
         abbrev planned : Net
         planned = with_packet n (CheckpointPlanned epoch events (horizon_of a.slot))
 
@@ -214,7 +225,8 @@ module _ (part : ℕ) (texts : Texts) (questions : Questions) (exists : part < 8
         virtual = record cleaned_here { writer = at_work asked_work }
 
         grows : Grows n later
-        grows = grows_then n planned later (grows_sent n (CheckpointPlanned epoch events (horizon_of a.slot) ∷ [])) (grows_slot planned epoch (slot.cleaned a.slot))
+        grows = grows_then n planned later (grows_sent n (CheckpointPlanned epoch events (horizon_of a.slot) ∷ []))
+            (grows_slot planned epoch (slot.cleaned a.slot))
 
         there : later.slots epoch ≡ Some (slot.cleaned a.slot)
         there = put_here n.slots epoch (Some (slot.cleaned a.slot))
@@ -225,7 +237,8 @@ module _ (part : ℕ) (texts : Texts) (questions : Questions) (exists : part < 8
           begun = λ none. some_none (slot.cleaned a.slot) (sym there ∙ none);
           may = may;
           segments = [];
-          parts = ap (λ (c : Checkpointed). (plan_of c.pages c.parts).parts) (sym is) ∙ sym (append-nil (plan_of (slot_after events).pages (slot_after events).parts).parts);
+          parts = ap (λ (c : Checkpointed). (plan_of c.pages c.parts).parts) (sym is) ∙ sym
+              (append-nil (plan_of (slot_after events).pages (slot_after events).parts).parts);
           rows = ap (λ (c : Checkpointed). rows_of (plan_of c.pages c.parts).pages) (sym is);
           flies = λ f flies. absurd (some_none f (sym flies ∙ landed));
         }
@@ -241,7 +254,8 @@ module _ (part : ℕ) (texts : Texts) (questions : Questions) (exists : part < 8
               short = k.short;
               pages = Written events asked_work [] refl refl refl work tt (cleaned_pages a.slot.index ∙ ap (λ (c : Checkpointed). cleaned c.pages) (sym is));
             });
-            writer = writer_begun later (writer_on part texts n later grows (desk_of s agrees.given) agrees.writer) asked_work (λ _. record { events = events; is = work });
+            writer = writer_begun later (writer_on part texts n later grows (desk_of s agrees.given) agrees.writer) asked_work
+                (λ _. record { events = events; is = work });
             closed = λ none. absurd (open_item none);
             done = done_seen part texts n later grows s.checkpoint agrees.done;
           };
@@ -251,7 +265,8 @@ module _ (part : ℕ) (texts : Texts) (questions : Questions) (exists : part < 8
         begins_covered : Serves part texts questions exists named n s (node.said_by cleaned_here (go_on (record s.writer { number = s.writer.number + 1 }) asked_work))
         begins_covered = begins_on n s virtual asked_work now refl landed refl (record {
           next = later;
-          runs = On (On Begun (Plans epoch a.slot events (horizon_of a.slot) k.there (ap (λ (c : Checkpointed). c.pages) is) may (horizon_next a.slot k.short))) (Cleans epoch a.slot k.there);
+          runs = On (On Begun (Plans epoch a.slot events (horizon_of a.slot) k.there (ap (λ (c : Checkpointed). c.pages) is) may
+              (horizon_next a.slot k.short))) (Cleans epoch a.slot k.there);
           grows = grows;
           slots = λ d other _. put_there n.slots epoch (Some (slot.cleaned a.slot)) d (λ same. other (subst (λ p. HeldAt p d) (sym is_now) (sym same)));
           held = λ e h. inl (held_before e h);
@@ -263,7 +278,8 @@ module _ (part : ℕ) (texts : Texts) (questions : Questions) (exists : part < 8
       begins_active : Serves part texts questions exists named n s (node.writer_takes cleaned_here (begin_with part a))
       unfolding node.writer_takes node.says_each
       begins_active =
-          by_test (λ (r : Stepped WriterState Out). Serves part texts questions exists named n s (node.said_by cleaned_here r)) (is_idle s.writer) (go_on (record s.writer { number = s.writer.number + 1 }) asked_work) (still s.writer)
+          by_test (λ (r : Stepped WriterState Out). Serves part texts questions exists named n s (node.said_by cleaned_here r)) (is_idle s.writer)
+          (go_on (record s.writer { number = s.writer.number + 1 }) asked_work) (still s.writer)
           (λ idle. by idle k.pages) (λ busy. refused busy)
         where
           by : is_idle s.writer ≡ true → Paged part texts n (desk_of s agrees.given) epoch (pages_of a.slot.index) a.parts
@@ -279,8 +295,10 @@ module _ (part : ℕ) (texts : Texts) (questions : Questions) (exists : part < 8
     begins_nothing : (p : SlotPhase) → now ≡ p → cleaned_phase p ≡ p → Serves part texts questions exists named n s (still cleaned_here)
     begins_nothing p is same =
         let at : phase_at cleaned_here.slots part ≡ now = cleaned_is p is ∙ same ∙ sym is in
-        sees_quiet part texts questions named n now (phase_at cleaned_here.slots part) [] (λ m. ServingAgrees part texts m cleaned_here) (λ e h. inl (subst (λ q. HeldAt q e) at h)) (let e = ap epoch_of at in omega arith) tt
-        (record { eight = cleaned_eight; given = agrees.given; here = subst (PhaseAgrees part texts n (desk_of s agrees.given)) (sym at) agrees.here; writer = agrees.writer; closed = agrees.closed; done = agrees.done })
+        sees_quiet part texts questions named n now (phase_at cleaned_here.slots part) [] (λ m. ServingAgrees part texts m cleaned_here)
+        (λ e h. inl (subst (λ q. HeldAt q e) at h)) (let e = ap epoch_of at in omega arith) tt
+        (record { eight = cleaned_eight; given = agrees.given; here = subst (PhaseAgrees part texts n (desk_of s agrees.given)) (sym at) agrees.here;
+        writer = agrees.writer; closed = agrees.closed; done = agrees.done })
 
     begins_here : (p : SlotPhase) → now ≡ p → Serves part texts questions exists named n s (node.writes_slot cleaned_here (begin_in part p))
     unfolding cleaned_phase
@@ -305,27 +323,33 @@ module _ (part : ℕ) (texts : Texts) (questions : Questions) (exists : part < 8
 
       stays_there : Serves part texts questions exists named n s (still cleaned_there)
       stays_there =
-          sees_quiet part texts questions named n now (phase_at cleaned_there.slots part) [] (λ m. ServingAgrees part texts m cleaned_there) (λ e h. inl (subst (λ q. HeldAt q e) same_there h)) (let e = ap epoch_of same_there in omega arith) tt
-          (record { eight = eight_there; given = agrees.given; here = subst (PhaseAgrees part texts n (desk_of s agrees.given)) (sym same_there) agrees.here; writer = agrees.writer; closed = agrees.closed; done = agrees.done })
+          sees_quiet part texts questions named n now (phase_at cleaned_there.slots part) [] (λ m. ServingAgrees part texts m cleaned_there)
+          (λ e h. inl (subst (λ q. HeldAt q e) same_there h)) (let e = ap epoch_of same_there in omega arith) tt
+          (record { eight = eight_there; given = agrees.given; here = subst (PhaseAgrees part texts n (desk_of s agrees.given)) (sym same_there) agrees.here;
+          writer = agrees.writer; closed = agrees.closed; done = agrees.done })
 
       module _ (w : WorkState) (of : w.slot ≡ k) (idle : is_idle s.writer ≡ true) where
         abbrev virtual_there : Serving
         virtual_there = record cleaned_there { writer = at_work w }
 
-        pages_there : (e : ℕ) (pages : PagesState) (parts : List SegRef) → Paged part texts n (desk_of s agrees.given) e pages parts → Paged part texts n (desk_of virtual_there []) e pages parts
-        pages_there e pages parts (Covered events may is never) = Covered events may is (λ x it ours at. other (sym of ∙ ap (λ (y : WorkState). y.slot) (some_is w x it) ∙ ours))
+        pages_there : (e : ℕ) (pages : PagesState) (parts : List SegRef) → Paged part texts n (desk_of s agrees.given) e pages parts
+            → Paged part texts n (desk_of virtual_there []) e pages parts
+        pages_there e pages parts (Covered events may is never) = Covered events may is
+            (λ x it ours at. other (sym of ∙ ap (λ (y : WorkState). y.slot) (some_is w x it) ∙ ours))
         pages_there e pages parts (Written events x rows it ours at work_ fits is) = absurd (some_none x (sym it ∙ no_work))
         pages_there e pages parts (Ended number none) = absurd (not_spent s.writer no_work no_asked idle number)
 
         phase_there : (p : SlotPhase) → PhaseAgrees part texts n (desk_of s agrees.given) p → PhaseAgrees part texts n (desk_of virtual_there []) p
-        phase_there (phase.Active a) h = record { there = h.there; nine = h.nine; short = h.short; pages = pages_there a.slot.epoch (pages_of a.slot.index) a.parts h.pages }
+        phase_there (phase.Active a) h = record { there = h.there; nine = h.nine; short = h.short; pages = pages_there a.slot.epoch (pages_of a.slot.index)
+            a.parts h.pages }
         phase_there (phase.Away e) h = tt
         phase_there (phase.Taking t) h = h
         phase_there (phase.Broken e seg) h = tt
 
         begins_other : Serves part texts questions exists named n s (node.said_by cleaned_there (go_on (record s.writer { number = s.writer.number + 1 }) w))
         begins_other = begins_on n s virtual_there w now refl landed refl
-            (sees_quiet part texts questions named n now (phase_at virtual_there.slots part) [] (λ m. Clear m virtual_there) (λ e h. inl (subst (λ q. HeldAt q e) same_there h)) (let e = ap epoch_of same_there in omega arith) tt (record {
+            (sees_quiet part texts questions named n now (phase_at virtual_there.slots part) [] (λ m. Clear m virtual_there)
+            (λ e h. inl (subst (λ q. HeldAt q e) same_there h)) (let e = ap epoch_of same_there in omega arith) tt (record {
               agrees = record {
                 eight = eight_there;
                 given = [];
@@ -345,7 +369,8 @@ module _ (part : ℕ) (texts : Texts) (questions : Questions) (exists : part < 8
       begins_there (phase.Active a) =
           by_test (λ (r : Stepped WriterState Out). Serves part texts questions exists named n s (node.said_by cleaned_there r)) (is_idle s.writer)
           (go_on (record s.writer { number = s.writer.number + 1 })
-          (record { slot = k; epoch = a.slot.epoch; left = (plan_of (pages_of a.slot.index) a.parts).pages; parts = (plan_of (pages_of a.slot.index) a.parts).parts; horizon = horizon_of a.slot })) (still s.writer)
+          (record { slot = k; epoch = a.slot.epoch; left = (plan_of (pages_of a.slot.index) a.parts).pages;
+          parts = (plan_of (pages_of a.slot.index) a.parts).parts; horizon = horizon_of a.slot })) (still s.writer)
           (λ idle. begins_other (record { slot = k; epoch = a.slot.epoch; left = (plan_of (pages_of a.slot.index) a.parts).pages; parts = (plan_of (pages_of a.slot.index) a.parts).parts; horizon = horizon_of a.slot }) refl idle)
           (λ _. refused)
         where
@@ -358,6 +383,8 @@ module _ (part : ℕ) (texts : Texts) (questions : Questions) (exists : part < 8
     unfolding node.begins_slot
     begins_serves k =
         subst (λ o. Serves part texts questions exists named n s (node.writes_slot (record s { slots = cleaned_at s.slots k }) o)) (sym (begin_is s.slots k))
-        (by_part k part (Serves part texts questions exists named n s (node.writes_slot (record s { slots = cleaned_at s.slots k }) (begin_in k (phase_at s.slots k))))
-        (λ same. subst (λ x. Serves part texts questions exists named n s (node.writes_slot (record s { slots = cleaned_at s.slots x }) (begin_in x (phase_at s.slots x)))) (sym same) (begins_here now refl))
+        (by_part k part (Serves part texts questions exists named n s
+        (node.writes_slot (record s { slots = cleaned_at s.slots k }) (begin_in k (phase_at s.slots k))))
+        (λ same. subst (λ x. Serves part texts questions exists named n s
+        (node.writes_slot (record s { slots = cleaned_at s.slots x }) (begin_in x (phase_at s.slots x)))) (sym same) (begins_here now refl))
         (λ other. begins_there k other (phase_at s.slots k)))

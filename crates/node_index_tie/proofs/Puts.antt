@@ -33,7 +33,8 @@ pub after_both : (k : Checkpointed) (xs ys : List Event) → after_events k (xs 
 after_both k [] ys = refl
 after_both k (x ∷ xs) ys = after_both (after_event k x) xs ys
 
-pub may_both : (holds : SegRef → Rows) (k : Checkpointed) (xs ys : List Event) → AllMayCome holds k xs → AllMayCome holds (after_events k xs) ys → AllMayCome holds k (xs ++ ys)
+pub may_both : (holds : SegRef → Rows) (k : Checkpointed) (xs ys : List Event) → AllMayCome holds k xs → AllMayCome holds (after_events k xs) ys
+    → AllMayCome holds k (xs ++ ys)
 may_both holds k [] ys h more = more
 may_both holds k (x ∷ xs) ys h more = (h.0, may_both holds (after_event k x) xs ys h.1 more)
 
@@ -47,24 +48,31 @@ may_merges holds k (row ∷ rows) fit = (fit.0, may_merges holds (after_event k 
 
 module _ (part : ℕ) (texts : Texts) where
   -- rows are put onto the pages of a slot
-  pub paged_put : (n : Net) (desk : Desk) (epoch : ℕ) (pages : PagesState) (parts : List SegRef) (rows : Rows) → RowsFit rows → Paged part texts n desk epoch pages parts
+  pub paged_put : (n : Net) (desk : Desk) (epoch : ℕ) (pages : PagesState) (parts : List SegRef) (rows : Rows) → RowsFit rows
+      → Paged part texts n desk epoch pages parts
       → Paged part texts n desk epoch (put_all pages rows) parts
   paged_put n desk epoch pages parts rows fit (Covered events may is none) =
-      Covered (events ++ merges rows) (may_both (held_in part texts) nothing_checkpointed events (merges rows) may (may_merges (held_in part texts) (slot_after events) rows fit))
-      (after_both nothing_checkpointed events (merges rows) ∙ after_merges (slot_after events) rows ∙ ap (λ (k : Checkpointed). checkpointed (put_all k.pages rows) k.parts) is) none
+      Covered (events ++ merges rows) (may_both (held_in part texts) nothing_checkpointed events (merges rows) may
+      (may_merges (held_in part texts) (slot_after events) rows fit))
+      (after_both nothing_checkpointed events (merges rows) ∙ after_merges (slot_after events) rows ∙ ap
+      (λ (k : Checkpointed). checkpointed (put_all k.pages rows) k.parts) is) none
   paged_put n desk epoch pages parts rows fit (Written events w before there of at work fits is) =
-      Written events w (before ++ rows) there of at work (all_both (λ row. row.0.blk < 2 ^ 32) before rows fits fit) (ap (λ (p : PagesState). put_all p rows) is ∙ sym (put_all-append (cleaned (slot_after events).pages) before rows))
+      Written events w (before ++ rows) there of at work (all_both (λ row. row.0.blk < 2 ^ 32) before rows fits fit)
+      (ap (λ (p : PagesState). put_all p rows) is ∙ sym (put_all-append (cleaned (slot_after events).pages) before rows))
   paged_put n desk epoch pages parts rows fit (Ended number none) = Ended number none
 
   -- a slot that a takeover hands out, before its first checkpoint
-  pub paged_first : (n : Net) (desk : Desk) (epoch : ℕ) (rows : Rows) → RowsFit rows → ((w : WorkState) → desk.writer.work ≡ Some w → w.slot ≡ part → w.epoch ≡ epoch → ⊥)
+  pub paged_first : (n : Net) (desk : Desk) (epoch : ℕ) (rows : Rows) → RowsFit rows
+      → ((w : WorkState) → desk.writer.work ≡ Some w → w.slot ≡ part → w.epoch ≡ epoch → ⊥)
       → Paged part texts n desk epoch (pages_of (indexed_all nothing_indexed rows)) []
   paged_first n desk epoch rows fit none =
-      Covered (merges rows) (may_merges (held_in part texts) nothing_checkpointed rows fit) (after_merges nothing_checkpointed rows ∙ ap (λ (p : PagesState). checkpointed p []) (sym (pages-indexed_all nothing_indexed rows))) none
+      Covered (merges rows) (may_merges (held_in part texts) nothing_checkpointed rows fit)
+      (after_merges nothing_checkpointed rows ∙ ap (λ (p : PagesState). checkpointed p []) (sym (pages-indexed_all nothing_indexed rows))) none
 
   -- ---- the small world goes on
 
-  pub work_on : (n m : Net) (g : Grows n m) (desk : Desk) (events : List Event) (w : WorkState) → IsWork part texts n desk events w → IsWork part texts m desk events w
+  pub work_on : (n m : Net) (g : Grows n m) (desk : Desk) (events : List Event) (w : WorkState) → IsWork part texts n desk events w
+      → IsWork part texts m desk events w
   work_on n m g desk events w k = record {
     planned = g.sent _ k.planned;
     begun = λ none. k.begun (g.stay w.epoch none);
@@ -75,9 +83,11 @@ module _ (part : ℕ) (texts : Texts) where
     flies = k.flies;
   }
 
-  pub paged_on : (n m : Net) (g : Grows n m) (desk : Desk) (epoch : ℕ) (pages : PagesState) (parts : List SegRef) → Paged part texts n desk epoch pages parts → Paged part texts m desk epoch pages parts
+  pub paged_on : (n m : Net) (g : Grows n m) (desk : Desk) (epoch : ℕ) (pages : PagesState) (parts : List SegRef) → Paged part texts n desk epoch pages parts
+      → Paged part texts m desk epoch pages parts
   paged_on n m g desk epoch pages parts (Covered events may is none) = Covered events may is none
-  paged_on n m g desk epoch pages parts (Written events w rows there of at work fits is) = Written events w rows there of at (work_on n m g desk events w work) fits is
+  paged_on n m g desk epoch pages parts (Written events w rows there of at work fits is) = Written events w rows there of at
+      (work_on n m g desk events w work) fits is
   paged_on n m g desk epoch pages parts (Ended number none) = Ended number none
 
   pub seen_on : (n m : Net) (g : Grows n m) (desk : Desk) (w : WorkState) → WorkSeen part texts n desk w → WorkSeen part texts m desk w

@@ -45,7 +45,8 @@ module _ (part : ℕ) (texts : Texts) where
 
   read_more : (r : Read) (source : Source) (s : Segment) → AllRead r → IsRead part texts s → AllRead (and_read r source s)
   read_more r source s all one =
-      by_test AllRead (goes_back source s) (record { whole = r.whole; present = s ∷ r.present }) (record { whole = r.whole ++ (s ∷ r.present) ∷ []; present = [] })
+      by_test AllRead (goes_back source s) (record { whole = r.whole; present = s ∷ r.present })
+      (record { whole = r.whole ++ (s ∷ r.present) ∷ []; present = [] })
       (λ _. record { whole = all.whole; present = (one, all.present) })
       (λ _. record { whole = all_both (AllByRecursion (IsRead part texts)) r.whole ((s ∷ r.present) ∷ []) all.whole ((one, all.present), tt); present = tt })
 
@@ -56,7 +57,8 @@ module _ (part : ℕ) (texts : Texts) where
   read_one r p None all owed = all
   read_one r p (Some s) all owed = read_more r p.source s all (owed s refl)
 
-  read_told : (s : TakeState) (r : Read) (o : Option Present) (ask server : ℕ) (told : Told) → AllRead r → Completes (completes_at s o ask server told) → AllRead (read_at s r o ask server told)
+  read_told : (s : TakeState) (r : Read) (o : Option Present) (ask server : ℕ) (told : Told) → AllRead r → Completes (completes_at s o ask server told)
+      → AllRead (read_at s r o ask server told)
   read_told s r None ask server told all owed = all
   read_told s r (Some p) ask server told all owed = by p.reading owed
     where
@@ -64,10 +66,13 @@ module _ (part : ℕ) (texts : Texts) where
       by None owed = all
       by (Some reading) owed = read_one r p (segment_of (on_answer reading s.groups ask server told).next) all owed
 
-  read_by_all : (s : TakeState) (r : Read) (ask server : ℕ) (told : Told) → AllRead r → Completes (completes_at s s.present ask server told) → AllRead (read_by s r ask server told)
-  read_by_all s r ask server told all owed = by_test AllRead (can_ask s) (read_at s r s.present ask server told) r (λ _. read_told s r s.present ask server told all owed) (λ _. all)
+  read_by_all : (s : TakeState) (r : Read) (ask server : ℕ) (told : Told) → AllRead r → Completes (completes_at s s.present ask server told)
+      → AllRead (read_by s r ask server told)
+  read_by_all s r ask server told all owed = by_test AllRead (can_ask s) (read_at s r s.present ask server told) r
+      (λ _. read_told s r s.present ask server told all owed) (λ _. all)
 
-  pub read_on : (s : TakeState) (r : Read) (i : Input) → AllRead r → ((x : Segment) → completes s i ≡ Some x → IsRead part texts x) → AllRead (read_after s r i)
+  pub read_on : (s : TakeState) (r : Read) (i : Input) → AllRead r → ((x : Segment) → completes s i ≡ Some x → IsRead part texts x)
+      → AllRead (read_after s r i)
   read_on s r (input.Report from held end) all owed = all
   read_on s r (input.Got ask server generation fragment) all owed = read_by_all s r ask server (Held fragment) all owed
   read_on s r (input.Missing ask server generation) all owed = read_by_all s r ask server (Lacks generation) all owed
@@ -86,17 +91,21 @@ module _ (part : ℕ) (texts : Texts) where
   all_take P (suc k) [] all = tt
   all_take P (suc k) (x ∷ xs) all = (all.0, all_take P k xs all.1)
 
-  pub tells_parts : (parts : List SegRef) (k : ℕ) (chains : List (List Segment)) → AllByRecursion (AllByRecursion (IsRead part texts)) chains → AllByRecursion (AllByRecursion (TellsPart part (held_in part texts) parts)) (take k chains)
+  pub tells_parts : (parts : List SegRef) (k : ℕ) (chains : List (List Segment)) → AllByRecursion (AllByRecursion (IsRead part texts)) chains
+      → AllByRecursion (AllByRecursion (TellsPart part (held_in part texts) parts)) (take k chains)
   tells_parts parts k chains all =
       all_take (AllByRecursion (TellsPart part (held_in part texts) parts)) k chains
-      (all_weaker (AllByRecursion (IsRead part texts)) (AllByRecursion (TellsPart part (held_in part texts) parts)) (all_weaker (IsRead part texts) (TellsPart part (held_in part texts) parts) (tells_part parts)) chains all)
+      (all_weaker (AllByRecursion (IsRead part texts)) (AllByRecursion (TellsPart part (held_in part texts) parts))
+      (all_weaker (IsRead part texts) (TellsPart part (held_in part texts) parts) (tells_part parts)) chains all)
 
   -- it is the filed segment of its name
   its_text : (f : Filed) → AreTexts texts f → (s : Segment) → IsRead part texts s → IsItsText f s
   its_text f filed s read l q some most same = read.text ∙ ap texts same ∙ sym (filed l q some most)
 
-  pub its_texts : (f : Filed) → AreTexts texts f → (chains : List (List Segment)) → AllByRecursion (AllByRecursion (IsRead part texts)) chains → AllByRecursion (AllByRecursion (IsItsText f)) chains
-  its_texts f filed chains all = all_weaker (AllByRecursion (IsRead part texts)) (AllByRecursion (IsItsText f)) (all_weaker (IsRead part texts) (IsItsText f) (its_text f filed)) chains all
+  pub its_texts : (f : Filed) → AreTexts texts f → (chains : List (List Segment)) → AllByRecursion (AllByRecursion (IsRead part texts)) chains
+      → AllByRecursion (AllByRecursion (IsItsText f)) chains
+  its_texts f filed chains all = all_weaker (AllByRecursion (IsRead part texts)) (AllByRecursion (IsItsText f))
+      (all_weaker (IsRead part texts) (IsItsText f) (its_text f filed)) chains all
 
   fit_along : (chain : List Segment) → AllByRecursion (IsRead part texts) chain → RowsFit (told_along part chain)
   fit_along [] all = tt
@@ -109,7 +118,9 @@ module _ (part : ℕ) (texts : Texts) where
 -- ---- the end that was reported of a log
 
 -- a report's end, or none
-pub end_from_is : (P : End → Type 0) (node : NodeId) (reports : List Heard) → P no_end → ((r : Heard) → Among r reports → r.from ≡ node → P r.end) → P (end_from node reports)
+pub end_from_is : (P : End → Type 0) (node : NodeId) (reports : List Heard) → P no_end → ((r : Heard) → Among r reports → r.from ≡ node → P r.end)
+    → P (end_from node reports)
 end_from_is P node [] none some = none
 end_from_is P node (r ∷ rs) none some =
-    by_test P (same_node r.from node) r.end (end_from node rs) (λ is. some r (inl refl) (same_node_is r.from node is)) (λ _. end_from_is P node rs none (λ x there. some x (inr there)))
+    by_test P (same_node r.from node) r.end (end_from node rs) (λ is. some r (inl refl) (same_node_is r.from node is))
+    (λ _. end_from_is P node rs none (λ x there. some x (inr there)))

@@ -93,15 +93,18 @@ module _ (part : ℕ) (below : part < 8) (b : BoardState) (eight : length b.chec
   hello_stays : (what : Do) (from : NodeId) (inc : ℕ) → Went part b (hello b from inc).state what
   unfolding manager_hello server_hello
   hello_stays what (Client n) inc = stays what b refl
-  hello_stays what (Manager n) inc = by_test (λ (made : Made). Went part b made.state what) (hears_manager b n inc) (record { state = manager_restarted b n inc; outs = Changed ∷ [] }) (still b) (λ _. stays what _ refl) (λ _. stays what b refl)
-  hello_stays what (Server n) inc = by_test (λ (made : Made). Went part b made.state what) (hears_server b n inc) (record { state = server_lost b n inc; outs = Changed ∷ [] }) (still b) (λ _. stays what _ refl) (λ _. stays what b refl)
+  hello_stays what (Manager n) inc = by_test (λ (made : Made). Went part b made.state what) (hears_manager b n inc)
+      (record { state = manager_restarted b n inc; outs = Changed ∷ [] }) (still b) (λ _. stays what _ refl) (λ _. stays what b refl)
+  hello_stays what (Server n) inc = by_test (λ (made : Made). Went part b made.state what) (hears_server b n inc)
+      (record { state = server_lost b n inc; outs = Changed ∷ [] }) (still b) (λ _. stays what _ refl) (λ _. stays what b refl)
   hello_stays what Cleaner inc = stays what b refl
   hello_stays what Registry inc = stays what b refl
 
   move_stays : (what : Do) (slot manager : ℕ) → Went part b (reassign b slot manager).state what
   unfolding reassign
   move_stays what slot manager =
-      by_test (λ (made : Made). Went part b made.state what) (can_move b slot) (record { state = moved b slot manager; outs = Changed ∷ Epoch (entry_at (after_move b.entries slot manager) slot).epoch ∷ [] }) (still b)
+      by_test (λ (made : Made). Went part b made.state what) (can_move b slot)
+      (record { state = moved b slot manager; outs = Changed ∷ Epoch (entry_at (after_move b.entries slot manager) slot).epoch ∷ [] }) (still b)
       (λ _. stays what _ refl) (λ _. stays what b refl)
 
   module _ (what : Do) (m : CkptDone) (comes : (n : Net) → DoGets part n what → BodyGets part n (body.CkptDone m)) where
@@ -116,14 +119,18 @@ module _ (part : ℕ) (below : part < 8) (b : BoardState) (eight : length b.chec
     kept_here same is =
         let at : Checkpoint = record { parts = []; horizon = [] } in
         let within : part < length b.checkpoints = omega arith in
-        let here : get_or put_in part at ≡ record { parts = m.parts; horizon = m.horizon } = ap (λ k. get_or (slice_set b.checkpoints k (record { parts = m.parts; horizon = m.horizon })) part at) same ∙ get_or-set_same b.checkpoints part (record { parts = m.parts; horizon = m.horizon }) at within in
+        let here : get_or put_in part at ≡ record { parts = m.parts; horizon = m.horizon } = ap
+        (λ k. get_or (slice_set b.checkpoints k (record { parts = m.parts; horizon = m.horizon })) part at) same ∙ get_or-set_same b.checkpoints part
+        (record { parts = m.parts; horizon = m.horizon }) at within in
         record {
           packet_body = body.CkptDone m;
           m = m;
           comes = comes;
           slot = same;
-          epoch = subst (λ k. epoch_in b k ≡ m.epoch) same (eqb-true (entry_of b.entries m.slot).epoch m.epoch (and_first ((entry_of b.entries m.slot).epoch == m.epoch) (covers_kept b.checkpoints m.slot m.horizon) is));
-          covers = covers_some (slice_get b.checkpoints part) (subst (λ k. covers_kept b.checkpoints k m.horizon ≡ true) same (and_second ((entry_of b.entries m.slot).epoch == m.epoch) (covers_kept b.checkpoints m.slot m.horizon) is));
+          epoch = subst (λ k. epoch_in b k ≡ m.epoch) same (eqb-true (entry_of b.entries m.slot).epoch m.epoch
+              (and_first ((entry_of b.entries m.slot).epoch == m.epoch) (covers_kept b.checkpoints m.slot m.horizon) is));
+          covers = covers_some (slice_get b.checkpoints part) (subst (λ k. covers_kept b.checkpoints k m.horizon ≡ true) same
+              (and_second ((entry_of b.entries m.slot).epoch == m.epoch) (covers_kept b.checkpoints m.slot m.horizon) is));
           next_horizon = horizon_is put_in part ∙ ap (λ (c : Checkpoint). c.horizon) here;
           next_parts = parts_is put_in part ∙ ap (λ (c : Checkpoint). c.parts) here;
           same_epoch = refl;
@@ -132,7 +139,8 @@ module _ (part : ℕ) (below : part < 8) (b : BoardState) (eight : length b.chec
     kept_there : (m.slot ≡ part → ⊥) → Kept_so part b (checkpointed b m.slot m.parts m.horizon)
     kept_there other =
         let at : Checkpoint = record { parts = []; horizon = [] } in
-        let there : get_or put_in part at ≡ get_or b.checkpoints part at = get_or-set_other b.checkpoints m.slot part (record { parts = m.parts; horizon = m.horizon }) at (λ e. other (sym e)) in
+        let there : get_or put_in part at ≡ get_or b.checkpoints part at = get_or-set_other b.checkpoints m.slot part
+        (record { parts = m.parts; horizon = m.horizon }) at (λ e. other (sym e)) in
         record {
           horizon = horizon_is put_in part ∙ ap (λ (c : Checkpoint). c.horizon) there ∙ sym (horizon_is b.checkpoints part);
           parts = parts_is put_in part ∙ ap (λ (c : Checkpoint). c.parts) there ∙ sym (parts_is b.checkpoints part);
@@ -144,11 +152,14 @@ module _ (part : ℕ) (below : part < 8) (b : BoardState) (eight : length b.chec
     keep_goes : is_kept b m.slot m.epoch m.horizon ≡ true → Went part b (keep b m.slot m.epoch m.parts m.horizon).state what
     unfolding keep
     keep_goes is =
-        by_test (λ (made : Made). Went part b made.state what) (b.version == 4294967295) (still b) (record { state = checkpointed b m.slot m.parts m.horizon; outs = Kept m.epoch ∷ [] })
+        by_test (λ (made : Made). Went part b made.state what) (b.version == 4294967295) (still b)
+        (record { state = checkpointed b m.slot m.parts m.horizon; outs = Kept m.epoch ∷ [] })
         (λ _. stays what b refl)
-        (λ _. record { eight = length-set b.checkpoints m.slot (record { parts = m.parts; horizon = m.horizon }) ∙ eight; goes = by_slot (m.slot == part) refl })
+        (λ _. record { eight = length-set b.checkpoints m.slot (record { parts = m.parts; horizon = m.horizon }) ∙ eight; goes = by_slot (m.slot == part)
+        refl })
       where
-        by_slot : (t : Bool) → (m.slot == part) ≡ t → Kept_so part b (checkpointed b m.slot m.parts m.horizon) ⊎ KeptOne part b (checkpointed b m.slot m.parts m.horizon) what
+        by_slot : (t : Bool) → (m.slot == part) ≡ t
+            → Kept_so part b (checkpointed b m.slot m.parts m.horizon) ⊎ KeptOne part b (checkpointed b m.slot m.parts m.horizon) what
         by_slot true same = inr (kept_here (eqb-true m.slot part same) is)
         by_slot false other = inl (kept_there (apart m.slot part other))
 
@@ -156,9 +167,11 @@ module _ (part : ℕ) (below : part < 8) (b : BoardState) (eight : length b.chec
     unfolding done
     done_goes =
         by_test (λ (made : Made). Went part b made.state what) (nat_lt 7 m.slot) (still b)
-        (cond (is_kept b m.slot m.epoch m.horizon) (keep b m.slot m.epoch m.parts m.horizon) (record { state = b; outs = Kept (entry_of b.entries m.slot).epoch ∷ [] }))
+        (cond (is_kept b m.slot m.epoch m.horizon) (keep b m.slot m.epoch m.parts m.horizon)
+        (record { state = b; outs = Kept (entry_of b.entries m.slot).epoch ∷ [] }))
         (λ _. stays what b refl)
-        (λ _. by_test (λ (made : Made). Went part b made.state what) (is_kept b m.slot m.epoch m.horizon) (keep b m.slot m.epoch m.parts m.horizon) (record { state = b; outs = Kept (entry_of b.entries m.slot).epoch ∷ [] }) (λ is. keep_goes is)
+        (λ _. by_test (λ (made : Made). Went part b made.state what) (is_kept b m.slot m.epoch m.horizon) (keep b m.slot m.epoch m.parts m.horizon)
+        (record { state = b; outs = Kept (entry_of b.entries m.slot).epoch ∷ [] }) (λ is. keep_goes is)
         (λ _. stays what b refl))
 
 -- ---- the node
@@ -170,7 +183,8 @@ module _ (part : ℕ) (below : part < 8) (r : RegistryNode) (eight : length r.bo
   item_went : (node : RegistryNode) → node.board ≡ r.board → (what : Do) (number : ℕ) (wish : Option (ℕ × ℕ)) → WentTo what (on_item node number wish)
   unfolding on_move
   item_went node same what number None = stays part below r.board eight what node.board (ap (λ (b : BoardState). b.checkpoints) same)
-  item_went node same what number (Some wish) = subst (λ (b : BoardState). Went part r.board (transition b (board.Reassign wish.0 wish.1)).state what) (sym same) (move_stays part below r.board eight what wish.0 wish.1)
+  item_went node same what number (Some wish) = subst (λ (b : BoardState). Went part r.board (transition b (board.Reassign wish.0 wish.1)).state what)
+      (sym same) (move_stays part below r.board eight what wish.0 wish.1)
 
   begin_went : WentTo Begin (on_begin r)
   unfolding on_begin
@@ -190,11 +204,13 @@ module _ (part : ℕ) (below : part < 8) (r : RegistryNode) (eight : length r.bo
   unfolding on_packet
   event_went Begin = begin_went
   event_went (Deliver packet) =
-      by_test (WentTo (Deliver packet)) (is_well_formed r.peers packet) (hears r packet.from packet.body) (still r) (λ _. hears_went (Deliver packet) packet.from packet.body (λ n gets. gets)) (λ _. stays part below r.board eight (Deliver packet) r.board refl)
+      by_test (WentTo (Deliver packet)) (is_well_formed r.peers packet) (hears r packet.from packet.body) (still r)
+      (λ _. hears_went (Deliver packet) packet.from packet.body (λ n gets. gets)) (λ _. stays part below r.board eight (Deliver packet) r.board refl)
   event_went Tick = stays part below r.board eight Tick r.board refl
 
   step_went : (what : Do) → Went part r.board (registry_step r what).node.board what
-  step_went what = by_test (WentTo what) (has_room r.board.version) (on_event r what) (still r) (λ _. event_went what) (λ _. stays part below r.board eight what r.board refl)
+  step_went what = by_test (WentTo what) (has_room r.board.version) (on_event r what) (still r) (λ _. event_went what)
+      (λ _. stays part below r.board eight what r.board refl)
 
 -- ---- the small world
 
@@ -208,7 +224,8 @@ each_place P h (suc zero) low = and_first (P 1) _ (and_second (P 0) _ h)
 each_place P h (suc (suc zero)) low = and_first (P 2) _ (and_second (P 1) _ (and_second (P 0) _ h))
 each_place P h (suc (suc (suc zero))) low = and_first (P 3) _ (and_second (P 2) _ (and_second (P 1) _ (and_second (P 0) _ h)))
 each_place P h (suc (suc (suc (suc zero)))) low = and_first (P 4) _ (and_second (P 3) _ (and_second (P 2) _ (and_second (P 1) _ (and_second (P 0) _ h))))
-each_place P h (suc (suc (suc (suc (suc zero))))) low = and_first (P 5) _ (and_second (P 4) _ (and_second (P 3) _ (and_second (P 2) _ (and_second (P 1) _ (and_second (P 0) _ h)))))
+each_place P h (suc (suc (suc (suc (suc zero))))) low = and_first (P 5) _
+    (and_second (P 4) _ (and_second (P 3) _ (and_second (P 2) _ (and_second (P 1) _ (and_second (P 0) _ h)))))
 each_place P h (suc (suc (suc (suc (suc (suc zero)))))) low =
     and_first (P 6) _ (and_second (P 5) _ (and_second (P 4) _ (and_second (P 3) _ (and_second (P 2) _ (and_second (P 1) _ (and_second (P 0) _ h))))))
 each_place P h (suc (suc (suc (suc (suc (suc (suc zero))))))) low =
@@ -230,7 +247,8 @@ rises_by kept horizon is l some most =
     within : (x y : ℕ) → nat_le x y ≡ true → x ≤ y
     within x y h = grind (arith, nat_tests)
 
-module _ (part : ℕ) (below : part < 8) (texts : Texts) (n : Net) (r : RegistryNode) (what : Do) (sound : RegistrySound r) (agrees : RegistryAgrees part n r) (owed : RegistryOwed part n what) where
+module _ (part : ℕ) (below : part < 8) (texts : Texts) (n : Net) (r : RegistryNode) (what : Do) (sound : RegistrySound r) (agrees : RegistryAgrees part n r)
+    (owed : RegistryOwed part n what) where
   abbrev later : RegistryNode
   later = (registry_step r what).node
 
@@ -247,7 +265,8 @@ module _ (part : ℕ) (below : part < 8) (texts : Texts) (n : Net) (r : Registry
       by (x ∷ xs) (inr is) = by xs is
 
   -- nothing that is kept of the slot has changed
-  same_goes : length later.board.checkpoints ≡ 8 → Kept_so part r.board later.board → epoch_in later.board part ≡ epoch_in r.board part → RegistryGoes part texts n r what
+  same_goes : length later.board.checkpoints ≡ 8 → Kept_so part r.board later.board → epoch_in later.board part ≡ epoch_in r.board part
+      → RegistryGoes part texts n r what
   same_goes eight kept same =
       let k : RegistryAgrees part n later = record {
         epoch = same ∙ agrees.epoch;
@@ -276,7 +295,8 @@ module _ (part : ℕ) (below : part < 8) (texts : Texts) (n : Net) (r : Registry
       }
 
   -- the slot has its next epoch
-  moved_goes : length later.board.checkpoints ≡ 8 → Kept_so part r.board later.board → epoch_in later.board part ≡ epoch_in r.board part + 1 → RegistryGoes part texts n r what
+  moved_goes : length later.board.checkpoints ≡ 8 → Kept_so part r.board later.board → epoch_in later.board part ≡ epoch_in r.board part + 1
+      → RegistryGoes part texts n r what
   moved_goes eight kept up =
       let m : Net = record n { epoch = suc n.epoch } in
       let on : n.horizon (suc n.epoch) ≡ n.horizon n.epoch = agrees.later_horizon (suc n.epoch) (omega arith) in
@@ -315,7 +335,8 @@ module _ (part : ℕ) (below : part < 8) (texts : Texts) (n : Net) (r : Registry
       let h = one.m.horizon in
       let ps = one.m.parts in
       let sent = subst (λ e. In (CheckpointDone e h ps) n.sent) (sym same) known.sent in
-      let rises : (l : ℕ) → 0 < l → l ≤ 9 → of_log (n.horizon n.epoch) l ≤ of_log h l = λ l some most. subst (λ (k : List ℕ). of_log k l ≤ of_log h l) agrees.horizon (rises_by (horizon_at r.board.checkpoints part) h one.covers l some most) in
+      let rises : (l : ℕ) → 0 < l → l ≤ 9 → of_log (n.horizon n.epoch) l ≤ of_log h l = λ l some most. subst (λ (k : List ℕ). of_log k l ≤ of_log h l)
+      agrees.horizon (rises_by (horizon_at r.board.checkpoints part) h one.covers l some most) in
       let m : Net = record n { horizon = λ e. cond (nat_lt e n.epoch) (n.horizon e) h; parts = λ e. cond (nat_lt e n.epoch) (n.parts e) ps } in
       let now : (e : ℕ) → n.epoch ≤ e → m.horizon e ≡ h = λ e from. second_of (nat_lt e n.epoch) (n.horizon e) h (not_less_is e n.epoch from) in
       let now_parts : (e : ℕ) → n.epoch ≤ e → m.parts e ≡ ps = λ e from. second_of (nat_lt e n.epoch) (n.parts e) ps (not_less_is e n.epoch from) in
@@ -328,7 +349,8 @@ module _ (part : ℕ) (below : part < 8) (texts : Texts) (n : Net) (r : Registry
         eight = eight;
         later_horizon = λ e from. now e from ∙ sym at;
         later_parts = λ e from. now_parts e from ∙ sym at_parts;
-        is = subst IsHorizon (sym at) (record { from_one = λ l some most. let low = agrees.is.from_one l some most in let up = rises l some most in omega arith; short = known.short });
+        is = subst IsHorizon (sym at) (record { from_one = λ l some most. let low = agrees.is.from_one l some most in let up = rises l some most in omega
+            arith; short = known.short });
       } in
       record {
         next = m;
@@ -401,7 +423,8 @@ eight_at P is (suc (suc (suc (suc (suc (suc (suc (suc k)))))))) low = absurd (om
 first_horizon : IsHorizon (1 ∷ 1 ∷ 1 ∷ 1 ∷ 1 ∷ 1 ∷ 1 ∷ 1 ∷ 1 ∷ [])
 first_horizon = record {
   from_one = λ l some most. let a = of_log_in nine_ones l some most in let b = one_at (l - 1) (omega arith) in omega arith;
-  short = by_log (λ l. of_log nine_ones l ≤ u32_end) (λ l some most. let a = of_log_in nine_ones l some most in let b = one_at (l - 1) (omega arith) in omega arith) (λ l out. let a = of_log_out nine_ones l out in omega arith);
+  short = by_log (λ l. of_log nine_ones l ≤ u32_end) (λ l some most. let a = of_log_in nine_ones l some most in let b = one_at (l - 1) (omega arith) in omega
+      arith) (λ l out. let a = of_log_out nine_ones l out in omega arith);
 }
 
 pub registry_starts : RegistryStarts

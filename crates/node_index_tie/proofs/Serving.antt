@@ -46,10 +46,13 @@ module _ (part : ℕ) (texts : Texts) (questions : Questions) (exists : part < 8
   abbrev next_job : Serving → Checkpointing → ℕ → Serving
   next_job s job k = record s { checkpoint = Some (record job { next = slot_after k }) }
 
-  module _ (n : Net) (s : Serving) (open_item : s.lasting.items.unanswered ≡ None → ⊥) (no_work : s.writer.work ≡ None) (no_asked : s.writer.asked ≡ None) (agrees : ServingAgrees part texts n s) where
+  module _ (n : Net) (s : Serving) (open_item : s.lasting.items.unanswered ≡ None → ⊥) (no_work : s.writer.work ≡ None) (no_asked : s.writer.asked ≡ None)
+      (agrees : ServingAgrees part texts n s) where
     from_serves : (job : Checkpointing) (o : Option ℕ) → DoneIn part n job.done → Of n s (node.next_from s job o)
     from_serves job None done =
-        sees_quiet part texts questions named n (phase_at s.slots part) (phase_at s.slots part) (answers_unanswered s.lasting.items.unanswered (answer.Count job.count)) (λ m. ServingAgrees part texts m (node.no_more s job).state) (λ e h. inl h) (omega arith)
+        sees_quiet part texts questions named n (phase_at s.slots part) (phase_at s.slots part)
+        (answers_unanswered s.lasting.items.unanswered (answer.Count job.count)) (λ m. ServingAgrees part texts m (node.no_more s job).state) (λ e h. inl h)
+        (omega arith)
         (answers_done n s.lasting.items.unanswered (answer.Count job.count))
         (record { eight = agrees.eight; given = agrees.given; here = agrees.here; writer = agrees.writer; closed = λ _. (no_work, no_asked); done = tt })
     from_serves job (Some k) done =
@@ -70,11 +73,13 @@ module _ (part : ℕ) (texts : Texts) (questions : Questions) (exists : part < 8
   checkpoint_serves n s number agrees =
       by_item s.lasting.items.unanswered refl
     where
-      by_item : (o : Option ℕ) → s.lasting.items.unanswered ≡ o → Of n s (cond (is_some o) (gives s (Answers number answer.Busy ∷ [])) (node.next_slot (node.waits s number)))
+      by_item : (o : Option ℕ) → s.lasting.items.unanswered ≡ o
+          → Of n s (cond (is_some o) (gives s (Answers number answer.Busy ∷ [])) (node.next_slot (node.waits s number)))
       by_item None is =
           let idle = agrees.closed is in
           next_serves n (node.waits s number) (λ none. absurd (some_none number none)) idle.0 idle.1
-          (record { eight = agrees.eight; given = agrees.given; here = agrees.here; writer = agrees.writer; closed = λ none. absurd (some_none number none); done = tt })
+          (record { eight = agrees.eight; given = agrees.given; here = agrees.here; writer = agrees.writer; closed = λ none. absurd (some_none number none);
+          done = tt })
       by_item (Some x) is = serves_same part texts questions exists named n s (Answers number answer.Busy ∷ []) agrees (tt, tt)
 
   -- ---- the registry answers a checkpoint
@@ -115,7 +120,8 @@ module _ (part : ℕ) (texts : Texts) (questions : Questions) (exists : part < 8
     answered_agrees x = record {
       eight = agrees.eight;
       given = agrees.given;
-      here = phase_turn part texts n (desk_of s agrees.given) (record { log = s.log; given = agrees.given; writer = answered_writer }) turned (phase_at s.slots part) agrees.here;
+      here = phase_turn part texts n (desk_of s agrees.given) (record { log = s.log; given = agrees.given; writer = answered_writer }) turned
+          (phase_at s.slots part) agrees.here;
       writer = record {
         same_log = agrees.writer.same_log;
         named = agrees.writer.named;
@@ -134,13 +140,15 @@ module _ (part : ℕ) (texts : Texts) (questions : Questions) (exists : part < 8
   pub ack_serves : (n : Net) (s : Serving) (ack : CkptAck) → ServingAgrees part texts n s → Of n s (node.on_ckpt_ack s ack)
   unfolding node.on_ckpt_ack
   ack_serves n s ack agrees =
-      by_test (Of n s) (node.awaits s.checkpoint ack.ask) (node.answered_by s (writer.acked s.writer s.writer.asked ack.epoch s.dones)) (still s) (λ _. by_asked s.writer.asked refl) (λ _. still_of n s agrees)
+      by_test (Of n s) (node.awaits s.checkpoint ack.ask) (node.answered_by s (writer.acked s.writer s.writer.asked ack.epoch s.dones)) (still s)
+      (λ _. by_asked s.writer.asked refl) (λ _. still_of n s agrees)
     where
       by_asked : (o : Option ℕ) → s.writer.asked ≡ o → Of n s (node.answered_by s (writer.acked s.writer o ack.epoch s.dones))
       by_asked None is = still_of n s agrees
       by_asked (Some own) is =
           by_test (λ (r : Stepped WriterState Out). Of n s (node.answered_by s r)) (not (s.dones == s.writer.number) || nat_lt ack.epoch own) (still s.writer)
-          (record { state = record s.writer { asked = None }; outs = writer.answer own ack.epoch ∷ [] }) (λ _. still_of n s agrees) (λ _. answered_next n s agrees own is (writer.answer own ack.epoch))
+          (record { state = record s.writer { asked = None }; outs = writer.answer own ack.epoch ∷ [] }) (λ _. still_of n s agrees)
+          (λ _. answered_next n s agrees own is (writer.answer own ack.epoch))
 
   -- ---- time, for what awaits the registry's answer
 

@@ -38,7 +38,8 @@ module _ (part : ℕ) (texts : Texts) (n m : Net) (held : SlotPhase) (t : Passes
           let above : 0 < of_log (n.horizon epoch) log = old some in
           let end_filed = k.filed above (omega arith) in
           let most = end_filed.filed in
-          ap (λ (s : Segment). s.prior.pass) (t.filed.segment log (suc q) (omega arith) (omega arith)) ∙ k.linked above q first high ∙ sym (ap (λ (s : Segment). s.name.pass) (t.filed.segment log q (omega arith) (omega arith)));
+          ap (λ (s : Segment). s.prior.pass) (t.filed.segment log (suc q) (omega arith) (omega arith)) ∙ k.linked above q first high ∙ sym
+          (ap (λ (s : Segment). s.name.pass) (t.filed.segment log q (omega arith) (omega arith)));
       short = k.short;
     }
       where
@@ -52,7 +53,8 @@ module _ (part : ℕ) (texts : Texts) (n m : Net) (held : SlotPhase) (t : Passes
         end_is some low =
             let e = k.filed some low in
             let most = e.filed in
-            record { filed = let up = t.filed.head log in omega arith; named = e.named ∙ sym (ap (λ (s : Segment). s.name.pass) (t.filed.segment log end.seq (omega arith) (omega arith))) }
+            record { filed = let up = t.filed.head log in omega arith; named = e.named ∙ sym
+            (ap (λ (s : Segment). s.name.pass) (t.filed.segment log end.seq (omega arith) (omega arith))) }
 
     report_stays : (from : NodeId) (end : End) → ReportKnown part n epoch from end → ReportKnown part m epoch from end
     report_stays (Client c) end k = end_stays c end k
@@ -91,11 +93,14 @@ module _ (part : ℕ) (texts : Texts) (n m : Net) (held : SlotPhase) (t : Passes
       }
 
   work_stays : (desk : Desk) (events : List Event) (w : WorkState) → IsWork part texts n desk events w → IsWork part texts m desk events w
-  work_stays desk events w k = record { planned = t.sent _ k.planned; begun = λ none. k.begun (t.stay w.epoch none); may = k.may; segments = k.segments; parts = k.parts; rows = k.rows; flies = k.flies }
+  work_stays desk events w k = record { planned = t.sent _ k.planned; begun = λ none. k.begun (t.stay w.epoch none); may = k.may; segments = k.segments;
+      parts = k.parts; rows = k.rows; flies = k.flies }
 
-  pages_stay : (desk : Desk) (epoch : ℕ) (pages : PagesState) (parts : List SegRef) → Paged part texts n desk epoch pages parts → Paged part texts m desk epoch pages parts
+  pages_stay : (desk : Desk) (epoch : ℕ) (pages : PagesState) (parts : List SegRef) → Paged part texts n desk epoch pages parts
+      → Paged part texts m desk epoch pages parts
   pages_stay desk epoch pages parts (Covered events may is none) = Covered events may is none
-  pages_stay desk epoch pages parts (Written events w rows there of at work fits is) = Written events w rows there of at (work_stays desk events w work) fits is
+  pages_stay desk epoch pages parts (Written events w rows there of at work fits is) = Written events w rows there of at (work_stays desk events w work) fits
+      is
   pages_stay desk epoch pages parts (Ended number none) = Ended number none
 
   phase_stays : (desk : Desk) (p : SlotPhase) → ((e : ℕ) → HeldAt p e → HeldAt held e) → PhaseAgrees part texts n desk p → PhaseAgrees part texts m desk p

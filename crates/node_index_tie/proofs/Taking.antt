@@ -41,14 +41,16 @@ insert_fits : (rows : Rows) (b : BlockId) (e : Entry) → RowsFit rows → b.blk
 insert_fits [] b e fit one = (one, tt)
 insert_fits (x ∷ xs) b e fit one = by (block_cmp b x.0) (insert_fits xs b e fit.1 one)
   where
-    by : (o : Ordering) → RowsFit (insert_entry block_cmp xs b e) → RowsFit (match_ordering o ((b, e) ∷ x ∷ xs) ((x.0, e) ∷ xs) (x ∷ insert_entry block_cmp xs b e))
+    by : (o : Ordering) → RowsFit (insert_entry block_cmp xs b e)
+        → RowsFit (match_ordering o ((b, e) ∷ x ∷ xs) ((x.0, e) ∷ xs) (x ∷ insert_entry block_cmp xs b e))
     by Less more = (one, (fit.0, fit.1))
     by Equal more = (fit.0, fit.1)
     by Greater more = (fit.0, more)
 
 merged_fits : (rows : Rows) (b : BlockId) (e : Entry) → RowsFit rows → b.blk < 2 ^ 32 → RowsFit (merged rows b e)
 unfolding merged
-merged_fits rows b e fit one = by_test RowsFit (is_newer e (entry_of rows b)) (insert_entry block_cmp rows b e) rows (λ _. insert_fits rows b e fit one) (λ _. fit)
+merged_fits rows b e fit one = by_test RowsFit (is_newer e (entry_of rows b)) (insert_entry block_cmp rows b e) rows (λ _. insert_fits rows b e fit one)
+    (λ _. fit)
 
 pub all_fits : (rows more : Rows) → RowsFit rows → RowsFit more → RowsFit (merged_all rows more)
 all_fits rows [] fit fits = fit
@@ -86,12 +88,14 @@ module _ (part : ℕ) (texts : Texts) (asked : Questions) where
 
   pub reports_done : (n : Net) (a : Asker) (from : NodeId) (report : Report) → AllDone part texts asked n (on_report a from report).outs
   reports_done n a from report =
-      by_test (λ (d : Done). AllDone part texts asked n d.outs) (report.epoch == epoch_of a.phase) (takes a report.slot (report_input from report)) (still a) (λ _. takes_done n report.slot a (report_input from report)) (λ _. tt)
+      by_test (λ (d : Done). AllDone part texts asked n d.outs) (report.epoch == epoch_of a.phase) (takes a report.slot (report_input from report)) (still a)
+      (λ _. takes_done n report.slot a (report_input from report)) (λ _. tt)
 
   pub hears_done : (n : Net) (h : Hearer) (news : SlotNews) (one : Asker) → AllDone part texts asked n (hears_of h news one).outs
   unfolding hears_of
   hears_done n h news one =
-      by_test (λ (d : Done). AllDone part texts asked n d.outs) (nat_lt (epoch_of one.phase) news.epoch) (takes (record one { phase = phase_of h.ears.number news h.groups h.ears.clients }) news.slot input.Tick) (still one)
+      by_test (λ (d : Done). AllDone part texts asked n d.outs) (nat_lt (epoch_of one.phase) news.epoch)
+      (takes (record one { phase = phase_of h.ears.number news h.groups h.ears.clients }) news.slot input.Tick) (still one)
       (λ _. takes_done n news.slot (record one { phase = phase_of h.ears.number news h.groups h.ears.clients }) input.Tick) (λ _. tt)
 
   module _ (desk : Desk) where
@@ -106,7 +110,8 @@ module _ (part : ℕ) (texts : Texts) (asked : Questions) where
     stays_still : (n : Net) (a : Asker) → PhaseAgrees part texts n desk a.phase → Stays n a.phase (still a)
     stays_still n a agrees = record { agrees = agrees; held = λ e h. h; epoch = refl }
 
-    stays_fetches : (n : Net) (p : SlotPhase) (q : Numbers) (server : ℕ) (name : SegName) (own : ℕ) → PhaseAgrees part texts n desk p → Stays n p (fetches p q server name own)
+    stays_fetches : (n : Net) (p : SlotPhase) (q : Numbers) (server : ℕ) (name : SegName) (own : ℕ) → PhaseAgrees part texts n desk p
+        → Stays n p (fetches p q server name own)
     stays_fetches n (phase.Taking t) q server name own agrees = record { agrees = agrees; held = λ e h. h; epoch = refl }
     stays_fetches n (phase.Away epoch) q server name own agrees = stays_still n (asker (phase.Away epoch) q) agrees
     stays_fetches n (phase.Active a) q server name own agrees = stays_still n (asker (phase.Active a) q) agrees
@@ -119,7 +124,8 @@ module _ (part : ℕ) (texts : Texts) (asked : Questions) where
     stays_says n k a (out.Active epoch index beliefs applied) plain agrees = absurd plain
     stays_says n k a (out.Lost seg) plain agrees = record { agrees = tt; held = λ e h. absurd h; epoch = refl }
 
-    pub stays_each : (n : Net) (k : ℕ) (a : Asker) (outs : List Out) → ArePlain outs → PhaseAgrees part texts n desk a.phase → Stays n a.phase (says_each k a outs)
+    pub stays_each : (n : Net) (k : ℕ) (a : Asker) (outs : List Out) → ArePlain outs → PhaseAgrees part texts n desk a.phase
+        → Stays n a.phase (says_each k a outs)
     unfolding says_each
     stays_each n k a [] plain agrees = stays_still n a agrees
     stays_each n k a (o ∷ os) plain agrees =
@@ -135,9 +141,11 @@ module _ (part : ℕ) (texts : Texts) (asked : Questions) where
     stays_ticks n k (phase.Active a) q agrees = stays_each n k (asker (phase.Active a) q) [] tt agrees
     stays_ticks n k (phase.Broken epoch seg) q agrees = stays_each n k (asker (phase.Broken epoch seg) q) [] tt agrees
 
-    pub stays_asks : (n : Net) (k : ℕ) (p : SlotPhase) (q : Numbers) (polls : Bool) → PhaseAgrees part texts n desk p → Stays n p (asks_again (asker p q) k polls)
+    pub stays_asks : (n : Net) (k : ℕ) (p : SlotPhase) (q : Numbers) (polls : Bool) → PhaseAgrees part texts n desk p
+        → Stays n p (asks_again (asker p q) k polls)
     unfolding asks_again heard
-    stays_asks n k (phase.Taking t) q polls agrees = stays_each n k (asker (phase.Taking t) q) (filter (is_wanted polls) (transition t.take input.Tick).outs) (kept_plain (is_wanted polls) (transition t.take input.Tick).outs (tick_said t.take)) agrees
+    stays_asks n k (phase.Taking t) q polls agrees = stays_each n k (asker (phase.Taking t) q) (filter (is_wanted polls) (transition t.take input.Tick).outs)
+        (kept_plain (is_wanted polls) (transition t.take input.Tick).outs (tick_said t.take)) agrees
     stays_asks n k (phase.Away epoch) q polls agrees = stays_each n k (asker (phase.Away epoch) q) [] tt agrees
     stays_asks n k (phase.Active a) q polls agrees = stays_each n k (asker (phase.Active a) q) [] tt agrees
     stays_asks n k (phase.Broken epoch seg) q polls agrees = stays_each n k (asker (phase.Broken epoch seg) q) [] tt agrees

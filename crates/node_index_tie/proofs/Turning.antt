@@ -23,7 +23,8 @@ some_is x y same = ap (λ o. unwrap_or o x) same
 
 -- ---- a slot of the table is changed
 
-pub changed_here : (t : Table) (k : ℕ) (change : SlotPhase → SlotPhase) → k < length t → phase_at (changed_in t k change (slice_get t k)) k ≡ change (phase_at t k)
+pub changed_here : (t : Table) (k : ℕ) (change : SlotPhase → SlotPhase) → k < length t
+    → phase_at (changed_in t k change (slice_get t k)) k ≡ change (phase_at t k)
 changed_here t k change within = by (slice_get t k) refl
   where
     by : (o : Option SlotPhase) → slice_get t k ≡ o → phase_at (changed_in t k change o) k ≡ change (phase_at t k)
@@ -72,14 +73,17 @@ module _ (part : ℕ) (texts : Texts) (n : Net) (desk later : Desk) where
     pub number : later.writer.number ≡ desk.writer.number
 
   module _ (t : Turn) where
-    pub paged_turn : (epoch : ℕ) (pages : PagesState) (parts : List SegRef) → Paged part texts n desk epoch pages parts → Paged part texts n later epoch pages parts
-    paged_turn epoch pages parts (Covered events may is none) = Covered events may is (λ w there of at. let b = t.back w there in none b.before b.was (b.slot ∙ of) (b.epoch ∙ at))
+    pub paged_turn : (epoch : ℕ) (pages : PagesState) (parts : List SegRef) → Paged part texts n desk epoch pages parts
+        → Paged part texts n later epoch pages parts
+    paged_turn epoch pages parts (Covered events may is none) = Covered events may is
+        (λ w there of at. let b = t.back w there in none b.before b.was (b.slot ∙ of) (b.epoch ∙ at))
     paged_turn epoch pages parts (Written events w rows there of at work fits is) =
         let f = t.forth w there in
         Written events f.on rows f.is (f.slot ∙ of) (f.epoch ∙ at) (f.work events of work) fits is
     paged_turn epoch pages parts (Ended number none) = Ended (t.number ∙ number) (t.none none)
 
-    pub seen_turn : ((w : WorkState) → desk.writer.work ≡ Some w → w.slot ≡ part → WorkSeen part texts n desk w) → (w : WorkState) → later.writer.work ≡ Some w → w.slot ≡ part → WorkSeen part texts n later w
+    pub seen_turn : ((w : WorkState) → desk.writer.work ≡ Some w → w.slot ≡ part → WorkSeen part texts n desk w) → (w : WorkState)
+        → later.writer.work ≡ Some w → w.slot ≡ part → WorkSeen part texts n later w
     seen_turn seen w there of =
         let b = t.back w there in
         let f = t.forth b.before b.was in

@@ -59,33 +59,40 @@ split : (left : List Rows) → rows_of (take 24 left) ++ rows_of (drop 24 left) 
 split left = sym (rows_of-append (take 24 left) (drop 24 left)) ∙ ap rows_of (take-append-drop 24 left)
 
 -- where nothing is given out and nothing is left, the settled segments hold all
-laid_of : (holds : SegRef → Rows) (segments : List SegRef) (given left : List Rows) (all : Rows) → given ≡ [] → left ≡ [] → rows_in holds segments ++ (rows_of given ++ rows_of left) ≡ all → rows_in holds segments ≡ all
+laid_of : (holds : SegRef → Rows) (segments : List SegRef) (given left : List Rows) (all : Rows) → given ≡ [] → left ≡ []
+    → rows_in holds segments ++ (rows_of given ++ rows_of left) ≡ all → rows_in holds segments ≡ all
 laid_of holds segments given left all none nil is =
-    sym (append-nil (rows_in holds segments)) ∙ sym (ap (λ g. rows_in holds segments ++ (rows_of g ++ rows_of [])) none) ∙ sym (ap (λ l. rows_in holds segments ++ (rows_of given ++ rows_of l)) nil) ∙ is
+    sym (append-nil (rows_in holds segments)) ∙ sym (ap (λ g. rows_in holds segments ++ (rows_of g ++ rows_of [])) none) ∙ sym
+    (ap (λ l. rows_in holds segments ++ (rows_of given ++ rows_of l)) nil) ∙ is
 
 module _ (part : ℕ) (texts : Texts) (questions : Questions) (exists : part < 8) (named : ℕ → Type 0) where
   -- what an event makes of a manager that serves, and of the small world
   abbrev pub Serves : Net → Serving → Done → Type 0
   Serves n s d = Sees part texts questions named n (phase_at s.slots part) (phase_at d.state.slots part) d.outs (λ m. ServingAgrees part texts m d.state)
 
-  pub serves_same : (n : Net) (s : Serving) (outs : List Effect) → ServingAgrees part texts n s → AllDone part texts questions n outs → Serves n s (record { state = s; outs = outs })
+  pub serves_same : (n : Net) (s : Serving) (outs : List Effect) → ServingAgrees part texts n s → AllDone part texts questions n outs
+      → Serves n s (record { state = s; outs = outs })
   serves_same n s outs agrees done = sees_same part texts questions named n (phase_at s.slots part) outs (λ m. ServingAgrees part texts m s) done agrees
 
   -- one of a list
   pub serves_one : {X : Type 0} (f : Serving → X → Done) (n : Net) (s t : Serving) (x : X) → Serves n s (f t x) → Serves n s (steps f t (x ∷ []))
   serves_one f n s t x h =
       let u = (f t x).state in
-      sees_then part texts questions named n (phase_at s.slots part) (phase_at u.slots part) (phase_at u.slots part) (f t x).outs [] (λ m. ServingAgrees part texts m u) (λ m. ServingAgrees part texts m u) h
+      sees_then part texts questions named n (phase_at s.slots part) (phase_at u.slots part) (phase_at u.slots part) (f t x).outs []
+      (λ m. ServingAgrees part texts m u) (λ m. ServingAgrees part texts m u) h
       (λ m g k. serves_same m u [] k tt)
 
   -- a step, and another
-  pub serves_then : (n : Net) (s : Serving) (d e : Done) → Serves n s d → ((m : Net) → Grows n m → ServingAgrees part texts m d.state → Serves m d.state e) → Serves n s (after d.outs e)
+  pub serves_then : (n : Net) (s : Serving) (d e : Done) → Serves n s d → ((m : Net) → Grows n m → ServingAgrees part texts m d.state → Serves m d.state e)
+      → Serves n s (after d.outs e)
   serves_then n s d e h f =
-      sees_then part texts questions named n (phase_at s.slots part) (phase_at d.state.slots part) (phase_at e.state.slots part) d.outs e.outs (λ m. ServingAgrees part texts m d.state) (λ m. ServingAgrees part texts m e.state) h f
+      sees_then part texts questions named n (phase_at s.slots part) (phase_at d.state.slots part) (phase_at e.state.slots part) d.outs e.outs
+      (λ m. ServingAgrees part texts m d.state) (λ m. ServingAgrees part texts m e.state) h f
 
   -- ---- all is written
 
-  module _ (n : Net) (v : Serving) (w : WorkState) (there : v.writer.work ≡ Some w) (agrees : ServingAgrees part texts n v) (none : agrees.given ≡ []) (landed : v.log.flight ≡ None) where
+  module _ (n : Net) (v : Serving) (w : WorkState) (there : v.writer.work ≡ Some w) (agrees : ServingAgrees part texts n v) (none : agrees.given ≡ [])
+      (landed : v.log.flight ≡ None) where
     abbrev desk : Desk
     desk = desk_of v agrees.given
 
@@ -122,36 +129,45 @@ module _ (part : ℕ) (texts : Texts) (questions : Questions) (exists : part < 8
       is_it x is = some_is x w (sym is ∙ there)
 
       -- pages of which nothing was written, or which belong to another epoch
-      paged_still : (m : Net) (epoch : ℕ) (pages : PagesState) (parts : List SegRef) → (w.slot ≡ part → w.epoch ≡ epoch → ⊥) → Paged part texts n desk epoch pages parts → Paged part texts m idle_desk epoch pages parts
+      paged_still : (m : Net) (epoch : ℕ) (pages : PagesState) (parts : List SegRef) → (w.slot ≡ part → w.epoch ≡ epoch → ⊥)
+          → Paged part texts n desk epoch pages parts → Paged part texts m idle_desk epoch pages parts
       paged_still m epoch pages parts other (Covered events may is never) = Covered events may is (λ x thing. no_work x thing)
       paged_still m epoch pages parts other (Written events x rows it of at work fits is) =
           absurd (other (sym (ap (λ (y : WorkState). y.slot) (is_it x it)) ∙ of) (sym (ap (λ (y : WorkState). y.epoch) (is_it x it)) ∙ at))
       paged_still m epoch pages parts other (Ended number over) = absurd (some_none w (sym there ∙ over))
 
       -- pages whose checkpoint this is
-      paged_done : (m : Net) (epoch : ℕ) (pages : PagesState) (parts : List SegRef) → w.slot ≡ part → w.epoch ≡ epoch → Paged part texts n desk epoch pages parts → Paged part texts m idle_desk epoch pages w.parts
+      paged_done : (m : Net) (epoch : ℕ) (pages : PagesState) (parts : List SegRef) → w.slot ≡ part → w.epoch ≡ epoch
+          → Paged part texts n desk epoch pages parts → Paged part texts m idle_desk epoch pages w.parts
       paged_done m epoch pages parts ours same (Covered events may is never) = absurd (never w there ours same)
       paged_done m epoch pages parts ours same (Written events x rows it of at work fits is) =
           let holds = held_in part texts in
           let plan = plan_of (slot_after events).pages (slot_after events).parts in
           let left : x.left ≡ [] = ap (λ (y : WorkState). y.left) (is_it x it) ∙ nil in
-          let laid : rows_in holds work.segments ≡ rows_of plan.pages = laid_of holds work.segments agrees.given x.left (rows_of plan.pages) none left work.rows in
+          let laid : rows_in holds work.segments ≡ rows_of plan.pages = laid_of holds work.segments agrees.given x.left (rows_of plan.pages) none left
+          work.rows in
           Covered (events ++ Laid work.segments ∷ merges rows)
-          (may_both holds nothing_checkpointed events (Laid work.segments ∷ merges rows) may_before (laid, may_merges holds (after_event (slot_after events) (Laid work.segments)) rows fits))
-          (after_both nothing_checkpointed events (Laid work.segments ∷ merges rows) ∙ after_merges (after_event (slot_after events) (Laid work.segments)) rows
-          ∙ ap (λ (p : PagesState). checkpointed p (plan.parts ++ work.segments)) (sym is) ∙ ap (checkpointed pages) (sym work.parts ∙ ap (λ (y : WorkState). y.parts) (is_it x it)))
+          (may_both holds nothing_checkpointed events (Laid work.segments ∷ merges rows) may_before
+          (laid, may_merges holds (after_event (slot_after events) (Laid work.segments)) rows fits))
+          (after_both nothing_checkpointed events (Laid work.segments ∷ merges rows) ∙ after_merges (after_event (slot_after events) (Laid work.segments))
+          rows
+          ∙ ap (λ (p : PagesState). checkpointed p (plan.parts ++ work.segments)) (sym is) ∙ ap (checkpointed pages)
+          (sym work.parts ∙ ap (λ (y : WorkState). y.parts) (is_it x it)))
           (λ y thing. no_work y thing)
         where
           may_before : AllMayCome (held_in part texts) nothing_checkpointed events
           may_before = work.may
       paged_done m epoch pages parts ours same (Ended number over) = absurd (some_none w (sym there ∙ over))
 
-      named_on : (m : Net) → Grows n m → ((e : ℕ) → m.slots e ≡ n.slots e) → w.slot ≡ part → (p : SlotPhase) → PhaseAgrees part texts n desk p → PhaseAgrees part texts m idle_desk (named_phase w.epoch w.parts p)
+      named_on : (m : Net) → Grows n m → ((e : ℕ) → m.slots e ≡ n.slots e) → w.slot ≡ part → (p : SlotPhase) → PhaseAgrees part texts n desk p
+          → PhaseAgrees part texts m idle_desk (named_phase w.epoch w.parts p)
       unfolding named_phase
       named_on m g same ours (phase.Active a) k =
           by_test (PhaseAgrees part texts m idle_desk) (a.slot.epoch == w.epoch) (phase.Active (record a { parts = w.parts })) (phase.Active a)
-          (λ is. record { there = same a.slot.epoch ∙ k.there; nine = k.nine; short = k.short; pages = paged_done m a.slot.epoch (pages_of a.slot.index) a.parts ours (sym (eqb-true a.slot.epoch w.epoch is)) k.pages })
-          (λ no. record { there = same a.slot.epoch ∙ k.there; nine = k.nine; short = k.short; pages = paged_still m a.slot.epoch (pages_of a.slot.index) a.parts (λ _ at. apart a.slot.epoch w.epoch no (sym at)) k.pages })
+          (λ is. record { there = same a.slot.epoch ∙ k.there; nine = k.nine; short = k.short; pages = paged_done m a.slot.epoch (pages_of a.slot.index)
+          a.parts ours (sym (eqb-true a.slot.epoch w.epoch is)) k.pages })
+          (λ no. record { there = same a.slot.epoch ∙ k.there; nine = k.nine; short = k.short; pages = paged_still m a.slot.epoch (pages_of a.slot.index)
+          a.parts (λ _ at. apart a.slot.epoch w.epoch no (sym at)) k.pages })
         where
           apart : (x y : ℕ) → (x == y) ≡ false → x ≡ y → ⊥
           apart x y h = grind (arith, nat_tests)
@@ -161,14 +177,16 @@ module _ (part : ℕ) (texts : Texts) (questions : Questions) (exists : part < 8
 
       named_held : (p : SlotPhase) (e : ℕ) → HeldAt (named_phase w.epoch w.parts p) e → HeldAt p e
       unfolding named_phase
-      named_held (phase.Active a) e h = by_test (λ q. HeldAt q e → HeldAt (phase.Active a) e) (a.slot.epoch == w.epoch) (phase.Active (record a { parts = w.parts })) (phase.Active a) (λ _ k. k) (λ _ k. k) h
+      named_held (phase.Active a) e h = by_test (λ q. HeldAt q e → HeldAt (phase.Active a) e) (a.slot.epoch == w.epoch)
+          (phase.Active (record a { parts = w.parts })) (phase.Active a) (λ _ k. k) (λ _ k. k) h
       named_held (phase.Taking t) e h = h
       named_held (phase.Away x) e h = h
       named_held (phase.Broken x seg) e h = h
 
       named_epoch : (p : SlotPhase) → epoch_of (named_phase w.epoch w.parts p) ≡ epoch_of p
       unfolding named_phase
-      named_epoch (phase.Active a) = by_test (λ q. epoch_of q ≡ epoch_of (phase.Active a)) (a.slot.epoch == w.epoch) (phase.Active (record a { parts = w.parts })) (phase.Active a) (λ _. refl) (λ _. refl)
+      named_epoch (phase.Active a) = by_test (λ q. epoch_of q ≡ epoch_of (phase.Active a)) (a.slot.epoch == w.epoch)
+          (phase.Active (record a { parts = w.parts })) (phase.Active a) (λ _. refl) (λ _. refl)
       named_epoch (phase.Taking t) = refl
       named_epoch (phase.Away x) = refl
       named_epoch (phase.Broken x seg) = refl
@@ -187,14 +205,18 @@ module _ (part : ℕ) (texts : Texts) (questions : Questions) (exists : part < 8
           let k = agrees.writer.work w there ours in
           let holds = held_in part texts in
           let plan = plan_of (slot_after k.events).pages (slot_after k.events).parts in
-          let laid : rows_in holds k.is.segments ≡ rows_of plan.pages = laid_of holds k.is.segments agrees.given w.left (rows_of plan.pages) none nil k.is.rows in
+          let laid : rows_in holds k.is.segments ≡ rows_of plan.pages = laid_of holds k.is.segments agrees.given w.left (rows_of plan.pages) none nil
+          k.is.rows in
           let packet = CheckpointDone w.epoch w.horizon (plan.parts ++ k.is.segments) in
           let m : Net = record n { sent = packet ∷ n.sent } in
           let seen : CkptSeen part m done = λ _. inl (ap (CheckpointDone w.epoch w.horizon) k.is.parts) in
           let within : w.slot < length v.slots = let e = agrees.eight in omega arith in
           let p = phase_at v.slots part in
-          let at : phase_at registered.state.slots part ≡ named_phase w.epoch w.parts p = subst (λ x. phase_at (named_at v.slots w.slot w.epoch w.parts) x ≡ named_phase w.epoch w.parts (phase_at v.slots x)) ours (changed_here v.slots w.slot (named_phase w.epoch w.parts) within) in
-          sees_sent part texts questions named n p (phase_at registered.state.slots part) (packet ∷ []) registered.outs (λ m. ServingAgrees part texts m registered.state)
+          let at : phase_at registered.state.slots part ≡ named_phase w.epoch w.parts p = subst
+          (λ x. phase_at (named_at v.slots w.slot w.epoch w.parts) x ≡ named_phase w.epoch w.parts (phase_at v.slots x)) ours
+          (changed_here v.slots w.slot (named_phase w.epoch w.parts) within) in
+          sees_sent part texts questions named n p (phase_at registered.state.slots part) (packet ∷ []) registered.outs
+          (λ m. ServingAgrees part texts m registered.state)
           (Checkpoints w.epoch k.events w.horizon k.is.segments k.is.planned laid)
           (subst (λ q. (d : ℕ) → HeldAt q d → HeldAt p d) (sym at) (named_held p))
           (let e = ap epoch_of at in let f = named_epoch p in omega arith)
@@ -226,7 +248,8 @@ module _ (part : ℕ) (texts : Texts) (questions : Questions) (exists : part < 8
           })
         where
           still_here : (p : SlotPhase) → PhaseAgrees part texts n desk p → PhaseAgrees part texts n idle_desk p
-          still_here (phase.Active a) k = record { there = k.there; nine = k.nine; short = k.short; pages = paged_still n a.slot.epoch (pages_of a.slot.index) a.parts (λ same _. other same) k.pages }
+          still_here (phase.Active a) k = record { there = k.there; nine = k.nine; short = k.short; pages = paged_still n a.slot.epoch
+              (pages_of a.slot.index) a.parts (λ same _. other same) k.pages }
           still_here (phase.Taking t) k = k
           still_here (phase.Away x) k = tt
           still_here (phase.Broken x seg) k = tt
@@ -273,11 +296,13 @@ module _ (part : ℕ) (texts : Texts) (questions : Questions) (exists : part < 8
           may = k.may;
           segments = k.segments;
           parts = k.parts;
-          rows = ap (λ r. rows_in (held_in part texts) k.segments ++ r) (split w.left) ∙ ap (λ g. rows_in (held_in part texts) k.segments ++ (rows_of g ++ rows_of w.left)) (sym none) ∙ k.rows;
+          rows = ap (λ r. rows_in (held_in part texts) k.segments ++ r) (split w.left) ∙ ap
+              (λ g. rows_in (held_in part texts) k.segments ++ (rows_of g ++ rows_of w.left)) (sym none) ∙ k.rows;
           flies = λ f is. wrote.items_are f is ∙ ap (λ x. items_of x (take 24 w.left)) of;
         };
       });
-      back = λ x is. let same = some_is next_work x is in record { before = w; was = there; slot = ap (λ (y : WorkState). y.slot) same; epoch = ap (λ (y : WorkState). y.epoch) same };
+      back = λ x is. let same = some_is next_work x is in record { before = w; was = there; slot = ap (λ (y : WorkState). y.slot) same; epoch = ap
+          (λ (y : WorkState). y.epoch) same };
       none = λ no. absurd (some_none w (sym there ∙ no));
       number = refl;
     }
@@ -285,7 +310,8 @@ module _ (part : ℕ) (texts : Texts) (questions : Questions) (exists : part < 8
     gives_on : Serves n v given_out
     unfolding node.gives_parts
     gives_on =
-        sees_same part texts questions named n (phase_at v.slots part) given_out.outs (λ m. ServingAgrees part texts m given_out.state) (stored_done (log.transition v.log (log_input.Parts pages_out)).outs)
+        sees_same part texts questions named n (phase_at v.slots part) given_out.outs (λ m. ServingAgrees part texts m given_out.state)
+        (stored_done (log.transition v.log (log_input.Parts pages_out)).outs)
         (record {
           eight = agrees.eight;
           given = take 24 w.left;
@@ -315,6 +341,8 @@ module _ (part : ℕ) (texts : Texts) (questions : Questions) (exists : part < 8
     pub goes_on : Serves n v (node.says_each (record v { writer = (go_on v.writer w).state }) (go_on v.writer w).outs)
     unfolding node.says_each
     goes_on =
-        by_test (λ (r : Stepped WriterState Out). Serves n v (steps node.says (record v { writer = r.state }) r.outs)) (length w.left == 0) (finished v.writer w) (gives v.writer w)
-        (λ is. serves_one node.says n v (record v { writer = (finished v.writer w).state }) (out.Done w.slot w.epoch w.parts w.horizon) (says_done (nil_from_length w.left (eqb-true (length w.left) 0 is))))
+        by_test (λ (r : Stepped WriterState Out). Serves n v (steps node.says (record v { writer = r.state }) r.outs)) (length w.left == 0)
+        (finished v.writer w) (gives v.writer w)
+        (λ is. serves_one node.says n v (record v { writer = (finished v.writer w).state }) (out.Done w.slot w.epoch w.parts w.horizon)
+        (says_done (nil_from_length w.left (eqb-true (length w.left) 0 is))))
         (λ _. serves_one node.says n v (record v { writer = busy_writer }) (out.Parts pages_out) says_parts)

@@ -141,7 +141,8 @@ module _ (part : ℕ) (texts : Texts) (asked : Questions) (j : ℕ) (n : Net) wh
 
   -- what an answer to a question of the slot's takeover completes is the text of its name
   abbrev pub AnswerGets : SlotPhase → ℕ → (ℕ → TakeoverIn) → Type 0
-  AnswerGets p ask given = (t : Taking) (own : ℕ) (s : Segment) → p ≡ phase.Taking t → fetch_of p ask ≡ Some own → completes t.take (given own) ≡ Some s → IsRead part texts s
+  AnswerGets p ask given = (t : Taking) (own : ℕ) (s : Segment) → p ≡ phase.Taking t → fetch_of p ask ≡ Some own → completes t.take (given own) ≡ Some s
+      → IsRead part texts s
 
   abbrev pub FoundGets : SlotPhase → NodeId → Found → Type 0
   FoundGets p (Server v) m = AnswerGets p m.ask (λ own. Got own v m.generation m.fragment)
@@ -215,13 +216,15 @@ pub record ManagerGoes (part : ℕ) (texts : Texts) (asked : Questions) (j : ℕ
 -- Each event of manager j, where the world owes it what it needs.
 abbrev pub ManagerEventGoes : Type 0
 ManagerEventGoes =
-    (part : ℕ) (texts : Texts) (asked : Questions) (j : ℕ) (n : Net) (m : AManager) (what : Do) → part < 8 → (lasting_of m.phase).number ≡ j → ManagerAgrees part texts n m.phase
+    (part : ℕ) (texts : Texts) (asked : Questions) (j : ℕ) (n : Net) (m : AManager) (what : Do) → part < 8 → (lasting_of m.phase).number ≡ j → ManagerAgrees
+    part texts n m.phase
     → ManagerOwed part texts asked j n m.phase what (happens m what).state → ManagerGoes part texts asked j n m.phase what (happens m what)
 
 -- At the start of a run a manager is seen in the opening of the small world.
 abbrev pub FirstManagerAgrees : Type 0
 FirstManagerAgrees =
-    (part : ℕ) (texts : Texts) (any : ℕ → ℕ → Segment) (number : ℕ) (setup : Setup) (works : List Work) → part < 8 → ManagerAgrees part texts (opening any) (first_manager number setup works).phase
+    (part : ℕ) (texts : Texts) (any : ℕ → ℕ → Segment) (number : ℕ) (setup : Setup) (works : List Work) → part < 8 → ManagerAgrees part texts (opening any)
+    (first_manager number setup works).phase
 
 -- The small world has gone on, and of the slots those that a manager holds have stayed, as has what the registry keeps of epochs that it takes over.
 pub record Passes (n m : Net) (p : SlotPhase) : Type 0 where

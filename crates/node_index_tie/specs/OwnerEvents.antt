@@ -1,15 +1,18 @@
 -- How the feed of a log's owner is seen in the small world of one slot's index, and that what it tells managers was filed.
-use Rattle.std.specs.Prelude.{◌≡◌, ◌<◌, ◌≤◌, ℕ, List}
+use Rattle.std.specs.Prelude.{◌≡◌, ◌<◌, ◌≤◌, ℕ, suc, List}
 use Rattle.std.specs.List.{All}
 use Rattle.delta_feed.specs.FeedState.{FeedState}
 use Rattle.delta_feed.specs.History.{state_after}
-use Rattle.delta_feed.specs.Transition.{acknowledged, new_epoch}
+use Rattle.delta_feed.specs.Transition.{settled, acknowledged, new_epoch}
 use Rattle.delta_feed.specs.declared.input.In.{In}
 use Rattle.index_tie.specs.Feeds.{IsFed}
 use Rattle.index_tie.specs.Filed.{rows_at}
+use Rattle.index_tie.specs.Growth.{with_segment}
 use Rattle.index_tie.specs.Net.{Net}
 use Rattle.log_owner.specs.Sending.{pushes, pushes_all}
 use Rattle.log_owner.specs.declared.promised.Managers.{Managers}
+use Rattle.segment_format.specs.Rows.{rows_of}
+use Rattle.segment_format.specs.declared.segment.Segment.{Segment}
 use Rattle.node_base.specs.declared.effects.Effect.{Effect}
 use Rattle.node_base.specs.declared.effects.Effect.TheVariants.{Send, Answer, Lose, Does}
 use Rattle.wire_msg.specs.declared.body.Body.{Body}
@@ -45,7 +48,8 @@ pub record OwnerTells (part : ℕ) (n : Net) (l : ℕ) (feed : FeedState) (manag
   pub each : All (OwnerDoes part n l) (pushes_all managers feed)
 
 abbrev pub OwnersTell : Type 0
-OwnersTell = (part : ℕ) (n : Net) (l : ℕ) (feed : FeedState) (managers : Managers) → 0 < l → l ≤ 9 → FeedSeen part n l feed → OwnerTells part n l feed managers
+OwnersTell = (part : ℕ) (n : Net) (l : ℕ) (feed : FeedState) (managers : Managers) → 0 < l → l ≤ 9 → FeedSeen part n l feed → OwnerTells part n l feed
+    managers
 
 -- An acknowledgement, and a new epoch of a slot, leave a feed seen.
 pub record StaysSeen (part : ℕ) (n : Net) (l : ℕ) (feed : FeedState) : Type 0 where
@@ -54,3 +58,12 @@ pub record StaysSeen (part : ℕ) (n : Net) (l : ℕ) (feed : FeedState) : Type 
 
 abbrev pub FeedsStay : Type 0
 FeedsStay = (part : ℕ) (n : Net) (l : ℕ) (feed : FeedState) → FeedSeen part n l feed → StaysSeen part n l feed
+
+-- A feed that is told of one more segment, once its log has filed it, is seen; what another log files leaves it seen.
+pub record GrowsOn (part : ℕ) (n : Net) (l : ℕ) (feed : FeedState) : Type 0 where
+  pub own : (s : Segment) → RowsFit (rows_of s) → suc (n.filed.head l) < u32_end
+      → FeedSeen part (record n { filed = with_segment n.filed l s }) l (settled feed (suc (n.filed.head l)) (rows_of s))
+  pub others : (other : ℕ) (s : Segment) → (other ≡ l → ⊥) → FeedSeen part (record n { filed = with_segment n.filed other s }) l feed
+
+abbrev pub FeedsGrow : Type 0
+FeedsGrow = (part : ℕ) (n : Net) (l : ℕ) (feed : FeedState) → FeedSeen part n l feed → GrowsOn part n l feed

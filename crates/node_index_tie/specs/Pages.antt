@@ -50,7 +50,8 @@ module _ (part : ℕ) (texts : Texts) (n : Net) (desk : Desk) where
   pub data Paged (epoch : ℕ) (pages : PagesState) (parts : List SegRef) : Type 0 where
     Covered : (events : List Event) → AllMayCome (held_in part texts) nothing_checkpointed events → slot_after events ≡ checkpointed pages parts
         → ((w : WorkState) → desk.writer.work ≡ Some w → w.slot ≡ part → w.epoch ≡ epoch → ⊥) → Paged epoch pages parts
-    Written : (events : List Event) (w : WorkState) (rows : Rows) → desk.writer.work ≡ Some w → w.slot ≡ part → w.epoch ≡ epoch → IsWork events w → RowsFit rows
+    Written : (events : List Event) (w : WorkState) (rows : Rows) → desk.writer.work ≡ Some w → w.slot ≡ part → w.epoch ≡ epoch → IsWork events w
+        → RowsFit rows
         → pages ≡ put_all (cleaned (slot_after events).pages) rows → Paged epoch pages parts
     Ended : desk.writer.number ≡ u32_end → desk.writer.work ≡ None → Paged epoch pages parts
 

@@ -92,8 +92,10 @@ pub record RegistryGoes (part : ℕ) (texts : Texts) (n : Net) (r : RegistryNode
 -- Each event of the registry, where the world owes it what it needs.
 abbrev pub RegistryEventGoes : Type 0
 RegistryEventGoes =
-    (part : ℕ) (texts : Texts) (n : Net) (r : RegistryNode) (what : Do) → part < 8 → RegistrySound r → RegistryAgrees part n r → RegistryOwed part n what → RegistryGoes part texts n r what
+    (part : ℕ) (texts : Texts) (n : Net) (r : RegistryNode) (what : Do) → part < 8 → RegistrySound r → RegistryAgrees part n r → RegistryOwed part n what
+    → RegistryGoes part texts n r what
 
 -- At the start of a run the registry is seen in the opening of the small world.
 abbrev pub RegistryStarts : Type 0
-RegistryStarts = (part : ℕ) (any : ℕ → ℕ → Segment) (setup : Setup) (items : List Work) → part < 8 → RegistryAgrees part (opening any) (registry_start setup items)
+RegistryStarts = (part : ℕ) (any : ℕ → ℕ → Segment) (setup : Setup) (items : List Work) → part < 8 → RegistryAgrees part (opening any)
+    (registry_start setup items)

@@ -4,7 +4,7 @@
 #![tactic(auto)]
 
 ghost use Rattle.node_index_tie.specs.ManagerEvents.{FirstManagerAgrees, ManagerEventGoes, ManagersStay};
-ghost use Rattle.node_index_tie.specs.OwnerEvents.{FeedsStay, OwnersTell};
+ghost use Rattle.node_index_tie.specs.OwnerEvents.{FeedsGrow, FeedsStay, OwnersTell};
 ghost use Rattle.node_index_tie.specs.RegistryEvents.{RegistryEventGoes, RegistryStarts};
 
 /// What an event makes of a manager is a run of the small world, if the packet that comes was sent there and tells what is so.
@@ -34,7 +34,9 @@ pub fn registry_events_are_seen()
 ///
 /// - `tell`: Deltas that a feed has it send tell what was filed in their range, where the feed was told of what was filed.
 /// - `stay`: an acknowledgement, and a new epoch of a slot, leave the feed so.
+/// - `grow`: a feed that is told of what its log files is so again, and what another log files leaves it so.
 pub fn what_owners_tell_is_filed()
     ensures tell { OwnersTell }
     ensures stay { FeedsStay }
+    ensures grow { FeedsGrow }
 {}
