@@ -12,7 +12,6 @@ use Rattle.segment_format.specs.declared.segment.Segment.{Segment}
 use Rattle.delta_feed.specs.FeedState.{FeedState, started}
 use Rattle.delta_feed.specs.History.{greatest, settled_numbers, end_of, filed_by}
 use Rattle.delta_feed.specs.Transition.{settled, transition}
-use Rattle.delta_feed.specs.declared.feed.FiledDeltas.{FiledDeltas}
 use Rattle.delta_feed.specs.declared.input.In.{In}
 use Rattle.delta_feed.specs.declared.input.In.TheVariants.{Settled, Ack, NewEpoch, Push, Tick}
 use Rattle.delta_feed.proofs.AfterInputs.{greatest-max}
@@ -22,7 +21,7 @@ use Rattle.index_tie.specs.Growth.{with_segment}
 use Rattle.index_tie.specs.Net.{Net}
 use Rattle.index_tie.proofs.Growth.{rows_stay, more_is_filed}
 use Rattle.index_tie.proofs.Tables.{at_same, at_other, first_of, second_of}
-use Rattle.node_index_tie.specs.OwnerEvents.{FeedSeen, GrowsOn, FeedsGrow}
+use Rattle.node_index_tie.specs.OwnerEvents.{FeedSeen, FeedsGrow}
 use Rattle.node_index_tie.specs.Sight.{RowsFit}
 use Rattle.node_index_tie.proofs.Owners.{one_more}
 

@@ -1,34 +1,30 @@
 -- What the owner of a log tells managers of a slot is what the log filed.
 use Rattle.std.proofs.Common.{◌≡◌, ℕ, suc, ◌+◌, ◌-◌, ◌<◌, ◌≤◌, ◌==◌, ◌&&◌, Bool, true, false, cond, List, [], ◌∷◌, ◌++◌, map, refl, sym, ap, subst, ◌∙◌, arith}
-use Rattle.std.specs.Prelude.{nat_lt, nat_le, Contains}
-use Rattle.std.specs.List.{All, AllByRecursion, filter, flat_map, range_with_len}
-use Rattle.std.proofs.lemmas.Bool.Decides.{nat_tests}
+use Rattle.std.specs.Prelude.{nat_lt, Contains}
+use Rattle.std.specs.List.{AllByRecursion, flat_map, range_with_len}
 use Rattle.std.proofs.lemmas.List.Elements.{All-from_recursion}
 use Rattle.xfs_base.proofs.Booleans.{by_test}
-use Rattle.xfs_base.proofs.Members.{contains_first, contains_rest}
+use Rattle.xfs_base.proofs.Members.{contains_first}
 use Rattle.xfs_base.specs.Blocks.{slot_of}
-use Rattle.xfs_base.specs.Limits.{u32_end}
 use Rattle.xfs_base.specs.Steps.{steps}
 use Rattle.xfs_base.specs.declared.block.BlockId.{BlockId}
 use Rattle.xfs_base.specs.declared.entry.Entry.{Entry}
 use Rattle.delta_feed.specs.FeedState.{FeedState, started, acked_of}
-use Rattle.delta_feed.specs.History.{state_after, end_of, filed_by, settled_numbers, greatest}
-use Rattle.delta_feed.specs.Transition.{slot_rows, rows_after, acknowledged, new_epoch, pushed, ticked, transition}
+use Rattle.delta_feed.specs.History.{filed_by, settled_numbers, greatest}
+use Rattle.delta_feed.specs.Transition.{slot_rows, rows_after, pushed, transition}
 use Rattle.delta_feed.specs.declared.feed.FiledDeltas.{FiledDeltas}
 use Rattle.delta_feed.specs.declared.input.In.{In}
 use Rattle.delta_feed.specs.declared.input.In.TheVariants.{Settled, Ack, NewEpoch, Push, Tick}
 use Rattle.delta_feed.specs.declared.output.Out.{Out}
 use Rattle.delta_feed.specs.declared.output.Out.TheVariants.{Range}
 use Rattle.delta_feed.proofs.AfterInputs.{is_after}
-use Rattle.index_tie.specs.Feeds.{fed_at, IsFed}
+use Rattle.index_tie.specs.Feeds.{fed_at}
 use Rattle.index_tie.specs.Filed.{Filed, rows_at}
 use Rattle.index_tie.specs.Net.{Net}
-use Rattle.index_tie.specs.Slots.{DeltasTell}
 use Rattle.index_tie.proofs.Feeds.{ranges_tell}
 use Rattle.log_owner.specs.Sending.{range, pushes, pushes_all}
 use Rattle.log_owner.specs.declared.promised.Managers.{Managers}
-use Rattle.wire_msg.specs.declared.deltas.Deltas.{Deltas}
-use Rattle.node_index_tie.specs.OwnerEvents.{FeedSeen, OwnerDoes, OwnerTells, OwnersTell, StaysSeen, FeedsStay}
+use Rattle.node_index_tie.specs.OwnerEvents.{FeedSeen, OwnerDoes, OwnersTell, FeedsStay}
 use Rattle.node_index_tie.specs.Sight.{RowsFit, DeltasKnown}
 use Rattle.node_index_tie.proofs.Moves.{all_both}
 
