@@ -82,7 +82,7 @@ module _ (part : ℕ) (holds : SegRef → Rows) where
     views = λ b inside. by_manager n b (g.views b inside) e s g.epochs is (runs b inside (g.views b inside));
   }
 
-  not_zero : (n : Net) (e : ℕ) (s : SlotState) → Good part holds n → n.slots e ≡ Some s → e ≡ 0 → ⊥
+  pub not_zero : (n : Net) (e : ℕ) (s : SlotState) → Good part holds n → n.slots e ≡ Some s → e ≡ 0 → ⊥
   not_zero n e s g at is = some_none s (sym at ∙ ap n.slots is ∙ g.begun)
 
   -- a slot takes an input

@@ -1,11 +1,11 @@
 mod Answers
 mod Chains
 mod CheckLists
-mod Checkpoints
+pub mod Checkpoints
 mod Cleaning
-mod Events
-mod Feeds
-mod Growth
+pub mod Events
+pub mod Feeds
+pub mod Growth
 mod Jobs
 mod JobsStay
 mod Laws
@@ -14,7 +14,7 @@ mod Registry
 mod Rows
 mod RunExists
 mod Runs
-mod Slots
-mod Tables
-mod Takeovers
+pub mod Slots
+pub mod Tables
+pub mod Takeovers
 mod Views

@@ -48,12 +48,13 @@ use Rattle.index_tie.specs.Takeovers.{of_log, Covers, MayBegin, TakeoverTold}
 use Rattle.index_tie.specs.Checkpoints.{IsNext, horizon_seen}
 use Rattle.index_tie.specs.Cleaning.{IsRow, is_filed_name, IsWithin}
 use Rattle.index_tie.specs.Net.{Net, Packet, with_slot, with_packet, answer_packets, HasRead}
-use Rattle.index_tie.specs.Net.Packet.{CheckpointDone, CleanerReported, Checked, AnsweredLive, AnsweredDead}
+use Rattle.index_tie.specs.Net.Packet.{CheckpointPlanned, CheckpointDone, CleanerReported, Checked, AnsweredLive, AnsweredDead}
 use Rattle.index_tie.proofs.Answers.{live_is_filed, deads_are_beats}
 use Rattle.index_tie.proofs.Checkpoints.{parts_cover, parts_are_read, checkpoints_are_kept}
 use Rattle.index_tie.proofs.JobsStay.{jobs_stay}
-use Rattle.index_tie.proofs.Events.{with_slot_good}
+use Rattle.index_tie.proofs.Events.{with_slot_good, not_zero}
 use Rattle.index_tie.proofs.Growth.{slots_stay, parts_stay}
+use Rattle.index_tie.proofs.Slots.{itself}
 use Rattle.index_tie.proofs.Takeovers.{takeovers_are_activations}
 use Rattle.index_tie.proofs.Tables.{at_same, first_of, second_of, within_is, past_is}
 use Rattle.index_tie.proofs.Views.{View, went, found, all_and, Sound, IsAsked, Good, same_filed, tells_same}
@@ -221,20 +222,35 @@ module _ (part : ℕ) (holds : SegRef → Rows) where
 
   -- ---- other packets
 
-  pub checkpoints : (n : Net) (e : ℕ) (s : SlotState) (events : List Event) (segments : List SegRef) (horizon : List ℕ) → Good part holds n → n.slots e ≡ Some s → (slot_after events).pages ≡ pages_of s.index → AllMayCome holds nothing_checkpointed events
-      → MayCome holds (slot_after events) (Written segments) → IsNext s horizon → Good part holds (with_packet n (CheckpointDone e horizon (after_event (slot_after events) (Written segments)).parts))
-  checkpoints n e s events segments horizon g at pages all laid next =
-      sent_good n (CheckpointDone e horizon (after_event (slot_after events) (Written segments)).parts ∷ []) g (λ b inside i.
+  pub plans : (n : Net) (e : ℕ) (s : SlotState) (events : List Event) (horizon : List ℕ) → Good part holds n → n.slots e ≡ Some s → (slot_after events).pages ≡ pages_of s.index → AllMayCome holds nothing_checkpointed events
+      → IsNext s horizon → Good part holds (with_packet n (CheckpointPlanned e events horizon))
+  plans n e s events horizon g at pages all next =
+      sent_good n (CheckpointPlanned e events horizon ∷ []) g (λ b inside i.
       let m = i.slots e s at in
       let same = g.epochs e s at in
-      still_sends b n i (CheckpointDone e horizon (after_event (slot_after events) (Written segments)).parts ∷ []) (
-        (
-          ap i.state.active (sym same) ∙ m.active,
-          (λ l some most. let x = next l some most in let y = m.applied l some in let z = ap (λ k. i.state.applied k l) same in omega arith),
-          parts_cover b n.filed i.state s holds events segments horizon i.reached g.filed i.tells m pages all laid next,
-        ),
+      still_sends b n i (CheckpointPlanned e events horizon ∷ []) (
+        record {
+          active = ap i.state.active (sym same) ∙ m.active;
+          applied = λ l some most. let x = next l some most in let y = m.applied l some in let z = ap (λ k. i.state.applied k l) same in omega arith;
+          covers = λ segments laid. parts_cover b n.filed i.state s holds events segments horizon i.reached g.filed i.tells m pages all laid next;
+        },
         tt,
       ))
+
+  -- where blocks lie doesn't hang on which pages have changed
+  pub cleans : (n : Net) (e : ℕ) (s : SlotState) → Good part holds n → n.slots e ≡ Some s → Good part holds (with_slot n e (slot.cleaned s))
+  cleans n e s g at =
+      let same = g.epochs e s at in
+      with_slot_good part holds n e (slot.cleaned s) g same (not_zero part holds n e s g at)
+      (λ b inside i. let m = i.slots e s at in
+      record { state = i.state; steps = Ended; frame = itself e i.state; shows = record { active = m.active; applied = m.applied; index = m.index } })
+
+  pub checkpoints : (n : Net) (e : ℕ) (events : List Event) (horizon : List ℕ) (segments : List SegRef) → Good part holds n → In (CheckpointPlanned e events horizon) n.sent → MayCome holds (slot_after events) (Written segments)
+      → Good part holds (with_packet n (CheckpointDone e horizon (after_event (slot_after events) (Written segments)).parts))
+  checkpoints n e events horizon segments g planned laid =
+      sent_good n (CheckpointDone e horizon (after_event (slot_after events) (Written segments)).parts ∷ []) g (λ b inside i.
+      let p = found part holds b (Sound part holds b n i.state) (CheckpointPlanned e events horizon) n.sent i.sent planned in
+      still_sends b n i (CheckpointDone e horizon (after_event (slot_after events) (Written segments)).parts ∷ []) ((p.active, p.applied, p.covers segments laid), tt))
 
   pub reports : (n : Net) → Good part holds n → Good part holds (with_packet n (CleanerReported n.promised (n.filed.head 9)))
   reports n g =

@@ -26,13 +26,13 @@ use Rattle.takeover.specs.Reports.{no_end, end_of, same_node, writer_of}
 use Rattle.takeover.specs.Transition as takeover
 use Rattle.token_manager.specs.declared.input.In.TheVariants.{Deltas}
 use Rattle.token_manager.specs.Index.{Indexed, nothing_indexed, indexed_all}
-use Rattle.token_manager.specs.Transition.{started, transition}
+use Rattle.token_manager.specs.Transition.{started, cleaned, transition}
 use Rattle.index_tie.specs.Filed.{IsSegment}
 use Rattle.index_tie.specs.Growth.{with_segment}
 use Rattle.index_tie.specs.Slots.{DeltasTell}
 use Rattle.index_tie.specs.Net.{Net, IsNewer, HasRead, Runs, with_packet, with_slot, opening, ones, zeros}
-use Rattle.index_tie.specs.Net.Packet.{CheckpointDone, CleanerReported}
-use Rattle.index_tie.specs.Net.Happens.{ClientFiles, GetsDeltas, Checkpoints, Keeps, Moves, Activates, Promises, Reports}
+use Rattle.index_tie.specs.Net.Packet.{CheckpointPlanned, CheckpointDone, CleanerReported}
+use Rattle.index_tie.specs.Net.Happens.{ClientFiles, GetsDeltas, Plans, Cleans, Checkpoints, Keeps, Moves, Activates, Promises, Reports}
 use Rattle.index_tie.specs.Net.Runs.{Begun, On}
 use Rattle.index_tie.specs.NetLaws.{TakenOver}
 use Rattle.index_tie.proofs.Rows.{join_has}
@@ -93,8 +93,14 @@ no_ends l =
 abbrev started_net : Net
 started_net = opening any
 
+abbrev planned : Net
+planned = with_packet started_net (CheckpointPlanned 1 [] ones)
+
+abbrev cleaned_net : Net
+cleaned_net = with_slot planned 1 (cleaned (started 1 [] [] zeros))
+
 abbrev checkpointed : Net
-checkpointed = with_packet started_net (CheckpointDone 1 ones [])
+checkpointed = with_packet cleaned_net (CheckpointDone 1 ones [])
 
 abbrev kept : Net
 kept = record checkpointed { horizon = λ e. cond (nat_lt e 1) ones ones; parts = λ e. cond (nat_lt e 1) [] [] }
@@ -147,8 +153,10 @@ tells b = record { some = omega arith; known = omega arith; filed = one_is; join
 
 runs : Runs 0 holds (opening any) told
 runs =
-    On (On (On (On (On (On (On (On (Begun {n = started_net})
-    (Checkpoints {n = started_net} 1 (started 1 [] [] zeros) [] [] ones refl refl tt refl (λ l some most. let o = of_log_in ones l some most in let i = one_at (l - 1) (omega arith) in let z = zero_at zeros all_zeros (l - 1) in omega arith)))
+    On (On (On (On (On (On (On (On (On (On (Begun {n = started_net})
+    (Plans {n = started_net} 1 (started 1 [] [] zeros) [] ones refl refl tt (λ l some most. let o = of_log_in ones l some most in let i = one_at (l - 1) (omega arith) in let z = zero_at zeros all_zeros (l - 1) in omega arith)))
+    (Cleans {n = planned} 1 (started 1 [] [] zeros) refl))
+    (Checkpoints {n = cleaned_net} 1 [] ones [] (inl refl) refl))
     (Keeps {n = checkpointed} ones [] (inl refl) (λ l some most. omega arith)))
     (Moves {n = kept}))
     (Promises {n = moved} 2 (omega arith) refl))
@@ -169,7 +177,7 @@ taken_over = record {
   run = runs;
   block = block;
   inside = refl;
-  deposed = started 1 [] [] zeros;
+  deposed = cleaned (started 1 [] [] zeros);
   present = (transition (started 2 [] [] zeros) (Deltas log 1 1 (rows_of segment))).state;
   was = refl;
   is = refl;

@@ -23,18 +23,19 @@ use Rattle.index_tie.specs.Slots.{Manages}
 use Rattle.index_tie.specs.Takeovers.{below}
 use Rattle.index_tie.specs.Cleaning.{IsDropped}
 use Rattle.index_tie.specs.Net.{Net, Happens, Runs, opening, ones, zeros}
-use Rattle.index_tie.specs.Net.Happens.{ClientFiles, CleanerFiles, GetsDeltas, GetsOther, Answers, Checkpoints, Keeps, Moves, Activates, Promises, JobPromises, JobWelcomed, Reports, JobBegins, JobReads, Asks, JobHearsDead, JobTakes}
+use Rattle.index_tie.specs.Net.Happens.{ClientFiles, CleanerFiles, GetsDeltas, GetsOther, Answers, Plans, Cleans, Checkpoints, Keeps, Moves, Activates, Promises, JobPromises, JobWelcomed, Reports, JobBegins, JobReads, Asks, JobHearsDead, JobTakes}
+use Rattle.index_tie.specs.Net.Packet.{CheckpointDone}
 use Rattle.index_tie.specs.Net.Runs.{Begun, On}
-use Rattle.index_tie.specs.NetLaws.{Moment, EachIndexIsTheJoin, NewestIsNeverDeleted, ReigningIsOutdated}
+use Rattle.index_tie.specs.NetLaws.{Moment, EachIndexIsTheJoin, NewestIsNeverDeleted, ReigningIsOutdated, CheckpointsHaveManagers}
 use Rattle.index_tie.proofs.JobsStay.{jobs_begin}
 use Rattle.index_tie.proofs.Events.{some_is, some_none, gets_deltas, gets_other, client_files, cleaner_files_one}
 use Rattle.index_tie.proofs.Jobs.{job_takes, job_reads, job_hears_dead, job_promises, job_welcomed, cleaner_promises, job_begins}
 use Rattle.index_tie.proofs.Laws.{indexes_are_joins, newest_is_kept, dropped_is_outdated}
-use Rattle.index_tie.proofs.Registry.{answers, checkpoints, reports, asks, keeps, moves_on, takes_over}
+use Rattle.index_tie.proofs.Registry.{answers, plans, cleans, checkpoints, reports, asks, keeps, moves_on, takes_over}
 use Rattle.index_tie.proofs.Rows.{by_filed, names_nothing}
 use Rattle.index_tie.proofs.Takeovers.{by_log, of_log_in, of_log_out}
 use Rattle.index_tie.proofs.Tables.{put_each, at_other}
-use Rattle.index_tie.proofs.Views.{View, Good}
+use Rattle.index_tie.proofs.Views.{View, Sound, Good, found}
 
 -- ---- each thing that happens
 
@@ -44,7 +45,9 @@ keeps_good part holds n m (CleanerFiles s is copies) g = cleaner_files_one part 
 keeps_good part holds n m (GetsDeltas e s log first upto rows at known tell) g = gets_deltas part holds n e s log first upto rows g at known tell
 keeps_good part holds n m (GetsOther e s i at of) g = gets_other part holds n e s i g at of
 keeps_good part holds n m (Answers e s number b place d at asked) g = answers part holds n e s number b place d g at asked
-keeps_good part holds n m (Checkpoints e s events segments horizon at pages all laid next) g = checkpoints part holds n e s events segments horizon g at pages all laid next
+keeps_good part holds n m (Plans e s events horizon at pages all next) g = plans part holds n e s events horizon g at pages all next
+keeps_good part holds n m (Cleans e s at) g = cleans part holds n e s g at
+keeps_good part holds n m (Checkpoints e events horizon segments planned laid) g = checkpoints part holds n e events horizon segments g planned laid
 keeps_good part holds n m (Keeps horizon parts done rises) g = keeps part holds n horizon parts g done rises
 keeps_good part holds n m Moves g = moves_on part holds n g
 keeps_good part holds n m (Activates e news groups clients inputs input rows beliefs applied none some begun hands has) g = takes_over part holds n e news groups clients inputs input rows beliefs applied g none some begun hands has
@@ -200,3 +203,12 @@ reigning_is_outdated part holds n b e s place m at reigns lies deleted is has =
     active_upto : (w : IndexState) (o : Option SlotState) → n.slots w.reigning ≡ o → ((d : ℕ) → n.slots d ≡ None → w.active d ≡ 0) → w.active w.reigning ≡ 1 → w.reigning ≤ e
     active_upto w None there none on = let off = none w.reigning there in absurd (omega arith)
     active_upto w (Some t) there none on = reigns w.reigning t there
+
+pub checkpoints_have_managers : CheckpointsHaveManagers
+checkpoints_have_managers part holds n b e horizon parts m sent none =
+    let g = good_always part holds n b m in
+    let i = g.views b m.inside in
+    let known = found part holds b (Sound part holds b n i.state) (CheckpointDone e horizon parts) n.sent i.sent sent in
+    let on = known.0 in
+    let off = i.none e none in
+    absurd (omega arith)

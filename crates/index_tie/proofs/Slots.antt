@@ -63,7 +63,7 @@ unfolding indexed
 rows-indexed_all i [] = refl
 rows-indexed_all i (m ∷ ms) = rows-indexed_all (indexed i m) ms
 
-answering : (s : SlotState) (blocks : List BlockId) → Same s (steps finished_at s blocks).state
+pub answering : (s : SlotState) (blocks : List BlockId) → Same s (steps finished_at s blocks).state
 answering s blocks = steps_keep finished_at (Same s) (λ t k same. by_finished_at (λ r. Same s r.state) t k same (λ job is. record { epoch = same.epoch; applied = same.applied; index = same.index })) s blocks (same_itself s)
 
 leads_on : (applied first upto : ℕ) → joins_on applied first upto ≡ true → (first ≤ suc applied) × (applied < upto)

@@ -119,7 +119,7 @@ pub applied_in : (horizon : List ℕ) (rs : List Report) (l : ℕ) → 0 < l →
 unfolding reports.applied_of
 applied_in horizon rs l some most = of_log_in (reports.applied_of horizon rs) l some most ∙ get_or-map-range_with_len (applied_at horizon rs) 1 9 (l - 1) l 0 (omega arith) (omega arith)
 
-nine : (horizon : List ℕ) (rs : List Report) → length (reports.applied_of horizon rs) ≡ 9
+pub nine : (horizon : List ℕ) (rs : List Report) → length (reports.applied_of horizon rs) ≡ 9
 unfolding reports.applied_of
 nine horizon rs = length-map-range_with_len (applied_at horizon rs) 1 9
 

@@ -7,7 +7,8 @@ use Rattle.xfs_base.specs.declared.segment.SegName.{SegName}
 use Rattle.xfs_base.specs.declared.segment.SegRef.{SegRef}
 use Rattle.xfs_base.specs.Blocks.{slot_of}
 use Rattle.segment_format.specs.declared.segment.Segment.{Segment}
-use Rattle.checkpoint.specs.Laws.{rows_in}
+use Rattle.checkpoint.specs.Laws.{Event, rows_in, after_event, slot_after, MayCome}
+use Rattle.checkpoint.specs.Laws.Event.{Written}
 use Rattle.checkpoint.specs.WriterState.{Rows}
 use Rattle.stripe_cleaner.specs.Job.{same_name}
 use Rattle.stripe_cleaner.specs.Promises.{promised_at}
@@ -25,7 +26,7 @@ use Rattle.index_tie.specs.Slots.{Manages}
 use Rattle.index_tie.specs.Takeovers.{of_log, Covers}
 use Rattle.index_tie.specs.Cleaning.{IsRow, is_filed_name, IsWithin, IsDropped, Cleans}
 use Rattle.index_tie.specs.Net.{Net, Packet}
-use Rattle.index_tie.specs.Net.Packet.{CheckpointDone, CleanerReported, Checked, AnsweredLive, AnsweredDead}
+use Rattle.index_tie.specs.Net.Packet.{CheckpointPlanned, CheckpointDone, CleanerReported, Checked, AnsweredLive, AnsweredDead}
 use Rattle.index_tie.proofs.JobsStay.{dropped_stays}
 use Rattle.index_tie.proofs.Growth.{row_stays, is_filed, parts_stay}
 
@@ -37,8 +38,15 @@ module _ (part : ℕ) (holds : SegRef → Rows) (b : BlockId) where
     pub count : number ≤ n.number
     pub promised : number ≡ n.number → d ≤ promised_at n.job.promised part
 
+  -- what is planned covers what its horizon passes, once segments hold it
+  pub record IsPlanned (n : Net) (w : IndexState) (e : ℕ) (events : List Event) (horizon : List ℕ) : Type 0 where
+    pub active : w.active e ≡ 1
+    pub applied : (l : ℕ) → 0 < l → l ≤ 9 → of_log horizon l ≤ suc (w.applied e l)
+    pub covers : (segments : List SegRef) → MayCome holds (slot_after events) (Written segments) → Covers b n.filed w horizon (rows_in holds (after_event (slot_after events) (Written segments)).parts)
+
   -- what is known of a packet
   abbrev pub Sound : Net → IndexState → Packet → Type 0
+  Sound n w (CheckpointPlanned e events horizon) = IsPlanned n w e events horizon
   Sound n w (CheckpointDone e horizon parts) = (w.active e ≡ 1) × ((l : ℕ) → 0 < l → l ≤ 9 → of_log horizon l ≤ suc (w.applied e l)) × Covers b n.filed w horizon (rows_in holds parts)
   Sound n w (CleanerReported e end) = (w.polled e ≤ end) × (e ≤ w.promised)
   Sound n w (Checked number k place d) =
@@ -94,6 +102,11 @@ module _ (part : ℕ) (holds : SegRef → Rows) (b : BlockId) where
       record { log = r.log; seq = r.seq; is = r.is ∙ sym (row_stays b f g r.log r.seq more within.1); some = r.some }
 
   sound_later : (n m : Net) (w v : IndexState) (p : Packet) → Later n m w v → Sound n w p → Sound m v p
+  sound_later n m w v (CheckpointPlanned e events horizon) t s = record {
+    active = t.past.active e s.active;
+    applied = λ l some most. let x = s.applied l some most in let y = t.past.applied e l in omega arith;
+    covers = λ segments laid. parts_stay b n.filed m.filed w v horizon (rows_in holds (after_event (slot_after events) (Written segments)).parts) t.more t.old t.new (s.covers segments laid);
+  }
   sound_later n m w v (CheckpointDone e horizon parts) t s =
       (t.past.active e s.0, (λ l some most. let x = s.1 l some most in let y = t.past.applied e l in omega arith), parts_stay b n.filed m.filed w v horizon (rows_in holds parts) t.more t.old t.new s.2)
   sound_later n m w v (CleanerReported e end) t s =

@@ -49,9 +49,11 @@ use Rattle.index_tie.specs.Growth.{with_segment, said_of}
 use Rattle.index_tie.specs.Slots.{DeltasTell}
 use Rattle.index_tie.specs.Takeovers.{of_log, IsEnd, Linked, IsItsText}
 
--- A checkpoint of an epoch, with its horizon and its parts; a Report of the cleaner, with the epoch that it has promised and the end of its log; a Check of a
+-- A checkpoint that an epoch's manager plans, with what happened to the slot's pages before and with its horizon; a checkpoint of an epoch, with its horizon and
+-- its parts; a Report of the cleaner, with the epoch that it has promised and the end of its log; a Check of a
 -- job, by the job's number, of a block at a place, below a horizon of this epoch; and the answers to it, a Dead with the epoch of who answered last.
 pub data Packet : Type 0 where
+  CheckpointPlanned : ℕ → List Event → List ℕ → Packet
   CheckpointDone : ℕ → List ℕ → List SegRef → Packet
   CleanerReported : ℕ → ℕ → Packet
   Checked : ℕ → BlockId → Place → ℕ → Packet
@@ -163,9 +165,14 @@ pub data Happens (part : ℕ) (holds : SegRef → Rows) : Net → Net → Type 0
   -- a slot answers a Check
   Answers : {n : Net} (e : ℕ) (s : SlotState) (number : ℕ) (b : BlockId) (place : Place) (d : ℕ) → n.slots e ≡ Some s → In (Checked number b place d) n.sent
       → Happens part holds n (record n { sent = answer_packets number b place.seg.name d e (slot.transition s (Check b place)).outs ++ n.sent })
-  -- a manager has written a checkpoint, begun at this moment
-  Checkpoints : {n : Net} (e : ℕ) (s : SlotState) (events : List Event) (segments : List SegRef) (horizon : List ℕ) → n.slots e ≡ Some s → (slot_after events).pages ≡ pages_of s.index → AllMayCome holds nothing_checkpointed events
-      → MayCome holds (slot_after events) (Written segments) → IsNext s horizon → Happens part holds n (with_packet n (CheckpointDone e horizon (after_event (slot_after events) (Written segments)).parts))
+  -- a manager plans a checkpoint, of the slot's pages and its horizon at this moment
+  Plans : {n : Net} (e : ℕ) (s : SlotState) (events : List Event) (horizon : List ℕ) → n.slots e ≡ Some s → (slot_after events).pages ≡ pages_of s.index → AllMayCome holds nothing_checkpointed events → IsNext s horizon
+      → Happens part holds n (with_packet n (CheckpointPlanned e events horizon))
+  -- from here on no page of the slot's index has changed
+  Cleans : {n : Net} (e : ℕ) (s : SlotState) → n.slots e ≡ Some s → Happens part holds n (with_slot n e (slot.cleaned s))
+  -- a manager has written what it had planned, into these segments
+  Checkpoints : {n : Net} (e : ℕ) (events : List Event) (horizon : List ℕ) (segments : List SegRef) → In (CheckpointPlanned e events horizon) n.sent → MayCome holds (slot_after events) (Written segments)
+      → Happens part holds n (with_packet n (CheckpointDone e horizon (after_event (slot_after events) (Written segments)).parts))
   -- the registry keeps a checkpoint of its epoch
   Keeps : {n : Net} (horizon : List ℕ) (parts : List SegRef) → In (CheckpointDone n.epoch horizon parts) n.sent → ((l : ℕ) → 0 < l → l ≤ 9 → of_log (n.horizon n.epoch) l ≤ of_log horizon l)
       → Happens part holds n (record n { horizon = λ e. if nat_lt e n.epoch then n.horizon e else horizon; parts = λ e. if nat_lt e n.epoch then n.parts e else parts })

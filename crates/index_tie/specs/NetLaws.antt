@@ -1,5 +1,5 @@
 -- The laws of every run of the small world.
-use Rattle.std.specs.Prelude.{◌≡◌, ℕ, ◌≤◌, true, Some}
+use Rattle.std.specs.Prelude.{◌≡◌, ℕ, ◌≤◌, true, List, Some, None}
 use Rattle.segment_format.specs.declared.segment.Segment.{Segment}
 use Rattle.xfs_base.specs.declared.block.BlockId.{BlockId}
 use Rattle.xfs_base.specs.declared.entry.Place.{Place}
@@ -13,6 +13,7 @@ use Rattle.log_protocol.specs.Tables.{In}
 use Rattle.index_tie.specs.Cleaning.{is_filed_name, has_block}
 use Rattle.index_tie.specs.Laws.{IsJoinOfApplied, IsNewest, IsOutdated}
 use Rattle.index_tie.specs.Net.{Net, Runs, opening}
+use Rattle.index_tie.specs.Net.Packet.{CheckpointDone}
 
 -- a moment of a run, and a block of the slot
 pub record Moment (part : ℕ) (holds : SegRef → Rows) (n : Net) (b : BlockId) : Type 0 where
@@ -35,6 +36,11 @@ abbrev pub ReigningIsOutdated : Type 0
 ReigningIsOutdated =
     (part : ℕ) (holds : SegRef → Rows) (n : Net) (b : BlockId) (e : ℕ) (s : SlotState) (place : Place) → Moment part holds n b → n.slots e ≡ Some s → ((d : ℕ) (t : SlotState) → n.slots d ≡ Some t → d ≤ e) → (entry_at s b).place ≡ Some place
     → In place.seg.name n.deleted → is_filed_name n.filed place.seg.name ≡ true → has_block b n.filed place.seg.name ≡ true → IsOutdated b n.filed (entry_at s b)
+
+-- A checkpoint is sent only at an epoch that has a manager.
+abbrev pub CheckpointsHaveManagers : Type 0
+CheckpointsHaveManagers =
+    (part : ℕ) (holds : SegRef → Rows) (n : Net) (b : BlockId) (e : ℕ) (horizon : List ℕ) (parts : List SegRef) → Moment part holds n b → In (CheckpointDone e horizon parts) n.sent → n.slots e ≡ None → ⊥
 
 -- A run that exists: a checkpoint of epoch 1 is kept, the slot moves, the cleaner promises and reports, a manager takes the slot over at epoch 2, a client
 -- files a version of the block, and the new manager is told of it.

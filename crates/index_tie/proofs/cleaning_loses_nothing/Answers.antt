@@ -1,4 +1,4 @@
-use Rattle.index_tie.proofs.Runs.{each_index_is_the_join, newest_is_never_deleted, reigning_is_outdated}
+use Rattle.index_tie.proofs.Runs.{each_index_is_the_join, newest_is_never_deleted, reigning_is_outdated, checkpoints_have_managers}
 use Rattle.index_tie.proofs.cleaning_loses_nothing.Goals as goal
 
 pub returns-clause-joins : goal.returns-clause-joins
@@ -9,3 +9,6 @@ returns-clause-kept c = newest_is_never_deleted
 
 pub returns-clause-outdated : goal.returns-clause-outdated
 returns-clause-outdated c = reigning_is_outdated
+
+pub returns-clause-managed : goal.returns-clause-managed
+returns-clause-managed c = checkpoints_have_managers

@@ -1,0 +1,5 @@
+pub mod Sight
+pub mod Pages
+pub mod ManagerEvents
+pub mod RegistryEvents
+pub mod OwnerEvents
