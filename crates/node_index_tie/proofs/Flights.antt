@@ -68,8 +68,13 @@ module _ (s : LogState) where
 
   stays : (t : LogState) → t.log ≡ s.log → t.dirty ≡ s.dirty → t.flight ≡ s.flight → (outs : List Out) → AllByRecursion IsSend outs
       → Went (record { state = t; outs = outs })
-  stays t same_log dirty flight outs sends_ = inl (record { same_log = same_log; dirty = dirty; flight = λ f is. record
-      { old = f; was = sym flight ∙ is; items = refl; of = refl }; sends = sends_ })
+  stays t same_log dirty flight outs sends_ = inl (record {
+    same_log = same_log;
+    dirty = dirty;
+    flight = λ f is. record
+        { old = f; was = sym flight ∙ is; items = refl; of = refl };
+    sends = sends_;
+  })
 
   some_is : {X : Type 0} (x y : X) → Some x ≡ Some y → x ≡ y
   some_is x y same = cc
@@ -187,5 +192,10 @@ module _ (s : LogState) where
         items_are = λ f is. ap (λ (x : FlightState). x.segment.items) (sym (some_is _ f is));
         of = λ f is. ap (λ (x : FlightState). x.segment.name.log) (sym (some_is _ f is));
       })
-      (λ _. record { same_log = refl; dirty = refl; items_are = λ f is. absurd (some_none f (sym is ∙ none)); of = λ f is. absurd
-      (some_none f (sym is ∙ none)) })
+      (λ _. record {
+        same_log = refl;
+        dirty = refl;
+        items_are = λ f is. absurd (some_none f (sym is ∙ none));
+        of = λ f is. absurd
+            (some_none f (sym is ∙ none));
+      })

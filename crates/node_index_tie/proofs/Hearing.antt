@@ -84,8 +84,12 @@ module _ (part : ℕ) (texts : Texts) (questions : Questions) (exists : part < 8
     Table_of s n agrees = TableAgrees part texts questions exists named (desk_of s agrees.given)
 
     table_of : (n : Net) (s : Serving) (agrees : ServingAgrees part texts n s) → AreTexts texts n.filed → Table_of s n agrees n s.slots
-    table_of n s agrees filed = record { eight = agrees.eight; here = agrees.here; busy = λ w there of none. (agrees.writer.work w there of).is.begun none;
-        filed = filed }
+    table_of n s agrees filed = record {
+      eight = agrees.eight;
+      here = agrees.here;
+      busy = λ w there of none. (agrees.writer.work w there of).is.begun none;
+      filed = filed;
+    }
 
     -- the table has changed alone
     by_table : (n : Net) (s : Serving) (agrees : ServingAgrees part texts n s) (d : table.Done)
@@ -94,8 +98,14 @@ module _ (part : ℕ) (texts : Texts) (questions : Questions) (exists : part < 8
     by_table n s agrees d h =
         sees_as part texts questions named n (phase_at s.slots part) (phase_at d.state part) d.outs (λ m. Table_of s n agrees m d.state)
         (λ m. ServingAgrees part texts m (with_slots s d).state)
-        (λ m g t. record { eight = t.eight; given = agrees.given; here = t.here; writer = writer_on part texts n m g (desk_of s agrees.given) agrees.writer;
-        closed = agrees.closed; done = done_seen part texts n m g s.checkpoint agrees.done }) h
+        (λ m g t. record {
+          eight = t.eight;
+          given = agrees.given;
+          here = t.here;
+          writer = writer_on part texts n m g (desk_of s agrees.given) agrees.writer;
+          closed = agrees.closed;
+          done = done_seen part texts n m g s.checkpoint agrees.done;
+        }) h
 
     -- or the table, and the questions of the node
     by_asker : (n : Net) (s : Serving) (agrees : ServingAgrees part texts n s) (d : Asks)
@@ -104,8 +114,14 @@ module _ (part : ℕ) (texts : Texts) (questions : Questions) (exists : part < 8
     by_asker n s agrees d h =
         sees_as part texts questions named n (phase_at s.slots part) (phase_at d.state.table part) d.outs (λ m. Table_of s n agrees m d.state.table)
         (λ m. ServingAgrees part texts m (with_asker s d).state)
-        (λ m g t. record { eight = t.eight; given = agrees.given; here = t.here; writer = writer_on part texts n m g (desk_of s agrees.given) agrees.writer;
-        closed = agrees.closed; done = done_seen part texts n m g s.checkpoint agrees.done }) h
+        (λ m g t. record {
+          eight = t.eight;
+          given = agrees.given;
+          here = t.here;
+          writer = writer_on part texts n m g (desk_of s agrees.given) agrees.writer;
+          closed = agrees.closed;
+          done = done_seen part texts n m g s.checkpoint agrees.done;
+        }) h
 
     -- ---- clients and the cleaner
 
@@ -259,7 +275,13 @@ module _ (part : ℕ) (texts : Texts) (questions : Questions) (exists : part < 8
             (λ news there of ours above. gets news there of ours (omega arith)) names in
             sees_quiet part texts questions named n (phase_at s.slots part) (phase_at d.state.table part) d.outs
             (λ m. ServingAgrees part texts m (with_asker s d).state) h.held h.rises h.does
-            (record { eight = h.agrees.eight; given = agrees.given; here = h.agrees.here; writer = agrees.writer; closed = agrees.closed; done = agrees.done
+            (record {
+              eight = h.agrees.eight;
+              given = agrees.given;
+              here = h.agrees.here;
+              writer = agrees.writer;
+              closed = agrees.closed;
+              done = agrees.done;
             })
 
     -- what is owed still is once groups were told

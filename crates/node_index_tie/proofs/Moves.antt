@@ -156,8 +156,16 @@ module _ (part : ℕ) (texts : Texts) (asked : Questions) where
     -- nothing happens there
     pub sees_quiet : (n : Net) (p q : SlotPhase) (outs : List Effect) (At : Net → Type 0) → ((e : ℕ) → HeldAt q e → HeldAt p e ⊎ named e)
         → epoch_of p ≤ epoch_of q → AllDone n outs → At n → Sees named n p q outs At
-    sees_quiet n p q outs At held rises done at = record { next = n; runs = Begun; grows = grows_itself n; slots = λ e other _. refl; held = held;
-        rises = rises; does = done; agrees = at }
+    sees_quiet n p q outs At held rises done at = record {
+      next = n;
+      runs = Begun;
+      grows = grows_itself n;
+      slots = λ e other _. refl;
+      held = held;
+      rises = rises;
+      does = done;
+      agrees = at;
+    }
 
     pub sees_same : (n : Net) (p : SlotPhase) (outs : List Effect) (At : Net → Type 0) → AllDone n outs → At n → Sees named n p p outs At
     sees_same n p outs At done at = sees_quiet n p p outs At (λ e h. inl h) (omega arith) done at
@@ -209,8 +217,16 @@ module _ (part : ℕ) (texts : Texts) (asked : Questions) where
 
     pub sees_as : (n : Net) (p q : SlotPhase) (outs : List Effect) (At Bt : Net → Type 0) → ((m : Net) → Grows n m → At m → Bt m) → Sees named n p q outs At
         → Sees named n p q outs Bt
-    sees_as n p q outs At Bt f h = record { next = h.next; runs = h.runs; grows = h.grows; slots = h.slots; held = h.held; rises = h.rises; does = h.does;
-        agrees = f h.next h.grows h.agrees }
+    sees_as n p q outs At Bt f h = record {
+      next = h.next;
+      runs = h.runs;
+      grows = h.grows;
+      slots = h.slots;
+      held = h.held;
+      rises = h.rises;
+      does = h.does;
+      agrees = f h.next h.grows h.agrees;
+    }
 
     -- where nothing is named, the more so
     pub sees_named : (n : Net) (p q : SlotPhase) (outs : List Effect) (At : Net → Type 0) → Sees Nothing n p q outs At → Sees named n p q outs At

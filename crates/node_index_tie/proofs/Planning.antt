@@ -180,8 +180,13 @@ module _ (part : ℕ) (texts : Texts) (questions : Questions) (exists : part < 8
       epoch = a.slot.epoch
 
       abbrev asked_work : WorkState
-      asked_work = record { slot = part; epoch = epoch; left = (plan_of (pages_of a.slot.index) a.parts).pages;
-          parts = (plan_of (pages_of a.slot.index) a.parts).parts; horizon = horizon_of a.slot }
+      asked_work = record {
+        slot = part;
+        epoch = epoch;
+        left = (plan_of (pages_of a.slot.index) a.parts).pages;
+        parts = (plan_of (pages_of a.slot.index) a.parts).parts;
+        horizon = horizon_of a.slot;
+      }
 
       cleaned_active : phase_at cleaned_here.slots part ≡ phase.Active (record a { slot = slot.cleaned a.slot })
       unfolding cleaned_phase
@@ -205,8 +210,13 @@ module _ (part : ℕ) (texts : Texts) (questions : Questions) (exists : part < 8
             eight = cleaned_eight;
             given = agrees.given;
             here = subst (PhaseAgrees part texts m (desk_of s agrees.given)) (sym cleaned_active)
-                (record { there = put_here n.slots epoch (Some t); nine = k.nine; short = k.short; pages = Ended (spent s.writer no_work no_asked busy)
-                no_work });
+                (record {
+                  there = put_here n.slots epoch (Some t);
+                  nine = k.nine;
+                  short = k.short;
+                  pages = Ended (spent s.writer no_work no_asked busy)
+                      no_work;
+                });
             writer = writer_on part texts n m g (desk_of s agrees.given) agrees.writer;
             closed = agrees.closed;
             done = done_seen part texts n m g s.checkpoint agrees.done;
@@ -297,8 +307,14 @@ module _ (part : ℕ) (texts : Texts) (questions : Questions) (exists : part < 8
         let at : phase_at cleaned_here.slots part ≡ now = cleaned_is p is ∙ same ∙ sym is in
         sees_quiet part texts questions named n now (phase_at cleaned_here.slots part) [] (λ m. ServingAgrees part texts m cleaned_here)
         (λ e h. inl (subst (λ q. HeldAt q e) at h)) (let e = ap epoch_of at in omega arith) tt
-        (record { eight = cleaned_eight; given = agrees.given; here = subst (PhaseAgrees part texts n (desk_of s agrees.given)) (sym at) agrees.here;
-        writer = agrees.writer; closed = agrees.closed; done = agrees.done })
+        (record {
+          eight = cleaned_eight;
+          given = agrees.given;
+          here = subst (PhaseAgrees part texts n (desk_of s agrees.given)) (sym at) agrees.here;
+          writer = agrees.writer;
+          closed = agrees.closed;
+          done = agrees.done;
+        })
 
     begins_here : (p : SlotPhase) → now ≡ p → Serves part texts questions exists named n s (node.writes_slot cleaned_here (begin_in part p))
     unfolding cleaned_phase
@@ -325,8 +341,14 @@ module _ (part : ℕ) (texts : Texts) (questions : Questions) (exists : part < 8
       stays_there =
           sees_quiet part texts questions named n now (phase_at cleaned_there.slots part) [] (λ m. ServingAgrees part texts m cleaned_there)
           (λ e h. inl (subst (λ q. HeldAt q e) same_there h)) (let e = ap epoch_of same_there in omega arith) tt
-          (record { eight = eight_there; given = agrees.given; here = subst (PhaseAgrees part texts n (desk_of s agrees.given)) (sym same_there) agrees.here;
-          writer = agrees.writer; closed = agrees.closed; done = agrees.done })
+          (record {
+            eight = eight_there;
+            given = agrees.given;
+            here = subst (PhaseAgrees part texts n (desk_of s agrees.given)) (sym same_there) agrees.here;
+            writer = agrees.writer;
+            closed = agrees.closed;
+            done = agrees.done;
+          })
 
       module _ (w : WorkState) (of : w.slot ≡ k) (idle : is_idle s.writer ≡ true) where
         abbrev virtual_there : Serving
@@ -340,8 +362,13 @@ module _ (part : ℕ) (texts : Texts) (questions : Questions) (exists : part < 8
         pages_there e pages parts (Ended number none) = absurd (not_spent s.writer no_work no_asked idle number)
 
         phase_there : (p : SlotPhase) → PhaseAgrees part texts n (desk_of s agrees.given) p → PhaseAgrees part texts n (desk_of virtual_there []) p
-        phase_there (phase.Active a) h = record { there = h.there; nine = h.nine; short = h.short; pages = pages_there a.slot.epoch (pages_of a.slot.index)
-            a.parts h.pages }
+        phase_there (phase.Active a) h = record {
+          there = h.there;
+          nine = h.nine;
+          short = h.short;
+          pages = pages_there a.slot.epoch (pages_of a.slot.index)
+              a.parts h.pages;
+        }
         phase_there (phase.Away e) h = tt
         phase_there (phase.Taking t) h = h
         phase_there (phase.Broken e seg) h = tt
@@ -369,8 +396,13 @@ module _ (part : ℕ) (texts : Texts) (questions : Questions) (exists : part < 8
       begins_there (phase.Active a) =
           by_test (λ (r : Stepped WriterState Out). Serves part texts questions exists named n s (node.said_by cleaned_there r)) (is_idle s.writer)
           (go_on (record s.writer { number = s.writer.number + 1 })
-          (record { slot = k; epoch = a.slot.epoch; left = (plan_of (pages_of a.slot.index) a.parts).pages;
-          parts = (plan_of (pages_of a.slot.index) a.parts).parts; horizon = horizon_of a.slot })) (still s.writer)
+          (record {
+            slot = k;
+            epoch = a.slot.epoch;
+            left = (plan_of (pages_of a.slot.index) a.parts).pages;
+            parts = (plan_of (pages_of a.slot.index) a.parts).parts;
+            horizon = horizon_of a.slot;
+          })) (still s.writer)
           (λ idle. begins_other (record { slot = k; epoch = a.slot.epoch; left = (plan_of (pages_of a.slot.index) a.parts).pages; parts = (plan_of (pages_of a.slot.index) a.parts).parts; horizon = horizon_of a.slot }) refl idle)
           (λ _. refused)
         where

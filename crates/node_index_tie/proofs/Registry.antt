@@ -155,8 +155,11 @@ module _ (part : ℕ) (below : part < 8) (b : BoardState) (eight : length b.chec
         by_test (λ (made : Made). Went part b made.state what) (b.version == 4294967295) (still b)
         (record { state = checkpointed b m.slot m.parts m.horizon; outs = Kept m.epoch ∷ [] })
         (λ _. stays what b refl)
-        (λ _. record { eight = length-set b.checkpoints m.slot (record { parts = m.parts; horizon = m.horizon }) ∙ eight; goes = by_slot (m.slot == part)
-        refl })
+        (λ _. record {
+          eight = length-set b.checkpoints m.slot (record { parts = m.parts; horizon = m.horizon }) ∙ eight;
+          goes = by_slot (m.slot == part)
+              refl;
+        })
       where
         by_slot : (t : Bool) → (m.slot == part) ≡ t
             → Kept_so part b (checkpointed b m.slot m.parts m.horizon) ⊎ KeptOne part b (checkpointed b m.slot m.parts m.horizon) what
@@ -349,8 +352,11 @@ module _ (part : ℕ) (below : part < 8) (texts : Texts) (n : Net) (r : Registry
         eight = eight;
         later_horizon = λ e from. now e from ∙ sym at;
         later_parts = λ e from. now_parts e from ∙ sym at_parts;
-        is = subst IsHorizon (sym at) (record { from_one = λ l some most. let low = agrees.is.from_one l some most in let up = rises l some most in omega
-            arith; short = known.short });
+        is = subst IsHorizon (sym at) (record {
+          from_one = λ l some most. let low = agrees.is.from_one l some most in let up = rises l some most in omega
+              arith;
+          short = known.short;
+        });
       } in
       record {
         next = m;

@@ -78,8 +78,14 @@ module _ (part : ℕ) (texts : Texts) (questions : Questions) (exists : part < 8
       by_item None is =
           let idle = agrees.closed is in
           next_serves n (node.waits s number) (λ none. absurd (some_none number none)) idle.0 idle.1
-          (record { eight = agrees.eight; given = agrees.given; here = agrees.here; writer = agrees.writer; closed = λ none. absurd (some_none number none);
-          done = tt })
+          (record {
+            eight = agrees.eight;
+            given = agrees.given;
+            here = agrees.here;
+            writer = agrees.writer;
+            closed = λ none. absurd (some_none number none);
+            done = tt;
+          })
       by_item (Some x) is = serves_same part texts questions exists named n s (Answers number answer.Busy ∷ []) agrees (tt, tt)
 
   -- ---- the registry answers a checkpoint

@@ -56,8 +56,15 @@ module _ (part : ℕ) (texts : Texts) (questions : Questions) (exists : part < 8
           is = is;
           slot = refl;
           epoch = refl;
-          work = λ events of k. record { planned = k.planned; begun = k.begun; may = k.may; segments = k.segments; parts = k.parts; rows = k.rows;
-              flies = λ f there. let b = g.flight f there in b.items ∙ k.flies b.old b.was };
+          work = λ events of k. record {
+            planned = k.planned;
+            begun = k.begun;
+            may = k.may;
+            segments = k.segments;
+            parts = k.parts;
+            rows = k.rows;
+            flies = λ f there. let b = g.flight f there in b.items ∙ k.flies b.old b.was;
+          };
         };
         back = λ w is. record { before = w; was = is; slot = refl; epoch = refl };
         none = λ is. is;
@@ -134,8 +141,13 @@ module _ (part : ℕ) (texts : Texts) (questions : Questions) (exists : part < 8
       turn = record {
         forth = λ x is. subst (Forth part texts n desk later) (some_is w x (sym there ∙ is))
             (record { on = next_work; is = refl; slot = refl; epoch = refl; work = laid });
-        back = λ x is. let same = some_is next_work x is in record { before = w; was = there; slot = ap (λ (y : WorkState). y.slot) same; epoch = ap
-            (λ (y : WorkState). y.epoch) same };
+        back = λ x is. let same = some_is next_work x is in record {
+          before = w;
+          was = there;
+          slot = ap (λ (y : WorkState). y.slot) same;
+          epoch = ap
+              (λ (y : WorkState). y.epoch) same;
+        };
         none = λ none. absurd (some_none w (sym there ∙ none));
         number = refl;
       }

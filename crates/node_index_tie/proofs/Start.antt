@@ -66,10 +66,9 @@ module _ (part : ℕ) (texts : Texts) (any : ℕ → ℕ → Segment) where
   pub first_agrees : (number : ℕ) (setup : Setup) (works : List Work) → part < 8
       → ManagerAgrees part texts (opening any) (first_manager number setup works).phase
   first_agrees number setup works exists =
-      let f = λ (k : ℕ). first_phase number (start_entries setup.managers) k in
-      (
+      let f = λ (k : ℕ). first_phase number (start_entries setup.managers) k in (
         begun_agreed part texts [] exists number (opening any) (first_life number works) (at_start (groups_started setup.servers setup.groups))
-        (first_table number setup.managers) (groups_started setup.servers setup.groups) refl
+            (first_table number setup.managers) (groups_started setup.servers setup.groups) refl
             (subst (PhaseAgrees part texts (opening any) _) (sym (first_at f part exists))
             (by_test (PhaseAgrees part texts (opening any) _) ((entry_at (start_entries setup.managers) (slot_of part)).manager == number) first_active
             (phase.Away 1) (λ _. first_is _ refl) (λ _. tt))),

@@ -53,8 +53,11 @@ module _ (part : ℕ) (texts : Texts) (n m : Net) (held : SlotPhase) (t : Passes
         end_is some low =
             let e = k.filed some low in
             let most = e.filed in
-            record { filed = let up = t.filed.head log in omega arith; named = e.named ∙ sym
-            (ap (λ (s : Segment). s.name.pass) (t.filed.segment log end.seq (omega arith) (omega arith))) }
+            record {
+              filed = let up = t.filed.head log in omega arith;
+              named = e.named ∙ sym
+                  (ap (λ (s : Segment). s.name.pass) (t.filed.segment log end.seq (omega arith) (omega arith)));
+            }
 
     report_stays : (from : NodeId) (end : End) → ReportKnown part n epoch from end → ReportKnown part m epoch from end
     report_stays (Client c) end k = end_stays c end k
@@ -93,8 +96,15 @@ module _ (part : ℕ) (texts : Texts) (n m : Net) (held : SlotPhase) (t : Passes
       }
 
   work_stays : (desk : Desk) (events : List Event) (w : WorkState) → IsWork part texts n desk events w → IsWork part texts m desk events w
-  work_stays desk events w k = record { planned = t.sent _ k.planned; begun = λ none. k.begun (t.stay w.epoch none); may = k.may; segments = k.segments;
-      parts = k.parts; rows = k.rows; flies = k.flies }
+  work_stays desk events w k = record {
+    planned = t.sent _ k.planned;
+    begun = λ none. k.begun (t.stay w.epoch none);
+    may = k.may;
+    segments = k.segments;
+    parts = k.parts;
+    rows = k.rows;
+    flies = k.flies;
+  }
 
   pages_stay : (desk : Desk) (epoch : ℕ) (pages : PagesState) (parts : List SegRef) → Paged part texts n desk epoch pages parts
       → Paged part texts m desk epoch pages parts

@@ -149,8 +149,12 @@ module _ (part : ℕ) (texts : Texts) (asked : Questions) (exists : part < 8) (n
           let at : phase_at (slice_set t k q) part ≡ phase_at t part = set_there t k part q (λ e. other (sym e)) in
           subst (λ x. Sees part texts asked named n (phase_at t part) x (event (phase_at t k)).outs (λ m. TableAgrees m (slice_set t k q))) (sym at)
           (sees_same part texts asked named n (phase_at t part) (event (phase_at t k)).outs (λ m. TableAgrees m (slice_set t k q)) (there other)
-          (record { eight = length-set t k q ∙ agrees.eight; here = subst (PhaseAgrees part texts n desk) (sym at) agrees.here; busy = agrees.busy;
-          filed = agrees.filed }))
+          (record {
+            eight = length-set t k q ∙ agrees.eight;
+            here = subst (PhaseAgrees part texts n desk) (sym at) agrees.here;
+            busy = agrees.busy;
+            filed = agrees.filed;
+          }))
 
   -- the same for an event that may ask
   abbrev pub AskTable : Net → Table → Asks → Type 0
@@ -306,8 +310,12 @@ module _ (part : ℕ) (texts : Texts) (asked : Questions) (exists : part < 8) (n
           let r = slot_hears_of part texts asked named desk j n h news (asker (phase_at a.table part) a.questions) is_j same agrees.here (known same)
           (named_ same) in
           record {
-            agrees = record { eight = length-set a.table news.slot q ∙ agrees.eight; here = subst (PhaseAgrees part texts n desk) (sym at) r.agrees;
-                busy = agrees.busy; filed = agrees.filed };
+            agrees = record {
+              eight = length-set a.table news.slot q ∙ agrees.eight;
+              here = subst (PhaseAgrees part texts n desk) (sym at) r.agrees;
+              busy = agrees.busy;
+              filed = agrees.filed;
+            };
             held = subst (λ x. (e : ℕ) → HeldAt x e → HeldAt (phase_at a.table part) e ⊎ named e) (sym at) r.held;
             rises = subst (λ x. epoch_of (phase_at a.table part) ≤ epoch_of x) (sym at) r.rises;
             does = hears_done part texts asked n h news (asker (phase_at a.table part) a.questions);
@@ -318,8 +326,12 @@ module _ (part : ℕ) (texts : Texts) (asked : Questions) (exists : part < 8) (n
           let q = (heard_at h a news news.slot).state.phase in
           let at : phase_at (slice_set a.table news.slot q) part ≡ phase_at a.table part = set_there a.table news.slot part q (λ e. other (sym e)) in
           record {
-            agrees = record { eight = length-set a.table news.slot q ∙ agrees.eight; here = subst (PhaseAgrees part texts n desk) (sym at) agrees.here;
-                busy = agrees.busy; filed = agrees.filed };
+            agrees = record {
+              eight = length-set a.table news.slot q ∙ agrees.eight;
+              here = subst (PhaseAgrees part texts n desk) (sym at) agrees.here;
+              busy = agrees.busy;
+              filed = agrees.filed;
+            };
             held = subst (λ x. (e : ℕ) → HeldAt x e → HeldAt (phase_at a.table part) e ⊎ named e) (sym at) (λ e at_e. inl at_e);
             rises = subst (λ x. epoch_of (phase_at a.table part) ≤ epoch_of x) (sym at) (omega arith);
             does = hears_done part texts asked n h news (asker (phase_at a.table news.slot) a.questions);

@@ -164,10 +164,20 @@ module _ (part : ℕ) (texts : Texts) (questions : Questions) (exists : part < 8
       unfolding named_phase
       named_on m g same ours (phase.Active a) k =
           by_test (PhaseAgrees part texts m idle_desk) (a.slot.epoch == w.epoch) (phase.Active (record a { parts = w.parts })) (phase.Active a)
-          (λ is. record { there = same a.slot.epoch ∙ k.there; nine = k.nine; short = k.short; pages = paged_done m a.slot.epoch (pages_of a.slot.index)
-          a.parts ours (sym (eqb-true a.slot.epoch w.epoch is)) k.pages })
-          (λ no. record { there = same a.slot.epoch ∙ k.there; nine = k.nine; short = k.short; pages = paged_still m a.slot.epoch (pages_of a.slot.index)
-          a.parts (λ _ at. apart a.slot.epoch w.epoch no (sym at)) k.pages })
+          (λ is. record {
+            there = same a.slot.epoch ∙ k.there;
+            nine = k.nine;
+            short = k.short;
+            pages = paged_done m a.slot.epoch (pages_of a.slot.index)
+                a.parts ours (sym (eqb-true a.slot.epoch w.epoch is)) k.pages;
+          })
+          (λ no. record {
+            there = same a.slot.epoch ∙ k.there;
+            nine = k.nine;
+            short = k.short;
+            pages = paged_still m a.slot.epoch (pages_of a.slot.index)
+                a.parts (λ _ at. apart a.slot.epoch w.epoch no (sym at)) k.pages;
+          })
         where
           apart : (x y : ℕ) → (x == y) ≡ false → x ≡ y → ⊥
           apart x y h = grind (arith, nat_tests)
@@ -248,8 +258,13 @@ module _ (part : ℕ) (texts : Texts) (questions : Questions) (exists : part < 8
           })
         where
           still_here : (p : SlotPhase) → PhaseAgrees part texts n desk p → PhaseAgrees part texts n idle_desk p
-          still_here (phase.Active a) k = record { there = k.there; nine = k.nine; short = k.short; pages = paged_still n a.slot.epoch
-              (pages_of a.slot.index) a.parts (λ same _. other same) k.pages }
+          still_here (phase.Active a) k = record {
+            there = k.there;
+            nine = k.nine;
+            short = k.short;
+            pages = paged_still n a.slot.epoch
+                (pages_of a.slot.index) a.parts (λ same _. other same) k.pages;
+          }
           still_here (phase.Taking t) k = k
           still_here (phase.Away x) k = tt
           still_here (phase.Broken x seg) k = tt
@@ -301,8 +316,13 @@ module _ (part : ℕ) (texts : Texts) (questions : Questions) (exists : part < 8
           flies = λ f is. wrote.items_are f is ∙ ap (λ x. items_of x (take 24 w.left)) of;
         };
       });
-      back = λ x is. let same = some_is next_work x is in record { before = w; was = there; slot = ap (λ (y : WorkState). y.slot) same; epoch = ap
-          (λ (y : WorkState). y.epoch) same };
+      back = λ x is. let same = some_is next_work x is in record {
+        before = w;
+        was = there;
+        slot = ap (λ (y : WorkState). y.slot) same;
+        epoch = ap
+            (λ (y : WorkState). y.epoch) same;
+      };
       none = λ no. absurd (some_none w (sym there ∙ no));
       number = refl;
     }
