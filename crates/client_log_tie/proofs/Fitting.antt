@@ -29,9 +29,10 @@ up_to : (n m : ℕ) → nat_le n m ≡ true → n ≤ m
 up_to n m h = grind (arith, nat_tests)
 
 block_is_fit : (block : BlockId) → block_fits block ≡ true → FitsBlock block
-block_is_fit block h =
-    (below block.ino.0 (2 ^ 32) (and_first (nat_lt block.ino.0 (2 ^ 32)) (nat_lt block.blk (2 ^ 32)) h),
-    below block.blk (2 ^ 32) (and_second (nat_lt block.ino.0 (2 ^ 32)) (nat_lt block.blk (2 ^ 32)) h))
+block_is_fit block h = (
+  below block.ino.0 (2 ^ 32) (and_first (nat_lt block.ino.0 (2 ^ 32)) (nat_lt block.blk (2 ^ 32)) h),
+  below block.blk (2 ^ 32) (and_second (nat_lt block.ino.0 (2 ^ 32)) (nat_lt block.blk (2 ^ 32)) h),
+)
 
 length_is_fit : (n : ℕ) → is_length second_version n ≡ true → IsLength second_version n
 length_is_fit n h = (up_to 1 n (and_first (nat_le 1 n) (nat_le n 8192) h), up_to n 8192 (and_second (nat_le 1 n) (nat_le n 8192) h))

@@ -1,16 +1,16 @@
 mod Starts
 pub mod Frames
-mod Logs
-mod Questions
+pub mod Logs
+pub mod Questions
 mod ServingTokens
 mod ServingLog
 mod Fitting
 mod ServingCalls
 mod ServingPackets
 mod OpeningTurns
-mod OpeningLog
+pub mod OpeningLog
 mod ScanSays
 mod ScanSteps
-mod OpeningEvents
+pub mod OpeningEvents
 mod ClientPhases
-mod Written
+pub mod Written

@@ -119,7 +119,10 @@ impl Serving {
         self.note_settled(alloc, rows.as_slice())?;
         self.keep_clean(alloc, rows.as_slice())?;
         let seq = end.seq;
-        drop(self.feed.take(alloc, delta_feed::In::Settled { seq, rows })?);
+        drop(
+            self.feed
+                .take(alloc, delta_feed::In::Settled { seq, rows })?,
+        );
         Ok(())
     }
 

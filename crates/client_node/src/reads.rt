@@ -84,12 +84,7 @@ impl Serving {
     }
 
     // The servers are asked, and the call reads so.
-    fn ask_reading(
-        &mut self,
-        alloc: Global,
-        effects: &mut Effects,
-        reading: Reading,
-    ) -> Mem<()>
+    fn ask_reading(&mut self, alloc: Global, effects: &mut Effects, reading: Reading) -> Mem<()>
         ensures state { OnOk result (self.new ≡ with_reading self.old (Some reading)) }
         ensures effects { OnOk result (effects.new ≡ effects.old ++ fetches reading) }
     {

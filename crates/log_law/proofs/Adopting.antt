@@ -18,10 +18,9 @@ use Rattle.log_law.specs.Net.Owner.{Writing}
 use Rattle.log_law.specs.Events.{Runs}
 use Rattle.log_law.specs.Restarts.{is_serving, last_flight}
 use Rattle.log_law.specs.Laws.{IsNoFurther, IsAttemptOf, IsAdopted, AReopeningAdopts}
-use Rattle.log_law.proofs.Below.{Below}
+use Rattle.log_law.specs.Below.{Below}
 use Rattle.log_law.proofs.Views.{OwnerShown, View}
-use Rattle.log_law.proofs.Followed.{Along, along}
-use Rattle.log_law.proofs.Always.{begins_seen}
+use Rattle.log_law.proofs.Followed.{Along, along_moment}
 
 module _ (g : Setting) (w : State) (book : ℕ → Segment) (fixed : Fixed g w) (paged : Book g w book) (lowest top : ℕ) (opening_at : w.opening_seq ≡ top + 1) where
   -- a segment of the chain, on the path
@@ -74,7 +73,7 @@ module _ (k : Below) (g : Setting) (none : g.doubts ≡ false) (first : Net) (se
           clash p q a b c = omega arith
       by (inr is) = is
 
-  adopted : (t : Segment) → In t chain → IsAdopted g run n t
+  pub adopted : (t : Segment) → In t chain → IsAdopted g run n t
   adopted t among = by (nat_lt h.w.head (h.w.seq_of p.number)) refl
     where
       p : OnPath g h.w h.book h.fixed h.paged as_it_writes.read.lowest s.end.seq as_it_writes.read.opening t
@@ -120,4 +119,4 @@ module _ (k : Below) (g : Setting) (none : g.doubts ≡ false) (first : Net) (se
           more x y e = grind (arith, nat_tests)
 
 pub a_reopening_adopts : Below → AReopeningAdopts
-a_reopening_adopts k g n none m sure chain s e t among = adopted k g none (opening g m.map) refl n m.run (along k g none (opening g m.map) refl (begins_seen k g m.map m.whole) (λ serving name is above. absurd is) n m.run sure) chain s e t among
+a_reopening_adopts k g n none m sure chain s e t among = adopted k g none (opening g m.map) refl n m.run (along_moment k g none n m sure) chain s e t among

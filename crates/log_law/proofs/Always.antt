@@ -17,14 +17,15 @@ use Rattle.log_tie.specs.Scans.{WholeMap}
 use Rattle.log_law.specs.Net.{Net, no_end, opening, after_writing, after_flight}
 use Rattle.log_law.specs.Net.Owner.{Writing}
 use Rattle.log_law.specs.Events.{Happens, Runs}
-use Rattle.log_law.specs.Events.Happens.{Acts, Writes, Opens, Crashes, Restarts, Serves, Bars, Lists, Hears, Raises, Publishes, Welcomes, Drops}
+use Rattle.log_law.specs.Events.Happens.{Acts, Writes, Opens, Crashes, Restarts, Renews, Serves, Bars, Lists, Hears, Raises, Publishes, Welcomes, Drops}
 use Rattle.log_law.specs.Events.Runs.{Begun, On}
-use Rattle.log_law.proofs.Below.{Below}
+use Rattle.log_law.specs.Below.{Below}
 use Rattle.log_law.proofs.Views.{View}
 use Rattle.log_law.proofs.Logs.{ran_first}
 use Rattle.log_law.proofs.ServerTurns.{serves_view, bars_view, lists_view}
 use Rattle.log_law.proofs.OtherTurns.{hears_view, raises_view, publishes_view, welcomes_view, drops_view}
 use Rattle.log_law.proofs.OwnerTurns.{serving_view, writing_view, crash_view, restart_view}
+use Rattle.log_law.proofs.Renewing.{renew_view}
 use Rattle.log_law.proofs.ScanTurns.{opens_view}
 
 none_one : (n : ℕ) → n ≡ 0 → n ≡ 1 → ⊥
@@ -87,6 +88,7 @@ keeps k g n o h (Writes chain s i is came texts) sure = writing_view k g n h cha
 keeps k g n o h (Opens s i is came can) sure = opens_view k g n h s i is came can
 keeps k g n o h Crashes sure = crash_view k g n h
 keeps k g n o h (Restarts is) sure = restart_view k g n h is
+keeps k g n o h (Renews m high doubts is came) sure = renew_view k g n h m doubts is came
 keeps k g n o h (Serves v deed some came) sure = serves_view k g n h v deed some came
 keeps k g n o h (Bars v log pass) sure = bars_view k g n h v log pass
 keeps k g n o h (Lists v) sure = lists_view k g n h v

@@ -16,7 +16,7 @@ use Rattle.log_tie.specs.Scans.{WholeMap}
 use Rattle.log_tie.specs.Shelves.Deed.{Stores, Fetches, Fences, Deletes, Fills, Loses}
 use Rattle.log_law.specs.Net.{Net, Told, chain_in, after_flight, after_writing, after_told, after_scan, opening}
 use Rattle.log_law.specs.Events.{StartsWith, CanStart, CameToScan, IsFilling, Happens, Runs}
-use Rattle.log_law.specs.Events.Happens.{Acts, Writes, Opens, Crashes, Restarts, Serves, Bars, Lists, Hears, Raises, Publishes, Welcomes, Drops}
+use Rattle.log_law.specs.Events.Happens.{Acts, Writes, Opens, Crashes, Restarts, Renews, Serves, Bars, Lists, Hears, Raises, Publishes, Welcomes, Drops}
 use Rattle.log_law.specs.Events.Runs.{Begun, On}
 use Rattle.log_law.specs.Laws.{Moment}
 
@@ -95,6 +95,7 @@ module _ (g : Setting) where
   happens_so n o (Opens s i is came can) = subst (Happens any n) (scan_so n s (scan.transition s i)) (Opens s i is (came_so n i came) (start_so n.inc (scan.transition s i) can))
   happens_so n o Crashes = Crashes
   happens_so n o (Restarts is) = Restarts is
+  happens_so n o (Renews m high doubts is came) = Renews m high refl is came
   happens_so n o (Serves v (Stores f generation) some came) = Serves v (Stores f generation) some came
   happens_so n o (Serves v (Fetches name) some came) = Serves v (Fetches name) some came
   happens_so n o (Serves v (Fences inc) some came) = Serves v (Fences inc) some came

@@ -28,9 +28,9 @@ use Rattle.log_tie.proofs.Names.{one_number, name_coded}
 use Rattle.log_law.specs.Net.{Net, Told, names_of, chain_in, after_flight, after_writing, after_told, after_scan}
 use Rattle.log_law.specs.Net.Owner.{Writing, Serving}
 use Rattle.log_law.specs.Events.{Happens}
-use Rattle.log_law.specs.Events.Happens.{Acts, Writes, Opens, Crashes, Restarts, Serves, Bars, Lists, Hears, Raises, Publishes, Welcomes, Drops}
+use Rattle.log_law.specs.Events.Happens.{Acts, Writes, Opens, Crashes, Restarts, Renews, Serves, Bars, Lists, Hears, Raises, Publishes, Welcomes, Drops}
 use Rattle.log_law.specs.Restarts.{is_serving}
-use Rattle.log_law.proofs.Below.{Below}
+use Rattle.log_law.specs.Below.{Below}
 use Rattle.log_law.proofs.Views.{OwnerShown, Behind, View}
 use Rattle.log_law.proofs.Next.{Next}
 use Rattle.log_law.proofs.Moves.{in_left, in_right}
@@ -39,7 +39,7 @@ use Rattle.log_law.proofs.Moves.{in_left, in_right}
 abbrev pub Fed : Net → Type 0
 Fed n = is_serving n.owner ≡ true → (name : SegName) → In name n.filed → n.low ≤ name.seq → In name n.feed
 
-in_either : (xs ys : List SegName) (x : SegName) → In x (xs ++ ys) → In x xs ⊎ In x ys
+pub in_either : (xs ys : List SegName) (x : SegName) → In x (xs ++ ys) → In x xs ⊎ In x ys
 in_either [] ys x is = inr is
 in_either (z ∷ xs) ys x (inl e) = inl (inl e)
 in_either (z ∷ xs) ys x (inr is) = ⊎_elim (λ a. inl (inr a)) inr (in_either xs ys x is)
@@ -56,7 +56,7 @@ passes g p q y some e = by (p.inc == 0) e
     by false e = sym (ap (λ (z : SegName). z.pass) (name_coded g q p.inc p.att)) ∙ ap (λ z. (name_of g z).pass) e
 
 -- an end that is told settled is filed
-settled_filed : (l : LogId) (end : End) (outs : List Out) → settled_ends outs ≡ end ∷ [] → In (record { log = l; seq = end.seq; pass = end.pass }) (log_filed l outs)
+pub settled_filed : (l : LogId) (end : End) (outs : List Out) → settled_ends outs ≡ end ∷ [] → In (record { log = l; seq = end.seq; pass = end.pass }) (log_filed l outs)
 settled_filed l end [] e = absurd cc
 settled_filed l end (Send f m ∷ os) e = settled_filed l end os e
 settled_filed l end (Settled e' rows ∷ os) e = inl (λ i. record { log = l; seq = (first_of (sym e i)).seq; pass = (first_of (sym e i)).pass })
@@ -69,16 +69,16 @@ settled_filed l end (Settled e' rows ∷ os) e = inl (λ i. record { log = l; se
 
 module _ (k : Below) (g : Setting) (none : g.doubts ≡ false) (n : Net) (h : View g n) (chain : List Segment) (s : LogState) (i : Input) (is : n.owner ≡ Writing chain s) (o : Net) (t : Next g n h o)
     (serves : o.owner ≡ Serving (log.transition s i).state) (files : o.filed ≡ log_filed g.log (log.transition s i).outs ++ (names_of chain ++ n.filed)) (low : o.low ≡ n.low) where
-  abbrev d : log.Done
+  abbrev pub d : log.Done
   d = log.transition s i
 
   abbrev v : View g o
   v = t.view
 
-  abbrev u : State
+  abbrev pub u : State
   u = t.view.w
 
-  before : WritingShown g h.w h.book chain s × Behind g h.w h.book s
+  pub before : WritingShown g h.w h.book chain s × Behind g h.w h.book s
   before = subst (OwnerShown g h.w h.book h.hellos) is h.owner
 
   after : ServesShown g u v.book d.state × Behind g u v.book d.state
@@ -118,15 +118,57 @@ module _ (k : Below) (g : Setting) (none : g.doubts ≡ false) (n : Net) (h : Vi
     some = (k.protocol.book u v.reached).named f.0 booked;
   }
 
+  -- a segment of the chain, by its number
+  chain_number : (c : Segment) (y : ℕ) → h.w.booked y ≡ 1 → c ≡ h.book y → In c.name o.filed → (u.filed y ≡ 1) × (c.name ≡ name_of g y)
+  chain_number c y booked e filed =
+      let named : c.name ≡ name_of g y = ap (λ (b : Segment). b.name) e ∙ (h.paged y booked).named in
+      let f = filed_one c.name filed in (ap u.filed (one_number g y f.number (sym named ∙ f.named)) ∙ f.filed, named)
+
+  pub in_files : (c : SegName) → In c (names_of chain) → In c o.filed
+  in_files c in_ = subst (In c) (sym files) (in_right (log_filed g.log d.outs) (names_of chain ++ n.filed) c (in_left (names_of chain) n.filed c in_))
+
+  -- nothing from the least horizon on is below the chain
+  pub not_below : (q : ℕ) → 0 < q → o.low ≤ q → q + length chain ≤ s.end.seq → ⊥
+  not_below q some above le = ⊎_elim nothing horizon before.0.read.bottom
+    where
+      read_low : h.w.read_low ≤ h.w.low
+      read_low = (k.protocol.horizons h.w h.reached).read_past (let p = before.0.phase in omega arith) (let p = before.0.phase in omega arith)
+
+      horizon : s.end.seq < h.w.read_low + length chain → ⊥
+      horizon b = let a = read_low in let c = h.low in let e = low in let f = above in let l = le in omega arith
+
+      nothing : before.0.read.next ≡ 0 → ⊥
+      nothing e = by chain le before.0.read.chained in_files
+        where
+          by : (ts : List Segment) → q + length ts ≤ s.end.seq → Chained g h.w h.book s.end.seq before.0.read.next ts → ((c : SegName) → In c (names_of ts) → In c o.filed) → ⊥
+          by [] l c all =
+              let base : h.w.base ≡ 0 = sym c ∙ e in
+              let a = (k.protocol.owner h.w h.reached).no_base (let p = before.0.phase in omega arith) (let p = before.0.phase in omega arith) base in
+              let p = (k.protocol.horizons h.w h.reached).pick_before (let p = before.0.phase in omega arith) (let p = before.0.phase in omega arith) in
+              let z = read_low in let r = before.0.read.opening in let f = above in let x = h.low in let y = low in omega arith
+          by (b ∷ bs) l c all =
+              let mine = chain_number b c.0 c.1 c.2 (all b.name (inl refl)) in
+              let b_seq : u.seq_of c.0 ≡ g.seq_of c.0 = ap (λ f. f c.0) v.fixed.seq_of in
+              let z = c.4 in
+              let high = ends.filed_head c.0 mine.0 in
+              let under = line.no_gap (u.seq_of c.0 - 1) (let x = some in omega arith) (omega arith) in
+              let f = above in
+              let x = v.low in
+              let prior : u.prior_of c.0 ≡ under.0 = line.linked c.0 under.0 mine.0 under.1 (let a = under.2 in let y = some in omega arith) (omega arith) in
+              let was : u.prior_of c.0 ≡ 0 = past.prior c.0 c.1 ∙ (c.3 ∙ e) in
+              let positive = (k.protocol.book u v.reached).named under.0 ((k.protocol.book u v.reached).filed_booked under.0 under.1) in
+              omega arith
+
+  -- the head is the log's end
+  pub head_at : u.head ≡ d.state.end.seq
+  head_at = sym ends.end_seq ∙ (ap (λ f. f u.end) v.fixed.seq_of ∙ after.0.end_seq)
+
+  pub rises : EndRisesByOne s d
+  rises = subst (λ (x : LogState). EndRisesByOne x (log.transition x i)) (sym before.1.ran.is) (k.logs.rises before.1.ran.log before.1.ran.inc before.1.ran.end before.1.ran.groups before.1.ran.history i)
+
   module _ (name : SegName) (among : In name o.filed) (above : o.low ≤ name.seq) where
     z : Filed name
     z = filed_one name among
-
-    -- a segment of the chain, by its number
-    chain_number : (c : Segment) (y : ℕ) → h.w.booked y ≡ 1 → c ≡ h.book y → In c.name o.filed → (u.filed y ≡ 1) × (c.name ≡ name_of g y)
-    chain_number c y booked e filed =
-        let named : c.name ≡ name_of g y = ap (λ (b : Segment). b.name) e ∙ (h.paged y booked).named in
-        let f = filed_one c.name filed in (ap u.filed (one_number g y f.number (sym named ∙ f.named)) ∙ f.filed, named)
 
     -- down the chain: it is there, or below all
     down : (top x : ℕ) (ts : List Segment) → name.seq ≤ top → Chained g h.w h.book top x ts → ((c : SegName) → In c (names_of ts) → In c o.filed) → In name (names_of ts) ⊎ (name.seq + length ts ≤ top)
@@ -154,55 +196,14 @@ module _ (k : Below) (g : Setting) (none : g.doubts ≡ false) (n : Net) (h : Vi
                 more_of : (p q : ℕ) → nat_lt p q ≡ false → q ≤ p
                 more_of p q e = grind (arith, nat_tests)
 
-    in_files : (c : SegName) → In c (names_of chain) → In c o.filed
-    in_files c in_ = subst (In c) (sym files) (in_right (log_filed g.log d.outs) (names_of chain ++ n.filed) c (in_left (names_of chain) n.filed c in_))
-
-    -- nothing is below the chain
-    not_below : name.seq ≤ s.end.seq → name.seq + length chain ≤ s.end.seq → ⊥
-    not_below less le = ⊎_elim nothing horizon before.0.read.bottom
-      where
-        read_low : h.w.read_low ≤ h.w.low
-        read_low = (k.protocol.horizons h.w h.reached).read_past (let p = before.0.phase in omega arith) (let p = before.0.phase in omega arith)
-
-        horizon : s.end.seq < h.w.read_low + length chain → ⊥
-        horizon b = let a = read_low in let c = h.low in let e = low in let f = above in let l = le in omega arith
-
-        nothing : before.0.read.next ≡ 0 → ⊥
-        nothing e = by chain le before.0.read.chained in_files
-          where
-            by : (ts : List Segment) → name.seq + length ts ≤ s.end.seq → Chained g h.w h.book s.end.seq before.0.read.next ts → ((c : SegName) → In c (names_of ts) → In c o.filed) → ⊥
-            by [] l c all =
-                let base : h.w.base ≡ 0 = sym c ∙ e in
-                let a = (k.protocol.owner h.w h.reached).no_base (let p = before.0.phase in omega arith) (let p = before.0.phase in omega arith) base in
-                let p = (k.protocol.horizons h.w h.reached).pick_before (let p = before.0.phase in omega arith) (let p = before.0.phase in omega arith) in
-                let q = read_low in let r = before.0.read.opening in let f = above in let x = h.low in let y = low in omega arith
-            by (b ∷ bs) l c all =
-                let mine = chain_number b c.0 c.1 c.2 (all b.name (inl refl)) in
-                let b_seq : u.seq_of c.0 ≡ g.seq_of c.0 = ap (λ f. f c.0) v.fixed.seq_of in
-                let q = c.4 in
-                let zs = z.seq in
-                let some = (k.protocol.book u v.reached).seq_some z.number z.booked in
-                let high = ends.filed_head c.0 mine.0 in
-                let under = line.no_gap (u.seq_of c.0 - 1) (omega arith) (omega arith) in
-                let f = above in
-                let x = v.low in
-                let prior : u.prior_of c.0 ≡ under.0 = line.linked c.0 under.0 mine.0 under.1 (let a = under.2 in omega arith) (omega arith) in
-                let was : u.prior_of c.0 ≡ 0 = past.prior c.0 c.1 ∙ (c.3 ∙ e) in
-                let positive = (k.protocol.book u v.reached).named under.0 ((k.protocol.book u v.reached).filed_booked under.0 under.1) in
-                omega arith
+    some_seq : 0 < name.seq
+    some_seq = let a = (k.protocol.book u v.reached).seq_some z.number z.booked in let b = z.seq in omega arith
 
     of_chain : name.seq ≤ s.end.seq → In name (log_filed g.log d.outs ++ names_of chain)
-    of_chain less = ⊎_elim (λ there. in_right (log_filed g.log d.outs) (names_of chain) name there) (λ le. absurd (not_below less le)) (down s.end.seq before.0.read.next chain less before.0.read.chained in_files)
-
-    -- the head is the log's end
-    head_at : u.head ≡ d.state.end.seq
-    head_at = sym ends.end_seq ∙ (ap (λ f. f u.end) v.fixed.seq_of ∙ after.0.end_seq)
+    of_chain less = ⊎_elim (λ there. in_right (log_filed g.log d.outs) (names_of chain) name there) (λ le. absurd (not_below name.seq some_seq above le)) (down s.end.seq before.0.read.next chain less before.0.read.chained in_files)
 
     within : name.seq ≤ u.head
     within = let a = ends.filed_head z.number z.filed in let b = z.seq in omega arith
-
-    rises : EndRisesByOne s d
-    rises = subst (λ (x : LogState). EndRisesByOne x (log.transition x i)) (sym before.1.ran.is) (k.logs.rises before.1.ran.log before.1.ran.inc before.1.ran.end before.1.ran.groups before.1.ran.history i)
 
     pub fed_there : In name (log_filed g.log d.outs ++ names_of chain)
     fed_there = ⊎_elim stays lands rises
@@ -238,15 +239,15 @@ module _ (k : Below) (g : Setting) (none : g.doubts ≡ false) (n : Net) (h : Vi
 
 -- ---- over one event
 
-module _ (k : Below) (g : Setting) (none : g.doubts ≡ false) (n : Net) (h : View g n) (fed : Fed n) where
-  scans_not : (s : ScanState) (d : scan.Done) → is_serving (after_scan g n s d).owner ≡ false
-  scans_not s d = by (chain_in d.outs) d.state.opening.groups
-    where
-      by : (o : Option Told) (groups : Option GroupMapState) → is_serving (after_told g n s d o groups).owner ≡ false
-      by None groups = refl
-      by (Some t) None = refl
-      by (Some t) (Some m) = refl
+pub scans_not : (g : Setting) (n : Net) (s : ScanState) (d : scan.Done) → is_serving (after_scan g n s d).owner ≡ false
+scans_not g n s d = by (chain_in d.outs) d.state.opening.groups
+  where
+    by : (o : Option Told) (groups : Option GroupMapState) → is_serving (after_told g n s d o groups).owner ≡ false
+    by None groups = refl
+    by (Some t) None = refl
+    by (Some t) (Some m) = refl
 
+module _ (k : Below) (g : Setting) (none : g.doubts ≡ false) (n : Net) (h : View g n) (fed : Fed n) where
   writes_fed : (chain : List Segment) (s : LogState) (i : Input) → n.owner ≡ Writing chain s → Next g n h (after_writing g n chain (log.transition s i)) → Fed (after_writing g n chain (log.transition s i))
   writes_fed chain s i is t = by (log.transition s i).state.flight refl
     where
@@ -259,9 +260,10 @@ module _ (k : Below) (g : Setting) (none : g.doubts ≡ false) (n : Net) (h : Vi
   now_fed o (Acts s i is came texts) t serving name among above =
       ⊎_elim (λ new. in_left (log_filed g.log (log.transition s i).outs) n.feed name new) (λ old. in_right (log_filed g.log (log.transition s i).outs) n.feed name (fed (ap is_serving is) name old above)) (in_either (log_filed g.log (log.transition s i).outs) n.filed name among)
   now_fed o (Writes chain s i is came texts) t serving name among above = writes_fed chain s i is t serving name among above
-  now_fed o (Opens s i is came can) t serving name among above = contrary (sym (scans_not s (scan.transition s i)) ∙ serving)
+  now_fed o (Opens s i is came can) t serving name among above = contrary (sym (scans_not g n s (scan.transition s i)) ∙ serving)
   now_fed o Crashes t serving name among above = contrary serving
   now_fed o (Restarts is) t serving name among above = contrary serving
+  now_fed o (Renews m high doubts is came) t serving name among above = contrary (sym none ∙ doubts)
   now_fed o (Serves server deed some came) t serving name among above = fed serving name among above
   now_fed o (Bars server l pass) t serving name among above = fed serving name among above
   now_fed o (Lists server) t serving name among above = fed serving name among above

@@ -1,5 +1,6 @@
 -- What the last boot that served had in flight: each booked name of that boot, next after the head, tells the same.
 use Rattle.xfs_base.proofs.Booleans.{contrary}
+use Rattle.std.specs.Prelude.{IfSome}
 use Rattle.std.proofs.Common.{◌≡◌, ℕ, suc, true, false, length, Option, Some, None, refl, sym, ap, subst, ◌∙◌, arith, ◌+◌}
 use Rattle.xfs_base.specs.declared.segment.SegName.{SegName}
 use Rattle.segment_format.specs.declared.segment.Segment.{Segment}
@@ -15,7 +16,7 @@ use Rattle.log_tie.proofs.Booking.{stripe_group}
 use Rattle.log_law.specs.Net.{Owner, Net}
 use Rattle.log_law.specs.Net.Owner.{Down, Opening, Writing, Serving}
 use Rattle.log_law.specs.Restarts.{is_serving, flight_in}
-use Rattle.log_law.proofs.Below.{Below}
+use Rattle.log_law.specs.Below.{Below}
 use Rattle.log_law.proofs.Views.{OwnerShown, View}
 use Rattle.log_law.proofs.Next.{Next}
 use Rattle.log_law.proofs.Steady.{Steady}
@@ -113,3 +114,49 @@ module _ (g : Setting) where
       by (Opening s) e t = contrary t
       by (Writing chain s) e t = contrary t
       by (Serving s) e t = serving_kept k n h clean s e
+
+  -- ---- the flight of the last boot that served is of that boot, and next after the head
+
+  abbrev pub FlightAt : State → Option FlightState → Type 0
+  FlightAt w last = IfSome last (λ f. (f.segment.name.seq ≡ suc w.head) × (f.segment.name.pass.inc ≡ w.served))
+
+  at_on : (w u : State) (last : Option FlightState) → u.head ≡ w.head → u.served ≡ w.served → FlightAt w last → FlightAt u last
+  at_on w u None head served at = tt
+  at_on w u (Some f) head served at = (at.0 ∙ ap suc (sym head), at.1 ∙ sym served)
+
+  serving_at : (k : Below) (n : Net) (h : View g n) → h.w.clean ≡ 1 → (s : LogState) → n.owner ≡ Serving s → FlightAt h.w s.flight
+  serving_at k n h clean s e = by s.flight there.flight
+    where
+      there : Serves g h.w h.book s
+      there = (subst (OwnerShown g h.w h.book h.hellos) e h.owner).0
+
+      head : h.w.head ≡ s.end.seq
+      head = sym (k.protocol.head h.w h.reached clean).end_seq ∙ (ap (λ t. t h.w.end) h.fixed.seq_of ∙ there.end_seq)
+
+      boot : h.w.served ≡ s.inc
+      boot = sym ((k.protocol.owner h.w h.reached).serving there.phase) ∙ sym there.writes.inc
+
+      by : (o : Option FlightState) → FlightShown g h.book o s.inc s.end.seq (h.w.booked h.w.flight) h.w.flight h.w.noted → FlightAt h.w o
+      by None shown = tt
+      by (Some f) shown = (ap (λ (z : Segment). z.name.seq) shown.segment ∙ (let a = shown.next in let b = head in omega arith), ap (λ (z : Segment). z.name.pass.inc) shown.segment ∙ (shown.own ∙ sym boot))
+
+  pub now_at : (k : Below) (n : Net) (h : View g n) (o : Net) (t : Next g n h o) → t.view.w.clean ≡ 1 → (last : Option FlightState) → FlightAt h.w last → FlightAt t.view.w (flight_in o.owner last)
+  now_at k n h o t clean last at = by o.owner refl
+    where
+      still : is_serving o.owner ≡ false → FlightAt t.view.w last
+      still e = at_on h.w t.view.w last (t.steady e).head (t.steady e).served at
+
+      by : (p : Owner) → o.owner ≡ p → FlightAt t.view.w (flight_in p last)
+      by Down e = still (ap is_serving e)
+      by (Opening s) e = still (ap is_serving e)
+      by (Writing chain s) e = still (ap is_serving e)
+      by (Serving s) e = serving_at k o t.view clean s e
+
+  pub first_at : (k : Below) (n : Net) (h : View g n) → h.w.clean ≡ 1 → is_serving n.owner ≡ true → FlightAt h.w (flight_in n.owner None)
+  first_at k n h clean serves = by n.owner refl serves
+    where
+      by : (p : Owner) → n.owner ≡ p → is_serving p ≡ true → FlightAt h.w (flight_in p None)
+      by Down e t = contrary t
+      by (Opening s) e t = contrary t
+      by (Writing chain s) e t = contrary t
+      by (Serving s) e t = serving_at k n h clean s e

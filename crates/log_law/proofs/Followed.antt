@@ -1,8 +1,9 @@
 -- Along a run of which no restart was doubtful: a member of the newest segment that is hurt lacked its fragment at a moment of the span.
 use Rattle.log_law.proofs.Feeding.{Fed, now_fed}
-use Rattle.log_law.proofs.Flights.{FlightKept, now_kept, first_kept}
+use Rattle.log_law.proofs.Gapless.{Gapless, now_gapless, served_head}
+use Rattle.log_law.proofs.Flights.{FlightKept, FlightAt, now_kept, first_kept, now_at, first_at}
 use Rattle.log_protocol.specs.Tables.{In}
-use Rattle.log_law.proofs.Always.{keeps}
+use Rattle.log_law.proofs.Always.{begins_seen, keeps}
 use Rattle.log_tie.specs.Seen.{Page, members_of}
 use Rattle.log_protocol.specs.OpeningSteps.{Undoubted}
 use Rattle.log_protocol.specs.StateLaws.{EndIsHead}
@@ -12,6 +13,7 @@ use Rattle.xfs_base.specs.declared.fragment.Fragment.{Fragment}
 use Rattle.xfs_base.specs.declared.segment.SegName.{SegName}
 use Rattle.xfs_base.proofs.Booleans.{contrary}
 use Rattle.segment_format.specs.declared.segment.Segment.{Segment}
+use Rattle.client_log.specs.LogState.{started}
 use Rattle.log_protocol.specs.LogLaws.{Reached}
 use Rattle.log_protocol.specs.State.{State}
 use Rattle.log_protocol.specs.Step.Steps.{Done}
@@ -19,12 +21,13 @@ use Rattle.log_protocol.specs.StepLaws.{InSpan, HurtBefore}
 use Rattle.log_tie.specs.Setting.{Setting, name_of, server_of}
 use Rattle.log_tie.specs.Shelves.{Kept}
 use Rattle.log_tie.proofs.Names.{one_number}
-use Rattle.log_law.specs.Net.{Owner, Net}
+use Rattle.log_law.specs.Laws.{Moment}
+use Rattle.log_law.specs.Net.{Owner, Net, no_end, opening}
 use Rattle.log_law.specs.Net.Owner.{Down, Opening, Writing, Serving}
 use Rattle.log_law.specs.Events.{Happens, Runs}
 use Rattle.log_law.specs.Events.Runs.{Begun, On}
 use Rattle.log_law.specs.Restarts.{is_down, spans, in_span, Lacks, LackedInSpan, is_writing, EndsRestart, IsDoubtful, IsSureRun, is_serving, last_flight}
-use Rattle.log_law.proofs.Below.{Below}
+use Rattle.log_law.specs.Below.{Below}
 use Rattle.log_law.proofs.Views.{OwnerShown, View, PickShown}
 use Rattle.log_law.proofs.Next.{Aside, Alone, Next}
 use Rattle.log_law.proofs.Hurting.{idle, Lacked, earned_through, some_unhurt}
@@ -268,7 +271,7 @@ module _ (k : Below) (g : Setting) (none : g.doubts ≡ false) (a : Net) (serves
 -- ---- along the run
 
 -- an owner that serves is in phase 4
-serving_phase : (g : Setting) (n : Net) (h : View g n) → is_serving n.owner ≡ true → h.w.phase ≡ 4
+pub serving_phase : (g : Setting) (n : Net) (h : View g n) → is_serving n.owner ≡ true → h.w.phase ≡ 4
 serving_phase g n h t = by n.owner t h.owner
   where
     by : (p : Owner) → is_serving p ≡ true → OwnerShown g h.w h.book h.hellos p → h.w.phase ≡ 4
@@ -281,19 +284,41 @@ pub record Along (k : Below) (g : Setting) (none : g.doubts ≡ false) (first : 
   pub view : View g n
   pub followed : Followed k g none first serves n run view
   pub flown : FlightKept g view.w (last_flight run)
+  pub flight_at : FlightAt g view.w (last_flight run)
   pub fed : Fed n
+  pub gapless : Gapless n view.w.head
 
-pub along : (k : Below) (g : Setting) (none : g.doubts ≡ false) (first : Net) (serves : is_serving first.owner ≡ true) → View g first → Fed first → (n : Net) (run : Runs g first n) → IsSureRun run → Along k g none first serves n run
-along k g none first serves seen fed n Begun s = record {
+-- what happens next is followed
+pub followed_by : (k : Below) (g : Setting) (none : g.doubts ≡ false) (first : Net) (serves : is_serving first.owner ≡ true) (m : Net) (run : Runs g first m) (b : Along k g none first serves m run) (n : Net) → Happens g m n → (EndsRestart m n → IsDoubtful g run → ⊥) → Next g m b.view n
+followed_by k g none first serves m run b n happens calm = keeps k g m n b.view happens (λ none_too restart low. sure k g none first serves m run b.view b.followed n restart (calm restart) low)
+
+pub along : (k : Below) (g : Setting) (none : g.doubts ≡ false) (first : Net) (serves : is_serving first.owner ≡ true) → (seen : View g first) → Fed first → Gapless first seen.w.head → (n : Net) (run : Runs g first n) → IsSureRun run → Along k g none first serves n run
+along k g none first serves seen fed gapless n Begun s = record {
   view = seen;
   followed = record { fallen = λ down some. absurd (not_down first.owner serves down); hurt = λ i span some low member hurt. absurd (let p = serving_phase g first seen serves in let q = span.not_serving in omega arith) };
   flown = first_kept g k first seen (seen.calm none) serves;
+  flight_at = first_at g k first seen (seen.calm none) serves;
   fed = fed;
+  gapless = gapless;
 }
-along k g none first serves seen fed n (On {m = m} run happens) s = on (along k g none first serves seen fed m run s.0)
+along k g none first serves seen fed gapless n (On {m = m} run happens) s = on (along k g none first serves seen fed gapless m run s.0)
   where
     on : Along k g none first serves m run → Along k g none first serves n (On run happens)
-    on b = record { view = t.view; followed = record { fallen = now_fallen k g none first serves m run b.view b.followed n happens t; hurt = now_hurt k g none first serves m run b.view b.followed n happens t }; flown = now_kept g k m b.view n t (t.view.calm none) (last_flight run) b.flown; fed = now_fed k g none m b.view b.fed n happens t }
-      where
-        t : Next g m b.view n
-        t = keeps k g m n b.view happens (λ calm restart low. sure k g none first serves m run b.view b.followed n restart (s.1 restart) low)
+    on b = let t = followed_by k g none first serves m run b n happens s.1 in record {
+      view = t.view;
+      followed = record { fallen = now_fallen k g none first serves m run b.view b.followed n happens t; hurt = now_hurt k g none first serves m run b.view b.followed n happens t };
+      flown = now_kept g k m b.view n t (t.view.calm none) (last_flight run) b.flown;
+      flight_at = now_at g k m b.view n t (t.view.calm none) (last_flight run) b.flight_at;
+      fed = now_fed k g none m b.view b.fed n happens t;
+      gapless = now_gapless k g none m b.view b.gapless n happens t;
+    }
+
+-- along the run of a moment
+pub along_moment : (k : Below) (g : Setting) (none : g.doubts ≡ false) (n : Net) (m : Moment g n) → IsSureRun m.run → Along k g none (opening g m.map) refl n m.run
+along_moment k g none n m calm = along k g none (opening g m.map) refl first (λ serving name is above. absurd is) gapless n m.run calm
+  where
+    first : View g (opening g m.map)
+    first = begins_seen k g m.map m.whole
+
+    gapless : Gapless (opening g m.map) first.w.head
+    gapless q some less = let e = served_head k g (opening g m.map) first (first.calm none) (started g.log 1 no_end m.map) refl in absurd (omega arith)

@@ -12,7 +12,7 @@ use Rattle.log_tie.specs.Rounds.{IsSpelled, IsGrouped}
 use Rattle.log_tie.specs.Scans.{Asked, Opener, opener_of, ByOthers}
 use Rattle.log_law.specs.Net.{Owner}
 use Rattle.log_law.specs.Net.Owner.{Down, Opening, Writing, Serving}
-use Rattle.log_law.proofs.Below.{Below}
+use Rattle.log_law.specs.Below.{Below}
 use Rattle.log_law.proofs.Views.{Behind, Flown, OwnerShown}
 use Rattle.log_law.proofs.Growing.{Later}
 

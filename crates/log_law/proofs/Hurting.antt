@@ -7,7 +7,7 @@ use Rattle.log_protocol.specs.Step.{Step, Steps}
 use Rattle.log_protocol.specs.Step.Step.{Loses, Hears, Learns, Sends, Accepts, Accepts_again, Tells, Fills, Drops, Deletes, Raises, Fences, Seals, Restripes, Notes, Settles, Crashes, Restarts, Begins, Picks_none, Picks_kept, Picks_prior, Cuts, Opens, Serves}
 use Rattle.log_protocol.specs.Step.Steps.{Done, More}
 use Rattle.log_protocol.specs.StepLaws.{InSpan, HurtBefore, LacksHead}
-use Rattle.log_law.proofs.Below.{Below}
+use Rattle.log_law.specs.Below.{Below}
 
 -- ---- an owner that serves is in no span
 

@@ -1,20 +1,20 @@
 -- Filed segments stand in one line: read off a run of which no restart was doubtful.
 use Rattle.log_law.specs.Restarts.{is_serving}
 use Rattle.log_law.proofs.Feeding.{passes}
-use Rattle.log_law.proofs.Always.{begins_seen}
-use Rattle.std.proofs.Common.{◌≡◌, ℕ, suc, ◌-◌, ◌<◌, false, sym, ap, ◌∙◌, arith, refl}
+use Rattle.log_law.proofs.Gapless.{Gapless}
+use Rattle.std.proofs.Common.{◌≡◌, ℕ, suc, ◌-◌, ◌<◌, ◌≤◌, false, sym, ap, ◌∙◌, arith}
 use Rattle.xfs_base.specs.declared.segment.SegName.{SegName}
 use Rattle.segment_format.specs.declared.segment.Segment.{Segment}
 use Rattle.log_protocol.specs.LogLaws as laws
 use Rattle.log_protocol.specs.Tables.{In}
 use Rattle.log_tie.specs.Setting.{Setting, name_of}
 use Rattle.log_tie.proofs.Names.{one_number}
-use Rattle.log_law.specs.Net.{Net, opening}
+use Rattle.log_law.specs.Net.{Net}
 use Rattle.log_law.specs.Laws.{OneLine, LogsStayInLine, TheFeedIsWhole}
-use Rattle.log_law.proofs.Below.{Below}
+use Rattle.log_law.specs.Below.{Below}
 use Rattle.log_law.proofs.Views.{View}
 use Rattle.log_law.proofs.Wholeness.{page, filed_booked}
-use Rattle.log_law.proofs.Followed.{along}
+use Rattle.log_law.proofs.Followed.{along_moment}
 
 module _ (k : Below) (g : Setting) (none : g.doubts ≡ false) (n : Net) (h : View g n) where
   law : laws.OneLine h.w
@@ -28,7 +28,7 @@ module _ (k : Below) (g : Setting) (none : g.doubts ≡ false) (n : Net) (h : Vi
     pub booked : h.w.booked number ≡ 1
     pub seq : h.w.seq_of number ≡ name.seq
 
-  number_of : (name : SegName) → In name n.filed → Filed name
+  pub number_of : (name : SegName) → In name n.filed → Filed name
   number_of name is = let f = h.filed name is in record {
     number = f.0;
     named = f.1;
@@ -54,11 +54,15 @@ module _ (k : Below) (g : Setting) (none : g.doubts ≡ false) (n : Net) (h : Vi
       ap (λ (z : Segment). z.prior.pass) (b.2 ∙ ap h.book same)
       ∙ (passes g (h.book x.number).prior.pass ((h.book x.number).name.seq - 1) y.number some (sym (page k g n h x.number x.booked).after ∙ prior) ∙ sym (ap (λ (z : SegName). z.pass) y.named))
 
-  pub one_line : OneLine g n
-  one_line = record { no_two = no_two; linked = linked }
+  -- a filed name is no further than the head
+  pub within : (name : SegName) → In name n.filed → name.seq ≤ h.w.head
+  within name is = let x = number_of name is in let a = x.seq in let b = (k.protocol.head h.w h.reached (h.calm none)).filed_head x.number x.filed in omega arith
+
+  pub one_line : Gapless n h.w.head → OneLine g n
+  one_line gapless = record { no_two = no_two; no_gap = λ name is q some less. gapless q some (let a = within name is in omega arith); linked = linked }
 
 pub logs_stay_in_line : Below → LogsStayInLine
-logs_stay_in_line k g n none m sure = one_line k g none n (along k g none (opening g m.map) refl (begins_seen k g m.map m.whole) (λ serving name is above. absurd is) n m.run sure).view
+logs_stay_in_line k g n none m sure = (let a = along_moment k g none n m sure in one_line k g none n a.view a.gapless)
 
 pub the_feed_is_whole : Below → TheFeedIsWhole
-the_feed_is_whole k g n none m sure s is name among above = (along k g none (opening g m.map) refl (begins_seen k g m.map m.whole) (λ serving name is above. absurd is) n m.run sure).fed (ap is_serving is) name among above
+the_feed_is_whole k g n none m sure s is name among above = (along_moment k g none n m sure).fed (ap is_serving is) name among above

@@ -1,4 +1,3 @@
-mod Below
 mod Views
 mod Growing
 mod Frames
@@ -6,6 +5,7 @@ mod Steady
 mod Next
 mod Turning
 mod Listing
+mod Reading
 mod Filling
 mod ServerTurns
 mod OtherTurns
@@ -13,6 +13,7 @@ mod Logs
 mod Moves
 mod Picking
 mod OwnerTurns
+mod Renewing
 mod ScanTurns
 mod Always
 mod Calmer
@@ -20,7 +21,17 @@ mod Wholeness
 mod Hurting
 mod Flights
 mod Feeding
+mod Filing
+mod Gapless
 mod Followed
 mod InLine
 mod Adopting
+mod Ends
+mod Places
+mod Landing
+mod Tails
+mod Restarted
 mod Running
+mod Reopening
+mod Stages
+mod Adopted

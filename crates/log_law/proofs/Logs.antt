@@ -27,7 +27,7 @@ use Rattle.log_tie.specs.Rounds.{IsSpelled, IsGrouped}
 use Rattle.log_tie.proofs.Names.{one_number, coded, point_some}
 use Rattle.log_law.specs.Net.{flown_with}
 use Rattle.log_law.specs.Events.{IsWritten, WritesText}
-use Rattle.log_law.proofs.Below.{Below}
+use Rattle.log_law.specs.Below.{Below}
 use Rattle.log_law.proofs.Views.{Ran, Behind, Flown}
 
 -- a log that took one more input

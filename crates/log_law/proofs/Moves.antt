@@ -17,7 +17,7 @@ use Rattle.log_tie.specs.Rounds.{IsSpelled}
 use Rattle.log_tie.specs.Scans.{Asked}
 use Rattle.log_tie.specs.Shelves.{ShelfShown, Kept, AllPieces, Shelved}
 use Rattle.log_law.specs.Net.{Packet, Net, log_packets}
-use Rattle.log_law.proofs.Below.{Below}
+use Rattle.log_law.specs.Below.{Below}
 use Rattle.log_law.proofs.Views.{OwnerShown, PickShown, Flown, IsFiled, View}
 use Rattle.log_law.proofs.Growing.{Later, shown_on}
 use Rattle.log_law.proofs.Turning.{AllShown, all_shown}

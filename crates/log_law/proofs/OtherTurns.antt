@@ -17,7 +17,7 @@ use Rattle.log_tie.specs.Scans.{AllMetas, WholeMap}
 use Rattle.log_tie.proofs.Names.{equal}
 use Rattle.log_law.specs.Net.{Net}
 use Rattle.log_law.specs.Net.Packet.{ListedSent, DeleteSent, MapSent, HelloSent, WelcomeSent}
-use Rattle.log_law.proofs.Below.{Below}
+use Rattle.log_law.specs.Below.{Below}
 use Rattle.log_law.proofs.Views.{HelloSeen, WelcomeSeen, View}
 use Rattle.log_law.proofs.Turning.{turned}
 use Rattle.log_law.proofs.ServerTurns.{nothing_apart}

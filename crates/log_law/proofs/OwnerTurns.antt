@@ -26,7 +26,7 @@ use Rattle.log_law.specs.Net.{Owner, Net, names_of, flown_with, log_packets, aft
 use Rattle.log_law.specs.Net.Packet.{StoredSent, MapSent}
 use Rattle.log_law.specs.Net.Owner.{Down, Opening, Writing, Serving}
 use Rattle.log_law.specs.Events.{WritesText, CameToLog, CameToWriter}
-use Rattle.log_law.proofs.Below.{Below}
+use Rattle.log_law.specs.Below.{Below}
 use Rattle.log_law.proofs.Views.{OwnerShown, PickShown, Behind, IsFiled, View, Flown}
 use Rattle.log_law.proofs.Growing.{Later, shown_on}
 use Rattle.log_law.proofs.Moves.{packets_shown, filed_said, in_right, in_left, filed_still, topped, next}

@@ -31,29 +31,29 @@ use Rattle.log_law.specs.Laws.{SomeSegmentFiled}
 
 -- ---- the segment
 
-abbrev first_log : LogState
+abbrev pub first_log : LogState
 first_log = started setting.log 1 no_end the_map
 
-abbrev name : SegName
+abbrev pub name : SegName
 name = record { log = setting.log; seq = 1; pass = record { inc = 1; att = 1 } }
 
-abbrev segment : Segment
+abbrev pub segment : Segment
 segment = record { name = name; prior = record { pass = record { inc = 0; att = 0 }; group = 0 }; group = 1; items = [] }
 
-abbrev flight : List Bool → FlightState
+abbrev pub flight : List Bool → FlightState
 flight noted = record { segment = segment; group = group; noted = noted }
 
-abbrev writing : List Bool → LogState
+abbrev pub writing : List Bool → LogState
 writing noted = record first_log { flight = Some (flight noted) }
 
-all_bytes : (xs : List ℕ) → list_all (λ b. nat_lt b 256) xs ≡ true → IsBytes xs
+pub all_bytes : (xs : List ℕ) → list_all (λ b. nat_lt b 256) xs ≡ true → IsBytes xs
 all_bytes [] t = All-nil (λ b. b < 256)
 all_bytes (x ∷ xs) t = All-cons (λ b. b < 256) x xs (less x (and_first (nat_lt x 256) (list_all (λ b. nat_lt b 256) xs) t)) (all_bytes xs (and_second (nat_lt x 256) (list_all (λ b. nat_lt b 256) xs) t))
   where
     less : (x : ℕ) → nat_lt x 256 ≡ true → x < 256
     less x t = grind (arith, nat_tests)
 
-written : IsWritten segment
+pub written : IsWritten segment
 written = record {
   fits = record { name = (omega arith, (omega arith, omega arith)); prior = ((omega arith, omega arith), omega arith); group = omega arith; items = tt };
   text = record { limits = record { log = (omega arith, omega arith); items = tt; others = omega arith; deltas = omega arith; rule = tt }; spelled = refl };
@@ -63,7 +63,7 @@ written = record {
 -- ---- what the log does
 
 -- it writes the segment
-starts : log.transition first_log (log_in.Parts []) ≡ record { state = writing none_noted; outs = log.all_sends (flight none_noted) }
+pub starts : log.transition first_log (log_in.Parts []) ≡ record { state = writing none_noted; outs = log.all_sends (flight none_noted) }
 unfolding log.on_parts log.launched log.group_for
 starts = refl
 
@@ -88,10 +88,10 @@ settles = refl
 
 -- ---- the run, by stages
 
-abbrev store : ℕ → ℕ → Packet
+abbrev pub store : ℕ → ℕ → Packet
 store v place = StoreSent v (piece segment group place) 1
 
-abbrev stored : ℕ → Packet
+abbrev pub stored : ℕ → Packet
 stored place = StoredSent name place 1
 
 -- what was sent, and which servers are as they were at first
@@ -102,10 +102,10 @@ pub record Stage (noted : List Bool) (told : List Packet) (fresh : List ℕ) : T
   pub sent : (p : Packet) → In p told → In p net.sent
   pub shelves : (v : ℕ) → In v fresh → net.shelves v ≡ new_shelf
 
-abbrev stores : List Packet
+abbrev pub stores : List Packet
 stores = store 1 0 ∷ store 2 1 ∷ store 3 2 ∷ []
 
-sends_all : log_packets (log.all_sends (flight none_noted)) ≡ stores
+pub sends_all : log_packets (log.all_sends (flight none_noted)) ≡ stores
 unfolding log.all_sends
 sends_all = refl
 

@@ -33,7 +33,7 @@ use Rattle.log_law.specs.Net.{Net, Told, is_reading, picked_by, scan_packets, ch
 use Rattle.log_law.specs.Net.Packet.{FragmentSent, FencedSent, MapSent, WelcomeSent}
 use Rattle.log_law.specs.Net.Owner.{Opening}
 use Rattle.log_law.specs.Events.{StartsWith, CanStart, CameToScan, WritesText}
-use Rattle.log_law.proofs.Below.{Below}
+use Rattle.log_law.specs.Below.{Below}
 use Rattle.log_law.proofs.Views.{FragmentSeen, WelcomeSeen, OwnerShown, StagePicked, Behind, View, PickShown}
 use Rattle.log_law.proofs.Growing.{spelled_on}
 use Rattle.log_law.proofs.Turning.{AllShown}

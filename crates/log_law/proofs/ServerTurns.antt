@@ -23,7 +23,7 @@ use Rattle.log_tie.proofs.Names.{equal, itself}
 use Rattle.log_law.specs.Net.{Net, listed, answers, fragment_told}
 use Rattle.log_law.specs.Net.Packet.{StoreSent, StoredSent, FenceSent, ListedSent, DeleteSent}
 use Rattle.log_law.specs.Events.{CameToServer}
-use Rattle.log_law.proofs.Below.{Below}
+use Rattle.log_law.specs.Below.{Below}
 use Rattle.log_law.proofs.Views.{View}
 use Rattle.log_law.proofs.Frames.{seat_of, Apart}
 use Rattle.log_law.proofs.Turning.{AllShown, turned}

@@ -6,7 +6,7 @@ use Rattle.log_protocol.specs.Step.{Step, Steps}
 use Rattle.log_protocol.specs.Step.Step.{Loses, Hears, Learns, Sends, Accepts, Accepts_again, Tells, Fills, Drops, Deletes, Raises, Fences, Seals, Restripes, Notes, Settles, Crashes, Restarts, Begins, Picks_none, Picks_kept, Picks_prior, Cuts, Opens, Serves}
 use Rattle.log_protocol.specs.Step.Steps.{Done, More}
 use Rattle.log_tie.proofs.Booking.{books_one}
-use Rattle.log_law.proofs.Below.{Below}
+use Rattle.log_law.specs.Below.{Below}
 
 -- what stays while no opening serves
 pub record Steady (w u : State) : Type 0 where
@@ -77,7 +77,7 @@ course w v less (More {v = u} run step) = course_step w u v step (course w u les
 -- ---- what is booked is of the boot that books it, or of a later one
 
 -- what was booked since
-abbrev OfLater : State → State → Type 0
+abbrev pub OfLater : State → State → Type 0
 OfLater w v = (x : ℕ) → v.booked x ≡ 1 → (w.booked x ≡ 1) ⊎ (w.incarnation ≤ v.incarnation_of x)
 
 pub record Own (w v : State) : Type 0 where
@@ -127,7 +127,7 @@ own_step w v u (Cuts low can) o = keep w v u refl (omega arith) refl o
 own_step w v u (Opens x text count server can) o = books w v u x refl refl (books_one v x) can.own o
 own_step w v u (Serves path lowest sure can) o = keep w v u refl (omega arith) refl o
 
-own : (w v : State) → Steps w v → Own w v
+pub own : (w v : State) → Steps w v → Own w v
 own w v Done = record { names = refl; boot = omega arith; fresh = λ x is. inl is }
 own w v (More {v = u} run step) = own_step w u v step (own w u run)
 

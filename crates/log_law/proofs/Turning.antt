@@ -11,7 +11,7 @@ use Rattle.log_tie.specs.Setting.{Setting, name_of}
 use Rattle.log_tie.specs.Scans.{Asked}
 use Rattle.log_tie.specs.Shelves.{ShelfShown, DropSeen}
 use Rattle.log_law.specs.Net.{Packet, Net}
-use Rattle.log_law.proofs.Below.{Below}
+use Rattle.log_law.specs.Below.{Below}
 use Rattle.log_law.proofs.Views.{Shown, OwnerShown, Flown, View, PickShown}
 use Rattle.log_law.proofs.Growing.{shown_on}
 use Rattle.log_law.proofs.Frames.{Apart, same, later_apart, fixed_apart, paged_apart, spelled_apart, flown_apart, owner_apart}

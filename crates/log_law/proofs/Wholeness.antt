@@ -13,7 +13,7 @@ use Rattle.log_tie.proofs.Names.{one_number, name_coded}
 use Rattle.log_law.specs.Net.{Net, opening}
 use Rattle.log_law.specs.Net.Packet.{StoreSent, FragmentSent}
 use Rattle.log_law.specs.Laws.{Moment, Holds, IsLater, LogsWhole, OneText, LogsStayWhole, OneNameOneText}
-use Rattle.log_law.proofs.Below.{Below}
+use Rattle.log_law.specs.Below.{Below}
 use Rattle.log_law.proofs.Views.{FragmentSeen, IsFiled, View}
 use Rattle.log_law.proofs.Always.{begins_seen, seen_always}
 
@@ -114,7 +114,7 @@ module _ (k : Below) (g : Setting) (n : Net) (m : Moment g n) where
   abbrev calmer : Moment (doubtful g) n
   calmer = moment_so g n m
 
-  seen : View (doubtful g) n
+  pub seen : View (doubtful g) n
   seen = seen_always k (doubtful g) (opening (doubtful g) calmer.map) n refl calmer.run (begins_seen k (doubtful g) calmer.map calmer.whole)
 
 pub logs_stay_whole : Below → LogsStayWhole

@@ -21,7 +21,7 @@ use Rattle.stripe_code.specs.Round.{RoundSoFar, IsRound, state_of}
 use Rattle.stripe_code.specs.Stripe.{IsBytes, stripe_of}
 use Rattle.client_log.specs.declared.input.In as log_ins
 use Rattle.client_log.specs.declared.input.In.TheVariants as log_in
-use Rattle.client_log.specs.LogState.{LogState}
+use Rattle.client_log.specs.LogState.{LogState, started as new_log}
 use Rattle.client_log.specs.Transition as log
 use Rattle.client_log.specs.Transition.{has_next}
 use Rattle.log_scan.specs.declared.input.In as scan_ins
@@ -34,7 +34,7 @@ use Rattle.log_tie.specs.Setting.{Setting, server_of}
 use Rattle.log_tie.specs.Shelves.{is_of_log, Deed, shelf_after}
 use Rattle.log_tie.specs.Shelves.Deed.{Stores, Fetches, Fences, Deletes, Fills, Loses}
 use Rattle.log_tie.specs.Scans.{WholeMap}
-use Rattle.log_law.specs.Net.{Net, Told, listed, answers, chain_in, first_write, after_log, after_writing, after_scan}
+use Rattle.log_law.specs.Net.{Net, Told, no_end, listed, answers, chain_in, first_write, after_log, after_writing, after_scan}
 use Rattle.log_law.specs.Net.Packet.{StoreSent, StoredSent, FragmentSent, FenceSent, FencedSent, ListedSent, DeleteSent, MapSent, HelloSent, WelcomeSent}
 use Rattle.log_law.specs.Net.Owner.{Down, Opening, Writing, Serving}
 
@@ -133,6 +133,10 @@ pub data Happens (g : Setting) : Net → Net → Type 0 where
   -- the owner falls, and restarts in its next boot
   Crashes : {n : Net} → Happens g n (record n { owner = Down; feed = [] })
   Restarts : {n : Net} → n.owner ≡ Down → Happens g n (record n { inc = suc n.inc; owner = Opening (started g.log (suc n.inc)) })
+  -- The owner of a manager's log restarts in its next boot, with a map that came, and serves a log that begins anew: it opens none. Such a log is one whose
+  -- restarts may be doubtful: of its line nothing is claimed.
+  Renews : {n : Net} (m : GroupMapState) → 9 < g.log.0 → g.doubts ≡ true → n.owner ≡ Down → In (MapSent m) n.sent
+      → Happens g n (record n { inc = suc n.inc; owner = Serving (new_log g.log (suc n.inc) no_end m) })
   -- something is done to a server's shelf
   Serves : {n : Net} (v : ℕ) (deed : Deed) → 0 < v → CameToServer g n v deed
       → Happens g n (record n { shelves = put n.shelves v (shelf_after g (n.shelves v) deed); sent = answers g v (n.shelves v) deed ++ n.sent })

@@ -50,9 +50,11 @@ LogsStayWhole = (g : Setting) (n : Net) → Moment g n → LogsWhole g n
 abbrev pub OneNameOneText : Type 0
 OneNameOneText = (g : Setting) (n : Net) → Moment g n → OneText g n
 
--- One line of segments: no two filed segments have one number, and above the least horizon each names the pass of the one before it.
+-- One line of segments: no two filed segments have one number, of a filed one each number from 1 up to its own is that of a filed one too (what is dropped
+-- stays filed), and above the least horizon each names the pass of the one before it.
 pub record OneLine (g : Setting) (n : Net) : Type 0 where
   pub no_two : (a b : SegName) → In a n.filed → In b n.filed → a.seq ≡ b.seq → a ≡ b
+  pub no_gap : (name : SegName) → In name n.filed → (q : ℕ) → 0 < q → q ≤ name.seq → (t : SegName) × In t n.filed × (t.seq ≡ q)
   pub linked : (s t : Segment) → In s n.flown → In t n.flown → In s.name n.filed → In t.name n.filed → suc t.name.seq ≡ s.name.seq → n.low < s.name.seq → s.prior.pass ≡ t.name.pass
 
 -- while no restart that ended was doubtful

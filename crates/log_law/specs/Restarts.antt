@@ -1,6 +1,6 @@
 -- Restarts of the owner: how long one takes, and when it is doubtful.
 use Rattle.client_log.specs.LogState.{FlightState}
-use Rattle.std.specs.Prelude.{◌≡◌, ℕ, ◌<◌, ◌≤◌, ◌⊎◌, Bool, true, false, ⊤, length, None, Option}
+use Rattle.std.specs.Prelude.{◌≡◌, ℕ, ◌<◌, ◌≤◌, ◌⊎◌, Bool, true, false, length, None, Option}
 use Rattle.xfs_base.specs.declared.segment.SegName.{SegName}
 use Rattle.segment_format.specs.declared.segment.Segment.{Segment}
 use Rattle.fragment_store.specs.ShelfState.{held_at}

@@ -1,9 +1,15 @@
 //! The law of logs where machines, generations and packets meet: a small world of the shelves of all servers, the owner of one log through its falls and
 //! reopenings, the registry and the cleaner, over a network that loses, repeats and reorders. It has no code: each function below calls the laws that it
-//! stands on, and its contract is a law.
+//! stands on, and its contract is a law. A manager's log (10 to 13) isn't reopened: it begins anew at each restart, and of it are claimed that it is whole,
+//! and one text of a name.
 #![tactic(auto)]
 
+ghost use Rattle.log_law.specs.Ends.{EndsAreLast, FilesItsFlight};
 ghost use Rattle.log_law.specs.Laws.{AReopeningAdopts, LogsStayInLine, LogsStayWhole, OneNameOneText, SomeSegmentFiled, TheFeedIsWhole};
+ghost use Rattle.log_law.specs.Places.{APlaceNamesOneContent};
+ghost use Rattle.log_law.specs.Runs.{SomeRestarts};
+ghost use Rattle.log_law.specs.Tails.{ARestartFilesTheTail, ATailIsFiledOrNever};
+ghost use Rattle.log_law.specs.Below.{Below};
 
 use client_log::laws::{end_rises_by_one, flight_is_next, settles_what_is_due};
 use log_protocol::{
@@ -12,10 +18,9 @@ use log_protocol::{
 };
 use log_tie::{log_inputs, opening_inputs, scan_inputs, shelf_deeds};
 
-/// Logs stay whole: at each moment of every run, whatever is lost, and however the owner falls and opens its log again, each member of a filed segment that
-/// isn't dropped holds its fragment, or its server is of a later generation than the segment's group names (the 1996 paper, on RAID).
-pub fn logs_stay_whole()
-    ensures whole { LogsStayWhole }
+/// The laws of the crates below, on which each law here stands.
+fn below()
+    ensures { Below }
 {
     log_inputs();
     opening_inputs();
@@ -34,6 +39,15 @@ pub fn logs_stay_whole()
     names_are_new();
     runs_go_on();
     past_stays();
+}
+
+/// Logs stay whole: at each moment of every run, whatever is lost, and however the owner falls and opens its log again or, as a manager, begins it anew, each
+/// member of a filed segment that isn't dropped holds its fragment, or its server is of a later generation than the segment's group names (the 1996 paper, on
+/// RAID).
+pub fn logs_stay_whole()
+    ensures whole { LogsStayWhole }
+{
+    below();
 }
 
 /// One name, one text: at each moment of every run, whatever is held, stored or sent under a name of the log is a fragment of the one segment that was
@@ -41,49 +55,34 @@ pub fn logs_stay_whole()
 pub fn one_name_one_text()
     ensures one_text { OneNameOneText }
 {
-    log_inputs();
-    opening_inputs();
-    scan_inputs();
-    shelf_deeds();
-    flight_is_next();
-    end_rises_by_one();
-    settles_what_is_due();
-    all_is_in_order();
-    end_is_head();
-    hurt_is_earned();
-    lacks_between();
-    logs_whole();
-    one_line();
-    what_reopening_adopts();
-    names_are_new();
-    runs_go_on();
-    past_stays();
+    below();
 }
 
-/// One line: while no restart that ended was doubtful, no two filed segments of the log have one number, and each above the least horizon names the pass of
-/// the one before it, through all falls and reopenings, and whichever tails were adopted or discarded. A restart is doubtful where of the newest segment that
-/// was filed before it each member lacked its fragment at some moment of the restart while the segment wasn't dropped, unless the horizon by which the chain
-/// was picked had passed the segment (the 1996 paper, on recovery).
+/// A place names one content: at each moment of every run, whatever fragments of the name of a segment a round of reading joins, what it reads is that
+/// segment, with its items each at its index.
+pub fn a_place_names_one_content()
+    ensures content { APlaceNamesOneContent }
+{
+    below();
+}
+
+/// One line: while no restart that ended was doubtful, no two filed segments of the log have one number, none is missing below a filed one, and each above the
+/// least horizon names the pass of the one before it, through all falls and reopenings, and whichever tails were adopted or discarded. A restart is doubtful
+/// where of the newest segment that was filed before it each member lacked its fragment at some moment of the restart while the segment wasn't dropped, unless
+/// the horizon by which the chain was picked had passed the segment (the 1996 paper, on recovery).
 pub fn logs_stay_in_line()
     ensures line { LogsStayInLine }
 {
-    log_inputs();
-    opening_inputs();
-    scan_inputs();
-    shelf_deeds();
-    flight_is_next();
-    end_rises_by_one();
-    settles_what_is_due();
-    all_is_in_order();
-    end_is_head();
-    hurt_is_earned();
-    lacks_between();
-    logs_whole();
-    one_line();
-    what_reopening_adopts();
-    names_are_new();
-    runs_go_on();
-    past_stays();
+    below();
+}
+
+/// The end of a log that is served is its last filed segment, while no restart that ended was doubtful, and what it has in flight is the next one; what is
+/// filed while its owner serves was in flight.
+pub fn ends_are_last()
+    ensures last { EndsAreLast }
+    ensures flown { FilesItsFlight }
+{
+    below();
 }
 
 /// What a reopening adopts: while no restart that ended was doubtful, of what a reopening reads back beyond what was filed, only the flight of the last boot
@@ -91,23 +90,17 @@ pub fn logs_stay_in_line()
 pub fn a_reopening_adopts()
     ensures adopts { AReopeningAdopts }
 {
-    log_inputs();
-    opening_inputs();
-    scan_inputs();
-    shelf_deeds();
-    flight_is_next();
-    end_rises_by_one();
-    settles_what_is_due();
-    all_is_in_order();
-    end_is_head();
-    hurt_is_earned();
-    lacks_between();
-    logs_whole();
-    one_line();
-    what_reopening_adopts();
-    names_are_new();
-    runs_go_on();
-    past_stays();
+    below();
+}
+
+/// A tail is filed or never: while no restart that ended was doubtful, at the event that ends a restart the flight of the last boot that served is filed, as a
+/// segment of its number and its boot, with its content, or no segment of that number and that boot is filed, then or later; and whatever else is filed then, and
+/// wasn't before, tells nothing.
+pub fn a_tail_is_filed_or_never()
+    ensures tail { ATailIsFiledOrNever }
+    ensures only { ARestartFilesTheTail }
+{
+    below();
 }
 
 /// The feed is whole: while no restart that ended was doubtful, the feed of an owner that serves has each filed segment from the least horizon on: those that
@@ -115,26 +108,16 @@ pub fn a_reopening_adopts()
 pub fn the_feed_is_whole()
     ensures feed { TheFeedIsWhole }
 {
-    log_inputs();
-    opening_inputs();
-    scan_inputs();
-    shelf_deeds();
-    flight_is_next();
-    end_rises_by_one();
-    settles_what_is_due();
-    all_is_in_order();
-    end_is_head();
-    hurt_is_earned();
-    lacks_between();
-    logs_whole();
-    one_line();
-    what_reopening_adopts();
-    names_are_new();
-    runs_go_on();
-    past_stays();
+    below();
 }
 
 /// The laws speak of something: there is a run, from a setting and a map of groups that exist, in which a segment is written, stored and filed.
 pub fn runs_exist()
     ensures { SomeSegmentFiled }
+{}
+
+/// So do those on falls: there is a run in which the owner falls with its first segment in flight, restarts, reads that segment back and serves again with it
+/// filed, and no restart is doubtful; and one in which a manager's log begins anew.
+pub fn restarts_exist()
+    ensures { SomeRestarts }
 {}

@@ -22,7 +22,7 @@ use Rattle.log_tie.specs.Shelves.Deed.{Stores, Fetches, Fences, Deletes, Fills, 
 use Rattle.log_tie.proofs.Names.{equal}
 use Rattle.log_law.specs.Net.{Net, Packet, Told, log_packets, scan_packets, chain_in, first_write, answers, after_flight, after_told}
 use Rattle.log_law.specs.Events.{CameToServer, Happens, Runs}
-use Rattle.log_law.specs.Events.Happens.{Acts, Writes, Opens, Crashes, Restarts, Serves, Bars, Lists, Hears, Raises, Publishes, Welcomes, Drops}
+use Rattle.log_law.specs.Events.Happens.{Acts, Writes, Opens, Crashes, Restarts, Renews, Serves, Bars, Lists, Hears, Raises, Publishes, Welcomes, Drops}
 use Rattle.log_law.specs.Events.Runs.{Begun, On}
 use Rattle.node_log_tie.specs.Sight.{Later}
 use Rattle.node_log_tie.proofs.Sights.{at_once, then_later}
@@ -114,6 +114,7 @@ happened_later g n o (Writes chain s i writes came text) = flight_later g n chai
 happened_later g n o (Opens s i opens came can) = told_later g n s (scan.transition s i) (chain_in (scan.transition s i).outs) (scan.transition s i).state.opening.groups
 happened_later g n o Crashes = says_more g n _ [] refl refl (omega arith)
 happened_later g n o (Restarts down) = says_more g n _ [] refl refl (omega arith)
+happened_later g n o (Renews m high doubts down came) = says_more g n _ [] refl refl (omega arith)
 happened_later g n o (Serves v deed some came) = serves_later g n v deed came
 happened_later g n o (Bars v log pass) = bars_later g n v log pass
 happened_later g n o (Lists v) = says_more g n _ (_ ∷ []) refl refl (omega arith)

@@ -12,7 +12,7 @@ mod Boards
 pub mod Others
 mod Registries
 pub mod OwnLogs
-mod Cleaning
+pub mod Cleaning
 pub mod Emptied
 mod CleanerJobs
 mod CleanerServing

@@ -21,7 +21,7 @@ use Rattle.log_tie.specs.Shelves.Deed.{Stores, Fetches, Fences, Deletes, Fills, 
 use Rattle.log_law.specs.Net.{Net, Packet, Told, log_packets, scan_packets, chain_in, first_write, fragment_told, answers, after_flight, after_told, opening}
 use Rattle.log_law.specs.Net.Packet.{MapSent}
 use Rattle.log_law.specs.Events.{Happens, Runs}
-use Rattle.log_law.specs.Events.Happens.{Acts, Writes, Opens, Crashes, Restarts, Serves, Bars, Lists, Hears, Raises, Publishes, Welcomes, Drops}
+use Rattle.log_law.specs.Events.Happens.{Acts, Writes, Opens, Crashes, Restarts, Renews, Serves, Bars, Lists, Hears, Raises, Publishes, Welcomes, Drops}
 use Rattle.log_law.specs.Events.Runs.{Begun, On}
 use Rattle.log_law.specs.Laws.{Moment}
 use Rattle.node_log_tie.specs.ServerEvents.{NamesStripes, MapsName}
@@ -105,6 +105,7 @@ happened_named g n o before (Writes chain s i writes came text) = flight_named g
 happened_named g n o before (Opens s i opens came can) = told_named g n before s (scan.transition s i) (chain_in (scan.transition s i).outs) (scan.transition s i).state.opening.groups
 happened_named g n o before Crashes = before
 happened_named g n o before (Restarts down) = before
+happened_named g n o before (Renews m high doubts down came) = before
 happened_named g n o before (Serves v deed some came) = more g n before (answers g v (n.shelves v) deed) n.sent (answers_no_map g v (n.shelves v) deed) before
 happened_named g n o before (Bars v log pass) = before
 happened_named g n o before (Lists v) = more g n before (_ ∷ []) n.sent (one_no_map _ (λ m e. absurd cc)) before

@@ -1,0 +1,10 @@
+mod Starts
+mod Frames
+mod Fits
+mod Bytes
+mod Hands
+mod Jobs
+mod Serving
+mod Owed
+mod StandIn
+mod Phases

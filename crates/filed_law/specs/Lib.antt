@@ -1,0 +1,2 @@
+pub mod FiledUpto
+pub mod Told

@@ -1,0 +1,153 @@
+-- What an input makes of a log: its end stays and it tells none, or it tells first that a segment is settled, which is its end then.
+use Rattle.std.proofs.Common.{◌≡◌, ◌⊎◌, ℕ, ◌+◌, true, false, cond, ◌&&◌, List, [], ◌∷◌, ◌++◌, Some, None, refl, sym, ap, inl, inr, nat_lt}
+use Rattle.std.specs.Prelude.{length, drop, take}
+use Rattle.std.specs.List.{AllByRecursion}
+use Rattle.xfs_base.specs.declared.block.BlockId.{BlockId}
+use Rattle.xfs_base.specs.declared.entry.Entry.{Entry}
+use Rattle.xfs_base.specs.declared.segment.End.{End}
+use Rattle.xfs_base.specs.declared.segment.Prior.{Prior}
+use Rattle.xfs_base.specs.declared.segment.SegName.{SegName}
+use Rattle.xfs_base.specs.Limits.{segment_blocks}
+use Rattle.xfs_base.specs.Steps.{still}
+use Rattle.xfs_base.proofs.Booleans.{by_test}
+use Rattle.segment_format.specs.declared.segment.Item.{Item}
+use Rattle.segment_format.specs.Rows.{rows_of}
+use Rattle.group_map.specs.declared.group.Member.{Member}
+use Rattle.group_map.specs.GroupMapState.{GroupMapState}
+use Rattle.client_log.specs.declared.dirty.Change.{Change}
+use Rattle.client_log.specs.declared.flight.Fate.{Fate}
+use Rattle.client_log.specs.declared.flight.Fate.TheVariants.{Restripe, Settle, Wait}
+use Rattle.client_log.specs.declared.input.In.{In as Input}
+use Rattle.client_log.specs.declared.input.In.TheVariants.{Put, Parts, Seal, Acked, Maps, Tick}
+use Rattle.client_log.specs.declared.output.Out.{Out}
+use Rattle.client_log.specs.declared.output.Out.TheVariants.{Send, Settled}
+use Rattle.client_log.specs.Fate.{fate_of}
+use Rattle.client_log.specs.Fragments.{piece}
+use Rattle.client_log.specs.Items.{items_of}
+use Rattle.client_log.specs.LogState.{FlightState, LogState, is_noted}
+use Rattle.client_log.specs.Texts.{has_text}
+use Rattle.client_log.specs.Transition.{Done, sends, all_sends, group_for, flown, launched, next_name, prior_from, writes, has_next, is_idle, is_full, can_go_on, sealed, if_full, waits, on_put, on_seal, on_parts, next_attempt, restriped, end_from, landed, settled, can_follow, followed, looked_at, is_of, noting, on_acked, on_maps, on_tick, transition}
+
+abbrev pub IsSend : Out → Type 0
+IsSend (Send fragment member) = Unit {0}
+IsSend (Settled end rows) = ⊥
+
+-- the end is this one still, and none is told
+pub record Rests (end : End) (d : Done) : Type 0 where
+  pub same : d.state.end ≡ end
+  pub sends : AllByRecursion IsSend d.outs
+
+-- the end is told first
+pub record Lands (d : Done) : Type 0 where
+  pub rows : List (BlockId × Entry)
+  pub rest : List Out
+  pub outs : d.outs ≡ Settled d.state.end rows ∷ rest
+  pub sends : AllByRecursion IsSend rest
+
+abbrev pub Turns : End → Done → Type 0
+Turns end d = Rests end d ⊎ Lands d
+
+-- ---- sending
+
+all_are : (f : FlightState) (ms : List Member) (place : ℕ) → AllByRecursion IsSend (sends f ms place)
+all_are f [] place = tt
+all_are f (m ∷ ms) place =
+    elim (is_noted f.noted place) as (λ b. AllByRecursion IsSend (cond b [] (Send (piece f.segment f.group place) m ∷ []) ++ sends f ms (place + 1))) [
+      | true ↦ all_are f ms (place + 1)
+      | false ↦ (tt, all_are f ms (place + 1))
+    ]
+
+all_sent : (f : FlightState) → AllByRecursion IsSend (all_sends f)
+unfolding all_sends
+all_sent f = all_are f f.group.members 0
+
+-- ---- a segment begins
+
+still_rests : (s : LogState) → Rests s.end (still s)
+still_rests s = record { same = refl; sends = tt }
+
+launched_rests : (s : LogState) (name : SegName) (prior : Prior) (items : List Item) → Rests s.end (launched s name prior items)
+unfolding launched
+launched_rests s name prior items = record { same = refl; sends = all_sent (flown name prior items (group_for s.groups s.log.0 name.seq)) }
+
+sealed_rests : (s : LogState) → Rests s.end (sealed s)
+unfolding sealed
+sealed_rests s =
+    launched_rests (record s { dirty = drop segment_blocks s.dirty }) (next_name (record s { dirty = drop segment_blocks s.dirty })) (prior_from s.end)
+    (items_of 0 (take segment_blocks s.dirty))
+
+if_full_rests : (s : LogState) → Rests s.end (if_full s)
+unfolding if_full
+if_full_rests s = by_test (Rests s.end) (is_full s) (sealed s) (still s) (λ t. sealed_rests s) (λ t. still_rests s)
+
+pub put_rests : (s : LogState) (block : BlockId) (change : Change) → Rests s.end (on_put s block change)
+unfolding on_put
+put_rests s block change =
+    by_test (Rests s.end) (can_go_on (waits s block change)) (if_full (waits s block change)) (still s) (λ t. if_full_rests (waits s block change))
+    (λ t. still_rests s)
+
+pub seal_rests : (s : LogState) → Rests s.end (on_seal s)
+unfolding on_seal
+seal_rests s =
+    by_test (Rests s.end) (is_idle s && nat_lt 0 (length s.dirty) && has_next s.end.seq) (sealed s) (still s) (λ t. sealed_rests s) (λ t. still_rests s)
+
+parts_rest : (s : LogState) (items : List Item) → Rests s.end (on_parts s items)
+unfolding on_parts
+parts_rest s items =
+    by_test (Rests s.end) (is_idle s && has_next s.end.seq && has_text items) (writes s items) (still s)
+    (λ t. launched_rests s (next_name s) (prior_from s.end) items) (λ t. still_rests s)
+
+-- ---- a segment is settled
+
+settled_lands : (s : LogState) (f : FlightState) → Lands (settled s f)
+unfolding settled
+settled_lands s f =
+    let d : Done = if_full (landed s f) in
+    let r : Rests (end_from f.segment) d = if_full_rests (landed s f) in
+    record { rows = rows_of f.segment; rest = d.outs; outs = ap (λ (e : End). Settled e (rows_of f.segment) ∷ d.outs) (sym r.same); sends = r.sends }
+
+follows_on : (s : LogState) (f : FlightState) (fate : Fate) → Turns s.end (followed s f fate)
+unfolding restriped
+follows_on s f Restripe = inl (launched_rests s (next_attempt f.segment.name) f.segment.prior f.segment.items)
+follows_on s f Settle = inr (settled_lands s f)
+follows_on s f Wait = inl (record { same = refl; sends = tt })
+
+looks_on : (before s : LogState) (f : FlightState) → before.end ≡ s.end → Turns s.end (looked_at before s f)
+unfolding looked_at
+looks_on before s f same =
+    by_test (Turns s.end) (can_follow s f (fate_of s.groups f)) (followed s f (fate_of s.groups f)) (still before) (λ t. follows_on s f (fate_of s.groups f))
+    (λ t. inl (record { same = same; sends = tt }))
+
+acked_turns : (s : LogState) (name : SegName) (index generation : ℕ) → Turns s.end (on_acked s name index generation)
+unfolding on_acked
+acked_turns s name index generation =
+    elim s.flight as (λ o. Turns s.end (elim o [ None ↦ still s | Some f ↦ cond (is_of f name index generation) (looked_at s s (noting f index)) (still s) ])) [
+      | None ↦ inl (still_rests s)
+      | Some f ↦ by_test (Turns s.end) (is_of f name index generation) (looked_at s s (noting f index)) (still s) (λ t. looks_on s s (noting f index) refl)
+          (λ t. inl (still_rests s))
+    ]
+
+maps_turn : (s : LogState) (groups : GroupMapState) → Turns s.end (on_maps s groups)
+unfolding on_maps
+maps_turn s groups =
+    let t : LogState = record s { groups = groups } in
+    elim s.flight as (λ o. Turns s.end (elim o [ None ↦ still t | Some f ↦ looked_at s t f ])) [
+      | None ↦ inl (record { same = refl; sends = tt })
+      | Some f ↦ looks_on s t f refl
+    ]
+
+tick_rests : (s : LogState) → Rests s.end (on_tick s)
+unfolding on_tick
+tick_rests s =
+    elim s.flight as (λ o. Rests s.end (elim o [ None ↦ still s | Some f ↦ record { state = s; outs = all_sends f } ])) [
+      | None ↦ still_rests s
+      | Some f ↦ record { same = refl; sends = all_sent f }
+    ]
+
+pub log_turns : (s : LogState) (i : Input) → Turns s.end (transition s i)
+log_turns s (Put block entry value) = inl (put_rests s block (record { entry = entry; value = value }))
+log_turns s (Parts items) = inl (parts_rest s items)
+log_turns s Seal = inl (seal_rests s)
+log_turns s (Acked name index generation) = acked_turns s name index generation
+log_turns s (Maps m) = maps_turn s m
+log_turns s Tick = inl (tick_rests s)

@@ -1,0 +1,9 @@
+use Rattle.filed_tie.proofs.Filing.{managers_start, managers_rise, managers_tell}
+use Rattle.filed_tie.proofs.managers_tell_what_is_filed.Goals as goal
+
+pub returns : goal.returns
+returns c = record {
+  start = managers_start;
+  rises = managers_rise;
+  events = managers_tell;
+}

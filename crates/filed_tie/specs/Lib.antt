@@ -1,0 +1,9 @@
+pub mod Reach
+pub mod OpeningReach
+pub mod ClientReach
+pub mod CleanerReach
+pub mod ServerReach
+pub mod Bounds
+pub mod ManagerReach
+pub mod Floor
+pub mod RegistryReach
