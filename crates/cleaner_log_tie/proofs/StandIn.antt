@@ -32,7 +32,7 @@ use Rattle.node_log_tie.specs.Sight.Question.{Unasked, OfMaps, OfOpening}
 use Rattle.node_log_tie.proofs.Sights.{at_once}
 use Rattle.client_log_tie.specs.ClientEvents.{StageWritten, StageOwed, BodyFits, ActSeen as ClientActs}
 use Rattle.client_log_tie.specs.Owner.{Scene, asker, Lasts, SeesStage}
-use Rattle.client_log_tie.proofs.Frames.{ClientDoes}
+use Rattle.client_log_tie.proofs.Frames.{ClientDoes, says_seen}
 use Rattle.client_log_tie.proofs.OpeningEvents as events
 use Rattle.client_log_tie.proofs.OpeningLog.{ProgressSeen, WentTo}
 use Rattle.opening_law.specs.Questions.{StageAsks}
@@ -134,7 +134,8 @@ module _ (g : Setting) (w : Scene) where
 
   does_so : (its : Owner) (e : Effect) → MayDo its e → ClientDoes g its_number w e → CleanerDoes g w e
   does_so its (Send to said) may h =
-      said_as g (asker its_number w) (its_asker w) w.net w.net (at_once w.net) (λ k some. refl) (Client its_number) to refl said (λ m e t. absurd (no_welcome its to said may m e)) h
+      said_as g (asker its_number w) (its_asker w) w.net w.net (at_once w.net) (λ k some. refl) (Client its_number) to refl said (λ m e t. absurd (no_welcome its to said may m e))
+      (says_seen g its_number w to said h)
   does_so its (Answer item answer) may h = tt
   does_so its (Lose seg) may h = tt
   does_so its (Does act) may h = acts_so act may h

@@ -11,7 +11,7 @@ ghost use Rattle.client_log_tie.specs.Texts.{WhatFitsStaysWritten};
 ///
 /// - `start`: a client at its start is seen in the opening of the small world; its log can be spelled where the ids of the setup's groups fit.
 /// - `events`: a client that is seen there before an event is seen after it in a world to which that one runs on, by its owner alone; all that the client sends
-///   was sent there, and all that it tells to be filed is filed there.
+///   was sent there, and all that it tells to be filed is filed there; it stores to its own log, and bars it, alone.
 pub fn client_log_events_are_seen()
     ensures start { ClientStarts }
     ensures events { ClientTakes }

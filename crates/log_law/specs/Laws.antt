@@ -30,7 +30,8 @@ Holds g n s place = held_at (n.shelves (server_of (members_of g s) place)).held 
 abbrev pub IsLater : Setting → Net → Segment → ℕ → Type 0
 IsLater g n s place = generation_of (members_of g s) place < (n.shelves (server_of (members_of g s) place)).generation
 
--- Logs are whole: what is filed was in flight; the group of what was in flight has a member; and of a filed segment that isn't dropped each member holds its fragment, or is of a later generation.
+-- Logs are whole: what is filed was in flight; the group of what was in flight has a member; and of a filed segment that isn't dropped each member holds its
+-- fragment, or is of a later generation.
 pub record LogsWhole (g : Setting) (n : Net) : Type 0 where
   pub flown : (name : SegName) → In name n.filed → (s : Segment) × In s n.flown × (s.name ≡ name)
   pub striped : (s : Segment) → In s n.flown → 0 < length (members_of g s)

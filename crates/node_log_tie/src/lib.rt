@@ -35,7 +35,7 @@ pub fn registry_events_are_seen()
 /// - `start`: the cleaner at its start is seen.
 /// - `events`: a cleaner that is seen before an event is seen after it in a world to which that one runs on by drops: each segment of the log that it has
 ///   deleted was listed by a server, and is below the least horizon. All that it sends was sent there, and each segment that it acts to be dropped is dropped
-///   there; it stores and fences for its own log alone.
+///   there, and nothing but what it has servers delete; it stores and fences for its own log alone.
 pub fn cleaner_events_are_seen()
     ensures start { CleanerStarts }
     ensures events { CleanerEventGoes }
