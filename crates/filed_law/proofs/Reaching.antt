@@ -23,7 +23,7 @@ act_rises : (reach later : Reach) → Rises reach later → (act : Act) → ActR
 act_rises reach later rises (Filed name) h = (let a = rises name.log.0 in omega (arith, a, h))
 act_rises reach later rises _ h = tt
 
-acts_rise : (reach later : Reach) → Rises reach later → (acts : List Act) → ActsReach reach acts → ActsReach later acts
+pub acts_rise : (reach later : Reach) → Rises reach later → (acts : List Act) → ActsReach reach acts → ActsReach later acts
 acts_rise reach later rises [] all = tt
 acts_rise reach later rises (act ∷ acts) all = (act_rises reach later rises act all.0, acts_rise reach later rises acts all.1)
 

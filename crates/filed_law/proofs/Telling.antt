@@ -39,12 +39,12 @@ use Rattle.filed_law.proofs.Reaching.{filed_rises, filed_reached, is_filed}
 -- ---- lists
 
 module _ {X : Type 0} (P : X → Type 0) where
-  all_got : (xs : List X) (place : ℕ) (x : X) → AllByRecursion P xs → slice_get xs place ≡ Some x → P x
+  pub all_got : (xs : List X) (place : ℕ) (x : X) → AllByRecursion P xs → slice_get xs place ≡ Some x → P x
   all_got [] place x all is = (let clash : None ≡ Some x = is in absurd (cc))
   all_got (y ∷ xs) zero x all is = subst P (ap (λ o. unwrap_or o y) is) all.0
   all_got (y ∷ xs) (suc place) x all is = all_got xs place x all.1 is
 
-  all_set : (xs : List X) (place : ℕ) (x : X) → AllByRecursion P xs → P x → AllByRecursion P (slice_set xs place x)
+  pub all_set : (xs : List X) (place : ℕ) (x : X) → AllByRecursion P xs → P x → AllByRecursion P (slice_set xs place x)
   all_set [] place x all h = tt
   all_set (y ∷ xs) zero x all h = (h, all.1)
   all_set (y ∷ xs) (suc place) x all h = (all.0, all_set xs place x all.1 h)
@@ -88,11 +88,11 @@ module _ (laws : NodeLaws) where
     any_rises (any.Cleaner node) h = laws.cleaner_rises reach later node rises h
     any_rises (any.Registry node) h = laws.registry_rises reach later node rises h
 
-    nodes_rise : (xs : List AnyNode) → AllByRecursion (AnyReaches reach) xs → AllByRecursion (AnyReaches later) xs
+    pub nodes_rise : (xs : List AnyNode) → AllByRecursion (AnyReaches reach) xs → AllByRecursion (AnyReaches later) xs
     nodes_rise [] all = tt
     nodes_rise (x ∷ xs) all = (any_rises x all.0, nodes_rise xs all.1)
 
-    packets_rise : (ps : List Packet) → AllByRecursion (PacketTells reach) ps → AllByRecursion (PacketTells later) ps
+    pub packets_rise : (ps : List Packet) → AllByRecursion (PacketTells reach) ps → AllByRecursion (PacketTells later) ps
     packets_rise [] all = tt
     packets_rise (p ∷ ps) all = (body_rises reach later rises p.from p.body all.0, packets_rise ps all.1)
 

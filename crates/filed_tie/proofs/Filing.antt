@@ -34,8 +34,8 @@ use Rattle.xfs_base.specs.declared.segment.End.{End}
 use Rattle.xfs_base.specs.declared.segment.LogId.{LogId}
 use Rattle.filed_tie.proofs.Leaving.{all_weaker}
 use Rattle.filed_tie.specs.Bounds.{ReportBounded, KnownBounded, PhaseBounded, BodyBounded, PacketBounded, DoBounded}
-use Rattle.filed_tie.specs.ManagerReach.{filed, ManagerReachRises, ManagerStartsReaching, ManagersTellFiled}
-use Rattle.filed_tie.specs.RegistryReach.{RegistryReaches, RegistryReachRises, RegistryStartsReaching, RegistryTellsFiled}
+use Rattle.filed_tie.specs.ManagerReach.{filed, ManagerReachRises, ManagerStartsReaching, ManagersTellFiled, ManagersTellNoMore}
+use Rattle.filed_tie.specs.RegistryReach.{RegistryReaches, RegistryReachRises, RegistryStartsReaching, RegistryTellsFiled, RegistryTellsNoMore}
 use Rattle.filed_tie.specs.Reach.{Reach, Rises, AppliedReaches, HorizonReaches, LogReaches, BodyTells, PacketTells, DoTells}
 use Rattle.filed_tie.proofs.Bounding.{Bounding, packets_bounded}
 use Rattle.filed_tie.proofs.LogNumbers.{number_at, number_put, numbers_of}
@@ -148,9 +148,6 @@ module _ (reach later : Reach) (rises : Rises reach later) where
   manager_later : (p : Phase) → PhaseBounded (filed reach) p → PhaseBounded (filed later) p
   manager_later p h = phase_weaker (filed reach) (filed later) filed_later p h
 
-  do_later : (what : Do) → DoTells reach what → DoBounded (filed later) what
-  do_later what h = do_bounded later what (do_rises reach later rises what h)
-
   registry_later : (node : RegistryNode) → RegistryReaches reach node → RegistryReaches later node
   registry_later node h slot within = horizon_rises reach later rises (horizon_kept node.board.checkpoints slot) (h slot within)
 
@@ -162,12 +159,16 @@ managers_start reach number setup works = first_bounded (filed reach) number set
 pub managers_rise : ManagerReachRises
 managers_rise reach later m rises h = manager_later reach later rises m.phase h
 
-pub managers_tell : ManagersTellFiled
-managers_tell reach later m what rises h told acts =
+pub managers_tell_alone : ManagersTellNoMore
+managers_tell_alone reach m what h told =
     let node : NodeId = AManager (lasting_of m.phase).number in
     let outs = (happens m what).outs in
-    let d = manager_goes (filed later) (filing later) node m what (manager_later reach later rises m.phase h) (do_later reach later rises what told) in
-    record { node = d.state; packets = packets_told later (packets_of node outs) (packets_bounded (filed later) node outs d.outs) }
+    let d = manager_goes (filed reach) (filing reach) node m what h (do_bounded reach what told) in
+    record { node = d.state; packets = packets_told reach (packets_of node outs) (packets_bounded (filed reach) node outs d.outs) }
+
+pub managers_tell : ManagersTellFiled
+managers_tell reach later m what rises h told acts =
+    managers_tell_alone later m what (manager_later reach later rises m.phase h) (do_rises reach later rises what told)
 
 pub registry_starts : RegistryStartsReaching
 registry_starts reach setup works =
@@ -176,9 +177,12 @@ registry_starts reach setup works =
 pub registry_rises : RegistryReachRises
 registry_rises reach later node rises h = registry_later reach later rises node h
 
+pub registry_tells_alone : RegistryTellsNoMore
+registry_tells_alone reach node what h told =
+    let outs = (registry_takes node what).outs in
+    let d = registry_goes (filed reach) node what h (do_bounded reach what told) (λ slot within other. h slot within) in
+    record { node = d.state; packets = packets_told reach (packets_of Registry outs) (packets_bounded (filed reach) Registry outs d.outs) }
+
 pub registry_tells : RegistryTellsFiled
 registry_tells reach later node what rises h told acts =
-    let before : RegistryReaches later node = registry_later reach later rises node h in
-    let outs = (registry_takes node what).outs in
-    let d = registry_goes (filed later) node what before (do_later reach later rises what told) (λ slot within other. before slot within) in
-    record { node = d.state; packets = packets_told later (packets_of Registry outs) (packets_bounded (filed later) Registry outs d.outs) }
+    registry_tells_alone later node what (registry_later reach later rises node h) (do_rises reach later rises what told)

@@ -43,8 +43,9 @@ use Rattle.store_nodes.specs.declared.server.Wish.{Wish}
 use Rattle.store_nodes.specs.declared.server.Wish.TheVariants.{Lose, Rebuild, Other}
 use Rattle.store_nodes.specs.Rebuilds.{Done, lists_asked, fetch_asked, says, goes_on, rebuilds, server_in, awaits_list, fetch_of, on_listed, found_for, on_found, missing_for, on_missing}
 use Rattle.store_nodes.specs.ServerEvents.{on_store, found_or_missing, fence_told, on_fence, on_delete, takes_news, on_news, left_hello, on_welcome, asks_for_maps, tells, hears, hears_known, on_body, on_packet, on_lose, begins_rebuild, on_rebuild, on_wish, at_item, wish_of, on_begin, hello_again, on_tick, on_event, is_far_from_ends, takes}
+use Rattle.filed_tie.proofs.Rising.{do_rises}
 use Rattle.filed_tie.specs.Reach.{Reach}
-use Rattle.filed_tie.specs.ServerReach.{ServersTellFiled}
+use Rattle.filed_tie.specs.ServerReach.{ServersTellFiled, ServersTellNoMore}
 use Rattle.filed_tie.proofs.Frames as frames
 
 module _ (reach : Reach) (v : ℕ) where
@@ -226,6 +227,9 @@ module _ (reach : Reach) (v : ℕ) where
   takes_quietly : (node : nodes.Server) (what : Do) → Quiet (takes node what)
   takes_quietly node what = by_test Quiet (is_far_from_ends node) (on_event node what) (still node) (λ t. happens node what) (λ t. tt)
 
+pub servers_tell_alone : ServersTellNoMore
+servers_tell_alone reach node what holds tells =
+    record { node = tt; packets = frames.packets_tell reach (Server node.number) (takes node what).outs (takes_quietly reach node.number node what) }
+
 pub servers_tell : ServersTellFiled
-servers_tell reach later node what rises holds tells acts =
-    record { node = tt; packets = frames.packets_tell later (Server node.number) (takes node what).outs (takes_quietly later node.number node what) }
+servers_tell reach later node what rises holds tells acts = servers_tell_alone later node what tt (do_rises reach later rises what tells)

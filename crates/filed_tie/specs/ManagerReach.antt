@@ -5,7 +5,7 @@ use Rattle.manager_node.specs.Events.{first_manager, manager_step}
 use Rattle.version_model.specs.declared.work.Work.{Work}
 use Rattle.xfs_base.specs.declared.setup.Setup.{Setup}
 use Rattle.filed_tie.specs.Bounds.{Bounds, ManagerBounded}
-use Rattle.filed_tie.specs.Reach.{Reach, AppliedReaches, HorizonReaches, LogReaches, ReachesRise, EventsTellFiled}
+use Rattle.filed_tie.specs.Reach.{Reach, AppliedReaches, HorizonReaches, LogReaches, ReachesRise, EventsTellFiled, EventsTellNoMore}
 
 -- nothing is applied but what was filed, no horizon is above anything else, and no number is told of it
 abbrev pub filed : Reach → Bounds
@@ -29,3 +29,7 @@ ManagerReachRises = ReachesRise Manager ManagerReaches
 -- whatever happens to a manager
 abbrev pub ManagersTellFiled : Type 0
 ManagersTellFiled = EventsTellFiled Manager ManagerReaches manager_step
+
+-- and whatever it acts itself: of its own log it tells nothing
+abbrev pub ManagersTellNoMore : Type 0
+ManagersTellNoMore = EventsTellNoMore Manager ManagerReaches manager_step

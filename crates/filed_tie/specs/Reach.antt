@@ -94,3 +94,8 @@ abbrev pub EventsTellFiled : (N : Type 0) → (Reach → N → Type 0) → (N �
 EventsTellFiled N Reaches step =
     (reach later : Reach) (node : N) (what : Do) → Rises reach later → Reaches reach node → DoTells reach what → ActsReach later (step node what).acts
     → TellsFiled Reaches later (step node what)
+
+-- Each event of a node of a kind that tells nothing of a log of its own: where the node held, and the packet that comes told, of nothing beyond what was filed
+-- before, so it is then, whatever the node acts to be filed in the event.
+abbrev pub EventsTellNoMore : (N : Type 0) → (Reach → N → Type 0) → (N → Do → NodeStep N) → Type 0
+EventsTellNoMore N Reaches step = (reach : Reach) (node : N) (what : Do) → Reaches reach node → DoTells reach what → TellsFiled Reaches reach (step node what)

@@ -6,7 +6,7 @@ use Rattle.version_model.specs.declared.work.Work.{Work}
 use Rattle.xfs_base.specs.declared.setup.Setup.{Setup}
 use Rattle.filed_tie.specs.Bounds.{RegistryBounded}
 use Rattle.filed_tie.specs.ManagerReach.{filed}
-use Rattle.filed_tie.specs.Reach.{Reach, ReachesRise, EventsTellFiled}
+use Rattle.filed_tie.specs.Reach.{Reach, ReachesRise, EventsTellFiled, EventsTellNoMore}
 
 -- the horizons of the slots' newest checkpoints are above nothing but what was filed
 abbrev pub RegistryReaches : Reach → RegistryNode → Type 0
@@ -23,3 +23,7 @@ RegistryReachRises = ReachesRise RegistryNode RegistryReaches
 -- whatever happens to the registry
 abbrev pub RegistryTellsFiled : Type 0
 RegistryTellsFiled = EventsTellFiled RegistryNode RegistryReaches registry_step
+
+-- and whatever it acts itself
+abbrev pub RegistryTellsNoMore : Type 0
+RegistryTellsNoMore = EventsTellNoMore RegistryNode RegistryReaches registry_step

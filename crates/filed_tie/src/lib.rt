@@ -9,9 +9,9 @@
 ghost use Rattle.filed_tie.specs.CleanerReach.{CleanerReachRises, CleanerStartsReaching, CleanerTellsFiled};
 ghost use Rattle.filed_tie.specs.ClientReach.{ClientReachRises, ClientStartsReaching, ClientsTellFiled};
 ghost use Rattle.filed_tie.specs.Floor.{ManagerStartsAbove, ManagersStayAbove, RegistryKeepsAbove, RegistryStartsAbove};
-ghost use Rattle.filed_tie.specs.ManagerReach.{ManagerReachRises, ManagerStartsReaching, ManagersTellFiled};
-ghost use Rattle.filed_tie.specs.RegistryReach.{RegistryReachRises, RegistryStartsReaching, RegistryTellsFiled};
-ghost use Rattle.filed_tie.specs.ServerReach.{ServersTellFiled};
+ghost use Rattle.filed_tie.specs.ManagerReach.{ManagerReachRises, ManagerStartsReaching, ManagersTellFiled, ManagersTellNoMore};
+ghost use Rattle.filed_tie.specs.RegistryReach.{RegistryReachRises, RegistryStartsReaching, RegistryTellsFiled, RegistryTellsNoMore};
+ghost use Rattle.filed_tie.specs.ServerReach.{ServersTellFiled, ServersTellNoMore};
 
 /// What a client tells of its log was filed.
 ///
@@ -38,8 +38,12 @@ pub fn cleaner_tells_what_is_filed()
 {}
 
 /// A storage server tells nothing of what was filed.
+///
+/// - `events`: it holds nothing of it after an event, and no packet that it sends tells of it.
+/// - `alone`: so it is whatever it acts to be filed itself.
 pub fn servers_tell_what_is_filed()
-    ensures { ServersTellFiled }
+    ensures events { ServersTellFiled }
+    ensures alone { ServersTellNoMore }
 {}
 
 /// What a manager has applied of logs, and what its checkpoints cover, was filed.
@@ -48,10 +52,12 @@ pub fn servers_tell_what_is_filed()
 /// - `rises`: what was filed stays so: where more is filed, what a manager holds was.
 /// - `events`: where what a manager holds, and what the packet that comes tells, was filed before an event, what it holds then, and what each packet that it
 ///   sends tells, was filed before the event or in it: no horizon is more than one beyond the last segment that was filed of its log.
+/// - `alone`: so it is of what was filed before the event, whatever the manager acts to be filed in it: of its own log it tells nothing.
 pub fn managers_tell_what_is_filed()
     ensures start { ManagerStartsReaching }
     ensures rises { ManagerReachRises }
     ensures events { ManagersTellFiled }
+    ensures alone { ManagersTellNoMore }
 {}
 
 /// What the registry keeps of checkpoints, and what its maps tell of them, was filed.
@@ -60,10 +66,12 @@ pub fn managers_tell_what_is_filed()
 /// - `rises`: what was filed stays so: where more is filed, what the registry keeps was.
 /// - `events`: where the horizons that the registry keeps, and those of a checkpoint of which it is told, are no more than one beyond what was filed before an
 ///   event, those that it keeps then, and those of the maps that it sends, are no more than one beyond what was filed before the event or in it.
+/// - `alone`: so it is of what was filed before the event, whatever the registry acts to be filed in it.
 pub fn registry_tells_what_is_filed()
     ensures start { RegistryStartsReaching }
     ensures rises { RegistryReachRises }
     ensures events { RegistryTellsFiled }
+    ensures alone { RegistryTellsNoMore }
 {}
 
 /// What a manager has applied of logs never falls below the horizons that it was told: from the checkpoint on with which it took a slot over, nothing of a log

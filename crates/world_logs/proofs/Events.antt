@@ -65,7 +65,7 @@ use Rattle.world_logs.proofs.Start.{log_small}
 use Rattle.world_logs.proofs.StoreTurns.{cleaner_turn, registry_turn, server_turn}
 use Rattle.world_logs.proofs.Turns.{turned}
 use Rattle.world_logs.specs.Doings.{is_client}
-use Rattle.world_logs.specs.Owed.{Reached, board_of}
+use Rattle.world_logs.specs.Horizons.{Reached, board_of}
 use Rattle.xfs_base.specs.declared.node.NodeId.{NodeId}
 use Rattle.xfs_base.specs.declared.node.NodeId.TheVariants.{Client, Manager, Server, Cleaner, Registry}
 use Rattle.xfs_base.specs.declared.segment.LogId.{LogId}

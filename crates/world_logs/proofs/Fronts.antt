@@ -41,7 +41,7 @@ use Rattle.world_logs.proofs.Says.{may_say}
 use Rattle.world_logs.proofs.Settings.{names_at_end}
 use Rattle.world_logs.proofs.Standing.{Stands}
 use Rattle.world_logs.specs.Doings.{acts_by, acts_of, is_client}
-use Rattle.world_logs.specs.Owed.{Reached, board_of}
+use Rattle.world_logs.specs.Horizons.{Reached, board_of}
 use Rattle.world_logs.specs.Shelves.{group_in, groups_of}
 use Rattle.xfs_base.specs.declared.node.NodeId.TheVariants.{Client, Registry}
 use Rattle.xfs_base.specs.declared.setup.Setup.{Setup}

@@ -1,4 +1,4 @@
--- Every run keeps the logs of its clients, in runs in which no client opens its log again and no horizon is kept beyond what was filed.
+-- Every run keeps the logs of its clients, in runs in which no client opens its log again.
 use Rattle.std.proofs.Common.{◌≡◌, ℕ, ◌+◌, ◌≤◌, ◌<◌, List, [], ◌∷◌, Some, length, take, refl, sym, ap, subst, ◌∙◌, arith}
 use Rattle.std.specs.List.{fold}
 use Rattle.client_log_tie.specs.ClientEvents.{PhaseOwed}
@@ -40,7 +40,8 @@ use Rattle.world_logs.proofs.Standing.{Stands}
 use Rattle.world_logs.proofs.Start.{first_scene, start_stands}
 use Rattle.world_logs.specs.Doings.{did}
 use Rattle.world_logs.specs.Logs.{LogsStand}
-use Rattle.world_logs.specs.Owed.{HorizonsReached, IsOpening, NoneOpens, board_of}
+use Rattle.world_logs.specs.Horizons.{HorizonsReached, board_of}
+use Rattle.world_logs.specs.Owed.{IsOpening, NoneOpens}
 use Rattle.world_logs.specs.Shelves.{group_at, shelf_at, shelf_of}
 use Rattle.xfs_base.specs.declared.node.NodeId.TheVariants.{Client, Server, Registry}
 use Rattle.xfs_base.specs.declared.setup.Setup.{Setup}

@@ -14,4 +14,6 @@ pub mod Start
 pub mod Events
 pub mod Fronts
 pub mod Reading
+pub mod OwnFiling
+pub mod Horizons
 pub mod Laws

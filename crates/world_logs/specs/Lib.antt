@@ -1,4 +1,5 @@
 pub mod Doings
+pub mod Horizons
 pub mod Shelves
 pub mod Logs
 pub mod Owed

@@ -3,9 +3,14 @@
 //! log (`log_law`) beside the run of the nodes; `proofs/Standing.antt` says how the two stand to each other.
 #![tactic(auto)]
 
+ghost use Rattle.world_logs.specs.Horizons.{RunsReachHorizons};
 ghost use Rattle.world_logs.specs.Logs.{RunsKeepLogs};
 
 use client_log_tie::client_log_events_are_seen;
+use filed_tie::{
+    cleaner_tells_what_is_filed, clients_tell_what_is_filed, managers_tell_what_is_filed,
+    registry_tells_what_is_filed, servers_tell_what_is_filed,
+};
 use group_map::laws::groups_stay_as_made;
 use log_law::{logs_stay_whole, one_name_one_text};
 use log_tie::settings_exist;
@@ -19,15 +24,22 @@ use node_tie::{
 /// of each segment that a client told to be filed, and of which no Delete was sent, each member of its group holds its fragment, or its server has lost its disk
 /// since the group was made; and whatever is held, stored or sent under a name of a client's log is a fragment of one segment, the same for all of that name.
 ///
-/// - `keeps`: so it is of every run of a script of whose setup a run can be started, in which no horizon is kept beyond what was filed and no client opens its
-///   log again. That the first holds of each run, and that the second isn't needed, is open.
+/// - `horizons`: in every run of a script of whose setup a run can be started, no horizon that the registry keeps of a client's log is more than one beyond a
+///   segment that the client itself told to be filed.
+/// - `keeps`: logs are whole, and one name has one text, in every such run in which no client opens its log again. That this isn't needed is open.
 pub fn runs_keep_logs()
+    ensures horizons { RunsReachHorizons }
     ensures keeps { RunsKeepLogs }
 {
     clients_ask_for_their_call();
     client_events_are_seen();
     manager_events_are_seen();
     other_events_are_seen();
+    clients_tell_what_is_filed();
+    cleaner_tells_what_is_filed();
+    servers_tell_what_is_filed();
+    managers_tell_what_is_filed();
+    registry_tells_what_is_filed();
     client_log_events_are_seen();
     server_events_are_seen();
     registry_events_are_seen();

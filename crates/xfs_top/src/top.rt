@@ -6,6 +6,8 @@ ghost use Rattle.top_call.specs.Commands.{command_of, reads};
 ghost use Rattle.world_law.specs.Fallen.{NobodyHoldsThroughout};
 ghost use Rattle.world_law.specs.Managers.{OneManagerThroughout};
 ghost use Rattle.world_law.specs.Owners.{OneOwnerThroughout};
+ghost use Rattle.world_logs.specs.Horizons.{HorizonsReached};
+ghost use Rattle.world_logs.specs.Logs.{LogsStandUnopened};
 
 use core_world::AnyNode;
 use std::alloc::Global;
@@ -13,13 +15,16 @@ use std::sync::Wait;
 use std::thread::Threads;
 use top_call::{Outcome, Sink, Source, answer};
 use world_law::{every_run_has_one_manager, every_run_has_one_owner, what_fell_is_held_by_nobody};
+use world_logs::runs_keep_logs;
 use xfs_base::Gate;
 
 /// The program for all words but those that start threads. `README.md` lists the statuses, and
 /// `docs/PROMISES.md` says what the claim promises. Where a run was played, no block had two owners at any of
 /// its moments, nor another holder beside an owner, whatever was lost, repeated or reordered (`one_owner`); no
 /// slot had two managers at one epoch (`one_manager`); and nobody held what a client fell with that wasn't back
-/// (`nobody_holds`).
+/// (`nobody_holds`). No horizon of a client's log was beyond what that client filed (`horizons_filed`). Where no client
+/// opened its log again, what clients filed stood whole on the servers' shelves, but for lost disks, and one name had
+/// one text (`logs_stand`).
 pub fn solo<S: Source, K: Sink>(
     alloc: Global,
     words: &[String],
@@ -31,10 +36,13 @@ pub fn solo<S: Source, K: Sink>(
     ensures one_owner { IfSome result.estate OneOwnerThroughout }
     ensures one_manager { IfSome result.estate OneManagerThroughout }
     ensures nobody_holds { IfSome result.estate NobodyHoldsThroughout }
+    ensures horizons_filed { IfSome result.estate HorizonsReached }
+    ensures logs_stand { IfSome result.estate LogsStandUnopened }
 {
     every_run_has_one_owner();
     every_run_has_one_manager();
     what_fell_is_held_by_nobody();
+    runs_keep_logs();
     answer(alloc, words, source, sink)
 }
 
@@ -53,6 +61,8 @@ pub fn xfs<R: Threads + Wait + Sync, S: Source, K: Sink, G: Gate>(
     ensures one_owner { IfSome result.estate OneOwnerThroughout }
     ensures one_manager { IfSome result.estate OneManagerThroughout }
     ensures nobody_holds { IfSome result.estate NobodyHoldsThroughout }
+    ensures horizons_filed { IfSome result.estate HorizonsReached }
+    ensures logs_stand { IfSome result.estate LogsStandUnopened }
 {
     solo(alloc, words, source, sink)
 }

@@ -1,4 +1,4 @@
-use Rattle.filed_tie.proofs.Filing.{managers_start, managers_rise, managers_tell}
+use Rattle.filed_tie.proofs.Filing.{managers_start, managers_rise, managers_tell, managers_tell_alone}
 use Rattle.filed_tie.proofs.managers_tell_what_is_filed.Goals as goal
 
 pub returns : goal.returns
@@ -6,4 +6,5 @@ returns c = record {
   start = managers_start;
   rises = managers_rise;
   events = managers_tell;
+  alone = managers_tell_alone;
 }

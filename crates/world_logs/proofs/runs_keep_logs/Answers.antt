@@ -1,35 +1,61 @@
+use Rattle.world_law.proofs.Laws.{NodeLaws}
+use Rattle.world_logs.proofs.Horizons.{horizons_reached}
 use Rattle.world_logs.proofs.Laws.{logs_stand}
 use Rattle.world_logs.proofs.runs_keep_logs.Goals as goal
+use Rattle.world_logs.specs.Horizons.{RunsReachHorizons}
 
 pub returns : goal.returns
-returns c = record {
-  keeps = λ e ok run low none. logs_stand (record {
-    nodes = record {
-      tokens = record {
-        starts_asking = c.clients_ask_for_their_call.ensures.start;
-        keeps_asking = c.clients_ask_for_their_call.ensures.events;
-        client = c.client_events_are_seen.ensures.events;
-        first_manager = c.manager_events_are_seen.ensures.start;
-        manager = c.manager_events_are_seen.ensures.events;
-        begins = c.other_events_are_seen.ensures.start;
-        registry = c.other_events_are_seen.ensures.events;
-        server = c.other_events_are_seen.ensures.servers;
-        cleaner_starts = c.other_events_are_seen.ensures.cleaner_start;
-        cleaner = c.other_events_are_seen.ensures.cleaner;
+returns c =
+    let tokens : NodeLaws = record {
+      starts_asking = c.clients_ask_for_their_call.ensures.start;
+      keeps_asking = c.clients_ask_for_their_call.ensures.events;
+      client = c.client_events_are_seen.ensures.events;
+      first_manager = c.manager_events_are_seen.ensures.start;
+      manager = c.manager_events_are_seen.ensures.events;
+      begins = c.other_events_are_seen.ensures.start;
+      registry = c.other_events_are_seen.ensures.events;
+      server = c.other_events_are_seen.ensures.servers;
+      cleaner_starts = c.other_events_are_seen.ensures.cleaner_start;
+      cleaner = c.other_events_are_seen.ensures.cleaner;
+    } in
+    let horizons : RunsReachHorizons = horizons_reached tokens (record {
+      told = record {
+        client_starts = c.clients_tell_what_is_filed.ensures.start;
+        client_rises = c.clients_tell_what_is_filed.ensures.rises;
+        client = c.clients_tell_what_is_filed.ensures.events;
+        manager_starts = c.managers_tell_what_is_filed.ensures.start;
+        manager_rises = c.managers_tell_what_is_filed.ensures.rises;
+        manager = c.managers_tell_what_is_filed.ensures.events;
+        server = c.servers_tell_what_is_filed.ensures.events;
+        cleaner_starts = c.cleaner_tells_what_is_filed.ensures.start;
+        cleaner_rises = c.cleaner_tells_what_is_filed.ensures.rises;
+        cleaner = c.cleaner_tells_what_is_filed.ensures.events;
+        registry_starts = c.registry_tells_what_is_filed.ensures.start;
+        registry_rises = c.registry_tells_what_is_filed.ensures.rises;
+        registry = c.registry_tells_what_is_filed.ensures.events;
       };
-      client_starts = c.client_log_events_are_seen.ensures.start;
-      client = c.client_log_events_are_seen.ensures.events;
-      server_starts = c.server_events_are_seen.ensures.start;
-      server = c.server_events_are_seen.ensures.events;
-      maps = c.server_events_are_seen.ensures.maps;
-      registry_starts = c.registry_events_are_seen.ensures.start;
-      registry = c.registry_events_are_seen.ensures.events;
-      cleaner_starts = c.cleaner_events_are_seen.ensures.start;
-      cleaner = c.cleaner_events_are_seen.ensures.events;
-    };
-    groups = c.groups_stay_as_made.ensures;
-    setting = c.settings_exist.ensures;
-    whole = c.logs_stay_whole.ensures.whole;
-    text = c.one_name_one_text.ensures.one_text;
-  }) e ok run low none;
-}
+      manager = c.managers_tell_what_is_filed.ensures.alone;
+      server = c.servers_tell_what_is_filed.ensures.alone;
+      registry = c.registry_tells_what_is_filed.ensures.alone;
+    }) in
+    record {
+      horizons = horizons;
+      keeps = λ e ok run none. logs_stand (record {
+        nodes = record {
+          tokens = tokens;
+          client_starts = c.client_log_events_are_seen.ensures.start;
+          client = c.client_log_events_are_seen.ensures.events;
+          server_starts = c.server_events_are_seen.ensures.start;
+          server = c.server_events_are_seen.ensures.events;
+          maps = c.server_events_are_seen.ensures.maps;
+          registry_starts = c.registry_events_are_seen.ensures.start;
+          registry = c.registry_events_are_seen.ensures.events;
+          cleaner_starts = c.cleaner_events_are_seen.ensures.start;
+          cleaner = c.cleaner_events_are_seen.ensures.events;
+        };
+        groups = c.groups_stay_as_made.ensures;
+        setting = c.settings_exist.ensures;
+        whole = c.logs_stay_whole.ensures.whole;
+        text = c.one_name_one_text.ensures.one_text;
+      }) e ok run (horizons e ok run) none;
+    }

@@ -1,6 +1,8 @@
 use Rattle.world_law.specs.Fallen.{NobodyHoldsThroughout}
 use Rattle.world_law.specs.Managers.{OneManagerThroughout}
 use Rattle.world_law.specs.Owners.{OneOwnerThroughout}
+use Rattle.world_logs.specs.Horizons.{HorizonsReached}
+use Rattle.world_logs.specs.Logs.{LogsStandUnopened}
 use Rattle.xfs_top.proofs.Runs.{played_has}
 use Rattle.xfs_top.proofs.top.solo.Goals as goal
 
@@ -18,3 +20,9 @@ returns-clause-one_manager g c = played_has OneManagerThroughout c.every_run_has
 
 pub returns-clause-nobody_holds : goal.returns-clause-nobody_holds
 returns-clause-nobody_holds g c = played_has NobodyHoldsThroughout c.what_fell_is_held_by_nobody.ensures.nobody c.answer.result.estate c.answer.ensures.claim.run
+
+pub returns-clause-horizons_filed : goal.returns-clause-horizons_filed
+returns-clause-horizons_filed g c = played_has HorizonsReached c.runs_keep_logs.ensures.horizons c.answer.result.estate c.answer.ensures.claim.run
+
+pub returns-clause-logs_stand : goal.returns-clause-logs_stand
+returns-clause-logs_stand g c = played_has LogsStandUnopened c.runs_keep_logs.ensures.keeps c.answer.result.estate c.answer.ensures.claim.run

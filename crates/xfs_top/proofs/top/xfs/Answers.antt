@@ -14,3 +14,9 @@ returns-clause-one_manager g c = c.solo.ensures.one_manager
 
 pub returns-clause-nobody_holds : goal.returns-clause-nobody_holds
 returns-clause-nobody_holds g c = c.solo.ensures.nobody_holds
+
+pub returns-clause-horizons_filed : goal.returns-clause-horizons_filed
+returns-clause-horizons_filed g c = c.solo.ensures.horizons_filed
+
+pub returns-clause-logs_stand : goal.returns-clause-logs_stand
+returns-clause-logs_stand g c = c.solo.ensures.logs_stand
