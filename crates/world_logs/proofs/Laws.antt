@@ -131,6 +131,6 @@ module _ (below : Below) (e : Estate AnyNode) (ok : IsSetup e.script.setup) (run
       let l = (good_at count).logs c some most in
       let f = tokens.front below.nodes.tokens e ok run count 0 (omega arith) in
       record {
-        whole = λ name is kept. is_whole base e.world (moment e count) setup.servers c k f.0 l.0 (did e c count) l.1 below.whole (exist count c some most) name is kept;
+        whole = λ name is kept. is_whole base e.world (moment e count) setup.servers c k f.0 l.0 (did e c count) l.1 below.whole below.text (exist count c some most) name is kept;
         one_text = λ name of. has_text base e.world (moment e count) setup.servers c k f.0 l.0 (did e c count) l.1 below.text name of;
       }

@@ -102,9 +102,42 @@ module _ (base : Setting) (end w : World AnyNode) (servers c : ℕ) (k : Cluster
       let seen : ServerSeen g net u h.node = st.seen (Server u) (any.Server h.node) (here (Server u) (any.Server h.node) h.is) in
       seen.shelf ∙ h.its
 
+  -- ---- the text of one segment
+
+  -- whatever is of this name is a fragment of the one segment of the name, as it is cut for a group
+  module _ (law : OneNameOneText) (name : SegName) (of : name.log ≡ log_of c) (its : Segment) (only : (t : Segment) → tables.In t net.flown → t.name ≡ name → t ≡ its)
+      (group : Group) (cut_so : (i : ℕ) → fragment_of g its i ≡ piece its group i) where
+    one : OneText g net
+    one = law g net st.moment
+
+    -- a fragment of a segment of this name is one of this segment
+    of_it : (f : Fragment) (t : Segment) → tables.In t net.flown → t.name ≡ name → f ≡ fragment_of g t f.meta.index
+        → f ≡ piece its group f.meta.index
+    of_it f t is e cut = cut ∙ ap (λ (z : Segment). fragment_of g z f.meta.index) (only t is e) ∙ cut_so f.meta.index
+
+    named_so : (f : Fragment) (t : Segment) → f ≡ fragment_of g t f.meta.index → f.meta.name ≡ name → t.name ≡ name
+    named_so f t cut e = ap (λ (z : Fragment). z.meta.name) (sym cut) ∙ e
+
+    ours : (n : SegName) → n ≡ name → is_of_log g n ≡ true
+    ours n e = subst (λ (z : SegName). is_of_log g z ≡ true) (sym e) (subst (λ (l : LogId). (l.0 == c) ≡ true) (sym of) (itself c))
+
+    seen_as : (packet : Packet) (m : Body) (to : NodeId) → WasSent w.sent packet → packet.to ≡ to → packet.body ≡ m
+        → BodySeen g (asker c v) net packet.from to m
+    seen_as packet m to was at is =
+        subst (BodySeen g (asker c v) net packet.from to) is (subst (λ t. BodySeen g (asker c v) net packet.from t packet.body) at (st.facts packet (was_sent w.sent packet was)))
+
+    text : IsText w name its group
+    text = record {
+      held = λ u shelf f at is. (let t = one.held u name f of (subst (λ (s : ShelfState). held_at s.held name ≡ Some f) (sym (shelf_is u shelf at)) is) in of_it f t.0 t.1 t.2 t.3);
+      stored = λ u packet m was to is e. (let t = one.stored u m.generation m.fragment (seen_as packet (body.Store m) (Server u) was to is (ours m.fragment.meta.name e)) in
+          of_it m.fragment t.0 t.1 (named_so m.fragment t.0 t.2 e) t.2);
+      told = λ packet m was is e. (let t = one.told m.fragment (seen_as packet (body.Fragment m) packet.to was refl is (ours m.fragment.meta.name e)) in
+          of_it m.fragment t.0 t.1 (named_so m.fragment t.0 t.2 e) t.2);
+    }
+
   -- ---- whole
 
-  module _ (law : LogsStayWhole) (exist : (id : ℕ) (group : Group) → group_at end id ≡ Some group → (place : ℕ) → place < length group.members
+  module _ (law : LogsStayWhole) (texts : OneNameOneText) (exist : (id : ℕ) (group : Group) → group_at end id ≡ Some group → (place : ℕ) → place < length group.members
       → (shelf : ShelfState) × (shelf_at w (server_of group.members place) ≡ Some shelf)) (name : SegName) (is : In (act.Filed name) told) (kept : NotDeleted w name) where
     all : LogsWhole g net
     all = law g net st.moment
@@ -143,18 +176,21 @@ module _ (base : Setting) (end w : World AnyNode) (servers c : ℕ) (k : Cluster
         subst (HoldsOrLost segment group place) (sym x.1)
         (subst (λ (s : ShelfState). (held_at s.held segment.name ≡ Some (piece segment group place)) ⊎ (generation_of group.members place < s.generation)) same (members place below))
 
-    pub is_whole : IsWhole end w name
-    is_whole = record { segment = segment; named = its.2; group = group; striped = grouped.1; kept = member }
+    -- it is the one segment of the name
+    its_text : name.log ≡ log_of c → IsText w name segment group
+    its_text of =
+        text texts name of segment (λ t is e. (texts g net st.moment).one t segment is its.1 (e ∙ sym its.2)) group
+        (λ i. ap (λ (s : Stripe). fragment_over segment s i) (ap stripe_by grouped.1))
+
+    pub is_whole : IsWhole end w c name
+    is_whole = record { segment = segment; named = its.2; group = group; striped = grouped.1; kept = member; text = its_text }
 
   -- ---- one text
 
   module _ (law : OneNameOneText) (name : SegName) (of : name.log ≡ log_of c) where
-    one : OneText g net
-    one = law g net st.moment
-
     -- the segment of the name, where there is one
     abbrev picked : (s : Segment) × ((t : Segment) → tables.In t net.flown → t.name ≡ name → t ≡ s)
-    picked = ⊎_elim (λ (f : (s : Segment) × tables.In s net.flown × (s.name ≡ name)). (f.0, λ t is e. one.one t f.0 is f.1 (e ∙ sym f.2)))
+    picked = ⊎_elim (λ (f : (s : Segment) × tables.In s net.flown × (s.name ≡ name)). (f.0, λ t is e. (law g net st.moment).one t f.0 is f.1 (e ∙ sym f.2)))
         (λ none. (record { name = name; prior = record { pass = record { inc = 0; att = 0 }; group = 0 }; group = 0; items = [] }, λ t is e. absurd (none t is e))) (look name net.flown)
 
     abbrev segment_here : Segment
@@ -163,33 +199,8 @@ module _ (base : Setting) (end w : World AnyNode) (servers c : ℕ) (k : Cluster
     abbrev group_here : Group
     group_here = record { id = segment_here.group; members = (g.stripe segment_here.group).members; parity = (g.stripe segment_here.group).parity; current = false }
 
-    -- a fragment of a segment of this name is one of this segment
-    of_it : (f : Fragment) (t : Segment) → tables.In t net.flown → t.name ≡ name → f ≡ fragment_of g t f.meta.index
-        → f ≡ piece segment_here group_here f.meta.index
-    of_it f t is e cut = cut ∙ ap (λ (z : Segment). fragment_of g z f.meta.index) (picked.1 t is e)
-
-    named_so : (f : Fragment) (t : Segment) → f ≡ fragment_of g t f.meta.index → f.meta.name ≡ name → t.name ≡ name
-    named_so f t cut e = ap (λ (z : Fragment). z.meta.name) (sym cut) ∙ e
-
-    ours : (n : SegName) → n ≡ name → is_of_log g n ≡ true
-    ours n e = subst (λ (z : SegName). is_of_log g z ≡ true) (sym e) (subst (λ (l : LogId). (l.0 == c) ≡ true) (sym of) (itself c))
-
-    seen_as : (packet : Packet) (m : Body) (to : NodeId) → WasSent w.sent packet → packet.to ≡ to → packet.body ≡ m
-        → BodySeen g (asker c v) net packet.from to m
-    seen_as packet m to was at is =
-        subst (BodySeen g (asker c v) net packet.from to) is (subst (λ t. BodySeen g (asker c v) net packet.from t packet.body) at (st.facts packet (was_sent w.sent packet was)))
-
-    text : IsText w name segment_here group_here
-    text = record {
-      held = λ u shelf f at is. (let t = one.held u name f of (subst (λ (s : ShelfState). held_at s.held name ≡ Some f) (sym (shelf_is u shelf at)) is) in of_it f t.0 t.1 t.2 t.3);
-      stored = λ u packet m was to is e. (let t = one.stored u m.generation m.fragment (seen_as packet (body.Store m) (Server u) was to is (ours m.fragment.meta.name e)) in
-          of_it m.fragment t.0 t.1 (named_so m.fragment t.0 t.2 e) t.2);
-      told = λ packet m was is e. (let t = one.told m.fragment (seen_as packet (body.Fragment m) packet.to was refl is (ours m.fragment.meta.name e)) in
-          of_it m.fragment t.0 t.1 (named_so m.fragment t.0 t.2 e) t.2);
-    }
-
     pub has_text : (segment : Segment) × (group : Group) × IsText w name segment group
-    has_text = (segment_here, group_here, text)
+    has_text = (segment_here, group_here, text law name of segment_here picked.1 group_here (λ i. refl))
 
   -- ---- the registry's groups
 

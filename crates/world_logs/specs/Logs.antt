@@ -29,25 +29,6 @@ use Rattle.xfs_base.specs.declared.segment.SegName.{SegName}
 abbrev pub log_of : ℕ → LogId
 log_of c = record { 0 = c }
 
--- ---- logs are whole
-
--- no server was told to delete the segment
-abbrev pub NotDeleted : World AnyNode → SegName → Type 0
-NotDeleted w name = (packet : Packet) (m : Delete) → WasSent w.sent packet → packet.body ≡ body.Delete m → m.name ≡ name → ⊥
-
--- There is a segment of this name, and its group is one of the registry's, by its map at the end of the run: of that group each member holds its fragment, or
--- its server has lost its disk since the group was made.
-pub record IsWhole (end w : World AnyNode) (name : SegName) : Type 0 where
-  pub segment : Segment
-  pub named : segment.name ≡ name
-  pub group : Group
-  pub striped : group_at end segment.group ≡ Some group
-  pub kept : IsKept w segment group
-
--- so it is of each segment that the client has told to be filed, unless a Delete of it was sent
-abbrev pub LogIsWhole : Estate AnyNode → ℕ → ℕ → Type 0
-LogIsWhole e count c = (name : SegName) → In (act.Filed name) (did e c count) → NotDeleted (moment e count) name → IsWhole e.world (moment e count) name
-
 -- ---- one name, one text
 
 -- whatever is held under a name, or was sent under it to be stored or as what is held, is a fragment of this segment, cut for this group
@@ -62,6 +43,26 @@ pub record IsText (w : World AnyNode) (name : SegName) (segment : Segment) (grou
 -- each name of the client's log has one text
 abbrev pub HasOneText : World AnyNode → ℕ → Type 0
 HasOneText w c = (name : SegName) → name.log ≡ log_of c → (segment : Segment) × (group : Group) × IsText w name segment group
+
+-- ---- logs are whole
+
+-- no server was told to delete the segment
+abbrev pub NotDeleted : World AnyNode → SegName → Type 0
+NotDeleted w name = (packet : Packet) (m : Delete) → WasSent w.sent packet → packet.body ≡ body.Delete m → m.name ≡ name → ⊥
+
+-- There is a segment of this name, the one of the name where that is of this log, and its group is one of the registry's, by its map at the end of the run: of
+-- that group each member holds its fragment, or its server has lost its disk since the group was made.
+pub record IsWhole (end w : World AnyNode) (c : ℕ) (name : SegName) : Type 0 where
+  pub segment : Segment
+  pub named : segment.name ≡ name
+  pub group : Group
+  pub striped : group_at end segment.group ≡ Some group
+  pub kept : IsKept w segment group
+  pub text : name.log ≡ log_of c → IsText w name segment group
+
+-- so it is of each segment that the client has told to be filed, unless a Delete of it was sent
+abbrev pub LogIsWhole : Estate AnyNode → ℕ → ℕ → Type 0
+LogIsWhole e count c = (name : SegName) → In (act.Filed name) (did e c count) → NotDeleted (moment e count) name → IsWhole e.world (moment e count) c name
 
 -- ---- at each moment
 

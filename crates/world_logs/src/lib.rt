@@ -20,12 +20,12 @@ use node_tie::{
     other_events_are_seen,
 };
 
-/// In every run, whatever messages are lost, repeated or reordered and whichever nodes stop, logs are whole at each of its moments (the 1996 paper, on RAID):
+/// Whatever messages are lost, repeated or reordered and whichever nodes stop, as long as no client opens its log again, logs are whole at each moment of a run (the 1996 paper, on RAID):
 /// of each segment that a client told to be filed, and of which no Delete was sent, each member of its group holds its fragment, or its server has lost its disk
 /// since the group was made; and whatever is held, stored or sent under a name of a client's log is a fragment of one segment, the same for all of that name.
 ///
-/// - `horizons`: in every run of a script of whose setup a run can be started, no horizon that the registry keeps of a client's log is more than one beyond a
-///   segment that the client itself told to be filed.
+/// - `horizons`: in every run of a script of whose setup a run can be started, the least horizon that the registry keeps of a client's log is 1 at most, or no
+///   more than one beyond a segment that the client itself told to be filed.
 /// - `keeps`: logs are whole, and one name has one text, in every such run in which no client opens its log again. That this isn't needed is open.
 pub fn runs_keep_logs()
     ensures horizons { RunsReachHorizons }

@@ -22,9 +22,9 @@ use xfs_base::Gate;
 /// `docs/PROMISES.md` says what the claim promises. Where a run was played, no block had two owners at any of
 /// its moments, nor another holder beside an owner, whatever was lost, repeated or reordered (`one_owner`); no
 /// slot had two managers at one epoch (`one_manager`); and nobody held what a client fell with that wasn't back
-/// (`nobody_holds`). No horizon of a client's log was beyond what that client filed (`horizons_filed`). Where no client
-/// opened its log again, what clients filed stood whole on the servers' shelves, but for lost disks, and one name had
-/// one text (`logs_stand`).
+/// (`nobody_holds`). The least horizon of a client's log was 1, or no more than one beyond a segment that the client
+/// filed (`horizons_filed`). Where no client opened its log again, what clients filed stood whole on the servers'
+/// shelves, but for what was deleted and for lost disks, and one name had one text (`logs_stand`).
 pub fn solo<S: Source, K: Sink>(
     alloc: Global,
     words: &[String],
