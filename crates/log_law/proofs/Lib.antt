@@ -35,3 +35,6 @@ mod Running
 mod Reopening
 mod Stages
 mod Adopted
+mod ScanEnds
+mod GoingOn
+mod Flying

@@ -5,5 +5,6 @@ pub mod Laws
 pub mod Ends
 pub mod Places
 pub mod Tails
+pub mod Openings
 pub mod Below
 pub mod Runs

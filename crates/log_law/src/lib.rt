@@ -6,6 +6,7 @@
 
 ghost use Rattle.log_law.specs.Ends.{EndsAreLast, FilesItsFlight};
 ghost use Rattle.log_law.specs.Laws.{AReopeningAdopts, LogsStayInLine, LogsStayWhole, OneNameOneText, SomeSegmentFiled, TheFeedIsWhole};
+ghost use Rattle.log_law.specs.Openings.{FliesNext, OpeningsGoOn};
 ghost use Rattle.log_law.specs.Places.{APlaceNamesOneContent};
 ghost use Rattle.log_law.specs.Runs.{SomeRestarts};
 ghost use Rattle.log_law.specs.Tails.{ARestartFilesTheTail, ATailIsFiledOrNever};
@@ -107,6 +108,15 @@ pub fn a_tail_is_filed_or_never()
 /// it filed in this boot, and those that its reopening read back (the 1996 paper, "The Imap").
 pub fn the_feed_is_whole()
     ensures feed { TheFeedIsWhole }
+{
+    below();
+}
+
+/// Openings go on: where the number of all that was in flight has one after it, a log can be started behind the end that an opening tells, whatever comes next;
+/// and unless the owner falls, what begins to fly has no number beyond the one after the end of its log.
+pub fn openings_go_on()
+    ensures on { OpeningsGoOn }
+    ensures flies { FliesNext }
 {
     below();
 }
