@@ -1,5 +1,5 @@
 -- How the cleaner goes on in the small world of its own log: what is seen stays seen, and one thing that it does follows another.
-use Rattle.std.proofs.Common.{◌≡◌, ℕ, List, [], ◌∷◌, Option, Some, None, true, refl, sym, ◌∙◌, subst, arith}
+use Rattle.std.proofs.Common.{◌≡◌, ℕ, List, [], ◌∷◌, Option, Some, None, true, refl, sym, ◌∙◌, subst, inl, arith}
 use Rattle.std.specs.Prelude.{IfSome}
 use Rattle.std.specs.List.{AllByRecursion}
 use Rattle.client_log.specs.declared.input.In.{In as LogIn}
@@ -31,7 +31,7 @@ use Rattle.log_law.specs.Events.Runs.{Begun}
 use Rattle.node_log_tie.specs.CleanerEvents.{JobSeen, EmptyingSeen}
 use Rattle.node_log_tie.specs.Sight.{Asker, Question, AskedBy, AnsweredBy, BodySeen, Later}
 use Rattle.node_log_tie.specs.Sight.Question.{Unasked, OfMaps, OfOpening}
-use Rattle.node_log_tie.proofs.Emptied.{emptying_later}
+use Rattle.node_log_tie.proofs.Emptied.{OnlyOrdered, emptying_later, ordered_then}
 use Rattle.node_log_tie.proofs.Going.{run_later, runs_on}
 use Rattle.node_log_tie.proofs.Lists.{all_append, all_weaker, if_some}
 use Rattle.client_log_tie.specs.ClientEvents.{Grown}
@@ -187,6 +187,8 @@ module _ (g : Setting) where
       pub stands : Stands g next (record e { log = d.state })
       pub sent : (p : Packet) → In p (log_packets d.outs) → In p next.net.sent
       pub filed : (name : SegName) → In name (log_filed g.log d.outs) → In name next.net.filed
+      pub boot : next.net.inc ≡ w.net.inc
+      pub kept : next.net.dropped ≡ w.net.dropped
 
     took_so : (w : Scene) (e : Emptying) (d : log.Done) → Stands g w e → logs.Took g its_number w its_number e.lasting.inc e.lasting.questions.last d
         → LogTook w e d
@@ -196,6 +198,8 @@ module _ (g : Setting) where
       stands = record { lasts = t.stands.lasts; log = t.stands.sees; written = t.stands.written; job = job_more w t.next (owner_grows w t.next t.grown) e h };
       sent = t.sent;
       filed = t.filed;
+      boot = t.boot;
+      kept = t.grown.dropped;
     }
 
     as_client : (w : Scene) (e : Emptying) → Stands g w e → client_frames.Stands g its_number w e.log its_number e.lasting.inc e.lasting.questions.last
@@ -220,9 +224,11 @@ module _ (g : Setting) where
     pub grown : Grows g w next
     pub stands : Stands g next d.state
     pub does : AllDone next d.outs
+    pub boot : next.net.inc ≡ w.net.inc
+    pub only : OnlyOrdered g (its_asker w) w.net next.net d.outs
 
   pub at_once : (w : Scene) (e : Emptying) (outs : List Effect) → Stands g w e → AllDone w outs → Gone w (record { state = e; outs = outs })
-  at_once w e outs stands does = record { next = w; grown = still_grows w; stands = stands; does = does }
+  at_once w e outs stands does = record { next = w; grown = still_grows w; stands = stands; does = does; boot = refl; only = λ name is. inl is }
 
   pub stays : (w : Scene) (e : Emptying) → Stands g w e → Gone w (still e)
   stays w e stands = at_once w e [] stands tt
@@ -233,6 +239,8 @@ module _ (g : Setting) where
     grown = grows_on w p.next q.next p.grown q.grown;
     stands = q.stands;
     does = all_append (CleanerDoes q.next) d.outs e.outs (all_more p.next q.next q.grown d.outs p.does) q.does;
+    boot = q.boot ∙ p.boot;
+    only = ordered_then g (its_asker w) w.net p.next.net q.next.net d.outs e.outs p.only q.only;
   }
 
   -- what is seen at once, and then the rest
@@ -242,6 +250,8 @@ module _ (g : Setting) where
     grown = q.grown;
     stands = q.stands;
     does = all_append (CleanerDoes q.next) outs e.outs (all_more w q.next q.grown outs does) q.does;
+    boot = q.boot;
+    only = ordered_then g (its_asker w) w.net w.net q.next.net outs e.outs (λ name is. inl is) q.only;
   }
 
   -- one step after the other

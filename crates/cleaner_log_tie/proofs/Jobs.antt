@@ -1,11 +1,12 @@
 -- What a cleaner that serves does for its job, in the small world of its own log: what it asks, puts into its log and deletes.
-use Rattle.std.proofs.Common.{◌≡◌, ◌≤◌, ℕ, Bool, true, false, List, [], ◌∷◌, Option, Some, None, refl, sym, ap, ◌∙◌, subst, inl, inr, arith}
+use Rattle.std.proofs.Common.{◌≡◌, ⊎_elim, ◌⊎◌, ◌≤◌, ℕ, Bool, true, false, List, [], ◌∷◌, Option, Some, None, refl, sym, ap, ◌∙◌, subst, inl, inr, arith}
 use Rattle.std.specs.Prelude.{IfSome}
 use Rattle.std.specs.List.{AllByRecursion, flat_map}
 use Rattle.xfs_base.proofs.Booleans.{by_test, contrary}
 use Rattle.xfs_base.specs.declared.block.BlockId.{BlockId}
 use Rattle.xfs_base.specs.declared.entry.Entry.{Entry}
 use Rattle.xfs_base.specs.declared.entry.Place.{Place}
+use Rattle.xfs_base.specs.declared.node.NodeId.TheVariants as node
 use Rattle.xfs_base.specs.declared.segment.SegName.{SegName}
 use Rattle.xfs_base.specs.declared.segment.SegRef.{SegRef}
 use Rattle.xfs_base.specs.Steps.{still, steps}
@@ -21,6 +22,7 @@ use Rattle.client_log.specs.Transition as log
 use Rattle.log_owner.specs.Opening.{stored}
 use Rattle.log_owner.specs.Sending.{hello, fetch}
 use Rattle.node_base.specs.Asking.{drawn, next_ask}
+use Rattle.node_base.specs.declared.effects.Effect.TheVariants.{Send}
 use Rattle.node_base.specs.declared.questions.Questions.{Questions}
 use Rattle.node_base.specs.Room.{has_room}
 use Rattle.stripe_cleaner.specs.declared.input.In.{In as Input}
@@ -35,6 +37,7 @@ use Rattle.stripe_code.specs.declared.reading.Next.TheVariants as next
 use Rattle.stripe_code.specs.declared.round.Told.{Told}
 use Rattle.stripe_code.specs.Reading.{ReadingState, to_ask}
 use Rattle.version_model.specs.declared.answer.Answer.TheVariants.{Count}
+use Rattle.wire_msg.specs.declared.body.Body.TheVariants as body
 use Rattle.wire_msg.specs.declared.cleaning.Dead.{Dead}
 use Rattle.wire_msg.specs.declared.cleaning.Live.{Live}
 use Rattle.wire_msg.specs.declared.cleaning.Usage.{Usage}
@@ -59,6 +62,7 @@ use Rattle.node_log_tie.specs.Sight.{AskedBy, ListedSeen}
 use Rattle.node_log_tie.specs.Sight.Question.{OfMaps}
 use Rattle.node_log_tie.proofs.Cleaning.{OutDrops, CleaningSent, CleanOn, cleaning_takes}
 use Rattle.node_log_tie.proofs.Emptied.{out_later}
+use Rattle.node_log_tie.proofs.Going.{in_after}
 use Rattle.node_log_tie.proofs.Lists.{all_append, all_map, answers_send}
 use Rattle.node_log_tie.proofs.RebuildEvents.{all_listed}
 use Rattle.client_log_tie.specs.Owner.{Scene, Lasts}
@@ -127,6 +131,8 @@ module _ (g : Setting) (is : g.log ≡ cleaner_log) where
           job = record { seen = its.seen; hello = put_here w.asked number OfMaps; phase = its.phase; hand = its.hand };
         };
         does = (record { own = λ own. subst (AskedBy g (its_asker v) v.net e.lasting.inc) (sym (put_here w.asked number OfMaps)) tt; reached = tt }, tt);
+        boot = refl;
+        only = λ name is. inl is;
       }
 
   maps_asked : (w : Scene) (e : Emptying) (job : Option Job) → has_room e.lasting.questions.last ≡ true → Stands g w e → IfSome job (JobStands g w)
@@ -211,7 +217,14 @@ module _ (g : Setting) (is : g.log ≡ cleaner_log) where
   unfolding puts
   put_so w e i h came fits =
       let t : LogTook g is w e (log.transition e.log i) = log_takes g is w e i h came fits in
-      record { next = t.next; grown = t.grown; stands = t.stands; does = all_stored t.next (log.transition e.log i).outs t.sent }
+      record {
+        next = t.next;
+        grown = t.grown;
+        stands = t.stands;
+        does = all_stored t.next (log.transition e.log i).outs t.sent;
+        boot = t.boot;
+        only = λ name is. inl (subst (In name) t.kept is);
+      }
 
   block_put : (w : Scene) (e : Emptying) (one : BlockId × Entry × Option (List ℕ)) → Stands g w e → MoveFits one → Goes w (puts_block e one)
   unfolding puts_block
@@ -236,6 +249,7 @@ module _ (g : Setting) (is : g.log ≡ cleaner_log) where
     asked : next.asked ≡ w.asked
     said : is_of_log g name ≡ true → In (DeleteSent name) next.net.sent
     acted : is_of_log g name ≡ true → In name next.net.dropped
+    only : (x : SegName) → In x next.net.dropped → In x w.net.dropped ⊎ (x ≡ name)
 
   let_go : (w : Scene) (name : SegName) → DropOfLog g w.net name → LetGo w name
   let_go w name may = by_log (is_of_log g name) refl
@@ -260,6 +274,7 @@ module _ (g : Setting) (is : g.log ≡ cleaner_log) where
             asked = refl;
             said = λ its. inl (ap DeleteSent (sym m.named));
             acted = λ its. inl (sym m.named);
+            only = λ x is. ⊎_elim (λ same. inr (same ∙ m.named)) (λ was. inl was) is;
           }
       by_log false foreign = record {
         next = w;
@@ -269,6 +284,7 @@ module _ (g : Setting) (is : g.log ≡ cleaner_log) where
         asked = refl;
         said = λ its. contrary (sym foreign ∙ its);
         acted = λ its. contrary (sym foreign ∙ its);
+        only = λ x is. inl is;
       }
 
   -- one whose owner stands as it was stands so too
@@ -296,6 +312,9 @@ module _ (g : Setting) (is : g.log ≡ cleaner_log) where
         stands = stands_on w l.next (record e { job = Some (record job { hand = _ }) }) l.grown l.inc l.owner l.asked
             (record { lasts = h.lasts; log = h.log; written = h.written; job = record { seen = its.seen; hello = its.hello; phase = its.phase; hand = dropped_fits job.hand its.hand } });
         does = all_append (CleanerDoes g l.next) (drops (is_whole job.hand) name) _ (drop_acted l.next (is_whole job.hand) name l.acted) (l.said, tt);
+        boot = l.inc;
+        only = λ x is. ⊎_elim (λ was. inl was)
+            (λ same. inr (node.Server server, in_after (drops (is_whole job.hand) name) _ _ (inl (ap (λ (z : SegName). Send (node.Server server) (body.Delete (record { name = z }))) same)))) (l.only x is);
       }
 
   job_over : (w : Scene) (e : Emptying) (count : ℕ) → Stands g w e → Goes w (finishes e count)

@@ -5,6 +5,5 @@ mod Bytes
 mod Hands
 mod Jobs
 mod Serving
-mod Owed
 mod StandIn
 mod Phases

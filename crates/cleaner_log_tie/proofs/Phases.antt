@@ -1,5 +1,5 @@
 -- Each event of the cleaner is a run of the small world of its own log.
-use Rattle.std.proofs.Common.{◌≡◌, ◌<◌, ℕ, suc, ◌+◌, true, cond, List, [], ◌∷◌, Option, Some, None, nat_lt, refl, sym, ap, subst, ◌∙◌, inl, inr, arith}
+use Rattle.std.proofs.Common.{◌≡◌, ◌<◌, ℕ, suc, ◌+◌, true, false, cond, List, [], ◌∷◌, Option, Some, None, nat_lt, refl, sym, ap, subst, ◌∙◌, inl, inr, arith}
 use Rattle.std.specs.Prelude.{All}
 use Rattle.std.proofs.lemmas.Bool.Decides.{nat_tests}
 use Rattle.std.proofs.lemmas.List.Elements.{All-nil, All-cons, All-append}
@@ -47,11 +47,15 @@ use Rattle.log_law.specs.Net.Packet.{HelloSent}
 use Rattle.log_law.specs.Events.{Happens, Happens as happen}
 use Rattle.log_law.specs.Events.Happens.{Crashes}
 use Rattle.log_law.specs.Events.Runs.{Begun, On}
+use Rattle.log_law.specs.Restarts.{is_down}
 use Rattle.node_log_tie.specs.Sight.{AskedBy, BodySeen, PacketSeen, EffectSeen}
 use Rattle.node_log_tie.specs.Sight.Question.{OfOpening}
+use Rattle.node_log_tie.proofs.Emptied.{OnlyOrdered, only_deleted}
 use Rattle.node_log_tie.proofs.Lists.{all_append, all_weaker, answers_send, packets_all}
+use Rattle.client_log_tie.specs.ClientEvents.{FliesInBoot}
 use Rattle.client_log_tie.specs.Owner.{Scene}
-use Rattle.client_log_tie.proofs.OpeningLog.{ProgressSeen}
+use Rattle.client_log_tie.proofs.Boots.{same_boot, stage_up, log_up}
+use Rattle.client_log_tie.proofs.OpeningLog.{IsLost, ProgressSeen}
 use Rattle.client_log_tie.proofs.Questions.{ask_rises, put_here, put_keeps, put_fresh}
 use Rattle.opening_law.specs.Questions.{AsksOn, ProgressAsks}
 use Rattle.opening_law.proofs.Asking.{packet_few, starts_few, tick_few}
@@ -72,15 +76,24 @@ module _ (g : Setting) (is : g.log ≡ cleaner_log) (w : Scene) where
     grown : Grows g w next
     agrees : CleanerAgrees g next x.state
     does : AllDone g next x.outs
+    flies : FliesInBoot w.net next.net
+    only : OnlyOrdered g (its_asker w) w.net next.net x.outs
 
   at_once : (p : Phase) (outs : List Effect) → CleanerAgrees g w p → AllDone g w outs → Goes (record { state = p; outs = outs })
-  at_once p outs sees does = record { next = w; grown = still_grows g w; agrees = sees; does = does }
+  at_once p outs sees does = record { next = w; grown = still_grows g w; agrees = sees; does = does; flies = inr refl; only = λ name is. inl is }
 
   stays : (p : Phase) → CleanerAgrees g w p → Goes (still p)
   stays p sees = at_once p [] sees tt
 
-  serves : (d : Done) → Gone g w d → Goes (serves_on d)
-  serves d p = record { next = p.next; grown = p.grown; agrees = p.stands; does = p.does }
+  serves : (d : Done) → is_down w.net.owner ≡ false → Gone g w d → Goes (serves_on d)
+  serves d up p = record {
+    next = p.next;
+    grown = p.grown;
+    agrees = p.stands;
+    does = p.does;
+    flies = inl (same_boot w.net p.next.net up (log_up g its_number p.next d.state.log p.stands.log) p.boot);
+    only = p.only;
+  }
 
   answers_do : (v : Scene) (item : Option ℕ) (a : Answer) → AllDone g v (answers_unanswered item a)
   answers_do v item a = answers_send (CleanerDoes g v) (λ number said. tt) item a
@@ -99,6 +112,7 @@ module _ (g : Setting) (is : g.log ≡ cleaner_log) (w : Scene) where
     shelves : net.shelves ≡ n.shelves
     registry : net.registry ≡ n.registry
     low : net.low ≡ n.low
+    flown : net.flown ≡ n.flown
 
   fall_of : (n : Net) → Fall n
   fall_of n = record {
@@ -112,6 +126,7 @@ module _ (g : Setting) (is : g.log ≡ cleaner_log) (w : Scene) where
     shelves = refl;
     registry = refl;
     low = refl;
+    flown = refl;
   }
 
   abbrev fallen : Scene → Scene
@@ -141,6 +156,8 @@ module _ (g : Setting) (is : g.log ≡ cleaner_log) (w : Scene) where
     grown = fallen_grows w;
     agrees = fallen_agrees w (record l { items = answered l.items }) lasts;
     does = all_append (CleanerDoes g (fallen w)) (answers_unanswered l.items.unanswered answer.Cut) _ (answers_do (fallen w) l.items.unanswered answer.Cut) (tt, tt);
+    flies = inr (fall_of w.net).flown;
+    only = λ name is. inl (subst (In name) (fall_of w.net).dropped is);
   }
 
   -- ---- restarts
@@ -194,36 +211,48 @@ module _ (g : Setting) (is : g.log ≡ cleaner_log) (w : Scene) where
           },
           tt,
         );
+        flies = inr refl;
+        only = λ name is. inl is;
       }
 
   -- ---- an opening goes on
 
-  opened : (l : Lasting) (x : Went) → WentOn g w l.inc x → AsksOn x → Goes (opened_on l x)
+  opened : (l : Lasting) (x : Went) → LastsAs g w l → is_down w.net.owner ≡ false → WentOn g w l.inc x → AsksOn x → Goes (opened_on l x)
   unfolding after_opening
-  opened l x t few = by_progress x.progress t.shows few
+  opened l x lasts up t few = by_progress x.progress t.shows few t.lost
     where
+      in_boot : is_down t.next.net.owner ≡ false → FliesInBoot w.net t.next.net
+      in_boot still_up = inl (same_boot w.net t.next.net up still_up (t.lasts.inc ∙ sym lasts.inc))
+
       by_progress : (p : Progress) → ProgressSeen g its_number t.next x.questions.last p → ProgressAsks p x.questions.last
+          → (IsLost g its_number p → t.next.net.flown ≡ w.net.flown)
           → Goes (after x.effects (after_opening (record l { questions = x.questions }) p))
-      by_progress (progress.Opening o) shows asks = record {
+      by_progress (progress.Opening o) shows asks lost = record {
         next = t.next;
         grown = t.grown;
         agrees = record { lasts = t.lasts; sees = shows.0; written = shows.1; asks = asks };
         does = all_append (CleanerDoes g t.next) x.effects [] t.does tt;
+        flies = in_boot (stage_up g its_number t.next o.known x.questions.last o.stage shows.0);
+        only = λ name is. inl (subst (In name) t.kept is);
       }
-      by_progress (progress.Opened o) shows asks = record {
+      by_progress (progress.Opened o) shows asks lost = record {
         next = t.next;
         grown = t.grown;
         agrees = record { lasts = t.lasts; log = shows.0; written = shows.1; job = tt };
         does = all_append (CleanerDoes g t.next) x.effects _ t.does
             (all_append (CleanerDoes g t.next) (pushes_all o.promised.managers o.feed) (answers_unanswered l.items.unanswered answer.Done)
             (serving.deltas_pushed g is t.next o.promised.managers o.feed) (answers_do t.next l.items.unanswered answer.Done));
+        flies = in_boot (log_up g its_number t.next o.log shows.0);
+        only = λ name is. inl (subst (In name) t.kept is);
       }
-      by_progress (progress.Lost seg) shows asks = record {
+      by_progress (progress.Lost seg) shows asks lost = record {
         next = fallen t.next;
         grown = grows_on g w t.next (fallen t.next) t.grown (fallen_grows t.next);
         agrees = fallen_agrees t.next (record l { questions = x.questions; items = answered l.items }) t.lasts;
         does = all_append (CleanerDoes g (fallen t.next)) x.effects (answers_unanswered l.items.unanswered (answer.Lost seg))
             (all_more g t.next (fallen t.next) (fallen_grows t.next) x.effects t.does) (answers_do (fallen t.next) l.items.unanswered (answer.Lost seg));
+        flies = inr ((fall_of t.next.net).flown ∙ lost tt);
+        only = λ name is. inl (subst (In name) ((fall_of t.next.net).dropped ∙ t.kept) is);
       }
 
   -- ---- items
@@ -243,7 +272,7 @@ module _ (g : Setting) (is : g.log ≡ cleaner_log) (w : Scene) where
   serving_wish : (e : Emptying) (number : ℕ) (wish : Wish) → Stands g w e → has_room e.lasting.questions.last ≡ true → Goes (serving_wishes e number wish)
   serving_wish e number Crash sees room = crashed e.lasting number sees.lasts
   serving_wish e number Restart sees room = at_once (Serving e) _ sees (tt, tt)
-  serving_wish e number (Clean count) sees room = serves (on_clean e number count) (serving.cleaning_wished g is w e number count room sees)
+  serving_wish e number (Clean count) sees room = serves (on_clean e number count) (log_up g its_number w e.log sees.log) (serving.cleaning_wished g is w e number count room sees)
 
   down_item : (servers : ℕ) (l : Lasting) (item : Option ℕ) → CleanerAgrees g w (Down l) → lasting_room l ≡ true → Goes (down_at servers l item)
   down_item servers l None sees room = stays (Down l) sees
@@ -278,12 +307,12 @@ module _ (g : Setting) (is : g.log ≡ cleaner_log) (w : Scene) where
   unfolding hears
   heard (Down l) packet sees owed room = stays (Down l) sees
   heard (Opening l o) packet sees owed room =
-      opened l (opening.on_packet o l.questions packet)
+      opened l (opening.on_packet o l.questions packet) sees.lasts (stage_up g its_number w o.known l.questions.last o.stage sees.sees)
       (stand_in.packet_heard g is w l.inc l.questions sees.lasts (asks_room l room) (life_room l room) o sees.sees sees.written sees.asks owed.opening packet
       (subst (λ to. BodySeen g (its_asker w) w.net packet.from to packet.body) owed.own owed.seen) owed.fits)
       (packet_few o l.questions packet (asks_room l room) sees.asks)
   heard (Serving e) packet sees owed room =
-      serves (on_packet e packet)
+      serves (on_packet e packet) (log_up g its_number w e.log sees.log)
       (serving.packet_heard g is w e packet (asks_room e.lasting room) sees (subst (λ to. BodySeen g (its_asker w) w.net packet.from to packet.body) owed.own owed.seen)
       owed.fits)
 
@@ -291,10 +320,10 @@ module _ (g : Setting) (is : g.log ≡ cleaner_log) (w : Scene) where
   unfolding on_time
   passed (Down l) sees owed room = stays (Down l) sees
   passed (Opening l o) sees owed room =
-      opened l (opening.on_tick o l.questions)
+      opened l (opening.on_tick o l.questions) sees.lasts (stage_up g its_number w o.known l.questions.last o.stage sees.sees)
       (stand_in.time_passes g is w l.inc l.questions sees.lasts (asks_room l room) (life_room l room) o sees.sees sees.written sees.asks owed)
       (tick_few o l.questions (asks_room l room) sees.asks)
-  passed (Serving e) sees owed room = serves (on_tick e) (serving.time_passes g is w e (asks_room e.lasting room) sees)
+  passed (Serving e) sees owed room = serves (on_tick e) (log_up g its_number w e.log sees.log) (serving.time_passes g is w e (asks_room e.lasting room) sees)
 
   its_room : (p : Phase) → phase_room p ≡ true → lasting_room (lasting_of p) ≡ true
   its_room (Down l) room = room
@@ -344,4 +373,6 @@ owner_takes g is w cleaner what sees owed =
           (λ to said does. does) outs
           (all_weaker (CleanerDoes g p.next) (EffectSeen g (its_asker p.next) p.next.net TheCleaner) (as_effect g p.next) outs p.does);
       acts = all_acts g p.next outs p.does;
+      flies = p.flies;
+      only = only_deleted g (its_asker w) w.net p.next.net outs p.only;
     }

@@ -1,5 +1,5 @@
 -- What a cleaner that serves does at each packet, in time, and when a job begins, in the small world of its own log.
-use Rattle.std.proofs.Common.{◌≡◌, ◌≤◌, ℕ, ◌==◌, ◌&&◌, Bool, true, false, List, [], ◌∷◌, Option, Some, None, is_some, nat_lt, refl, sym, subst, inl, inr, arith}
+use Rattle.std.proofs.Common.{◌≡◌, ⊎_elim, ◌≤◌, ℕ, ◌==◌, ◌&&◌, Bool, true, false, List, [], ◌∷◌, Option, Some, None, is_some, nat_lt, refl, sym, subst, ◌∙◌, inl, inr, arith}
 use Rattle.std.specs.Prelude.{IfSome}
 use Rattle.std.specs.List.{AllByRecursion, range_with_len}
 use Rattle.xfs_base.proofs.Booleans.{by_test}
@@ -193,7 +193,14 @@ module _ (g : Setting) (is : g.log ≡ cleaner_log) where
   all_written w e r t =
       let f : Emptying = record e { log = r.state } in
       let p : Goes t.next (steps writes_one f r.outs) = all_steps g writes_one LogSaid said_more one_written t.next f r.outs t.stands (all_said t.next r.outs t.sent t.filed) in
-      record { next = p.next; grown = grows_on g w t.next p.next t.grown p.grown; stands = p.stands; does = p.does }
+      record {
+        next = p.next;
+        grown = grows_on g w t.next p.next t.grown p.grown;
+        stands = p.stands;
+        does = p.does;
+        boot = p.boot ∙ t.boot;
+        only = λ name is. ⊎_elim (λ was. inl (subst (In name) t.kept was)) inr (p.only name is);
+      }
 
   stored_came : (w : Scene) (e : Emptying) (m : Stored) → Stands g w e → BodySeen g (its_asker w) w.net node.Cleaner node.Cleaner (body.Stored m)
       → Goes w (on_stored e m)
@@ -330,6 +337,8 @@ module _ (g : Setting) (is : g.log ≡ cleaner_log) where
           job = job_more g is w v grown e h;
         };
         does = (record { own = λ own. subst (AskedBy g (its_asker v) v.net e.lasting.inc) (sym (put_here w.asked number OfMaps)) tt; reached = tt }, tt);
+        boot = refl;
+        only = λ name is. inl is;
       }
 
   -- ---- packets and time

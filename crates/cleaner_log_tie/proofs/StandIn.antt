@@ -30,16 +30,16 @@ use Rattle.log_tie.specs.Setting.{Setting}
 use Rattle.node_log_tie.specs.Sight.{Question, AnsweredBy, ReachedBy, BodySeen}
 use Rattle.node_log_tie.specs.Sight.Question.{Unasked, OfMaps, OfOpening}
 use Rattle.node_log_tie.proofs.Sights.{at_once}
-use Rattle.client_log_tie.specs.ClientEvents.{StageWritten, StageOwed, BodyFits, ActSeen as ClientActs}
+use Rattle.client_log_tie.specs.ClientEvents.{StageWritten, StageTells, BodyFits, ActSeen as ClientActs}
 use Rattle.client_log_tie.specs.Owner.{Scene, asker, Lasts, SeesStage}
 use Rattle.client_log_tie.proofs.Frames.{ClientDoes, says_seen}
 use Rattle.client_log_tie.proofs.OpeningEvents as events
-use Rattle.client_log_tie.proofs.OpeningLog.{ProgressSeen, WentTo}
+use Rattle.client_log_tie.proofs.OpeningLog.{IsLost, ProgressSeen, WentTo}
+use Rattle.client_log_tie.proofs.Owed.{StageOwed, in_range, owed_so}
 use Rattle.opening_law.specs.Questions.{StageAsks}
 use Rattle.cleaner_log_tie.specs.Fitting.{InRange}
 use Rattle.cleaner_log_tie.specs.Owner.{its_asker, its_number}
-use Rattle.cleaner_log_tie.specs.OwnerEvents.{StageTells, ActSeen, Grows}
-use Rattle.cleaner_log_tie.proofs.Owed.{in_range, owed_so}
+use Rattle.cleaner_log_tie.specs.OwnerEvents.{ActSeen, Grows}
 use Rattle.cleaner_log_tie.proofs.Frames.{CleanerDoes, AllDone, said_as, owner_grows}
 
 -- ---- what comes, as it comes to a client
@@ -153,6 +153,9 @@ module _ (g : Setting) where
     pub lasts : Lasts g its_number next its_number life x.questions.last
     pub shows : ProgressSeen g its_number next x.questions.last x.progress
     pub does : AllDone g next x.effects
+    -- where a segment is lost, nothing began to fly
+    pub lost : IsLost g its_number x.progress → next.net.flown ≡ w.net.flown
+    pub kept : next.net.dropped ≡ w.net.dropped
 
   taken_over : (w : Scene) (life : ℕ) (its : Owner) (x : Went) → Behaves its x → WentTo g its_number w its_number life x → WentOn w life x
   taken_over w life its x may t = record {
@@ -161,16 +164,18 @@ module _ (g : Setting) where
     lasts = t.lasts;
     shows = t.shows;
     does = all_so g t.next its x.effects may.does (recursion_from_All (ClientDoes g its_number t.next) x.effects t.does);
+    lost = t.lost;
+    kept = t.grown.dropped;
   }
 
   module _ (is : g.log ≡ cleaner_log) (w : Scene) (life : ℕ) (q : Questions) (lasts : Lasts g its_number w its_number life q.last) (room : has_room q.last ≡ true) (life_room : has_room life ≡ true)
       (o : openings.Opening)
-      (sees : SeesStage g its_number w o.known q.last o.stage) (written : StageWritten o.stage) (asks : StageAsks o.stage q.last) (tells : StageTells g w o.stage) where
-    owed : StageOwed g w.net o.stage
-    owed = owed_so g is w o.known o.stage q.last (let e = lasts.inc in let b = in_range life life_room in omega arith) room sees asks tells
-
+      (sees : SeesStage g its_number w o.known q.last o.stage) (written : StageWritten o.stage) (asks : StageAsks o.stage q.last) (tells : StageTells g w.net o.stage) where
     small : is_log g.log.0 ≡ true
     small = ap (λ (l : LogId). is_log l.0) is
+
+    owed : StageOwed g w.net o.stage
+    owed = owed_so g its_number small w o.known o.stage q.last (let e = lasts.inc in let b = in_range life life_room in omega arith) room sees asks tells
 
     pub packet_heard : (p : packets.Packet) → BodySeen g (its_asker w) w.net p.from Cleaner p.body → InRange p.body → WentOn w life (on_packet o q p)
     packet_heard p seen fits =

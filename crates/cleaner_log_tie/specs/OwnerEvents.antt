@@ -1,13 +1,6 @@
 -- What an event makes of the cleaner, as the small world of its own log sees it.
-use Rattle.std.specs.Prelude.{◌≡◌, ℕ, true, List, All, IfSome}
-use Rattle.client_log.specs.Transition.{has_next}
-use Rattle.group_map.specs.GroupMapState.{GroupMapState}
+use Rattle.std.specs.Prelude.{◌≡◌, ℕ, true, List, All}
 use Rattle.group_map.specs.Groups as groups
-use Rattle.log_owner.specs.declared.opening.Stage as stages
-use Rattle.log_owner.specs.declared.opening.Stage.TheVariants as stage
-use Rattle.log_scan.specs.declared.input.In as scan_ins
-use Rattle.log_scan.specs.ScanState.{ScanState}
-use Rattle.log_scan.specs.Transition as scan
 use Rattle.version_model.specs.declared.act.Act.{Act}
 use Rattle.version_model.specs.declared.act.Act.TheVariants.{Filed, Dropped}
 use Rattle.version_model.specs.declared.work.Work.{Work}
@@ -16,7 +9,6 @@ use Rattle.wire_msg.specs.declared.packet.Do.TheVariants.{Begin, Deliver, Tick}
 use Rattle.wire_msg.specs.declared.packet.Packet as packets
 use Rattle.wire_msg.specs.NodeStep.{NodeStep}
 use Rattle.xfs_base.specs.declared.node.NodeId.TheVariants.{Cleaner}
-use Rattle.xfs_base.specs.declared.segment.End.{End}
 use Rattle.xfs_base.specs.declared.segment.SegName.{SegName}
 use Rattle.xfs_base.specs.declared.setup.Setup.{Setup}
 use Rattle.cleaner_node.specs.CleanerEvents.{cleaner_start, cleaner_step}
@@ -27,35 +19,24 @@ use Rattle.cleaner_node.specs.EmptyingEvents.{cleaner_log}
 use Rattle.log_protocol.specs.Tables.{In}
 use Rattle.log_tie.specs.Setting.{Setting}
 use Rattle.log_tie.specs.Shelves.{is_of_log}
-use Rattle.log_law.specs.Net.{Packet, chain_in, opening as at_first}
-use Rattle.log_law.specs.Net.Packet.{MapSent}
-use Rattle.log_law.specs.Events.{CameToScan, Runs}
+use Rattle.log_law.specs.Net.{Packet, opening as at_first}
+use Rattle.log_law.specs.Events.{Runs}
+use Rattle.node_log_tie.specs.CleanerEvents.{OnlyDeleted}
 use Rattle.node_log_tie.specs.Sight.{AllSeen, PacketSeen}
 use Rattle.node_log_tie.specs.Sight.Question.{Unasked}
+use Rattle.client_log_tie.specs.ClientEvents.{FliesInBoot, StageTells}
 use Rattle.client_log_tie.specs.Owner.{Scene}
-use Rattle.client_log_tie.specs.Texts.{EndFits, MapFits}
+use Rattle.client_log_tie.specs.Texts.{MapFits}
 use Rattle.cleaner_log_tie.specs.Fitting.{InRange}
 use Rattle.cleaner_log_tie.specs.Owner.{its_asker, CleanerAgrees}
 
 -- ---- what the world owes it
 
--- an end whose numbers fit, and whose number has one after it
-abbrev pub GoesOn : End → Type 0
-GoesOn e = (has_next e.seq ≡ true) × EndFits e
-
 module _ (g : Setting) (w : Scene) where
-  -- To a scan: the ids of the groups of maps that were sent fit, and behind the end of the chain that it tells, whatever comes next, the log can go on.
-  pub record ScanTells (s : ScanState) : Type 0 where
-    pub maps : (m : GroupMapState) → In (MapSent m) w.net.sent → MapFits m
-    pub end : (i : scan_ins.In) → CameToScan g w.net i → IfSome (chain_in (scan.transition s i).outs) (λ t. GoesOn t.end)
-
-  abbrev pub StageTells : stages.Stage → Type 0
-  StageTells (stage.Scanning s) = ScanTells s.scan
-  StageTells (stage.Settling s) = Unit {0}
-
+  -- to an opening, what a client's is owed
   abbrev pub OpeningOwed : Phase → Type 0
   OpeningOwed (Down l) = Unit {0}
-  OpeningOwed (Opening l o) = StageTells o.stage
+  OpeningOwed (Opening l o) = StageTells g w.net o.stage
   OpeningOwed (Serving e) = Unit {0}
 
   -- a packet that was sent to the cleaner
@@ -89,13 +70,16 @@ pub record Grows (g : Setting) (w v : Scene) : Type 0 where
   pub low : v.net.low ≡ w.net.low
   pub asked : (k : ℕ) → (w.asked k ≡ Unasked → ⊥) → v.asked k ≡ w.asked k
 
--- It runs on to one in which the cleaner is seen as it is then, all that it sends was sent, and all that it acts is seen.
+-- It runs on to one in which the cleaner is seen as it is then, all that it sends was sent, and all that it acts is seen; nothing is dropped but what it has
+-- servers delete.
 pub record OwnerGoes (g : Setting) (w : Scene) (d : NodeStep cleaners.Cleaner) : Type 0 where
   pub next : Scene
   pub grown : Grows g w next
   pub agrees : CleanerAgrees g next d.node.phase
   pub sends : AllSeen g (its_asker next) next.net d.packets
   pub acts : All (ActSeen g next) d.acts
+  pub only : OnlyDeleted w.net next.net d.packets
+  pub flies : FliesInBoot w.net next.net
 
 -- Each event of the cleaner is a run of the small world of its log.
 abbrev pub OwnerTakes : Type 0

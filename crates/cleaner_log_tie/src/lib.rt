@@ -8,7 +8,8 @@ ghost use Rattle.cleaner_log_tie.specs.OwnerEvents.{OwnerStarts, OwnerTakes};
 ///
 /// - `start`: the cleaner at its start is seen in the opening of the small world, where the ids of the setup's groups fit.
 /// - `events`: a cleaner that is seen there before an event is seen after it in a world to which that one runs on; all that it sends was sent there, all that
-///   it tells to be filed is filed there, and all of its own log that it tells to be dropped is dropped there.
+///   it tells to be filed is filed there, and all of its own log that it tells to be dropped is dropped there, and nothing but what it has servers delete; and
+///   the owner doesn't fall on the way, or nothing begins to fly.
 ///
 /// What is owed still: of the chain that a scan tells, that behind its end the log can go on (its numbers fit the format, and its number has one after it); and
 /// that numbers are in the ranges of their types (the ids of the groups of maps, the row of a `Live`, the bytes of a fragment).

@@ -1,8 +1,7 @@
 -- Each event of a client is a run of the small world of its log.
-use Rattle.std.proofs.Common.{◌≡◌, ◌<◌, ℕ, suc, ◌+◌, ◌&&◌, true, cond, List, [], ◌∷◌, ◌++◌, Option, Some, None, is_some, nat_lt, refl, sym, ap, subst, ◌∙◌, inl, inr, arith}
-use Rattle.std.specs.Prelude.{All}
+use Rattle.std.proofs.Common.{◌≡◌, ◌<◌, ℕ, suc, ◌+◌, ◌&&◌, true, false, cond, List, [], ◌∷◌, ◌++◌, Option, Some, None, is_some, nat_lt, refl, sym, ap, subst, ◌∙◌, inl, inr, arith}
 use Rattle.std.proofs.lemmas.Bool.Decides.{nat_tests}
-use Rattle.std.proofs.lemmas.List.Elements.{All-nil, All-cons, All-append, recursion_from_All}
+use Rattle.std.proofs.lemmas.List.Elements.{All-nil, All-cons, All-append}
 use Rattle.client_node.specs.declared.call.Going.{Going}
 use Rattle.client_node.specs.declared.client.Client.{Client}
 use Rattle.client_node.specs.declared.lasting.Lasting.{Lasting}
@@ -10,7 +9,7 @@ use Rattle.client_node.specs.declared.phase.Phase.{Phase}
 use Rattle.client_node.specs.declared.phase.Phase.TheVariants.{Down, Opening, Serving as Serves}
 use Rattle.client_node.specs.declared.serving.Serving.{Serving}
 use Rattle.client_node.specs.Packets as packets
-use Rattle.client_node.specs.Phases.{takes, Went_to, falls, crashed, next_life, restarted, after_opening, opened_on, answers, begins_call, call_at, opens, serves_on, wish_of, down_begins, opening_begins, serving_begins, lasting_of, begins_item, on_begin, on_deliver, on_time, delivers, happens, phase_room, client_room}
+use Rattle.client_node.specs.Phases.{owner_of, takes, Went_to, falls, crashed, next_life, restarted, after_opening, opened_on, answers, begins_call, call_at, opens, serves_on, wish_of, down_begins, opening_begins, serving_begins, lasting_of, begins_item, on_begin, on_deliver, on_time, delivers, happens, phase_room, client_room}
 use Rattle.client_node.specs.Running.{goes_on}
 use Rattle.client_node.specs.Sends.{Done, gives}
 use Rattle.log_owner.specs.declared.opened.Opened.{Opened}
@@ -26,10 +25,7 @@ use Rattle.log_scan.specs.Transition as scan
 use Rattle.node_base.specs.Asking.{next_ask}
 use Rattle.node_base.specs.Beginning.{next_item, work_at, begun, waiting, answered, answers_unanswered}
 use Rattle.node_base.specs.declared.effects.Effect.{Effect}
-use Rattle.node_base.specs.declared.effects.Effect.TheVariants.{Send, Answer as Answers, Lose, Does}
-use Rattle.node_base.specs.Effects.{packet_of, act_of, packets_of, acts_of}
-use Rattle.xfs_base.specs.declared.node.NodeId.TheVariants.{Client as AClient}
-use Rattle.std.specs.List.{AllByRecursion}
+use Rattle.node_base.specs.declared.effects.Effect.TheVariants.{Answer as Answers, Does}
 use Rattle.node_base.specs.declared.peers.Peers.{Peers}
 use Rattle.node_base.specs.declared.questions.Questions.{Questions}
 use Rattle.node_base.specs.Room.{has_room}
@@ -54,16 +50,20 @@ use Rattle.log_law.specs.Net.Packet.{HelloSent}
 use Rattle.log_law.specs.Events.{Happens, Happens as happen}
 use Rattle.log_law.specs.Events.Happens.{Crashes}
 use Rattle.log_law.specs.Events.Runs.{Begun, On}
-use Rattle.node_log_tie.specs.Sight.{BodySeen, PacketSeen, AllSeen, AskedBy}
+use Rattle.log_law.specs.Restarts.{is_down}
+use Rattle.node_log_tie.specs.Sight.{AskedBy}
 use Rattle.node_log_tie.specs.Sight.Question.{OfOpening}
 use Rattle.client_log_tie.specs.Owner.{Scene, asker, LastsAs, ClientAgrees}
 use Rattle.client_log_tie.specs.Texts.{StaysWritten}
-use Rattle.client_log_tie.specs.ClientEvents.{ActSeen, OfItsLog, StageWritten, PhaseWritten, PhaseOwed, PacketOwed, ClientOwed, Grown, ClientTakes}
+use Rattle.opening_law.specs.Questions.{AsksOn, ProgressAsks}
+use Rattle.opening_law.proofs.Asking.{packet_few, starts_few, tick_few}
+use Rattle.client_log_tie.specs.ClientEvents.{StageWritten, StageTells, PhaseWritten, PhaseOwed, PacketOwed, ClientOwed, FliesInBoot, Grown}
+use Rattle.client_log_tie.proofs.Boots.{same_boot, stage_up, log_up}
 use Rattle.client_log_tie.proofs.Frames.{ClientDoes, ClientDid}
 use Rattle.client_log_tie.proofs.Frames as frames
-use Rattle.node_log_tie.proofs.Lists.{packets_all}
 use Rattle.client_log_tie.proofs.OpeningEvents as events
-use Rattle.client_log_tie.proofs.OpeningLog.{ProgressSeen, WentTo}
+use Rattle.client_log_tie.proofs.OpeningLog.{IsLost, ProgressSeen, WentTo}
+use Rattle.client_log_tie.proofs.Owed.{StageOwed, in_range, owed_so}
 use Rattle.client_log_tie.proofs.Questions.{ask_rises, put_here, put_keeps, put_fresh}
 use Rattle.client_log_tie.proofs.ServingCalls as calls
 use Rattle.client_log_tie.proofs.ServingPackets as serving
@@ -79,7 +79,8 @@ module _ (g : Setting) (c : ℕ) (is : g.log ≡ record { 0 = c }) (small : is_l
   -- ---- where the small world stands still
 
   plain_so : (p : Phase) (outs : List Effect) → ClientAgrees g c w p → PhaseWritten p → frames.Plain g c outs → ClientDid g c w p outs
-  plain_so p outs sees written plain = record { next = w; grown = frames.grown_still g w; agrees = sees; written = written; does = plain w }
+  plain_so p outs sees written plain =
+      record { next = w; grown = frames.grown_still g w; agrees = sees; written = written; does = plain w; flies = inr refl }
 
   still_so : (p : Phase) → ClientAgrees g c w p → PhaseWritten p → Goes (still p)
   still_so p sees written = plain_so p [] sees written (tokens.plain_nothing g c)
@@ -101,6 +102,7 @@ module _ (g : Setting) (c : ℕ) (is : g.log ≡ record { 0 = c }) (small : is_l
     registry : net.registry ≡ n.registry
     low : net.low ≡ n.low
     dropped : net.dropped ≡ n.dropped
+    flown : net.flown ≡ n.flown
 
   fall_of : (n : Net) → Fall n
   fall_of n = record {
@@ -114,6 +116,7 @@ module _ (g : Setting) (c : ℕ) (is : g.log ≡ record { 0 = c }) (small : is_l
     registry = refl;
     low = refl;
     dropped = refl;
+    flown = refl;
   }
 
   abbrev fallen : Scene → Scene
@@ -144,6 +147,7 @@ module _ (g : Setting) (c : ℕ) (is : g.log ≡ record { 0 = c }) (small : is_l
     agrees = fallen_agrees w l lasts;
     written = tt;
     does = plain (fallen w);
+    flies = inr (fall_of w.net).flown;
   }
 
   crash_said : (l : Lasting) (number : ℕ) → frames.Plain g c (crashed l number).outs
@@ -196,6 +200,7 @@ module _ (g : Setting) (c : ℕ) (is : g.log ≡ record { 0 = c }) (small : is_l
             some = omega arith;
             number = omega arith;
           },
+          starts_few (owner_of (next_life l number)) servers q asks_room,
         );
         written = tt;
         does = All-cons (ClientDoes g c v) (hello (next_life l number).inc (next_ask q)) []
@@ -205,6 +210,7 @@ module _ (g : Setting) (c : ℕ) (is : g.log ≡ record { 0 = c }) (small : is_l
               reached = tt;
             })
             (All-nil (ClientDoes g c v));
+        flies = inr refl;
       }
 
   down_begins_so : (servers number : ℕ) (l : Lasting) (wanted : Option Work) → ClientAgrees g c w (Down l) → has_room l.inc ≡ true → has_room l.questions.last ≡ true
@@ -229,31 +235,39 @@ module _ (g : Setting) (c : ℕ) (is : g.log ≡ record { 0 = c }) (small : is_l
         (All-append (ClientDoes g c v) (pushes_all r.promised.managers r.feed) (answers_unanswered l.items.unanswered answer.Done)
         (tokens.plain_pushes_all g c r.promised.managers r.feed v) (tokens.plain_answers g c l.items.unanswered answer.Done v))
 
-    opened_so : (capacity : ℕ) (x : Went) → WentTo g c w l.number l.inc x → Goes (opened_on l capacity x)
-    opened_so capacity x t = by_progress x.progress t.shows
+    opened_so : (capacity : ℕ) (x : Went) → LastsAs g c w l → is_down w.net.owner ≡ false → WentTo g c w l.number l.inc x → AsksOn x → Goes (opened_on l capacity x)
+    opened_so capacity x lasts up t few = by_progress x.progress t.shows t.lost few
       where
-        by_progress : (p : Progress) → ProgressSeen g c t.next x.questions.last p → Goes (after x.effects (after_opening (record l { questions = x.questions }) capacity p))
-        by_progress (progress.Opening o) shows = record {
+        in_boot : is_down t.next.net.owner ≡ false → FliesInBoot w.net t.next.net
+        in_boot still_up = inl (same_boot w.net t.next.net up still_up (t.lasts.inc ∙ sym lasts.inc))
+
+        by_progress : (p : Progress) → ProgressSeen g c t.next x.questions.last p → (IsLost g c p → t.next.net.flown ≡ w.net.flown)
+            → ProgressAsks p x.questions.last
+            → Goes (after x.effects (after_opening (record l { questions = x.questions }) capacity p))
+        by_progress (progress.Opening o) shows lost asks = record {
           next = t.next;
           grown = t.grown;
-          agrees = (t.lasts, shows.0);
+          agrees = (t.lasts, shows.0, asks);
           written = shows.1;
           does = All-append (ClientDoes g c t.next) x.effects [] t.does (All-nil (ClientDoes g c t.next));
+          flies = in_boot (stage_up g c t.next o.known x.questions.last o.stage shows.0);
         }
-        by_progress (progress.Opened r) shows = record {
+        by_progress (progress.Opened r) shows lost asks = record {
           next = t.next;
           grown = t.grown;
           agrees = (t.lasts, shows.0);
           written = shows.1;
           does = All-append (ClientDoes g c t.next) x.effects _ t.does (back_said r t.next);
+          flies = in_boot (log_up g c t.next r.log shows.0);
         }
-        by_progress (progress.Lost seg) shows = record {
+        by_progress (progress.Lost seg) shows lost asks = record {
           next = fallen t.next;
           grown = frames.grown_on g w t.next (fallen t.next) t.grown (fallen_grown t.next);
           agrees = fallen_agrees t.next (record l { questions = x.questions; items = answered l.items }) t.lasts;
           written = tt;
           does = All-append (ClientDoes g c (fallen t.next)) x.effects (answers_unanswered l.items.unanswered (answer.Lost seg))
               (frames.all_more g c t.next (fallen t.next) (fallen_grown t.next) x.effects t.does) (tokens.plain_answers g c l.items.unanswered (answer.Lost seg) (fallen t.next));
+          flies = inr ((fall_of t.next.net).flown ∙ lost tt);
         }
 
   its_log : is_log g.log.0 ≡ true
@@ -264,8 +278,15 @@ module _ (g : Setting) (c : ℕ) (is : g.log ≡ record { 0 = c }) (small : is_l
   abbrev AtServing : Serving → Type 0
   AtServing s = frames.At g c w s
 
-  serves_so : (d : Done) → frames.Goes g c w d → Goes (serves_on d)
-  serves_so d p = record { next = p.next; grown = p.grown; agrees = (p.stands.lasts, p.stands.sees); written = p.stands.written; does = p.does }
+  serves_so : (d : Done) → is_down w.net.owner ≡ false → frames.Goes g c w d → Goes (serves_on d)
+  serves_so d up p = record {
+    next = p.next;
+    grown = p.grown;
+    agrees = (p.stands.lasts, p.stands.sees);
+    written = p.stands.written;
+    does = p.does;
+    flies = inl (same_boot w.net p.next.net up (log_up g c p.next d.state.log p.stands.sees) p.boot);
+  }
 
   stands : (s : Serving) → ClientAgrees g c w (Serves s) → StaysWritten s.log → AtServing s
   stands s sees written = record { lasts = sees.0; sees = sees.1; written = written }
@@ -295,8 +316,8 @@ module _ (g : Setting) (c : ℕ) (is : g.log ≡ record { 0 = c }) (small : is_l
       → Goes (serving_begins s number (wish_of wanted))
   serving_begins_so s number (Some (work.Crash node)) sees written = crashes_serving s number sees
   serving_begins_so s number (Some (work.Restart node)) sees written = answers_so (Serves s) number answer.Up sees written
-  serving_begins_so s number (Some _) sees written = serves_so (opens s number) (opens_so s number (stands s sees written))
-  serving_begins_so s number None sees written = serves_so (opens s number) (opens_so s number (stands s sees written))
+  serving_begins_so s number (Some _) sees written = serves_so (opens s number) (log_up g c w s.log sees.1) (opens_so s number (stands s sees written))
+  serving_begins_so s number None sees written = serves_so (opens s number) (log_up g c w s.log sees.1) (opens_so s number (stands s sees written))
 
   -- ---- the events
 
@@ -315,100 +336,62 @@ module _ (g : Setting) (c : ℕ) (is : g.log ≡ record { 0 = c }) (small : is_l
   unfolding on_begin
   on_begin_so servers p sees written room asks_room = item_so servers p (next_item (lasting_of p).items) sees written room asks_room
 
-  on_deliver_so : (capacity : ℕ) (p : Phase) (packet : wire.Packet) → ClientAgrees g c w p → PhaseWritten p → PacketOwed g c w p packet → has_room (lasting_of p).questions.last ≡ true
+  -- an opening stands on what it is told
+  owed : (l : Lasting) (o : openings.Opening) → ClientAgrees g c w (Opening l o) → StageTells g w.net o.stage → has_room l.inc ≡ true → has_room l.questions.last ≡ true
+      → StageOwed g w.net o.stage
+  owed l o sees tells life room =
+      owed_so g c its_log w o.known o.stage l.questions.last (let e = sees.0.inc in let b = in_range l.inc life in omega arith) room sees.1 sees.2 tells
+
+  on_deliver_so : (capacity : ℕ) (p : Phase) (packet : wire.Packet) → ClientAgrees g c w p → PhaseWritten p → PacketOwed g c w p packet → has_room (lasting_of p).inc ≡ true
+      → has_room (lasting_of p).questions.last ≡ true
       → Goes (on_deliver capacity p packet)
   unfolding on_deliver
-  on_deliver_so capacity (Down l) packet sees written owed room = still_so (Down l) sees tt
-  on_deliver_so capacity (Opening l o) packet sees written owed room =
-      opened_so l capacity (opening.on_packet o l.questions packet)
-      (events.packet_so g c its_log w l.number l.inc l.questions sees.0 room o packet owed.own owed.seen owed.fits (record { sees = sees.1; written = written; owed = owed.scans }))
-  on_deliver_so capacity (Serves s) packet sees written owed room =
-      serves_so (serving.and_runs g c is (packets.on_packet s packet)) (serving.packet_so g c is w s packet owed.seen owed.fits room (stands s sees written))
+  on_deliver_so capacity (Down l) packet sees written brings life room = still_so (Down l) sees tt
+  on_deliver_so capacity (Opening l o) packet sees written brings life room =
+      opened_so l capacity (opening.on_packet o l.questions packet) sees.0 (stage_up g c w o.known l.questions.last o.stage sees.1)
+      (events.packet_so g c its_log w l.number l.inc l.questions sees.0 room o packet brings.own brings.seen brings.fits
+      (record { sees = sees.1; written = written; owed = owed l o sees brings.scans life room }))
+      (packet_few o l.questions packet room sees.2)
+  on_deliver_so capacity (Serves s) packet sees written brings life room =
+      serves_so (serving.and_runs g c is (packets.on_packet s packet)) (log_up g c w s.log sees.1) (serving.packet_so g c is w s packet brings.seen brings.fits room (stands s sees written))
 
   delivers_so : (peers : Peers) (capacity : ℕ) (p : Phase) (packet : wire.Packet) → ClientAgrees g c w p → PhaseWritten p → PacketOwed g c w p packet
-      → has_room (lasting_of p).questions.last ≡ true → Goes (delivers peers capacity p packet)
-  delivers_so peers capacity p packet sees written owed room =
+      → has_room (lasting_of p).inc ≡ true → has_room (lasting_of p).questions.last ≡ true → Goes (delivers peers capacity p packet)
+  delivers_so peers capacity p packet sees written brings life room =
       by_test (λ (x : Went_to). Goes x) (is_well_formed peers packet) (on_deliver capacity p packet) (still p)
-      (λ t. on_deliver_so capacity p packet sees written owed room) (λ t. still_so p sees written)
+      (λ t. on_deliver_so capacity p packet sees written brings life room) (λ t. still_so p sees written)
 
-  on_time_so : (capacity : ℕ) (p : Phase) → ClientAgrees g c w p → PhaseWritten p → PhaseOwed g w.net p → has_room (lasting_of p).questions.last ≡ true
+  on_time_so : (capacity : ℕ) (p : Phase) → ClientAgrees g c w p → PhaseWritten p → PhaseOwed g w.net p → has_room (lasting_of p).inc ≡ true
+      → has_room (lasting_of p).questions.last ≡ true
       → Goes (on_time capacity p)
   unfolding on_time
-  on_time_so capacity (Down l) sees written owed room = still_so (Down l) sees tt
-  on_time_so capacity (Opening l o) sees written owed room =
-      opened_so l capacity (opening.on_tick o l.questions)
-      (events.tick_so g c its_log w l.number l.inc l.questions sees.0 room o (record { sees = sees.1; written = written; owed = owed }))
-  on_time_so capacity (Serves s) sees written owed room =
-      serves_so (serving.and_runs g c is (packets.on_tick s)) (serving.time_so g c is w s (stands s sees written))
+  on_time_so capacity (Down l) sees written tells life room = still_so (Down l) sees tt
+  on_time_so capacity (Opening l o) sees written tells life room =
+      opened_so l capacity (opening.on_tick o l.questions) sees.0 (stage_up g c w o.known l.questions.last o.stage sees.1)
+      (events.tick_so g c its_log w l.number l.inc l.questions sees.0 room o (record { sees = sees.1; written = written; owed = owed l o sees tells life room }))
+      (tick_few o l.questions room sees.2)
+  on_time_so capacity (Serves s) sees written tells life room =
+      serves_so (serving.and_runs g c is (packets.on_tick s)) (log_up g c w s.log sees.1) (serving.time_so g c is w s (stands s sees written))
 
   happens_so : (client : Client) (what : Do) → ClientAgrees g c w client.phase → PhaseWritten client.phase → ClientOwed g c w client.phase what → client_room client ≡ true
       → Goes (happens client what)
-  happens_so client Begin sees written owed room =
+  happens_so client Begin sees written brings room =
       on_begin_so client.peers.servers client.phase sees written (and_first (has_room (lasting_of client.phase).inc) _ room)
       (and_first (has_room (lasting_of client.phase).questions.last) (phase_room client.phase)
       (and_second (has_room (lasting_of client.phase).inc) (has_room (lasting_of client.phase).questions.last && phase_room client.phase) room))
-  happens_so client (Deliver packet) sees written owed room =
-      delivers_so client.peers client.cache client.phase packet sees written owed
+  happens_so client (Deliver packet) sees written brings room =
+      delivers_so client.peers client.cache client.phase packet sees written brings (and_first (has_room (lasting_of client.phase).inc) _ room)
       (and_first (has_room (lasting_of client.phase).questions.last) (phase_room client.phase)
       (and_second (has_room (lasting_of client.phase).inc) (has_room (lasting_of client.phase).questions.last && phase_room client.phase) room))
-  happens_so client Tick sees written owed room =
-      on_time_so client.cache client.phase sees written owed
+  happens_so client Tick sees written brings room =
+      on_time_so client.cache client.phase sees written brings (and_first (has_room (lasting_of client.phase).inc) _ room)
       (and_first (has_room (lasting_of client.phase).questions.last) (phase_room client.phase)
       (and_second (has_room (lasting_of client.phase).inc) (has_room (lasting_of client.phase).questions.last && phase_room client.phase) room))
-
--- ---- what it does, as packets and acts
-
-module _ (g : Setting) (c number : ℕ) (is : number ≡ c) (w : Scene) where
-  one_sent : (e : Effect) → ClientDoes g c w e → All (PacketSeen g (asker c w) w.net) (packet_of (AClient number) e)
-  one_sent (Send to said) h =
-      All-cons (PacketSeen g (asker c w) w.net) _ [] (subst (λ k. BodySeen g (asker c w) w.net (AClient k) to said) (sym is) (frames.says_seen g c w to said h)) (All-nil (PacketSeen g (asker c w) w.net))
-  one_sent (Answers item a) h = All-nil (PacketSeen g (asker c w) w.net)
-  one_sent (Lose seg) h = All-nil (PacketSeen g (asker c w) w.net)
-  one_sent (Does act) h = All-nil (PacketSeen g (asker c w) w.net)
-
-  one_acted : (e : Effect) → ClientDoes g c w e → All (ActSeen w) (act_of (AClient number) e)
-  one_acted (Send to said) h = All-nil (ActSeen w)
-  one_acted (Answers item a) h = All-cons (ActSeen w) _ [] tt (All-nil (ActSeen w))
-  one_acted (Lose seg) h = All-cons (ActSeen w) _ [] tt (All-nil (ActSeen w))
-  one_acted (Does act) h = All-cons (ActSeen w) act [] h (All-nil (ActSeen w))
-
-  all_sent : (es : List Effect) → AllByRecursion (ClientDoes g c w) es → AllSeen g (asker c w) w.net (packets_of (AClient number) es)
-  all_sent [] h = All-nil (PacketSeen g (asker c w) w.net)
-  all_sent (e ∷ es) h = All-append (PacketSeen g (asker c w) w.net) (packet_of (AClient number) e) (packets_of (AClient number) es) (one_sent e h.0) (all_sent es h.1)
-
-  all_acted : (es : List Effect) → AllByRecursion (ClientDoes g c w) es → All (ActSeen w) (acts_of (AClient number) es)
-  all_acted [] h = All-nil (ActSeen w)
-  all_acted (e ∷ es) h = All-append (ActSeen w) (act_of (AClient number) e) (acts_of (AClient number) es) (one_acted e h.0) (all_acted es h.1)
-
-  -- what it stores is of its log
-  all_own : (es : List Effect) → AllByRecursion (ClientDoes g c w) es → All (λ (p : wire.Packet). OfItsLog g p.body) (packets_of (AClient number) es)
-  all_own es h = packets_all (λ (p : wire.Packet). OfItsLog g p.body) (ClientDoes g c w) (AClient number) (λ to said does. frames.says_own g c w to said does) es h
-
--- the client of the log has its number
-its_number : (g : Setting) (c : ℕ) (w : Scene) (p : Phase) → ClientAgrees g c w p → (lasting_of p).number ≡ c
-its_number g c w (Down l) sees = sees.0.number
-its_number g c w (Opening l o) sees = sees.0.number
-its_number g c w (Serves s) sees = sees.0.number
 
 -- an event is taken where no counter is near its end, and changes nothing else
-client_did : (g : Setting) (c : ℕ) → g.log ≡ record { 0 = c } → is_log c ≡ true → (w : Scene) (client : Client) (what : Do) → ClientAgrees g c w client.phase
+pub client_did : (g : Setting) (c : ℕ) → g.log ≡ record { 0 = c } → is_log c ≡ true → (w : Scene) (client : Client) (what : Do) → ClientAgrees g c w client.phase
     → PhaseWritten client.phase → ClientOwed g c w client.phase what → ClientDid g c w (takes client what).state (takes client what).outs
 client_did g c is small w client what sees written owed =
     by_test (λ (x : Went_to). ClientDid g c w x.state x.outs) (client_room client) (happens client what) (still client.phase)
     (λ room. happens_so g c is small w client what sees written owed room)
     (λ room. still_so g c is small w client.phase sees written)
-
-pub client_takes : ClientTakes
-client_takes g c is small w client what sees written owed =
-    let d : ClientDid g c w (takes client what).state (takes client what).outs = client_did g c is small w client what sees written owed in
-    let all : AllByRecursion (ClientDoes g c d.next) (takes client what).outs = recursion_from_All (ClientDoes g c d.next) (takes client what).outs d.does in
-    let number : (lasting_of client.phase).number ≡ c = its_number g c w client.phase sees in
-    record {
-      next = d.next;
-      grown = d.grown;
-      agrees = d.agrees;
-      written = d.written;
-      sends = all_sent g c (lasting_of client.phase).number number d.next (takes client what).outs all;
-      acts = all_acted g c (lasting_of client.phase).number number d.next (takes client what).outs all;
-      own = all_own g c (lasting_of client.phase).number number d.next (takes client what).outs all;
-    }

@@ -26,7 +26,7 @@ use Rattle.node_log_tie.specs.Sight.Question.{Unasked, OfMaps, OfOpening}
 use Rattle.client_node.specs.declared.phase.Phase.{Phase}
 use Rattle.client_log_tie.specs.Owner.{Scene, asker, Lasts, SeesLog, ClientAgrees}
 use Rattle.client_log_tie.specs.Texts.{StaysWritten}
-use Rattle.client_log_tie.specs.ClientEvents.{ActSeen, OfItsLog, PhaseWritten, Grown}
+use Rattle.client_log_tie.specs.ClientEvents.{ActSeen, OfItsLog, PhaseWritten, FliesInBoot, Grown}
 
 -- ---- lists
 
@@ -103,6 +103,7 @@ module _ (g : Setting) (c : ℕ) where
     pub agrees : ClientAgrees g c next p
     pub written : PhaseWritten p
     pub does : All (ClientDoes next) outs
+    pub flies : FliesInBoot w.net next.net
 
   -- ---- what was seen is seen
 
@@ -195,21 +196,22 @@ module _ (g : Setting) (c : ℕ) where
     pub grown : Grown g w next
     pub stands : Stands next log its life last
     pub does : All (ClientDoes next) outs
+    pub boot : next.net.inc ≡ w.net.inc
 
   abbrev pub Goes : Scene → Done → Type 0
   Goes w d = Gone w d.state.log d.state.lasting.number d.state.lasting.inc d.state.lasting.questions.last d.outs
 
   -- nothing is done
   pub goes_still : (w : Scene) (s : Serving) → At w s → Goes w (still s)
-  goes_still w s h = record { next = w; grown = grown_still g w; stands = h; does = All-nil (ClientDoes w) }
+  goes_still w s h = record { next = w; grown = grown_still g w; stands = h; does = All-nil (ClientDoes w); boot = refl }
 
   -- what may be done in any world
   pub goes_plain : (w : Scene) (s : Serving) (outs : List Effect) → At w s → Plain outs → Goes w (gives s outs)
-  goes_plain w s outs h plain = record { next = w; grown = grown_still g w; stands = h; does = plain w }
+  goes_plain w s outs h plain = record { next = w; grown = grown_still g w; stands = h; does = plain w; boot = refl }
 
   -- what is seen already
   pub goes_seen : (w : Scene) (s : Serving) (outs : List Effect) → At w s → All (ClientDoes w) outs → Goes w (gives s outs)
-  goes_seen w s outs h seen = record { next = w; grown = grown_still g w; stands = h; does = seen }
+  goes_seen w s outs h seen = record { next = w; grown = grown_still g w; stands = h; does = seen; boot = refl }
 
   -- one thing follows another, in a world that grew
   pub goes_on_in : (w : Scene) (d e : Done) → Goes w d → ((v : Scene) → Grown g w v → At v d.state → Goes v e) → Goes w (after d.outs e)
@@ -220,13 +222,15 @@ module _ (g : Setting) (c : ℕ) where
         grown = grown_on g w p.next q.next p.grown q.grown;
         stands = q.stands;
         does = All-append (ClientDoes q.next) d.outs e.outs (all_more p.next q.next q.grown d.outs p.does) q.does;
+        boot = q.boot ∙ p.boot;
       }
 
   pub goes_on : (w : Scene) (d e : Done) → Goes w d → ((v : Scene) → At v d.state → Goes v e) → Goes w (after d.outs e)
   goes_on w d e p f = goes_on_in w d e p (λ v grown h. f v h)
 
-  pub goes_from : (w v : Scene) (d : Done) → Grown g w v → Goes v d → Goes w d
-  goes_from w v d grown p = record { next = p.next; grown = grown_on g w v p.next grown p.grown; stands = p.stands; does = p.does }
+  pub goes_from : (w v : Scene) (d : Done) → Grown g w v → v.net.inc ≡ w.net.inc → Goes v d → Goes w d
+  goes_from w v d grown boot p =
+      record { next = p.next; grown = grown_on g w v p.next grown p.grown; stands = p.stands; does = p.does; boot = p.boot ∙ boot }
 
   -- a change of what the small world doesn't see, with more that may be done in any world, before or after
   pub goes_and_gives : (w : Scene) (d : Done) (s : Serving) (outs : List Effect) → Goes w d → ((v : Scene) → At v d.state → At v s) → Plain outs → Goes w (gives s (d.outs ++ outs))
@@ -238,6 +242,7 @@ module _ (g : Setting) (c : ℕ) where
     grown = p.grown;
     stands = p.stands;
     does = All-append (ClientDoes p.next) outs d.outs (plain p.next) p.does;
+    boot = p.boot;
   }
 
   -- a list of steps

@@ -1,5 +1,6 @@
 mod Starts
 pub mod Frames
+pub mod Boots
 pub mod Logs
 pub mod Questions
 mod ServingTokens
@@ -13,4 +14,6 @@ mod ScanSays
 mod ScanSteps
 pub mod OpeningEvents
 mod ClientPhases
+mod ClientTakes
 pub mod Written
+pub mod Owed

@@ -159,6 +159,7 @@ module _ (g : Setting) (c : ℕ) where
     pub sent : (p : Packet) → In p (log_packets d.outs) → In p next.net.sent
     pub filed : (name : SegName) → In name (log_filed g.log d.outs) → In name next.net.filed
     pub mine : AllByRecursion (SendsOwn g.log) d.outs
+    pub boot : next.net.inc ≡ w.net.inc
 
   pub takes : (w : Scene) (s : LogState) (its life last : ℕ) (i : Input) → frames.Stands g c w s its life last → CameToLog w.net i → InputFits i
       → Took w its life last (transition s i)
@@ -184,6 +185,7 @@ module _ (g : Setting) (c : ℕ) where
         sent = λ p is. in_before (log_packets d.outs) w.net.sent p is;
         filed = λ name is. in_before (log_filed g.log d.outs) w.net.filed name is;
         mine = (own_log g.log s i (record { log = h.sees.own.log; flight = h.sees.own.flight })).outs;
+        boot = refl;
       }
 
   -- nothing is taken
@@ -195,6 +197,7 @@ module _ (g : Setting) (c : ℕ) where
     sent = λ p is. absurd is;
     filed = λ name is. absurd is;
     mine = tt;
+    boot = refl;
   }
 
   -- a Stored, of this log where it was seen

@@ -60,12 +60,13 @@ use Rattle.node_log_tie.specs.Sight.{BodySeen, AskedBy, AnsweredBy, WelcomeSeen,
 use Rattle.node_log_tie.specs.Sight.Question.{OfMaps, OfOpening}
 use Rattle.client_log_tie.specs.Owner.{Scene, asker, AsksRegistry, AsksServers, AsksIn, AsksAt, MapCame, Lasts, SeesScan, SeesStage}
 use Rattle.client_log_tie.specs.Texts.{MapFits, StaysWritten, StartFits}
-use Rattle.client_log_tie.specs.ClientEvents.{StageWritten, ScanOwed, StageOwed, BodyFits}
+use Rattle.client_log_tie.specs.ClientEvents.{StageWritten, BodyFits}
 use Rattle.client_log_tie.proofs.Frames.{ClientDoes}
 use Rattle.client_log_tie.proofs.Frames as frames
 use Rattle.client_log_tie.proofs.Logs.{writes_text}
 use Rattle.client_log_tie.proofs.OpeningLog as writing
 use Rattle.client_log_tie.proofs.OpeningLog.{WentTo}
+use Rattle.client_log_tie.proofs.Owed.{ScanOwed, StageOwed}
 use Rattle.client_log_tie.proofs.Questions.{ask_rises, put_here, put_below, put_keeps, put_fresh}
 use Rattle.client_log_tie.proofs.ScanSays.{Opens}
 use Rattle.client_log_tie.proofs.ScanSteps as scanning
@@ -140,7 +141,8 @@ module _ (g : Setting) (c : ℕ) (small : is_log g.log.0 ≡ true) (w : Scene) (
 
   -- nothing changes
   stays_so : (o : Opening) → SeesStage g c w o.known q.last o.stage → StageWritten o.stage → Goes (drops o q)
-  stays_so o sees written = record { next = w; grown = frames.grown_still g w; lasts = lasts; shows = (sees, written); does = All-nil (ClientDoes g c w) }
+  stays_so o sees written =
+      record { next = w; grown = frames.grown_still g w; lasts = lasts; shows = (sees, written); does = All-nil (ClientDoes g c w); lost = λ l. refl }
 
   -- ---- the scan
 
@@ -407,6 +409,7 @@ module _ (g : Setting) (c : ℕ) (small : is_log g.log.0 ≡ true) (w : Scene) (
         does = All-cons (ClientDoes g c v) (hello o.known.owner.inc (next_ask q)) []
             (record { own = λ e. subst (AskedBy g (asker c v) v.net o.known.owner.inc) (sym (put_here w.asked (next_ask q) OfMaps)) tt; reached = tt })
             (All-nil (ClientDoes g c v));
+        lost = λ l. refl;
       }
     where
       by_stage : (at : Stage) → SeesStage g c w o.known q.last at → SeesStage g c (record { net = w.net; asked = put w.asked (next_ask q) OfMaps }) o.known (next_ask q) at

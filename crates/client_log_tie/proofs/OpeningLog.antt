@@ -53,12 +53,19 @@ module _ (g : Setting) (c : ℕ) where
   ProgressSeen w last (progress.Opened r) = SeesLog g c w r.log × StaysWritten r.log
   ProgressSeen w last (progress.Lost seg) = Unit {0}
 
+  abbrev pub IsLost : Progress → Type 0
+  IsLost (progress.Opening o) = ⊥
+  IsLost (progress.Opened r) = ⊥
+  IsLost (progress.Lost seg) = Unit {0}
+
   pub record WentTo (w : Scene) (its life : ℕ) (x : Went) : Type 0 where
     pub next : Scene
     pub grown : Grown g w next
     pub lasts : Lasts g c next its life x.questions.last
     pub shows : ProgressSeen next x.questions.last x.progress
     pub does : All (ClientDoes g c next) x.effects
+    -- where a segment is lost, nothing began to fly
+    pub lost : IsLost x.progress → next.net.flown ≡ w.net.flown
 
   -- ---- the log of an opening took an input
 
@@ -109,6 +116,7 @@ module _ (g : Setting) (c : ℕ) where
           lasts = f.lasts;
           shows = (record { owner = a.owner; log = log_is; own = f.own; clear = a.flies.clear; flight = a.flies.flight; flies = a.flies.flies }, f.written);
           does = All-append (ClientDoes g c f.next) (written d.outs).outs [] (said_seen f.next None d.outs f.sent f.mine) (All-nil (ClientDoes g c f.next));
+          lost = λ l. absurd l;
         })
 
     went_down : (f : Flew w s.chain its life q.last d) → Landed f.next s.chain d → WentTo w its life (asking q (logged k s d))
@@ -122,6 +130,7 @@ module _ (g : Setting) (c : ℕ) where
           does = All-append (ClientDoes g c f.next) (written d.outs).outs (files k.owner.log s.chain a.lands.end) (said_seen f.next None d.outs f.sent f.mine)
               (All-append (ClientDoes g c f.next) (map filed s.chain) (Does (Filed (name_of k.owner.log a.lands.end)) ∷ []) (chain_seen f.next s.chain a.filed)
               (All-cons (ClientDoes g c f.next) (Does (Filed (name_of k.owner.log a.lands.end))) [] (end_filed f a) (All-nil (ClientDoes g c f.next))));
+          lost = λ l. absurd l;
         })
       where
         end_filed : (f : Flew w s.chain its life q.last d) (a : Landed f.next s.chain d) → In (name_of k.owner.log a.lands.end) f.next.net.filed

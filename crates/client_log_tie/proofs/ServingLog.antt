@@ -120,7 +120,7 @@ module _ (g : Setting) (c : ℕ) (is : g.log ≡ record { 0 = c }) where
       let r : log.Done = log.transition s.log i in
       let t : Serving = record s { log = r.state } in
       let d : Done = steps writes_one t r.outs in
-      frames.goes_from g c w k.next (writes s i) k.grown
+      frames.goes_from g c w k.next (writes s i) k.grown k.boot
       (frames.goes_on g c k.next d (seals_again d.state (list_any is_settling r.outs)) (all_written k.next t r.outs k.stands k.sent k.filed k.mine)
       (λ v h. seals_again_so v d.state (list_any is_settling r.outs) h))
 

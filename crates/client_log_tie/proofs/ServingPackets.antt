@@ -234,6 +234,7 @@ module _ (g : Setting) (c : ℕ) (is : g.log ≡ record { 0 = c }) where
         does = All-cons (ClientDoes g c v) (hello s.lasting.inc number) []
             (record { own = λ e. subst (AskedBy g (asker c v) v.net s.lasting.inc) (sym (put_here w.asked number OfMaps)) tt; reached = tt })
             (All-nil (ClientDoes g c v));
+        boot = refl;
       }
 
   -- ---- a packet

@@ -136,7 +136,7 @@ module _ (g : Setting) (c : ℕ) where
   seals_so w s h =
       let k : logs.Took g c w s.lasting.number s.lasting.inc s.lasting.questions.last (log.on_seal s.log) =
       logs.takes g c w s.log s.lasting.number s.lasting.inc s.lasting.questions.last log_in.Seal h tt tt in
-      record { next = k.next; grown = k.grown; stands = k.stands; does = stored_seen k.next (log.on_seal s.log).outs k.sent k.mine }
+      record { next = k.next; grown = k.grown; stands = k.stands; does = stored_seen k.next (log.on_seal s.log).outs k.sent k.mine; boot = k.boot }
 
   -- ---- readings
 
@@ -231,4 +231,4 @@ module _ (g : Setting) (c : ℕ) where
   takes_back_so w s block stamp keep h =
       let d : Done = hands s (input.Recalled block stamp keep) in
       let p : Goes w d = hands_so w s (input.Recalled block stamp keep) h in
-      record { next = p.next; grown = p.grown; stands = notes_gone_so p.next d.state block p.stands; does = p.does }
+      record { next = p.next; grown = p.grown; stands = notes_gone_so p.next d.state block p.stands; does = p.does; boot = p.boot }

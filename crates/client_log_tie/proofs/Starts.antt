@@ -11,8 +11,8 @@ use Rattle.log_law.specs.Net.{no_end}
 use Rattle.client_log_tie.specs.ClientEvents.{ClientStarts}
 use Rattle.client_log_tie.proofs.Written.{what_fits_stays_written}
 
-in_range : (c : ℕ) → is_log c ≡ true → IsLog c
-in_range c t = (low c t, high c t)
+pub log_in_range : (c : ℕ) → is_log c ≡ true → IsLog c
+log_in_range c t = (low c t, high c t)
   where
     low : (c : ℕ) → is_log c ≡ true → 1 ≤ c
     low c t = grind (arith, nat_tests)
@@ -26,6 +26,6 @@ client_starts g c is small setup works = record {
     record { number = refl; inc = refl; fresh = λ k later. refl },
     record { owner = ap (λ log. owner.Serving (started log 1 no_end (groups.started setup.servers setup.groups))) is; own = record { log = sym is; flight = tt } },
   );
-  written = λ ids. what_fits_stays_written (record { 0 = c }) 1 empty_end (groups.started setup.servers setup.groups) (in_range c small) (omega arith)
+  written = λ ids. what_fits_stays_written (record { 0 = c }) 1 empty_end (groups.started setup.servers setup.groups) (log_in_range c small) (omega arith)
       (omega arith, (omega arith, omega arith), omega arith) ids;
 }

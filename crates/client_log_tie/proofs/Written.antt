@@ -35,7 +35,8 @@ use Rattle.client_log.specs.Texts.{HasText, has_text}
 use Rattle.client_log.specs.Transition.{Done, all_sends, launched, next_name, prior_from, writes, has_next, is_idle, is_full, can_go_on, sealed, if_full, waits, on_put, on_seal, on_parts, next_attempt, restriped, landed, settled, can_follow, followed, looked_at, is_of, noting, on_acked, on_maps, on_tick, transition}
 use Rattle.client_log.proofs.ItemTexts.{written_have_text}
 use Rattle.log_law.specs.Events.{IsWritten}
-use Rattle.client_log_tie.specs.Texts.{PutFits, MapFits, InputFits, EndFits, WhatFitsStaysWritten}
+use Rattle.log_law.specs.Openings.{EndFits}
+use Rattle.client_log_tie.specs.Texts.{PutFits, MapFits, InputFits, WhatFitsStaysWritten}
 
 -- ---- bytes
 

@@ -1,10 +1,11 @@
 -- What an event makes of a client, as the small world of its log sees it.
-use Rattle.std.specs.Prelude.{◌≡◌, ℕ, true, List, All}
+use Rattle.std.specs.Prelude.{◌≡◌, ◌⊎◌, ℕ, true, List, All, IfSome}
 use Rattle.client_node.specs.declared.client.Client as clients
 use Rattle.client_node.specs.declared.phase.Phase.{Phase}
 use Rattle.client_node.specs.declared.phase.Phase.TheVariants.{Down, Opening, Serving as Serves}
 use Rattle.client_node.specs.Phases.{client_step}
 use Rattle.client_node.specs.Starting.{first_client}
+use Rattle.group_map.specs.GroupMapState.{GroupMapState}
 use Rattle.group_map.specs.Groups as groups
 use Rattle.log_owner.specs.declared.opening.Stage as stages
 use Rattle.log_owner.specs.declared.opening.Stage.TheVariants as stage
@@ -26,12 +27,14 @@ use Rattle.xfs_base.specs.declared.segment.SegName.{SegName}
 use Rattle.xfs_base.specs.declared.setup.Setup.{Setup}
 use Rattle.log_protocol.specs.Tables.{In}
 use Rattle.log_tie.specs.Setting.{Setting}
-use Rattle.log_law.specs.Net.{Net, Packet, opening}
+use Rattle.log_law.specs.Net.{Net, Packet, chain_in, opening}
+use Rattle.log_law.specs.Net.Packet.{MapSent}
 use Rattle.log_law.specs.Events.{CameToScan, Runs}
+use Rattle.log_law.specs.Openings.{GoesOn, boot_of}
 use Rattle.node_log_tie.specs.Sight.{AllSeen, PacketSeen}
 use Rattle.node_log_tie.specs.Sight.Question.{Unasked}
 use Rattle.client_log_tie.specs.Owner.{Scene, asker, ClientAgrees}
-use Rattle.client_log_tie.specs.Texts.{MapFits, StaysWritten, ChainFits}
+use Rattle.client_log_tie.specs.Texts.{MapFits, StaysWritten}
 
 -- ---- what the world owes it
 
@@ -45,19 +48,19 @@ PhaseWritten (Down l) = Unit {0}
 PhaseWritten (Opening l o) = StageWritten o.stage
 PhaseWritten (Serves s) = StaysWritten s.log
 
--- a scan can ask further, and the chain that it tells, whatever came, can be gone on with
-pub record ScanOwed (g : Setting) (n : Net) (s : ScanState) : Type 0 where
-  pub asks : scan.can_ask s.opening ≡ true
-  pub chain : (i : scan_ins.In) → CameToScan g n i → ChainFits g n.inc (scan.transition s i)
+-- To a scan: the ids of the groups of maps that were sent fit, and behind the end of the chain that it tells, whatever comes next, the log can go on.
+pub record ScanTells (g : Setting) (n : Net) (s : ScanState) : Type 0 where
+  pub maps : (m : GroupMapState) → In (MapSent m) n.sent → MapFits m
+  pub end : (i : scan_ins.In) → CameToScan g n i → IfSome (chain_in (scan.transition s i).outs) (λ t. GoesOn t.end)
 
-abbrev pub StageOwed : Setting → Net → stages.Stage → Type 0
-StageOwed g n (stage.Scanning s) = ScanOwed g n s.scan
-StageOwed g n (stage.Settling s) = Unit {0}
+abbrev pub StageTells : Setting → Net → stages.Stage → Type 0
+StageTells g n (stage.Scanning s) = ScanTells g n s.scan
+StageTells g n (stage.Settling s) = Unit {0}
 
 -- an opening is owed what its scan is; a client that serves is owed nothing
 abbrev pub PhaseOwed : Setting → Net → Phase → Type 0
 PhaseOwed g n (Down l) = Unit {0}
-PhaseOwed g n (Opening l o) = StageOwed g n o.stage
+PhaseOwed g n (Opening l o) = StageTells g n o.stage
 PhaseOwed g n (Serves s) = Unit {0}
 
 abbrev pub BodyFits : Body → Type 0
@@ -102,6 +105,10 @@ pub record Grown (g : Setting) (w v : Scene) : Type 0 where
   pub dropped : v.net.dropped ≡ w.net.dropped
   pub asked : (k : ℕ) → (w.asked k ≡ Unasked → ⊥) → v.asked k ≡ w.asked k
 
+-- The owner doesn't fall on the way, or nothing begins to fly.
+abbrev pub FliesInBoot : Net → Net → Type 0
+FliesInBoot n o = (boot_of o ≡ boot_of n) ⊎ (o.flown ≡ n.flown)
+
 -- It runs on to one in which the client is seen as it is then, all that it sends was sent, and all that it tells to be filed is filed; it stores to its own log
 -- alone.
 pub record ClientGoes (g : Setting) (c : ℕ) (w : Scene) (d : NodeStep clients.Client) : Type 0 where
@@ -112,6 +119,7 @@ pub record ClientGoes (g : Setting) (c : ℕ) (w : Scene) (d : NodeStep clients.
   pub sends : AllSeen g (asker c next) next.net d.packets
   pub acts : All (ActSeen next) d.acts
   pub own : All (λ (p : packets.Packet). OfItsLog g p.body) d.packets
+  pub flies : FliesInBoot w.net next.net
 
 -- Each event of a client is a run of the small world of its log.
 abbrev pub ClientTakes : Type 0

@@ -24,6 +24,7 @@ use Rattle.log_law.specs.Net.{Owner as owner}
 use Rattle.log_law.specs.Net.Packet.{MapSent}
 use Rattle.node_log_tie.specs.Sight.{Asker, Question}
 use Rattle.node_log_tie.specs.Sight.Question.{Unasked, OfOpening}
+use Rattle.opening_law.specs.Questions.{StageAsks}
 
 -- the small world, and what the client asked the registry by its numbers
 pub record Scene : Type 0 where
@@ -119,7 +120,8 @@ module _ (g : Setting) (c : ℕ) (w : Scene) where
   abbrev pub LastsAs : Lasting → Type 0
   LastsAs l = Lasts l.number l.inc l.questions.last
 
+  -- one that opens its log has asked no more questions than its node
   abbrev pub ClientAgrees : Phase → Type 0
   ClientAgrees (Down l) = LastsAs l × (w.net.owner ≡ owner.Down)
-  ClientAgrees (Opening l o) = LastsAs l × SeesStage o.known l.questions.last o.stage
+  ClientAgrees (Opening l o) = LastsAs l × SeesStage o.known l.questions.last o.stage × StageAsks o.stage l.questions.last
   ClientAgrees (Serves s) = LastsAs s.lasting × SeesLog s.log

@@ -6,7 +6,7 @@ use Rattle.xfs_base.specs.declared.entry.Entry.{Entry}
 use Rattle.xfs_base.specs.declared.segment.End.{End}
 use Rattle.xfs_base.specs.declared.segment.LogId.{LogId}
 use Rattle.segment_format.specs.Format.{second_version, IsLength, IsLog}
-use Rattle.segment_format.specs.Ranges.{FitsRow, FitsPass}
+use Rattle.segment_format.specs.Ranges.{FitsRow}
 use Rattle.group_map.specs.GroupMapState.{GroupMapState}
 use Rattle.stripe_code.specs.Stripe.{IsBytes}
 use Rattle.client_log.specs.declared.input.In.{In as Input}
@@ -18,6 +18,7 @@ use Rattle.log_scan.specs.Transition as scan
 use Rattle.log_tie.specs.Setting.{Setting}
 use Rattle.log_law.specs.Net.{Told, chain_in}
 use Rattle.log_law.specs.Events.{IsWritten}
+pub use Rattle.log_law.specs.Openings.{EndFits}
 
 -- ---- the log
 
@@ -53,9 +54,6 @@ abbrev pub ChainFits : Setting → ℕ → scan.Done → Type 0
 ChainFits g inc d = IfSome (chain_in d.outs) (StartFits g inc d)
 
 -- ---- what stays written
-
-abbrev pub EndFits : End → Type 0
-EndFits e = (e.seq < 2 ^ 32) × FitsPass e.pass × (e.group < 2 ^ 32)
 
 -- a log that starts behind an end that fits, over groups whose ids fit, stays written
 abbrev pub WhatFitsStaysWritten : Type 0

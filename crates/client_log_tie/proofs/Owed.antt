@@ -1,9 +1,8 @@
--- What is owed to a scan of a client's opening is had by one of the cleaner's: it has questions left, and the log stays written behind the chain that it tells.
-use Rattle.std.proofs.Common.{◌≡◌, ◌<◌, ℕ, ◌^◌, true, Option, Some, None, sym, ap, subst, inl, inr, arith}
+-- What an opening's scan stands on follows from what the world tells it: it has questions left, and the log stays written behind the chain that it tells.
+use Rattle.std.proofs.Common.{◌≡◌, ◌<◌, ℕ, ◌^◌, true, Option, Some, None, sym, subst, inl, inr, arith}
 use Rattle.std.specs.Prelude.{IfSome}
 use Rattle.std.proofs.lemmas.Bool.Decides.{nat_tests}
 use Rattle.xfs_base.specs.declared.segment.End.{End}
-use Rattle.xfs_base.specs.declared.segment.LogId.{LogId}
 use Rattle.segment_format.specs.Format.{IsLog}
 use Rattle.group_map.specs.GroupMapState.{GroupMapState}
 use Rattle.client_log.specs.LogState.{started}
@@ -13,22 +12,23 @@ use Rattle.log_owner.specs.declared.opening.Stage.{Stage}
 use Rattle.log_owner.specs.declared.opening.Stage.TheVariants as stage
 use Rattle.log_scan.specs.declared.input.In.{In as Input}
 use Rattle.log_scan.specs.declared.input.In.TheVariants as input
+use Rattle.log_scan.specs.ScanState.{ScanState}
 use Rattle.log_scan.specs.Transition as scan
 use Rattle.node_base.specs.Room.{has_room}
-use Rattle.cleaner_node.specs.EmptyingEvents.{cleaner_log}
+use Rattle.node_base.specs.Shape.{is_log}
 use Rattle.log_protocol.specs.Tables.{In}
 use Rattle.log_tie.specs.Setting.{Setting}
-use Rattle.log_law.specs.Net.{Told, chain_in}
+use Rattle.log_law.specs.Net.{Net, Told, chain_in}
 use Rattle.log_law.specs.Net.Packet.{MapSent}
 use Rattle.log_law.specs.Events.{CameToScan}
-use Rattle.client_log_tie.specs.ClientEvents.{StageOwed}
+use Rattle.log_law.specs.Openings.{GoesOn}
+use Rattle.client_log_tie.specs.ClientEvents.{ScanTells, StageTells}
 use Rattle.client_log_tie.specs.Owner.{Scene, MapCame, SeesScan, SeesStage}
 use Rattle.client_log_tie.specs.Texts.{MapFits, StaysWritten, StartFits, ChainFits}
+use Rattle.client_log_tie.proofs.Starts.{log_in_range}
 use Rattle.client_log_tie.proofs.Written.{what_fits_stays_written}
 use Rattle.opening_law.specs.Questions.{ScanAsks, StageAsks, GroupsAfter}
 use Rattle.opening_law.proofs.Asking.{groups_come, some_left}
-use Rattle.cleaner_log_tie.specs.Owner.{its_number}
-use Rattle.cleaner_log_tie.specs.OwnerEvents.{GoesOn, ScanTells, StageTells}
 
 pub in_range : (k : ℕ) → has_room k ≡ true → k < 2 ^ 32
 in_range k room = grind (arith, nat_tests)
@@ -36,15 +36,24 @@ in_range k room = grind (arith, nat_tests)
 abbrev AllFit : Option GroupMapState → Type 0
 AllFit groups = IfSome groups MapFits
 
-module _ (g : Setting) (is : g.log ≡ cleaner_log) (w : Scene) where
-  its_log : IsLog g.log.0
-  its_log = (let e : g.log.0 ≡ 9 = ap (λ (l : LogId). l.0) is in (omega arith, omega arith))
+-- a scan can ask further, and the chain that it tells, whatever came, can be gone on with
+pub record ScanOwed (g : Setting) (n : Net) (s : ScanState) : Type 0 where
+  pub asks : scan.can_ask s.opening ≡ true
+  pub chain : (i : Input) → CameToScan g n i → ChainFits g n.inc (scan.transition s i)
 
-  came_fits : ((m : GroupMapState) → In (MapSent m) w.net.sent → MapFits m) → (groups : Option GroupMapState) → MapCame g its_number w groups → AllFit groups
+abbrev pub StageOwed : Setting → Net → Stage → Type 0
+StageOwed g n (stage.Scanning s) = ScanOwed g n s.scan
+StageOwed g n (stage.Settling s) = Unit {0}
+
+module _ (g : Setting) (c : ℕ) (small : is_log g.log.0 ≡ true) (w : Scene) where
+  its_log : IsLog g.log.0
+  its_log = log_in_range g.log.0 small
+
+  came_fits : ((m : GroupMapState) → In (MapSent m) w.net.sent → MapFits m) → (groups : Option GroupMapState) → MapCame g c w groups → AllFit groups
   came_fits maps None came = tt
   came_fits maps (Some m) came = maps m came
 
-  module _ (k : Known) (s : Scanning) (last : ℕ) (inc : w.net.inc < 2 ^ 32) (sees : SeesScan g its_number w k s last) (few : ScanAsks s last) (tells : ScanTells g w s.scan) where
+  module _ (k : Known) (s : Scanning) (last : ℕ) (inc : w.net.inc < 2 ^ 32) (sees : SeesScan g c w k s last) (few : ScanAsks s last) (tells : ScanTells g w.net s.scan) where
     had : AllFit s.scan.opening.groups
     had = subst AllFit sees.groups (came_fits tells.maps k.maps.groups sees.came)
 
@@ -70,8 +79,8 @@ module _ (g : Setting) (is : g.log ≡ cleaner_log) (w : Scene) where
         by_told (Some t) on =
             (on.0, starts_so t.end on (scan.transition s.scan i).state.opening.groups (then_fit i came (scan.transition s.scan i).state.opening.groups (groups_come s.scan i few.reads)))
 
-  pub owed_so : (k : Known) (at : Stage) (last : ℕ) → w.net.inc < 2 ^ 32 → has_room last ≡ true → SeesStage g its_number w k last at → StageAsks at last
-      → StageTells g w at
+  pub owed_so : (k : Known) (at : Stage) (last : ℕ) → w.net.inc < 2 ^ 32 → has_room last ≡ true → SeesStage g c w k last at → StageAsks at last
+      → StageTells g w.net at
       → StageOwed g w.net at
   owed_so k (stage.Scanning s) last inc room sees few tells = record { asks = some_left s.scan last room few.few; chain = chain_so k s last inc sees few tells }
   owed_so k (stage.Settling s) last inc room sees few tells = tt
