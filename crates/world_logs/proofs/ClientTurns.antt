@@ -19,7 +19,7 @@ use Rattle.wire_msg.specs.declared.packet.Packet.{Packet}
 use Rattle.wire_msg.specs.NodeStep.{NodeStep}
 use Rattle.world_law.proofs.Sent.{in_all}
 use Rattle.world_logs.proofs.Frames.{cleaner_still, registry_still, server_still}
-use Rattle.world_logs.proofs.Standing.{Seen}
+use Rattle.world_logs.proofs.Standing.{IsRoomy, Seen}
 use Rattle.world_logs.proofs.StoreTurns.{moment_on}
 use Rattle.world_logs.proofs.Turns.{Keeps, Turn}
 use Rattle.xfs_base.specs.declared.node.NodeId.{NodeId}
@@ -28,7 +28,7 @@ use Rattle.xfs_base.specs.declared.node.NodeId.TheVariants.{Client}
 module _ (g : Setting) (c : ℕ) (w : Scene) (at : Moment g w.net) where
   -- ---- the owner
 
-  module _ (d : NodeStep ClientNode) (go : ClientGoes g c w d) (acts : List Act) (those : (a : Act) → In a acts → In a d.acts) where
+  module _ (d : NodeStep ClientNode) (go : ClientGoes g c w d) (room : IsRoomy go.next.net) (acts : List Act) (those : (a : Act) → In a acts → In a d.acts) where
     later : Later w.net go.next.net
     later = run_later g w.net go.next.net go.grown.runs
 
@@ -43,7 +43,7 @@ module _ (g : Setting) (c : ℕ) (w : Scene) (at : Moment g w.net) where
     pub owner_turn : Turn g c w go.next (Client c) (any.Client d.node) d.packets acts
     owner_turn = record {
       moment = moment_on g w.net go.next.net at go.grown.runs;
-      there = λ e. record { agrees = go.agrees; written = go.written };
+      there = λ e. record { agrees = go.agrees; written = go.written; room = room };
       others = others;
       facts = λ p h. body_more g c w go.next go.grown p.from p.to p.body h;
       sends = go.sends;

@@ -1,27 +1,20 @@
 -- Each event keeps each client's log standing to its small world.
-use Rattle.std.proofs.Common.{◌≡◌, ⊎_elim, ℕ, ◌+◌, ◌==◌, ◌≤◌, ◌<◌, Bool, true, false, List, [], ◌∷◌, ◌++◌, Some, map, get_or, slice_get, slice_set, if◌then◌else◌, inl, inr, refl, sym, ap, subst, ◌∙◌, arith}
-use Rattle.std.specs.List.{AllByRecursion}
+use Rattle.std.proofs.Common.{◌≡◌, ⊎_elim, ◌^◌, ℕ, ◌+◌, ◌==◌, ◌≤◌, ◌<◌, List, [], ◌++◌, Some, map, get_or, slice_get, slice_set, if◌then◌else◌, inl, inr, refl, sym, ap, subst, ◌∙◌, arith}
 use Rattle.std.specs.Prelude.{All}
-use Rattle.client_log_tie.specs.ClientEvents.{BodyFits, ClientGoes, ClientOwed, ClientStarts, ClientTakes, OfItsLog, PhaseOwed}
-use Rattle.client_log_tie.specs.Owner.{Scene, ClientAgrees, asker}
-use Rattle.client_log_tie.specs.Texts.{MapFits}
-use Rattle.client_node.specs.declared.client.Client.{Client as ClientNode}
-use Rattle.client_node.specs.declared.phase.Phase.{Phase}
-use Rattle.client_node.specs.declared.phase.Phase.TheVariants as clients
+use Rattle.client_log_tie.specs.ClientEvents.{BodyFits, ClientGoes, ClientOwed, ClientStarts, ClientTakes, PhaseOwed}
+use Rattle.client_log_tie.specs.Owner.{Scene, asker}
 use Rattle.client_node.specs.Phases.{client_step, lasting_of, takes}
 use Rattle.core_world.specs.AnyNode.{any_step}
 use Rattle.core_world.specs.declared.any_node.AnyNode.{AnyNode}
 use Rattle.core_world.specs.declared.any_node.AnyNode.TheVariants as any
-use Rattle.group_map.specs.GroupMapState.{GroupMapState}
+use Rattle.group_map.specs.declared.group.Group.{Group}
 use Rattle.log_law.specs.Net.{opening}
+use Rattle.log_law.specs.Openings.{FliesNext, OpeningsGoOn}
 use Rattle.log_tie.proofs.Names.{unequal}
 use Rattle.log_tie.specs.Setting.{Setting}
 use Rattle.manager_node.specs.Events.{manager_step}
-use Rattle.node_base.specs.declared.effects.Effect.{Effect}
-use Rattle.node_base.specs.Effects.{packets_of}
 use Rattle.node_base.specs.Setups.{IsSetup}
 use Rattle.node_log_tie.proofs.Going.{run_later}
-use Rattle.node_log_tie.proofs.Lists.{packets_all}
 use Rattle.node_log_tie.specs.CleanerEvents.{CleanerEventGoes, CleanerGoes, CleanerOwed, CleanerStarts}
 use Rattle.node_log_tie.specs.RegistryEvents.{Hears, IsFiled, NamesGroups, RegistryEventGoes, RegistryGoes, RegistryStarts, low_of}
 use Rattle.node_log_tie.specs.ServerEvents.{SentMapsName, ServerEventGoes, ServerGoes, ServerOwed, ServerStarts}
@@ -39,12 +32,9 @@ use Rattle.store_nodes.specs.ServerEvents as servers
 use Rattle.token_protocol.specs.Basics.{In}
 use Rattle.version_model.specs.declared.act.Act.{Act}
 use Rattle.version_model.specs.declared.act.Act.TheVariants as act
-use Rattle.wire_msg.specs.declared.body.Body.{Body}
-use Rattle.wire_msg.specs.declared.body.Body.TheVariants as body
 use Rattle.wire_msg.specs.declared.packet.Do.{Do}
 use Rattle.wire_msg.specs.declared.packet.Do.TheVariants.{Begin, Deliver, Tick}
 use Rattle.wire_msg.specs.declared.packet.Packet.{Packet}
-use Rattle.wire_msg.specs.declared.registry.News.{News}
 use Rattle.world_base.specs.Cluster.{cluster_of, place_of}
 use Rattle.world_base.specs.declared.cluster.Cluster.{Cluster}
 use Rattle.world_base.specs.declared.world.World.{World}
@@ -58,18 +48,21 @@ use Rattle.world_law.specs.Owners.{node_in}
 use Rattle.world_logs.proofs.ClientTurns.{idle_turn, owner_turn}
 use Rattle.world_logs.proofs.Lists.{in_after, in_map}
 use Rattle.world_logs.proofs.ManagerLogs.{ManagerWrites, manager_writes}
-use Rattle.world_logs.proofs.Says.{MaySay, OfLog, client_apart, manager_apart, no_map_fits, plain_no_map}
-use Rattle.world_logs.proofs.Settings.{map_fits, setting_of}
-use Rattle.world_logs.proofs.Standing.{OwnerSeen, Stands}
+use Rattle.world_logs.proofs.Room.{client_leaves_room}
+use Rattle.world_logs.proofs.Says.{MaySay, client_apart, manager_apart}
+use Rattle.world_logs.proofs.Settings.{map_fits, names_fit, setting_of}
+use Rattle.world_logs.proofs.Standing.{IsRoomy, OwnerSeen, Stands}
 use Rattle.world_logs.proofs.Start.{log_small}
 use Rattle.world_logs.proofs.StoreTurns.{cleaner_turn, registry_turn, server_turn}
 use Rattle.world_logs.proofs.Turns.{turned}
 use Rattle.world_logs.specs.Doings.{is_client}
 use Rattle.world_logs.specs.Horizons.{Reached, board_of}
+use Rattle.world_logs.specs.Shelves.{group_at}
 use Rattle.xfs_base.specs.declared.node.NodeId.{NodeId}
 use Rattle.xfs_base.specs.declared.node.NodeId.TheVariants.{Client, Manager, Server, Cleaner, Registry}
 use Rattle.xfs_base.specs.declared.segment.LogId.{LogId}
 use Rattle.xfs_base.specs.declared.setup.Setup.{Setup}
+use Rattle.world_logs.proofs.Owed.{from_fits, in_those, number_is, of_log, phase_owed, registry_fits, sent_from}
 
 -- the laws of the nodes, each of its kind
 pub record NodeLaws : Type 0 where
@@ -83,51 +76,13 @@ pub record NodeLaws : Type 0 where
   pub registry : RegistryEventGoes
   pub cleaner_starts : CleanerStarts
   pub cleaner : CleanerEventGoes
-
--- ---- packets
-
--- what a node sends is from it
-sent_from : (node : NodeId) (outs : List Effect) → All (λ (p : Packet). p.from ≡ node) (packets_of node outs)
-sent_from node outs = packets_all (λ (p : Packet). p.from ≡ node) (λ (e : Effect). Unit {0}) node (λ to said t. refl) outs (any outs)
-  where
-    any : (outs : List Effect) → AllByRecursion (λ (e : Effect). Unit {0}) outs
-    any [] = tt
-    any (e ∷ outs) = (tt, any outs)
-
--- who isn't the registry sends no maps
-from_fits : (from : NodeId) (m : Body) → MaySay from m → (from ≡ Registry → ⊥) → BodyFits m
-from_fits (Client d) m h other = no_map_fits m (plain_no_map m h)
-from_fits (Manager j) m h other = no_map_fits m (plain_no_map m h.0)
-from_fits (Server v) m h other = no_map_fits m h
-from_fits Cleaner m h other = no_map_fits m h
-from_fits Registry m h other = absurd (other refl)
-
--- what the registry sends fits where its map does
-registry_fits : (part : ℕ) (what : Do) (b : BoardState) → MapFits b.groups → (to : NodeId) (m : Body) → board.RegistrySends part what b to m → BodyFits m
-registry_fits part what b fits to (body.MapNews m) h = subst (λ (x : GroupMapState). MapFits x) (sym (ap (λ (n : News). n.groups) h.whole)) fits
-registry_fits part what b fits to (body.Welcome m) h = subst (λ (x : GroupMapState). MapFits x) (sym (ap (λ (n : News). n.groups) h.news.whole)) fits
-registry_fits part what b fits to _ h = tt
-
-in_those : (t : Bool) (acts : List Act) (a : Act) → In a (if t then acts else []) → In a acts
-in_those true acts a h = h
-in_those false acts a h = absurd h
-
--- what is of a client's log bears its number
-of_log : (g : Setting) (c : ℕ) (is : g.log ≡ record { 0 = c }) (w : Scene) (h : Setting) (d : ℕ) → h.log ≡ record { 0 = d } → (m : Body) → OfItsLog h m
-    → OfLog g c is w d m
-of_log g c is w h d its (body.Store m) own = ap (λ (l : LogId). l.0) (own ∙ its)
-of_log g c is w h d its (body.Fence m) own = ap (λ (l : LogId). l.0) (own ∙ its)
-of_log g c is w h d its _ own = tt
-
--- the number of a client that is seen
-number_is : (g : Setting) (c : ℕ) (w : Scene) (p : Phase) → ClientAgrees g c w p → (lasting_of p).number ≡ c
-number_is g c w (clients.Down l) h = h.0.number
-number_is g c w (clients.Opening l o) h = h.0.number
-number_is g c w (clients.Serving s) h = h.0.number
+  -- of the small world: behind what an opening tells a log goes on, and what begins to fly is next
+  pub goes_on : OpeningsGoOn
+  pub flies : FliesNext
 
 -- ---- the step
 
-module _ (laws : NodeLaws) (base : Setting) (end : World AnyNode) (setup : Setup) (ok : IsSetup setup) where
+module _ (laws : NodeLaws) (base : Setting) (end : World AnyNode) (setup : Setup) (ok : IsSetup setup) (few : (id : ℕ) (group : Group) → group_at end id ≡ Some group → id < 2 ^ 32) where
   abbrev pub k : Cluster
   k = cluster_of setup
 
@@ -150,9 +105,7 @@ module _ (laws : NodeLaws) (base : Setting) (end : World AnyNode) (setup : Setup
   eight c most = (let h = ok.clients.1 in omega arith)
 
   module _ (nodes : List AnyNode) (sent : List Packet) (told : ℕ → List Act) (good : Good nodes sent told) (place clock : ℕ) (what : Do)
-      (sound : (r : RegistryNode) → node_in nodes (place_of k Registry) ≡ Some (any.Registry r) → RegistrySound r)
-      (opens : (c : ℕ) → 0 < c → c ≤ setup.clients → (node : ClientNode) → node_in nodes (place_of k (Client c)) ≡ Some (any.Client node) → (v : Scene)
-      → Stands (g c) c v k nodes sent (told c) → PhaseOwed (g c) v.net node.phase) where
+      (sound : (r : RegistryNode) → node_in nodes (place_of k Registry) ≡ Some (any.Registry r) → RegistrySound r) where
     abbrev nodes_at : AnyNode → List AnyNode
     nodes_at x = slice_set nodes place (any_step x what).node
 
@@ -374,7 +327,7 @@ module _ (laws : NodeLaws) (base : Setting) (end : World AnyNode) (setup : Setup
         seen = own.1.seen (Client d) (any.Client node) here refl
 
         scans : PhaseOwed (g d) own.0.net node.phase
-        scans = opens d some within node here own.0 own.1
+        scans = phase_owed (g d) d own.0 own.1.moment (λ m sent. names_fit base end setup.servers d few m (laws.maps (g d) own.0.net own.1.moment m sent)) laws.goes_on node.phase seen
 
         owed : (x : Do) → what ≡ x → ClientOwed (g d) d own.0 node.phase x
         owed Begin same = tt
@@ -384,6 +337,9 @@ module _ (laws : NodeLaws) (base : Setting) (end : World AnyNode) (setup : Setup
         go : ClientGoes (g d) d own.0 (client_step node what)
         go = laws.client (g d) d refl (log_small d some (eight d within)) own.0 node what seen.agrees seen.written (owed what refl)
 
+        room : IsRoomy go.next.net
+        room = client_leaves_room laws.flies (g d) d own.0 own.1.moment node what seen.agrees go seen.room
+
         Now : ℕ → Type 0
         Now c = (v : Scene) × Stands (g c) c v k (nodes_at (any.Client node)) (sent_by (any.Client node)) (told_by (Client d) (any.Client node) c)
 
@@ -391,7 +347,7 @@ module _ (laws : NodeLaws) (base : Setting) (end : World AnyNode) (setup : Setup
         mine = (
           go.next,
           turned (g d) d own.0 go.next k nodes sent (told d) own.1 (Client d) place clock at (any.Client node) (any.Client (client_step node what).node) is
-              packets (if d == d then acts else []) (owner_turn (g d) d own.0 own.1.moment (client_step node what) go (if d == d then acts else []) (in_those (d == d) acts)),
+              packets (if d == d then acts else []) (owner_turn (g d) d own.0 own.1.moment (client_step node what) go room (if d == d then acts else []) (in_those (d == d) acts)),
         )
 
         number : (lasting_of node.phase).number ≡ d

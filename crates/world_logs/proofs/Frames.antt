@@ -1,11 +1,13 @@
 -- What the small world of a log does elsewhere leaves a node of it seen as it was.
-use Rattle.std.proofs.Common.{◌≡◌, ℕ, Option, Some, None, sym, ap, ◌∙◌}
+use Rattle.std.proofs.Common.{◌≡◌, ⊎_elim, ℕ, Option, Some, None, sym, ap, subst, ◌∙◌, inl, inr, arith}
 use Rattle.client_log_tie.specs.Owner.{Scene, ClientAgrees, LastsAs, MapCame, SeesStage}
 use Rattle.client_node.specs.declared.lasting.Lasting.{Lasting}
 use Rattle.client_node.specs.declared.phase.Phase.{Phase}
 use Rattle.client_node.specs.declared.phase.Phase.TheVariants as clients
 use Rattle.group_map.specs.GroupMapState.{GroupMapState}
 use Rattle.log_law.specs.Net.{Net}
+use Rattle.log_law.specs.Openings.{next_number}
+use Rattle.log_protocol.specs.Tables.{In}
 use Rattle.log_owner.specs.declared.known.Known.{Known}
 use Rattle.log_owner.specs.declared.opening.Stage as stages
 use Rattle.log_owner.specs.declared.opening.Stage.TheVariants as stage
@@ -22,6 +24,7 @@ use Rattle.cleaner_node.specs.declared.cleaner.Phase.{Phase as CleanerPhase}
 use Rattle.cleaner_node.specs.declared.cleaner.Phase.TheVariants as cleaners
 use Rattle.store_nodes.specs.declared.server.Rebuilding.{Rebuilding}
 use Rattle.store_nodes.specs.declared.server.Server.{Server as ServerNode}
+use Rattle.world_logs.proofs.Standing.{IsRoomy}
 
 -- ---- the owner
 
@@ -55,7 +58,7 @@ module _ (g : Setting) (c : ℕ) (n next : Net) (asked : ℕ → Question) (late
 
   pub client_still : (p : Phase) → ClientAgrees g c before p → ClientAgrees g c now p
   client_still (clients.Down l) h = (lasts_still l h.0, owner ∙ h.1)
-  client_still (clients.Opening l o) h = (lasts_still l h.0, stage_still o.known l.questions.last o.stage h.1)
+  client_still (clients.Opening l o) h = (lasts_still l h.0, stage_still o.known l.questions.last o.stage h.1, h.2)
   client_still (clients.Serving s) h = (lasts_still s.lasting h.0, record { owner = owner ∙ h.1.owner; own = h.1.own })
 
 -- ---- servers, the cleaner, the registry
@@ -84,3 +87,9 @@ module _ (g : Setting) (n next : Net) (later : Later n next) where
     low = low ∙ h.low;
     horizons = h.horizons;
   }
+
+-- ---- what was in flight
+
+pub room_still : (n next : Net) → next.owner ≡ n.owner → next.flown ≡ n.flown → IsRoomy n → IsRoomy next
+room_still n next owner flown room s among =
+    ⊎_elim (λ has. inl has) (λ low. inr (let e = ap next_number owner in omega arith)) (room s (subst (In s) flown among))

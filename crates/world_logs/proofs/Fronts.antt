@@ -1,14 +1,12 @@
 -- Each front of a run leaves each client's log standing to its small world.
-use Rattle.std.proofs.Common.{◌≡◌, ℕ, zero, suc, ◌≤◌, ◌<◌, Bool, true, false, List, [], ◌∷◌, ◌++◌, Option, None, Some, drop, length, map, take, slice_get, slice_set, if◌then◌else◌, append-nil, refl, sym, ap, subst, ◌∙◌, arith}
+use Rattle.std.proofs.Common.{◌≡◌, ◌^◌, ℕ, zero, suc, ◌≤◌, ◌<◌, Bool, true, false, List, [], ◌∷◌, ◌++◌, Option, None, Some, drop, length, map, take, slice_get, slice_set, if◌then◌else◌, append-nil, refl, sym, ap, subst, ◌∙◌, arith}
 use Rattle.std.proofs.lemmas.List.{append_assoc}
 use Rattle.std.proofs.Math.Seq.{drop-append_seam, drop-length}
 use Rattle.std.specs.List.{fold}
-use Rattle.client_node.specs.declared.client.Client.{Client as ClientNode}
-use Rattle.client_log_tie.specs.ClientEvents.{PhaseOwed}
-use Rattle.client_log_tie.specs.Owner.{Scene}
 use Rattle.core_world.specs.AnyNode.{any_step}
 use Rattle.core_world.specs.declared.any_node.AnyNode.{AnyNode}
 use Rattle.core_world.specs.declared.any_node.AnyNode.TheVariants as any
+use Rattle.group_map.specs.declared.group.Group.{Group}
 use Rattle.log_scan.specs.Transition.{least_horizon}
 use Rattle.log_tie.specs.Setting.{Setting}
 use Rattle.node_base.specs.Setups.{IsSetup}
@@ -42,8 +40,8 @@ use Rattle.world_logs.proofs.Settings.{names_at_end}
 use Rattle.world_logs.proofs.Standing.{Stands}
 use Rattle.world_logs.specs.Doings.{acts_by, acts_of, is_client}
 use Rattle.world_logs.specs.Horizons.{Reached, board_of}
-use Rattle.world_logs.specs.Shelves.{group_in, groups_of}
-use Rattle.xfs_base.specs.declared.node.NodeId.TheVariants.{Client, Registry}
+use Rattle.world_logs.specs.Shelves.{group_at, group_in, groups_of}
+use Rattle.xfs_base.specs.declared.node.NodeId.TheVariants.{Registry}
 use Rattle.xfs_base.specs.declared.setup.Setup.{Setup}
 
 -- whose map is the board's
@@ -62,33 +60,29 @@ no_acts : (t : Bool) (acts : List Act) → acts ≡ [] → (if t then acts else 
 no_acts true acts none = none
 no_acts false acts none = refl
 
-module _ (laws : NodeLaws) (stay : GroupsStay) (base : Setting) (end : World AnyNode) (setup : Setup) (ok : IsSetup setup) (Q : World AnyNode → Type 0) where
+module _ (laws : NodeLaws) (stay : GroupsStay) (base : Setting) (end : World AnyNode) (setup : Setup) (ok : IsSetup setup) (few : (id : ℕ) (group : Group) → group_at end id ≡ Some group → id < 2 ^ 32) where
   abbrev k : Cluster
-  k = logs.k laws base end setup ok
+  k = logs.k laws base end setup ok few
 
   abbrev g : ℕ → Setting
-  g c = logs.g laws base end setup ok c
+  g c = logs.g laws base end setup ok few c
 
   abbrev Tokens : World AnyNode → Type 0
   Tokens w = tokens.GoodWorld laws.tokens k 0 (omega arith) w
 
-  abbrev Opens : Type 0
-  Opens = (w : World AnyNode) → w.cluster ≡ k → Q w → (c : ℕ) → 0 < c → c ≤ setup.clients → (node : ClientNode) → node_in w.nodes (place_of k (Client c)) ≡ Some (any.Client node)
-      → (v : Scene) (told : List Act) → Stands (g c) c v k w.nodes w.sent told → PhaseOwed (g c) v.net node.phase
-
   abbrev GoodNow : World AnyNode → (ℕ → List Act) → Type 0
-  GoodNow w told = Good laws base end setup ok w.nodes w.sent told
+  GoodNow w told = Good laws base end setup ok few w.nodes w.sent told
 
   -- what a client did may be said otherwise
-  good_so : (nodes : List AnyNode) (sent : List Packet) (a b : ℕ → List Act) → ((c : ℕ) → a c ≡ b c) → Good laws base end setup ok nodes sent a
-      → Good laws base end setup ok nodes sent b
+  good_so : (nodes : List AnyNode) (sent : List Packet) (a b : ℕ → List Act) → ((c : ℕ) → a c ≡ b c) → Good laws base end setup ok few nodes sent a
+      → Good laws base end setup ok few nodes sent b
   good_so nodes sent a b same h = record {
     fits = h.fits;
     logs = λ c some most. (let l = h.logs c some most in (l.0, subst (Stands (g c) c l.0 k nodes sent) (same c) l.1));
   }
 
-  known_so : (nodes : List AnyNode) (sent : List Packet) (a b : ℕ → List Act) → ((c : ℕ) → a c ≡ b c) → Known laws base end setup ok nodes sent a
-      → Known laws base end setup ok nodes sent b
+  known_so : (nodes : List AnyNode) (sent : List Packet) (a b : ℕ → List Act) → ((c : ℕ) → a c ≡ b c) → Known laws base end setup ok few nodes sent a
+      → Known laws base end setup ok few nodes sent b
   known_so nodes sent a b same h = record {
     says = h.says;
     registry = λ board is c some most. (let r = h.registry board is c some most in (r.0, subst (λ acts. Reached acts (least_horizon c (all_news board))) (same c) r.1));
@@ -96,7 +90,7 @@ module _ (laws : NodeLaws) (stay : GroupsStay) (base : Setting) (end : World Any
 
   -- ---- one event
 
-  module _ (opens : Opens) (w : World AnyNode) (cluster : w.cluster ≡ k) (told : ℕ → List Act) (event : Event) (may : MayHappen w event) (tok : Tokens w) (q : Q w) where
+  module _ (w : World AnyNode) (cluster : w.cluster ≡ k) (told : ℕ → List Act) (event : Event) (may : MayHappen w event) (tok : Tokens w) where
     -- what each client did after it, by all acts
     abbrev told_with : List Act → ℕ → List Act
     told_with acts c = told c ++ (if is_client c (node_of event) then drop (length w.acts) acts else [])
@@ -122,7 +116,7 @@ module _ (laws : NodeLaws) (stay : GroupsStay) (base : Setting) (end : World Any
     sound r here = subst RegistrySound (same_registry tok.0.registry r (sym tok.1.placed.registry ∙ here)) tok.1.sound
 
     abbrev Kept : List AnyNode → List Packet → List Act → Type 0
-    Kept nodes sent acts = Known laws base end setup ok nodes sent (told_with acts) → Good laws base end setup ok nodes sent (told_with acts)
+    Kept nodes sent acts = Known laws base end setup ok few nodes sent (told_with acts) → Good laws base end setup ok few nodes sent (told_with acts)
 
     module _ (good : GoodNow w told) where
       turns : (place : ℕ) (x : AnyNode) (clock : ℕ) → place_of w.cluster (node_of event) ≡ Some place → slice_get w.nodes place ≡ Some x
@@ -132,11 +126,11 @@ module _ (laws : NodeLaws) (stay : GroupsStay) (base : Setting) (end : World Any
           let sent = w.sent ++ map (sent_at clock) (any_step x (what_of event)).packets in
           let acts = (any_step x (what_of event)).acts in
           good_so nodes sent (λ c. told c ++ (if is_client c (node_of event) then acts else [])) (told_with (w.acts ++ acts)) (λ c. sym (added acts c))
-          (node_after laws base end setup ok w.nodes w.sent told good place clock (what_of event) sound (λ c some most node here v st. opens w cluster q c some most node here v (told c) st)
+          (node_after laws base end setup ok few w.nodes w.sent told good place clock (what_of event) sound
           (node_of event) gets (subst (λ cl. place_of cl (node_of event) ≡ Some place) cluster at) x is
           (known_so nodes sent (told_with (w.acts ++ acts)) (λ c. told c ++ (if is_client c (node_of event) then acts else [])) (added acts) known))
 
-      pub event_keeps : Known laws base end setup ok (next_world any_step w event).nodes (next_world any_step w event).sent (λ c. told c ++ acts_of c w event)
+      pub event_keeps : Known laws base end setup ok few (next_world any_step w event).nodes (next_world any_step w event).sent (λ c. told c ++ acts_of c w event)
           → GoodNow (next_world any_step w event) (λ c. told c ++ acts_of c w event)
       event_keeps known = next_keeps any_step Kept w event (λ h. good_so w.nodes w.sent told (told_with w.acts) unchanged good) turns known
 
@@ -157,22 +151,21 @@ module _ (laws : NodeLaws) (stay : GroupsStay) (base : Setting) (end : World Any
 
   known_now : (w : World AnyNode) → w.cluster ≡ k → Tokens w → StayIn stay w end → (told : ℕ → List Act)
       → ((c : ℕ) → 0 < c → c ≤ setup.clients → (b : BoardState) → board_of (node_in w.nodes (place_of w.cluster Registry)) ≡ Some b → Reached (told c) (least_horizon c (all_news b)))
-      → Known laws base end setup ok w.nodes w.sent told
+      → Known laws base end setup ok few w.nodes w.sent told
   known_now w cluster tok stays told reached = record {
     says = λ p h. may_say k 0 tok.0 p (tok.1.facts p h);
     registry = λ b is c some most. (named_so w cluster stays b is c, reached c some most b (subst (λ cl. board_of (node_in w.nodes (place_of cl Registry)) ≡ Some b) (sym cluster) is));
   }
 
-  pub front_keeps : Opens → (events_ : List Event) (count : ℕ) (w : World AnyNode) (told : ℕ → List Act) → w.cluster ≡ k → Leads any_step w events_ end
-      → Tokens w → HorizonsFrom events_ w told
-      → ((n : ℕ) → Q (fold (next_world any_step) w (take n events_))) → GoodNow w told
+  pub front_keeps : (events_ : List Event) (count : ℕ) (w : World AnyNode) (told : ℕ → List Act) → w.cluster ≡ k → Leads any_step w events_ end
+      → Tokens w → HorizonsFrom events_ w told → GoodNow w told
       → GoodNow (fold (next_world any_step) w (take count events_)) (λ c. told c ++ acts_by c w (take count events_))
-  front_keeps opens events_ zero w told cluster leads tok low q good = good_so w.nodes w.sent told (λ c. told c ++ []) (λ c. sym (append-nil (told c))) good
-  front_keeps opens [] (suc count) w told cluster leads tok low q good = good_so w.nodes w.sent told (λ c. told c ++ []) (λ c. sym (append-nil (told c))) good
-  front_keeps opens (event ∷ more) (suc count) w told cluster leads tok low q good =
+  front_keeps events_ zero w told cluster leads tok low good = good_so w.nodes w.sent told (λ c. told c ++ []) (λ c. sym (append-nil (told c))) good
+  front_keeps [] (suc count) w told cluster leads tok low good = good_so w.nodes w.sent told (λ c. told c ++ []) (λ c. sym (append-nil (told c))) good
+  front_keeps (event ∷ more) (suc count) w told cluster leads tok low good =
       good_so (fold (next_world any_step) next (take count more)).nodes (fold (next_world any_step) next (take count more)).sent
       (λ c. now c ++ acts_by c next (take count more)) (λ c. told c ++ (acts_of c w event ++ acts_by c next (take count more))) (λ c. append_assoc (told c) (acts_of c w event) (acts_by c next (take count more)))
-      (front_keeps opens more count next now next_in leads.1 next_tok later (λ n. q (suc n)) next_good)
+      (front_keeps more count next now next_in leads.1 next_tok later next_good)
     where
       next : World AnyNode
       next = next_world any_step w event
@@ -189,9 +182,9 @@ module _ (laws : NodeLaws) (stay : GroupsStay) (base : Setting) (end : World Any
       later : HorizonsFrom more next now
       later n c some most b is = subst (λ acts. Reached acts (least_horizon c (all_news b))) (sym (append_assoc (told c) (acts_of c w event) (acts_by c next (take n more)))) (low (suc n) c some most b is)
 
-      known : Known laws base end setup ok next.nodes next.sent now
+      known : Known laws base end setup ok few next.nodes next.sent now
       known = known_now next next_in next_tok (in_run stay more next end leads.1) now
           (λ c some most b is. subst (λ acts. Reached acts (least_horizon c (all_news b))) (append-nil (now c)) (later 0 c some most b is))
 
       next_good : GoodNow next now
-      next_good = event_keeps opens w cluster told event leads.0 tok (q 0) good known
+      next_good = event_keeps w cluster told event leads.0 tok good known

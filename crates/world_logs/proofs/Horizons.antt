@@ -66,7 +66,6 @@ use Rattle.world_logs.specs.Doings.{acts_by, acts_of, is_client}
 use Rattle.world_logs.specs.Horizons.{HorizonsReached, Reached, board_of}
 use Rattle.xfs_base.specs.declared.node.NodeId.{NodeId}
 use Rattle.xfs_base.specs.declared.node.NodeId.TheVariants.{Client, Manager, Server, Cleaner, Registry}
-use Rattle.xfs_base.specs.declared.segment.LogId.{LogId}
 use Rattle.xfs_base.specs.declared.setup.Setup.{Setup}
 
 -- what nodes tell was filed; and what those tell that tell nothing of a log of their own

@@ -1,11 +1,6 @@
--- Every run keeps the logs of its clients, in runs in which no client opens its log again.
-use Rattle.std.proofs.Common.{◌≡◌, ℕ, ◌+◌, ◌≤◌, ◌<◌, List, [], ◌∷◌, Some, length, take, refl, sym, ap, subst, ◌∙◌, arith}
+-- Every run keeps the logs of its clients.
+use Rattle.std.proofs.Common.{◌≡◌, ◌^◌, ℕ, ◌+◌, ◌≤◌, ◌<◌, List, [], ◌∷◌, Some, length, take, refl, sym, ap, subst, ◌∙◌, arith}
 use Rattle.std.specs.List.{fold}
-use Rattle.client_log_tie.specs.ClientEvents.{PhaseOwed}
-use Rattle.client_log_tie.specs.Owner.{Scene}
-use Rattle.client_node.specs.declared.client.Client.{Client as ClientNode}
-use Rattle.client_node.specs.declared.phase.Phase.{Phase}
-use Rattle.client_node.specs.declared.phase.Phase.TheVariants as clients
 use Rattle.core_world.specs.AnyNode.{any_start, any_step}
 use Rattle.core_world.specs.declared.any_node.AnyNode.{AnyNode}
 use Rattle.core_world.specs.declared.any_node.AnyNode.TheVariants as any
@@ -13,13 +8,11 @@ use Rattle.fragment_store.specs.ShelfState.{ShelfState}
 use Rattle.group_map.specs.declared.group.Group.{Group}
 use Rattle.group_map.specs.Groups as groups
 use Rattle.log_law.specs.Laws.{LogsStayWhole, OneNameOneText}
-use Rattle.log_law.specs.Net.{Net}
 use Rattle.log_tie.specs.Exist.{SomeSetting}
 use Rattle.log_tie.specs.Setting.{Setting, server_of}
 use Rattle.node_base.specs.Setups.{IsSetup}
 use Rattle.node_log_tie.specs.RegistryEvents.{NamesGroups}
 use Rattle.store_nodes.specs.RegistryEvents.{registry_start}
-use Rattle.version_model.specs.declared.act.Act.{Act}
 use Rattle.world_base.specs.Cluster.{cluster_of, place_of}
 use Rattle.world_base.specs.declared.cluster.Cluster.{Cluster}
 use Rattle.world_base.specs.declared.estate.Estate.{Estate}
@@ -33,17 +26,15 @@ use Rattle.world_law.proofs.Start.{first_stands}
 use Rattle.world_law.specs.Owners.{moment, node_in, node_named}
 use Rattle.world_logs.proofs.Events.{Good, NodeLaws}
 use Rattle.world_logs.proofs.Fronts.{front_keeps, named_so}
-use Rattle.world_logs.proofs.Groups.{GroupsStay, in_run}
+use Rattle.world_logs.proofs.Groups.{GroupsStay, board_has_map, first_map, in_run, map_in_run}
 use Rattle.world_logs.proofs.Reading.{has_text, is_whole, members_exist}
-use Rattle.world_logs.proofs.Settings.{setting_of}
-use Rattle.world_logs.proofs.Standing.{Stands}
+use Rattle.world_logs.proofs.Settings.{ids_fit, setting_of}
 use Rattle.world_logs.proofs.Start.{first_scene, start_stands}
 use Rattle.world_logs.specs.Doings.{did}
 use Rattle.world_logs.specs.Logs.{LogsStand}
 use Rattle.world_logs.specs.Horizons.{HorizonsReached, board_of}
-use Rattle.world_logs.specs.Owed.{IsOpening, NoneOpens}
 use Rattle.world_logs.specs.Shelves.{group_at, shelf_at, shelf_of}
-use Rattle.xfs_base.specs.declared.node.NodeId.TheVariants.{Client, Server, Registry}
+use Rattle.xfs_base.specs.declared.node.NodeId.TheVariants.{Server, Registry}
 use Rattle.xfs_base.specs.declared.setup.Setup.{Setup}
 
 -- the laws that the logs stand on
@@ -59,12 +50,7 @@ at_end : (events : List Event) (w end : World AnyNode) → Leads any_step w even
 at_end [] w end leads = leads
 at_end (event ∷ events) w end leads = at_end events (next_world any_step w event) end leads.1
 
-owed_nothing : (g : Setting) (n : Net) (p : Phase) → (IsOpening p → ⊥) → PhaseOwed g n p
-owed_nothing g n (clients.Down l) shut = tt
-owed_nothing g n (clients.Opening l o) shut = absurd (shut tt)
-owed_nothing g n (clients.Serving s) shut = tt
-
-module _ (below : Below) (e : Estate AnyNode) (ok : IsSetup e.script.setup) (run : IsRun any_step any_start e.script e.events e.world) (low : HorizonsReached e) (none : NoneOpens e) where
+module _ (below : Below) (e : Estate AnyNode) (ok : IsSetup e.script.setup) (run : IsRun any_step any_start e.script e.events e.world) (low : HorizonsReached e) where
   abbrev setup : Setup
   setup = e.script.setup
 
@@ -77,26 +63,27 @@ module _ (below : Below) (e : Estate AnyNode) (ok : IsSetup e.script.setup) (run
   abbrev g : ℕ → Setting
   g c = setting_of base e.world e.script.setup.servers c
 
-  -- no client opens its log in a world
-  Q : World AnyNode → Type 0
-  Q w = (c : ℕ) (node : ClientNode) → node_named w (Client c) ≡ Some (any.Client node) → IsOpening node.phase → ⊥
+  -- at the start the registry's map is well formed, so it is at the end
+  first_board : board_of (node_named (start_world any_start e.script) Registry) ≡ Some (registry_start setup (items_of e.script.lines Registry)).board
+  unfolding start_world
+  first_board = ap board_of (first_stands e.script Registry (setup.clients + setup.managers + setup.servers + 1) refl)
 
-  opens : (w : World AnyNode) → w.cluster ≡ k → Q w → (c : ℕ) → 0 < c → c ≤ setup.clients → (node : ClientNode)
-      → node_in w.nodes (place_of k (Client c)) ≡ Some (any.Client node)
-      → (v : Scene) (told : List Act) → Stands (g c) c v k w.nodes w.sent told → PhaseOwed (g c) v.net node.phase
-  unfolding Q
-  opens w cluster q c some most node here v told st =
-      owed_nothing (g c) v.net node.phase (q c node (subst (λ cl. node_in w.nodes (place_of cl (Client c)) ≡ Some (any.Client node)) (sym cluster) here))
+  few : (id : ℕ) (group : Group) → group_at e.world id ≡ Some group → id < 2 ^ 32
+  few id group is =
+      ids_fit (node_named e.world Registry)
+      (map_in_run below.groups e.events (start_world any_start e.script) e.world run
+      (board_has_map (node_named (start_world any_start e.script) Registry) (registry_start setup (items_of e.script.lines Registry)).board first_board
+      (first_map setup ok (items_of e.script.lines Registry)))) id group is
 
   first_named : (c : ℕ) → NamesGroups (g c) (groups.started setup.servers setup.groups)
   unfolding start_world
-  first_named c = named_so below.nodes below.groups base e.world setup ok Q (start_world any_start e.script) refl (in_run below.groups e.events (start_world any_start e.script) e.world run)
-      (registry_start setup (items_of e.script.lines Registry)).board (ap board_of (first_stands e.script Registry (setup.clients + setup.managers + setup.servers + 1) refl)) c
+  first_named c = named_so below.nodes below.groups base e.world setup ok few (start_world any_start e.script) refl (in_run below.groups e.events (start_world any_start e.script) e.world run)
+      (registry_start setup (items_of e.script.lines Registry)).board first_board c
 
-  good_at : (count : ℕ) → Good below.nodes base e.world setup ok (moment e count).nodes (moment e count).sent (λ c. did e c count)
-  unfolding start_world Q
-  good_at count = front_keeps below.nodes below.groups base e.world setup ok Q opens e.events count (start_world any_start e.script) (λ c. []) refl run
-      (tokens.front below.nodes.tokens e ok run 0 0 (omega arith)).1 (λ n c some most b is. low n c some most b is) (λ n c node is opening. none n c node is opening)
+  good_at : (count : ℕ) → Good below.nodes base e.world setup ok few (moment e count).nodes (moment e count).sent (λ c. did e c count)
+  unfolding start_world
+  good_at count = front_keeps below.nodes below.groups base e.world setup ok few e.events count (start_world any_start e.script) (λ c. []) refl run
+      (tokens.front below.nodes.tokens e ok run 0 0 (omega arith)).1 (λ n c some most b is. low n c some most b is)
       (record {
         fits = λ q h. absurd h;
         logs = λ c some most. (

@@ -9,8 +9,10 @@ pub mod StoreTurns
 pub mod ClientTurns
 pub mod Groups
 pub mod Settings
+pub mod Room
 pub mod Says
 pub mod Start
+pub mod Owed
 pub mod Events
 pub mod Fronts
 pub mod Reading

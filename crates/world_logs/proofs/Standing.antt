@@ -1,17 +1,21 @@
 -- How a moment of a run stands to a moment of the small world of one client's log: each node is seen there, and what was sent, filed and deleted is so there.
-use Rattle.std.proofs.Common.{◌≡◌, ℕ, List, Some}
+use Rattle.std.proofs.Common.{◌≡◌, ◌⊎◌, ◌≤◌, ℕ, true, List, Some}
+use Rattle.client_log.specs.Transition.{has_next}
 use Rattle.client_log_tie.specs.ClientEvents.{PhaseWritten}
 use Rattle.client_log_tie.specs.Owner.{Scene, ClientAgrees, asker}
 use Rattle.client_node.specs.declared.phase.Phase.{Phase}
 use Rattle.core_world.specs.declared.any_node.AnyNode.{AnyNode}
 use Rattle.core_world.specs.declared.any_node.AnyNode.TheVariants as any
 use Rattle.log_law.specs.Laws.{Moment}
+use Rattle.log_law.specs.Net.{Net}
+use Rattle.log_law.specs.Openings.{next_number}
 use Rattle.log_protocol.specs.Tables as tables
 use Rattle.log_tie.specs.Setting.{Setting}
 use Rattle.node_log_tie.specs.CleanerEvents.{CleanerSeen}
 use Rattle.node_log_tie.specs.RegistryEvents.{RegistrySeen}
 use Rattle.node_log_tie.specs.ServerEvents.{ServerSeen}
 use Rattle.node_log_tie.specs.Sight.{PacketSeen}
+use Rattle.segment_format.specs.declared.segment.Segment.{Segment}
 use Rattle.token_protocol.specs.Basics.{In}
 use Rattle.version_model.specs.declared.act.Act.{Act}
 use Rattle.version_model.specs.declared.act.Act.TheVariants as act
@@ -29,11 +33,16 @@ use Rattle.xfs_base.specs.declared.segment.SegName.{SegName}
 abbrev pub Deletes : SegName → List Packet → Type 0
 Deletes name packets = (p : Packet) × In p packets × (p.body ≡ body.Delete (record { name = name }))
 
+-- the number of each segment that was in flight has one after it, or is no further than the one after the end
+abbrev pub IsRoomy : Net → Type 0
+IsRoomy n = (s : Segment) → tables.In s n.flown → (has_next s.name.seq ≡ true) ⊎ (s.name.seq ≤ next_number n.owner)
+
 module _ (g : Setting) (c : ℕ) (w : Scene) where
-  -- the log's owner
+  -- the log's owner; of what was in flight no number is at its end, but that after the end of the log
   pub record OwnerSeen (p : Phase) : Type 0 where
     pub agrees : ClientAgrees g c w p
     pub written : PhaseWritten p
+    pub room : IsRoomy w.net
 
   -- ---- a node of this name
 

@@ -7,7 +7,6 @@ use Rattle.client_node.specs.Starting.{first_client}
 use Rattle.core_world.specs.AnyNode.{any_start}
 use Rattle.core_world.specs.declared.any_node.AnyNode.{AnyNode}
 use Rattle.group_map.specs.GroupMapState.{GroupMapState}
-use Rattle.group_map.specs.Groups.{group_of}
 use Rattle.group_map.specs.Groups as groups
 use Rattle.log_law.specs.Events.Runs.{Begun}
 use Rattle.log_law.specs.Net.{opening}
@@ -61,7 +60,7 @@ module _ (clients : ClientStarts) (servers : ServerStarts) (cleaners : CleanerSt
 
   owner_so : (items : List Work) → OwnerSeen g c first_scene (first_client c setup items).phase
   owner_so items = (let b : ClientBegins g c setup items = clients g c is (log_small c some most) setup items in
-      record { agrees = b.agrees; written = b.written (map_fits map (registry_so []).map) })
+      record { agrees = b.agrees; written = b.written (map_fits map (registry_so []).map); room = λ s among. absurd among })
 
   starts : (name : NodeId) (items : List Work) → Seen g c first_scene name (any_start name setup items)
   starts (Client d) items = λ e. subst (λ n. OwnerSeen g c first_scene (first_client n setup items).phase) (sym e) (owner_so items)

@@ -22,7 +22,7 @@ use Rattle.store_nodes.specs.ServerEvents.{server_step}
 use Rattle.token_protocol.specs.Basics.{In}
 use Rattle.wire_msg.specs.declared.packet.Do.{Do}
 use Rattle.wire_msg.specs.declared.packet.Packet.{Packet}
-use Rattle.world_logs.proofs.Frames.{cleaner_still, client_still, registry_still, server_still}
+use Rattle.world_logs.proofs.Frames.{cleaner_still, client_still, registry_still, room_still, server_still}
 use Rattle.world_logs.proofs.Standing.{Deletes}
 use Rattle.world_logs.proofs.Turns.{Keeps, Turn}
 use Rattle.xfs_base.specs.declared.node.NodeId.{NodeId}
@@ -44,10 +44,12 @@ module _ (g : Setting) (c : ℕ) (w : Scene) (at : Moment g w.net) (next : Net) 
   facts p h = seen_later g (asker c w) w.net next later p.from p.to p.body h
 
   -- all but one node are seen as they were
-  keeps : (name : NodeId) → next.inc ≡ w.net.inc → next.owner ≡ w.net.owner → ((u : ℕ) → (Server u ≡ name → ⊥) → next.shelves u ≡ w.net.shelves u)
+  keeps : (name : NodeId) → next.inc ≡ w.net.inc → next.owner ≡ w.net.owner → next.flown ≡ w.net.flown
+      → ((u : ℕ) → (Server u ≡ name → ⊥) → next.shelves u ≡ w.net.shelves u)
       → ((Registry ≡ name → ⊥) → (next.registry ≡ w.net.registry) × (next.low ≡ w.net.low)) → Keeps g c w after name
-  keeps name inc owner shelves known = record {
-    owner = λ differs p h. record { agrees = client_still g c w.net next w.asked later inc owner p h.agrees; written = h.written };
+  keeps name inc owner flown shelves known = record {
+    owner = λ differs p h.
+        record { agrees = client_still g c w.net next w.asked later inc owner p h.agrees; written = h.written; room = room_still w.net next owner flown h.room };
     server = λ u differs node h. server_still g w.net next later u node (shelves u differs) h;
     cleaner = λ differs p h. cleaner_still g w.net next later p h;
     registry = λ differs b h. registry_still g w.net next later b (known differs).0 (known differs).1 h;
@@ -59,7 +61,7 @@ module _ (g : Setting) (c : ℕ) (w : Scene) (at : Moment g w.net) where
   server_turn v node what go = record {
     moment = moment_on g w.net go.next at go.runs;
     there = go.seen;
-    others = keeps g c w at go.next go.runs (Server v) (ap (λ (n : Net). n.inc) go.rest) (ap (λ (n : Net). n.owner) go.rest) (λ u differs. go.shelves u (λ e. differs (ap Server e)))
+    others = keeps g c w at go.next go.runs (Server v) (ap (λ (n : Net). n.inc) go.rest) (ap (λ (n : Net). n.owner) go.rest) (ap (λ (n : Net). n.flown) go.rest) (λ u differs. go.shelves u (λ e. differs (ap Server e)))
         (λ differs. (ap (λ (n : Net). n.registry) go.rest, ap (λ (n : Net). n.low) go.rest));
     facts = facts g c w at go.next go.runs;
     sends = go.sends;
@@ -73,7 +75,7 @@ module _ (g : Setting) (c : ℕ) (w : Scene) (at : Moment g w.net) where
   registry_turn node what go = record {
     moment = moment_on g w.net go.next at go.runs;
     there = go.seen;
-    others = keeps g c w at go.next go.runs Registry (ap (λ (n : Net). n.inc) go.rest) (ap (λ (n : Net). n.owner) go.rest)
+    others = keeps g c w at go.next go.runs Registry (ap (λ (n : Net). n.inc) go.rest) (ap (λ (n : Net). n.owner) go.rest) (ap (λ (n : Net). n.flown) go.rest)
         (λ u differs. ap (λ (n : Net). n.shelves u) go.rest) (λ differs. absurd (differs refl));
     facts = facts g c w at go.next go.runs;
     sends = go.sends;
@@ -87,7 +89,7 @@ module _ (g : Setting) (c : ℕ) (w : Scene) (at : Moment g w.net) where
   cleaner_turn node what go = record {
     moment = moment_on g w.net go.next at go.runs;
     there = go.seen;
-    others = keeps g c w at go.next go.runs Cleaner (ap (λ (n : Net). n.inc) go.rest) (ap (λ (n : Net). n.owner) go.rest)
+    others = keeps g c w at go.next go.runs Cleaner (ap (λ (n : Net). n.inc) go.rest) (ap (λ (n : Net). n.owner) go.rest) (ap (λ (n : Net). n.flown) go.rest)
         (λ u differs. ap (λ (n : Net). n.shelves u) go.rest) (λ differs. (ap (λ (n : Net). n.registry) go.rest, ap (λ (n : Net). n.low) go.rest));
     facts = facts g c w at go.next go.runs;
     sends = go.sends;

@@ -2,4 +2,3 @@ pub mod Doings
 pub mod Horizons
 pub mod Shelves
 pub mod Logs
-pub mod Owed

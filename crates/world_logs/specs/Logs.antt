@@ -18,7 +18,6 @@ use Rattle.world_base.specs.declared.world.World.{World}
 use Rattle.world_base.specs.Runs.{IsRun, WasSent}
 use Rattle.world_law.specs.Owners.{moment}
 use Rattle.world_logs.specs.Doings.{did}
-use Rattle.world_logs.specs.Owed.{NoneOpens}
 use Rattle.world_logs.specs.Shelves.{IsKept, group_at, piece, shelf_at}
 use Rattle.xfs_base.specs.declared.fragment.Fragment.{Fragment}
 use Rattle.xfs_base.specs.declared.node.NodeId.TheVariants as nodes
@@ -74,11 +73,6 @@ pub record LogStands (e : Estate AnyNode) (count c : ℕ) : Type 0 where
 abbrev pub LogsStand : Estate AnyNode → Type 0
 LogsStand e = (count c : ℕ) → 1 ≤ c → c ≤ e.script.setup.clients → LogStands e count c
 
--- so it is, as long as no client opens its log again
-abbrev pub LogsStandUnopened : Estate AnyNode → Type 0
-LogsStandUnopened e = NoneOpens e → LogsStand e
-
--- So it is of each run of a script of whose setup a run can be started, after doubtful restarts of servers and the cleaner too: one in which no client opens
--- its log again.
+-- so it is of each run of a script of whose setup a run can be started, after doubtful restarts too
 abbrev pub RunsKeepLogs : Type 0
-RunsKeepLogs = (e : Estate AnyNode) → IsSetup e.script.setup → IsRun any_step any_start e.script e.events e.world → LogsStandUnopened e
+RunsKeepLogs = (e : Estate AnyNode) → IsSetup e.script.setup → IsRun any_step any_start e.script e.events e.world → LogsStand e

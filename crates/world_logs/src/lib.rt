@@ -12,7 +12,7 @@ use filed_tie::{
     registry_tells_what_is_filed, servers_tell_what_is_filed,
 };
 use group_map::laws::groups_stay_as_made;
-use log_law::{logs_stay_whole, one_name_one_text};
+use log_law::{logs_stay_whole, one_name_one_text, openings_go_on};
 use log_tie::settings_exist;
 use node_log_tie::{cleaner_events_are_seen, registry_events_are_seen, server_events_are_seen};
 use node_tie::{
@@ -20,13 +20,13 @@ use node_tie::{
     other_events_are_seen,
 };
 
-/// Whatever messages are lost, repeated or reordered and whichever nodes stop, as long as no client opens its log again, logs are whole at each moment of a run (the 1996 paper, on RAID):
+/// Whatever messages are lost, repeated or reordered, and whichever nodes stop and start again, logs are whole at each moment of a run (the 1996 paper, on RAID):
 /// of each segment that a client told to be filed, and of which no Delete was sent, each member of its group holds its fragment, or its server has lost its disk
 /// since the group was made; and whatever is held, stored or sent under a name of a client's log is a fragment of one segment, the same for all of that name.
 ///
 /// - `horizons`: in every run of a script of whose setup a run can be started, the least horizon that the registry keeps of a client's log is 1 at most, or no
 ///   more than one beyond a segment that the client itself told to be filed.
-/// - `keeps`: logs are whole, and one name has one text, in every such run in which no client opens its log again. That this isn't needed is open.
+/// - `keeps`: logs are whole, and one name has one text, in every such run, however clients fall and open their logs again.
 pub fn runs_keep_logs()
     ensures horizons { RunsReachHorizons }
     ensures keeps { RunsKeepLogs }
@@ -48,4 +48,5 @@ pub fn runs_keep_logs()
     settings_exist();
     logs_stay_whole();
     one_name_one_text();
+    openings_go_on();
 }

@@ -40,7 +40,7 @@ returns c =
     }) in
     record {
       horizons = horizons;
-      keeps = λ e ok run none. logs_stand (record {
+      keeps = λ e ok run. logs_stand (record {
         nodes = record {
           tokens = tokens;
           client_starts = c.client_log_events_are_seen.ensures.start;
@@ -52,10 +52,12 @@ returns c =
           registry = c.registry_events_are_seen.ensures.events;
           cleaner_starts = c.cleaner_events_are_seen.ensures.start;
           cleaner = c.cleaner_events_are_seen.ensures.events;
+          goes_on = c.openings_go_on.ensures.on;
+          flies = c.openings_go_on.ensures.flies;
         };
         groups = c.groups_stay_as_made.ensures;
         setting = c.settings_exist.ensures;
         whole = c.logs_stay_whole.ensures.whole;
         text = c.one_name_one_text.ensures.one_text;
-      }) e ok run (horizons e ok run) none;
+      }) e ok run (horizons e ok run);
     }

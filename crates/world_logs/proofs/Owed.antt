@@ -1,0 +1,91 @@
+-- What events of nodes are owed, and what of them is read off: who sends maps that fit, whose log a packet is of, and what an opening is told.
+use Rattle.std.proofs.Common.{◌≡◌, ℕ, Bool, true, false, List, [], ◌∷◌, if◌then◌else◌, refl, sym, ap, subst, ◌∙◌}
+use Rattle.std.specs.List.{AllByRecursion}
+use Rattle.std.specs.Prelude.{All}
+use Rattle.client_log_tie.specs.ClientEvents.{BodyFits, OfItsLog, PhaseOwed, StageTells}
+use Rattle.client_log_tie.specs.Owner.{Scene, ClientAgrees, SeesStage}
+use Rattle.client_log_tie.specs.Texts.{MapFits}
+use Rattle.client_node.specs.declared.phase.Phase.{Phase}
+use Rattle.client_node.specs.declared.phase.Phase.TheVariants as clients
+use Rattle.client_node.specs.Phases.{lasting_of}
+use Rattle.group_map.specs.GroupMapState.{GroupMapState}
+use Rattle.log_law.specs.Laws.{Moment}
+use Rattle.log_law.specs.Net.Packet.{MapSent}
+use Rattle.log_law.specs.Openings.{OpeningsGoOn}
+use Rattle.log_owner.specs.declared.opening.Stage as stages
+use Rattle.log_owner.specs.declared.opening.Stage.TheVariants as stage
+use Rattle.log_protocol.specs.Tables as tables
+use Rattle.log_tie.specs.Setting.{Setting}
+use Rattle.node_base.specs.declared.effects.Effect.{Effect}
+use Rattle.node_base.specs.Effects.{packets_of}
+use Rattle.node_log_tie.proofs.Lists.{packets_all}
+use Rattle.node_tie.specs.RegistryEvents as board
+use Rattle.registry.specs.BoardState.{BoardState}
+use Rattle.token_protocol.specs.Basics.{In}
+use Rattle.version_model.specs.declared.act.Act.{Act}
+use Rattle.wire_msg.specs.declared.body.Body.{Body}
+use Rattle.wire_msg.specs.declared.body.Body.TheVariants as body
+use Rattle.wire_msg.specs.declared.packet.Do.{Do}
+use Rattle.wire_msg.specs.declared.packet.Packet.{Packet}
+use Rattle.wire_msg.specs.declared.registry.News.{News}
+use Rattle.world_logs.proofs.Room.{scan_has_room}
+use Rattle.world_logs.proofs.Says.{MaySay, OfLog, no_map_fits, plain_no_map}
+use Rattle.world_logs.proofs.Standing.{OwnerSeen}
+use Rattle.xfs_base.specs.declared.node.NodeId.{NodeId}
+use Rattle.xfs_base.specs.declared.node.NodeId.TheVariants.{Client, Manager, Server, Cleaner, Registry}
+use Rattle.xfs_base.specs.declared.segment.LogId.{LogId}
+
+-- ---- packets
+
+-- what a node sends is from it
+pub sent_from : (node : NodeId) (outs : List Effect) → All (λ (p : Packet). p.from ≡ node) (packets_of node outs)
+sent_from node outs = packets_all (λ (p : Packet). p.from ≡ node) (λ (e : Effect). Unit {0}) node (λ to said t. refl) outs (any outs)
+  where
+    any : (outs : List Effect) → AllByRecursion (λ (e : Effect). Unit {0}) outs
+    any [] = tt
+    any (e ∷ outs) = (tt, any outs)
+
+-- who isn't the registry sends no maps
+pub from_fits : (from : NodeId) (m : Body) → MaySay from m → (from ≡ Registry → ⊥) → BodyFits m
+from_fits (Client d) m h other = no_map_fits m (plain_no_map m h)
+from_fits (Manager j) m h other = no_map_fits m (plain_no_map m h.0)
+from_fits (Server v) m h other = no_map_fits m h
+from_fits Cleaner m h other = no_map_fits m h
+from_fits Registry m h other = absurd (other refl)
+
+-- what the registry sends fits where its map does
+pub registry_fits : (part : ℕ) (what : Do) (b : BoardState) → MapFits b.groups → (to : NodeId) (m : Body) → board.RegistrySends part what b to m → BodyFits m
+registry_fits part what b fits to (body.MapNews m) h = subst (λ (x : GroupMapState). MapFits x) (sym (ap (λ (n : News). n.groups) h.whole)) fits
+registry_fits part what b fits to (body.Welcome m) h = subst (λ (x : GroupMapState). MapFits x) (sym (ap (λ (n : News). n.groups) h.news.whole)) fits
+registry_fits part what b fits to _ h = tt
+
+pub in_those : (t : Bool) (acts : List Act) (a : Act) → In a (if t then acts else []) → In a acts
+in_those true acts a h = h
+in_those false acts a h = absurd h
+
+-- what is of a client's log bears its number
+pub of_log : (g : Setting) (c : ℕ) (is : g.log ≡ record { 0 = c }) (w : Scene) (h : Setting) (d : ℕ) → h.log ≡ record { 0 = d } → (m : Body) → OfItsLog h m
+    → OfLog g c is w d m
+of_log g c is w h d its (body.Store m) own = ap (λ (l : LogId). l.0) (own ∙ its)
+of_log g c is w h d its (body.Fence m) own = ap (λ (l : LogId). l.0) (own ∙ its)
+of_log g c is w h d its _ own = tt
+
+-- what an opening is told: the ids of the groups of maps fit, and behind the end of a chain the log goes on
+pub phase_owed : (g : Setting) (c : ℕ) (w : Scene) → Moment g w.net → ((m : GroupMapState) → tables.In (MapSent m) w.net.sent → MapFits m) → OpeningsGoOn → (p : Phase)
+    → OwnerSeen g c w p → PhaseOwed g w.net p
+phase_owed g c w at maps law (clients.Down l) h = tt
+phase_owed g c w at maps law (clients.Opening l o) h = by o.stage h.agrees.1
+  where
+    by : (x : stages.Stage) → SeesStage g c w o.known l.questions.last x → StageTells g w.net x
+    by (stage.Scanning s) sees = record {
+      maps = maps;
+      end = law g w.net at (scan_has_room w.net s.scan sees.owner h.room) s.scan sees.owner;
+    }
+    by (stage.Settling s) sees = tt
+phase_owed g c w at maps law (clients.Serving s) h = tt
+
+-- the number of a client that is seen
+pub number_is : (g : Setting) (c : ℕ) (w : Scene) (p : Phase) → ClientAgrees g c w p → (lasting_of p).number ≡ c
+number_is g c w (clients.Down l) h = h.0.number
+number_is g c w (clients.Opening l o) h = h.0.number
+number_is g c w (clients.Serving s) h = h.0.number
