@@ -55,7 +55,7 @@ use Rattle.world_logs.proofs.Standing.{IsRoomy, OwnerSeen, Stands}
 use Rattle.world_logs.proofs.Start.{log_small}
 use Rattle.world_logs.proofs.StoreTurns.{cleaner_turn, registry_turn, server_turn}
 use Rattle.world_logs.proofs.Turns.{turned}
-use Rattle.world_logs.specs.Doings.{is_client}
+use Rattle.world_logs.specs.Doings.{owns}
 use Rattle.world_logs.specs.Horizons.{Reached, board_of}
 use Rattle.world_logs.specs.Shelves.{group_at}
 use Rattle.xfs_base.specs.declared.node.NodeId.{NodeId}
@@ -113,7 +113,7 @@ module _ (laws : NodeLaws) (base : Setting) (end : World AnyNode) (setup : Setup
     sent_by x = sent ++ map (sent_at clock) (any_step x what).packets
 
     abbrev told_by : NodeId → AnyNode → ℕ → List Act
-    told_by name x c = told c ++ (if is_client c name then (any_step x what).acts else [])
+    told_by name x c = told c ++ (if owns c name then (any_step x what).acts else [])
 
     abbrev After : NodeId → AnyNode → Type 0
     After name x = Known (nodes_at x) (sent_by x) (told_by name x) → Good (nodes_at x) (sent_by x) (told_by name x)
@@ -189,8 +189,10 @@ module _ (laws : NodeLaws) (base : Setting) (end : World AnyNode) (setup : Setup
             → (l : Scene) × Stands (g c) c l k (nodes_at (any.Cleaner node)) (sent_by (any.Cleaner node)) (told_by Cleaner (any.Cleaner node) c)
         one c most l = (
           record l.0 { net = go.next },
-          turned (g c) c l.0 (record l.0 { net = go.next }) k nodes sent (told c) l.1 Cleaner place clock at (any.Cleaner node) (any.Cleaner (cleaner_step node what).node) is
-              (cleaner_step node what).packets [] (cleaner_turn (g c) c l.0 l.1.moment node what go),
+          subst (λ more. Stands (g c) c (record l.0 { net = go.next }) k (nodes_at (any.Cleaner node)) (sent_by (any.Cleaner node)) (told c ++ more))
+              (ap (λ t. if t then (cleaner_step node what).acts else []) (sym (unequal cleaner_log.0 c (λ e. (let m = eight c most in absurd (omega (arith, e)))))))
+              (turned (g c) c l.0 (record l.0 { net = go.next }) k nodes sent (told c) l.1 Cleaner place clock at (any.Cleaner node) (any.Cleaner (cleaner_step node what).node) is
+              (cleaner_step node what).packets [] (cleaner_turn (g c) c l.0 l.1.moment node what go)),
         )
           where
             owed : (x : Do) → what ≡ x → CleanerOwed (g c) (asker c l.0) l.0.net x

@@ -38,7 +38,7 @@ use Rattle.world_logs.proofs.Groups.{GroupsStay, StayIn, in_run}
 use Rattle.world_logs.proofs.Says.{may_say}
 use Rattle.world_logs.proofs.Settings.{names_at_end}
 use Rattle.world_logs.proofs.Standing.{Stands}
-use Rattle.world_logs.specs.Doings.{acts_by, acts_of, is_client}
+use Rattle.world_logs.specs.Doings.{acts_by, acts_of, owns}
 use Rattle.world_logs.specs.Horizons.{Reached, board_of}
 use Rattle.world_logs.specs.Shelves.{group_at, group_in, groups_of}
 use Rattle.xfs_base.specs.declared.node.NodeId.TheVariants.{Registry}
@@ -93,13 +93,13 @@ module _ (laws : NodeLaws) (stay : GroupsStay) (base : Setting) (end : World Any
   module _ (w : World AnyNode) (cluster : w.cluster ≡ k) (told : ℕ → List Act) (event : Event) (may : MayHappen w event) (tok : Tokens w) where
     -- what each client did after it, by all acts
     abbrev told_with : List Act → ℕ → List Act
-    told_with acts c = told c ++ (if is_client c (node_of event) then drop (length w.acts) acts else [])
+    told_with acts c = told c ++ (if owns c (node_of event) then drop (length w.acts) acts else [])
 
     unchanged : (c : ℕ) → told c ≡ told_with w.acts c
-    unchanged c = sym (ap (λ more. told c ++ more) (no_acts (is_client c (node_of event)) (drop (length w.acts) w.acts) (drop-length w.acts)) ∙ append-nil (told c))
+    unchanged c = sym (ap (λ more. told c ++ more) (no_acts (owns c (node_of event)) (drop (length w.acts) w.acts) (drop-length w.acts)) ∙ append-nil (told c))
 
-    added : (more : List Act) (c : ℕ) → told_with (w.acts ++ more) c ≡ told c ++ (if is_client c (node_of event) then more else [])
-    added more c = ap (λ x. told c ++ (if is_client c (node_of event) then x else [])) (drop-append_seam w.acts more)
+    added : (more : List Act) (c : ℕ) → told_with (w.acts ++ more) c ≡ told c ++ (if owns c (node_of event) then more else [])
+    added more c = ap (λ x. told c ++ (if owns c (node_of event) then x else [])) (drop-append_seam w.acts more)
 
     gets : (p : Packet) → what_of event ≡ Deliver p → In p w.sent × (p.to ≡ node_of event)
     gets p same = by event refl
@@ -125,10 +125,10 @@ module _ (laws : NodeLaws) (stay : GroupsStay) (base : Setting) (end : World Any
           let nodes = slice_set w.nodes place (any_step x (what_of event)).node in
           let sent = w.sent ++ map (sent_at clock) (any_step x (what_of event)).packets in
           let acts = (any_step x (what_of event)).acts in
-          good_so nodes sent (λ c. told c ++ (if is_client c (node_of event) then acts else [])) (told_with (w.acts ++ acts)) (λ c. sym (added acts c))
+          good_so nodes sent (λ c. told c ++ (if owns c (node_of event) then acts else [])) (told_with (w.acts ++ acts)) (λ c. sym (added acts c))
           (node_after laws base end setup ok few w.nodes w.sent told good place clock (what_of event) sound
           (node_of event) gets (subst (λ cl. place_of cl (node_of event) ≡ Some place) cluster at) x is
-          (known_so nodes sent (told_with (w.acts ++ acts)) (λ c. told c ++ (if is_client c (node_of event) then acts else [])) (added acts) known))
+          (known_so nodes sent (told_with (w.acts ++ acts)) (λ c. told c ++ (if owns c (node_of event) then acts else [])) (added acts) known))
 
       pub event_keeps : Known laws base end setup ok few (next_world any_step w event).nodes (next_world any_step w event).sent (λ c. told c ++ acts_of c w event)
           → GoodNow (next_world any_step w event) (λ c. told c ++ acts_of c w event)

@@ -1,5 +1,5 @@
 -- Every run keeps the logs of its clients.
-use Rattle.std.proofs.Common.{◌≡◌, ◌^◌, ℕ, ◌+◌, ◌≤◌, ◌<◌, List, [], ◌∷◌, Some, length, take, refl, sym, ap, subst, ◌∙◌, arith}
+use Rattle.std.proofs.Common.{◌≡◌, ◌^◌, ℕ, ◌+◌, ◌≤◌, ◌<◌, List, [], ◌∷◌, Some, length, take, inl, refl, sym, ap, subst, ◌∙◌, arith}
 use Rattle.std.specs.List.{fold}
 use Rattle.core_world.specs.AnyNode.{any_start, any_step}
 use Rattle.core_world.specs.declared.any_node.AnyNode.{AnyNode}
@@ -83,7 +83,7 @@ module _ (below : Below) (e : Estate AnyNode) (ok : IsSetup e.script.setup) (run
   good_at : (count : ℕ) → Good below.nodes base e.world setup ok few (moment e count).nodes (moment e count).sent (λ c. did e c count)
   unfolding start_world
   good_at count = front_keeps below.nodes below.groups base e.world setup ok few e.events count (start_world any_start e.script) (λ c. []) refl run
-      (tokens.front below.nodes.tokens e ok run 0 0 (omega arith)).1 (λ n c some most b is. low n c some most b is)
+      (tokens.front below.nodes.tokens e ok run 0 0 (omega arith)).1 (λ n c some most b is. low n c (inl (some, most)) b is)
       (record {
         fits = λ q h. absurd h;
         logs = λ c some most. (

@@ -17,5 +17,6 @@ pub mod Events
 pub mod Fronts
 pub mod Reading
 pub mod OwnFiling
+pub mod HorizonTurns
 pub mod Horizons
 pub mod Laws

@@ -1,5 +1,6 @@
--- What a client did in a run: the acts of its events.
+-- What the owner of a log did in a run, a client or the cleaner: the acts of its events.
 use Rattle.std.specs.Prelude.{ℕ, ◌==◌, Bool, false, List, [], ◌∷◌, ◌++◌, drop, length, take, if◌then◌else◌}
+use Rattle.cleaner_node.specs.EmptyingEvents.{cleaner_log}
 use Rattle.core_world.specs.AnyNode.{any_start, any_step}
 use Rattle.core_world.specs.declared.any_node.AnyNode.{AnyNode}
 use Rattle.version_model.specs.declared.act.Act.{Act}
@@ -11,22 +12,23 @@ use Rattle.world_base.specs.NextWorld.{next_world, start_world}
 use Rattle.xfs_base.specs.declared.node.NodeId.{NodeId}
 use Rattle.xfs_base.specs.declared.node.NodeId.TheVariants as nodes
 
-abbrev pub is_client : ℕ → NodeId → Bool
-is_client c (nodes.Client d) = d == c
-is_client c (nodes.Manager j) = false
-is_client c (nodes.Server v) = false
-is_client c nodes.Cleaner = false
-is_client c nodes.Registry = false
+-- whether it owns the log of this number: the client of the number, or the cleaner
+abbrev pub owns : ℕ → NodeId → Bool
+owns c (nodes.Client d) = d == c
+owns c (nodes.Manager j) = false
+owns c (nodes.Server v) = false
+owns c nodes.Cleaner = cleaner_log.0 == c
+owns c nodes.Registry = false
 
 -- the acts that an event adds
 abbrev pub acts_in : World AnyNode → Event → List Act
 acts_in w event = drop (length w.acts) (next_world any_step w event).acts
 
--- those of the client, where it is the one to which this happens
+-- those of the owner of this log, where it is the one to which this happens
 abbrev pub acts_of : ℕ → World AnyNode → Event → List Act
-acts_of c w event = if is_client c (node_of event) then acts_in w event else []
+acts_of c w event = if owns c (node_of event) then acts_in w event else []
 
--- what the client does in these events
+-- what the owner of this log does in these events
 abbrev pub acts_by : ℕ → World AnyNode → List Event → List Act
 acts_by c w [] = []
 acts_by c w (event ∷ events) = acts_of c w event ++ acts_by c (next_world any_step w event) events

@@ -1,5 +1,6 @@
 -- Horizons of logs: how far those that the registry keeps may be, by what the owner of a log did.
 use Rattle.std.specs.Prelude.{◌≡◌, ◌≤◌, ◌⊎◌, ℕ, suc, List, Option, Some, None}
+use Rattle.cleaner_node.specs.EmptyingEvents.{cleaner_log}
 use Rattle.core_world.specs.AnyNode.{any_start, any_step}
 use Rattle.core_world.specs.declared.any_node.AnyNode.{AnyNode}
 use Rattle.core_world.specs.declared.any_node.AnyNode.TheVariants as any
@@ -29,9 +30,13 @@ board_of (Some (any.Registry node)) = Some node.board
 abbrev pub Reached : List Act → ℕ → Type 0
 Reached acts low = (low ≤ 1) ⊎ ((name : SegName) × In (act.Filed name) acts × (low ≤ suc name.seq))
 
--- at each moment the least horizon of each client's log that the registry keeps is no further than what the client told to be filed
+-- the number of a log that its owner opens again where it restarts: a client's, or the cleaner's
+abbrev pub IsOpened : ℕ → ℕ → Type 0
+IsOpened clients c = ((1 ≤ c) × (c ≤ clients)) ⊎ (c ≡ cleaner_log.0)
+
+-- at each moment the least horizon of each such log that the registry keeps is no further than what its owner told to be filed
 abbrev pub HorizonsReached : Estate AnyNode → Type 0
-HorizonsReached e = (count c : ℕ) → 1 ≤ c → c ≤ e.script.setup.clients → (b : BoardState) → board_of (node_named (moment e count) nodes.Registry) ≡ Some b
+HorizonsReached e = (count c : ℕ) → IsOpened e.script.setup.clients c → (b : BoardState) → board_of (node_named (moment e count) nodes.Registry) ≡ Some b
     → Reached (did e c count) (least_horizon c (all_news b))
 
 -- so it is in each run of a script of whose setup a run can be started

@@ -24,8 +24,8 @@ use node_tie::{
 /// of each segment that a client told to be filed, and of which no Delete was sent, each member of its group holds its fragment, or its server has lost its disk
 /// since the group was made; and whatever is held, stored or sent under a name of a client's log is a fragment of one segment, the same for all of that name.
 ///
-/// - `horizons`: in every run of a script of whose setup a run can be started, the least horizon that the registry keeps of a client's log is 1 at most, or no
-///   more than one beyond a segment that the client itself told to be filed.
+/// - `horizons`: in every run of a script of whose setup a run can be started, the least horizon that the registry keeps of a client's log, or of the cleaner's,
+///   is 1 at most, or no more than one beyond a segment that this owner itself told to be filed.
 /// - `keeps`: logs are whole, and one name has one text, in every such run, however clients fall and open their logs again.
 pub fn runs_keep_logs()
     ensures horizons { RunsReachHorizons }
