@@ -7,7 +7,7 @@ ghost use Rattle.world_law.specs.Fallen.{NobodyHoldsThroughout};
 ghost use Rattle.world_law.specs.Managers.{OneManagerThroughout};
 ghost use Rattle.world_law.specs.Owners.{OneOwnerThroughout};
 ghost use Rattle.world_logs.specs.Horizons.{HorizonsReached};
-ghost use Rattle.world_logs.specs.Logs.{LogsStandUnopened};
+ghost use Rattle.world_logs.specs.Logs.{LogsStand};
 
 use core_world::AnyNode;
 use std::alloc::Global;
@@ -23,8 +23,8 @@ use xfs_base::Gate;
 /// its moments, nor another holder beside an owner, whatever was lost, repeated or reordered (`one_owner`); no
 /// slot had two managers at one epoch (`one_manager`); and nobody held what a client fell with that wasn't back
 /// (`nobody_holds`). The least horizon of a client's log was 1, or no more than one beyond a segment that the client
-/// filed (`horizons_filed`). Where no client opened its log again, what clients filed stood whole on the servers'
-/// shelves, but for what was deleted and for lost disks, and one name had one text (`logs_stand`).
+/// filed (`horizons_filed`). What clients filed stood whole on the servers' shelves, but for what was deleted and
+/// for lost disks, and one name had one text (`logs_stand`).
 pub fn solo<S: Source, K: Sink>(
     alloc: Global,
     words: &[String],
@@ -37,7 +37,7 @@ pub fn solo<S: Source, K: Sink>(
     ensures one_manager { IfSome result.estate OneManagerThroughout }
     ensures nobody_holds { IfSome result.estate NobodyHoldsThroughout }
     ensures horizons_filed { IfSome result.estate HorizonsReached }
-    ensures logs_stand { IfSome result.estate LogsStandUnopened }
+    ensures logs_stand { IfSome result.estate LogsStand }
 {
     every_run_has_one_owner();
     every_run_has_one_manager();
@@ -62,7 +62,7 @@ pub fn xfs<R: Threads + Wait + Sync, S: Source, K: Sink, G: Gate>(
     ensures one_manager { IfSome result.estate OneManagerThroughout }
     ensures nobody_holds { IfSome result.estate NobodyHoldsThroughout }
     ensures horizons_filed { IfSome result.estate HorizonsReached }
-    ensures logs_stand { IfSome result.estate LogsStandUnopened }
+    ensures logs_stand { IfSome result.estate LogsStand }
 {
     solo(alloc, words, source, sink)
 }
