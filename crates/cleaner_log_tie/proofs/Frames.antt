@@ -179,6 +179,20 @@ module _ (g : Setting) where
       pub job_more : (e : Emptying) → Stands g w e → IfSome e.job (JobStands g v)
       job_more e h = job_of e.job h.job (emptying_later g w.net v.net (is_later w v grown) e (as_seen w e h)).job
 
+    -- what others do leaves it standing
+    module _ (w : Scene) (next : Net) (later : Later w.net next) (inc : next.inc ≡ w.net.inc) (owner : next.owner ≡ w.net.owner) where
+      its_job : (job : Option Job) → IfSome job (JobStands g w) → IfSome job (JobSeen g next) → IfSome job (JobStands g (record w { net = next }))
+      its_job None h seen = tt
+      its_job (Some job) h seen = record { seen = seen; hello = h.hello; phase = h.phase; hand = h.hand }
+
+      pub stands_later : (e : Emptying) → Stands g w e → Stands g (record w { net = next }) e
+      stands_later e h = record {
+        lasts = record { number = refl; inc = inc ∙ h.lasts.inc; fresh = h.lasts.fresh };
+        log = record { owner = owner ∙ h.log.owner; own = h.log.own };
+        written = h.written;
+        job = its_job e.job h.job (emptying_later g w.net next later e (as_seen w e h)).job;
+      }
+
     -- ---- the log takes an input
 
     pub record LogTook (w : Scene) (e : Emptying) (d : log.Done) : Type 0 where

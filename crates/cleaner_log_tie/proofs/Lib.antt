@@ -1,5 +1,6 @@
 mod Starts
-mod Frames
+pub mod Frames
+pub mod Sights
 mod Fits
 mod Bytes
 mod Hands
