@@ -1,5 +1,7 @@
-//! The first script that is drawn, as its generator was written down.
+//! The first script that is drawn, as its generator was written down; and which inputs are no scripts.
 use crate::{generate, print};
+use script_text::{Kind, ScriptError, parse};
+use std::alloc::Global;
 use xfs_base::Mem;
 
 const DRAWN: &[u8] =
@@ -11,5 +13,166 @@ fn the_script_that_1_draws(rt: HostRuntime) -> Mem<()> {
     let script = generate(alloc, 1, 1)?;
     let text = print(alloc, &script)?;
     assert!(rt; text.as_bytes() == DRAWN);
+    Ok(())
+}
+
+const SETUP: &[u8] = b"xfs 1\nclients 2\nmanagers 1\nservers 3\ngroup 1 2 3\n";
+
+/// How many items the input behind these lines has, or where it is refused.
+fn told(alloc: Global, front: &[u8], input: &[u8], live: bool) -> Mem<Result<usize, ScriptError>> {
+    let mut bytes = Vec::from_slice(alloc, front)?;
+    bytes.extend_from_slice(input)?;
+    match parse(alloc, &bytes, live) {
+        Ok(script) => Ok(Ok(script.copy(alloc)?.lines.len())),
+        Err(error) => Ok(Err(error)),
+    }
+}
+
+fn bad(line: u32, kind: Kind) -> Result<usize, ScriptError> {
+    Err(ScriptError::Bad(line, kind))
+}
+
+/// So many bytes, each of them this one.
+fn many(alloc: Global, byte: u8, count: u32) -> Mem<Vec<u8>> {
+    let mut bytes = Vec::new(alloc);
+    for _ in 0..count {
+        bytes.push(byte)?;
+    }
+    Ok(bytes)
+}
+
+#[test]
+fn each_kind_of_bad_line(rt: HostRuntime) -> Mem<()> {
+    let alloc = rt.alloc();
+    let words: [&[u8]; 25] = [
+        b"foo\n",
+        b"c sync\n",
+        b"c1x sync\n",
+        b"c1\n",
+        b"c1 sync \n",
+        b"c1  sync\n",
+        b" c1 sync\n",
+        b"c1 sync\r\n",
+        b"\r\n",
+        b"after\n",
+        b"after 1\n",
+        b"after 1 foo\n",
+        b"after 1 net hold\n",
+        b"after 1 after 1 c1 sync\n",
+        b"after 1 clients 2\n",
+        b"reg move 9 m\n",
+        b"reg move 0 x1\n",
+        b"groupx\n",
+        b"net\n",
+        b"net hold 1\n",
+        b"c1 mk /a /b\n",
+        b"c1 get /a 0\n",
+        b"c1 bput 1 0\n",
+        b"s1 crash\n",
+        b"d1 sync\n",
+    ];
+    for line in words {
+        assert!(rt; told(alloc, SETUP, line, false)? == bad(6, Kind::BadWord));
+    }
+    let numbers: [&[u8]; 23] = [
+        b"c01 sync\n",
+        b"c4294967296 sync\n",
+        b"after 01 c9 sync\n",
+        b"after 4294967296 c1 sync\n",
+        b"after  c1 sync\n",
+        b"after -1 c1 sync\n",
+        b"reg move 8 m1\n",
+        b"reg move 0 m01\n",
+        b"reg move +1 m9\n",
+        b"c1 bget 01 0\n",
+        b"c1 bget 4294967296 0\n",
+        b"c1 bget 1 0x\n",
+        b"c1 bput 136 0 \"a\"\n",
+        b"c1 bput 0 0 \"\"\n",
+        b"c1 bput 1 01 \"\"\n",
+        b"c1 get /a 0 65537\n",
+        b"cl clean 0\n",
+        b"cl clean 101\n",
+        b"net lose 20001\n",
+        b"net again 20001\n",
+        b"net mix 2147483648\n",
+        b"net step 20001\n",
+        b"s1 stop 1001\n",
+    ];
+    for line in numbers {
+        assert!(rt; told(alloc, SETUP, line, false)? == bad(6, Kind::BadNumber));
+    }
+    let texts: [&[u8]; 16] = [
+        b"c1 bput 1 0 \"he",
+        b"c1 bput 1 0 \"\\x0A\"\n",
+        b"c1 bput 1 0 \"\"\n",
+        b"c1 bput 1 0 0*\"x\"\n",
+        b"c1 bput 1 0 01*\"x\"\n",
+        b"c1 bput 1 0 4294967296*\"x\"\n",
+        b"c1 bput 1 0 \"a\" b\n",
+        b"c1 bput 1 0 \n",
+        b"c1 bput 1 0 \"\\a\"\n",
+        b"c1 bput 1 0 \"\t\"\n",
+        b"c1 bput 1 0 \"\\\"\n",
+        b"c1 mk a\n",
+        b"c1 mk \n",
+        b"c1 put a 01 q\n",
+        b"c1 put /a 0 q\n",
+        b"c1 mv /a b\n",
+    ];
+    for line in texts {
+        assert!(rt; told(alloc, SETUP, line, false)? == bad(6, Kind::BadText));
+    }
+    let long: [&[u8]; 4] = [
+        b"c1 bput 1 0 8193*\"a\"\n",
+        b"c1 bput 1 0 4294967295*\"x\"\n",
+        b"c1 put /a 0 65537*\"a\"\n",
+        b"c1 mk /1/2/3/4/5/6/7/8/9/a/b/c/d/e/f/g/h\n",
+    ];
+    for line in long {
+        assert!(rt; told(alloc, SETUP, line, false)? == bad(6, Kind::TooLong));
+    }
+    let nodes: [&[u8]; 11] = [
+        b"c0 sync\n",
+        b"c3 sync\n",
+        b"c4294967295 sync\n",
+        b"c9 bput 0 0 \"\"\n",
+        b"m2 crash\n",
+        b"s4 lose\n",
+        b"s0 stop 2000\n",
+        b"b4 stop\n",
+        b"b0 start\n",
+        b"reg move 0 m9\n",
+        b"reg move 0 m0\n",
+    ];
+    for line in nodes {
+        assert!(rt; told(alloc, SETUP, line, false)? == bad(6, Kind::NoNode));
+    }
+    let setup: [&[u8]; 12] = [
+        b"clients 2\n",
+        b"xfs\n",
+        b"xfs 1\n",
+        b"acts x\n",
+        b"group\n",
+        b"group2 1 2 3\n",
+        b"cache 0\n",
+        b"cache 1025\n",
+        b"cache 01\n",
+        b"cache\n",
+        b"managers\n",
+        b"servers x y\n",
+    ];
+    for line in setup {
+        assert!(rt; told(alloc, SETUP, line, false)? == bad(6, Kind::BadSetup));
+    }
+    // an input has 20,000 lines and 1,048,576 bytes at most
+    let empty = many(alloc, b'\n', 19_995)?;
+    assert!(rt; told(alloc, SETUP, &empty, false)? == Ok(0));
+    let empty = many(alloc, b'\n', 19_996)?;
+    assert!(rt; told(alloc, SETUP, &empty, false)? == bad(20_001, Kind::TooLong));
+    let comment = many(alloc, b'#', 1_048_527)?;
+    assert!(rt; told(alloc, SETUP, &comment, false)? == Ok(0));
+    let comment = many(alloc, b'#', 1_048_528)?;
+    assert!(rt; told(alloc, SETUP, &comment, false)? == bad(6, Kind::TooLong));
     Ok(())
 }

@@ -26,6 +26,3 @@ pub use laws::one_script_or_fault;
 pub use reading::parse;
 pub use refusal::{Kind, LineError, ScriptError};
 pub use script::{Line, Script};
-
-#[cfg(test)]
-mod tests;
