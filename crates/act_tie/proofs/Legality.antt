@@ -87,14 +87,15 @@ legal_here (Answered node item answer) h told s apart legal = tt
 
 -- ---- each act keeps histories seen
 
-act_shown : (a : Act) (h : History) (told : BlockId → List block.Act) → AllShown h told → IsApart a h → AllLegal a h told → AllShown (after_act a h) (λ b. told_with b h a (told b))
-act_shown (Wrote client q value) h told s apart legal b = go (same_block q b)
+act_shown : (b : BlockId) (a : Act) (h : History) (told : List block.Act) → HistoryShown b h (block.history told) → IsApart a h → block.LegalActs (told_with b h a told)
+    → HistoryShown b (after_act a h) (block.history (told_with b h a told))
+act_shown b (Wrote client q value) h told s apart legal = go (same_block q b)
   where
     go : (y : Bool) → BlockShown b (if y then append (record { content = value; writer = client }) (h.of_block b) else h.of_block b) h.told
-        (block.history (if y then WroteBlock client (number value) ∷ told b else told b))
-    go true = wrote_shown b (h.of_block b) h.told (block.history (told b)) (s b) client value
-    go false = s b
-act_shown (Read client q ver value) h told s apart legal b = go (same_block q b) refl (legal b)
+        (block.history (if y then WroteBlock client (number value) ∷ told else told))
+    go true = wrote_shown b (h.of_block b) h.told (block.history told) s client value
+    go false = s
+act_shown b (Read client q ver value) h told s apart legal = go (same_block q b) refl legal
   where
     pinned_or : (o y : Bool) (t : block.History) → same_block q b ≡ y → BlockShown b (if y then (if o then pin ver (h.of_block b) else h.of_block b) else h.of_block b) h.told t
         → HistoryShown b (if o then change q (pin ver) h else h) t
@@ -103,24 +104,22 @@ act_shown (Read client q ver value) h told s apart legal b = go (same_block q b)
     pinned_or false true t same shown = shown
     pinned_or false false t same shown = shown
 
-    go : (y : Bool) → same_block q b ≡ y → block.LegalActs (if y then ReadBlock client ver (number value) ∷ told b else told b)
-        → HistoryShown b (if is_by_other client ver (h.of_block q).versions then change q (pin ver) h else h) (block.history (if y then ReadBlock client ver (number value) ∷ told b else told b))
+    go : (y : Bool) → same_block q b ≡ y → block.LegalActs (if y then ReadBlock client ver (number value) ∷ told else told)
+        → HistoryShown b (if is_by_other client ver (h.of_block q).versions then change q (pin ver) h else h) (block.history (if y then ReadBlock client ver (number value) ∷ told else told))
     go true same here =
         let one : b ≡ q = same_block_exact q b same in
-        let t = block.after (block.history (told b)) (ReadBlock client ver (number value)) in
-        subst (λ (x : BlockId). HistoryShown b (if is_by_other client ver (h.of_block x).versions then change q (pin ver) h else h) (block.after (block.history (told b)) (ReadBlock client ver (number value)))) one
-        (pinned_or (is_by_other client ver (h.of_block b).versions) true t same (read_shown b (h.of_block b) h.told (block.history (told b)) (s b) client ver (number value) here.1))
-    go false same here = pinned_or (is_by_other client ver (h.of_block q).versions) false (block.history (told b)) same (s b)
-act_shown (Synced client) h told s apart legal b = synced_shown b (h.of_block b) h.told (told b) client (greatest_by client 1 (h.of_block b).versions) (s b)
-act_shown (Fell client flight falls) h told s apart legal b = fell_shown b (h.of_block b) h.told (told b) client flight falls (s b) apart.0 apart.1
-act_shown (Back client chain) h told s apart legal b =
-    let shown = s b in
-    let here = legal b in
-    back_shown b h (block.history (told b)) client chain (h.told client) shown (shown.falls client) here.1
-act_shown (Lost node seg) h told s apart legal b = s b
-act_shown (Filed seg) h told s apart legal b = s b
-act_shown (Dropped seg) h told s apart legal b = s b
-act_shown (Answered node item answer) h told s apart legal b = s b
+        let t = block.after (block.history told) (ReadBlock client ver (number value)) in
+        subst (λ (x : BlockId). HistoryShown b (if is_by_other client ver (h.of_block x).versions then change q (pin ver) h else h) (block.after (block.history told) (ReadBlock client ver (number value)))) one
+        (pinned_or (is_by_other client ver (h.of_block b).versions) true t same (read_shown b (h.of_block b) h.told (block.history told) s client ver (number value) here.1))
+    go false same here = pinned_or (is_by_other client ver (h.of_block q).versions) false (block.history told) same s
+act_shown b (Synced client) h told s apart legal = synced_shown b (h.of_block b) h.told told client (greatest_by client 1 (h.of_block b).versions) s
+act_shown b (Fell client flight falls) h told s apart legal = fell_shown b (h.of_block b) h.told told client flight falls s apart.0 apart.1
+act_shown b (Back client chain) h told s apart legal =
+    back_shown b h (block.history told) client chain (h.told client) s (s.falls client) legal.1
+act_shown b (Lost node seg) h told s apart legal = s
+act_shown b (Filed seg) h told s apart legal = s
+act_shown b (Dropped seg) h told s apart legal = s
+act_shown b (Answered node item answer) h told s apart legal = s
 
 -- ---- the whole list
 
@@ -156,24 +155,26 @@ legal_first : (b : BlockId) (h : History) (told : List block.Act) (acts : List A
 legal_first b h told [] legal = legal
 legal_first b h told (a ∷ acts) legal = legal_before b h a told (legal_first b (after_act a h) (told_with b h a told) acts legal)
 
--- what a list of acts leaves of this history
-record Leaves (h : History) (told : BlockId → List block.Act) (acts : List Act) : Type 0 where
-  legal : AreLegalFrom h acts
-  shown : (b : BlockId) → HistoryShown b (history_after acts h) (block.history (told_from b h (told b) acts))
-
-leaves : (acts : List Act) (h : History) (told : BlockId → List block.Act) → AllShown h told → AreApartFrom h acts → ((b : BlockId) → block.LegalActs (told_from b h (told b) acts)) → Leaves h told acts
-leaves [] h told s apart legal = record { legal = tt; shown = s }
-leaves (a ∷ acts) h told s apart legal =
-    let now : AllLegal a h told = λ b. legal_first b (after_act a h) (told_with b h a (told b)) acts (legal b) in
-    let rest = leaves acts (after_act a h) (λ b. told_with b h a (told b)) (act_shown a h told s apart.0 now) apart.1 legal in
-    record { legal = (legal_here a h told s apart.0 now, rest.legal); shown = rest.shown }
+legal_from : (acts : List Act) (h : History) (told : BlockId → List block.Act) → AllShown h told → AreApartFrom h acts → ((b : BlockId) → block.LegalActs (told_from b h (told b) acts)) → AreLegalFrom h acts
+legal_from [] h told s apart legal = tt
+legal_from (a ∷ acts) h told s apart legal =
+    let now : AllLegal a h told = λ b. legal_first b (after_act a h) (told_with b h a (told b)) acts (legal b) in (
+      legal_here a h told s apart.0 now,
+      legal_from acts (after_act a h) (λ b. told_with b h a (told b)) (λ b. act_shown b a h (told b) (s b) apart.0 (now b)) apart.1 legal,
+    )
 
 begun : AllShown nothing_yet (λ b. [])
 begun b = record { newest = refl; absent = refl; values = λ v x is. absurd (cc); writers = λ v x is. absurd (cc); pinned = refl; falls = λ c. refl }
 
 pub are_legal : (acts : List Act) → FallsApart acts → ((b : BlockId) → block.LegalActs (acts_of b acts)) → AreLegal acts
-are_legal acts apart legal = (leaves acts nothing_yet (λ b. []) begun apart legal).legal
+are_legal acts apart legal = legal_from acts nothing_yet (λ b. []) begun apart legal
 
-pub are_shown : (acts : List Act) → FallsApart acts → ((b : BlockId) → block.LegalActs (acts_of b acts)) → (b : BlockId)
-    → HistoryShown b (history_after acts nothing_yet) (block.history (acts_of b acts))
-are_shown acts apart legal = (leaves acts nothing_yet (λ b. []) begun apart legal).shown
+-- one block alone is seen where its own acts are legal
+shown_from : (b : BlockId) (acts : List Act) (h : History) (told : List block.Act) → HistoryShown b h (block.history told) → AreApartFrom h acts → block.LegalActs (told_from b h told acts)
+    → HistoryShown b (history_after acts h) (block.history (told_from b h told acts))
+shown_from b [] h told s apart legal = s
+shown_from b (a ∷ acts) h told s apart legal =
+    shown_from b acts (after_act a h) (told_with b h a told) (act_shown b a h told s apart.0 (legal_first b (after_act a h) (told_with b h a told) acts legal)) apart.1 legal
+
+pub are_shown : (acts : List Act) → FallsApart acts → (b : BlockId) → block.LegalActs (acts_of b acts) → HistoryShown b (history_after acts nothing_yet) (block.history (acts_of b acts))
+are_shown acts apart b legal = shown_from b acts nothing_yet [] (begun b) apart legal

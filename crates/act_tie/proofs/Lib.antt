@@ -2,3 +2,4 @@ pub mod Injection
 pub mod Falling
 pub mod Acting
 pub mod Legality
+pub mod Onward

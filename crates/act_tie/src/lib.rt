@@ -20,13 +20,12 @@ pub fn numbers()
     ensures apart { (x y : Content) → number x ≡ number y → x ≡ y }
 {}
 
-/// The acts of a run whose falls are apart (no client falls again before it is back, and no fall names a block twice), where the acts of each block are
-/// legal as the token protocol has them.
+/// The acts of a run whose falls are apart (no client falls again before it is back, and no fall names a block twice).
 ///
-/// - `legal`: they are legal as the version model has them.
-/// - `history`: each block's history is the one that its acts make.
+/// - `legal`: where the acts of each block are legal as the token protocol has them, they are legal as the version model has them.
+/// - `history`: where those of one block are, its history is the one that they make.
 pub fn blocks()
     ensures legal { (acts : List Act) → FallsApart acts → ((b : BlockId) → LegalActs (acts_of b acts)) → AreLegal acts }
-    ensures history { (acts : List Act) → FallsApart acts → ((b : BlockId) → LegalActs (acts_of b acts))
-        → (b : BlockId) → HistoryShown b (history_after acts nothing_yet) (history (acts_of b acts)) }
+    ensures history { (acts : List Act) → FallsApart acts → (b : BlockId) → LegalActs (acts_of b acts)
+        → HistoryShown b (history_after acts nothing_yet) (history (acts_of b acts)) }
 {}

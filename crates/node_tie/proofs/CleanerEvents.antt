@@ -1,5 +1,5 @@
 -- What the cleaner has promised of one slot of the map, over each of its events.
-use Rattle.std.proofs.Common.{◌≡◌, ◌⊎◌, ℕ, ◌+◌, ◌==◌, ◌≤◌, ◌<◌, true, cond, ◌&&◌, nat_lt, List, [], ◌∷◌, ◌++◌, length, Option, Some, None, All, inl, inr, refl, sym, ap, subst, ◌∙◌, arith}
+use Rattle.std.proofs.Common.{◌≡◌, ◌⊎◌, ℕ, zero, suc, ◌+◌, ◌==◌, ◌≤◌, ◌<◌, true, cond, ◌&&◌, nat_lt, List, [], ◌∷◌, ◌++◌, length, Option, Some, None, inl, inr, refl, sym, ap, subst, ◌∙◌, arith}
 use Rattle.std.specs.List.{AllByRecursion, list_all}
 use Rattle.std.proofs.lemmas.Bool.Decides.{nat_tests}
 use Rattle.std.proofs.lemmas.List.Elements.{All-from_recursion, recursion_from_All}
@@ -24,7 +24,7 @@ use Rattle.node_base.specs.Maps.{fits}
 use Rattle.node_base.specs.Nodes.{has_node}
 use Rattle.node_base.specs.Room.{has_room}
 use Rattle.node_base.specs.Shape.{are_from, has_logs, has_slot, is_slot_news, is_well_formed}
-use Rattle.cleaner_node.specs.CleanerEvents.{Went_to, crashes, next_life, owner_of, back, after_opening, opened_on, restarts, restarts_in, down_wishes, opening_wishes, serving_wishes, serves_on, begun_life, wish_at, down_at, opening_at, serving_at, on_begin, hears, on_deliver, on_time, happens, phase_room, lasting_of}
+use Rattle.cleaner_node.specs.CleanerEvents.{Went_to, crashes, next_life, owner_of, back, after_opening, opened_on, restarts, restarts_in, down_wishes, opening_wishes, serving_wishes, serves_on, begun_life, wish_at, down_at, opening_at, serving_at, on_begin, hears, on_deliver, on_time, happens, phase_room, takes, lasting_of}
 use Rattle.cleaner_node.specs.declared.cleaner.Phase.{Phase}
 use Rattle.cleaner_node.specs.declared.cleaner.Phase.TheVariants.{Down, Opening, Serving as Serves}
 use Rattle.cleaner_node.specs.declared.cleaner.Wish.{Wish}
@@ -34,7 +34,6 @@ use Rattle.cleaner_node.specs.declared.lasting.Lasting.{Lasting}
 use Rattle.cleaner_node.specs.EmptyingEvents.{lasting_room, on_clean, on_packet, on_tick}
 use Rattle.cleaner_node.specs.Jobs.{Done}
 use Rattle.token_client.specs.State.{epoch_of}
-use Rattle.token_law.proofs.Start.{all_ones}
 use Rattle.version_model.specs.declared.answer.Answer.{Answer as AnAnswer}
 use Rattle.version_model.specs.declared.answer.Answer.TheVariants as answer
 use Rattle.wire_msg.specs.declared.body.Body.{Body}
@@ -51,6 +50,7 @@ use Rattle.node_tie.specs.ClientEvents.{AwaitsFirst}
 use Rattle.node_tie.specs.Sight.{CleanerSends}
 use Rattle.node_tie.specs.StoreEvents.{AllSay, Says}
 use Rattle.node_tie.proofs.CleanerEmptying as emptying
+use Rattle.node_tie.proofs.CleanerTurns.{cleaner_runs}
 use Rattle.node_tie.proofs.ClientOpening as client_opening
 use Rattle.node_tie.proofs.OpeningSends.{start_does, packet_does, tick_does, cleaner_opening}
 use Rattle.node_tie.proofs.StoreFrames.{all_append, all_weaker}
@@ -321,11 +321,26 @@ module _ (part promised most : ℕ) (small : part < 8) (low : promised ≤ most)
   happened peers p (Deliver packet) room stands owed = delivered peers p packet stands owed
   happened peers p Tick room stands owed = ticked p stands
 
+-- it has promised epoch 1 of each slot at first
+first_epoch : (k : ℕ) → k < 8 → epoch_of (1 ∷ 1 ∷ 1 ∷ 1 ∷ 1 ∷ 1 ∷ 1 ∷ 1 ∷ []) k ≡ 1
+first_epoch zero h = refl
+first_epoch (suc zero) h = refl
+first_epoch (suc (suc zero)) h = refl
+first_epoch (suc (suc (suc zero))) h = refl
+first_epoch (suc (suc (suc (suc zero)))) h = refl
+first_epoch (suc (suc (suc (suc (suc zero))))) h = refl
+first_epoch (suc (suc (suc (suc (suc (suc zero)))))) h = refl
+first_epoch (suc (suc (suc (suc (suc (suc (suc zero))))))) h = refl
+first_epoch (suc (suc (suc (suc (suc (suc (suc (suc k)))))))) h = absurd (omega arith)
+
 -- whatever happens to the cleaner
 pub cleaner_takes : CleanerTakes
-cleaner_takes part promised most small low cleaner what stands owed =
+cleaner_takes logs members part promised most n small low few cleaner what stands owed copies told =
+    let goes : CleanerGoes part promised most cleaner.phase (takes cleaner.peers cleaner.phase what).state (takes cleaner.peers cleaner.phase what).outs =
     by_test (λ (w : Went_to). CleanerGoes part promised most cleaner.phase w.state w.outs) (phase_room cleaner.phase) (happens cleaner.peers cleaner.phase what) (still cleaner.phase)
-    (λ room. happened part promised most small low cleaner.peers cleaner.phase what room stands owed) (λ room. goes_still part promised most small low cleaner.phase stands)
+    (λ room. happened part promised most small low cleaner.peers cleaner.phase what room stands owed) (λ room. goes_still part promised most small low cleaner.phase stands) in
+    (goes, cleaner_runs logs members part n few cleaner.peers cleaner.phase what copies told goes.next _ goes.does)
 
 pub cleaner_starts : CleanerStarts
-cleaner_starts part most small setup works = record { eight = refl; is = all_ones part small }
+cleaner_starts part most small setup works =
+    (record { eight = refl; is = first_epoch part small }, record { seen = record { end = refl; flying = refl; flight = tt }; waits = tt; job = tt })

@@ -17,6 +17,7 @@ use Rattle.node_base.specs.declared.effects.Effect.{Effect}
 use Rattle.node_base.specs.declared.effects.Effect.TheVariants.{Send, Answer, Lose, Does}
 use Rattle.node_base.specs.Shape.{are_from}
 use Rattle.token_client.specs.State.{epoch_of}
+use Rattle.token_law.specs.Owed.{IsNeutral}
 use Rattle.version_model.specs.declared.act.Act.{Act}
 use Rattle.version_model.specs.declared.act.Act.TheVariants as act
 use Rattle.wire_msg.specs.declared.body.Body.{Body}
@@ -26,8 +27,8 @@ use Rattle.xfs_base.specs.declared.news.SlotNews.{SlotNews}
 use Rattle.xfs_base.specs.declared.node.NodeId.{NodeId}
 use Rattle.node_tie.specs.CleanerEvents.{Bounded}
 use Rattle.node_tie.specs.ClientEvents.{AwaitsFirst}
-use Rattle.node_tie.specs.Sight.{ClientDoes, ClientSends, IsNoFall}
-use Rattle.node_tie.proofs.ClientFrames.{Plain}
+use Rattle.node_tie.specs.Sight.{ClientSends}
+use Rattle.node_tie.proofs.ClientFrames.{May, Plain}
 
 -- ---- what it says
 
@@ -66,18 +67,25 @@ module _ (part c life : ℕ) (owner : Owner) (same : owner.inc ≡ life) where
   may_say to (body.CkptDone m) h = h
   may_say to (body.CkptAck m) h = h
 
-  no_fall : (a : Act) → MayAct a → IsNoFall a
-  no_fall (act.Fell client flight falls) h = h
-  no_fall _ h = tt
+  neutral : (a : Act) → MayAct a → IsNeutral a
+  neutral (act.Filed seg) h = tt
+  neutral (act.Wrote client block value) h = h
+  neutral (act.Read client block ver value) h = h
+  neutral (act.Synced client) h = h
+  neutral (act.Fell client flight falls) h = h
+  neutral (act.Back client chain) h = h
+  neutral (act.Lost node seg) h = tt
+  neutral (act.Dropped seg) h = tt
+  neutral (act.Answered node item answer) h = tt
 
-  may_do : (e : Effect) → MayDo owner e → ClientDoes part [] c life e
+  may_do : (e : Effect) → MayDo owner e → May part c life e
   may_do (Send to b) h = may_say to b h
   may_do (Answer item answer) h = tt
   may_do (Lose seg) h = tt
-  may_do (Does a) h = no_fall a h
+  may_do (Does a) h = neutral a h
 
   pub plain_does : (es : List Effect) → AllByRecursion (MayDo owner) es → Plain part c life es
-  plain_does es h = All-weaker (MayDo owner) (ClientDoes part [] c life) may_do es (All-from_recursion (MayDo owner) es h)
+  plain_does es h = All-weaker (MayDo owner) (May part c life) may_do es (All-from_recursion (MayDo owner) es h)
 
 -- ---- what a Welcome promises
 

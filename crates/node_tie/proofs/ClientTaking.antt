@@ -1,10 +1,12 @@
 -- A client's tokens take an input in the small world.
-use Rattle.std.proofs.Common.{◌≡◌, ◌≤◌, ◌<◌, ℕ, ◌==◌, Bool, true, false, cond, List, [], ◌∷◌, ◌++◌, Option, Some, None, refl, sym, ap, subst, ◌∙◌, length, inl, inr, arith, slice_set}
+use Rattle.std.proofs.Common.{◌≡◌, ◌≤◌, ◌<◌, ℕ, ◌==◌, Bool, true, false, List, [], ◌∷◌, ◌++◌, append-nil, Option, Some, None, is_some, refl, sym, ap, subst, ◌∙◌, length, inl, inr, arith, slice_set}
 use Rattle.std.specs.List.{AllByRecursion}
 use Rattle.std.proofs.lemmas.Bool.Decides.{nat_tests}
 use Rattle.std.proofs.lemmas.List.{get_or-set_same, get_or-set_other}
 use Rattle.std.proofs.Math.ListN.{length-set}
+use Rattle.client_log.specs.LogState.{LogState}
 use Rattle.xfs_base.specs.declared.block.BlockId.{BlockId}
+use Rattle.xfs_base.specs.Modes.{is_held}
 use Rattle.token_client.specs.declared.held.Giving.{Giving}
 use Rattle.token_client.specs.declared.input.In as inputs
 use Rattle.token_client.specs.declared.output.Out as outputs
@@ -13,28 +15,21 @@ use Rattle.token_client.specs.Laws.{IsSound}
 use Rattle.token_client.specs.State.{TokensState, epoch_of, held_of}
 use Rattle.token_client.specs.Transition as client
 use Rattle.token_client.proofs.AllInputs.{transition-follows}
-use Rattle.token_law.specs.Net.{Net, Packet, Happens, after_client, client_packets, IsOwnAct}
+use Rattle.token_law.specs.Books.{row_in}
+use Rattle.token_law.specs.Net.{Net, Packet, Happens, IsServing, after_client, client_packets, acts_by, IsOwnAct}
 use Rattle.token_law.specs.Net.Happens.{Acts}
 use Rattle.token_law.specs.Net.Packet.{WantSent, GaveSent}
 use Rattle.token_law.specs.Net.Runs.{Begun, On}
-use Rattle.token_protocol.specs.Basics.{put}
+use Rattle.token_protocol.specs.Premises.{Premise}
+use Rattle.version_model.specs.declared.act.Act.{Act}
+use Rattle.node_tie.specs.LogRows.{rows_flown, rows_waiting}
 use Rattle.node_tie.specs.Sight.{SentOf}
-use Rattle.node_tie.proofs.ClientBearing.{Bears, Allowed, transition-bears}
-use Rattle.node_tie.proofs.ClientFrames.{Within, Grown, Sent, Promised, Stands}
-
--- ---- a function changed at one place
-
-pub put_here : {X : Type 0} (f : ℕ → X) (c : ℕ) (x : X) → put f c x c ≡ x
-put_here f c x = ap (λ t. cond t x (f c)) (itself c)
-  where
-    itself : (n : ℕ) → (n == n) ≡ true
-    itself n = grind (arith, nat_tests)
-
-pub put_there : {X : Type 0} (f : ℕ → X) (c : ℕ) (x : X) (d : ℕ) → (d ≡ c → ⊥) → put f c x d ≡ f d
-put_there f c x d other = ap (λ t. cond t x (f d)) (apart d c other)
-  where
-    apart : (n m : ℕ) → (n ≡ m → ⊥) → (n == m) ≡ false
-    apart n m h = grind (arith, nat_tests)
+use Rattle.node_tie.proofs.ClientBearing.{Allowed, Stays, transition-bears}
+use Rattle.node_tie.proofs.ClientBooks.{onward_still, put_here, put_there, same_log}
+use Rattle.node_tie.proofs.ClientFrames as frames
+use Rattle.node_tie.proofs.ClientFrames.{Within, Grown, Sent, Promised, Known, LogStands}
+use Rattle.node_tie.proofs.ClientUnsettled.{stays_clean, stays_same}
+use Rattle.node_tie.proofs.SmallWorld.{premise, premise_by}
 
 -- ---- packets of two lists
 
@@ -47,41 +42,69 @@ pub in_second : (xs ys : List Packet) → Within ys (xs ++ ys)
 in_second [] ys x h = h
 in_second (y ∷ xs) ys x h = inr (in_second xs ys x h)
 
-module _ (members part most c life : ℕ) where
+-- ---- what is known of each block
+
+-- what waits or flies stays as it is, where a block does, and where it goes from clean to clean
+pub known_stays : (logs : Bool) (l : LogState) → Stays (Known logs l)
+known_stays logs l = record {
+  same = λ b h g mode ver settled value q. (
+    λ held. ap is_some value ∙ q.0 (ap is_held (sym mode) ∙ held),
+    premise_by logs (stays_same (row_in (rows_waiting l) b) (row_in (rows_flown l.flight) b) h g ver settled value) q.1,
+  );
+  clean = λ b h g was now valued q.
+      (valued, premise_by logs (stays_clean (row_in (rows_waiting l) b) (row_in (rows_flown l.flight) b) h g was now) q.1);
+  lowers = λ b h g held was ver settled value q.
+      (λ x. ap is_some value ∙ q.0 held, premise_by logs (stays_same (row_in (rows_waiting l) b) (row_in (rows_flown l.flight) b) h g ver settled value) q.1);
+}
+
+module _ (logs : Bool) (members part most c life room top : ℕ) where
+  abbrev Stands : Net → TokensState → LogState → ℕ → ℕ → Type 0
+  Stands n t l number inc = frames.Stands logs members part most c life room top n t l number inc
+
+  abbrev Bear : List Packet → LogState → TokensState → Type 0
+  Bear sent l t = frames.Bear logs members part most c life room top sent l t
+
   -- what was sent still is
-  pub bears_more : (sent more : List Packet) → Within sent more → (t : TokensState)
-      → Bears (Sent members part most c life sent) (Promised members part most c life) life t
-      → Bears (Sent members part most c life more) (Promised members part most c life) life t
-  bears_more sent more w t h = record { life_is = h.life_is; promised = h.promised; giving = λ b. by_giving b (held_of t.blocks b).giving (h.giving b) }
+  pub bears_more : (sent more : List Packet) → Within sent more → (l : LogState) (t : TokensState) → Bear sent l t → Bear more l t
+  bears_more sent more w l t h =
+      record { life_is = h.life_is; promised = h.promised; giving = λ b. by_giving b (held_of t.blocks b).giving (h.giving b); held = h.held }
     where
-      by_giving : (b : BlockId) (g : Option Giving) → Sent members part most c life sent b g → Sent members part most c life more b g
+      by_giving : (b : BlockId) (g : Option Giving) → Sent part c sent b g → Sent part c more b g
       by_giving b None p = p
       by_giving b (Some g) p = λ inside. w _ (p inside)
 
-  -- the client stands in a net of more packets that is the same of it
-  pub stands_more : (n m : Net) (t : TokensState) (number inc : ℕ) → m.up c ≡ n.up c → m.tokens c ≡ n.tokens c → Within n.sent m.sent
-      → Stands members part most c life n t number inc → Stands members part most c life m t number inc
-  stands_more n m t number inc up tokens w h = record {
-    up = up ∙ h.up;
-    tokens = tokens ∙ h.tokens;
+  -- the client stands where more packets were sent
+  pub stands_more : (n : Net) (more : List Packet) (t : TokensState) (l : LogState) (number inc : ℕ) → Within n.sent more → Stands n t l number inc
+      → Stands (record n { sent = more }) t l number inc
+  stands_more n more t l number inc w h = record {
+    up = h.up;
+    tokens = h.tokens;
     number_is = h.number_is;
     inc_is = h.inc_is;
     sound = h.sound;
-    bears = bears_more n.sent m.sent w t h.bears;
+    bears = bears_more n.sent more w l t h.bears;
+    logged = h.logged;
+    numbers = h.numbers;
   }
 
-  -- what the tokens gave out was sent, with the end that the log had
-  pub record Taken (n : Net) (end number inc : ℕ) (d : client.Done) : Type 0 where
+  -- it is one that serves, and knows the end of its log
+  pub is_serving : (n : Net) (t : TokensState) (l : LogState) (number inc : ℕ) → 0 < c → c < members → Stands n t l number inc → IsServing logs members n c l.end.seq
+  is_serving n t l number inc pos less h =
+      record { some = pos; within = less; up = h.up; end_is = premise_by logs (λ (k : LogStands n.books c l). sym k.seen.end) h.logged }
+
+  -- what the tokens gave out was sent, with the end that the log had; beside this log they stand then
+  pub record Taken (n : Net) (l : LogState) (end number inc : ℕ) (d : client.Done) (done : List Act) : Type 0 where
     pub next : Net
-    pub grown : Grown members part c n next
-    pub stands : Stands members part most c life next d.state number inc
+    pub grown : Grown logs members part c n next done
+    pub stands : Stands next d.state l number inc
     pub seen : Within (client_packets c life end d.outs) next.sent
 
-  pub taken : (n : Net) (t : TokensState) (end number inc : ℕ) (d : client.Done) → Stands members part most c life n t number inc
-      → Happens members part n (after_client n c end d) → IsSound d.state
-      → Bears (Sent members part most c life n.sent) (Promised members part most c life) life d.state → Taken n end number inc d
-  taken n t end number inc d h happens sound bears =
-      let next : Net = after_client n c end d in
+  -- an input is taken, with these acts
+  pub acting : (n : Net) (m : LogState) (end number inc : ℕ) (d : client.Done) (done acts : List Act) → n.up c ≡ true → number ≡ c → inc ≡ life
+      → Premise logs (frames.HasNumbers m.end.seq room top) → acts ≡ n.acts ++ done → Happens logs members part n (record (after_client n c end d) { acts = acts }) → IsSound d.state → Bear n.sent m d.state
+      → Premise logs (LogStands n.books c m) → Taken n m end number inc d done
+  acting n m end number inc d done acts up number_is inc_is numbers are happens sound bears logged =
+      let next : Net = record (after_client n c end d) { acts = acts } in
       let packets : List Packet = client_packets c d.state.inc end d.outs in
       record {
         next = next;
@@ -90,39 +113,55 @@ module _ (members part most c life : ℕ) where
           others = λ k other. (put_there n.tokens c d.state k other, refl);
           slots = λ e. refl;
           grows = in_second packets n.sent;
+          books = λ k other. same_log n.books k;
+          acts = are;
+          own = premise logs (onward_still n.books c);
         };
         stands = record {
-          up = h.up;
+          up = up;
           tokens = put_here n.tokens c d.state;
-          number_is = h.number_is;
-          inc_is = h.inc_is;
+          number_is = number_is;
+          inc_is = inc_is;
           sound = sound;
-          bears = bears_more n.sent next.sent (in_second packets n.sent) d.state bears;
+          bears = bears_more n.sent next.sent (in_second packets n.sent) m d.state bears;
+          logged = logged;
+          numbers = numbers;
         };
         seen = subst (λ i. Within (client_packets c i end d.outs) next.sent) bears.life_is (in_first packets n.sent);
       }
 
-  -- an input may be taken
-  pub record MayTake (n : Net) (i : inputs.In) : Type 0 where
-    pub happens : (end : ℕ) → Happens members part n (after_client n c end (client.transition (n.tokens c) i))
-    pub allowed : Allowed (Sent members part most c life n.sent) (Promised members part most c life) life i
+  pub taken : (n : Net) (t : TokensState) (l : LogState) (number inc : ℕ) (d : client.Done) → Stands n t l number inc
+      → Happens logs members part n (after_client n c l.end.seq d) → IsSound d.state → Bear n.sent l d.state → Taken n l l.end.seq number inc d []
+  taken n t l number inc d h happens sound bears =
+      acting n l l.end.seq number inc d [] n.acts h.up h.number_is h.inc_is h.numbers (sym (append-nil n.acts)) happens sound bears h.logged
 
-  pub none_sent : (sent : List Packet) (b : BlockId) → Sent members part most c life sent b None
+  -- an input may be taken
+  pub record MayTake (n : Net) (l : LogState) (i : inputs.In) : Type 0 where
+    pub happens : (end : ℕ) → IsServing logs members n c end → Happens logs members part n (after_client n c end (client.transition (n.tokens c) i))
+    pub allowed : Allowed (Sent part c n.sent) (Promised part most) (Known logs l) life i
+
+  pub none_sent : (sent : List Packet) (b : BlockId) → Sent part c sent b None
   none_sent sent b = tt
 
   -- what was taken follows
-  pub takes : (n : Net) (t : TokensState) (end number inc : ℕ) (i : inputs.In) → Stands members part most c life n t number inc → MayTake n i
-      → Taken n end number inc (client.transition t i)
-  takes n t end number inc i h may =
-      taken n t end number inc (client.transition t i) h
-      (subst (λ u. Happens members part n (after_client n c end (client.transition u i))) h.tokens (may.happens end))
+  pub takes : (n : Net) (t : TokensState) (l : LogState) (number inc : ℕ) (i : inputs.In) → 0 < c → c < members → Stands n t l number inc → MayTake n l i
+      → Taken n l l.end.seq number inc (client.transition t i) []
+  takes n t l number inc i pos less h may =
+      taken n t l number inc (client.transition t i) h
+      (subst (λ u. Happens logs members part n (after_client n c l.end.seq (client.transition u i))) h.tokens
+      (may.happens l.end.seq (is_serving n t l number inc pos less h)))
       (transition-follows (λ b. Unit {0}) t h.sound i (λ b k. tt)).sound
-      (transition-bears (Sent members part most c life n.sent) (Promised members part most c life) life (none_sent n.sent) t i may.allowed h.bears)
+      (transition-bears (Sent part c n.sent) (Promised part most) (Known logs l) life (known_stays logs l) (none_sent n.sent) t h.sound i may.allowed h.bears)
 
-  -- of its own accord
-  pub may_act : (n : Net) (t : TokensState) (number inc : ℕ) (i : inputs.In) → 0 < c → c < members → Stands members part most c life n t number inc
-      → IsOwnAct i → Allowed (Sent members part most c life n.sent) (Promised members part most c life) life i → MayTake n i
-  may_act n t number inc i pos less h own allowed = record { happens = λ end. Acts c end i pos less h.up own; allowed = allowed }
+  -- of its own accord, where nothing is acted
+  pub may_act : (n : Net) (l : LogState) (i : inputs.In) → IsOwnAct i → ((u : TokensState) → acts_by c u i ≡ [])
+      → Allowed (Sent part c n.sent) (Promised part most) (Known logs l) life i → MayTake n l i
+  may_act n l i own silent allowed = record {
+    happens = λ end serves.
+        subst (λ (acts : List Act). Happens logs members part n (record (after_client n c end (client.transition (n.tokens c) i)) { acts = acts }))
+        (ap (λ acts. n.acts ++ acts) (silent (n.tokens c)) ∙ append-nil n.acts) (Acts c end i serves own);
+    allowed = allowed;
+  }
 
   -- ---- what the tokens give out
 
@@ -162,8 +201,8 @@ module _ (members part most c life : ℕ) where
   -- ---- promises
 
   -- a promise within the bound may be made
-  pub promise_may : part < 8 → (slot epoch : ℕ) → (slot ≡ part → epoch ≤ most) → (epochs : List ℕ) → Promised members part most c life epochs
-      → Promised members part most c life (slice_set epochs slot epoch)
+  pub promise_may : part < 8 → (slot epoch : ℕ) → (slot ≡ part → epoch ≤ most) → (epochs : List ℕ) → Promised part most epochs
+      → Promised part most (slice_set epochs slot epoch)
   promise_may small slot epoch fits epochs h = record { eight = length-set epochs slot epoch ∙ h.eight; within = by_slot (slot == part) refl }
     where
       same : (n m : ℕ) → (n == m) ≡ true → n ≡ m

@@ -25,6 +25,7 @@ use Rattle.node_base.specs.Asking.{next_ask}
 use Rattle.node_base.specs.Beginning.{answered, answers_unanswered}
 use Rattle.node_base.specs.declared.effects.Effect.{Effect}
 use Rattle.node_base.specs.declared.effects.Effect.TheVariants.{Lose}
+use Rattle.node_base.specs.Effects.{acts_of}
 use Rattle.stripe_code.specs.declared.reading.Next.{Next}
 use Rattle.stripe_code.specs.declared.reading.Next.TheVariants as next
 use Rattle.stripe_code.specs.declared.reading.Stage.{Stage}
@@ -36,9 +37,9 @@ use Rattle.token_client.specs.declared.input.In as inputs
 use Rattle.token_client.specs.declared.input.In.TheVariants as input
 use Rattle.token_client.specs.declared.output.Out as outputs
 use Rattle.token_client.specs.declared.output.Out.TheVariants as output
-use Rattle.token_client.specs.State.{held_of}
+use Rattle.token_client.specs.State.{TokensState, held_of}
 use Rattle.token_client.specs.Transition as client
-use Rattle.token_law.specs.Net.{Net, IsOwnAct}
+use Rattle.token_law.specs.Net.{Net, IsOwnAct, acts_by}
 use Rattle.token_law.specs.Net.Packet.{WantSent, GaveSent}
 use Rattle.token_protocol.specs.Basics.{In}
 use Rattle.version_model.specs.declared.answer.Answer.{Answer}
@@ -46,6 +47,7 @@ use Rattle.version_model.specs.declared.answer.Answer.TheVariants.{Lost}
 use Rattle.xfs_base.proofs.Booleans.{by_test}
 use Rattle.xfs_base.specs.declared.block.BlockId.{BlockId}
 use Rattle.xfs_base.specs.declared.entry.Place.{Place}
+use Rattle.xfs_base.specs.declared.node.NodeId.TheVariants.{Client}
 use Rattle.xfs_base.specs.declared.segment.SegName.{SegName}
 use Rattle.xfs_base.specs.declared.token.Mode.TheVariants.{Copy}
 use Rattle.xfs_base.specs.declared.token.Stamp.{Stamp}
@@ -54,6 +56,7 @@ use Rattle.xfs_base.specs.Steps.{still, steps}
 use Rattle.node_tie.specs.Sight.{ClientDoes}
 use Rattle.node_tie.proofs.ClientBearing.{Allowed}
 use Rattle.node_tie.proofs.ClientFrames as frames
+use Rattle.node_tie.proofs.ClientSeals.{on_seal_passes}
 use Rattle.node_tie.proofs.ClientTaking as taking
 
 -- what holds of each thing holds of all of a list
@@ -67,10 +70,10 @@ module _ (part c life : ℕ) where
   abbrev pub Plain : List Effect → Type 0
   Plain es = frames.Plain part c life es
 
-  pub plain_map : {X : Type 0} (f : X → Effect) → ((x : X) → ClientDoes part [] c life (f x)) → (xs : List X) → Plain (map f xs)
-  plain_map f each xs = All-map (ClientDoes part [] c life) f xs (every (λ x. ClientDoes part [] c life (f x)) each xs)
+  pub plain_map : {X : Type 0} (f : X → Effect) → ((x : X) → frames.May part c life (f x)) → (xs : List X) → Plain (map f xs)
+  plain_map f each xs = All-map (frames.May part c life) f xs (every (λ x. frames.May part c life (f x)) each xs)
 
-  pub plain_range : (managers : Managers) (o : feed_out.Out) → ClientDoes part [] c life (range managers o)
+  pub plain_range : (managers : Managers) (o : feed_out.Out) → frames.May part c life (range managers o)
   plain_range managers (Range slot first upto rows) = tt
 
   pub plain_pushes : (managers : Managers) (feed : FeedState) (slot : ℕ) → Plain (pushes managers feed slot)
@@ -83,20 +86,20 @@ module _ (part c life : ℕ) where
   plain_fetches r = plain_map (fetch r.target.seg.name r.ask) (λ server. tt) (to_ask r)
 
   pub plain_answers : (unanswered : Option ℕ) (answer : Answer) → Plain (answers_unanswered unanswered answer)
-  plain_answers None answer = All-nil (ClientDoes part [] c life)
-  plain_answers (Some number) answer = All-cons (ClientDoes part [] c life) _ [] tt (All-nil (ClientDoes part [] c life))
+  plain_answers None answer = All-nil (frames.May part c life)
+  plain_answers (Some number) answer = All-cons (frames.May part c life) _ [] tt (All-nil (frames.May part c life))
 
   pub plain_stored : (outs : List LogOut) → Plain (flat_map stored outs)
-  plain_stored [] = All-nil (ClientDoes part [] c life)
-  plain_stored (log_out.Send fragment member ∷ outs) = All-cons (ClientDoes part [] c life) _ (flat_map stored outs) tt (plain_stored outs)
+  plain_stored [] = All-nil (frames.May part c life)
+  plain_stored (log_out.Send fragment member ∷ outs) = All-cons (frames.May part c life) _ (flat_map stored outs) tt (plain_stored outs)
   plain_stored (log_out.Settled end rows ∷ outs) = plain_stored outs
 
-module _ (members part most c life : ℕ) (pos : 0 < c) (less : c < members) where
+module _ (logs : Bool) (members part most c life room top : ℕ) (pos : 0 < c) (less : c < members) where
   abbrev At : Net → Serving → Type 0
-  At n s = frames.At members part most c life n s
+  At n s = frames.At logs members part most c life room top n s
 
   abbrev Goes : Net → Done → Type 0
-  Goes n d = frames.Goes members part most c life n d
+  Goes n d = frames.Goes logs members part most c life room top n d
 
   -- what goes on, and leaves the end of the log
   pub record Logged (n : Net) (end : ℕ) (d : Done) : Type 0 where
@@ -105,25 +108,25 @@ module _ (members part most c life : ℕ) (pos : 0 < c) (less : c < members) whe
 
   -- ---- what the tokens take of the client's own accord
 
-  pub acts_so : (n : Net) (s : Serving) (i : inputs.In) → IsOwnAct i
-      → Allowed (frames.Sent members part most c life n.sent) (frames.Promised members part most c life) life i → At n s
+  pub acts_so : (n : Net) (s : Serving) (i : inputs.In) → IsOwnAct i → ((u : TokensState) → acts_by c u i ≡ [])
+      → Allowed (frames.Sent part c n.sent) (frames.Promised part most) (frames.Known logs s.log) life i → At n s
       → Goes n (still (record s { tokens = (client.transition s.tokens i).state }))
-  acts_so n s i own allowed h =
-      let k : taking.Taken members part most c life n 0 s.lasting.number s.lasting.inc (client.transition s.tokens i) =
-      taking.takes members part most c life n s.tokens 0 s.lasting.number s.lasting.inc i h
-      (taking.may_act members part most c life n s.tokens s.lasting.number s.lasting.inc i pos less h own allowed) in
+  acts_so n s i own silent allowed h =
+      let k : taking.Taken logs members part most c life room top n s.log s.log.end.seq s.lasting.number s.lasting.inc (client.transition s.tokens i) [] =
+      taking.takes logs members part most c life room top n s.tokens s.log s.lasting.number s.lasting.inc i pos less h
+      (taking.may_act logs members part most c life room top n s.log i own silent allowed) in
       record { next = k.next; grown = k.grown; stands = k.stands; does = All-nil (ClientDoes part k.next.sent c life) }
 
   -- ---- the cache
 
   pub evicts_so : (n : Net) (s : Serving) (o : cache_out.Out) → At n s → Goes n (still (evicts s o))
   unfolding evicts
-  evicts_so n s (Victim block) h = acts_so n s (input.Evict block) tt tt h
+  evicts_so n s (Victim block) h = acts_so n s (input.Evict block) tt (λ u. refl) tt h
 
   pub notes_clean_so : (n : Net) (s : Serving) (block : BlockId) → At n s → Goes n (still (notes_clean s block))
   unfolding notes_clean
   notes_clean_so n s block h =
-      frames.goes_fold members part most c life evicts evicts_so n (record s { cache = (cleaned s.cache block).state }) (cleaned s.cache block).outs h
+      frames.goes_fold logs members part most c life room top evicts evicts_so n (record s { cache = (cleaned s.cache block).state }) (cleaned s.cache block).outs h
 
   evicts_end : (s : Serving) (outs : List cache_out.Out) → (fold evicts s outs).log ≡ s.log
   unfolding evicts
@@ -144,7 +147,7 @@ module _ (members part most c life : ℕ) (pos : 0 < c) (less : c < members) whe
   notes_copy_so n s end block e h =
       by_test (λ (t : Serving). Logged n end (still t)) (same_mode (held_of s.tokens.blocks block).mode Copy) (notes_clean s block) s
       (λ t. record { goes = notes_clean_so n s block h; end_is = ap (λ (l : LogState). l.end.seq) (notes_clean_end s block) ∙ e })
-      (λ t. record { goes = frames.goes_still members part most c life n s h; end_is = e })
+      (λ t. record { goes = frames.goes_still logs members part most c life room top n s h; end_is = e })
 
   -- ---- the log
 
@@ -158,8 +161,11 @@ module _ (members part most c life : ℕ) (pos : 0 < c) (less : c < members) whe
   unfolding seals
   seals_so n s end e h =
       let r : log.Done = log.on_seal s.log in
+      let k : frames.Passes logs members part most c life room top n s.tokens r.state s.lasting.number s.lasting.inc =
+      on_seal_passes logs members part most c life room top pos less n s.tokens s.log s.lasting.number s.lasting.inc h in
       record {
-        goes = frames.goes_plain members part most c life n (record s { log = r.state }) (flat_map stored r.outs) h (plain_stored part c life r.outs);
+        goes = frames.goes_from logs members part most c life room top n k.next (seals s) k.grown
+            (frames.goes_plain logs members part most c life room top k.next (record s { log = r.state }) (flat_map stored r.outs) k.stands (plain_stored part c life r.outs));
         end_is = ap (λ x. x.seq) (seal_end s.log) ∙ e;
       }
 
@@ -176,13 +182,13 @@ module _ (members part most c life : ℕ) (pos : 0 < c) (less : c < members) whe
       } in
       let outs : List Effect = Lose seg ∷ answers_unanswered s.lasting.items.unanswered (Lost seg) in
       record {
-        goes = frames.goes_and_gives members part most c life n (still quit) t outs (acts_so n s (input.Quit block) tt tt h) (λ m k. k)
-            (All-cons (ClientDoes part [] c life) _ _ tt (plain_answers part c life s.lasting.items.unanswered (Lost seg)));
+        goes = frames.goes_and_gives logs members part most c life room top n (still quit) t outs (acts_so n s (input.Quit block) tt (λ u. refl) tt h) (λ m k. k)
+            (All-cons (frames.May part c life) _ _ tt (plain_answers part c life s.lasting.items.unanswered (Lost seg)));
         end_is = e;
       }
 
   still_so : (n : Net) (s : Serving) (end : ℕ) → s.log.end.seq ≡ end → At n s → Logged n end (still s)
-  still_so n s end e h = record { goes = frames.goes_still members part most c life n s h; end_is = e }
+  still_so n s end e h = record { goes = frames.goes_still logs members part most c life room top n s h; end_is = e }
 
   loses_at_so : (n : Net) (s : Serving) (end : ℕ) (at : Option BlockAt) (seg : SegName) → s.log.end.seq ≡ end → At n s → Logged n end (loses_at s at seg)
   loses_at_so n s end None seg e h = still_so n s end e h
@@ -193,7 +199,7 @@ module _ (members part most c life : ℕ) (pos : 0 < c) (less : c < members) whe
   begins_over_so n s end target None e h = still_so n s end e h
   begins_over_so n s end target (Some group) e h =
       let r : ReadingState = begun target group (next_ask s.lasting.questions) in
-      record { goes = frames.goes_plain members part most c life n (with_reading (draws s) (Some r)) (fetches r) h (plain_fetches part c life r); end_is = e }
+      record { goes = frames.goes_plain logs members part most c life room top n (with_reading (draws s) (Some r)) (fetches r) h (plain_fetches part c life r); end_is = e }
 
   begins_so : (n : Net) (s : Serving) (end : ℕ) (target : Target) → s.log.end.seq ≡ end → At n s → Logged n end (begins s target)
   unfolding begins
@@ -202,7 +208,7 @@ module _ (members part most c life : ℕ) (pos : 0 < c) (less : c < members) whe
   confirmed_next_so : (n : Net) (s : Serving) (end : ℕ) (r : ReadingState) (x : Next) → s.log.end.seq ≡ end → At n s → Logged n end (confirmed_next s r x)
   confirmed_next_so n s end r next.Lost e h = loses_at_so n s end r.target.block r.target.seg.name e h
   confirmed_next_so n s end r next.Ask e h = record
-      { goes = frames.goes_plain members part most c life n (with_reading s (Some r)) (fetches r) h (plain_fetches part c life r); end_is = e }
+      { goes = frames.goes_plain logs members part most c life room top n (with_reading s (Some r)) (fetches r) h (plain_fetches part c life r); end_is = e }
   confirmed_next_so n s end r next.Wait e h = still_so n (with_reading s (Some r)) end e h
   confirmed_next_so n s end r next.Again e h = still_so n (with_reading s (Some r)) end e h
   confirmed_next_so n s end r (next.Read segment) e h = still_so n (with_reading s (Some r)) end e h
@@ -237,30 +243,26 @@ module _ (members part most c life : ℕ) (pos : 0 < c) (less : c < members) whe
 
   plain_before : (s : Serving) (block : BlockId) (again : ℕ) → Plain part c life (before_want s block again)
   plain_before s block again = by_test (λ (es : List Effect). Plain part c life es) (again == 0) (deltas s block) []
-      (λ t. plain_pushes part c life s.managers s.feed _) (λ t. All-nil (ClientDoes part [] c life))
+      (λ t. plain_pushes part c life s.managers s.feed _) (λ t. All-nil (frames.May part c life))
 
   -- a packet that was sent, behind what may be sent in any world
   one_said : (n : Net) (s : Serving) (end : ℕ) (before : List Effect) (e : Effect) → s.log.end.seq ≡ end → At n s → Plain part c life before
-      → ClientDoes part n.sent c life e → Logged n end (gives s (before ++ e ∷ []))
-  one_said n s end before e log h plain seen = record {
-    goes = frames.goes_after members part most c life n before (gives s (e ∷ [])) plain (record {
-      next = n;
-      grown = frames.grown_still members part c n;
-      stands = h;
-      does = All-cons (ClientDoes part n.sent c life) e [] seen (All-nil (ClientDoes part n.sent c life));
-    });
+      → acts_of (Client c) (e ∷ []) ≡ [] → ClientDoes part n.sent c life e → Logged n end (gives s (before ++ e ∷ []))
+  one_said n s end before e log h plain silent seen = record {
+    goes = frames.goes_after_in logs members part most c life room top n s before (gives s (e ∷ [])) plain h
+        (λ m w k. frames.goes_said logs members part most c life room top m s e silent k (frames.does_more part c life n.sent m.sent w e seen));
     end_is = log;
   }
 
-  follows_one_so : (n : Net) (s : Serving) (end : ℕ) (o : outputs.Out) → s.log.end.seq ≡ end → At n s → taking.OutSeen members part most c life n.sent end o
+  follows_one_so : (n : Net) (s : Serving) (end : ℕ) (o : outputs.Out) → s.log.end.seq ≡ end → At n s → taking.OutSeen logs members part most c life room top n.sent end o
       → Logged n end (follows_one s o)
   unfolding follows_one
   follows_one_so n s end (output.Want block req again mode) e h seen =
-      one_said n s end (before_want s block again) (want s block req again mode) e h (plain_before s block again)
+      one_said n s end (before_want s block again) (want s block req again mode) e h (plain_before s block again) refl
       (λ inside. subst (λ k. In (WantSent c s.lasting.inc req again block mode k) n.sent) (sym e)
       (subst (λ i. In (WantSent c i req again block mode end) n.sent) (sym h.inc_is) (seen inside)))
   follows_one_so n s end (output.Gave block stamp) e h seen =
-      one_said n s end (deltas s block) (gave s block stamp) e h (plain_pushes part c life s.managers s.feed _)
+      one_said n s end (deltas s block) (gave s block stamp) e h (plain_pushes part c life s.managers s.feed _) refl
       (λ inside. subst (λ k. In (GaveSent c block stamp k) n.sent) (sym e) (seen inside))
   follows_one_so n s end (output.Flush block) e h seen = seals_so n s end e h
   follows_one_so n s end (output.Read block place) e h seen = reads_so n s end block place e h
@@ -268,38 +270,37 @@ module _ (members part most c life : ℕ) (pos : 0 < c) (less : c < members) whe
   follows_one_so n s end (output.Supply block ver value) e h seen = still_so n s end e h
 
   follows_all : (n : Net) (s : Serving) (end : ℕ) (outs : List outputs.Out) → s.log.end.seq ≡ end → At n s
-      → taking.OutsSeen members part most c life n.sent end outs → Goes n (steps follows_one s outs)
-  follows_all n s end [] e h seen = frames.goes_still members part most c life n s h
+      → taking.OutsSeen logs members part most c life room top n.sent end outs → Goes n (steps follows_one s outs)
+  follows_all n s end [] e h seen = frames.goes_still logs members part most c life room top n s h
   follows_all n s end (o ∷ outs) e h seen =
       let one : Logged n end (follows_one s o) = follows_one_so n s end o e h seen.0 in
-      frames.goes_on_in members part most c life n (follows_one s o) (steps follows_one (follows_one s o).state outs) one.goes
-      (λ m w k. follows_all m (follows_one s o).state end outs one.end_is k (taking.outs_more members part most c life n.sent m.sent w end outs seen.1))
+      frames.goes_on_in logs members part most c life room top n (follows_one s o) (steps follows_one (follows_one s o).state outs) one.goes
+      (λ m w k. follows_all m (follows_one s o).state end outs one.end_is k (taking.outs_more logs members part most c life room top n.sent m.sent w end outs seen.1))
 
   -- what the tokens gave out, and was sent, is done
-  pub follows_so : (n : Net) (s : Serving) (outs : List outputs.Out) → At n s → taking.OutsSeen members part most c life n.sent s.log.end.seq outs
+  pub follows_so : (n : Net) (s : Serving) (outs : List outputs.Out) → At n s → taking.OutsSeen logs members part most c life room top n.sent s.log.end.seq outs
       → Goes n (follows s outs)
   unfolding follows
   follows_so n s outs h seen = follows_all n s s.log.end.seq outs refl h seen
 
   -- an input that may be taken is handed to the tokens
-  pub hands_so : (n : Net) (s : Serving) (i : inputs.In) → taking.MayTake members part most c life n i → At n s → Goes n (hands s i)
+  pub hands_so : (n : Net) (s : Serving) (i : inputs.In) → taking.MayTake logs members part most c life room top n s.log i → At n s → Goes n (hands s i)
   unfolding hands
   hands_so n s i may h =
       let r : client.Done = client.transition s.tokens i in
       let t : Serving = ends_reading (record s { tokens = r.state }) in
-      let k : taking.Taken members part most c life n s.log.end.seq s.lasting.number s.lasting.inc r = taking.takes members part most c life n s.tokens
-      s.log.end.seq s.lasting.number s.lasting.inc i h may in
-      frames.goes_from members part most c life n k.next (follows t r.outs) k.grown
-      (follows_so k.next t r.outs k.stands (taking.outs_seen members part most c life k.next.sent s.log.end.seq r.outs k.seen))
+      let k : taking.Taken logs members part most c life room top n s.log s.log.end.seq s.lasting.number s.lasting.inc r [] =
+      taking.takes logs members part most c life room top n s.tokens s.log s.lasting.number s.lasting.inc i pos less h may in
+      frames.goes_from logs members part most c life room top n k.next (follows t r.outs) k.grown
+      (follows_so k.next t r.outs k.stands (taking.outs_seen logs members part most c life room top k.next.sent s.log.end.seq r.outs k.seen))
 
   -- one of the client's own accord
-  pub hands_own : (n : Net) (s : Serving) (i : inputs.In) → IsOwnAct i
-      → Allowed (frames.Sent members part most c life n.sent) (frames.Promised members part most c life) life i → At n s → Goes n (hands s i)
-  hands_own n s i own allowed h = hands_so n s i (taking.may_act members part most c life n s.tokens s.lasting.number s.lasting.inc i pos less h own allowed)
-      h
+  pub hands_own : (n : Net) (s : Serving) (i : inputs.In) → IsOwnAct i → ((u : TokensState) → acts_by c u i ≡ [])
+      → Allowed (frames.Sent part c n.sent) (frames.Promised part most) (frames.Known logs s.log) life i → At n s → Goes n (hands s i)
+  hands_own n s i own silent allowed h = hands_so n s i (taking.may_act logs members part most c life room top n s.log i own silent allowed) h
 
   pub takes_back_so : (n : Net) (s : Serving) (block : BlockId) (stamp : Stamp) (keep : Bool)
-      → taking.MayTake members part most c life n (input.Recalled block stamp keep) → At n s → Goes n (takes_back s block stamp keep)
+      → taking.MayTake logs members part most c life room top n s.log (input.Recalled block stamp keep) → At n s → Goes n (takes_back s block stamp keep)
   unfolding takes_back
   takes_back_so n s block stamp keep may h =
       let d : Done = hands s (input.Recalled block stamp keep) in

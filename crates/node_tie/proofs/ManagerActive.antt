@@ -16,9 +16,11 @@ use Rattle.token_manager.specs.declared.input.In.{In as Input}
 use Rattle.token_manager.specs.declared.input.In.TheVariants as input
 use Rattle.token_manager.specs.declared.output.Out.{Out}
 use Rattle.token_manager.specs.declared.output.Out.TheVariants as out
+use Rattle.token_manager.specs.Recalls.{applied_of}
 use Rattle.token_manager.specs.SlotState.{SlotState}
 use Rattle.token_manager.specs.Transition as slot
 use Rattle.token_protocol.specs.Basics.{put, In}
+use Rattle.token_protocol.specs.Premises.{Premise}
 use Rattle.token_protocol.proofs.Refining.{put_each}
 use Rattle.wire_msg.specs.declared.cleaning.Check.{Check}
 use Rattle.wire_msg.specs.declared.cleaning.UsageAsk.{UsageAsk}
@@ -31,9 +33,10 @@ use Rattle.manager_node.specs.declared.slot_phase.SlotPhase.TheVariants as phase
 use Rattle.manager_node.specs.Slots.{with_slot}
 use Rattle.manager_node.specs.Tokens.{said, takes, want_input, gone, on_want, gave_input, on_gave, deltas_input, on_deltas, check_input, check_said, on_check, on_usage_ask, on_tick}
 use Rattle.node_tie.specs.Sight.{WantSeen, GaveSeen}
-use Rattle.node_tie.specs.ManagerEvents.{PhaseAgrees, ActiveAgrees, OtherAgrees}
+use Rattle.node_tie.specs.ManagerEvents.{PhaseAgrees, ActiveAgrees, OtherAgrees, DeltasJoin}
 use Rattle.node_tie.proofs.ManagerPages.{takes_alike_both, takes_stay}
 use Rattle.node_tie.proofs.ManagerJobs.{IsOf, AllSpeakOf, IsInputOf, takes_of}
+use Rattle.node_tie.proofs.SmallWorld.{premise, premise_by}
 use Rattle.node_tie.proofs.ManagerMoves.{in_more, in_front, AllDone, Moves, Stays, moves_of, stays_same}
 
 pub put_here : {X : Type 0} (f : ℕ → X) (c : ℕ) (x : X) → put f c x c ≡ x
@@ -45,10 +48,10 @@ put_there f c x d other = grind (arith, nat_tests)
 pub some_none : {X : Type 0} (x : X) → Some x ≡ None → ⊥
 some_none x h = cc
 
-module _ (members part most life : ℕ) where
+module _ (logs : Bool) (members part most life : ℕ) where
   -- what the slot says is sent, where the small world has it sent
   said_seen : (n : Net) (k epoch : ℕ) (outs : List Out) → ((x : Packet) → In x (slot_packets outs) → In x n.sent)
-      → AllDone members part most life n (flat_map (said k epoch) outs)
+      → AllDone logs members part most life n (flat_map (said k epoch) outs)
   unfolding said
   said_seen n k epoch [] all = tt
   said_seen n k epoch (out.Grant client block stamp inc req mode entry ∷ os) all = (λ inside. all _ (inl refl), said_seen n k epoch os (λ x is. all x (inr is)))
@@ -62,7 +65,7 @@ module _ (members part most life : ℕ) where
   elsewhere k block other of inside = absurd (other (sym of ∙ eqb-true (slot_of block.ino.0) part inside))
 
   -- what another slot says is of no block of the slot
-  said_other : (n : Net) (k epoch : ℕ) (outs : List Out) → (k ≡ part → ⊥) → AllSpeakOf k outs → AllDone members part most life n (flat_map (said k epoch) outs)
+  said_other : (n : Net) (k epoch : ℕ) (outs : List Out) → (k ≡ part → ⊥) → AllSpeakOf k outs → AllDone logs members part most life n (flat_map (said k epoch) outs)
   unfolding said
   said_other n k epoch [] other all = tt
   said_other n k epoch (out.Grant client block stamp inc req mode entry ∷ os) other all =
@@ -78,27 +81,28 @@ module _ (members part most life : ℕ) where
   -- what an event of the slot makes of the small world
   pub record Event (n : Net) (p q : SlotPhase) (outs : List Effect) : Type 0 where
     pub next : Net
-    pub moves : Moves members part most life n next p q outs
+    pub moves : Moves logs members part most life n next p q outs
     pub agrees : PhaseAgrees members part next q
 
-  pub event_staying : (n : Net) (p q : SlotPhase) (outs : List Effect) → Stays members part most life n p q outs → PhaseAgrees members part n q
+  pub event_staying : (n : Net) (p q : SlotPhase) (outs : List Effect) → Stays logs members part most life n p q outs → PhaseAgrees members part n q
       → Event n p q outs
-  event_staying n p q outs t agrees = record { next = n; moves = moves_of members part most life n p q outs t; agrees = agrees }
+  event_staying n p q outs t agrees = record { next = n; moves = moves_of logs members part most life n p q outs t; agrees = agrees }
 
   -- the same phase, and something is sent
-  pub event_same : (n : Net) (p : SlotPhase) (outs : List Effect) → PhaseAgrees members part n p → AllDone members part most life n outs → Event n p p outs
-  event_same n p outs agrees done = event_staying n p p outs (stays_same members part most life n p outs done) agrees
+  pub event_same : (n : Net) (p : SlotPhase) (outs : List Effect) → PhaseAgrees members part n p → AllDone logs members part most life n outs → Event n p p outs
+  event_same n p outs agrees done = event_staying n p p outs (stays_same logs members part most life n p outs done) agrees
 
   -- any manager of the slot in the small world can take the input
   abbrev pub CanTake : Net → Input → Type 0
-  CanTake n given = (e : ℕ) (z : SlotState) → n.slots e ≡ Some z → length z.applied ≡ 9 → Happens members part n (after_slot n e (slot.transition z given))
+  CanTake n given = (e : ℕ) (z : SlotState) → n.slots e ≡ Some z → length z.applied ≡ 9 → Happens logs members part n (after_slot n e (slot.transition z given))
 
   -- what the slot that is managed makes of an input
-  abbrev with_taken : ℕ → Active → slot.Done → Type 0
-  with_taken k a d = (n : Net) → Event n (phase.Active a) (with_slot a d.state) (flat_map (said k a.slot.epoch) d.outs)
+  abbrev Made : Net → ℕ → Active → slot.Done → Type 0
+  Made n k a d = Event n (phase.Active a) (with_slot a d.state) (flat_map (said k a.slot.epoch) d.outs)
 
-  active_takes : (n : Net) (k : ℕ) (a : Active) (given : Input) → ActiveAgrees members part n a → CanTake n given
-      → Event n (phase.Active a) (with_slot a (slot.transition a.slot given).state) (flat_map (said k a.slot.epoch) (slot.transition a.slot given).outs)
+  active_takes : (n : Net) (k : ℕ) (a : Active) (given : Input) (agrees : ActiveAgrees members part n a)
+      → Happens logs members part n (after_slot n a.slot.epoch (slot.transition agrees.slot given))
+      → Made n k a (slot.transition a.slot given)
   active_takes n k a given agrees can =
       let z = agrees.slot in
       let e = a.slot.epoch in
@@ -109,9 +113,11 @@ module _ (members part most life : ℕ) where
       record {
         next = after_slot n e d;
         moves = record {
-          runs = On Begun (can e z agrees.there (ap (λ (s : SlotState). length s.applied) agrees.same ∙ agrees.nine));
+          runs = On Begun can;
           tokens = refl;
           up = refl;
+          books = refl;
+          acts = refl;
           epoch = stay.0;
           slots = λ k other. put_there n.slots e (Some d.state) k (λ same. other (sym same));
           entered = λ k y some none. absurd (put_each (λ x o. (y : SlotState) → o ≡ Some y → n.slots x ≡ None → ⊥) n.slots e (Some d.state)
@@ -134,7 +140,8 @@ module _ (members part most life : ℕ) where
   pub slot_takes : (n : Net) (k : ℕ) (p : SlotPhase) (given : Input) → PhaseAgrees members part n p → CanTake n given
       → Event n p (takes p k given).state (takes p k given).outs
   unfolding takes
-  slot_takes n k (phase.Active a) given agrees can = active_takes n k a given agrees can
+  slot_takes n k (phase.Active a) given agrees can =
+      active_takes n k a given agrees (can a.slot.epoch agrees.slot agrees.there (ap (λ (s : SlotState). length s.applied) agrees.same ∙ agrees.nine))
   slot_takes n k (phase.Away epoch) given agrees can = event_same n (phase.Away epoch) [] agrees tt
   slot_takes n k (phase.Taking t) given agrees can = event_same n (phase.Taking t) [] agrees tt
   slot_takes n k (phase.Broken epoch seg) given agrees can = event_same n (phase.Broken epoch seg) [] agrees tt
@@ -158,40 +165,52 @@ module _ (members part most life : ℕ) where
   slot_gaves n p c gave agrees of seen = slot_takes n (slot_of gave.block.ino.0) p (gave_input c gave) agrees
       (λ e z there nine. GetsGave e z c gave.block gave.stamp gave.end there (seen (inside_of gave.block of)))
 
-  -- deltas of a log that no slot follows change nothing
-  active_deltas : (n : Net) (a : Active) (log : LogId) (deltas : Deltas) → ActiveAgrees members part n a
-      → Event n (phase.Active a) (with_slot a (slot.transition a.slot (deltas_input log deltas)).state)
-      (flat_map (said deltas.slot a.slot.epoch) (slot.transition a.slot (deltas_input log deltas)).outs)
-  active_deltas n a log deltas agrees =
+  -- deltas of a log that no slot follows, or that don't join on to what is applied, change nothing
+  active_deltas : (n : Net) (a : Active) (log : LogId) (deltas : Deltas) → ActiveAgrees members part n a → Premise logs (DeltasJoin members part n log deltas)
+      → Made n deltas.slot a (slot.transition a.slot (deltas_input log deltas))
+  unfolding said
+  active_deltas n a log deltas agrees owed =
       by (slot.is_followed log) refl
     where
-      within : (x : ℕ) → slot.is_followed (record { 0 = x }) ≡ true → x - 1 < 9
-      within x h = grind (arith, nat_tests)
+      followed : (x : ℕ) → slot.is_followed (record { 0 = x }) ≡ true → (0 < x) × (x - 1 < 9)
+      followed x h = (grind (arith, nat_tests), grind (arith, nat_tests))
 
-      by : (t : Bool) → slot.is_followed log ≡ t
-          → Event n (phase.Active a) (with_slot a (slot.transition a.slot (deltas_input log deltas)).state)
-          (flat_map (said deltas.slot a.slot.epoch) (slot.transition a.slot (deltas_input log deltas)).outs)
-      by true is = active_takes n deltas.slot a (deltas_input log deltas) agrees
-          (λ e z there nine. GetsDeltas e z log deltas.first deltas.upto deltas.rows there (let w = within log.0 is in omega arith))
+      joined : (t : Bool) → slot.is_followed log ≡ true → slot.joins_on (applied_of a.slot.applied log.0) deltas.first deltas.upto ≡ t
+          → Made n deltas.slot a (slot.transition a.slot (deltas_input log deltas))
+      joined true of is =
+          let f = followed log.0 of in
+          let nine : length agrees.slot.applied ≡ 9 = ap (λ (s : SlotState). length s.applied) agrees.same ∙ agrees.nine in
+          let joins = subst (λ (applied : List ℕ). slot.joins_on (applied_of applied log.0) deltas.first deltas.upto ≡ true)
+          (sym (ap (λ (s : SlotState). s.applied) agrees.same)) is in
+          active_takes n deltas.slot a (deltas_input log deltas) agrees
+          (GetsDeltas a.slot.epoch agrees.slot log deltas.first deltas.upto deltas.rows agrees.there (let w = f.1 in omega arith) (premise logs f.0)
+          (premise_by logs (λ (owed : DeltasJoin members part n log deltas) latest. owed a.slot.epoch agrees.slot agrees.there latest joins) owed))
+      joined false of is =
+          subst (Made n deltas.slot a)
+          (sym (ap (λ t. cond t (slot.deltas_of a.slot log deltas.first deltas.upto deltas.rows) (still a.slot)) of
+          ∙ ap (λ t. cond t (slot.apply_or_not a.slot log deltas.upto deltas.rows) (slot.told_applied a.slot log)) is))
+          (event_same n (phase.Active a) _ agrees (tt, tt))
+
+      by : (t : Bool) → slot.is_followed log ≡ t → Made n deltas.slot a (slot.transition a.slot (deltas_input log deltas))
+      by true is = joined (slot.joins_on (applied_of a.slot.applied log.0) deltas.first deltas.upto) is refl
       by false is =
-          subst (λ (d : slot.Done). Event n (phase.Active a) (with_slot a d.state) (flat_map (said deltas.slot a.slot.epoch) d.outs))
-          (sym (ap (λ t. cond t (slot.deltas_of a.slot log deltas.first deltas.upto deltas.rows) (still a.slot)) is))
+          subst (Made n deltas.slot a) (sym (ap (λ t. cond t (slot.deltas_of a.slot log deltas.first deltas.upto deltas.rows) (still a.slot)) is))
           (event_same n (phase.Active a) [] agrees tt)
 
   pub slot_deltas : (n : Net) (p : SlotPhase) (log : LogId) (deltas : Deltas) → PhaseAgrees members part n p
-      → Event n p (on_deltas p log deltas).state (on_deltas p log deltas).outs
+      → Premise logs (DeltasJoin members part n log deltas) → Event n p (on_deltas p log deltas).state (on_deltas p log deltas).outs
   unfolding takes
-  slot_deltas n (phase.Active a) log deltas agrees = active_deltas n a log deltas agrees
-  slot_deltas n (phase.Away epoch) log deltas agrees = event_same n (phase.Away epoch) [] agrees tt
-  slot_deltas n (phase.Taking t) log deltas agrees = event_same n (phase.Taking t) [] agrees tt
-  slot_deltas n (phase.Broken epoch seg) log deltas agrees = event_same n (phase.Broken epoch seg) [] agrees tt
+  slot_deltas n (phase.Active a) log deltas agrees owed = active_deltas n a log deltas agrees owed
+  slot_deltas n (phase.Away epoch) log deltas agrees owed = event_same n (phase.Away epoch) [] agrees tt
+  slot_deltas n (phase.Taking t) log deltas agrees owed = event_same n (phase.Taking t) [] agrees tt
+  slot_deltas n (phase.Broken epoch seg) log deltas agrees owed = event_same n (phase.Broken epoch seg) [] agrees tt
 
   pub slot_ticks : (n : Net) (k : ℕ) (p : SlotPhase) → PhaseAgrees members part n p → Event n p (on_tick p k).state (on_tick p k).outs
   slot_ticks n k p agrees = slot_takes n k p input.Tick agrees (λ e z there nine. Ticks e z there)
 
   -- ---- a check, and a count: nothing changes
 
-  pub checks_done : (n : Net) (check : Check) (epoch : ℕ) (outs : List Out) → AllDone members part most life n (flat_map (check_said check epoch) outs)
+  pub checks_done : (n : Net) (check : Check) (epoch : ℕ) (outs : List Out) → AllDone logs members part most life n (flat_map (check_said check epoch) outs)
   unfolding check_said
   checks_done n check epoch [] = tt
   checks_done n check epoch (out.Grant client block stamp inc req mode entry ∷ os) = (tt, checks_done n check epoch os)
@@ -208,14 +227,14 @@ module _ (members part most life : ℕ) where
   check_same (phase.Taking t) check = refl
   check_same (phase.Broken epoch seg) check = refl
 
-  pub check_done : (n : Net) (p : SlotPhase) (check : Check) → AllDone members part most life n (on_check p check).outs
+  pub check_done : (n : Net) (p : SlotPhase) (check : Check) → AllDone logs members part most life n (on_check p check).outs
   unfolding on_check
   check_done n (phase.Active a) check = checks_done n check a.slot.epoch (slot.transition a.slot (check_input check)).outs
   check_done n (phase.Away epoch) check = tt
   check_done n (phase.Taking t) check = tt
   check_done n (phase.Broken epoch seg) check = tt
 
-  pub usage_done : (n : Net) (p : SlotPhase) (asked : UsageAsk) → AllDone members part most life n (on_usage_ask p asked)
+  pub usage_done : (n : Net) (p : SlotPhase) (asked : UsageAsk) → AllDone logs members part most life n (on_usage_ask p asked)
   unfolding on_usage_ask
   usage_done n (phase.Active a) asked = (tt, tt)
   usage_done n (phase.Away epoch) asked = tt
@@ -226,7 +245,7 @@ module _ (members part most life : ℕ) where
 
   pub record Other (n : Net) (k : ℕ) (q : SlotPhase) (outs : List Effect) : Type 0 where
     pub agrees : OtherAgrees k q
-    pub does : AllDone members part most life n outs
+    pub does : AllDone logs members part most life n outs
 
   pub other_takes : (n : Net) (k : ℕ) (p : SlotPhase) (given : Input) → (k ≡ part → ⊥) → IsInputOf k given → OtherAgrees k p
       → Other n k (takes p k given).state (takes p k given).outs

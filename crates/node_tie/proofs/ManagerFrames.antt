@@ -3,6 +3,7 @@ use Rattle.std.proofs.Common.{◌≡◌, ◌≤◌, ℕ, List, refl, ◌∙◌, 
 use Rattle.xfs_base.specs.declared.block.BlockId.{BlockId}
 use Rattle.xfs_base.specs.declared.node.NodeId.{NodeId}
 use Rattle.xfs_base.specs.declared.node.NodeId.TheVariants.{Client, Manager, Server, Cleaner, Registry}
+use Rattle.xfs_base.specs.declared.segment.End.{End}
 use Rattle.xfs_base.specs.declared.token.Mode.{Mode}
 use Rattle.token_law.specs.Net.{Net}
 use Rattle.manager_node.specs.declared.phase.Phase.{Phase}
@@ -16,13 +17,13 @@ up_to : (a b c : ℕ) → a ≤ b → b ≤ c → a ≤ c
 up_to a b c h g = omega arith
 
 module _ (members part : ℕ) (n m : Net) (grows : Grows n m) (promises : n.promised ≤ m.promised) where
-  report_on : (epoch : ℕ) (node : NodeId) (held : List (BlockId × Mode)) → ReportKnown members part n epoch node held
-      → ReportKnown members part m epoch node held
-  report_on epoch (Client c) held known = (known.0, known.1, grows _ known.2)
-  report_on epoch (Manager c) held known = tt
-  report_on epoch (Server c) held known = tt
-  report_on epoch Cleaner held known = up_to epoch n.promised m.promised known promises
-  report_on epoch Registry held known = tt
+  report_on : (epoch : ℕ) (node : NodeId) (held : List (BlockId × Mode)) (end : End) → ReportKnown members part n epoch node held end
+      → ReportKnown members part m epoch node held end
+  report_on epoch (Client c) held end known = (known.0, known.1, grows _ known.2)
+  report_on epoch (Manager c) held end known = tt
+  report_on epoch (Server c) held end known = tt
+  report_on epoch Cleaner held end known = up_to epoch n.promised m.promised known promises
+  report_on epoch Registry held end known = tt
 
   phase_on : (p : SlotPhase) → ((e : ℕ) → HeldAt p e → m.slots e ≡ n.slots e) → PhaseAgrees members part n p → PhaseAgrees members part m p
   phase_on (phase.Taking t) same agrees = record {
@@ -30,7 +31,7 @@ module _ (members part : ℕ) (n m : Net) (grows : Grows n m) (promises : n.prom
     slot = agrees.slot;
     epoch = agrees.epoch;
     clients = agrees.clients;
-    reported = λ r is. report_on t.epoch r.from r.held (agrees.reported r is);
+    reported = λ r is. report_on t.epoch r.from r.held r.end (agrees.reported r is);
     once = agrees.once;
     ready = agrees.ready;
   }

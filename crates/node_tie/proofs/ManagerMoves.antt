@@ -1,5 +1,5 @@
 -- Parts of an event of a manager, one after another: what they make of the small world and of the manager's slot, and what they do.
-use Rattle.std.proofs.Common.{◌≡◌, ℕ, ◌≤◌, ◌<◌, List, [], ◌∷◌, ◌++◌, ◌⊎◌, inl, inr, ⊎_elim, Option, Some, None, refl, sym, ap, subst, ◌∙◌, arith}
+use Rattle.std.proofs.Common.{◌≡◌, ℕ, Bool, ◌≤◌, ◌<◌, List, [], ◌∷◌, ◌++◌, ◌⊎◌, inl, inr, ⊎_elim, Option, Some, None, refl, sym, ap, subst, ◌∙◌, arith}
 use Rattle.std.specs.List.{AllByRecursion}
 use Rattle.node_base.specs.declared.effects.Effect.{Effect}
 use Rattle.node_base.specs.declared.effects.Effect.TheVariants.{Send, Answer, Lose, Does}
@@ -11,16 +11,12 @@ use Rattle.manager_node.specs.Slots.{epoch_of}
 use Rattle.manager_node.specs.declared.slot_phase.SlotPhase.{SlotPhase}
 use Rattle.manager_node.specs.declared.slot_phase.SlotPhase.TheVariants as phase
 use Rattle.token_law.specs.Net.{Net, Packet, Runs}
-use Rattle.token_law.proofs.Promises.{promised_stays}
-use Rattle.token_law.specs.Net.Runs.{Begun, On}
+use Rattle.token_law.specs.Net.Runs.{Begun}
 use Rattle.token_manager.specs.SlotState.{SlotState}
 use Rattle.token_protocol.specs.Basics.{In}
 use Rattle.node_tie.specs.Sight.{ManagerSends, ManagerDoes}
 use Rattle.node_tie.specs.ManagerEvents.{TakingAt, HeldAt}
-
-pub runs_through : {members part : ℕ} (n m o : Net) → Runs members part n m → Runs members part m o → Runs members part n o
-runs_through n m o r Begun = r
-runs_through n m o r (On {m = x} s h) = On (runs_through n m x r s) h
+use Rattle.node_tie.proofs.SmallWorld.{runs_through, promised_stays}
 
 pub in_more : {X : Type 0} (x : X) (xs ys : List X) → In x ys → In x (xs ++ ys)
 in_more x [] ys is = is
@@ -50,7 +46,7 @@ held_is (phase.Broken epoch seg) e h = absurd h
 abbrev pub Grows : Net → Net → Type 0
 Grows n m = (x : Packet) → In x n.sent → In x m.sent
 
-module _ (members part most life : ℕ) where
+module _ (logs : Bool) (members part most life : ℕ) where
   -- an effect that a manager may have, where this was sent
   abbrev pub DoesAt : Net → Effect → Type 0
   DoesAt n e = ManagerDoes part n.sent most life e
@@ -88,9 +84,11 @@ module _ (members part most life : ℕ) where
   -- ---- the slot keeps its epoch
 
   pub record Moves (n m : Net) (p q : SlotPhase) (outs : List Effect) : Type 0 where
-    pub runs : Runs members part n m
+    pub runs : Runs logs members part n m
     pub tokens : m.tokens ≡ n.tokens
     pub up : m.up ≡ n.up
+    pub books : m.books ≡ n.books
+    pub acts : m.acts ≡ n.acts
     pub epoch : epoch_of q ≡ epoch_of p
     pub slots : (e : ℕ) → (HeldAt p e → ⊥) → m.slots e ≡ n.slots e
     pub entered : (e : ℕ) (z : SlotState) → m.slots e ≡ Some z → n.slots e ≡ None → TakingAt p e × (e ≤ n.promised)
@@ -117,6 +115,8 @@ module _ (members part most life : ℕ) where
     runs = Begun;
     tokens = refl;
     up = refl;
+    books = refl;
+    acts = refl;
     epoch = t.epoch;
     slots = λ e other. refl;
     entered = λ e z some none. absurd (clash n n e z refl some none);
@@ -142,6 +142,8 @@ module _ (members part most life : ℕ) where
     runs = runs_through n m o t.runs u.runs;
     tokens = u.tokens ∙ t.tokens;
     up = u.up ∙ t.up;
+    books = u.books ∙ t.books;
+    acts = u.acts ∙ t.acts;
     epoch = u.epoch ∙ t.epoch;
     slots = λ e other. u.slots e (λ h. other (t.held e h)) ∙ t.slots e other;
     entered = λ e z some none. by e z (m.slots e) refl some none;
@@ -152,7 +154,7 @@ module _ (members part most life : ℕ) where
   }
     where
       by : (e : ℕ) (z : SlotState) (o_ : Option SlotState) → m.slots e ≡ o_ → o.slots e ≡ Some z → n.slots e ≡ None → TakingAt p e × (e ≤ n.promised)
-      by e z None is some none = (let h = u.entered e z some is in (t.taking e h.0, subst (λ k. e ≤ k) (promised_stays members part n m t.runs) h.1))
+      by e z None is some none = (let h = u.entered e z some is in (t.taking e h.0, subst (λ k. e ≤ k) (promised_stays logs members part n m t.runs) h.1))
       by e z (Some y) is some none = t.entered e y is none
 
   -- ---- the slot gets a later epoch, where nothing happens in the small world: these epochs are named
@@ -176,9 +178,11 @@ module _ (members part most life : ℕ) where
   -- ---- the slot moves, and then rises
 
   pub record Goes (named : ℕ → Type 0) (n m : Net) (p q : SlotPhase) (outs : List Effect) : Type 0 where
-    pub runs : Runs members part n m
+    pub runs : Runs logs members part n m
     pub tokens : m.tokens ≡ n.tokens
     pub up : m.up ≡ n.up
+    pub books : m.books ≡ n.books
+    pub acts : m.acts ≡ n.acts
     pub rises : epoch_of p ≤ epoch_of q
     pub slots : (e : ℕ) → (HeldAt p e → ⊥) → m.slots e ≡ n.slots e
     pub entered : (e : ℕ) (z : SlotState) → m.slots e ≡ Some z → n.slots e ≡ None → TakingAt p e × (e ≤ n.promised)
@@ -192,6 +196,8 @@ module _ (members part most life : ℕ) where
     runs = t.runs;
     tokens = t.tokens;
     up = t.up;
+    books = t.books;
+    acts = t.acts;
     rises = let a = t.epoch in let b = u.rises in omega arith;
     slots = t.slots;
     entered = t.entered;
@@ -205,6 +211,8 @@ module _ (members part most life : ℕ) where
     runs = t.runs;
     tokens = t.tokens;
     up = t.up;
+    books = t.books;
+    acts = t.acts;
     rises = let a = t.epoch in omega arith;
     slots = t.slots;
     entered = t.entered;
@@ -222,6 +230,8 @@ module _ (members part most life : ℕ) where
     runs = t.runs;
     tokens = t.tokens;
     up = t.up;
+    books = t.books;
+    acts = t.acts;
     rises = let a = t.rises in let b = u.epoch in omega arith;
     slots = t.slots;
     entered = t.entered;

@@ -1,7 +1,7 @@
 -- What a takeover was reported, as the small world has it: once all have reported, the slot becomes active there.
-use Rattle.std.proofs.Common.{◌≡◌, ℕ, ◌+◌, ◌-◌, ◌==◌, ◌≤◌, ◌<◌, true, false, cond, List, [], ◌∷◌, ◌++◌, inl, inr, ⊎_elim, map, Some, None, refl, sym, ap, subst, ◌∙◌, arith}
+use Rattle.std.proofs.Common.{◌≡◌, ℕ, Bool, ◌+◌, ◌-◌, ◌==◌, ◌≤◌, ◌<◌, true, false, cond, List, [], ◌∷◌, ◌++◌, inl, inr, ⊎_elim, map, Some, None, refl, sym, ap, subst, ◌∙◌, arith}
 use Rattle.std.specs.List.{AllByRecursion, Contains, flat_map, range_with_len}
-use Rattle.std.proofs.Common.{append_assoc, append-nil, zero, suc}
+use Rattle.std.proofs.Common.{append_assoc, append-nil, max, zero, suc}
 use Rattle.std.proofs.lemmas.Bool.{eqb-true}
 use Rattle.std.proofs.lemmas.Bool.Decides.{nat_tests}
 use Rattle.std.proofs.lemmas.List.Elements.{All-from_recursion}
@@ -11,18 +11,22 @@ use Rattle.xfs_base.specs.declared.block.BlockId.{BlockId}
 use Rattle.xfs_base.specs.declared.entry.Entry.{Entry}
 use Rattle.xfs_base.specs.declared.node.NodeId.{NodeId}
 use Rattle.xfs_base.specs.declared.node.NodeId.TheVariants.{Client, Manager, Server, Cleaner, Registry}
+use Rattle.xfs_base.specs.declared.segment.End.{End}
 use Rattle.xfs_base.specs.declared.token.Mode.{Mode}
 use Rattle.takeover.specs.declared.report.Report.{Report as Heard}
-use Rattle.takeover.specs.Reports.{same_node, polled, client_after, held_by, beliefs_of}
+use Rattle.takeover.specs.Reports.{applied_of as applied_by, same_node, polled, client_after, end_from, held_by, beliefs_of}
 use Rattle.takeover.specs.TakeState.{TakeState}
 use Rattle.takeover.specs.Transition.{awaited}
-use Rattle.token_law.specs.Net.{Net, Happens}
+use Rattle.token_law.specs.Net.{Net, Happens, IsLatest}
 use Rattle.token_law.specs.Net.Packet.{ReportSent}
 use Rattle.token_law.specs.Net.Happens.{Activates}
+use Rattle.token_law.specs.Owed.{Gathered}
+use Rattle.token_manager.specs.Recalls.{applied_of}
 use Rattle.token_manager.specs.Transition.{started as slot_started}
 use Rattle.token_protocol.specs.Basics.{put, In}
+use Rattle.token_protocol.specs.Premises.{Premise}
 use Rattle.token_tie.specs.Epochs.{reported, all_reported}
-use Rattle.node_tie.specs.ManagerEvents.{ReportKnown}
+use Rattle.node_tie.specs.ManagerEvents.{ReportKnown, ends_of}
 use Rattle.node_tie.proofs.ManagerMoves.{in_front, all_both}
 use Rattle.node_tie.proofs.ManagerTakes.{IsOnce, heard_is, all_heard, same_node_itself, same_node_is}
 
@@ -44,22 +48,25 @@ abbrev rows_of : List Heard → ℕ → List (BlockId × Mode)
 rows_of [] c = []
 rows_of (r ∷ rs) c = cond (same_node r.from (Client c)) r.held (rows_of rs c)
 
-rows_found : (reports : List Heard) (c : ℕ) (r : Heard) → In r reports → r.from ≡ Client c
-    → (q : Heard) × In q reports × (q.from ≡ Client c) × (rows_of reports c ≡ q.held)
-rows_found [] c r is from = absurd is
-rows_found (x ∷ xs) c r is from =
+-- the first report of a client
+abbrev First : List Heard → ℕ → Type 0
+First reports c = (q : Heard) × In q reports × (q.from ≡ Client c) × (rows_of reports c ≡ q.held) × (end_from (Client c) reports ≡ q.end)
+
+first_found : (reports : List Heard) (c : ℕ) (r : Heard) → In r reports → r.from ≡ Client c → First reports c
+first_found [] c r is from = absurd is
+first_found (x ∷ xs) c r is from =
     elim (same_node x.from (Client c)) as (λ t. same_node x.from (Client c) ≡ t → (q : Heard) × In q (x ∷ xs) × (q.from ≡ Client c) ×
-    (cond t x.held (rows_of xs c) ≡ q.held)) [
-      | true ↦ λ same. (x, inl refl, same_node_is x.from (Client c) same, refl)
+    (cond t x.held (rows_of xs c) ≡ q.held) × (cond t x.end (end_from (Client c) xs) ≡ q.end)) [
+      | true ↦ λ same. (x, inl refl, same_node_is x.from (Client c) same, refl, refl)
       | false ↦ λ other.
           let there : In r xs = ⊎_elim (λ same. absurd (contrary
           (sym other ∙ subst (λ k. same_node k (Client c) ≡ true) (sym from ∙ ap (λ (y : Heard). y.from) same) (same_node_itself (Client c)))))
           (λ h. h) is in
-          let rest = rows_found xs c r there from in (rest.0, inr rest.1, rest.2, rest.3)
+          let rest = first_found xs c r there from in (rest.0, inr rest.1, rest.2, rest.3, rest.4)
     ] refl
 
 rows_are : (reports : List Heard) → IsOnce reports → (c : ℕ) (r : Heard) → In r reports → r.from ≡ Client c → rows_of reports c ≡ r.held
-rows_are reports once c r is from = let q = rows_found reports c r is from in q.3 ∙ once q.0 r q.1 is (q.2 ∙ sym from)
+rows_are reports once c r is from = let q = first_found reports c r is from in q.3 ∙ once q.0 r q.1 is (q.2 ∙ sym from)
 
 both_reported : (rows : ℕ → List (BlockId × Mode)) (cs ds : List ℕ) → all_reported rows (cs ++ ds) ≡ all_reported rows cs ++ all_reported rows ds
 both_reported rows [] ds = refl
@@ -117,48 +124,71 @@ cleaner_polled clients = behind (map client_after (range_with_len 0 clients))
     behind [] = inl refl
     behind (x ∷ nodes) = inr (behind nodes)
 
+first_of : (a b : ℕ) → a ≤ max a b
+first_of a b = omega arith
+
+-- a new manager has each log of a client applied up to its reported end at least
+pub ends_applied : (horizon : List ℕ) (reports : List Heard) (c : ℕ) → 0 < c → c < 9 → ends_of reports c ≤ applied_of (applied_by horizon reports) c
+unfolding applied_by
+ends_applied horizon reports zero pos less = absurd (omega arith)
+ends_applied horizon reports (suc zero) pos less = first_of _ _
+ends_applied horizon reports (suc (suc zero)) pos less = first_of _ _
+ends_applied horizon reports (suc (suc (suc zero))) pos less = first_of _ _
+ends_applied horizon reports (suc (suc (suc (suc zero)))) pos less = first_of _ _
+ends_applied horizon reports (suc (suc (suc (suc (suc zero))))) pos less = first_of _ _
+ends_applied horizon reports (suc (suc (suc (suc (suc (suc zero)))))) pos less = first_of _ _
+ends_applied horizon reports (suc (suc (suc (suc (suc (suc (suc zero))))))) pos less = first_of _ _
+ends_applied horizon reports (suc (suc (suc (suc (suc (suc (suc (suc zero)))))))) pos less = first_of _ _
+ends_applied horizon reports (suc (suc (suc (suc (suc (suc (suc (suc (suc c))))))))) pos less = absurd (omega arith)
+
 module _ (members part : ℕ) (n : Net) where
   -- once all have reported, the cleaner has promised the epoch
-  pub cleaner_promised : (s : TakeState) (e : ℕ) → awaited s ≡ [] → ((r : Heard) → In r s.reports → ReportKnown members part n e r.from r.held) → e ≤ n.promised
+  pub cleaner_promised : (s : TakeState) (e : ℕ) → awaited s ≡ [] → ((r : Heard) → In r s.reports → ReportKnown members part n e r.from r.held r.end) → e ≤ n.promised
   cleaner_promised s e none known =
       let r = heard_is s.reports Cleaner (all_heard s.reports (polled s.clients) Cleaner none (cleaner_polled s.clients)) in
-      subst (λ node. ReportKnown members part n e node r.0.held) r.2 (known r.0 r.1)
+      subst (λ node. ReportKnown members part n e node r.0.held r.0.end) r.2 (known r.0 r.1)
 
   abbrev IsClient : ℕ → Type 0
   IsClient c = (0 < c) × (c < members)
 
-  are_clients : (e : ℕ) (reports : List Heard) → ((r : Heard) → In r reports → ReportKnown members part n e r.from r.held)
+  are_clients : (e : ℕ) (reports : List Heard) → ((r : Heard) → In r reports → ReportKnown members part n e r.from r.held r.end)
       → AllByRecursion IsClient (order_of reports)
   are_clients e [] known = tt
-  are_clients e (r ∷ rs) known = all_both IsClient (client_of r.from) (order_of rs) (one r.from r.held (known r (inl refl)))
+  are_clients e (r ∷ rs) known = all_both IsClient (client_of r.from) (order_of rs) (one r.from r.held r.end (known r (inl refl)))
       (are_clients e rs (λ q is. known q (inr is)))
     where
-      one : (node : NodeId) (held : List (BlockId × Mode)) → ReportKnown members part n e node held → AllByRecursion IsClient (client_of node)
-      one (Client c) held k = ((k.0, k.1), tt)
-      one (Manager c) held k = tt
-      one (Server c) held k = tt
-      one Cleaner held k = tt
-      one Registry held k = tt
+      one : (node : NodeId) (held : List (BlockId × Mode)) (end : End) → ReportKnown members part n e node held end → AllByRecursion IsClient (client_of node)
+      one (Client c) held end k = ((k.0, k.1), tt)
+      one (Manager c) held end k = tt
+      one (Server c) held end k = tt
+      one Cleaner held end k = tt
+      one Registry held end k = tt
 
-  known_at : (e c : ℕ) (node : NodeId) (held : List (BlockId × Mode)) → node ≡ Client c → ReportKnown members part n e node held
-      → In (ReportSent c e held) n.sent
-  known_at e c node held is known = (subst (λ k. ReportKnown members part n e k held) is known).2
+  known_at : (e c : ℕ) (node : NodeId) (held : List (BlockId × Mode)) (end : End) → node ≡ Client c → ReportKnown members part n e node held end
+      → In (ReportSent c e held end.seq) n.sent
+  known_at e c node held end is known = (subst (λ k. ReportKnown members part n e k held end) is known).2
 
   -- once all have reported, the slot becomes active in the small world
-  pub activates : (s : TakeState) (e : ℕ) (index : List (BlockId × Entry)) (applied : List ℕ) → n.slots e ≡ None → s.clients + 1 ≡ members → awaited s ≡ []
+  pub activates : (logs : Bool) (s : TakeState) (e : ℕ) (index : List (BlockId × Entry)) (applied : List ℕ) → n.slots e ≡ None → s.clients + 1 ≡ members → awaited s ≡ []
       → IsOnce s.reports
-      → ((r : Heard) → In r s.reports → ReportKnown members part n e r.from r.held)
-      → Happens members part n (record n { slots = put n.slots e (Some (slot_started e index (beliefs_of s.reports) applied)) })
-  activates s e index applied free clients none once known =
+      → ((r : Heard) → In r s.reports → ReportKnown members part n e r.from r.held r.end)
+      → Premise logs (IsLatest n e → Gathered members part n.books index applied (ends_of s.reports))
+      → Happens logs members part n (record n { slots = put n.slots e (Some (slot_started e index (beliefs_of s.reports) applied)) })
+  activates logs s e index applied free clients none once known gathered =
       let rows = rows_of s.reports in
       let order = order_of s.reports in
-      subst (λ beliefs. Happens members part n (record n { slots = put n.slots e (Some (slot_started e index beliefs applied)) }))
+      subst (λ beliefs. Happens logs members part n (record n { slots = put n.slots e (Some (slot_started e index beliefs applied)) }))
       (sym (beliefs_are rows s.reports (rows_are s.reports once)))
-      (Activates e index applied rows order free
+      (Activates e index applied rows (ends_of s.reports) order free
       (λ c pos less. let r = heard_of c pos less in in_order s.reports c r.0 r.1 r.2)
       (All-from_recursion IsClient order (are_clients e s.reports known))
-      (λ c pos less. let r = heard_of c pos less in
-      subst (λ held. In (ReportSent c e held) n.sent) (sym (rows_are s.reports once c r.0 r.1 r.2)) (known_at e c r.0.from r.0.held r.2 (known r.0 r.1))))
+      (λ c pos less. let r = heard_of c pos less in named c (first_found s.reports c r.0 r.1 r.2))
+      gathered)
     where
+      named : (c : ℕ) → First s.reports c → In (ReportSent c e (rows_of s.reports c) (ends_of s.reports c)) n.sent
+      named c q =
+          subst (λ (held : List (BlockId × Mode)). In (ReportSent c e held (ends_of s.reports c)) n.sent) (sym q.3)
+          (subst (λ (end : End). In (ReportSent c e q.0.held end.seq) n.sent) (sym q.4) (known_at e c q.0.from q.0.held q.0.end q.2 (known q.0 q.1)))
+
       heard_of : (c : ℕ) → 0 < c → c < members → (r : Heard) × In r s.reports × (r.from ≡ Client c)
       heard_of c pos less = heard_is s.reports (Client c) (all_heard s.reports (polled s.clients) (Client c) none (is_polled s.clients c pos (omega arith)))

@@ -73,7 +73,7 @@ pub record Goes (of : SlotNews) (many : ℕ) (kept : List Report) (d : Done) : T
   pub ready : IsReady d.state
   pub said : ArePlain d.outs ⊎ Hands d.state d.outs
 
-fetches_plain : (name : SegName) (ask : ℕ) (servers : List ℕ) → ArePlain (fetches name ask servers)
+pub fetches_plain : (name : SegName) (ask : ℕ) (servers : List ℕ) → ArePlain (fetches name ask servers)
 fetches_plain name ask [] = tt
 fetches_plain name ask (v ∷ vs) = (tt, fetches_plain name ask vs)
 

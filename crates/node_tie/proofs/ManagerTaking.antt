@@ -1,5 +1,5 @@
 -- What a takeover makes of its inputs in the small world: nothing, or in the end that the slot is active there.
-use Rattle.std.proofs.Common.{◌≡◌, ℕ, ◌+◌, ◌==◌, ◌≤◌, ◌<◌, nat_lt, Bool, true, false, List, [], ◌∷◌, inr, ⊎_elim, filter, Some, None, refl, sym, ap, subst, ◌∙◌, arith}
+use Rattle.std.proofs.Common.{◌≡◌, ℕ, ◌+◌, ◌==◌, ◌≤◌, ◌<◌, nat_lt, Bool, true, false, List, [], ◌∷◌, inl, inr, ⊎_elim, filter, Some, None, refl, sym, ap, subst, ◌∙◌, arith}
 use Rattle.std.proofs.lemmas.Bool.{eqb-true}
 use Rattle.std.proofs.lemmas.Bool.Decides.{nat_tests}
 use Rattle.std.proofs.lemmas.List.Elements.{All-nil}
@@ -31,6 +31,7 @@ use Rattle.token_manager.specs.SlotState.{SlotState}
 use Rattle.token_manager.specs.Transition.{started as slot_started}
 use Rattle.token_manager.specs.declared.job.Job.{Job}
 use Rattle.token_protocol.specs.Basics.{put, In}
+use Rattle.token_protocol.specs.Premises.{Premise}
 use Rattle.token_protocol.proofs.Refining.{put_each}
 use Rattle.wire_msg.specs.declared.deltas.Report.{Report}
 use Rattle.manager_node.specs.declared.slot_phase.SlotPhase.{SlotPhase}
@@ -39,9 +40,11 @@ use Rattle.manager_node.specs.declared.slot_phase.Taking.{Taking}
 use Rattle.manager_node.specs.Slots.{epoch_of}
 use Rattle.manager_node.specs.SlotTable.{Hearer, hears_of}
 use Rattle.manager_node.specs.Takeovers.{Asker, asker, Done, fetches, says, says_each, heard, takes, is_wanted, asks_again, report_input, on_report, phase_of}
-use Rattle.node_tie.specs.ManagerEvents.{HeldAt, ReportKnown, TakingAgrees, PhaseAgrees, OtherAgrees, ReportGets, NewsGets}
+use Rattle.node_tie.specs.ManagerEvents.{HeldAt, ReportKnown, TakingAgrees, PhaseAgrees, OtherAgrees, ReportGets, NewsGets, HasGathered, Completes, TakeoverGets, LastReportGets}
+use Rattle.node_tie.proofs.SmallWorld.{premise, premise_by}
 use Rattle.node_tie.proofs.ManagerActive.{put_here, put_there, some_none, Event, event_staying, event_same, Other}
 use Rattle.node_tie.proofs.ManagerMoves.{held_is, DoesAt, Stays, Rises, stays_same, stays_then, rises_of, all_both}
+use Rattle.node_tie.proofs.ManagerPlain.{plain_hands_nothing, maps_said}
 use Rattle.node_tie.proofs.ManagerReports.{activates, cleaner_promised}
 use Rattle.node_tie.proofs.ManagerTakes.{IsPlain, ArePlain, Hands, Brings, took, tick_said, kept_plain}
 
@@ -50,7 +53,7 @@ pub record Lasts (A : SlotPhase → Type 0) : Type 0 where
   pub asked : (t : Taking) (f : Asked) → A (phase.Taking t) → A (phase.Taking (record t { fetches = f }))
   pub broken : (e : ℕ) (seg : SegName) → A (phase.Broken e seg)
 
-module _ (members part most life : ℕ) where
+module _ (logs : Bool) (members part most life : ℕ) where
   pub phases_last : (n : Net) → Lasts (PhaseAgrees members part n)
   phases_last n = record {
     asked = λ t f h. record { free = h.free; slot = h.slot; epoch = h.epoch; clients = h.clients; reported = h.reported; once = h.once; ready = h.ready };
@@ -64,7 +67,7 @@ module _ (members part most life : ℕ) where
 
   pub record Quiet (A : SlotPhase → Type 0) (n : Net) (p : SlotPhase) (d : Done) : Type 0 where
     pub agrees : A d.state.phase
-    pub stays : Stays members part most life n p d.state.phase d.outs
+    pub stays : Stays logs members part most life n p d.state.phase d.outs
 
   -- its polls name an epoch that is within the bound
   abbrev pub IsLow : ℕ → SlotPhase → Type 0
@@ -72,7 +75,7 @@ module _ (members part most life : ℕ) where
 
   module _ (A : SlotPhase → Type 0) (lasts : Lasts A) (n : Net) (k : ℕ) where
     quiet_still : (a : Asker) → A a.phase → Quiet A n a.phase (still a)
-    quiet_still a agrees = record { agrees = agrees; stays = stays_same members part most life n a.phase [] tt }
+    quiet_still a agrees = record { agrees = agrees; stays = stays_same logs members part most life n a.phase [] tt }
 
     quiet_fetches : (p : SlotPhase) (q : Questions) (server : ℕ) (name : SegName) (own : ℕ) → A p → Quiet A n p (fetches p q server name own)
     quiet_fetches (phase.Taking t) q server name own agrees =
@@ -83,7 +86,7 @@ module _ (members part most life : ℕ) where
 
     quiet_says : (a : Asker) (o : Out) → IsPlain o → A a.phase → IsLow k a.phase → Quiet A n a.phase (says k a o)
     unfolding says
-    quiet_says a (out.Poll to) plain agrees low = record { agrees = agrees; stays = stays_same members part most life n a.phase _ (low, tt) }
+    quiet_says a (out.Poll to) plain agrees low = record { agrees = agrees; stays = stays_same logs members part most life n a.phase _ (low, tt) }
     quiet_says a (out.Fetch server name own) plain agrees low = quiet_fetches a.phase a.questions server name own agrees
     quiet_says a (out.Active epoch index beliefs applied) plain agrees low = absurd plain
     quiet_says a (out.Lost seg) plain agrees low = record {
@@ -98,7 +101,7 @@ module _ (members part most life : ℕ) where
     quiet_each a (o ∷ os) plain agrees low =
         let one = quiet_says a o plain.0 agrees low in
         let rest = quiet_each (says k a o).state os plain.1 one.agrees (λ same. let l = low same in let e = one.stays.epoch in omega arith) in
-        record { agrees = rest.agrees; stays = stays_then members part most life n a.phase (says k a o).state.phase _ (says k a o).outs _ one.stays rest.stays }
+        record { agrees = rest.agrees; stays = stays_then logs members part most life n a.phase (says k a o).state.phase _ (says k a o).outs _ one.stays rest.stays }
 
     -- time alone says nothing else
     pub quiet_ticks : (p : SlotPhase) (q : Questions) → A p → IsLow k p → Quiet A n p (takes (asker p q) k input.Tick)
@@ -119,16 +122,16 @@ module _ (members part most life : ℕ) where
   -- ---- any input, of the slot
 
   abbrev pub AskEvent : Net → SlotPhase → Done → Type 0
-  AskEvent n p d = Event members part most life n p d.state.phase d.outs
+  AskEvent n p d = Event logs members part most life n p d.state.phase d.outs
 
   event_of : (n : Net) (p : SlotPhase) (d : Done) → Quiet (PhaseAgrees members part n) n p d → AskEvent n p d
-  event_of n p d t = event_staying members part most life n p d.state.phase d.outs t.stays t.agrees
+  event_of n p d t = event_staying logs members part most life n p d.state.phase d.outs t.stays t.agrees
 
   -- the takeover hands the slot out
   handed : (n : Net) (t : Taking) (q : Questions) (k : ℕ) (index : List (BlockId × Entry)) → TakingAgrees members part n t
-      → Hands t.take (active t.take index ∷ []) → AskEvent n (phase.Taking t) (says_each k (asker (phase.Taking t) q) (active t.take index ∷ []))
+      → Hands t.take (active t.take index ∷ []) → Premise logs (HasGathered members part n t.take index) → AskEvent n (phase.Taking t) (says_each k (asker (phase.Taking t) q) (active t.take index ∷ []))
   unfolding says_each says applied_of
-  handed n t q k index agrees hands =
+  handed n t q k index agrees hands gathered =
       let e = t.take.news.epoch in
       let of : e ≡ t.epoch = agrees.epoch in
       let applied = applied_of t.take.news.horizon t.take.reports in
@@ -137,10 +140,12 @@ module _ (members part most life : ℕ) where
       record {
         next = next;
         moves = record {
-          runs = On Begun (activates members part n t.take e index applied (ap n.slots of ∙ agrees.free) agrees.clients hands.reported agrees.once
-              (λ r is. subst (λ x. ReportKnown members part n x r.from r.held) (sym of) (agrees.reported r is)));
+          runs = On Begun (activates members part n logs t.take e index applied (ap n.slots of ∙ agrees.free) agrees.clients hands.reported agrees.once
+              (λ r is. subst (λ x. ReportKnown members part n x r.from r.held r.end) (sym of) (agrees.reported r is)) gathered);
           tokens = refl;
           up = refl;
+          books = refl;
+          acts = refl;
           epoch = of;
           slots = λ k other. put_there n.slots e (Some z) k (λ same. other (sym (same ∙ of)));
           entered = put_each (λ k o. (y : SlotState) → o ≡ Some y → n.slots k ≡ None → (t.epoch ≡ k) × (k ≤ n.promised)) n.slots e (Some z)
@@ -155,7 +160,7 @@ module _ (members part most life : ℕ) where
       }
 
   taken_on : (n : Net) (t : Taking) (given : Input) → TakingAgrees members part n t
-      → ((r : Heard) → Brings given r → ReportKnown members part n t.epoch r.from r.held)
+      → ((r : Heard) → Brings given r → ReportKnown members part n t.epoch r.from r.held r.end)
       → TakingAgrees members part n (record t { take = (transition t.take given).state })
   taken_on n t given agrees known =
       let h = took t.take given agrees.ready agrees.once in
@@ -171,13 +176,15 @@ module _ (members part most life : ℕ) where
 
   -- what a takeover has taken doesn't count
   from_taking : (n : Net) (t : Taking) (take : TakeState) (r : SlotPhase) (outs : List Effect)
-      → Event members part most life n (phase.Taking (record t { take = take })) r outs → Event members part most life n (phase.Taking t) r outs
+      → Event logs members part most life n (phase.Taking (record t { take = take })) r outs → Event logs members part most life n (phase.Taking t) r outs
   from_taking n t take r outs h = record {
     next = h.next;
     moves = record {
       runs = h.moves.runs;
       tokens = h.moves.tokens;
       up = h.moves.up;
+      books = h.moves.books;
+      acts = h.moves.acts;
       epoch = h.moves.epoch;
       slots = h.moves.slots;
       entered = h.moves.entered;
@@ -190,16 +197,16 @@ module _ (members part most life : ℕ) where
   }
 
   pub slot_hears : (n : Net) (k : ℕ) (p : SlotPhase) (q : Questions) (given : Input) → PhaseAgrees members part n p → IsLow k p
-      → ((r : Heard) → Brings given r → ReportKnown members part n (epoch_of p) r.from r.held)
+      → ((r : Heard) → Brings given r → ReportKnown members part n (epoch_of p) r.from r.held r.end) → TakeoverGets logs members part n p given
       → AskEvent n p (takes (asker p q) k given)
   unfolding takes heard
-  slot_hears n k (phase.Away epoch) q given agrees low known = event_of n (phase.Away epoch) _
+  slot_hears n k (phase.Away epoch) q given agrees low known owed = event_of n (phase.Away epoch) _
       (quiet_each (PhaseAgrees members part n) (phases_last n) n k (asker (phase.Away epoch) q) [] tt agrees low)
-  slot_hears n k (phase.Active a) q given agrees low known = event_of n (phase.Active a) _
+  slot_hears n k (phase.Active a) q given agrees low known owed = event_of n (phase.Active a) _
       (quiet_each (PhaseAgrees members part n) (phases_last n) n k (asker (phase.Active a) q) [] tt agrees low)
-  slot_hears n k (phase.Broken epoch seg) q given agrees low known = event_of n (phase.Broken epoch seg) _
+  slot_hears n k (phase.Broken epoch seg) q given agrees low known owed = event_of n (phase.Broken epoch seg) _
       (quiet_each (PhaseAgrees members part n) (phases_last n) n k (asker (phase.Broken epoch seg) q) [] tt agrees low)
-  slot_hears n k (phase.Taking t) q given agrees low known =
+  slot_hears n k (phase.Taking t) q given agrees low known owed =
       let u : Taking = record t { take = (transition t.take given).state } in
       let on = taken_on n t given agrees known in
       ⊎_elim
@@ -207,33 +214,44 @@ module _ (members part most life : ℕ) where
       (let d = quiet_each (PhaseAgrees members part n) (phases_last n) n k (asker (phase.Taking u) q) (transition t.take given).outs plain on low in
       record { agrees = d.agrees; stays = record { epoch = d.stays.epoch; taking = d.stays.taking; held = d.stays.held; does = d.stays.does } }))
       (λ hands. subst (λ os. AskEvent n (phase.Taking t) (says_each k (asker (phase.Taking u) q) os)) (sym hands.is)
-      (from_taking n t u.take _ _ (handed n u q k hands.index on (record { index = hands.index; is = refl; reported = hands.reported }))))
+      (from_taking n t u.take _ _ (handed n u q k hands.index on (record { index = hands.index; is = refl; reported = hands.reported })
+      (premise_by logs (λ (owed : Completes members part n t.take given). owed hands.index (subst (In _) (sym hands.is) (inl refl))) owed))))
       (took t.take given agrees.ready agrees.once).said
 
   -- a report, where it is of the slot
   pub slot_reports : (n : Net) (p : SlotPhase) (q : Questions) (from : NodeId) (report : Report) → PhaseAgrees members part n p → epoch_of p ≤ most
-      → report.slot ≡ part → ReportGets part n members from report → AskEvent n p (on_report (asker p q) from report)
-  slot_reports n p q from report agrees low of gets =
+      → report.slot ≡ part → ReportGets part n members from report → LastReportGets logs members part n p from report
+      → AskEvent n p (on_report (asker p q) from report)
+  slot_reports n p q from report agrees low of gets owed =
       by_test (AskEvent n p) (report.epoch == epoch_of p) (takes (asker p q) report.slot (report_input from report)) (still (asker p q))
       (λ same. slot_hears n report.slot p q (report_input from report) agrees (λ _. low)
-      (λ r is. known from gets (eqb-true report.epoch (epoch_of p) same) r is))
-      (λ _. event_same members part most life n p [] agrees tt)
+      (λ r is. known from gets (eqb-true report.epoch (epoch_of p) same) r is) (owed of (eqb-true report.epoch (epoch_of p) same)))
+      (λ _. event_same logs members part most life n p [] agrees tt)
     where
-      of_node : (node : NodeId) → ReportGets part n members node report → report.epoch ≡ epoch_of p → ReportKnown members part n (epoch_of p) node report.held
-      of_node (Client c) g same = (g.0, g.1, subst (λ e. In (ReportSent c e report.held) n.sent) same (g.2 of))
+      of_node : (node : NodeId) → ReportGets part n members node report → report.epoch ≡ epoch_of p
+          → ReportKnown members part n (epoch_of p) node report.held report.end
+      of_node (Client c) g same = (g.0, g.1, subst (λ e. In (ReportSent c e report.held report.end.seq) n.sent) same (g.2 of))
       of_node (Manager c) g same = tt
       of_node (Server c) g same = tt
       of_node Cleaner g same = subst (λ e. e ≤ n.promised) same (g of)
       of_node Registry g same = tt
 
       known : (node : NodeId) → ReportGets part n members node report → report.epoch ≡ epoch_of p → (r : Heard)
-          → r ≡ record { from = node; held = report.held; end = report.end } → ReportKnown members part n (epoch_of p) r.from r.held
-      known node g same r is = subst (λ (x : Heard). ReportKnown members part n (epoch_of p) x.from x.held) (sym is) (of_node node g same)
+          → r ≡ record { from = node; held = report.held; end = report.end } → ReportKnown members part n (epoch_of p) r.from r.held r.end
+      known node g same r is = subst (λ (x : Heard). ReportKnown members part n (epoch_of p) x.from x.held x.end) (sym is) (of_node node g same)
+
+  -- newer groups complete no takeover
+  pub maps_owed : (n : Net) (p : SlotPhase) (groups : GroupMapState) → TakeoverGets logs members part n p (input.Maps groups)
+  maps_owed n (phase.Taking t) groups = premise logs
+      (λ index is _. absurd (plain_hands_nothing (transition t.take (input.Maps groups)).outs (maps_said t.take groups) _ _ _ _ is))
+  maps_owed n (phase.Active a) groups = tt
+  maps_owed n (phase.Away epoch) groups = tt
+  maps_owed n (phase.Broken epoch seg) groups = tt
 
   -- ---- any input, of another slot
 
   pub other_says : (n : Net) (k : ℕ) (a : Asker) (o : Out) → (k ≡ part → ⊥) → OtherAgrees k a.phase
-      → Other members part most life n k (says k a o).state.phase (says k a o).outs
+      → Other logs members part most life n k (says k a o).state.phase (says k a o).outs
   unfolding says
   other_says n k a (out.Poll to) other agrees = record { agrees = agrees; does = (λ same. absurd (other same), tt) }
   other_says n k a (out.Fetch server name own) other agrees = let d = quiet_fetches (OtherAgrees k)
@@ -243,16 +261,16 @@ module _ (members part most life : ℕ) where
   other_says n k a (out.Lost seg) other agrees = record { agrees = tt; does = (tt, tt) }
 
   other_each : (n : Net) (k : ℕ) (a : Asker) (outs : List Out) → (k ≡ part → ⊥) → OtherAgrees k a.phase
-      → Other members part most life n k (says_each k a outs).state.phase (says_each k a outs).outs
+      → Other logs members part most life n k (says_each k a outs).state.phase (says_each k a outs).outs
   unfolding says_each
   other_each n k a [] other agrees = record { agrees = agrees; does = tt }
   other_each n k a (o ∷ os) other agrees =
       let one = other_says n k a o other agrees in
       let rest = other_each n k (says k a o).state os other one.agrees in
-      record { agrees = rest.agrees; does = all_both (DoesAt members part most life n) (says k a o).outs _ one.does rest.does }
+      record { agrees = rest.agrees; does = all_both (DoesAt logs members part most life n) (says k a o).outs _ one.does rest.does }
 
   abbrev pub OtherAsks : Net → ℕ → Done → Type 0
-  OtherAsks n k d = Other members part most life n k d.state.phase d.outs
+  OtherAsks n k d = Other logs members part most life n k d.state.phase d.outs
 
   other_heard : (k : ℕ) (p : SlotPhase) (given : Input) → OtherAgrees k p → OtherAgrees k (heard p given).state
   unfolding heard
@@ -280,7 +298,7 @@ module _ (members part most life : ℕ) where
   -- ---- news of the slot, and of another
 
   pub record Rose (named : ℕ → Type 0) (n : Net) (p : SlotPhase) (news : SlotNews) (d : Done) : Type 0 where
-    pub rises : Rises members part most life named n p d.state.phase d.outs
+    pub rises : Rises logs members part most life named n p d.state.phase d.outs
     pub agrees : PhaseAgrees members part n d.state.phase
     pub within : epoch_of d.state.phase ≤ most
     pub above : news.epoch ≤ epoch_of d.state.phase
@@ -337,8 +355,8 @@ module _ (members part most life : ℕ) where
         above = omega arith;
       })
       (λ no. record {
-        rises = rises_of members part most life named n one.phase one.phase []
-            (stays_same members part most life n one.phase [] tt);
+        rises = rises_of logs members part most life named n one.phase one.phase []
+            (stays_same logs members part most life n one.phase [] tt);
         agrees = agrees;
         within = low;
         above = not_less (epoch_of one.phase) news.epoch no;

@@ -34,7 +34,7 @@ use Rattle.xfs_base.specs.Steps.{still}
 use Rattle.node_tie.specs.RegistryEvents.{manager_in, inc_in, RegistrySound, HearsHello, RegistrySends, RegistryDoes, BoardGoes, RegistryGoes, RegistryBegins}
 use Rattle.node_tie.proofs.RegistryBoard.{goes_still, goes_manager, manager_heard, goes_server, goes_reassigned, goes_done}
 use Rattle.node_tie.proofs.RegistryNews.{news_are}
-use Rattle.node_tie.proofs.StoreFrames.{all_append, all_map, all_flat_map, none_falls, packets_do, packets_from}
+use Rattle.node_tie.proofs.StoreFrames.{all_append, all_map, all_flat_map, all_neutral, packets_do, packets_from}
 
 -- the incarnations that the event has managers tell of
 abbrev ToldIn : Do → ℕ → ℕ → Type 0
@@ -190,7 +190,7 @@ module _ (part : ℕ) (below : part < 8) (r : RegistryNode) (sound : RegistrySou
         sends =
             packets_do (λ (p : Packet). RegistrySends part what next p.to p.body) (RegistryDoes part what next) Registry (λ to said does. does)
             (takes r what).outs goes.does;
-        acts = none_falls (RegistryDoes part what next) Registry (λ act is. is) (takes r what).outs goes.does;
+        acts = all_neutral (RegistryDoes part what next) Registry (λ act is. is) (takes r what).outs goes.does;
       }
 
 -- ---- the start

@@ -6,6 +6,7 @@ use Rattle.node_base.specs.declared.effects.Effect.{Effect}
 use Rattle.node_base.specs.declared.effects.Effect.TheVariants.{Send, Answer, Lose, Does}
 use Rattle.node_base.specs.Beginning.{answers_unanswered}
 use Rattle.node_base.specs.Effects.{act_of, acts_of, packet_of, packets_of, sends_to}
+use Rattle.token_law.specs.Owed.{IsNeutral}
 use Rattle.version_model.specs.declared.act.Act.{Act}
 use Rattle.version_model.specs.declared.act.Act.TheVariants.{Answered as DoesAnswer, Lost as DoesLose}
 use Rattle.version_model.specs.declared.answer.Answer.{Answer as Answered}
@@ -14,8 +15,7 @@ use Rattle.wire_msg.specs.declared.packet.Packet.{Packet}
 use Rattle.xfs_base.specs.declared.node.NodeId.{NodeId}
 use Rattle.xfs_base.specs.declared.segment.SegName.{SegName}
 use Rattle.xfs_base.specs.Steps.{Stepped, steps}
-use Rattle.node_tie.specs.Sight.{IsNoFall}
-use Rattle.node_tie.specs.StoreEvents.{NoneFalls, Says, AllSay, PacketsSay}
+use Rattle.node_tie.specs.StoreEvents.{AllNeutral, Says, AllSay, PacketsSay}
 
 -- ---- lists
 
@@ -83,17 +83,17 @@ packets_from node effects = packets_do (λ (p : Packet). p.from ≡ node) (λ (e
 
 -- what holds of the effects holds of their acts
 module _ (P : Act → Type 0) (D : Effect → Type 0) (node : NodeId) (answers : (item : ℕ) (answer : Answered) → P (DoesAnswer node item answer))
-    (loses : (seg : SegName) → P (DoesLose node seg)) (each : (act : Act) → D (Does act) → P act) where
+    (loses : (seg : SegName) → P (DoesLose node seg)) (each : (a : Act) → D (Does a) → P a) where
   one_act_is : (effect : Effect) → D effect → All P (act_of node effect)
   one_act_is (Send to said) does = All-nil P
   one_act_is (Answer item answer) does = All-cons P (DoesAnswer node item answer) [] (answers item answer) (All-nil P)
   one_act_is (Lose seg) does = All-cons P (DoesLose node seg) [] (loses seg) (All-nil P)
-  one_act_is (Does act) does = All-cons P act [] (each act does) (All-nil P)
+  one_act_is (Does a) does = All-cons P a [] (each a does) (All-nil P)
 
   pub acts_are : (effects : List Effect) → AllByRecursion D effects → All P (acts_of node effects)
   acts_are [] all = All-nil P
   acts_are (e ∷ es) all = All-append P (act_of node e) (acts_of node es) (one_act_is e all.0) (acts_are es all.1)
 
--- no act is a fall where no effect is
-pub none_falls : (D : Effect → Type 0) (node : NodeId) → ((act : Act) → D (Does act) → IsNoFall act) → (effects : List Effect) → AllByRecursion D effects → NoneFalls (acts_of node effects)
-none_falls D node each effects all = acts_are IsNoFall D node (λ item answer. tt) (λ seg. tt) each effects all
+-- no act changes a history where no effect does
+pub all_neutral : (D : Effect → Type 0) (node : NodeId) → ((a : Act) → D (Does a) → IsNeutral a) → (effects : List Effect) → AllByRecursion D effects → AllNeutral (acts_of node effects)
+all_neutral D node each effects all = acts_are IsNeutral D node (λ item answer. tt) (λ seg. tt) each effects all

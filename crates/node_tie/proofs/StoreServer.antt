@@ -44,8 +44,8 @@ use Rattle.xfs_base.specs.declared.segment.SegName.{SegName}
 use Rattle.xfs_base.specs.Segments.{pass_cmp}
 use Rattle.xfs_base.specs.Steps.{still}
 use Rattle.node_tie.specs.Sight.{ServerSends}
-use Rattle.node_tie.specs.StoreEvents.{NoneFalls, Says, AllSay, PacketsSay}
-use Rattle.node_tie.proofs.StoreFrames.{all_append, all_steps, answers_say, none_falls, packets_say, packets_from}
+use Rattle.node_tie.specs.StoreEvents.{AllNeutral, Says, AllSay, PacketsSay}
+use Rattle.node_tie.proofs.StoreFrames.{all_append, all_steps, answers_say, all_neutral, packets_say, packets_from}
 
 -- each effect of the step is no packet, or one that a server sends
 abbrev ServerDoes : Done → Type 0
@@ -229,10 +229,10 @@ taken_so : (node : Node) (what : Do) → ServerDoes (takes node what)
 taken_so node what = by_test ServerDoes (is_far_from_ends node) (on_event node what) (still node) (λ t. happens node what) (λ t. tt)
 
 -- whatever happens to a server, its packets are such as servers send
-pub server_sends : (node : Node) (what : Do) → PacketsSay ServerSends (server_step node what).packets × NoneFalls (server_step node what).acts
+pub server_sends : (node : Node) (what : Do) → PacketsSay ServerSends (server_step node what).packets × AllNeutral (server_step node what).acts
 server_sends node what = (
   packets_say ServerSends (Server node.number) (takes node what).outs (taken_so node what),
-  none_falls (Says ServerSends) (Server node.number) (λ act is. is) (takes node what).outs (taken_so node what),
+  all_neutral (Says ServerSends) (Server node.number) (λ act is. is) (takes node what).outs (taken_so node what),
 )
 
 pub server_from : (node : Node) (what : Do) → All (λ (p : Packet). p.from ≡ Server node.number) (server_step node what).packets

@@ -1,5 +1,5 @@
 -- What an event makes of what the cleaner has promised of one slot of the map.
-use Rattle.std.specs.Prelude.{◌≡◌, ◌⊎◌, ◌<◌, ◌≤◌, ℕ, List, All, length}
+use Rattle.std.specs.Prelude.{◌≡◌, ◌⊎◌, ◌<◌, ◌≤◌, ℕ, Bool, List, All, length}
 use Rattle.log_owner.specs.declared.opening.Opening as openings
 use Rattle.log_owner.specs.declared.promised.Promised.{Promised}
 use Rattle.node_base.specs.declared.effects.Effect.{Effect}
@@ -11,6 +11,10 @@ use Rattle.cleaner_node.specs.declared.cleaner.Phase.TheVariants.{Down, Opening,
 use Rattle.cleaner_node.specs.declared.emptying.Emptying.{Emptying}
 use Rattle.cleaner_node.specs.declared.lasting.Lasting.{Lasting}
 use Rattle.token_client.specs.State.{epoch_of}
+use Rattle.token_law.specs.Books.{no_books}
+use Rattle.token_law.specs.Net.{Net}
+use Rattle.token_law.specs.Owed.{IsNeutral}
+use Rattle.token_protocol.specs.Premises.{Premise}
 use Rattle.version_model.specs.declared.work.Work.{Work}
 use Rattle.wire_msg.specs.declared.body.Body.{Body}
 use Rattle.wire_msg.specs.declared.body.Body.TheVariants as body
@@ -19,8 +23,9 @@ use Rattle.wire_msg.specs.declared.packet.Do.TheVariants.{Begin, Deliver, Tick}
 use Rattle.wire_msg.specs.declared.registry.Welcome.{Welcome}
 use Rattle.xfs_base.specs.declared.news.SlotNews.{SlotNews}
 use Rattle.xfs_base.specs.declared.setup.Setup.{Setup}
+use Rattle.node_tie.specs.CleanerLogs.{its_log, CleanerCopies, CleanerRuns, CleanerTold}
 use Rattle.node_tie.specs.ClientEvents.{AwaitsFirst}
-use Rattle.node_tie.specs.Sight.{CleanerSends, IsNoFall}
+use Rattle.node_tie.specs.Sight.{CleanerSends}
 
 -- eight epochs, and that of the slot within these bounds
 pub record Bounded (part low high : ℕ) (p : Promised) : Type 0 where
@@ -74,7 +79,7 @@ module _ (part promised life : ℕ) where
   CleanerDoes (Send to m) = CleanerSends part promised life m
   CleanerDoes (Answer item answer) = Unit {0}
   CleanerDoes (Lose seg) = Unit {0}
-  CleanerDoes (Does act) = IsNoFall act
+  CleanerDoes (Does act) = IsNeutral act
 
 -- an opening begins in a later incarnation
 abbrev pub OpensLater : Phase → Phase → Type 0
@@ -103,12 +108,17 @@ pub record CleanerGoes (part promised most : ℕ) (p p' : Phase) (outs : List Ef
   -- an opening leaves what was promised
   pub keeps : IsOpening p' → next ≡ promised
 
--- Each event of the cleaner, if the world owes it what its packet says.
+-- Each event of the cleaner, if the world owes it what its packet says. Where logs keep their word, no client has the number of its log.
 abbrev pub CleanerTakes : Type 0
 CleanerTakes =
-    (part promised most : ℕ) → part < 8 → promised ≤ most → (cleaner : Cleaner) (what : Do) → CleanerStands part promised most cleaner.phase → CleanerOwed part promised most cleaner.phase what
+    (logs : Bool) (members part promised most : ℕ) (n : Net) → part < 8 → promised ≤ most → Premise logs (members ≤ its_log) → (cleaner : Cleaner) (what : Do)
+    → CleanerStands part promised most cleaner.phase → CleanerOwed part promised most cleaner.phase what
+    → Premise logs (CleanerCopies n.books cleaner.phase) → Premise logs (CleanerTold n.books cleaner.phase what)
     → CleanerGoes part promised most cleaner.phase (takes cleaner.peers cleaner.phase what).state (takes cleaner.peers cleaner.phase what).outs
+    × CleanerRuns logs members part n cleaner.phase (takes cleaner.peers cleaner.phase what).state (takes cleaner.peers cleaner.phase what).outs
 
--- At the start it has promised epoch 1 of each slot.
+-- At the start it has promised epoch 1 of each slot, its log is empty, and it has no job.
 abbrev pub CleanerStarts : Type 0
-CleanerStarts = (part most : ℕ) → part < 8 → (setup : Setup) (works : List Work) → CleanerStands part 1 most (cleaner_start setup works).phase
+CleanerStarts =
+    (part most : ℕ) → part < 8 → (setup : Setup) (works : List Work)
+    → CleanerStands part 1 most (cleaner_start setup works).phase × CleanerCopies no_books (cleaner_start setup works).phase

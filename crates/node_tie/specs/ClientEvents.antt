@@ -1,5 +1,5 @@
 -- What an event makes of a client, as the small world sees it.
-use Rattle.std.specs.Prelude.{◌≡◌, ◌⊎◌, ◌<◌, ◌≤◌, ℕ, true, false, List, Some, All, length}
+use Rattle.std.specs.Prelude.{◌≡◌, ◌⊎◌, ◌<◌, ◌≤◌, ◌++◌, ℕ, Bool, true, false, List, Some, All, length, is_some}
 use Rattle.client_node.specs.declared.client.Client as clients
 use Rattle.client_node.specs.declared.lasting.Lasting.{Lasting}
 use Rattle.client_node.specs.declared.phase.Phase.{Phase}
@@ -8,17 +8,22 @@ use Rattle.client_node.specs.declared.serving.Serving.{Serving}
 use Rattle.client_node.specs.Phases.{lasting_of, takes}
 use Rattle.client_node.specs.Starting.{first_client}
 use Rattle.log_owner.specs.declared.opening.Opening as openings
+use Rattle.log_owner.specs.Opening as opens
 use Rattle.log_owner.specs.declared.opening.Stage as stages
 use Rattle.log_owner.specs.declared.opening.Stage.TheVariants as stage
 use Rattle.log_scan.specs.declared.stage.Stage.TheVariants as scan
 use Rattle.node_base.specs.declared.effects.Effect.{Effect}
 use Rattle.node_base.specs.declared.effects.Effect.TheVariants.{Send, Answer, Lose, Does}
+use Rattle.node_base.specs.Effects.{acts_of}
 use Rattle.token_client.specs.declared.held.Giving.{Giving}
 use Rattle.token_client.specs.Held.{is_dirty}
 use Rattle.token_client.specs.State.{epoch_of, held_of, is_in_slot}
+use Rattle.token_law.specs.Books.{Books, reopened, with_empty}
 use Rattle.token_law.specs.Net.{Net, Packet, Runs, opening}
+use Rattle.token_law.specs.Owed.{adopts}
 use Rattle.token_law.specs.Net.Packet.{RecallSent}
 use Rattle.token_protocol.specs.Basics.{In}
+use Rattle.token_protocol.specs.Premises.{Premise}
 use Rattle.version_model.specs.declared.act.Act.{Act}
 use Rattle.version_model.specs.declared.act.Act.TheVariants as act
 use Rattle.version_model.specs.declared.act.Fall.{Fall}
@@ -29,13 +34,16 @@ use Rattle.wire_msg.specs.declared.packet.Do.{Do}
 use Rattle.wire_msg.specs.declared.packet.Do.TheVariants.{Begin, Deliver, Tick}
 use Rattle.wire_msg.specs.declared.packet.Packet as packets
 use Rattle.wire_msg.specs.declared.registry.Welcome.{Welcome}
+use Rattle.stripe_code.specs.declared.round.Told.TheVariants as told
 use Rattle.xfs_base.specs.declared.block.BlockId.{BlockId}
 use Rattle.xfs_base.specs.declared.news.SlotNews.{SlotNews}
 use Rattle.xfs_base.specs.declared.segment.SegName.{SegName}
 use Rattle.xfs_base.specs.declared.node.NodeId.TheVariants.{Client}
 use Rattle.xfs_base.specs.declared.setup.Setup.{Setup}
+use Rattle.xfs_base.specs.Modes.{is_held}
 use Rattle.node_tie.specs.AskingEvents.{PhaseAsks}
-use Rattle.node_tie.specs.Sight.{ClientSends, GrantSeen, ForwardSeen, RecallSeen, SupplySeen, PollSeen}
+use Rattle.node_tie.specs.ClientLogs.{NothingBeyond, LogAgrees, FiledStay, Tells, EndsSo}
+use Rattle.node_tie.specs.Sight.{SameLog, ClientSends, GrantSeen, ForwardSeen, RecallSeen, SupplySeen, PollSeen}
 
 -- ---- how a client is seen
 
@@ -44,7 +52,7 @@ abbrev pub AwaitsFirst : stages.Stage → Type 0
 AwaitsFirst (stage.Scanning s) = s.scan.stage ≡ scan.Hails
 AwaitsFirst (stage.Settling s) = ⊥
 
-module _ (part c : ℕ) (n : Net) where
+module _ (logs : Bool) (part c : ℕ) (n : Net) where
   -- one that serves has the tokens that it has in the small world
   pub record SeesServing (s : Serving) : Type 0 where
     pub up : n.up c ≡ true
@@ -55,12 +63,17 @@ module _ (part c : ℕ) (n : Net) where
     -- each recall of the slot that is put off was sent
     pub giving : (block : BlockId) (g : Giving) → is_in_slot part block ≡ true → (held_of s.tokens.blocks block).giving ≡ Some g
         → In (RecallSent c block g.stamp g.keep) n.sent
+    -- what is held has a value
+    pub valued : (block : BlockId) → is_held (held_of s.tokens.blocks block).mode ≡ true → is_some (held_of s.tokens.blocks block).value ≡ true
+    -- where logs keep their word, its log is seen, too
+    pub logged : Premise logs (LogAgrees n.books c s.tokens s.log)
 
   -- of one that fell the last tokens are left, and those are of no later incarnation
   pub record SeesDown (l : Lasting) : Type 0 where
     pub up : n.up c ≡ false
     pub number : l.number ≡ c
     pub inc : (n.tokens c).inc ≤ l.inc
+    pub beyond : Premise logs (NothingBeyond n.books c)
 
   -- what an opening promises is no less than what was promised before
   pub record Raises (o : openings.Opening) : Type 0 where
@@ -74,6 +87,7 @@ module _ (part c : ℕ) (n : Net) where
     pub inc : (n.tokens c).inc < l.inc
     pub owner : o.known.owner.inc ≡ l.inc
     pub promised : AwaitsFirst o.stage ⊎ Raises o
+    pub beyond : Premise logs (NothingBeyond n.books c)
 
   abbrev pub ClientAgrees : Phase → Type 0
   ClientAgrees (Down l) = SeesDown l
@@ -119,9 +133,27 @@ module _ (part most c : ℕ) (n : Net) where
   GetsBody p (body.Welcome m) = NewsWithin m.news.slots × WelcomeRises p m
   GetsBody p _ = Unit {0}
 
-  -- what the world owes a packet that is delivered to the client
-  abbrev pub ClientGets : Phase → packets.Packet → Type 0
-  ClientGets p packet = GetsBody p packet.body
+  -- what it says of logs, in answer to a fetch of a block, or to an opening
+  abbrev pub ServingReads : Serving → packets.Packet → Body → Type 0
+  ServingReads s packet (body.Fragment m) = Tells n.books s packet.from m.ask (told.Held m.fragment)
+  ServingReads s packet (body.Missing m) = Tells n.books s packet.from m.ask (told.Missing m.generation)
+  ServingReads s packet _ = Unit {0}
+
+  abbrev pub ReadsSo : Phase → packets.Packet → Type 0
+  ReadsSo (Down l) packet = Unit {0}
+  ReadsSo (Opening l o) packet = EndsSo n.books n.acts c (opens.on_packet o l.questions packet).progress
+  ReadsSo (Serves s) packet = ServingReads s packet packet.body
+
+  -- an opening may end with time, too
+  abbrev pub EndsInTime : Phase → Type 0
+  EndsInTime (Down l) = Unit {0}
+  EndsInTime (Opening l o) = EndsSo n.books n.acts c (opens.on_tick o l.questions).progress
+  EndsInTime (Serves s) = Unit {0}
+
+-- what the world owes a packet that is delivered to the client
+pub record ClientGets (logs : Bool) (part most c : ℕ) (n : Net) (p : Phase) (packet : packets.Packet) : Type 0 where
+  pub brings : GetsBody part most c n p packet.body
+  pub reads : Premise logs (ReadsSo part most c n p packet)
 
 -- ---- what an event makes of it
 
@@ -149,6 +181,16 @@ SaysBack c outs (Serves r) (Serves s) = Unit {0}
 SaysBack c outs p (Down l) = Unit {0}
 SaysBack c outs p (Opening l o) = Unit {0}
 
+-- What is known of its own log goes on: while it serves, what is filed in the event said the same before; where it serves again, its log is opened again by the
+-- chain that it found, with so many segments that say nothing; and else it is the same.
+abbrev pub LogGoes : Net → Books → ℕ → List Effect → Phase → Phase → Type 0
+LogGoes n k c outs (Down l) (Serves s) = ⊥
+LogGoes n k c outs (Opening l o) (Serves s) =
+    (chain : List SegName) × (count : ℕ) × In (Does (act.Back c chain)) outs × (k ≡ with_empty count (reopened n.books c (adopts n.acts c chain)) c)
+LogGoes n k c outs (Serves r) (Serves s) = FiledStay n.books k c
+LogGoes n k c outs p (Down l) = k ≡ n.books
+LogGoes n k c outs p (Opening l o) = k ≡ n.books
+
 module _ (part c : ℕ) (n : Net) (sent : List Packet) (life : ℕ) (p' : Phase) where
   -- a client falls itself, with blocks that were dirty, and then it doesn't serve
   abbrev pub ClientActs : Act → Type 0
@@ -163,13 +205,17 @@ module _ (part c : ℕ) (n : Net) (sent : List Packet) (life : ℕ) (p' : Phase)
   ClientDid (Does a) = ClientActs a
 
 -- The small world runs on to a net in which the client is seen as it is then, all that it sends was sent, and what it acts is right.
-pub record ClientGoes (members part most c : ℕ) (n : Net) (p p' : Phase) (outs : List Effect) : Type 0 where
+pub record ClientGoes (logs : Bool) (members part most c : ℕ) (n : Net) (p p' : Phase) (outs : List Effect) : Type 0 where
   pub next : Net
-  pub runs : Runs members part n next
-  pub agrees : ClientAgrees part c next p'
+  pub runs : Runs logs members part n next
+  pub agrees : ClientAgrees logs part c next p'
   pub others : (d : ℕ) → (d ≡ c → ⊥) → (next.tokens d ≡ n.tokens d) × (next.up d ≡ n.up d)
   pub slots : (e : ℕ) → next.slots e ≡ n.slots e
   pub grows : (x : Packet) → In x n.sent → In x next.sent
+  -- what it acts is acted there, and of logs but its own the same is known
+  pub acts : next.acts ≡ n.acts ++ acts_of (Client c) outs
+  pub books : (l : ℕ) → (l ≡ c → ⊥) → SameLog n.books next.books l
+  pub log : Premise logs (LogGoes n next.books c outs p p')
   pub does : All (ClientDid part c n next.sent (lasting_of p').inc p') outs
   pub within : epoch_of (next.tokens c).epochs part ≤ most
   pub promises : PromisesWithin part most p'
@@ -180,23 +226,23 @@ pub record ClientGoes (members part most c : ℕ) (n : Net) (p p' : Phase) (outs
   pub back : SaysBack c outs p p'
 
 -- what the world owes an event
-abbrev pub ClientOwed : (part most c : ℕ) → Net → Phase → Do → Type 0
-ClientOwed part most c n p Begin = Unit {0}
-ClientOwed part most c n p (Deliver packet) = ClientGets part most c n p packet
-ClientOwed part most c n p Tick = Unit {0}
+abbrev pub ClientOwed : (logs : Bool) (part most c : ℕ) → Net → Phase → Do → Type 0
+ClientOwed logs part most c n p Begin = Unit {0}
+ClientOwed logs part most c n p (Deliver packet) = ClientGets logs part most c n p packet
+ClientOwed logs part most c n p Tick = Premise logs (EndsInTime part most c n p)
 
 -- Each event of a client is a run of the small world.
 abbrev pub ClientTakes : Type 0
 ClientTakes =
-    (members part most c : ℕ) → part < 8 → 0 < c → c < members → (n : Net) (client : clients.Client) (what : Do) → ClientAgrees part c n client.phase →
-    ClientStands part most c n client.phase
-    → ClientOwed part most c n client.phase what → ClientGoes members part most c n client.phase (takes client what).state (takes client what).outs
+    (logs : Bool) (members part most c : ℕ) → part < 8 → 0 < c → c < members → (n : Net) (client : clients.Client) (what : Do)
+    → ClientAgrees logs part c n client.phase → ClientStands part most c n client.phase → ClientOwed logs part most c n client.phase what
+    → ClientGoes logs members part most c n client.phase (takes client what).state (takes client what).outs
 
 -- At the start each client is seen in the small world, and what is promised is within any bound from 1 on.
-pub record ClientBegins (part most c : ℕ) (client : clients.Client) : Type 0 where
-  pub agrees : ClientAgrees part c opening client.phase
+pub record ClientBegins (logs : Bool) (part most c : ℕ) (client : clients.Client) : Type 0 where
+  pub agrees : ClientAgrees logs part c opening client.phase
   pub within : epoch_of (opening.tokens c).epochs part ≤ most
   pub promises : PromisesWithin part most client.phase
 
 abbrev pub ClientStarts : Type 0
-ClientStarts = (part most c : ℕ) → part < 8 → 1 ≤ most → (setup : Setup) (works : List Work) → ClientBegins part most c (first_client c setup works)
+ClientStarts = (logs : Bool) (part most c : ℕ) → part < 8 → 1 ≤ most → (setup : Setup) (works : List Work) → ClientBegins logs part most c (first_client c setup works)

@@ -1,7 +1,10 @@
 pub mod Sight
+pub mod LogRows
+pub mod ClientLogs
 pub mod Asks
 pub mod AskingEvents
 pub mod ClientEvents
+pub mod CleanerLogs
 pub mod CleanerEvents
 pub mod ManagerEvents
 pub mod StoreEvents

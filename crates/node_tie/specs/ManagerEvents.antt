@@ -1,5 +1,5 @@
 -- How a manager is seen in the small world of one slot of the map, and what one event of it is there.
-use Rattle.std.specs.Prelude.{◌≡◌, ◌≤◌, ◌<◌, ◌+◌, ℕ, List, [], Some, None, length, slice_get, unwrap_or, false, true, Bool, ◌⊎◌}
+use Rattle.std.specs.Prelude.{◌≡◌, ◌≤◌, ◌<◌, ◌+◌, ℕ, List, [], ◌++◌, Some, None, length, slice_get, unwrap_or, false, true, Bool, ◌⊎◌}
 use Rattle.std.specs.List.{All}
 use Rattle.manager_map.specs.Slots.{start_entries}
 use Rattle.manager_node.specs.Events.{first_manager, happens}
@@ -8,7 +8,8 @@ use Rattle.manager_node.specs.SlotTable.{Table, first_phase}
 use Rattle.manager_node.specs.declared.manager.Manager.{Manager as AManager}
 use Rattle.version_model.specs.declared.work.Work.{Work}
 use Rattle.xfs_base.specs.declared.setup.Setup.{Setup}
-use Rattle.manager_node.specs.Slots.{epoch_of}
+use Rattle.manager_node.specs.Slots.{epoch_of, fetch_of}
+use Rattle.manager_node.specs.Takeovers.{report_input}
 use Rattle.manager_node.specs.declared.lasting.Lasting.{Lasting as Kept}
 use Rattle.manager_node.specs.declared.phase.Phase.{Phase}
 use Rattle.manager_node.specs.declared.phase.Phase.TheVariants.{Down, Waiting, Serving as Serves}
@@ -17,14 +18,23 @@ use Rattle.manager_node.specs.declared.slot_phase.Active.{Active}
 use Rattle.manager_node.specs.declared.slot_phase.SlotPhase.{SlotPhase}
 use Rattle.manager_node.specs.declared.slot_phase.SlotPhase.TheVariants as phase
 use Rattle.manager_node.specs.declared.slot_phase.Taking.{Taking}
-use Rattle.takeover.specs.Transition.{awaited}
+use Rattle.takeover.specs.Reports.{applied_of as applied_by, end_from}
+use Rattle.takeover.specs.TakeState.{TakeState}
+use Rattle.takeover.specs.Transition.{active, awaited, transition}
+use Rattle.takeover.specs.declared.input.In.{In as Input}
+use Rattle.takeover.specs.declared.input.In.TheVariants.{Got, Missing}
 use Rattle.takeover.specs.declared.report.Report.{Report as Heard}
 use Rattle.takeover.specs.declared.source.Present.{Present}
-use Rattle.token_law.specs.Net.{Net, Packet, Runs, opening}
+use Rattle.token_law.specs.Net.{Net, Packet, Runs, IsLatest, opening}
 use Rattle.token_law.specs.Net.Packet.{ReportSent}
+use Rattle.token_law.specs.Owed.{DeltasCover, Gathered}
+use Rattle.token_manager.specs.Recalls.{applied_of}
 use Rattle.token_manager.specs.SlotState.{SlotState}
+use Rattle.token_manager.specs.Transition.{joins_on}
 use Rattle.token_manager.specs.declared.job.Job.{Job}
 use Rattle.token_protocol.specs.Basics.{In}
+use Rattle.token_protocol.specs.Premises.{Premise}
+use Rattle.node_base.specs.Effects.{acts_of}
 use Rattle.wire_msg.specs.declared.body.Body.{Body}
 use Rattle.wire_msg.specs.declared.body.Body.TheVariants as body
 use Rattle.wire_msg.specs.declared.packet.Do.{Do}
@@ -34,12 +44,18 @@ use Rattle.wire_msg.specs.declared.registry.News.{News}
 use Rattle.wire_msg.specs.declared.registry.Welcome.{Welcome}
 use Rattle.wire_msg.specs.declared.tokens.Gave.{Gave}
 use Rattle.wire_msg.specs.declared.tokens.Want.{Want}
+use Rattle.wire_msg.specs.declared.deltas.Deltas.{Deltas}
 use Rattle.wire_msg.specs.declared.deltas.Report.{Report}
+use Rattle.wire_msg.specs.declared.storage.Found.{Found}
+use Rattle.wire_msg.specs.declared.storage.Missing.{Missing as Absent}
 use Rattle.xfs_base.specs.Blocks.{slot_of}
 use Rattle.xfs_base.specs.declared.block.BlockId.{BlockId}
+use Rattle.xfs_base.specs.declared.entry.Entry.{Entry}
 use Rattle.xfs_base.specs.declared.news.SlotNews.{SlotNews}
 use Rattle.xfs_base.specs.declared.node.NodeId.{NodeId}
 use Rattle.xfs_base.specs.declared.node.NodeId.TheVariants.{Client, Manager, Server, Cleaner, Registry}
+use Rattle.xfs_base.specs.declared.segment.End.{End}
+use Rattle.xfs_base.specs.declared.segment.LogId.{LogId}
 use Rattle.xfs_base.specs.declared.token.Mode.{Mode}
 use Rattle.node_tie.specs.Sight.{WantSeen, GaveSeen, ReportSeen, ManagerDoes}
 
@@ -73,12 +89,12 @@ HeldAt (phase.Broken epoch seg) e = ⊥
 
 module _ (members part : ℕ) (n : Net) where
   -- a report of a client was sent, in the epoch of the takeover; the cleaner has promised that epoch where it reports
-  abbrev pub ReportKnown : ℕ → NodeId → List (BlockId × Mode) → Type 0
-  ReportKnown epoch (Client c) held = (0 < c) × (c < members) × In (ReportSent c epoch held) n.sent
-  ReportKnown epoch (Manager c) held = Unit {0}
-  ReportKnown epoch (Server c) held = Unit {0}
-  ReportKnown epoch Cleaner held = epoch ≤ n.promised
-  ReportKnown epoch Registry held = Unit {0}
+  abbrev pub ReportKnown : ℕ → NodeId → List (BlockId × Mode) → End → Type 0
+  ReportKnown epoch (Client c) held end = (0 < c) × (c < members) × In (ReportSent c epoch held end.seq) n.sent
+  ReportKnown epoch (Manager c) held end = Unit {0}
+  ReportKnown epoch (Server c) held end = Unit {0}
+  ReportKnown epoch Cleaner held end = epoch ≤ n.promised
+  ReportKnown epoch Registry held end = Unit {0}
 
   -- a takeover of the slot
   pub record TakingAgrees (t : Taking) : Type 0 where
@@ -88,7 +104,7 @@ module _ (members part : ℕ) (n : Net) where
     pub epoch : t.take.news.epoch ≡ t.epoch
     pub clients : t.take.clients + 1 ≡ members
     -- the reports that it keeps were sent, one from each node
-    pub reported : (r : Heard) → In r t.take.reports → ReportKnown t.epoch r.from r.held
+    pub reported : (r : Heard) → In r t.take.reports → ReportKnown t.epoch r.from r.held r.end
     pub once : (r q : Heard) → In r t.take.reports → In q t.take.reports → r.from ≡ q.from → r.held ≡ q.held
     -- it reads once all have reported
     pub ready : (p : Present) → t.take.present ≡ Some p → awaited t.take ≡ []
@@ -171,6 +187,66 @@ module _ (part : ℕ) (n : Net) where
   ReportGets members Cleaner m = m.slot ≡ part → m.epoch ≤ n.promised
   ReportGets members Registry m = Unit {0}
 
+-- the end that the first report of a client names, by client
+abbrev pub ends_of : List Heard → ℕ → ℕ
+ends_of reports c = (end_from (Client c) reports).seq
+
+module _ (members part : ℕ) (n : Net) where
+  -- where Deltas join on to what the slot that reigns has applied, they cover its index
+  abbrev pub DeltasJoin : LogId → Deltas → Type 0
+  DeltasJoin log m =
+      (e : ℕ) (z : SlotState) → n.slots e ≡ Some z → IsLatest n e → joins_on (applied_of z.applied log.0) m.first m.upto ≡ true
+      → DeltasCover part n.books z log m.upto m.rows
+
+  -- what a takeover gathered is so, where its slot reigns from then on
+  abbrev pub HasGathered : TakeState → List (BlockId × Entry) → Type 0
+  HasGathered take index =
+      IsLatest n take.news.epoch → Gathered members part n.books index (applied_by take.news.horizon take.reports) (ends_of take.reports)
+
+  -- where this input completes the takeover
+  abbrev pub Completes : TakeState → Input → Type 0
+  Completes take given =
+      (index : List (BlockId × Entry)) → In (active (transition take given).state index) (transition take given).outs
+      → HasGathered (transition take given).state index
+
+module _ (logs : Bool) (members part : ℕ) (n : Net) where
+  -- where logs keep their word: Deltas of a client's log, or the cleaner's
+  abbrev pub DeltasGets : NodeId → Deltas → Type 0
+  DeltasGets (Client c) m = m.slot ≡ part → Premise logs (DeltasJoin members part n (record { 0 = c }) m)
+  DeltasGets (Manager c) m = Unit {0}
+  DeltasGets (Server c) m = Unit {0}
+  DeltasGets Cleaner m = m.slot ≡ part → Premise logs (DeltasJoin members part n (record { 0 = 9 }) m)
+  DeltasGets Registry m = Unit {0}
+
+  -- what comes to a slot that is taken over
+  abbrev pub TakeoverGets : SlotPhase → Input → Type 0
+  TakeoverGets (phase.Taking t) given = Premise logs (Completes members part n t.take given)
+  TakeoverGets (phase.Active a) given = Unit {0}
+  TakeoverGets (phase.Away epoch) given = Unit {0}
+  TakeoverGets (phase.Broken epoch seg) given = Unit {0}
+
+  -- a report, in the epoch of the slot
+  abbrev pub LastReportGets : SlotPhase → NodeId → Report → Type 0
+  LastReportGets p from m = m.slot ≡ part → m.epoch ≡ epoch_of p → TakeoverGets p (report_input from m)
+
+  -- an answer to a question of the slot's takeover
+  abbrev pub AnswerGets : SlotPhase → ℕ → (ℕ → Input) → Type 0
+  AnswerGets p ask given = (own : ℕ) → fetch_of p ask ≡ Some own → TakeoverGets p (given own)
+
+  abbrev pub FoundGets : SlotPhase → NodeId → Found → Type 0
+  FoundGets p (Server v) m = AnswerGets p m.ask (λ own. Got own v m.generation m.fragment)
+  FoundGets p (Client c) m = Unit {0}
+  FoundGets p (Manager c) m = Unit {0}
+  FoundGets p Cleaner m = Unit {0}
+  FoundGets p Registry m = Unit {0}
+
+  abbrev pub AbsentGets : SlotPhase → NodeId → Absent → Type 0
+  AbsentGets p (Server v) m = AnswerGets p m.ask (λ own. Missing own v m.generation)
+  AbsentGets p (Client c) m = Unit {0}
+  AbsentGets p (Manager c) m = Unit {0}
+  AbsentGets p Cleaner m = Unit {0}
+  AbsentGets p Registry m = Unit {0}
+
 module _ (part most j : ℕ) (n : Net) where
   -- news of a slot: an epoch that is new to the manager that gets it is new to the small world
   pub record NewsGets (known : ℕ) (news : SlotNews) : Type 0 where
@@ -179,15 +255,6 @@ module _ (part most j : ℕ) (n : Net) where
 
   abbrev pub AllNewsGets : ℕ → List SlotNews → Type 0
   AllNewsGets known slots = (news : SlotNews) → In news slots → news.slot ≡ part → NewsGets known news
-
-  -- to one that serves, in this incarnation, and knows of this epoch of the slot
-  abbrev pub ServingGets : ℕ → ℕ → ℕ → NodeId → Body → Type 0
-  ServingGets members life known from (body.Want m) = WantGets part n from m
-  ServingGets members life known from (body.Gave m) = GaveGets part n from m
-  ServingGets members life known from (body.Report m) = ReportGets part n members from m
-  ServingGets members life known from (body.MapNews news) = AllNewsGets known news.slots
-  ServingGets members life known from (body.Welcome welcome) = welcome.inc ≡ life → AllNewsGets known welcome.news.slots
-  ServingGets members life known from _ = Unit {0}
 
   -- the news of the Welcome that is awaited
   pub record OpeningGets (news : News) : Type 0 where
@@ -200,9 +267,22 @@ module _ (part most j : ℕ) (n : Net) where
   WaitingGets life (body.Welcome welcome) = welcome.inc ≡ life → OpeningGets welcome.news
   WaitingGets life _ = Unit {0}
 
+module _ (logs : Bool) (part most j : ℕ) (n : Net) where
+  -- to one that serves, in this incarnation, and has this of the slot
+  abbrev pub ServingGets : ℕ → ℕ → SlotPhase → NodeId → Body → Type 0
+  ServingGets members life p from (body.Want m) = WantGets part n from m
+  ServingGets members life p from (body.Gave m) = GaveGets part n from m
+  ServingGets members life p from (body.Deltas m) = DeltasGets logs members part n from m
+  ServingGets members life p from (body.Report m) = ReportGets part n members from m × LastReportGets logs members part n p from m
+  ServingGets members life p from (body.Fragment m) = FoundGets logs members part n p from m
+  ServingGets members life p from (body.Missing m) = AbsentGets logs members part n p from m
+  ServingGets members life p from (body.MapNews news) = AllNewsGets part most j n (epoch_of p) news.slots
+  ServingGets members life p from (body.Welcome welcome) = welcome.inc ≡ life → AllNewsGets part most j n (epoch_of p) welcome.news.slots
+  ServingGets members life p from _ = Unit {0}
+
   abbrev pub ManagerGets : ℕ → Phase → Sent → Type 0
-  ManagerGets members (Serves s) packet = ServingGets members s.lasting.inc (epoch_in part (Serves s)) packet.from packet.body
-  ManagerGets members (Waiting kept hello) packet = WaitingGets kept.inc packet.body
+  ManagerGets members (Serves s) packet = ServingGets members s.lasting.inc (slot_in part (Serves s)) packet.from packet.body
+  ManagerGets members (Waiting kept hello) packet = WaitingGets part most j n kept.inc packet.body
   ManagerGets members (Down kept) packet = Unit {0}
 
   abbrev pub EventGets : ℕ → Phase → Do → Type 0
@@ -253,12 +333,15 @@ pub record Opens (part : ℕ) (p : Phase) (what : Do) (q : Phase) : Type 0 where
   pub above : (news : SlotNews) → In news welcome.news.slots → news.slot ≡ part → news.epoch ≤ epoch_in part q
 
 -- An event of manager j is a list of things that happen in the small world.
-pub record ManagerGoes (members part most j : ℕ) (n : Net) (p : Phase) (what : Do) (w : Went_to) : Type 0 where
+pub record ManagerGoes (logs : Bool) (members part most j : ℕ) (n : Net) (p : Phase) (what : Do) (w : Went_to) : Type 0 where
   pub next : Net
-  pub runs : Runs members part n next
+  pub runs : Runs logs members part n next
   pub agrees : ManagerAgrees members part next j w.state
   pub tokens : next.tokens ≡ n.tokens
   pub up : next.up ≡ n.up
+  -- logs stand as they did, and its acts are done
+  pub books : next.books ≡ n.books
+  pub acts : next.acts ≡ n.acts ++ acts_of (Manager j) w.outs
   -- only the slot that the manager takes over or manages changes: where it is away at an epoch, another one manages the slot at it
   pub slots : (e : ℕ) → (HeldAt (slot_in part p) e → ⊥) → next.slots e ≡ n.slots e
   -- a manager that becomes active in the small world had the slot under takeover, and the cleaner has promised its epoch
@@ -282,9 +365,9 @@ pub record ManagerGoes (members part most j : ℕ) (n : Net) (p : Phase) (what :
 -- Each event of a manager, if the world owes it what its packet says.
 abbrev pub ManagerEventGoes : Type 0
 ManagerEventGoes =
-    (members part most j : ℕ) (n : Net) (m : AManager) (what : Do) → part < 8 → members ≡ m.peers.clients + 1 → ManagerAgrees members part n j m.phase
-    → epoch_in part m.phase ≤ most → EventGets part most j n members m.phase what
-    → ManagerGoes members part most j n m.phase what (happens m what)
+    (logs : Bool) (members part most j : ℕ) (n : Net) (m : AManager) (what : Do) → part < 8 → members ≡ m.peers.clients + 1 → ManagerAgrees members part n j m.phase
+    → epoch_in part m.phase ≤ most → EventGets logs part most j n members m.phase what
+    → ManagerGoes logs members part most j n m.phase what (happens m what)
 
 -- At the start of a run a manager is seen in the opening of the small world: it manages the slot at epoch 1, or isn't its manager then.
 pub record FirstAgrees (members part number : ℕ) (setup : Setup) (works : List Work) : Type 0 where

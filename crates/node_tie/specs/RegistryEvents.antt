@@ -6,6 +6,7 @@ use Rattle.node_base.specs.declared.effects.Effect.TheVariants.{Send, Answer, Lo
 use Rattle.registry.specs.Board.{inc_of}
 use Rattle.registry.specs.BoardState.{BoardState}
 use Rattle.registry.specs.Slots.{all_slots, entry_of}
+use Rattle.token_law.specs.Owed.{IsNeutral}
 use Rattle.store_nodes.specs.declared.registry_node.RegistryNode.{RegistryNode}
 use Rattle.store_nodes.specs.RegistryEvents.{registry_start, registry_step, news_of}
 use Rattle.version_model.specs.declared.work.Work.{Work}
@@ -21,7 +22,6 @@ use Rattle.xfs_base.specs.declared.news.SlotNews.{SlotNews}
 use Rattle.xfs_base.specs.declared.node.NodeId.{NodeId}
 use Rattle.xfs_base.specs.declared.node.NodeId.TheVariants.{Manager, Registry}
 use Rattle.xfs_base.specs.declared.setup.Setup.{Setup}
-use Rattle.node_tie.specs.Sight.{IsNoFall}
 
 -- ---- what the registry keeps
 
@@ -91,7 +91,7 @@ module _ (part : ℕ) (what : Do) (b : BoardState) where
   RegistryDoes (Send to said) = RegistrySends to said
   RegistryDoes (Answer item answer) = Unit {0}
   RegistryDoes (Lose seg) = Unit {0}
-  RegistryDoes (Does act) = IsNoFall act
+  RegistryDoes (Does act) = IsNeutral act
 
 -- ---- all of it
 
@@ -116,7 +116,7 @@ pub record RegistryGoes (part : ℕ) (r : RegistryNode) (what : Do) : Type 0 whe
   pub peers : (registry_step r what).node.peers ≡ r.peers
   pub from : All (λ (p : Packet). p.from ≡ Registry) (registry_step r what).packets
   pub sends : All (λ (p : Packet). RegistrySends part what (registry_step r what).node.board p.to p.body) (registry_step r what).packets
-  pub acts : All IsNoFall (registry_step r what).acts
+  pub acts : All IsNeutral (registry_step r what).acts
 
 -- the registry at the start of a run of so many managers
 pub record RegistryBegins (part managers : ℕ) (r : RegistryNode) : Type 0 where

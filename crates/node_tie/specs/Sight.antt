@@ -3,7 +3,9 @@ use Rattle.std.specs.Prelude.{◌≡◌, ◌≤◌, ℕ, List, true}
 use Rattle.node_base.specs.declared.effects.Effect.{Effect}
 use Rattle.node_base.specs.declared.effects.Effect.TheVariants.{Send, Answer, Lose, Does}
 use Rattle.token_client.specs.State.{is_in_slot}
+use Rattle.token_law.specs.Books.{Books}
 use Rattle.token_law.specs.Net.{Packet}
+use Rattle.token_law.specs.Owed.{IsNeutral}
 use Rattle.token_law.specs.Net.Packet.{WantSent, GrantSent, RecallSent, GaveSent, ForwardSent, SupplySent, ReportSent}
 use Rattle.token_protocol.specs.Basics.{In}
 use Rattle.version_model.specs.declared.act.Act.{Act}
@@ -29,6 +31,14 @@ abbrev pub IsNoFall : Act → Type 0
 IsNoFall (act.Fell client flight falls) = ⊥
 IsNoFall _ = Unit {0}
 
+-- ---- what is said of a log
+
+-- of this log the same is known: its end, whether its next segment is in flight, and what its segments say
+pub record SameLog (k m : Books) (l : ℕ) : Type 0 where
+  pub end : m.end l ≡ k.end l
+  pub flying : m.flying l ≡ k.flying l
+  pub rows : m.rows l ≡ k.rows l
+
 -- ---- packets about tokens of the slot, as the small world has them
 
 module _ (part : ℕ) (sent : List Packet) where
@@ -43,7 +53,7 @@ module _ (part : ℕ) (sent : List Packet) where
   GaveSeen c m = SentOf m.block (GaveSent c m.block m.stamp m.end)
 
   abbrev pub ReportSeen : ℕ → Report → Type 0
-  ReportSeen c m = m.slot ≡ part → In (ReportSent c m.epoch m.held) sent
+  ReportSeen c m = m.slot ≡ part → In (ReportSent c m.epoch m.held m.end.seq) sent
 
   -- what goes to a client, and to a client alone
   abbrev pub GrantSeen : NodeId → Grant → Type 0
@@ -120,7 +130,7 @@ module _ (part : ℕ) (sent : List Packet) where
   ManagerDoes most life (Send to m) = ManagerSends most life to m
   ManagerDoes most life (Answer item answer) = Unit {0}
   ManagerDoes most life (Lose seg) = Unit {0}
-  ManagerDoes most life (Does a) = IsNoFall a
+  ManagerDoes most life (Does a) = IsNeutral a
 
 -- a server sends what it holds and did, and what a rebuild asks
 abbrev pub ServerSends : Body → Type 0

@@ -1,51 +1,101 @@
--- Clients that fall and return; versions that are settled; supplies: the world is seen as before.
-use Rattle.std.proofs.Common.{◌≡◌, ℕ, suc, ◌≤◌, ◌<◌, true, false, nat_lt, List, ◌∷◌, ⊎_elim, Option, refl, sym, ap, subst, ◌∙◌, arith}
+-- Clients that fall and return, and clients that serve a Forward: the world is seen as before.
+use Rattle.std.specs.Prelude.{if◌then◌else◌}
+use Rattle.std.proofs.Common.{◌≡◌, ℕ, suc, ◌≤◌, ◌<◌, max, Bool, true, false, nat_lt, List, [], ◌∷◌, ◌++◌, ⊎_elim, Option, Some, None, refl, sym, ap, subst, ◌∙◌, arith}
 use Rattle.std.proofs.lemmas.Bool.Decides.{nat_tests}
 use Rattle.xfs_base.specs.declared.block.BlockId.{BlockId}
+use Rattle.xfs_base.specs.declared.entry.Entry.{Entry}
+use Rattle.xfs_base.specs.declared.segment.SegName.{SegName}
+use Rattle.xfs_base.specs.declared.token.Mode.TheVariants.{Copy}
 use Rattle.xfs_base.specs.declared.token.Stamp.{Stamp}
 use Rattle.xfs_base.specs.Blocks.{slot_of}
+use Rattle.xfs_base.proofs.Booleans.{contrary}
+use Rattle.version_model.specs.declared.act.Act.{Act}
+use Rattle.version_model.specs.declared.act.Act.TheVariants as act
+use Rattle.version_model.specs.declared.act.Fall.{Fall}
+use Rattle.version_model.specs.Effects.{history_after}
+use Rattle.version_model.specs.History.{nothing_yet}
+use Rattle.act_tie.specs.BlockActs.{fall_of, with_fall, told_with, acts_of}
+use Rattle.act_tie.proofs.Onward.{acts_on}
+use Rattle.token_client.specs.declared.held.Held.{Held}
 use Rattle.token_client.specs.Held.{is_dirty}
-use Rattle.token_client.specs.Laws.{IsSound}
-use Rattle.token_client.specs.State.{held_of}
+use Rattle.token_client.specs.State.{held_of, is_in_slot, epoch_of}
+use Rattle.token_client.specs.State.{started as fresh_tokens}
 use Rattle.token_client.specs.Transition as client
 use Rattle.token_manager.specs.Transition as slot
+use Rattle.token_protocol.specs.Acts as block
+use Rattle.token_protocol.specs.Acts.Act.{Fell as FellBlock, Back as BackBlock}
 use Rattle.token_protocol.specs.Basics.{put, In}
-use Rattle.xfs_base.proofs.Booleans.{contrary}
-use Rattle.token_protocol.specs.Step.{Step, Steps}
-use Rattle.token_protocol.specs.Step.Steps.{More}
-use Rattle.token_protocol.specs.World.{World, start}
-use Rattle.token_protocol.proofs.Invariant.{owned}
-use Rattle.token_protocol.proofs.Laws.{epoch_promised}
-use Rattle.token_tie.specs.Seen.{Shows, local_of}
-use Rattle.token_tie.specs.Managed.{JobShown, Manages}
-use Rattle.token_law.specs.Net.{Net, client_packets, after_client}
-use Rattle.token_law.specs.Net.Packet.{ForwardSent, SupplySent}
-use Rattle.token_tie.proofs.SmallFacts.{equal_numbers}
-use Rattle.token_client.specs.State.{is_in_slot, epoch_of}
+use Rattle.token_protocol.specs.Crashing.{MayRestart, down, back, crashes_dirty, crashes_clean, restarts_adopting, restarts_discarding}
 use Rattle.token_protocol.specs.Entry.{Row}
-use Rattle.token_protocol.specs.Logging.{settles}
-use Rattle.token_tie.proofs.ClientLaws.{settles_blocks}
-use Rattle.token_protocol.specs.Crashing.{down, back, crashes_dirty, crashes_clean, restarts_discarding}
-use Rattle.token_client.specs.State.{started as fresh_tokens}
-use Rattle.token_protocol.proofs.Refining.{put_each_two}
-use Rattle.token_protocol.specs.Step.Step.{CrashesDirty, CrashesClean, RestartsDiscarding, Loses}
-use Rattle.token_protocol.proofs.Refining.{put_each}
+use Rattle.token_protocol.specs.Premises.{Premise, TailAdopted}
+use Rattle.token_protocol.specs.Step.{Step, Steps}
+use Rattle.token_protocol.specs.Step.Step.{CrashesDirty, CrashesClean, RestartsAdopting, RestartsDiscarding}
+use Rattle.token_protocol.specs.Step.Steps.{Done, More}
+use Rattle.token_protocol.specs.Told.{tells, told}
+use Rattle.token_protocol.specs.World.{World, start, flying_row}
+use Rattle.token_protocol.proofs.Invariant.{always}
+use Rattle.token_protocol.proofs.Laws.{holders_newest, offers_joined}
+use Rattle.token_protocol.proofs.Refining.{put_each, put_each_two}
+use Rattle.token_tie.specs.Managed.{JobShown, Manages}
+use Rattle.token_tie.specs.Seen.{Shows, SentOffer, local_of, entry_seen}
 use Rattle.token_tie.proofs.Frames.{put_here, put_there}
-use Rattle.token_law.proofs.Views.{either_in, setting, IsDown, ClientShown, FellDirty, put_each_three, Carried, IsNobody, View, Grows, carried_on, safe_quiet}
+use Rattle.token_tie.proofs.SmallFacts.{equal_numbers}
+use Rattle.token_tie.proofs.TakingOver.{supplies_newest}
+use Rattle.token_law.specs.Books.{Books, said, filed, discarded, reopened}
+use Rattle.token_law.specs.Owed.{FallsSo, fall_from, adopts}
+use Rattle.token_law.specs.Net.{Net, acted}
+use Rattle.token_law.specs.Net.Packet.{ForwardSent, SupplySent}
+use Rattle.token_law.proofs.Premises.{owed, owed_on, owed_both}
+use Rattle.token_law.proofs.Logged.{flag, Kept, filed_seen, discarded_seen}
+use Rattle.token_law.proofs.Views.{setting, IsDown, ClientShown, FellDirty, put_each_three, Supplies, Carried, IsNobody, View, Grows, lasts_by, carried_on}
 
-module _ (members part : ℕ) (b : BlockId) (n : Net) (v : View members part b n) where
+module _ (logs : Bool) (members part : ℕ) (b : BlockId) (n : Net) (v : View logs members part b n) where
   abbrev pub w : World
   w = v.world
 
   pub shown_up : (c : ℕ) → 0 < c → c < members → n.up c ≡ true → Shows (setting b c (n.tokens c).inc) w.epoch (local_of (n.tokens c) b) (w.client c)
   shown_up c pos less up = subst (λ u. ClientShown u b c (n.tokens c) w.epoch (w.client c)) up (v.clients c pos less)
 
-  pub fall : (c : ℕ) (u : World) → 0 < c → c < members → n.up c ≡ true → Step false w u → u.client ≡ put w.client c (down (w.client c)) → u.epoch ≡ w.epoch → u.members ≡ w.members → Manages b v.slot u → Grows w u
-      → ((k : ℕ) → (k ≡ c → ⊥) → u.fallen k ≡ w.fallen k) → (is_dirty (held_of (n.tokens c).blocks b) ≡ true → u.fallen c ≡ 1) → View members part b (record n { up = put n.up c false })
-  fall c u pos less up step clients epoch many manages grows others falls = record {
+  -- a step that tells of the block what an act is
+  abbrev pub Tells : (u : World) → Step logs w u → Act → Type 0
+  Tells u step a = (acts : List block.Act) → tells w u step acts ≡ told_with b (history_after n.acts nothing_yet) a acts
+
+  pub acts_more : (u : World) (step : Step logs w u) (a : Act) → Premise logs (Tells u step a) → Premise logs (told (start members) u (More v.steps step) ≡ acts_of b (n.acts ++ a ∷ []))
+  acts_more u step a h =
+      owed_both logs (told (start members) w v.steps ≡ acts_of b n.acts) (Tells u step a) (told (start members) u (More v.steps step) ≡ acts_of b (n.acts ++ a ∷ []))
+      (λ old new. ap (tells w u step) old ∙ new (acts_of b n.acts) ∙ sym (acts_on b n.acts a)) v.acts h
+
+  pub same_manager : (u : World) → u.epoch ≡ w.epoch → u.turn ≡ w.turn → ((d : ℕ) → u.belief d ≡ w.belief d) → ((d : ℕ) → u.applied d ≡ w.applied d) → u.index ≡ w.index → JobShown (slot.job_at v.slot.jobs b) v.slot.epoch u.awaited u.keep u.owed u.applied u.wants u.recalls → Manages b v.slot u
+  same_manager u epoch turn belief applied index job = record {
+    epoch = v.manages.epoch ∙ sym epoch;
+    turn = v.manages.turn ∙ sym turn;
+    belief = λ d. let x = v.manages.belief d in let y = belief d in omega arith;
+    applied = λ d some. applied d ∙ v.manages.applied d some;
+    index = index ∙ v.manages.index;
+    job = job;
+  }
+
+  pub all_same : (u : World) → u.epoch ≡ w.epoch → u.wants ≡ w.wants → u.gaves ≡ w.gaves → u.offers ≡ w.offers → u.recalls ≡ w.recalls → u.reports ≡ w.reports → Steps logs w u → Grows logs w u
+  all_same u epoch wants gaves offers recalls reports steps = record {
+    epoch = epoch;
+    wants = λ x h. subst (In x) (sym wants) h;
+    gaves = λ x h. subst (In x) (sym gaves) h;
+    offers = λ x h. subst (In x) (sym offers) h;
+    recalls = λ x h. subst (In x) (sym recalls) h;
+    reports = λ x h. subst (In x) (sym reports) h;
+    lasts = lasts_by logs members w u v.steps steps;
+  }
+
+  -- ---- a client falls
+
+  fall : (c : ℕ) (u : World) (a : Act) → 0 < c → c < members → n.up c ≡ true → (step : Step logs w u) → u.client ≡ put w.client c (down (w.client c)) → u.epoch ≡ w.epoch → u.members ≡ w.members → Manages b v.slot u → Grows logs w u
+      → Premise logs (Kept b n.books u) → ((k : ℕ) → (k ≡ c → ⊥) → u.fallen k ≡ w.fallen k) → (is_dirty (held_of (n.tokens c).blocks b) ≡ true → u.fallen c ≡ 1) → Premise logs (Tells u step a)
+      → View logs members part b (acted (record n { up = put n.up c false }) (a ∷ []))
+  fall c u a pos less up step clients epoch many manages grows kept others falls told_ = record {
     world = u;
     steps = More v.steps step;
     many = many ∙ v.many;
+    some = v.some;
     nobody = subst (λ e. IsNobody (u.client 0) e) (sym epoch) (subst (λ x. IsNobody x w.epoch) (sym (ap (λ f. f 0) clients ∙ put_there w.client c (down (w.client c)) 0 (λ same. absurd (omega arith)))) v.nobody);
     positive = let p = v.positive in omega arith;
     clients = λ k. subst (λ f. 0 < k → k < members → ClientShown (put n.up c false k) b k (n.tokens k) u.epoch (f k)) (sym clients)
@@ -59,40 +109,62 @@ module _ (members part : ℕ) (b : BlockId) (n : Net) (v : View members part b n
     reigns = ap n.slots epoch ∙ v.reigns;
     manages = manages;
     past = λ e s is. (let p = (v.past e s is).0 in omega arith, (v.past e s is).1);
-    sent = λ p is. carried_on part b w u p grows (v.sent p is);
+    sent = λ p is. carried_on logs part b w u p grows (v.sent p is);
+    kept = kept;
+    acts = acts_more u step a told_;
   }
 
-  pub same_manager : (u : World) → u.epoch ≡ w.epoch → u.turn ≡ w.turn → ((d : ℕ) → u.belief d ≡ w.belief d) → ((d : ℕ) → u.applied d ≡ w.applied d) → u.index ≡ w.index → JobShown (slot.job_at v.slot.jobs b) v.slot.epoch u.awaited u.keep u.owed u.applied u.wants u.recalls → Manages b v.slot u
-  same_manager u epoch turn belief applied index job = record {
-    epoch = v.manages.epoch ∙ sym epoch;
-    turn = v.manages.turn ∙ sym turn;
-    belief = λ d. let x = v.manages.belief d in let y = belief d in omega arith;
-    applied = λ d some. applied d ∙ v.manages.applied d some;
-    index = index ∙ v.manages.index;
-    job = job;
-  }
+  -- what is in flight of the block
+  in_flight : (c : ℕ) → Kept b n.books w → (flying_row w c).version ≡ (said n.books c (suc (n.books.end c)) b).version
+  in_flight c kept = ap (λ e. (w.rows c (suc e)).version) (kept.ends c) ∙ ap (λ (r : Row). r.version) (kept.says c (suc (n.books.end c)))
 
-  pub all_same : (u : World) → u.epoch ≡ w.epoch → u.wants ≡ w.wants → u.gaves ≡ w.gaves → u.offers ≡ w.offers → u.recalls ≡ w.recalls → u.reports ≡ w.reports → Grows w u
-  all_same u epoch wants gaves offers recalls reports = record {
-    epoch = epoch;
-    wants = λ x h. subst (In x) (sym wants) h;
-    gaves = λ x h. subst (In x) (sym gaves) h;
-    offers = λ x h. subst (In x) (sym offers) h;
-    recalls = λ x h. subst (In x) (sym recalls) h;
-    reports = λ x h. subst (In x) (sym reports) h;
-  }
+  abbrev pub held : ℕ → Held
+  held c = held_of (n.tokens c).blocks b
 
-  pub crash_view : (c : ℕ) → 0 < c → c < members → n.up c ≡ true → View members part b (record n { up = put n.up c false })
-  crash_view c pos less up =
-      elim (nat_lt (w.client c).settled (w.client c).version) as (λ t. nat_lt (w.client c).settled (w.client c).version ≡ t → View members part b (record n { up = put n.up c false })) [
-        | true ↦ λ is. fall c (crashes_dirty w c) pos less up (CrashesDirty c (record { dirty = below _ _ is })) refl refl refl (same_manager (crashes_dirty w c) refl refl (λ d. refl) (λ d. refl) refl v.manages.job) (all_same (crashes_dirty w c) refl refl refl refl refl refl)
+  -- the fall of a dirty block is told, and that of a clean one isn't
+  tells_dirty : (c : ℕ) (falls : List Fall) → Shows (setting b c (n.tokens c).inc) w.epoch (local_of (n.tokens c) b) (w.client c) → is_dirty (held c) ≡ true → Kept b n.books w
+      → fall_of b falls ≡ fall_from b (held c) (said n.books c (suc (n.books.end c)) b) → (acts : List block.Act)
+      → FellBlock c (w.client c).settled (max (w.client c).settled (flying_row w c).version) ∷ acts ≡ with_fall c (fall_of b falls) acts
+  tells_dirty c falls shown dirty kept is acts =
+      let row = said n.books c (suc (n.books.end c)) b in
+      let f : Fall = record { block = b; low = (held c).settled; high = max (held c).settled row.version } in
+      let safe = shown.settled in
+      let flies = in_flight c kept in
+      (λ i. FellBlock c (safe i) (max (safe i) (flies i)) ∷ acts) ∙ sym (ap (λ o. with_fall c o acts) (is ∙ ap (λ t. if t then Some f else None) dirty))
+
+  tells_clean : (c : ℕ) (falls : List Fall) → is_dirty (held c) ≡ false → fall_of b falls ≡ fall_from b (held c) (said n.books c (suc (n.books.end c)) b) → (acts : List block.Act)
+      → acts ≡ with_fall c (fall_of b falls) acts
+  tells_clean c falls clean is acts =
+      let row = said n.books c (suc (n.books.end c)) b in
+      let f : Fall = record { block = b; low = (held c).settled; high = max (held c).settled row.version } in
+      sym (ap (λ o. with_fall c o acts) (is ∙ ap (λ t. if t then Some f else None) clean))
+
+  pub crash_view : (c : ℕ) (flight : Option (ℕ × ℕ)) (falls : List Fall) → 0 < c → c < members → n.up c ≡ true → Premise logs (FallsSo n.books c (n.tokens c) flight falls)
+      → View logs members part b (acted (record n { up = put n.up c false }) (act.Fell c flight falls ∷ []))
+  crash_view c flight falls pos less up so =
+      elim (nat_lt (w.client c).settled (w.client c).version) as (λ t. nat_lt (w.client c).settled (w.client c).version ≡ t → View logs members part b (acted (record n { up = put n.up c false }) (a ∷ []))) [
+        | true ↦ λ is.
+            let u = crashes_dirty w c in
+            let step : Step logs w u = CrashesDirty c (record { dirty = below _ _ is }) in
+            fall c u a pos less up step refl refl refl (same_manager u refl refl (λ d. refl) (λ d. refl) refl v.manages.job) (all_same u refl refl refl refl refl refl (More Done step)) v.kept
             (λ k other. put_there w.fallen c 1 k other) (λ _. put_here w.fallen c 1)
-        | false ↦ λ is. fall c (crashes_clean w c) pos less up (CrashesClean c (record { clean = above _ _ is })) refl refl refl (same_manager (crashes_clean w c) refl refl (λ d. refl) (λ d. refl) refl v.manages.job) (all_same (crashes_clean w c) refl refl refl refl refl refl)
-            (λ k other. refl) (λ dirty. contrary (sym is ∙ (shown_dirty (shown_up c pos less up) ∙ dirty)))
+            (owed_both logs (Kept b n.books w) (FallsSo n.books c (n.tokens c) flight falls) (Tells u step a) (λ kept f. tells_dirty c falls shown (sym (shown_dirty shown) ∙ is) kept (f.each b)) v.kept so)
+        | false ↦ λ is.
+            let u = crashes_clean w c in
+            let step : Step logs w u = CrashesClean c (record { clean = above _ _ is }) in
+            fall c u a pos less up step refl refl refl (same_manager u refl refl (λ d. refl) (λ d. refl) refl v.manages.job) (all_same u refl refl refl refl refl refl (More Done step)) v.kept
+            (λ k other. refl) (λ dirty. contrary (sym is ∙ (shown_dirty shown ∙ dirty)))
+            (owed_on logs (FallsSo n.books c (n.tokens c) flight falls) (Tells u step a) (λ f. tells_clean c falls (sym (shown_dirty shown) ∙ is) (f.each b)) so)
       ] refl
     where
-      shown_dirty : Shows (setting b c (n.tokens c).inc) w.epoch (local_of (n.tokens c) b) (w.client c) → nat_lt (w.client c).settled (w.client c).version ≡ is_dirty (held_of (n.tokens c).blocks b)
-      shown_dirty shown = ap (λ k. nat_lt k (w.client c).version) shown.settled ∙ ap (λ k. nat_lt (held_of (n.tokens c).blocks b).settled k) shown.version
+      a : Act
+      a = act.Fell c flight falls
+
+      shown : Shows (setting b c (n.tokens c).inc) w.epoch (local_of (n.tokens c) b) (w.client c)
+      shown = shown_up c pos less up
+
+      shown_dirty : Shows (setting b c (n.tokens c).inc) w.epoch (local_of (n.tokens c) b) (w.client c) → nat_lt (w.client c).settled (w.client c).version ≡ is_dirty (held c)
+      shown_dirty shown = ap (λ k. nat_lt k (w.client c).version) shown.settled ∙ ap (λ k. nat_lt (held c).settled k) shown.version
 
       below : (m k : ℕ) → nat_lt m k ≡ true → m < k
       below m k h = grind (arith, nat_tests)
@@ -100,23 +172,25 @@ module _ (members part : ℕ) (b : BlockId) (n : Net) (v : View members part b n
       above : (m k : ℕ) → nat_lt m k ≡ false → k ≤ m
       above m k h = grind (arith, nat_tests)
 
-  pub return_view : (c inc : ℕ) (epochs : List ℕ) → 0 < c → c < members → n.up c ≡ false → (n.tokens c).inc < inc → epoch_of (n.tokens c).epochs part ≤ epoch_of epochs part → is_in_slot part b ≡ true
-      → View members part b (record n { tokens = put n.tokens c (fresh_tokens inc epochs); up = put n.up c true })
-  return_view c inc epochs pos less up later rises inside =
-      let gone : IsDown b (n.tokens c) (w.client c) = subst (λ u. ClientShown u b c (n.tokens c) w.epoch (w.client c)) up (v.clients c pos less) in
-      let same : slot_of b.ino.0 ≡ part = equal_numbers (slot_of b.ino.0) part inside in
-      let promised = epoch_of epochs (slot_of b.ino.0) in
-      let was = gone.promised ∙ ap (epoch_of (n.tokens c).epochs) same in
-      let will : promised ≡ epoch_of epochs part = ap (epoch_of epochs) same in
-      let boot = gone.incarnation in
-      let u = restarts_discarding w c inc promised in
+  -- ---- a client returns
+
+  back_from : (c inc : ℕ) (epochs : List ℕ) (u : World) (k : Books) (more : List Act) → 0 < c → c < members → n.up c ≡ false → (steps : Steps logs (start members) u)
+      → u.client ≡ put w.client c (back (w.client c) inc (epoch_of epochs (slot_of b.ino.0))) → u.fallen ≡ put w.fallen c 0 → u.epoch ≡ w.epoch → u.members ≡ w.members → Manages b v.slot u → Grows logs w u
+      → Premise logs (Kept b k u) → Premise logs (told (start members) u steps ≡ acts_of b more)
+      → View logs members part b (record n { tokens = put n.tokens c (fresh_tokens inc epochs); up = put n.up c true; books = k; acts = more })
+  back_from c inc epochs u k more pos less up steps clients fallen epoch many manages grows kept told_ =
+      let gone : IsDown b (n.tokens c) (w.client c) = subst (λ t. ClientShown t b c (n.tokens c) w.epoch (w.client c)) up (v.clients c pos less) in
+      let x = back (w.client c) inc (epoch_of epochs (slot_of b.ino.0)) in
       record {
         world = u;
-        steps = More v.steps (RestartsDiscarding c inc promised (record { member = let m = v.many in omega arith; down = gone.serving; later = omega arith; promise = omega arith }));
-        many = v.many;
-        nobody = subst (λ x. IsNobody x w.epoch) (sym (put_there w.client c (back (w.client c) inc promised) 0 (λ same. absurd (omega arith)))) v.nobody;
-        positive = v.positive;
-        clients = put_each_three (λ k t s x. 0 < k → k < members → ClientShown t b k s w.epoch x) n.up n.tokens w.client c true (fresh_tokens inc epochs) (back (w.client c) inc promised)
+        steps = steps;
+        many = many ∙ v.many;
+        some = v.some;
+        nobody = subst (λ e. IsNobody (u.client 0) e) (sym epoch) (subst (λ y. IsNobody y w.epoch) (sym (ap (λ f. f 0) clients ∙ put_there w.client c x 0 (λ same. absurd (omega arith)))) v.nobody);
+        positive = let p = v.positive in omega arith;
+        clients = λ d. subst (λ e. 0 < d → d < members → ClientShown (put n.up c true d) b d (put n.tokens c (fresh_tokens inc epochs) d) e (u.client d)) (sym epoch)
+            (subst (λ f. 0 < d → d < members → ClientShown (put n.up c true d) b d (put n.tokens c (fresh_tokens inc epochs) d) w.epoch (f d)) (sym clients)
+            (put_each_three (λ k t s y. 0 < k → k < members → ClientShown t b k s w.epoch y) n.up n.tokens w.client c true (fresh_tokens inc epochs) x
             (λ _ _. record {
               client = pos;
               serving = refl;
@@ -131,64 +205,82 @@ module _ (members part : ℕ) (b : BlockId) (n : Net) (v : View members part b n
               value = tt;
               fetch = gone.fetching;
             })
-            (λ k other pos less. v.clients k pos less);
-        fell = put_each_three (λ k t s f. 0 < k → k < members → FellDirty t (held_of s.blocks b) f) n.up n.tokens w.fallen c true (fresh_tokens inc epochs) 0
-            (λ _ _ down _. contrary (sym down)) (λ k other. v.fell k);
+            (λ k other pos less. v.clients k pos less) d));
+        fell = λ d. subst (λ f. 0 < d → d < members → FellDirty (put n.up c true d) (held_of (put n.tokens c (fresh_tokens inc epochs) d).blocks b) (f d)) (sym fallen)
+            (put_each_three (λ k t s f. 0 < k → k < members → FellDirty t (held_of s.blocks b) f) n.up n.tokens w.fallen c true (fresh_tokens inc epochs) 0
+            (λ _ _ down _. contrary (sym down)) (λ k other. v.fell k) d);
         slot = v.slot;
         sound = v.sound;
-        reigns = v.reigns;
-        past = v.past;
-        manages = same_manager u refl refl (λ d. refl) (λ d. refl) refl v.manages.job;
-        sent = λ p is. carried_on part b w u p (all_same u refl refl refl refl refl refl) (v.sent p is);
+        reigns = ap n.slots epoch ∙ v.reigns;
+        past = λ e s is. (let p = (v.past e s is).0 in omega arith, (v.past e s is).1);
+        manages = manages;
+        sent = λ p is. carried_on logs part b w u p grows (v.sent p is);
+        kept = kept;
+        acts = told_;
       }
 
-  -- ---- what logs that aren't trusted allow
+  pub return_view : (c inc : ℕ) (epochs : List ℕ) (chain : List SegName) → 0 < c → c < members → n.up c ≡ false → (n.tokens c).inc < inc → epoch_of (n.tokens c).epochs part ≤ epoch_of epochs part → is_in_slot part b ≡ true
+      → Premise logs (adopts n.acts c chain ≡ true → n.books.flying c ≡ true)
+      → View logs members part b (acted (record n { tokens = put n.tokens c (fresh_tokens inc epochs); up = put n.up c true; books = reopened n.books c (adopts n.acts c chain) }) (act.Back c chain ∷ []))
+  return_view c inc epochs chain pos less up later rises inside flies =
+      elim (adopts n.acts c chain) as (λ t. adopts n.acts c chain ≡ t
+      → View logs members part b (acted (record n { tokens = put n.tokens c (fresh_tokens inc epochs); up = put n.up c true; books = reopened n.books c t }) (act.Back c chain ∷ []))) [
+        | true ↦ λ is.
+            let u = restarts_adopting w c inc promised in
+            let step : Step logs w u = RestartsAdopting c inc promised may (adopting is) in
+            back_from c inc epochs u (filed n.books c) (n.acts ++ act.Back c chain ∷ []) pos less up (More v.steps step) refl refl refl refl (same_manager u refl refl (λ d. refl) (λ d. refl) refl v.manages.job)
+            (all_same u refl refl refl refl refl refl (More Done step)) (owed_on logs (Kept b n.books w) (Kept b (filed n.books c) u) (λ kept. filed_seen b n.books w.end w.flight w.rows kept c) v.kept)
+            (acts_more u step (act.Back c chain) (owed logs (Tells u step (act.Back c chain)) (λ _ acts. ap (λ t. BackBlock c t ∷ acts) (sym is))))
+        | false ↦ λ is.
+            let u = restarts_discarding w c inc promised in
+            let step : Step logs w u = RestartsDiscarding c inc promised may in
+            back_from c inc epochs u (discarded n.books c) (n.acts ++ act.Back c chain ∷ []) pos less up (More v.steps step) refl refl refl refl (same_manager u refl refl (λ d. refl) (λ d. refl) refl v.manages.job)
+            (all_same u refl refl refl refl refl refl (More Done step)) (owed_on logs (Kept b n.books w) (Kept b (discarded n.books c) u) (λ kept. discarded_seen b n.books w.end w.flight w.rows kept c) v.kept)
+            (acts_more u step (act.Back c chain) (owed logs (Tells u step (act.Back c chain)) (λ _ acts. ap (λ t. BackBlock c t ∷ acts) (sym is))))
+      ] refl
+    where
+      promised : ℕ
+      promised = epoch_of epochs (slot_of b.ino.0)
 
-  -- a segment may be in flight, with any version
-  abbrev pub flown : ℕ → ℕ → World
-  flown c ver = record w { flight = put w.flight c 1; rows = put w.rows c (put (w.rows c) (suc (w.end c)) (record { version = ver; value = 0 })) }
+      gone : IsDown b (n.tokens c) (w.client c)
+      gone = subst (λ u. ClientShown u b c (n.tokens c) w.epoch (w.client c)) up (v.clients c pos less)
 
-  -- so a version may be settled at any time
-  pub safe_view : (c end ver : ℕ) → 0 < c → c < members → n.up c ≡ true → IsSound (n.tokens c) → ver ≤ (held_of (n.tokens c).blocks b).ver → View members part b (after_client n c end (client.on_settled (n.tokens c) b ver))
-  safe_view c end ver pos less up sound below =
-      let s = n.tokens c in
-      let g = setting b c s.inc in
-      let f = flown c ver in
-      let shown = shown_up c pos less up in
-      let lost : Steps false (start members) f = More v.steps (Loses f refl) in
-      let row : (put w.rows c (put (w.rows c) (suc (w.end c)) (record { version = ver; value = 0 })) c (suc (w.end c))).version ≡ ver =
-      ap (λ (h : ℕ → Row). (h (suc (w.end c))).version) (put_here w.rows c (put (w.rows c) (suc (w.end c)) (record { version = ver; value = 0 }))) ∙ ap (λ (r : Row). r.version) (put_here (w.rows c) (suc (w.end c)) (record { version = ver; value = 0 })) in
-      let both = settles_blocks false g end f s ver
-      (record { shows = shown; sound = sound; promised = epoch_promised w (owned false members w v.steps) c (let m = v.many in omega arith); settled = tt })
-      (record { serving = shown.serving }) tt row below in
-      let u = settles f c in
-      let d = client.on_settled s b ver in
-      let boot : d.state.inc ≡ s.inc = both.1.boot in
-      record {
-        world = u;
-        steps = More lost both.0;
-        many = v.many;
-        positive = v.positive;
-        fell = put_each (λ k x. 0 < k → k < members → FellDirty (n.up k) (held_of x.blocks b) (u.fallen k)) n.tokens c d.state
-            (λ _ _ down _. contrary (sym down ∙ up)) (λ k other. v.fell k);
-        slot = v.slot;
-        sound = v.sound;
-        reigns = v.reigns;
-        past = v.past;
-        nobody = subst (λ x. IsNobody x w.epoch) (sym (put_there w.client c _ 0 (λ same. absurd (omega arith)))) v.nobody;
-        clients = put_each (λ k x. 0 < k → k < members → ClientShown (n.up k) b k x w.epoch (u.client k)) n.tokens c d.state
-            (λ _ _. subst (λ t. ClientShown t b c d.state w.epoch (u.client c)) (sym up) (subst (λ k. Shows (setting b c k) w.epoch (local_of d.state b) (u.client c)) (sym boot) both.1))
-            (λ k other pos less. subst (λ x. ClientShown (n.up k) b k (n.tokens k) w.epoch x) (sym (put_there w.client c _ k other)) (v.clients k pos less));
-        manages = same_manager u refl refl (λ d. refl) (λ d. refl) refl v.manages.job;
-        sent = λ p is. ⊎_elim (λ new. absurd (subst (λ os. In p (client_packets c d.state.inc end os)) (safe_quiet s b ver) new)) (λ old. carried_on part b w u p (all_same u refl refl refl refl refl refl) (v.sent p old)) (either_in p (client_packets c d.state.inc end d.outs) n.sent is);
-      }
+      may : MayRestart w c inc promised
+      may =
+          let same : slot_of b.ino.0 ≡ part = equal_numbers (slot_of b.ino.0) part inside in
+          let was = gone.promised ∙ ap (epoch_of (n.tokens c).epochs) same in
+          let will : promised ≡ epoch_of epochs part = ap (epoch_of epochs) same in
+          let boot = gone.incarnation in
+          record { member = let m = v.many in omega arith; down = gone.serving; later = omega arith; promise = omega arith }
 
-  -- a client that serves a Forward
-  pub supply_view : (c other : ℕ) (block : BlockId) (stamp : Stamp) (inc req ver : ℕ) (value : Option (List ℕ)) → In (ForwardSent c other block stamp inc req ver) n.sent → View members part b (record n { sent = SupplySent other block stamp inc req ver value ∷ n.sent })
-  supply_view c other block stamp inc req ver value is = record {
+      adopting : adopts n.acts c chain ≡ true → Premise logs (TailAdopted w c)
+      adopting is =
+          owed_both logs (Kept b n.books w) (adopts n.acts c chain ≡ true → n.books.flying c ≡ true) (TailAdopted w c)
+          (λ kept h. record { in_flight = kept.flights c ∙ ap flag (h is) }) v.kept flies
+
+  -- ---- a client that serves a Forward
+
+  -- what it supplies is the value of the newest version, which is filed
+  supplies_so : (c other : ℕ) (stamp : Stamp) (inc req ver : ℕ) (value : Option (List ℕ)) (entry : Entry) → 0 < c → c < members → n.up c ≡ true → client.serves (n.tokens c) b stamp ver ≡ true
+      → (held_of (n.tokens c).blocks b).value ≡ Some value → entry.ver ≡ ver → SentOffer other w stamp inc req Copy (entry_seen entry) → Premise logs (Supplies stamp.epoch ver value w)
+  supplies_so c other stamp inc req ver value entry pos less up serves is same sent = go logs w (shown_up c pos less up) sent v.steps
+    where
+      go : (l : Bool) (u : World) → Shows (setting b c (n.tokens c).inc) u.epoch (local_of (n.tokens c) b) (u.client c) → SentOffer other u stamp inc req Copy (entry_seen entry) → Steps l (start members) u
+          → Premise l (Supplies stamp.epoch ver value u)
+      go true u shown sent steps = λ reigns.
+          let i = always members u steps in
+          let newest = supplies_newest (setting b c (n.tokens c).inc) u (n.tokens c) stamp ver value shown (holders_newest u i c) serves is in
+          record { joined = let joined = offers_joined u i _ (sent.offered reigns) in omega arith; content = newest.0 }
+      go false u shown sent steps = tt
+
+  pub supply_view : (c other : ℕ) (block : BlockId) (stamp : Stamp) (inc req ver : ℕ) (value : Option (List ℕ)) → 0 < c → c < members → In (ForwardSent c other block stamp inc req ver) n.sent → n.up c ≡ true
+      → client.serves (n.tokens c) block stamp ver ≡ true → (held_of (n.tokens c).blocks block).value ≡ Some value
+      → View logs members part b (record n { sent = SupplySent other block stamp inc req ver value ∷ n.sent })
+  supply_view c other block stamp inc req ver value pos less is up serves value_is = record {
     world = w;
     steps = v.steps;
     many = v.many;
+    some = v.some;
     nobody = v.nobody;
     positive = v.positive;
     clients = v.clients;
@@ -198,5 +290,17 @@ module _ (members part : ℕ) (b : BlockId) (n : Net) (v : View members part b n
     reigns = v.reigns;
     past = v.past;
     manages = v.manages;
-    sent = λ p h. ⊎_elim (λ e. subst (Carried part b w) (sym e) (v.sent _ is)) (λ old. v.sent p old) h;
+    sent = λ p h. ⊎_elim (λ e. subst (Carried logs part b w) (sym e) new) (λ old. v.sent p old) h;
+    kept = v.kept;
+    acts = v.acts;
   }
+    where
+      new : Carried logs part b w (SupplySent other block stamp inc req ver value)
+      new same =
+          let h = v.sent _ is same in (
+            h.0,
+            h.1,
+            h.2,
+            supplies_so c other stamp inc req ver value h.0 pos less up (subst (λ (k : BlockId). client.serves (n.tokens c) k stamp ver ≡ true) same serves)
+                (subst (λ (k : BlockId). (held_of (n.tokens c).blocks k).value ≡ Some value) same value_is) h.1 h.2,
+          )

@@ -1,5 +1,5 @@
 -- The laws are read off how each block of a run is seen in the abstract token protocol.
-use Rattle.std.proofs.Common.{◌≡◌, ℕ, ◌≤◌, ◌<◌, Bool, true, false, refl, sym, ap, subst, ◌∙◌, arith}
+use Rattle.std.proofs.Common.{◌≡◌, ℕ, zero, suc, ◌≤◌, ◌<◌, Bool, true, false, List, [], ◌∷◌, ◌++◌, refl, sym, ap, subst, ◌∙◌, arith}
 use Rattle.xfs_base.specs.declared.block.BlockId.{BlockId}
 use Rattle.xfs_base.specs.declared.token.Mode.{Mode}
 use Rattle.xfs_base.specs.declared.token.Mode.TheVariants.{Nothing, Copy, Own}
@@ -9,13 +9,22 @@ use Rattle.xfs_base.proofs.Booleans.{contrary}
 use Rattle.token_client.specs.State.{held_of, epoch_of}
 use Rattle.token_manager.specs.Laws.{share_of}
 use Rattle.token_manager.specs.SlotState.{SlotState}
+use Rattle.version_model.specs.declared.act.Act.{Act}
+use Rattle.act_tie.specs.BlockActs.{acts_of}
+use Rattle.token_protocol.specs.Acts.{LegalActs}
+use Rattle.token_protocol.proofs.Told.{acts_legal}
 use Rattle.token_protocol.proofs.Invariant.{Owned, owned}
 use Rattle.token_protocol.proofs.Laws.{single_owner, epoch_promised, beliefs_cover, acceptable_believed, no_holder_after_fall}
 use Rattle.token_tie.specs.Seen.{rank, local_of, entry_seen}
 use Rattle.token_tie.proofs.Leaves.{taking}
 use Rattle.token_tie.proofs.SmallFacts.{equal_numbers}
-use Rattle.token_law.specs.Laws.{Moment, IsClient, Reigns, OneOwner, ActiveEpochsPromised, HoldingsBelieved, GrantsBelieved, NobodyHoldsAfterFall}
-use Rattle.token_law.specs.Net.{Net}
+use Rattle.token_law.specs.Laws.{Moment, IsClient, Reigns, OneOwner, ActiveEpochsPromised, HoldingsBelieved, GrantsBelieved, NobodyHoldsAfterFall, ActsAreLegal, FallsAreApart}
+use Rattle.token_law.specs.Net.{Net, Happens, Runs, opening}
+use Rattle.token_law.specs.Net.Happens.{Acts, Elsewhere, Reports, GetsCopy, GetsOwn, Declines, GetsRecall, GetsForward, GetsSupply, Fetches, Reads, Syncs, Seals, Files, GetsDeltas, GetsWant, GetsGave, Ticks, Crashes, Returns, SealsCopies, FilesCopies, Reopens, Activates, Says}
+use Rattle.token_law.specs.Net.Runs.{Begun, On}
+use Rattle.token_law.specs.Owed.{IsNeutral}
+use Rattle.token_law.proofs.Acting.{neutral_acts}
+use Rattle.token_law.proofs.Apart.{falls_kept}
 use Rattle.token_law.proofs.Views.{setting, some_one, ClientShown, View}
 use Rattle.token_law.proofs.Falls.{shown_up}
 use Rattle.token_law.proofs.Start.{always}
@@ -35,22 +44,22 @@ holds_none Nothing h = refl
 holds_none Copy h = absurd (omega arith)
 holds_none Own h = absurd (omega arith)
 
-module _ (members part : ℕ) (n : Net) (b : BlockId) (m : Moment members part n b) where
-  seen : (c : ℕ) → IsClient members c → View members part b n
-  seen c is = (always members part n (let w = is.within in omega arith) m.run).views b m.inside
+module _ (logs : Bool) (members part : ℕ) (n : Net) (b : BlockId) (m : Moment logs members part n b) where
+  seen : (c : ℕ) → IsClient members c → View logs members part b n
+  seen c is = (always logs members part n (let w = is.within in omega arith) m.run).good.views b m.inside
 
-  is_owned : (v : View members part b n) → Owned v.world
-  is_owned v = owned false members v.world v.steps
+  is_owned : (v : View logs members part b n) → Owned v.world
+  is_owned v = owned logs members v.world v.steps
 
-  promised_is : (v : View members part b n) (c : ℕ) (up : Bool) → ClientShown up b c (n.tokens c) v.world.epoch (v.world.client c) → (v.world.client c).promised ≡ epoch_of (n.tokens c).epochs (slot_of b.ino.0)
+  promised_is : (v : View logs members part b n) (c : ℕ) (up : Bool) → ClientShown up b c (n.tokens c) v.world.epoch (v.world.client c) → (v.world.client c).promised ≡ epoch_of (n.tokens c).epochs (slot_of b.ino.0)
   promised_is v c true shown = shown.stamps.promised
   promised_is v c false shown = shown.promised
 
-  promised_by : (v : View members part b n) (c : ℕ) → IsClient members c → v.world.epoch ≤ (v.world.client c).promised
+  promised_by : (v : View logs members part b n) (c : ℕ) → IsClient members c → v.world.epoch ≤ (v.world.client c).promised
   promised_by v c is = epoch_promised v.world (is_owned v) c (let many = v.many in let within = is.within in omega arith)
 
   -- the slot that reigns is the one that is seen
-  reigning : (v : View members part b n) (e : ℕ) (s : SlotState) → Reigns n e s → s ≡ v.slot
+  reigning : (v : View logs members part b n) (e : ℕ) (s : SlotState) → Reigns n e s → s ≡ v.slot
   reigning v e s r =
       let above = r.latest v.world.epoch v.slot v.reigns in
       let below = (v.past e s r.active).0 in
@@ -58,40 +67,86 @@ module _ (members part : ℕ) (n : Net) (b : BlockId) (m : Moment members part n
       some_one s v.slot (sym r.active ∙ ap n.slots same ∙ v.reigns)
 
 pub one_owner : OneOwner
-one_owner members part n b m c d is is2 up up2 own held =
-    let v = seen members part n b m c is in
-    let mode = (shown_up members part b n v d is2.some is2.within up2).mode in
+one_owner logs members part n b m c d is is2 up up2 own held =
+    let v = seen logs members part n b m c is in
+    let mode = (shown_up logs members part b n v d is2.some is2.within up2).mode in
     let some = holds_some (held_of (n.tokens d).blocks b).mode held in
-    single_owner v.world (is_owned members part n b m v) c d ((shown_up members part b n v c is.some is.within up).mode ∙ owns_two (held_of (n.tokens c).blocks b).mode own) (omega arith)
+    single_owner v.world (is_owned logs members part n b m v) c d ((shown_up logs members part b n v c is.some is.within up).mode ∙ owns_two (held_of (n.tokens c).blocks b).mode own) (omega arith)
 
 pub active_promised : ActiveEpochsPromised
-active_promised members part n b m e s active c is =
-    let v = seen members part n b m c is in
+active_promised logs members part n b m e s active c is =
+    let v = seen logs members part n b m c is in
     let below = (v.past e s active).0 in
-    let high = promised_by members part n b m v c is in
-    let same = promised_is members part n b m v c (n.up c) (v.clients c is.some is.within) ∙ ap (epoch_of (n.tokens c).epochs) (equal_numbers (slot_of b.ino.0) part m.inside) in
+    let high = promised_by logs members part n b m v c is in
+    let same = promised_is logs members part n b m v c (n.up c) (v.clients c is.some is.within) ∙ ap (epoch_of (n.tokens c).epochs) (equal_numbers (slot_of b.ino.0) part m.inside) in
     omega arith
 
 pub holdings_believed : HoldingsBelieved
-holdings_believed members part n b m e s r c is up =
-    let v = seen members part n b m c is in
-    let covered = (beliefs_cover v.world (is_owned members part n b m v)).held c in
+holdings_believed logs members part n b m e s r c is up =
+    let v = seen logs members part n b m c is in
+    let covered = (beliefs_cover v.world (is_owned logs members part n b m v)).held c in
     let believed = v.manages.belief c in
-    let mode = (shown_up members part b n v c is.some is.within up).mode in
-    subst (λ (x : SlotState). rank (held_of (n.tokens c).blocks b).mode ≤ share_of x.beliefs b c) (sym (reigning members part n b m v e s r)) (omega arith)
+    let mode = (shown_up logs members part b n v c is.some is.within up).mode in
+    subst (λ (x : SlotState). rank (held_of (n.tokens c).blocks b).mode ≤ share_of x.beliefs b c) (sym (reigning logs members part n b m v e s r)) (omega arith)
 
 pub grants_believed : GrantsBelieved
-grants_believed members part n b m e s r c is up stamp inc req mode entry sent accepted =
-    let v = seen members part n b m c is in
-    let shown = shown_up members part b n v c is.some is.within up in
-    let may = taking false (setting b c (n.tokens c).inc) 0 v.world (local_of (n.tokens c) b) stamp inc req mode (entry_seen entry) shown (promised_by members part n b m v c is) (v.sent _ sent refl) accepted in
-    let covered = acceptable_believed v.world (is_owned members part n b m v) _ may.1.sent may.1.live in
+grants_believed logs members part n b m e s r c is up stamp inc req mode entry sent accepted =
+    let v = seen logs members part n b m c is in
+    let shown = shown_up logs members part b n v c is.some is.within up in
+    let may = taking logs (setting b c (n.tokens c).inc) 0 v.world (local_of (n.tokens c) b) stamp inc req mode (entry_seen entry) shown (promised_by logs members part n b m v c is) (v.sent _ sent refl) accepted in
+    let covered = acceptable_believed v.world (is_owned logs members part n b m v) _ may.1.sent may.1.live in
     let believed = v.manages.belief c in
-    subst (λ (x : SlotState). rank mode ≤ share_of x.beliefs b c) (sym (reigning members part n b m v e s r)) (omega arith)
+    subst (λ (x : SlotState). rank mode ≤ share_of x.beliefs b c) (sym (reigning logs members part n b m v e s r)) (omega arith)
 
 pub nobody_holds : NobodyHoldsAfterFall
-nobody_holds members part n b m c d is is2 down dirty up =
-    let v = seen members part n b m c is in
-    let mode = (shown_up members part b n v d is2.some is2.within up).mode in
-    let none = no_holder_after_fall v.world (is_owned members part n b m v) c d (v.fell c is.some is.within down dirty) in
+nobody_holds logs members part n b m c d is is2 down dirty up =
+    let v = seen logs members part n b m c is in
+    let mode = (shown_up logs members part b n v d is2.some is2.within up).mode in
+    let none = no_holder_after_fall v.world (is_owned logs members part n b m v) c d (v.fell c is.some is.within down dirty) in
     holds_none (held_of (n.tokens d).blocks b).mode (omega arith)
+
+-- ---- acts, where logs keep their word
+
+-- with no client nothing is acted but what changes no history
+unacted : (b : BlockId) (acts : List Act) (a : Act) → IsNeutral a → acts_of b acts ≡ [] → acts_of b (acts ++ a ∷ []) ≡ []
+unacted b acts a neutral none = neutral_acts b acts a neutral ∙ none
+
+no_clients : (part : ℕ) (b : BlockId) (n m : Net) → Happens true 0 part n m → acts_of b n.acts ≡ [] → acts_of b m.acts ≡ []
+no_clients part b n m (Acts c end x serves own) i = absurd (let less = serves.within in omega arith)
+no_clients part b n m (Elsewhere c end x serves other) i = i
+no_clients part b n m (Reports c end serves) i = i
+no_clients part b n m (GetsCopy c end block stamp inc req entry serves is) i = i
+no_clients part b n m (GetsOwn c end block stamp inc req entry value serves is accepts room) i = absurd (let less = serves.within in omega arith)
+no_clients part b n m (Declines c end block stamp inc req entry serves is accepts) i = i
+no_clients part b n m (GetsRecall c end block stamp keep serves is) i = i
+no_clients part b n m (GetsForward c other block stamp inc req ver value pos less is up serves held) i = i
+no_clients part b n m (GetsSupply c end block stamp inc req ver value serves is) i = i
+no_clients part b n m (Fetches c end block value serves there) i = i
+no_clients part b n m (Reads c block value pos less up held is) i = absurd (omega arith)
+no_clients part b n m (Syncs c pos less up clean) i = absurd (omega arith)
+no_clients part b n m (Seals c rows pos less up free newest) i = i
+no_clients part b n m (Files c pos less up flies) i = i
+no_clients part b n m (GetsDeltas e s log first upto rows at known some covers) i = i
+no_clients part b n m (GetsWant e s c inc req again block mode end at is) i = i
+no_clients part b n m (GetsGave e s c block stamp end at is) i = i
+no_clients part b n m (Ticks e s at) i = i
+no_clients part b n m (Crashes c flight falls pos less up so) i = absurd (omega arith)
+no_clients part b n m (Returns c inc epochs chain count pos less up later rises flies) i = absurd (omega arith)
+no_clients part b n m (SealsCopies l rows out free originals) i = i
+no_clients part b n m (FilesCopies l out flies) i = i
+no_clients part b n m (Reopens l adopted count out flies) i = i
+no_clients part b n m (Activates e index applied rows ends order none all each sent gathered) i = i
+no_clients part b n m (Says a neutral) i = unacted b n.acts a neutral i
+
+nothing_acted : (part : ℕ) (b : BlockId) (n m : Net) → Runs true 0 part n m → acts_of b n.acts ≡ [] → acts_of b m.acts ≡ []
+nothing_acted part b n m Begun i = i
+nothing_acted part b n m (On {m = k} rs h) i = no_clients part b k m h (nothing_acted part b n k rs i)
+
+pub acts_are_legal : ActsAreLegal
+acts_are_legal zero part n b m = subst LegalActs (sym (nothing_acted part b opening n m.run refl)) tt
+acts_are_legal (suc members) part n b m =
+    let v = (always true (suc members) part n (omega arith) m.run).good.views b m.inside in
+    subst LegalActs v.acts (acts_legal (suc members) v.world v.steps)
+
+pub falls_are_apart : FallsAreApart
+falls_are_apart members part n run = (falls_kept members part n run).apart

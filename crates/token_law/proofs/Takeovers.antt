@@ -15,6 +15,8 @@ use Rattle.token_manager.proofs.Guarded.{Sound}
 use Rattle.token_protocol.specs.Basics.{put, In}
 use Rattle.token_protocol.specs.Client.{Client}
 use Rattle.token_protocol.specs.Packets as packets
+use Rattle.token_protocol.specs.Laws.{CleanerEmpty}
+use Rattle.token_protocol.specs.Premises.{Premise, SettledEnd, IndexGathered}
 use Rattle.token_protocol.specs.Step.{Steps}
 use Rattle.token_protocol.specs.Step.Steps.{More}
 use Rattle.token_protocol.specs.World.{World, start}
@@ -39,16 +41,27 @@ use Rattle.token_tie.proofs.Frames.{put_here, put_there}
 use Rattle.token_tie.proofs.TakingOver.{one_numbers, activation_shows, activation_manages, reports_believed, reports_most}
 use Rattle.token_client.proofs.Tables.{InOrder}
 use Rattle.std.specs.Prelude.{All, Contains}
-use Rattle.token_law.proofs.Views.{setting, ClientShown, some_one, Carried, View, carried_on}
+use Rattle.token_law.specs.Owed.{Gathered}
+use Rattle.token_law.proofs.Premises.{owed, owed_both}
+use Rattle.token_law.proofs.Logged.{Kept}
+use Rattle.token_law.proofs.Indexes.{nothing_of_nobody, gathered_of}
+use Rattle.token_law.proofs.Views.{setting, ClientShown, some_one, Supplies, Carried, View, Lasts, carried_on}
 
-pub carried_rise : (part : ℕ) (b : BlockId) (w : World) (epoch : ℕ) (report : ℕ → packets.Report) (applied : ℕ → ℕ) (e : abstract_entry.Entry) (p : Packet) → w.epoch < epoch → Carried part b w p → Carried part b (takeover.activates w epoch report applied e) p
-carried_rise part b w epoch report applied e (WantSent c inc req again block mode end) later h = h
-carried_rise part b w epoch report applied e (GrantSent c block at inc req mode entry) later h = λ is. let k = h is in let low = k.low in record { low = omega arith; some = k.some; offered = λ reigns. absurd (omega arith) }
-carried_rise part b w epoch report applied e (RecallSent c block at keep) later h = λ is. let k = h is in let low = k.low in record { low = omega arith; some = k.some; recalled = λ reigns. absurd (omega arith) }
-carried_rise part b w epoch report applied e (GaveSent c block stamp end) later h = (h.0, λ is. let low = (h.1 is).0 in (omega arith, λ reigns. absurd (omega arith)))
-carried_rise part b w epoch report applied e (ForwardSent passer c block at inc req ver) later h = λ is. let k = h is in let low = k.2.low in (k.0, k.1, record { low = omega arith; some = k.2.some; offered = λ reigns. absurd (omega arith) })
-carried_rise part b w epoch report applied e (SupplySent c block at inc req ver value) later h = λ is. let k = h is in let low = k.2.low in (k.0, k.1, record { low = omega arith; some = k.2.some; offered = λ reigns. absurd (omega arith) })
-carried_rise part b w epoch report applied e (ReportSent c at rows) later h = h
+pub carried_rise : (logs : Bool) (part : ℕ) (b : BlockId) (w : World) (epoch : ℕ) (report : ℕ → packets.Report) (applied : ℕ → ℕ) (e : abstract_entry.Entry) (p : Packet) → w.epoch < epoch → Carried logs part b w p → Carried logs part b (takeover.activates w epoch report applied e) p
+carried_rise logs part b w epoch report applied e (WantSent c inc req again block mode end) later h = h
+carried_rise logs part b w epoch report applied e (GrantSent c block at inc req mode entry) later h = λ is. let k = h is in let low = k.low in record { low = omega arith; some = k.some; offered = λ reigns. absurd (omega arith) }
+carried_rise logs part b w epoch report applied e (RecallSent c block at keep) later h = λ is. let k = h is in let low = k.low in record { low = omega arith; some = k.some; recalled = λ reigns. absurd (omega arith) }
+carried_rise logs part b w epoch report applied e (GaveSent c block stamp end) later h = (h.0, λ is. let low = (h.1 is).0 in (omega arith, λ reigns. absurd (omega arith)))
+carried_rise logs part b w epoch report applied e (ForwardSent passer c block at inc req ver) later h = λ is. let k = h is in let low = k.2.low in (k.0, k.1, record { low = omega arith; some = k.2.some; offered = λ reigns. absurd (omega arith) })
+carried_rise logs part b w epoch report applied e (SupplySent c block at inc req ver value) later h = λ is.
+    let k = h is in
+    let low = k.2.low in (
+      k.0,
+      k.1,
+      record { low = omega arith; some = k.2.some; offered = λ reigns. absurd (omega arith) },
+      owed logs (Supplies at.epoch ver value (takeover.activates w epoch report applied e)) (λ _ reigns. absurd (omega arith)),
+    )
+carried_rise logs part b w epoch report applied e (ReportSent c at rows end) later h = h
 
 pub nothing_in_order : InOrder []
 unfolding IsStrictlySortedBy
@@ -76,7 +89,7 @@ two_ranks m k p q f g =
     clash false h more = g (grind (arith, nat_tests)) (grind (arith, nat_tests))
 
 -- what the reports of all clients say of a block
-pub record Told (members part : ℕ) (b : BlockId) (w : World) (epoch : ℕ) (rows : ℕ → List (BlockId × Mode)) (c : ℕ) : Type 0 where
+pub record Told (members part : ℕ) (b : BlockId) (w : World) (epoch : ℕ) (rows : ℕ → List (BlockId × Mode)) (ends : ℕ → ℕ) (c : ℕ) : Type 0 where
   pub blocks : List (BlockId × Held)
   pub report : packets.Report
   pub sorted : InOrder blocks
@@ -85,33 +98,38 @@ pub record Told (members part : ℕ) (b : BlockId) (w : World) (epoch : ℕ) (ro
   pub sender : c < members → report.client ≡ c
   pub asked : c < members → report.epoch ≡ epoch
   pub mode : c < members → report.mode ≡ rank (held_of blocks b).mode
+  pub end : 0 < c → c < members → report.end ≡ ends c
   pub nothing : (c < members → ⊥) → rank (held_of blocks b).mode ≡ 0
 
-module _ (members part : ℕ) (b : BlockId) (n : Net) (v : View members part b n) (epoch : ℕ) (index : List (BlockId × Entry)) (applied : List ℕ) (rows : ℕ → List (BlockId × Mode)) (none : n.slots epoch ≡ None)
-    (order : List ℕ) (all : (c : ℕ) → 0 < c → c < members → Contains order c) (each : All (λ c. (0 < c) × (c < members)) order) (reports_sent : (c : ℕ) → 0 < c → c < members → In (ReportSent c epoch (rows c)) n.sent) where
+module _ (logs : Bool) (members part : ℕ) (b : BlockId) (n : Net) (v : View logs members part b n) (epoch : ℕ) (index : List (BlockId × Entry)) (applied : List ℕ) (rows : ℕ → List (BlockId × Mode)) (ends : ℕ → ℕ)
+    (none : n.slots epoch ≡ None) (order : List ℕ) (all : (c : ℕ) → 0 < c → c < members → Contains order c) (each : All (λ c. (0 < c) × (c < members)) order)
+    (reports_sent : (c : ℕ) → 0 < c → c < members → In (ReportSent c epoch (rows c) (ends c)) n.sent) where
   abbrev pub old : World
   old = v.world
 
-  -- nobody promises and reports too
+  -- nobody promises and reports too, with the end of a log in which nothing is
   abbrev pub promised_ : World
   promised_ = takeover.promises old 0 epoch
 
   abbrev pub now : World
-  now = takeover.reports promised_ 0 0
+  now = takeover.reports promised_ 0 (old.end 0)
 
-  pub now_steps : old.epoch < epoch → Steps false (start members) now
-  now_steps later = More (More v.steps (PromisesStep 0 epoch (record { serving = v.nobody.serving; higher = let p = v.nobody.promised in omega arith }))) (ReportsStep 0 0 (record { serving = v.nobody.serving }) tt)
+  pub now_steps : old.epoch < epoch → Steps logs (start members) now
+  now_steps later =
+      More (More v.steps (PromisesStep 0 epoch (record { serving = v.nobody.serving; higher = let p = v.nobody.promised in omega arith })))
+      (ReportsStep 0 (old.end 0) (record { serving = v.nobody.serving }) (owed logs (SettledEnd promised_ 0 (old.end 0)) (λ _. record { last_filed = refl })))
 
-  pub hears : (c : ℕ) → Told members part b now epoch rows c
+  pub hears : (c : ℕ) → Told members part b now epoch rows ends c
   hears zero = record {
     blocks = [];
-    report = record { client = 0; epoch = epoch; mode = old_mode; end = 0 };
+    report = record { client = 0; epoch = epoch; mode = old_mode; end = old.end 0 };
     sorted = nothing_in_order;
     same = λ pos l. absurd (omega arith);
     sent = λ _. inl refl;
     sender = λ _. refl;
     asked = λ _. refl;
     mode = λ _. v.nobody.mode;
+    end = λ pos l. absurd (omega arith);
     nothing = λ _. refl;
   }
     where
@@ -125,13 +143,35 @@ module _ (members part : ℕ) (b : BlockId) (n : Net) (v : View members part b n
       no_less : (c n : ℕ) → nat_lt c n ≡ false → c < n → ⊥
       no_less c n h l = grind (arith, nat_tests)
 
-      at : (c : ℕ) → 0 < c → Told members part b now epoch rows c
+      at : (c : ℕ) → 0 < c → Told members part b now epoch rows ends c
       at c pos =
-          elim (nat_lt c members) as (λ t. nat_lt c members ≡ t → Told members part b now epoch rows c) [
+          elim (nat_lt c members) as (λ t. nat_lt c members ≡ t → Told members part b now epoch rows ends c) [
             | true ↦ λ is.
                 let h = v.sent _ (reports_sent c pos (less c members is)) in
-                record { blocks = h.0; report = record { client = c; epoch = epoch; mode = rank (held_of h.0 b).mode; end = h.1 }; sorted = h.2; same = λ _ _. h.3; sent = λ _. inr h.4; sender = λ _. refl; asked = λ _. refl; mode = λ _. refl; nothing = λ no. absurd (no (less c members is)) }
-            | false ↦ λ is. record { blocks = []; report = record { client = c; epoch = epoch; mode = 0; end = 0 }; sorted = nothing_in_order; same = λ _ l. absurd (no_less c members is l); sent = λ l. absurd (no_less c members is l); sender = λ _. refl; asked = λ _. refl; mode = λ _. refl; nothing = λ _. refl }
+                record {
+                  blocks = h.0;
+                  report = record { client = c; epoch = epoch; mode = rank (held_of h.0 b).mode; end = ends c };
+                  sorted = h.1;
+                  same = λ _ _. h.2;
+                  sent = λ _. inr h.3;
+                  sender = λ _. refl;
+                  asked = λ _. refl;
+                  mode = λ _. refl;
+                  end = λ _ _. refl;
+                  nothing = λ no. absurd (no (less c members is));
+                }
+            | false ↦ λ is. record {
+              blocks = [];
+              report = record { client = c; epoch = epoch; mode = 0; end = 0 };
+              sorted = nothing_in_order;
+              same = λ _ l. absurd (no_less c members is l);
+              sent = λ l. absurd (no_less c members is l);
+              sender = λ _. refl;
+              asked = λ _. refl;
+              mode = λ _. refl;
+              end = λ _ l. absurd (no_less c members is l);
+              nothing = λ _. refl;
+            }
           ] refl
 
   abbrev pub blocks : ℕ → List (BlockId × Held)
@@ -150,23 +190,44 @@ module _ (members part : ℕ) (b : BlockId) (n : Net) (v : View members part b n
   abbrev pub begun : SlotState
   begun = slot.started epoch index beliefs applied
 
-  abbrev pub next : World
-  next = takeover.activates now epoch report (applied_of applied) (entry_seen (entry_of (indexed_all nothing_indexed index).rows b))
+  -- of the log of nobody all is applied
+  abbrev pub upto : ℕ → ℕ
+  upto = put (applied_of applied) 0 (old.end 0)
 
-  pub activates_steps : old.epoch < epoch → Steps false (start members) next
-  activates_steps later =
-      More (now_steps later) (ActivatesStep epoch report (applied_of applied) (entry_seen (entry_of (indexed_all nothing_indexed index).rows b))
-      (record { later = later; sent = λ c less. (hears c).sent (within c less); sender = λ c less. (hears c).sender (within c less); asked = λ c less. (hears c).asked (within c less) }) tt)
+  abbrev pub entry : abstract_entry.Entry
+  entry = entry_seen (entry_of (indexed_all nothing_indexed index).rows b)
+
+  abbrev pub next : World
+  next = takeover.activates now epoch report upto entry
+
+  -- what was gathered is seen there
+  pub gathers : Premise logs (Gathered members part n.books index applied ends) → is_in_slot part b ≡ true → Premise logs (IndexGathered now report upto entry)
+  unfolding hears
+  gathers gathered inside =
+      owed_both logs (Kept b n.books old × CleanerEmpty old) (Gathered members part n.books index applied ends) (IndexGathered now report upto entry)
+      (λ known g. gathered_of b n.books now known.0 report (applied_of applied) (entry_of (indexed_all nothing_indexed index).rows b)
+      (record { end = known.1.end; flight = known.1.flight; rows = known.1.rows; applied = known.1.applied; written = known.1.written }) refl
+      (λ c pos less. let within : c < members = let m = v.many in omega arith in let e = (hears c).end pos within in let most = g.reported c pos within in omega arith)
+      g.filed (g.source b inside) (g.rows b inside))
+      (owed_both logs (Kept b n.books old) (CleanerEmpty old) (Kept b n.books old × CleanerEmpty old) (λ k e. (k, e)) v.kept
+      (nothing_of_nobody logs members old (let m = v.many in let some = v.some in omega arith) v.steps))
+      gathered
+
+  pub activates_steps : old.epoch < epoch → Premise logs (IndexGathered now report upto entry) → Steps logs (start members) next
+  activates_steps later gathered =
+      More (now_steps later) (ActivatesStep epoch report upto entry
+      (record { later = later; sent = λ c less. (hears c).sent (within c less); sender = λ c less. (hears c).sender (within c less); asked = λ c less. (hears c).asked (within c less) }) gathered)
     where
       within : (c : ℕ) → c < now.members → c < members
       within c less = let m = v.many in omega arith
 
-  pub later_view : old.epoch < epoch → is_in_slot part b ≡ true → Sound begun → View members part b (record n { slots = put n.slots epoch (Some begun) })
-  unfolding hears
-  later_view later inside sound = record {
+  pub later_view : old.epoch < epoch → is_in_slot part b ≡ true → Premise logs (IndexGathered now report upto entry) → Sound begun → View logs members part b (record n { slots = put n.slots epoch (Some begun) })
+  unfolding hears activates_steps now_steps
+  later_view later inside gathered sound = record {
     world = next;
-    steps = activates_steps later;
+    steps = activates_steps later gathered;
     many = v.many;
+    some = v.some;
     nobody = record { serving = v.nobody.serving; mode = v.nobody.mode; promised = omega arith };
     positive = omega arith;
     clients = λ c pos less. subst (λ (x : Client). ClientShown (n.up c) b c (n.tokens c) epoch (record x { stamp = 0 })) (sym (put_there old.client 0 (record (old.client 0) { promised = epoch; fetching = 0 }) c (λ same. absurd (omega arith))))
@@ -175,14 +236,19 @@ module _ (members part : ℕ) (b : BlockId) (n : Net) (v : View members part b n
     slot = begun;
     sound = sound;
     reigns = put_here n.slots epoch (Some begun);
-    manages = activation_manages b now epoch index beliefs applied report (applied_of applied)
-        (λ c less. let within : c < members = let m = v.many in omega arith in covered c within (one_numbers c 0)) (λ c some. refl);
+    manages = activation_manages b now epoch index beliefs applied report upto
+        (λ c less. let within : c < members = let m = v.many in omega arith in covered c within (one_numbers c 0)) (λ c some. put_there (applied_of applied) 0 (old.end 0) c (λ same. absurd (omega arith)));
     past = put_each (λ e o. (s : SlotState) → o ≡ Some s → (e ≤ epoch) × (s.epoch ≡ e)) n.slots epoch (Some begun)
         (λ s is. (omega arith, ap (λ (x : SlotState). x.epoch) (sym (some_one begun s is)))) (λ e other s is. (let p = (v.past e s is).0 in omega arith, (v.past e s is).1));
-    sent = λ p is. carried_rise part b now epoch report (applied_of applied) (entry_seen (entry_of (indexed_all nothing_indexed index).rows b)) p later
-        (carried_on part b old now p (record { epoch = refl; wants = λ x h. h; gaves = λ x h. h; offers = λ x h. h; recalls = λ x h. h; reports = λ x h. inr h }) (v.sent p is));
+    sent = λ p is. carried_rise logs part b now epoch report upto entry p later
+        (carried_on logs part b old now p (record { epoch = refl; wants = λ x h. h; gaves = λ x h. h; offers = λ x h. h; recalls = λ x h. h; reports = λ x h. inr h; lasts = unchanged }) (v.sent p is));
+    kept = v.kept;
+    acts = v.acts;
   }
     where
+      unchanged : Premise logs (Lasts old now)
+      unchanged = owed logs (Lasts old now) (λ _. record { join = omega arith; value = λ k _. refl })
+
       risen : (c : ℕ) (t : Bool) → ClientShown t b c (n.tokens c) old.epoch (old.client c) → ClientShown t b c (n.tokens c) epoch (record (old.client c) { stamp = 0 })
       risen c true h = activation_shows (setting b c (n.tokens c).inc) old.epoch epoch (local_of (n.tokens c) b) (old.client c) later h
       risen c false h = record { serving = h.serving; incarnation = h.incarnation; promised = h.promised; mode = h.mode; stamp = refl; want = h.want; version = h.version; settled = h.settled; fetching = h.fetching }
@@ -199,9 +265,9 @@ module _ (members part : ℕ) (b : BlockId) (n : Net) (v : View members part b n
           positive (suc k) h = omega arith
 
   -- the reports of a later epoch leave owners alone
-  pub alone_here : old.epoch < epoch → (c d : ℕ) → (c ≡ d → ⊥) → share_of (all_believed [] beliefs) b c + share_of (all_believed [] beliefs) b d ≤ 2
-  alone_here later c d apart =
-      let cover = beliefs_cover next (owned false members next (activates_steps later)) in
+  pub alone_here : old.epoch < epoch → Premise logs (IndexGathered now report upto entry) → (c d : ℕ) → (c ≡ d → ⊥) → share_of (all_believed [] beliefs) b c + share_of (all_believed [] beliefs) b d ≤ 2
+  alone_here later gathered c d apart =
+      let cover = beliefs_cover next (owned logs members next (activates_steps later gathered)) in
       let mode : (k : ℕ) → next.belief k ≡ rank (held_of (blocks k) b).mode = λ k. belief_is k (nat_lt k now.members) refl in
       let mc = mode c in let md = mode d in
       let sum = two_ranks (rank (held_of (blocks c) b).mode) (rank (held_of (blocks d) b).mode) (most_rank _) (most_rank _) (λ two some. apart (cover.single c d (mc ∙ two) (omega arith))) (λ two some. apart (sym (cover.single d c (md ∙ two) (omega arith)))) in

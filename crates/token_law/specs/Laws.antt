@@ -1,5 +1,5 @@
 -- What holds of the small world in every run, whichever managers follow each other: each law speaks of a block of the slot and of the clients' tokens.
-use Rattle.std.specs.Prelude.{◌≡◌, ℕ, ◌<◌, ◌≤◌, true, false, Some}
+use Rattle.std.specs.Prelude.{◌≡◌, ℕ, ◌<◌, ◌≤◌, Bool, true, false, Some}
 use Rattle.xfs_base.specs.declared.block.BlockId.{BlockId}
 use Rattle.xfs_base.specs.declared.entry.Entry.{Entry}
 use Rattle.xfs_base.specs.declared.token.Mode.{Mode}
@@ -12,12 +12,15 @@ use Rattle.token_manager.specs.Laws.{share_of}
 use Rattle.token_manager.specs.SlotState.{SlotState}
 use Rattle.token_protocol.specs.Basics.{In}
 use Rattle.token_tie.specs.Seen.{rank}
+use Rattle.act_tie.specs.BlockActs.{acts_of}
+use Rattle.act_tie.specs.Shown.{FallsApart}
+use Rattle.token_protocol.specs.Acts.{LegalActs}
 use Rattle.token_law.specs.Net.{Net, Runs, opening}
 use Rattle.token_law.specs.Net.Packet.{GrantSent}
 
 -- a moment of a run, and a block of the slot
-pub record Moment (members part : ℕ) (n : Net) (b : BlockId) : Type 0 where
-  pub run : Runs members part opening n
+pub record Moment (logs : Bool) (members part : ℕ) (n : Net) (b : BlockId) : Type 0 where
+  pub run : Runs logs members part opening n
   pub inside : is_in_slot part b ≡ true
 
 -- one of the clients
@@ -33,31 +36,40 @@ pub record Reigns (n : Net) (e : ℕ) (s : SlotState) : Type 0 where
 -- Where one client's tokens own a block, no other client's tokens hold it.
 abbrev pub OneOwner : Type 0
 OneOwner =
-    (members part : ℕ) (n : Net) (b : BlockId) → Moment members part n b → (c d : ℕ) → IsClient members c → IsClient members d → n.up c ≡ true → n.up d ≡ true
+    (logs : Bool) (members part : ℕ) (n : Net) (b : BlockId) → Moment logs members part n b → (c d : ℕ) → IsClient members c → IsClient members d → n.up c ≡ true → n.up d ≡ true
     → is_own (held_of (n.tokens c).blocks b).mode ≡ true → is_held (held_of (n.tokens d).blocks b).mode ≡ true → c ≡ d
 
 -- A manager is active only at an epoch that every client has promised, also one that is down.
 abbrev pub ActiveEpochsPromised : Type 0
 ActiveEpochsPromised =
-    (members part : ℕ) (n : Net) (b : BlockId) → Moment members part n b → (e : ℕ) (s : SlotState) → n.slots e ≡ Some s → (c : ℕ) → IsClient members c
+    (logs : Bool) (members part : ℕ) (n : Net) (b : BlockId) → Moment logs members part n b → (e : ℕ) (s : SlotState) → n.slots e ≡ Some s → (c : ℕ) → IsClient members c
     → e ≤ epoch_of (n.tokens c).epochs part
 
 -- The manager that reigns believes of each client at least what it holds.
 abbrev pub HoldingsBelieved : Type 0
 HoldingsBelieved =
-    (members part : ℕ) (n : Net) (b : BlockId) → Moment members part n b → (e : ℕ) (s : SlotState) → Reigns n e s → (c : ℕ) → IsClient members c → n.up c ≡ true
+    (logs : Bool) (members part : ℕ) (n : Net) (b : BlockId) → Moment logs members part n b → (e : ℕ) (s : SlotState) → Reigns n e s → (c : ℕ) → IsClient members c → n.up c ≡ true
     → rank (held_of (n.tokens c).blocks b).mode ≤ share_of s.beliefs b c
 
 -- It believes of each client what any sent Grant would give that the client would still accept.
 abbrev pub GrantsBelieved : Type 0
 GrantsBelieved =
-    (members part : ℕ) (n : Net) (b : BlockId) → Moment members part n b → (e : ℕ) (s : SlotState) → Reigns n e s → (c : ℕ) → IsClient members c → n.up c ≡ true
+    (logs : Bool) (members part : ℕ) (n : Net) (b : BlockId) → Moment logs members part n b → (e : ℕ) (s : SlotState) → Reigns n e s → (c : ℕ) → IsClient members c → n.up c ≡ true
     → (stamp : Stamp) (inc req : ℕ) (mode : Mode) (entry : Entry) → In (GrantSent c b stamp inc req mode entry) n.sent
     → accepts (n.tokens c) b stamp inc req mode ≡ true → rank mode ≤ share_of s.beliefs b c
 
 -- Between the fall of a client with the block dirty and its return, nobody holds the block.
 abbrev pub NobodyHoldsAfterFall : Type 0
 NobodyHoldsAfterFall =
-    (members part : ℕ) (n : Net) (b : BlockId) → Moment members part n b → (c d : ℕ) → IsClient members c → IsClient members d → n.up c ≡ false
+    (logs : Bool) (members part : ℕ) (n : Net) (b : BlockId) → Moment logs members part n b → (c d : ℕ) → IsClient members c → IsClient members d → n.up c ≡ false
     → is_dirty (held_of (n.tokens c).blocks b) ≡ true → n.up d ≡ true
     → is_held (held_of (n.tokens d).blocks b).mode ≡ false
+
+-- Where logs keep their word, the acts of each block of the slot are legal: each read is of the newest version, with its value, and each fall and return goes to
+-- versions at or above what was synced or read elsewhere.
+abbrev pub ActsAreLegal : Type 0
+ActsAreLegal = (members part : ℕ) (n : Net) (b : BlockId) → Moment true members part n b → LegalActs (acts_of b n.acts)
+
+-- No client falls again before it is back, and no fall names a block twice.
+abbrev pub FallsAreApart : Type 0
+FallsAreApart = (members part : ℕ) (n : Net) → Runs true members part opening n → FallsApart n.acts

@@ -1,11 +1,12 @@
 //! The law of tokens where machines, epochs and packets meet: a small world of the tokens of clients and of the slots of managers, over a network that loses,
-//! repeats and reorders. It has no code: the function below has an empty body, and its contract is a law.
+//! repeats and reorders. It has no code: each function below has an empty body, and its contract is a law.
 #![tactic(auto)]
 
-ghost use Rattle.token_law.specs.Laws.{OneOwner, ActiveEpochsPromised, HoldingsBelieved, GrantsBelieved, NobodyHoldsAfterFall};
+ghost use Rattle.token_law.specs.Example.{IsShared};
+ghost use Rattle.token_law.specs.Laws.{OneOwner, ActiveEpochsPromised, HoldingsBelieved, GrantsBelieved, NobodyHoldsAfterFall, ActsAreLegal, FallsAreApart};
 
-/// The law of every run of the small world, however managers follow each other, clients fall and return, and packets come, and whatever logs tell (the
-/// 1996 paper, on cache consistency).
+/// The law of every run of the small world, however managers follow each other, clients fall and return, and packets come, whether or not logs keep their
+/// word (the 1996 paper, on cache consistency).
 ///
 /// - `one_owner`: no two clients own a block, and none holds a block that another owns.
 /// - `promised`: a manager is active only at an epoch that every client has promised.
@@ -18,4 +19,19 @@ pub fn tokens_keep_their_word()
     ensures believed { HoldingsBelieved }
     ensures acceptable { GrantsBelieved }
     ensures nobody { NobodyHoldsAfterFall }
+{}
+
+/// The law of the acts of every run whose logs keep their word: what was read, synced and lost.
+///
+/// - `legal`: the acts of each block are legal: each read is of the newest version, with its value, and no fall and no return goes below what was read
+///   elsewhere or synced.
+/// - `apart`: no client falls again before it is back, and no fall names a block twice.
+pub fn acts_are_legal()
+    ensures legal { ActsAreLegal }
+    ensures apart { FallsAreApart }
+{}
+
+/// What is said of runs is said of some: one in which a client writes a block and files it, and another reads it.
+pub fn example()
+    ensures shared { IsShared }
 {}

@@ -46,7 +46,8 @@ use Rattle.token_protocol.proofs.Refining.{put_each}
 use Rattle.token_tie.specs.Seen.{kept, entry_seen}
 use Rattle.token_tie.specs.Managed.{AllAwaited, Idle, Waits, JobShown, Manages, AllTold, Runs}
 use Rattle.token_tie.specs.SlotInputs.{Brings, SlotTakes}
-use Rattle.token_tie.proofs.Frames.{steps_through}
+use Rattle.token_protocol.proofs.Told.{steps_through}
+use Rattle.token_tie.proofs.Frames.{both_quiet}
 use Rattle.token_tie.proofs.Managing.{by_nothing, by_through, told_on, told_both, runs_nowhere, turns-runs}
 use Rattle.token_tie.proofs.Wanting.{by_block, none_is, reached_sound, answer_quiet, takes_want}
 use Rattle.token_tie.proofs.Gaving.{no_end, named_applied, zero_is, finished-at, takes_gave}
@@ -121,7 +122,7 @@ module _ (logs : Bool) (b : BlockId) where
       (λ k other _. by_finished_at (Runs logs b w) s k (runs_nowhere logs b w s m) (λ job is. let_go-there w s k job sound m other is)) block ready
 
   runs_through : (w : World) (s : SlotState) (d e : Done) (t : Runs logs b w d) → Runs logs b t.world e → Runs logs b w (after d.outs e)
-  runs_through w s d e t u = record { world = u.world; steps = steps_through w t.world u.world t.steps u.steps; frame = by_through w t.world u.world t.frame u.frame; shows = u.shows; told = told_both b u.world d.outs e.outs (told_on b t.world u.world d.outs u.frame t.told) u.told }
+  runs_through w s d e t u = record { world = u.world; steps = steps_through w t.world u.world t.steps u.steps; quiet = both_quiet logs w t.world u.world t.steps u.steps t.quiet u.quiet; frame = by_through w t.world u.world t.frame u.frame; shows = u.shows; told = told_both b u.world d.outs e.outs (told_on b t.world u.world d.outs u.frame t.told) u.told }
 
   same_applied : (s : SlotState) (block : BlockId) → (finished_at s block).state.applied ≡ s.applied
   same_applied s block = by_finished_at (λ d. d.state.applied ≡ s.applied) s block refl (λ job is. refl)
@@ -138,7 +139,7 @@ module _ (logs : Bool) (b : BlockId) where
   pub takes_deltas : (w : World) (s : SlotState) (log : LogId) (first upto : ℕ) (rows : List (BlockId × Entry)) → Sound s → Manages b s w → log.0 - 1 < length s.applied → Premise logs (IndexCovers w log.0 upto (entry_seen (entry_of (indexed_all s.index rows).rows b)))
       → Runs logs b w (on_deltas s log first upto rows)
   takes_deltas w s log first upto rows sound m known covers =
-      by_deltas_known (Runs logs b w) s log first upto rows (runs_nowhere logs b w s m) (quiet (Applied log (applied_of s.applied log.0) ∷ []) (tt, tt))
+      by_deltas_known (Runs logs b w) s log first upto rows (runs_nowhere logs b w s m) (saying (Applied log (applied_of s.applied log.0) ∷ []) (tt, tt))
       (λ some most.
       let e = entry_seen (entry_of (indexed_all s.index rows).rows b) in
       let v = manages.applies w log.0 upto e in
@@ -157,13 +158,14 @@ module _ (logs : Bool) (b : BlockId) where
       record {
         world = t.world;
         steps = steps_through w v t.world (More Ended (Applies log.0 upto e (record { forward = less }) covers)) t.steps;
+        quiet = both_quiet logs w v t.world (More Ended (Applies log.0 upto e (record { forward = less }) covers)) t.steps refl t.quiet;
         frame = by_through w v t.world (record { others = refl; offers = λ p is. is; recalls = λ r is. is }) t.frame;
         shows = t.shows;
         told = (tt, t.told);
       })
     where
-      quiet : (outs : List Out) → AllTold b w outs → Runs logs b w (record { state = s; outs = outs })
-      quiet outs told = record { world = w; steps = Ended; frame = by_nothing w; shows = m; told = told }
+      saying : (outs : List Out) → AllTold b w outs → Runs logs b w (record { state = s; outs = outs })
+      saying outs told = record { world = w; steps = Ended; quiet = refl; frame = by_nothing w; shows = m; told = told }
 
   -- ---- ticks
 
@@ -210,6 +212,7 @@ module _ (logs : Bool) (b : BlockId) where
   takes_tick w s sound m = record {
     world = w;
     steps = Ended;
+    quiet = refl;
     frame = by_nothing w;
     shows = m;
     told = all_sent-told w s.jobs sound.waiting.sorted (λ job is.
@@ -223,6 +226,7 @@ module _ (logs : Bool) (b : BlockId) where
   takes_check w s block place m = record {
     world = w;
     steps = Ended;
+    quiet = refl;
     frame = by_nothing w;
     shows = m;
     told = by_test (λ (o : Out). AllTold b w (o ∷ [])) (is_place (entry_at s block).place place) (Live (entry_at s block)) Dead (λ _. (tt, tt)) (λ _. (tt, tt));

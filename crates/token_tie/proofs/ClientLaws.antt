@@ -1,20 +1,27 @@
 -- The laws of a client's inputs.
-use Rattle.std.proofs.Common.{◌≡◌, ◌≤◌, ℕ, Bool, true, false, cond, ◌∙◌, ◌&&◌, sym, subst, refl, arith, nat_lt, nat_le, max}
+use Rattle.std.specs.Prelude.{if◌then◌else◌}
+use Rattle.std.proofs.Common.{◌≡◌, ◌≤◌, ℕ, Bool, true, false, cond, List, [], ◌∷◌, Some, ap, ◌∙◌, ◌&&◌, sym, subst, refl, arith, nat_lt, nat_le, max}
 use Rattle.std.proofs.lemmas.Bool.Decides.{nat_tests}
+use Rattle.xfs_base.specs.declared.block.BlockId.{BlockId}
+use Rattle.xfs_base.specs.Blocks.{same_block}
 use Rattle.xfs_base.specs.Steps.{still}
+use Rattle.xfs_base.proofs.BlockOrder.{same_block_exact, same_block_itself}
 use Rattle.token_client.specs.declared.held.Held.{Held}
 use Rattle.token_client.specs.declared.input.In.TheVariants.{Need, Granted, Supplied, Forwarded, Recalled, Wrote, Settled, Fetched, Evict, Reask, Quit, Promise, Tick}
-use Rattle.token_client.specs.Held.{is_settled_by, version_settled}
+use Rattle.token_client.specs.declared.held.Fetch.{Fetch}
+use Rattle.token_client.specs.Held.{is_settled_by, may_write, version_settled}
 use Rattle.token_client.specs.State.{TokensState, held_of, with_held}
 use Rattle.token_client.specs.Transition.{Done, on_need, on_granted, on_supplied, on_recalled, on_wrote, on_settled, on_fetched, on_evict, on_reask, on_quit}
 use Rattle.token_client.proofs.Tables.{held_of-put_itself}
+use Rattle.token_protocol.specs.Acts.{Act}
+use Rattle.token_protocol.specs.Acts.Act.{Wrote as WroteBlock}
 use Rattle.token_protocol.specs.Client.{Client}
 use Rattle.token_protocol.specs.Premises.{Premise, PlaceRead}
 use Rattle.token_protocol.specs.Step.Step.{Settles}
 use Rattle.token_protocol.specs.World.{World, flying_row}
 use Rattle.token_protocol.specs.Logging.{settles}
 use Rattle.token_tie.specs.Seen.{Setting, Local, Shows, SentRecall, local_of}
-use Rattle.token_tie.specs.Taken.{Took}
+use Rattle.token_tie.specs.Taken.{Acted, Took}
 use Rattle.token_tie.specs.Inputs.{Ready, GrantBrings, SentSupply, TakesInputs, OwnsAndWrites, OwnsAndDeclines, SettlesBlocks}
 use Rattle.token_tie.proofs.Frames.{put_here}
 use Rattle.token_tie.proofs.SmallFacts.{restamped}
@@ -34,11 +41,24 @@ takes_inputs logs g end w s (Supplied block stamp inc req ver value) r b =
 takes_inputs logs g end w s (Forwarded block stamp ver) r b = takes.on_forwarded-took logs g end w s r stamp block ver
 takes_inputs logs g end w s (Recalled block stamp keep) r b =
     at_block g (λ k. (k ≡ g.block → SentRecall g.client w stamp keep) → Took logs g end w (on_recalled s k stamp keep)) (λ c. on_recalled-here logs g end w s r stamp keep (c refl)) (λ k o _. elsewhere.apart_took g logs end w s _ (elsewhere.on_recalled-apart g k o s stamp keep) r.shows) block b
-takes_inputs logs g end w s (Wrote block value) r b = at_block g (λ k. Took logs g end w (on_wrote s k value)) (takes.on_wrote-here logs g end w s r value) (λ k o. elsewhere.apart_took g logs end w s _ (elsewhere.on_wrote-apart g k o s value) r.shows) block
+takes_inputs logs g end w s (Wrote block value) r b =
+    let wrote : Bool → List Act = λ t. if t then WroteBlock g.client (g.number value) ∷ [] else [] in
+    at_block g (λ k. Acted logs g end w (if may_write (held_of s.blocks k) then wrote (same_block k g.block) else []) (on_wrote s k value))
+    (subst (λ t. Acted logs g end w (if may_write (held_of s.blocks g.block) then wrote t else []) (on_wrote s g.block value)) (sym (same_block_itself g.block)) (takes.on_wrote-here logs g end w s r value))
+    (λ k o. subst (λ acts. Acted logs g end w acts (on_wrote s k value)) (sym (no_acts (may_write (held_of s.blocks k)) (wrote (same_block k g.block)) (ap wrote (differs k o (same_block k g.block) refl))))
+    (elsewhere.apart_took g logs end w s _ (elsewhere.on_wrote-apart g k o s value) r.shows)) block
+  where
+    no_acts : (t : Bool) (acts : List Act) → acts ≡ [] → (if t then acts else []) ≡ []
+    no_acts true acts none = none
+    no_acts false acts none = refl
+
+    differs : (k : BlockId) → (k ≡ g.block → ⊥) → (t : Bool) → same_block k g.block ≡ t → t ≡ false
+    differs k o true is = absurd (o (sym (same_block_exact k g.block is)))
+    differs k o false is = refl
 takes_inputs logs g end w s (Settled block ver) r b =
     at_block g (λ k. (k ≡ g.block → is_settled_by (held_of s.blocks k) ver ≡ false) → Took logs g end w (on_settled s k ver)) (λ c. takes.on_settled-still logs g end w s r ver (c refl)) (λ k o _. elsewhere.apart_took g logs end w s _ (elsewhere.on_settled-apart g k o s ver) r.shows) block b
 takes_inputs logs g end w s (Fetched block value) r b =
-    at_block g (λ k. (k ≡ g.block → Premise logs (PlaceRead w g.client (g.number value))) → Took logs g end w (on_fetched s k value)) (λ c. takes.on_fetched-here logs g end w s r value (c refl)) (λ k o _. elsewhere.apart_took g logs end w s _ (elsewhere.on_fetched-apart g k o s value) r.shows) block b
+    at_block g (λ k. (k ≡ g.block → (f : Fetch) → (held_of s.blocks k).fetch ≡ Some f → Premise logs (PlaceRead w g.client (g.number value))) → Took logs g end w (on_fetched s k value)) (λ c. takes.on_fetched-here logs g end w s r value (c refl)) (λ k o _. elsewhere.apart_took g logs end w s _ (elsewhere.on_fetched-apart g k o s value) r.shows) block b
 takes_inputs logs g end w s (Evict block) r b = at_block g (λ k. Took logs g end w (on_evict s k)) (takes.on_evict-here logs g end w s r) (λ k o. elsewhere.apart_took g logs end w s _ (elsewhere.on_evict-apart g k o s) r.shows) block
 takes_inputs logs g end w s (Reask block) r b = at_block g (λ k. Took logs g end w (on_reask s k)) (takes.on_reask-here logs g end w s r) (λ k o. elsewhere.apart_took g logs end w s _ (elsewhere.on_reask-apart g k o s) r.shows) block
 takes_inputs logs g end w s (Quit block) r b = at_block g (λ k. Took logs g end w (on_quit s k)) (takes.on_quit-here logs g end w s r) (λ k o. elsewhere.apart_took g logs end w s _ (elsewhere.on_quit-apart g k o s) r.shows) block

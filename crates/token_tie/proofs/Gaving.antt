@@ -37,7 +37,8 @@ use Rattle.token_protocol.specs.World.{World}
 use Rattle.token_protocol.proofs.Refining.{put_each}
 use Rattle.token_tie.specs.Seen.{kept}
 use Rattle.token_tie.specs.Managed.{want_seen, AwaitedShown, AllAwaited, Named, Idle, Waits, JobShown, Manages, ByManager, Runs}
-use Rattle.token_tie.proofs.Frames.{put_there, steps_through}
+use Rattle.token_protocol.proofs.Told.{steps_through}
+use Rattle.token_tie.proofs.Frames.{put_there, both_quiet}
 use Rattle.token_tie.proofs.Managing.{by_through, runs_nowhere, turns-runs, finished-runs}
 use Rattle.token_tie.proofs.Wanting.{by_block, answer_quiet, other_put}
 use Rattle.xfs_base.specs.Modes.{is_nothing, is_own}
@@ -234,6 +235,7 @@ module _ (logs : Bool) where
         record {
           world = v;
           steps = More Ended (Notes x noting);
+          quiet = refl;
           frame = frame;
           told = tt;
           shows = record { epoch = m.epoch; turn = m.turn; belief = believed; applied = m.applied; index = m.index; job = subst (λ o. JobShown o s.epoch v.awaited v.keep v.owed v.applied v.wants v.recalls) (sym mine) waiting_on };
@@ -250,7 +252,14 @@ module _ (logs : Bool) where
         } in
         let shown : Manages b u v = record { epoch = m.epoch; turn = m.turn; belief = believed; applied = m.applied; index = m.index; job = subst (λ o. JobShown o s.epoch v.awaited v.keep v.owed v.applied v.wants v.recalls) (sym none) idle } in
         let t = finished-at b v u job.want waits.end (sound.waiting.own b job is) shown none waits.something (leaves_room (given s job.want client b).beliefs s.applied (record { want = job.want; awaited = rows }) (awaits-given s job client b stamp end sound is) ready) waits.asked waits.asker in
-        record { world = t.world; steps = steps_through w v t.world (More Ended (Notes x noting)) t.steps; frame = by_through w v t.world frame t.frame; shows = t.shows; told = t.told }
+        record {
+          world = t.world;
+          steps = steps_through w v t.world (More Ended (Notes x noting)) t.steps;
+          quiet = both_quiet logs w v t.world (More Ended (Notes x noting)) t.steps refl t.quiet;
+          frame = by_through w v t.world frame t.frame;
+          shows = t.shows;
+          told = t.told;
+        }
 
   -- a Gave of another block
   gave-there : (b : BlockId) (w : World) (s : SlotState) (client : ℕ) (block : BlockId) (stamp : Stamp) (end : ℕ) → Sound s → Manages b s w → (block ≡ b → ⊥) → Runs logs b w (on_gave s client block stamp end)

@@ -11,6 +11,7 @@ use Rattle.token_client.specs.declared.held.Wanted.{Wanted}
 use Rattle.token_client.specs.declared.output.Out.{Out}
 use Rattle.token_client.specs.declared.output.Out.TheVariants.{Want, Gave}
 use Rattle.token_client.specs.Held.{gives_after, is_answer, is_wanted, is_dirty, asked, asked_again, owned, copied, fetched_from, fetch_ended, written, let_go, unfetched, promise_dropped, put_off, given_up}
+use Rattle.token_protocol.specs.Acts.Act.{Wrote as WroteBlock}
 use Rattle.token_protocol.specs.Client.{Client}
 use Rattle.token_protocol.specs.Entry as abstract_entry
 use Rattle.token_protocol.specs.Premises.{Premise, SettledEnd, PlaceRead, IsSupplied}
@@ -25,8 +26,8 @@ use Rattle.token_protocol.specs.Giving.{gives, gives_again}
 use Rattle.token_protocol.specs.Takeover.{promises}
 use Rattle.token_protocol.proofs.StampsSeen.{taken, equal, stamped, promised}
 use Rattle.token_tie.specs.Seen.{WantShown, FetchShown, SentOffer, SentRecall, offer_seen, recall_seen, Setting, Local, Shows, rank, kept, located, stamp_seen, node_seen}
-use Rattle.token_tie.specs.Taken.{Goes, AllSaid}
-use Rattle.token_tie.proofs.Frames.{goes_by, goes_saying}
+use Rattle.token_tie.specs.Taken.{Acts, Goes, AllSaid}
+use Rattle.token_tie.proofs.Frames.{acts_by, goes_saying}
 use Rattle.xfs_base.specs.Modes.{is_held, is_own}
 use Rattle.xfs_base.specs.Stamps.{is_later}
 use Rattle.xfs_base.proofs.Booleans.{and_first, and_second, by_test}
@@ -43,7 +44,7 @@ module _ (logs : Bool) (g : Setting) (end : ℕ) (w : World) where
   Shown l = Shows g w.epoch l here
 
   pub drops_want-goes : (l : Local) → Shown l → To (record l { held = record l.held { want = None } }) []
-  drops_want-goes l s = goes_by logs g end w (drops_want w g.client) _ [] (record here { want = 0 }) (DropsWant g.client) refl refl (λ p is. is) (λ y is. is)
+  drops_want-goes l s = acts_by logs g end w (drops_want w g.client) [] _ [] (record here { want = 0 }) (DropsWant g.client) refl refl refl (λ p is. is) (λ y is. is)
       (record {
         client = s.client;
         serving = s.serving;
@@ -60,7 +61,7 @@ module _ (logs : Bool) (g : Setting) (end : ℕ) (w : World) where
       }) tt
 
   pub drops_fetch-goes : (l : Local) → Shown l → To (record l { held = unfetched l.held }) []
-  drops_fetch-goes l s = goes_by logs g end w (drops_fetch w g.client) _ [] (record here { fetching = 0 }) (DropsFetch g.client) refl refl (λ p is. is) (λ y is. is)
+  drops_fetch-goes l s = acts_by logs g end w (drops_fetch w g.client) [] _ [] (record here { fetching = 0 }) (DropsFetch g.client) refl refl refl (λ p is. is) (λ y is. is)
       (record {
         client = s.client;
         serving = s.serving;
@@ -79,7 +80,7 @@ module _ (logs : Bool) (g : Setting) (end : ℕ) (w : World) where
   -- a fetch is let go with a recall that was put off
   pub drops_promised-goes : (l : Local) → Shown l → To (record l { held = promise_dropped l.held }) []
   drops_promised-goes l s =
-      goes_by logs g end w (drops_fetch w g.client) _ [] (record here { fetching = 0 }) (DropsFetch g.client) refl refl (λ p is. is) (λ y is. is)
+      acts_by logs g end w (drops_fetch w g.client) [] _ [] (record here { fetching = 0 }) (DropsFetch g.client) refl refl refl (λ p is. is) (λ y is. is)
       (record {
         client = s.client;
         serving = s.serving;
@@ -101,10 +102,10 @@ module _ (logs : Bool) (g : Setting) (end : ℕ) (w : World) where
       → To (record l { req = l.req + 1; held = asked l.held (l.req + 1) mode }) (Want g.block (l.req + 1) 0 mode ∷ [])
   asks-goes l mode s some less settled =
       let known = s.mode in let counted = s.counted in
-      goes_by logs g end w (asks w g.client (rank mode) (l.req + 1) end) _ _ (record here { want = rank mode; request = l.req + 1 })
+      acts_by logs g end w (asks w g.client (rank mode) (l.req + 1) end) [] _ _ (record here { want = rank mode; request = l.req + 1 })
       (Asks g.client (rank mode) (l.req + 1) end
       (record { client = s.client; serving = s.serving; some = some_rank mode some; upto_own = most_rank mode; less = omega arith; unused = omega arith }) settled)
-      refl refl (λ p is. inr is) (λ y is. is)
+      refl refl refl (λ p is. inr is) (λ y is. is)
       (record {
         client = s.client;
         serving = s.serving;
@@ -125,8 +126,8 @@ module _ (logs : Bool) (g : Setting) (end : ℕ) (w : World) where
   asks_again-goes l v s is settled =
       let open_ : WantShown (Some v) here.want here.request = subst (λ o. WantShown o here.want here.request) is s.want in
       let most = some_rank v.mode open_.2 in let named = open_.0 in
-      goes_by logs g end w (asks_again w g.client end) _ _ here (AsksAgain g.client end (record { open_want = omega arith }) settled)
-      (sym (put_back w.client g.client)) refl (λ p here. inr here) (λ y here. here)
+      acts_by logs g end w (asks_again w g.client end) [] _ _ here (AsksAgain g.client end (record { open_want = omega arith }) settled)
+      refl (sym (put_back w.client g.client)) refl (λ p here. inr here) (λ y here. here)
       (record {
         client = s.client;
         serving = s.serving;
@@ -181,7 +182,7 @@ module _ (logs : Bool) (g : Setting) (end : ℕ) (w : World) where
     pub absent-goes : (ver hop : ℕ) → MayTake w (offer_seen g.client stamp inc req Copy (located ver hop None)) 1 → To (record l { held = copied l.held stamp ver None }) outs
     absent-goes ver hop may =
         let p = offer_seen g.client stamp inc req Copy (located ver hop None) in
-        goes_by logs g end w (takes_value w p 0) _ outs _ (TakesAbsent p may (record { unplaced = refl })) refl refl (λ p is. is) (λ y is. is)
+        acts_by logs g end w (takes_value w p 0) [] _ outs _ (TakesAbsent p may (record { unplaced = refl })) refl refl refl (λ p is. is) (λ y is. is)
         (record {
           client = s.client;
           serving = s.serving;
@@ -202,7 +203,7 @@ module _ (logs : Bool) (g : Setting) (end : ℕ) (w : World) where
         → To (record l { held = copied l.held stamp ver value }) outs
     supplied-goes ver hop place value may is =
         let p = offer_seen g.client stamp inc req Copy (located ver hop place) in
-        goes_by logs g end w (takes_value w p (g.number value)) _ outs _ (TakesSupply p (g.number value) may is) refl refl (λ p is. is) (λ y is. is)
+        acts_by logs g end w (takes_value w p (g.number value)) [] _ outs _ (TakesSupply p (g.number value) may is) refl refl refl (λ p is. is) (λ y is. is)
         (record {
           client = s.client;
           serving = s.serving;
@@ -222,7 +223,7 @@ module _ (logs : Bool) (g : Setting) (end : ℕ) (w : World) where
     pub place-goes : (ver hop : ℕ) (place : Place) → MayTake w (offer_seen g.client stamp inc req Copy (located ver hop (Some place))) 1 → To (record l { held = fetched_from l.held stamp ver place }) outs
     place-goes ver hop place may =
         let p = offer_seen g.client stamp inc req Copy (located ver hop (Some place)) in
-        goes_by logs g end w (takes_place w p) _ outs _ (TakesPlace p may (record { placed = omega arith })) refl refl (λ p is. is) (λ y is. is)
+        acts_by logs g end w (takes_place w p) [] _ outs _ (TakesPlace p may (record { placed = omega arith })) refl refl refl (λ p is. is) (λ y is. is)
         (record {
           client = s.client;
           serving = s.serving;
@@ -240,10 +241,10 @@ module _ (logs : Bool) (g : Setting) (end : ℕ) (w : World) where
 
     -- owned, and written in the same event
     pub first-goes : (ver hop : ℕ) (place : Option Place) (value : Option (List ℕ)) → MayTake w (offer_seen g.client stamp inc req Own (located ver hop place)) 2
-        → To (record l { held = written (owned l.held stamp ver) value }) outs
+        → Acts logs g end w (WroteBlock g.client (g.number value) ∷ []) (record l { held = written (owned l.held stamp ver) value }) outs
     first-goes ver hop place value may =
         let p = offer_seen g.client stamp inc req Own (located ver hop place) in
-        goes_by logs g end w (writes_first w p (g.number value)) _ outs _ (WritesFirst p (g.number value) may) refl refl (λ p is. is) (λ y is. is)
+        acts_by logs g end w (writes_first w p (g.number value)) (WroteBlock g.client (g.number value) ∷ []) _ outs _ (WritesFirst p (g.number value) may) refl refl refl (λ p is. is) (λ y is. is)
         (record {
           client = s.client;
           serving = s.serving;
@@ -263,7 +264,7 @@ module _ (logs : Bool) (g : Setting) (end : ℕ) (w : World) where
     pub declines-goes : (ver hop : ℕ) (place : Option Place) → MayTake w (offer_seen g.client stamp inc req Own (located ver hop place)) 2 → To (record l { held = let_go (owned l.held stamp ver) }) outs
     declines-goes ver hop place may =
         let p = offer_seen g.client stamp inc req Own (located ver hop place) in
-        goes_by logs g end w (declines w p) _ outs _ (Declines p may) refl refl (λ p is. is) (λ y is. is)
+        acts_by logs g end w (declines w p) [] _ outs _ (Declines p may) refl refl refl (λ p is. is) (λ y is. is)
         (record {
           client = s.client;
           serving = s.serving;
@@ -286,7 +287,7 @@ module _ (logs : Bool) (g : Setting) (end : ℕ) (w : World) where
   fetches-goes l f value outs s is run read =
       let open_ : FetchShown (Some f) here.fetching here.fetch = subst (λ o. FetchShown o here.fetching here.fetch) is s.fetch in
       let ver : here.fetch.version ≡ f.ver = ap (λ (e : abstract_entry.Entry). e.version) open_.1.1 in
-      goes_by logs g end w (fetches w g.client (g.number value)) _ outs _ (Fetches g.client (g.number value) (record { fetching = open_.0 }) read) refl refl (λ p is. is) (λ y is. is)
+      acts_by logs g end w (fetches w g.client (g.number value)) [] _ outs _ (Fetches g.client (g.number value) (record { fetching = open_.0 }) read) refl refl refl (λ p is. is) (λ y is. is)
       (record {
         client = s.client;
         serving = s.serving;
@@ -302,11 +303,11 @@ module _ (logs : Bool) (g : Setting) (end : ℕ) (w : World) where
         fetch = refl;
       }) (run (fetches w g.client (g.number value)))
 
-  pub writes-goes : (l : Local) (value : Option (List ℕ)) → Shown l → is_own l.held.mode ≡ true → To (record l { held = written l.held value }) []
+  pub writes-goes : (l : Local) (value : Option (List ℕ)) → Shown l → is_own l.held.mode ≡ true → Acts logs g end w (WroteBlock g.client (g.number value) ∷ []) (record l { held = written l.held value }) []
   writes-goes l value s own =
       let owns : here.mode ≡ 2 = s.mode ∙ own_rank l.held.mode own in
       let known = s.version in
-      goes_by logs g end w (writes w g.client (g.number value)) _ [] _ (Writes g.client (g.number value) (record { owns = owns })) refl refl (λ p is. is) (λ y is. is)
+      acts_by logs g end w (writes w g.client (g.number value)) (WroteBlock g.client (g.number value) ∷ []) _ [] _ (Writes g.client (g.number value) (record { owns = owns })) refl refl refl (λ p is. is) (λ y is. is)
       (record {
         client = s.client;
         serving = s.serving;
@@ -327,7 +328,7 @@ module _ (logs : Bool) (g : Setting) (end : ℕ) (w : World) where
 
   pub evicts-goes : (l : Local) → Shown l → is_dirty l.held ≡ false → To (record l { held = let_go l.held }) []
   evicts-goes l s clean =
-      goes_by logs g end w (evicts w g.client) _ [] _ (Evicts g.client (record { victim = cleaned l s clean })) refl refl (λ p is. is) (λ y is. is)
+      acts_by logs g end w (evicts w g.client) [] _ [] _ (Evicts g.client (record { victim = cleaned l s clean })) refl refl refl (λ p is. is) (λ y is. is)
       (record {
         client = s.client;
         serving = s.serving;
@@ -373,7 +374,7 @@ module _ (logs : Bool) (g : Setting) (end : ℕ) (w : World) where
       let r = recall_seen g.client stamp keep in
       let step : Step logs w (gives w r end) = Gives r end (record { sent = sent.recalled seen.1; serving = s.serving; heard = seen.0; newer = seen.2; clean = cleaned l s clean }) settled in
       by_test (λ (h : Held). To (record l { held = h }) (Gave g.block stamp ∷ [])) (keep && is_held l.held.mode) (record l.held { mode = Copy; stamp = stamp; giving = None }) (record l.held { mode = Nothing; value = None; stamp = stamp; giving = None })
-      (λ t. goes_by logs g end w (gives w r end) _ _ _ step refl refl (λ p is. is) (λ y is. inr is)
+      (λ t. acts_by logs g end w (gives w r end) [] _ _ _ step refl refl refl (λ p is. is) (λ y is. inr is)
       (record {
         client = s.client;
         serving = s.serving;
@@ -388,7 +389,7 @@ module _ (logs : Bool) (g : Setting) (end : ℕ) (w : World) where
         value = s.value;
         fetch = unfetching l.held.fetch here.fetching here.fetch unfetched_ s.fetch;
       }) (λ is. (sent.low, inl refl), tt))
-      (λ t. goes_by logs g end w (gives w r end) _ _ _ step refl refl (λ p is. is) (λ y is. inr is)
+      (λ t. acts_by logs g end w (gives w r end) [] _ _ _ step refl refl refl (λ p is. is) (λ y is. inr is)
       (record {
         client = s.client;
         serving = s.serving;
@@ -410,16 +411,16 @@ module _ (logs : Bool) (g : Setting) (end : ℕ) (w : World) where
       let p = s.stamps.promised in let low = sent.low in
       let reigns : stamp.epoch ≡ w.epoch = omega arith in
       let r = recall_seen g.client stamp keep in
-      goes_by logs g end w (gives_again w r end) _ _ here
+      acts_by logs g end w (gives_again w r end) [] _ _ here
       (GivesAgain r end (record { sent = sent.recalled reigns; serving = s.serving; heard = omega arith; equal = equal (node_seen l.promised l.held.stamp) here w.epoch (stamp_seen stamp) s.stamps high sent.low same is }) settled)
-      (sym (put_back w.client g.client)) refl (λ p is. is) (λ y is. inr is) s (λ is. (sent.low, inl refl), tt)
+      refl (sym (put_back w.client g.client)) refl (λ p is. is) (λ y is. inr is) s (λ is. (sent.low, inl refl), tt)
 
   -- ---- promises
 
   pub promises-goes : (l : Local) (epoch : ℕ) → Shown l → l.promised ≤ epoch → To (record l { promised = epoch; held = promise_dropped l.held }) []
   promises-goes l epoch s rises =
       let p = s.stamps.promised in
-      goes_by logs g end w (promises w g.client epoch) _ [] _ (Promises g.client epoch (record { serving = s.serving; higher = omega arith })) refl refl (λ p is. is) (λ y is. is)
+      acts_by logs g end w (promises w g.client epoch) [] _ [] _ (Promises g.client epoch (record { serving = s.serving; higher = omega arith })) refl refl refl (λ p is. is) (λ y is. is)
       (record {
         client = s.client;
         serving = s.serving;

@@ -38,7 +38,9 @@ use Rattle.token_protocol.specs.World.{World}
 use Rattle.token_protocol.proofs.Refining.{put_each}
 use Rattle.token_tie.specs.Seen.{rank, kept, entry_seen, SentOffer, SentRecall}
 use Rattle.token_tie.specs.Managed.{want_seen, AllAwaited, Idle, JobShown, Manages, ByManager, AllTold, Runs}
-use Rattle.token_tie.proofs.Frames.{put_here, put_there, steps_through}
+use Rattle.token_protocol.specs.Told.{told as acts_told}
+use Rattle.token_protocol.proofs.Told.{steps_through}
+use Rattle.token_tie.proofs.Frames.{put_here, put_there, both_quiet}
 use Rattle.xfs_base.specs.Modes.{is_nothing, is_own}
 use Rattle.std.specs.Prelude.{Contains}
 use Rattle.xfs_base.proofs.Booleans.{contrary}
@@ -139,20 +141,25 @@ others_have bs ask d other copy =
 
 module _ (logs : Bool) where
   pub runs_nowhere : (b : BlockId) (w : World) (s : SlotState) → Manages b s w → Runs logs b w (still s)
-  runs_nowhere b w s m = record { world = w; steps = Ended; frame = by_nothing w; shows = m; told = tt }
+  runs_nowhere b w s m = record { world = w; steps = Ended; quiet = refl; frame = by_nothing w; shows = m; told = tt }
 
   -- ---- turns of other blocks
 
-  turning : (w : World) (n : ℕ) → Steps logs w (record w { turn = w.turn + n })
-  turning w zero = let e : w.turn ≡ w.turn + 0 = omega arith in subst (λ t. Steps logs w (record w { turn = t })) e Ended
-  turning w (suc n) = let e : suc (w.turn + n) ≡ w.turn + suc n = omega arith in subst (λ t. Steps logs w (record w { turn = t })) e (More (turning w n) Turns)
+  -- steps to this turn that tell nothing
+  abbrev Turning : World → ℕ → Type 0
+  Turning w t = (steps : Steps logs w (record w { turn = t })) × (acts_told w (record w { turn = t }) steps ≡ [])
+
+  turning : (w : World) (n : ℕ) → Turning w (w.turn + n)
+  turning w zero = let e : w.turn ≡ w.turn + 0 = omega arith in subst (Turning w) e (Ended, refl)
+  turning w (suc n) = let e : suc (w.turn + n) ≡ w.turn + suc n = omega arith in let t = turning w n in subst (Turning w) e (More t.0 Turns, t.1)
 
   -- the slot speaks of another block
   pub turns-runs : (b : BlockId) (w : World) (s : SlotState) (d : Done) (n : ℕ) → Manages b s w → d.state.epoch ≡ s.epoch → d.state.turn ≡ s.turn + n → ((c : ℕ) → share_of s.beliefs b c ≤ share_of d.state.beliefs b c)
       → d.state.applied ≡ s.applied → d.state.index ≡ s.index → job_at d.state.jobs b ≡ job_at s.jobs b → ((v : World) → AllTold b v d.outs) → Runs logs b w d
   turns-runs b w s d n m epoch turn belief_ applied index jobs told = record {
     world = record w { turn = w.turn + n };
-    steps = turning w n;
+    steps = (turning w n).0;
+    quiet = (turning w n).1;
     frame = record { others = refl; offers = λ p is. is; recalls = λ r is. is };
     shows = record {
       epoch = epoch ∙ m.epoch;
@@ -192,6 +199,7 @@ module _ (logs : Bool) where
       record {
         world = steps.offers w p;
         steps = More Ended (Offers p (record { sent = asked; settled = idle.nothing ask.client; fits = fits }) (ends logs (record { asker = asker; givers = idle.paid })));
+        quiet = refl;
         frame = record { others = refl; offers = λ x is. inr is; recalls = λ x is. is };
         shows = record {
           epoch = m.epoch;
@@ -224,6 +232,7 @@ module _ (logs : Bool) where
   record Recalled (keeps : Bool) (b : BlockId) (epoch turn : ℕ) (w : World) (cs : List ℕ) : Type 0 where
     world : World
     steps : Steps logs w world
+    quiet : acts_told w world steps ≡ []
     frame : ByManager w world
     same : record world { awaited = λ c. 0; keep = λ c. 0; turn = 0; recalls = [] } ≡ record w { awaited = λ c. 0; keep = λ c. 0; turn = 0; recalls = [] }
     turned : world.turn ≡ w.turn + length cs
@@ -236,6 +245,7 @@ module _ (logs : Bool) where
   recalling b keeps epoch turn w [] once is reigns = record {
     world = w;
     steps = Ended;
+    quiet = refl;
     frame = by_nothing w;
     same = refl;
     turned = omega arith;
@@ -254,6 +264,7 @@ module _ (logs : Bool) where
       record {
         world = r.world;
         steps = steps_through w v r.world (More Ended (Recalls c (kept keeps) (record { less = least keeps }))) r.steps;
+        quiet = both_quiet logs w v r.world (More Ended (Recalls c (kept keeps) (record { less = least keeps }))) r.steps refl r.quiet;
         frame = by_through w v r.world (record { others = refl; offers = λ x is. is; recalls = λ x is. inr is }) r.frame;
         same = r.same;
         turned = let t = r.turned in omega arith;
@@ -294,6 +305,7 @@ module _ (logs : Bool) where
       record {
         world = v;
         steps = r.steps;
+        quiet = r.quiet;
         frame = r.frame;
         shows = record {
           epoch = m.epoch ∙ sym (ap (λ (u : World). u.epoch) r.same);

@@ -60,7 +60,7 @@ module _ (logs : Bool) (g : Setting) (end : ℕ) where
       let d = ask_copy u b in
       let t = one-asks v u b shows settled_ free.0 in
       let rest_ = Each-weaker (Unheld g u) (Unheld g d.state) (λ k f is. ap is_held (ask-mode g u b) ∙ f is) bs free.1 in
-      goes_through logs g end v (local_of d.state g.block) _ d.outs _ t (asks-took t.world d.state bs (shown_on logs g end v (local_of d.state g.block) d.outs t) (end_on logs v t.world g.client end t.frame settled_) rest_)
+      goes_through logs g end v (local_of d.state g.block) _ d.outs _ t (asks-took t.world d.state bs (shown_on logs g end v [] (local_of d.state g.block) d.outs t) (end_on logs v t.world g.client end t.frame settled_) rest_)
 
   one-again : (v : World) (u : TokensState) (block : BlockId) → Shows g v.epoch (local_of u g.block) (v.client g.client) → Premise logs (SettledEnd v g.client end) → Took logs g end v (ask_again u block)
   one-again v u block shows settled_ =
@@ -71,7 +71,7 @@ module _ (logs : Bool) (g : Setting) (end : ℕ) where
   agains-took v u (b ∷ bs) shows settled_ =
       let d = ask_again u b in
       let t = one-again v u b shows settled_ in
-      goes_through logs g end v (local_of d.state g.block) _ d.outs _ t (agains-took t.world d.state bs (shown_on logs g end v (local_of d.state g.block) d.outs t) (end_on logs v t.world g.client end t.frame settled_))
+      goes_through logs g end v (local_of d.state g.block) _ d.outs _ t (agains-took t.world d.state bs (shown_on logs g end v [] (local_of d.state g.block) d.outs t) (end_on logs v t.world g.client end t.frame settled_))
 
   module _ (w : World) (s : TokensState) (r : laws.Ready logs g end w s) where
     abbrev h : Held
@@ -137,5 +137,5 @@ module _ (logs : Bool) (g : Setting) (end : ℕ) where
         (λ may.
         let rises = and_second (nat_lt slot 8) (nat_le (epoch_of s.epochs slot) epoch) (and_first (nat_lt slot 8 && nat_le (epoch_of s.epochs slot) epoch) (nat_le (length (fetched_in slot s.blocks)) (2 ^ 32 - 1 - s.req)) may) in
         let t = promised-known slot epoch rises in
-        goes_through logs g end w (local_of u g.block) _ [] _ t (asks-took t.world u blocks (shown_on logs g end w (local_of u g.block) [] t) (end_on logs w t.world g.client end t.frame r.settled) free))
+        goes_through logs g end w (local_of u g.block) _ [] _ t (asks-took t.world u blocks (shown_on logs g end w [] (local_of u g.block) [] t) (end_on logs w t.world g.client end t.frame r.settled) free))
         (λ _. stays)

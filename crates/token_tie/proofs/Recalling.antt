@@ -90,12 +90,12 @@ module _ (logs : Bool) (g : Setting) (end : ℕ) where
         let m = record l { held = unfetched h } in
         let one = drops_fetch-goes logs g end w l r.shows in
         let zero_ = unheld_rank h.mode ((r.sound.each g.block).fetch_unheld some) in
-        let two = asks-goes logs g end one.world m Copy (shown_on logs g end w m [] one) refl (omega arith) (end_on logs w one.world g.client end one.frame r.settled) in
+        let two = asks-goes logs g end one.world m Copy (shown_on logs g end w [] m [] one) refl (omega arith) (end_on logs w one.world g.client end one.frame r.settled) in
         let both = goes_through logs g end w m (record m { req = s.req + 1; held = asked (unfetched h) (s.req + 1) Copy }) [] outs one two in
         let t : Goes logs g end w (local_of u g.block) outs = subst (λ k. Goes logs g end w (record l { req = s.req + 1; held = k }) outs) (sym now) both in
         let epoch = epoch_on logs g end w t.world t.frame in
         goes_through logs g end w (local_of u g.block) _ outs _ t
-        (give-there t.world u stamp keep (shown_on logs g end w (local_of u g.block) outs t) (omega arith) (sent_on g w t.world stamp keep t.frame sent) same
+        (give-there t.world u stamp keep (shown_on logs g end w [] (local_of u g.block) outs t) (omega arith) (sent_on g w t.world stamp keep t.frame sent) same
         (ap (λ (k : Held). is_later stamp k.stamp) now ∙ later) (ap (λ (k : Held). is_none k.fetch) now) (end_on logs w t.world g.client end t.frame r.settled)))
         (λ full. contrary (sym full ∙ none_or h.fetch (nat_lt s.req (2 ^ 32 - 1)) some room)))
         (λ none. give-there w s stamp keep r.shows (omega arith) sent same later (none_by h.fetch none) r.settled))

@@ -1,6 +1,7 @@
 -- Inputs of this block: each is taken by steps of the client.
 use Rattle.std.proofs.Common.{◌≡◌, ℕ, ◌+◌, ◌-◌, ◌^◌, ◌==◌, ◌<◌, Bool, true, false, ◌&&◌, ◌||◌, not, List, [], ◌∷◌, Option, Some, None, is_some, is_none, refl, sym, ap, subst, ◌∙◌, arith, nat_lt}
 use Rattle.std.specs.Ordering.{eq_by_cmp}
+use Rattle.std.specs.Prelude.{if◌then◌else◌}
 use Rattle.std.proofs.lemmas.Bool.Decides.{nat_tests}
 use Rattle.xfs_base.specs.declared.block.BlockId.{BlockId}
 use Rattle.xfs_base.specs.declared.entry.Entry.{Entry}
@@ -12,6 +13,7 @@ use Rattle.std.proofs.lemmas.Map.Views.{tells_apart}
 use Rattle.xfs_base.specs.Blocks.{block_cmp}
 use Rattle.xfs_base.proofs.BlockOrder.{block_cmp_exact}
 use Rattle.xfs_base.specs.Steps.{still, after}
+use Rattle.token_client.specs.declared.held.Fetch.{Fetch}
 use Rattle.token_client.specs.declared.held.Held.{Held}
 use Rattle.token_client.specs.declared.held.Wanted.{Wanted}
 use Rattle.token_client.specs.declared.output.Out.{Out}
@@ -21,10 +23,12 @@ use Rattle.token_client.specs.State.{TokensState, held_of, with_held}
 use Rattle.token_client.specs.Transition.{Done, is_promised, new_want, on_need, accepts, copy_next, grant_next, on_granted, on_supplied, serves, supplies, on_forwarded, on_wrote, on_settled, on_fetched, on_evict, on_reask, on_quit, is_spent, repeated, ask_again}
 use Rattle.token_client.proofs.SoundBlocks.{asks_by_want}
 use Rattle.token_client.proofs.Tables.{held_of-put_itself}
+use Rattle.token_protocol.specs.Acts.{Act}
+use Rattle.token_protocol.specs.Acts.Act.{Wrote as WroteBlock}
 use Rattle.token_protocol.specs.Premises.{Premise, SettledEnd, PlaceRead}
 use Rattle.token_protocol.specs.World.{World}
 use Rattle.token_tie.specs.Seen.{Setting, Local, Shows, SentOffer, rank, local_of, located, entry_seen}
-use Rattle.token_tie.specs.Taken.{AllSaid, Goes, Took}
+use Rattle.token_tie.specs.Taken.{AllSaid, Acts, Goes, Acted, Took}
 use Rattle.token_tie.specs.Inputs as laws
 use Rattle.token_tie.proofs.Frames.{goes_nowhere, goes_saying, goes_through, shown_on}
 use Rattle.token_tie.proofs.Leaves.{meets, taking, drops_want-goes, drops_fetch-goes, asks-goes, asks_again-goes, absent-goes, place-goes, supplied-goes, first-goes, declines-goes, fetches-goes, writes-goes, evicts-goes}
@@ -76,9 +80,13 @@ not_or false false h = (refl, refl)
 
 module _ (logs : Bool) (g : Setting) (end : ℕ) where
   -- what is put is what is shown
+  pub acts_lifted : (w : World) (acts : List Act) (s : TokensState) (h : Held) (n : ℕ) (outs : List Out) → Acts logs g end w acts (record (local_of s g.block) { req = n; held = h }) outs
+      → Acted logs g end w acts (record { state = record (with_held s g.block h) { req = n }; outs = outs })
+  acts_lifted w acts s h n outs t = subst (λ k. Acts logs g end w acts (record (local_of s g.block) { req = n; held = k }) outs) (sym (held_of-put_itself g.block h s.blocks)) t
+
   pub lifted : (w : World) (s : TokensState) (h : Held) (n : ℕ) (outs : List Out) → Goes logs g end w (record (local_of s g.block) { req = n; held = h }) outs
       → Took logs g end w (record { state = record (with_held s g.block h) { req = n }; outs = outs })
-  lifted w s h n outs t = subst (λ k. Goes logs g end w (record (local_of s g.block) { req = n; held = k }) outs) (sym (held_of-put_itself g.block h s.blocks)) t
+  lifted w s h n outs t = acts_lifted w [] s h n outs t
 
   -- a want is asked, in any state that is shown
   pub ask-there : (v : World) (u : TokensState) (mode : Mode) → Shows g v.epoch (local_of u g.block) (v.client g.client) → Premise logs (SettledEnd v g.client end) → is_held mode ≡ true → rank (held_of u.blocks g.block).mode < rank mode
@@ -164,7 +172,7 @@ module _ (logs : Bool) (g : Setting) (end : ℕ) where
     all_three a b c p q t = ap (λ x. x && b && c) p ∙ ap (λ x. x && c) q ∙ t
 
     pub owns_and_writes : (stamp : Stamp) (inc req : ℕ) (entry : Entry) (value : Option (List ℕ)) → SentOffer g.client w stamp inc req Own (entry_seen entry) → accepts s g.block stamp inc req Own ≡ true → nat_lt entry.ver (2 ^ 64 - 1) ≡ true
-        → At (laws.granted_and_wrote s stamp inc req g.block entry value)
+        → Acted logs g end w (WroteBlock g.client (g.number value) ∷ []) (laws.granted_and_wrote s stamp inc req g.block entry value)
     unfolding on_granted on_wrote
     owns_and_writes stamp inc req entry value sent t room =
         let may = taking logs g end w l stamp inc req Own (entry_seen entry) r.shows r.promised sent t in
@@ -172,10 +180,11 @@ module _ (logs : Bool) (g : Setting) (end : ℕ) where
         let u = with_held s g.block mine in
         let now : held_of u.blocks g.block ≡ mine = held_of-put_itself g.block mine s.blocks in
         let free : may_write (held_of u.blocks g.block) ≡ true = ap may_write now ∙ all_three true (is_none h.giving) (nat_lt entry.ver (2 ^ 64 - 1)) refl (ungiven stamp inc req Own t) room in
-        by_test (λ (d : Done). At (after d.outs (on_wrote d.state g.block value))) (accepts s g.block stamp inc req Own) (record { state = u; outs = Ready g.block ∷ [] }) (still s)
-        (λ _. by_test (λ (d : Done). At (after (Ready g.block ∷ []) d)) (may_write (held_of u.blocks g.block)) (still (with_held u g.block (written (held_of u.blocks g.block) value))) (still u)
-        (λ _. lifted w u (written (held_of u.blocks g.block) value) s.req _
-        (subst (λ k. Goes logs g end w (record l { held = written k value }) (Ready g.block ∷ [])) (sym now)
+        let acts = WroteBlock g.client (g.number value) ∷ [] in
+        by_test (λ (d : Done). Acted logs g end w acts (after d.outs (on_wrote d.state g.block value))) (accepts s g.block stamp inc req Own) (record { state = u; outs = Ready g.block ∷ [] }) (still s)
+        (λ _. by_test (λ (d : Done). Acted logs g end w acts (after (Ready g.block ∷ []) d)) (may_write (held_of u.blocks g.block)) (still (with_held u g.block (written (held_of u.blocks g.block) value))) (still u)
+        (λ _. acts_lifted w acts u (written (held_of u.blocks g.block) value) s.req _
+        (subst (λ k. Acts logs g end w acts (record l { held = written k value }) (Ready g.block ∷ [])) (sym now)
         (first-goes logs g end w l stamp inc req (Ready g.block ∷ []) r.shows (λ v. (tt, tt)) may.0 entry.ver entry.hop entry.place value may.1)))
         (λ f. contrary (sym f ∙ free)))
         (λ f. contrary (sym f ∙ t))
@@ -217,19 +226,23 @@ module _ (logs : Bool) (g : Setting) (end : ℕ) where
     own_named Copy t = contrary t
     own_named Own t = refl
 
-    pub on_wrote-here : (value : Option (List ℕ)) → At (on_wrote s g.block value)
+    -- a write is told where it may be
+    pub on_wrote-here : (value : Option (List ℕ)) → Acted logs g end w (if may_write h then WroteBlock g.client (g.number value) ∷ [] else []) (on_wrote s g.block value)
     unfolding on_wrote
     on_wrote-here value =
-        by_test At (may_write h) (still (with_held s g.block (written h value))) (still s)
-        (λ t. lifted w s (written h value) s.req [] (writes-goes logs g end w l value r.shows (and_first (is_own h.mode) (is_none h.giving) (and_first (is_own h.mode && is_none h.giving) (nat_lt h.ver (2 ^ 64 - 1)) t))))
-        (λ t. stays)
+        elim (may_write h) as (λ t. may_write h ≡ t → Acted logs g end w (if t then WroteBlock g.client (g.number value) ∷ [] else []) (if t then still (with_held s g.block (written h value)) else still s)) [
+          | true ↦ λ t.
+              acts_lifted w (WroteBlock g.client (g.number value) ∷ []) s (written h value) s.req []
+              (writes-goes logs g end w l value r.shows (and_first (is_own h.mode) (is_none h.giving) (and_first (is_own h.mode && is_none h.giving) (nat_lt h.ver (2 ^ 64 - 1)) t)))
+          | false ↦ λ t. stays
+        ] refl
 
-    pub on_fetched-here : (value : Option (List ℕ)) → Premise logs (PlaceRead w g.client (g.number value)) → At (on_fetched s g.block value)
+    pub on_fetched-here : (value : Option (List ℕ)) → ((f : Fetch) → h.fetch ≡ Some f → Premise logs (PlaceRead w g.client (g.number value))) → At (on_fetched s g.block value)
     unfolding on_fetched
     on_fetched-here value read =
         by_test At (may_end_fetch h) (record { state = with_held s g.block (fetch_ended h h.fetch value); outs = Ready g.block ∷ [] }) (still s)
         (λ t. let f = some_is h.fetch (and_first (is_some h.fetch) (is_none h.want) t) in
-        lifted w s (fetch_ended h h.fetch value) s.req _ (subst (λ o. Goes logs g end w (record l { held = fetch_ended h o value }) (Ready g.block ∷ [])) (sym f.1) (fetches-goes logs g end w l f.0 value (Ready g.block ∷ []) r.shows f.1 (λ v. (tt, tt)) read)))
+        lifted w s (fetch_ended h h.fetch value) s.req _ (subst (λ o. Goes logs g end w (record l { held = fetch_ended h o value }) (Ready g.block ∷ [])) (sym f.1) (fetches-goes logs g end w l f.0 value (Ready g.block ∷ []) r.shows f.1 (λ v. (tt, tt)) (read f.0 f.1))))
         (λ t. stays)
 
     pub on_evict-here : At (on_evict s g.block)
@@ -248,7 +261,7 @@ module _ (logs : Bool) (g : Setting) (end : ℕ) where
         let m = record l { held = record h { want = None } } in
         let t = drops_want-goes logs g end w l r.shows in
         by_test At (is_asking h) (still (with_held s g.block (unasked h))) (still s)
-        (λ _. lifted w s (unasked h) s.req [] (goes_through logs g end w m _ [] [] t (drops_fetch-goes logs g end t.world m (shown_on logs g end w m [] t)))) (λ _. stays)
+        (λ _. lifted w s (unasked h) s.req [] (goes_through logs g end w m _ [] [] t (drops_fetch-goes logs g end t.world m (shown_on logs g end w [] m [] t)))) (λ _. stays)
 
     -- a version that is settled is no news
     pub on_settled-still : (ver : ℕ) → is_settled_by h ver ≡ false → At (on_settled s g.block ver)

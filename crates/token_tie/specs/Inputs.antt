@@ -1,25 +1,29 @@
 -- What a client's tokens need of the world when they take an input, and the laws.
-use Rattle.std.specs.Prelude.{◌≡◌, ℕ, ◌≤◌, Bool, true, false, nat_lt, List, Option}
+use Rattle.std.specs.Prelude.{◌≡◌, ℕ, ◌≤◌, Bool, true, false, nat_lt, List, [], ◌∷◌, Option, Some, if◌then◌else◌}
 use Rattle.xfs_base.specs.declared.block.BlockId.{BlockId}
 use Rattle.xfs_base.specs.declared.entry.Entry.{Entry}
 use Rattle.xfs_base.specs.declared.entry.Place.{Place}
 use Rattle.xfs_base.specs.declared.token.Mode.{Mode}
 use Rattle.xfs_base.specs.declared.token.Mode.TheVariants.{Nothing, Copy, Own}
 use Rattle.xfs_base.specs.declared.token.Stamp.{Stamp}
+use Rattle.xfs_base.specs.Blocks.{same_block}
 use Rattle.xfs_base.specs.Steps.{after}
 use Rattle.xfs_base.specs.Limits.{u64_end}
 use Rattle.token_client.specs.declared.input.In as inputs
 use Rattle.token_client.specs.declared.input.In.TheVariants.{Need, Granted, Supplied, Forwarded, Recalled, Wrote, Settled, Fetched, Evict, Reask, Quit, Promise, Tick}
-use Rattle.token_client.specs.Held.{is_settled_by}
+use Rattle.token_client.specs.declared.held.Fetch.{Fetch}
+use Rattle.token_client.specs.Held.{is_settled_by, may_write}
 use Rattle.token_client.specs.Laws.{IsSound}
 use Rattle.token_client.specs.State.{TokensState, held_of}
 use Rattle.token_client.specs.Transition.{Done, accepts, on_granted, on_wrote, on_evict, on_settled, transition}
+use Rattle.token_protocol.specs.Acts.{Act}
+use Rattle.token_protocol.specs.Acts.Act.{Wrote as WroteBlock}
 use Rattle.token_protocol.specs.Premises.{Premise, SettledEnd, SegmentFlying, IsSupplied, PlaceRead}
 use Rattle.token_protocol.specs.Logging.{MaySettle, settles}
 use Rattle.token_protocol.specs.Step.{Step}
 use Rattle.token_protocol.specs.World.{World, flying_row}
 use Rattle.token_tie.specs.Seen.{Setting, Shows, SentOffer, SentRecall, offer_seen, local_of, located, entry_seen}
-use Rattle.token_tie.specs.Taken.{Took}
+use Rattle.token_tie.specs.Taken.{Acted, Took}
 
 -- What holds of a client whenever it takes an input: it is seen as it is there, is sound, has promised at least the reigning epoch, and knows the
 -- last filed segment of its log.
@@ -51,18 +55,23 @@ Brings logs g w s (Forwarded block stamp ver) = Unit {0}
 Brings logs g w s (Recalled block stamp keep) = block ≡ g.block → SentRecall g.client w stamp keep
 Brings logs g w s (Wrote block value) = Unit {0}
 Brings logs g w s (Settled block ver) = block ≡ g.block → is_settled_by (held_of s.blocks block) ver ≡ false
-Brings logs g w s (Fetched block value) = block ≡ g.block → Premise logs (PlaceRead w g.client (g.number value))
+Brings logs g w s (Fetched block value) = block ≡ g.block → (f : Fetch) → (held_of s.blocks block).fetch ≡ Some f → Premise logs (PlaceRead w g.client (g.number value))
 Brings logs g w s (Evict block) = Unit {0}
 Brings logs g w s (Reask block) = Unit {0}
 Brings logs g w s (Quit block) = Unit {0}
 Brings logs g w s (Promise slot epoch) = Unit {0}
 Brings logs g w s Tick = Unit {0}
 
+-- The act of the block that an input is: a write, where it may be written.
+abbrev pub acts_seen : Setting → TokensState → inputs.In → List Act
+acts_seen g s (Wrote block value) = if may_write (held_of s.blocks block) then (if same_block block g.block then WroteBlock g.client (g.number value) ∷ [] else []) else []
+acts_seen g s _ = []
+
 -- Each input is taken by steps of the client.
 abbrev pub TakesInputs : Type 0
 TakesInputs =
     (logs : Bool) (g : Setting) (end : ℕ) (w : World) (s : TokensState) (input : inputs.In) → Ready logs g end w s → Brings logs g w s input
-    → Took logs g end w (transition s input)
+    → Acted logs g end w (acts_seen g s input) (transition s input)
 
 -- a grant to own, and the write of the waiting call
 abbrev pub granted_and_wrote : TokensState → Stamp → ℕ → ℕ → BlockId → Entry → Option (List ℕ) → Done
@@ -75,7 +84,7 @@ OwnsAndWrites =
     (logs : Bool) (g : Setting) (end : ℕ) (w : World) (s : TokensState) (stamp : Stamp) (inc req : ℕ) (entry : Entry) (value : Option (List ℕ))
     → Ready logs g end w s → SentOffer g.client w stamp inc req Own (entry_seen entry)
     → accepts s g.block stamp inc req Own ≡ true → nat_lt entry.ver u64_end ≡ true
-    → Took logs g end w (granted_and_wrote s stamp inc req g.block entry value)
+    → Acted logs g end w (WroteBlock g.client (g.number value) ∷ []) (granted_and_wrote s stamp inc req g.block entry value)
 
 -- a grant to own, let go unwritten
 abbrev pub granted_and_evicted : TokensState → Stamp → ℕ → ℕ → BlockId → Entry → Done

@@ -16,6 +16,7 @@ use Rattle.token_protocol.specs.Basics.{In}
 use Rattle.token_protocol.specs.Entry.{no_entry}
 use Rattle.token_protocol.specs.Packets as packets
 use Rattle.token_protocol.specs.Step.{Steps}
+use Rattle.token_protocol.specs.Told.{told as acts_told}
 use Rattle.token_protocol.specs.World.{World}
 use Rattle.token_tie.specs.Seen.{rank, kept, entry_seen, SentOffer, SentRecall}
 use Rattle.xfs_base.specs.Modes.{is_nothing, is_own}
@@ -91,10 +92,11 @@ abbrev pub AllTold : BlockId → World → List Out → Type 0
 AllTold b w [] = Unit {0}
 AllTold b w (o ∷ os) = Told b w o × AllTold b w os
 
--- By steps of the manager alone the world becomes one in which the slot and what it says are shown.
+-- By steps of the manager alone, which tell no act, the world becomes one in which the slot and what it says are shown.
 pub record Runs (logs : Bool) (b : BlockId) (w : World) (d : Done) : Type 0 where
   pub world : World
   pub steps : Steps logs w world
+  pub quiet : acts_told w world steps ≡ []
   pub frame : ByManager w world
   pub shows : Manages b d.state world
   pub told : AllTold b world d.outs

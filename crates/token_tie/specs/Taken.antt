@@ -3,10 +3,12 @@ use Rattle.std.specs.Prelude.{◌≡◌, ◌≤◌, ℕ, Bool, List, [], ◌∷�
 use Rattle.token_client.specs.declared.output.Out.{Out}
 use Rattle.token_client.specs.declared.output.Out.TheVariants.{Want, Gave, Supply, Flush, Read, Ready}
 use Rattle.token_client.specs.Transition.{Done}
+use Rattle.token_protocol.specs.Acts.{Act}
 use Rattle.token_protocol.specs.Basics.{In}
 use Rattle.token_protocol.specs.Client.{fresh}
 use Rattle.token_protocol.specs.Packets as packets
 use Rattle.token_protocol.specs.Step.{Steps}
+use Rattle.token_protocol.specs.Told.{told}
 use Rattle.token_protocol.specs.World.{World}
 use Rattle.token_tie.specs.Seen.{Setting, Local, Shows, local_of, rank}
 
@@ -34,13 +36,21 @@ abbrev pub AllSaid : Setting → ℕ → World → List Out → Type 0
 AllSaid g end w [] = Unit {0}
 AllSaid g end w (o ∷ os) = Said g end w o × AllSaid g end w os
 
--- By steps of this client alone the world becomes one in which what is known of the block, and what is given, is shown.
-pub record Goes (logs : Bool) (g : Setting) (end : ℕ) (w : World) (l : Local) (outs : List Out) : Type 0 where
+-- By steps of this client alone, which tell these acts of the block, the world becomes one in which what is known of the block, and what is given, is shown.
+pub record Acts (logs : Bool) (g : Setting) (end : ℕ) (w : World) (acts : List Act) (l : Local) (outs : List Out) : Type 0 where
   pub world : World
   pub steps : Steps logs w world
+  pub tells : told w world steps ≡ acts
   pub frame : ByClient g.client w world
   pub shows : Shows g w.epoch l (world.client g.client)
   pub said : AllSaid g end world outs
 
+-- by steps that tell no act
+abbrev pub Goes : Bool → Setting → ℕ → World → Local → List Out → Type 0
+Goes logs g end w l outs = Acts logs g end w [] l outs
+
+abbrev pub Acted : Bool → Setting → ℕ → World → List Act → Done → Type 0
+Acted logs g end w acts d = Acts logs g end w acts (local_of d.state g.block) d.outs
+
 abbrev pub Took : Bool → Setting → ℕ → World → Done → Type 0
-Took logs g end w d = Goes logs g end w (local_of d.state g.block) d.outs
+Took logs g end w d = Acted logs g end w [] d

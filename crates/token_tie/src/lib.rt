@@ -7,7 +7,7 @@ ghost use Rattle.token_tie.specs.Epochs.{SuppliesNewest, RestartShows, Activatio
 ghost use Rattle.token_tie.specs.Inputs.{TakesInputs, OwnsAndWrites, OwnsAndDeclines, SettlesBlocks};
 ghost use Rattle.token_tie.specs.SlotInputs.{SlotTakes};
 
-/// What a client's tokens do on an input is a list of steps of that client.
+/// What a client's tokens do on an input is a list of steps of that client, which tell of the block just the write that the input is, if it is one.
 ///
 /// - `takes`: every input, of this block or another, but for a granted Own of this block and news that a version of it is settled.
 /// - `owns`: a granted Own of this block, with the write of the waiting call in the same event.
@@ -20,7 +20,8 @@ pub fn client_inputs()
     ensures settles { SettlesBlocks }
 {}
 
-/// What a slot does on an input, in any state that it reaches from a start at which owners are alone, is a list of steps of the reigning manager.
+/// What a slot does on an input, in any state that it reaches from a start at which owners are alone, is a list of steps of the reigning manager, which tell no
+/// act.
 pub fn slot_inputs()
     ensures { SlotTakes }
 {}

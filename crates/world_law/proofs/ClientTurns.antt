@@ -1,5 +1,5 @@
 -- A client that has its turn: the moment after it stands to the small world that runs on with it.
-use Rattle.std.proofs.Common.{◌≡◌, ⊎_elim, ℕ, ◌≤◌, ◌<◌, List, ◌++◌, Some, map, slice_get, slice_set, get_or, refl, sym, ap, subst, ◌∙◌, arith}
+use Rattle.std.proofs.Common.{◌≡◌, ⊎_elim, ℕ, false, ◌≤◌, ◌<◌, List, ◌++◌, Some, map, slice_get, slice_set, get_or, refl, sym, ap, subst, ◌∙◌, arith}
 use Rattle.client_node.specs.declared.client.Client.{Client as ClientNode}
 use Rattle.client_node.specs.declared.phase.Phase.{Phase}
 use Rattle.client_node.specs.declared.phase.Phase.TheVariants.{Down, Opening, Serving as Serves}
@@ -9,13 +9,13 @@ use Rattle.core_world.specs.declared.any_node.AnyNode.TheVariants as any
 use Rattle.node_base.specs.declared.effects.Effect.{Effect}
 use Rattle.node_base.specs.Effects.{packets_of}
 use Rattle.node_tie.proofs.ManagerFrames.{manager_on}
+use Rattle.node_tie.proofs.SmallWorld.{any_promise, promised_stays, with_promise}
 use Rattle.node_tie.specs.AskingEvents.{PhaseAsks}
 use Rattle.node_tie.specs.CleanerEvents.{CleanerStands, CleanerWelcomed}
 use Rattle.node_tie.specs.ClientEvents.{ClientAgrees, ClientDid, ClientGoes, ClientStands, WelcomeRises}
 use Rattle.node_tie.specs.Sight.{ClientSends}
 use Rattle.store_nodes.specs.declared.registry_node.RegistryNode.{RegistryNode}
 use Rattle.token_client.specs.State.{TokensState, epoch_of}
-use Rattle.token_law.proofs.Promises.{any_promise, promised_stays, with_promise}
 use Rattle.token_law.specs.Net.{Net}
 use Rattle.token_protocol.specs.Basics.{put, In}
 use Rattle.token_protocol.proofs.Refining.{put_each}
@@ -52,14 +52,14 @@ welcome_frame part most c n m tokens (Serves s) w h = tt
 
 module _ (part most c : ℕ) (n : Net) where
   -- a Welcome of a life that a client had says nothing of one that begins, and what it owes to an opening stands still with that
-  pub welcome_after : (p p' : Phase) (members : ℕ) (outs : List Effect) (go : ClientGoes members part most c n p p' outs) (w : Welcome) → w.inc ≤ (lasting_of p).inc → WelcomeRises part most c n p w → WelcomeRises part most c go.next p' w
+  pub welcome_after : (p p' : Phase) (members : ℕ) (outs : List Effect) (go : ClientGoes false members part most c n p p' outs) (w : Welcome) → w.inc ≤ (lasting_of p).inc → WelcomeRises part most c n p w → WelcomeRises part most c go.next p' w
   welcome_after p (Down next) members outs go w life h = tt
   welcome_after p (Serves s) members outs go w life h = tt
   welcome_after (Down l) (Opening next o) members outs go w life h = λ same. (let later = go.begins in absurd (omega arith))
   welcome_after (Serves s) (Opening next o) members outs go w life h = λ same. (let later = go.begins in absurd (omega arith))
   welcome_after (Opening l q) (Opening next o) members outs go w life h = λ same. (let later = go.later in let now : w.inc ≡ l.inc = omega arith in welcome_frame part most c n go.next (go.stands tt) (Opening l q) w h now)
 
-pub number_is : (part c : ℕ) (n : Net) (p : Phase) → ClientAgrees part c n p → (lasting_of p).number ≡ c
+pub number_is : (part c : ℕ) (n : Net) (p : Phase) → ClientAgrees false part c n p → (lasting_of p).number ≡ c
 number_is part c n (Down l) h = h.number
 number_is part c n (Opening l o) h = h.number
 number_is part c n (Serves s) h = h.number
@@ -68,7 +68,7 @@ number_is part c n (Serves s) h = h.number
 
 module _ (k : Cluster) (part : ℕ) (RegistrySound : RegistryNode → Type 0) (nodes : List AnyNode) (sent : List Packet) (s : Scene) (st : Stands k part nodes sent RegistrySound s)
     (c p clock : ℕ) (some : 0 < c) (within : c < members k part) (at : place_of k (Client c) ≡ Some p) (is : slice_get nodes p ≡ Some (any.Client (s.client c)))
-    (w : Went_to) (go : ClientGoes (members k part) part (epoch_now k part s) c s.net (s.client c).phase w.state w.outs) (asks : PhaseAsks w.state) where
+    (w : Went_to) (go : ClientGoes false (members k part) part (epoch_now k part s) c s.net (s.client c).phase w.state w.outs) (asks : PhaseAsks w.state) where
   abbrev after_node : ClientNode
   after_node = record (s.client c) { phase = w.state }
 
@@ -82,7 +82,7 @@ module _ (k : Cluster) (part : ℕ) (RegistrySound : RegistryNode → Type 0) (n
   sent_now = sent ++ map (sent_at clock) (packets_of (Client (lasting_of (s.client c).phase).number) w.outs)
 
   promised : go.next.promised ≡ s.net.promised
-  promised = promised_stays (members k part) part s.net go.next go.runs
+  promised = promised_stays false (members k part) part s.net go.next go.runs
 
   grown : Grown k part s client_scene
   grown = record {
@@ -138,10 +138,10 @@ module _ (k : Cluster) (part : ℕ) (RegistrySound : RegistryNode → Type 0) (n
 
   pub client_turn : Stands k part nodes_now sent_now RegistrySound client_scene
   client_turn = record {
-    runs = runs_on (members k part) part _ (with_promise 1 s.net) (with_promise 1 go.next) st.runs (any_promise (members k part) part 1 s.net go.next go.runs);
+    runs = runs_on (members k part) part _ (with_promise 1 s.net) (with_promise 1 go.next) st.runs (any_promise false (members k part) part 1 s.net go.next go.runs);
     placed = placed;
     sound = st.sound;
-    clients = put_each (λ d (x : ClientNode). 0 < d → d < members k part → ClientAgrees part d go.next x.phase × ClientStands part (epoch_now k part s) d go.next x.phase) s.client c after_node
+    clients = put_each (λ d (x : ClientNode). 0 < d → d < members k part → ClientAgrees false part d go.next x.phase × ClientStands part (epoch_now k part s) d go.next x.phase) s.client c after_node
         (λ _ _. (go.agrees, record { asks = asks; within = go.within; promises = go.promises }))
         (λ d other pos less. (let h = st.clients d pos less in let o = go.others d other in
         (client_frame part d s.net go.next o.0 o.1 go.grows (s.client d).phase h.0, stands_frame part (epoch_now k part s) (epoch_now k part s) d s.net go.next (omega arith) o.0 (s.client d).phase h.1)));

@@ -3,7 +3,7 @@ use Rattle.std.proofs.Common.{◌≡◌, ℕ, ◌<◌, ◌==◌, true, false, So
 use Rattle.std.proofs.lemmas.Bool.Decides.{nat_tests}
 use Rattle.node_tie.specs.RegistryEvents.{RegistrySound}
 use Rattle.token_client.specs.State.{TokensState, held_of}
-use Rattle.token_law.proofs.Promises.{with_promise}
+use Rattle.node_tie.proofs.SmallWorld.{with_promise}
 use Rattle.token_law.specs.Laws.{NobodyHoldsAfterFall}
 use Rattle.world_base.specs.Cluster.{cluster_of, place_of}
 use Rattle.world_base.specs.declared.cluster.Cluster.{Cluster}
@@ -23,7 +23,7 @@ module _ (laws : NodeLaws) (small : NobodyHoldsAfterFall) where
   nobody_now : (w : World AnyNode) (k : Cluster) → w.cluster ≡ k → ((part : ℕ) (of_eight : part < 8) → GoodWorld laws k part of_eight w) → NobodyHolds w
   nobody_now w k cluster good b c d t fallen at_d =
       subst (λ (x : TokensState). is_held (held_of x.blocks b).mode ≡ false) y.tokens
-      (small (members k part) part (with_promise 1 now.net) b (record { run = st.runs; inside = itself part }) c d (record { some = waits.some; within = waits.within }) y.client waits.down waits.dirty y.up)
+      (small false (members k part) part (with_promise 1 now.net) b (record { run = st.runs; inside = itself part }) c d (record { some = waits.some; within = waits.within }) y.client waits.down waits.dirty y.up)
     where
       part : ℕ
       part = slot_of b.ino.0

@@ -12,10 +12,10 @@ use Rattle.node_base.specs.declared.effects.Effect.TheVariants.{Does}
 use Rattle.node_base.specs.Effects.{act_of, acts_of}
 use Rattle.node_tie.proofs.StoreFrames.{acts_are}
 use Rattle.node_tie.specs.ClientEvents.{ClientActs, ClientAgrees, ClientDid, ClientGoes, IsAway}
-use Rattle.node_tie.specs.Sight.{IsNoFall}
 use Rattle.token_client.specs.Held.{is_dirty}
 use Rattle.token_client.specs.State.{TokensState, held_of}
 use Rattle.token_law.specs.Net.{Net}
+use Rattle.token_law.specs.Owed.{IsNeutral}
 use Rattle.token_protocol.specs.Basics.{In}
 use Rattle.version_model.specs.declared.act.Act.{Act}
 use Rattle.version_model.specs.declared.act.Act.TheVariants as act
@@ -118,16 +118,16 @@ module _ (members : ℕ) where
   abbrev pub FallsStand : Net → List Act → Type 0
   FallsStand n acts = (b : BlockId) (c : ℕ) → Names b ((history_after acts nothing_yet).told c) → WaitsDirty n b c
 
-  no_falls : (a : Act) → IsNoFall a → Falls (λ c b. ⊥) a
+  no_falls : (a : Act) → IsNeutral a → Falls (λ c b. ⊥) a
   no_falls (act.Fell client flight falls) h = absurd h
   no_falls _ h = tt
 
   -- where no client changes, and no act is a fall
-  pub falls_stay : (n m : Net) (acts more : List Act) → m.tokens ≡ n.tokens → m.up ≡ n.up → All IsNoFall more → FallsStand n acts → FallsStand m (acts ++ more)
+  pub falls_stay : (n m : Net) (acts more : List Act) → m.tokens ≡ n.tokens → m.up ≡ n.up → All IsNeutral more → FallsStand n acts → FallsStand m (acts ++ more)
   falls_stay n m acts more tokens up none st b c names =
       let told = subst (λ (h : History). Names b (h.told c)) (history_append acts more nothing_yet) names in
       let old : Names b ((history_after acts nothing_yet).told c) =
-      ⊎_elim (λ o. o) (λ f. absurd f) (all_told (λ c b. ⊥) more (history_after acts nothing_yet) c b (All-weaker IsNoFall (Falls (λ c b. ⊥)) no_falls more none) told) in
+      ⊎_elim (λ o. o) (λ f. absurd f) (all_told (λ c b. ⊥) more (history_after acts nothing_yet) c b (All-weaker IsNeutral (Falls (λ c b. ⊥)) no_falls more none) told) in
       let w = st b c old in
       record {
         some = w.some;
@@ -137,7 +137,7 @@ module _ (members : ℕ) where
       }
 
   module _ (part most c : ℕ) (some : 0 < c) (within : c < members) (n : Net) (node : NodeId) (acts : List Act) (st : FallsStand n acts) where
-    is_down : (m : Net) (q : Phase) → IsAway q → ClientAgrees part c m q → m.up c ≡ false
+    is_down : (m : Net) (q : Phase) → IsAway q → ClientAgrees false part c m q → m.up c ≡ false
     is_down m (Down l) away agrees = agrees.up
     is_down m (Opening l o) away agrees = agrees.up
     is_down m (Serves s) away agrees = absurd away
@@ -147,7 +147,7 @@ module _ (members : ℕ) where
       abbrev Own : Phase → ℕ → BlockId → Type 0
       Own q d x = (d ≡ c) × IsAway q × (is_dirty (held_of (n.tokens c).blocks x) ≡ true)
 
-      right : (p q : Phase) (outs : List Effect) (go : ClientGoes members part most c n p q outs) → All (Falls (Own q)) (acts_of node outs)
+      right : (p q : Phase) (outs : List Effect) (go : ClientGoes false members part most c n p q outs) → All (Falls (Own q)) (acts_of node outs)
       right p q outs go =
           acts_are (Falls (Own q)) (ClientDid part c n go.next.sent (lasting_of q).inc q) node (λ item answer. tt) (λ seg. tt) each outs
           (recursion_from_All (ClientDid part c n go.next.sent (lasting_of q).inc q) outs go.does)
@@ -157,7 +157,7 @@ module _ (members : ℕ) where
           each _ h = tt
 
       -- one that was down and of which a fall waits still doesn't serve
-      still_away : (p q : Phase) (outs : List Effect) (go : ClientGoes members part most c n p q outs) → ClientAgrees part c n p → n.up c ≡ false → (h : History) → Names b ((history_after (acts_of node outs) h).told c) → IsAway q
+      still_away : (p q : Phase) (outs : List Effect) (go : ClientGoes false members part most c n p q outs) → ClientAgrees false part c n p → n.up c ≡ false → (h : History) → Names b ((history_after (acts_of node outs) h).told c) → IsAway q
       still_away p (Down l) outs go agrees down h names = tt
       still_away p (Opening l o) outs go agrees down h names = tt
       still_away (Serves r) (Serves s) outs go agrees down h names = contrary (sym down ∙ agrees.up)
@@ -166,7 +166,7 @@ module _ (members : ℕ) where
           absurd (back_told (Own (Serves s)) (acts_of node outs) h c b go.back.0 (in_acts node (act.Back c go.back.0) outs go.back.1) (right (Opening l o) (Serves s) outs go) (λ f. f.1) names)
 
     -- what a client does keeps falls standing so
-    pub client_falls : (p q : Phase) (outs : List Effect) (go : ClientGoes members part most c n p q outs) → ClientAgrees part c n p → FallsStand go.next (acts ++ acts_of node outs)
+    pub client_falls : (p q : Phase) (outs : List Effect) (go : ClientGoes false members part most c n p q outs) → ClientAgrees false part c n p → FallsStand go.next (acts ++ acts_of node outs)
     client_falls p q outs go agrees b d names =
         ⊎_elim
         (λ old. let w = st b d old in ⊎_elim

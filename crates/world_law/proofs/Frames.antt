@@ -1,5 +1,5 @@
 -- What other nodes do leaves a client seen as it was.
-use Rattle.std.proofs.Common.{◌≡◌, ⊎_elim, ℕ, ◌≤◌, ◌<◌, inl, inr, sym, subst, ◌∙◌, arith}
+use Rattle.std.proofs.Common.{◌≡◌, ⊎_elim, ℕ, false, ◌≤◌, ◌<◌, inl, inr, sym, subst, ◌∙◌, arith}
 use Rattle.client_node.specs.declared.phase.Phase.{Phase as ClientPhase}
 use Rattle.client_node.specs.declared.phase.Phase.TheVariants as clients
 use Rattle.node_tie.specs.ClientEvents.{ClientAgrees, ClientStands, PromisesWithin}
@@ -9,21 +9,22 @@ use Rattle.token_law.specs.Net.Runs.{Begun, On}
 use Rattle.token_protocol.specs.Basics.{In}
 
 -- one run after another
-pub runs_on : (members part : ℕ) (n m o : Net) → Runs members part n m → Runs members part m o → Runs members part n o
+pub runs_on : (members part : ℕ) (n m o : Net) → Runs false members part n m → Runs false members part m o → Runs false members part n o
 runs_on members part n m o first Begun = first
 runs_on members part n m o first (On more last) = On (runs_on members part n m _ first more) last
 
 -- ---- a client
 
 module _ (part c : ℕ) (n m : Net) (tokens : m.tokens c ≡ n.tokens c) (up : m.up c ≡ n.up c) (grows : (x : Packet) → In x n.sent → In x m.sent) where
-  pub client_frame : (p : ClientPhase) → ClientAgrees part c n p → ClientAgrees part c m p
-  client_frame (clients.Down l) h = record { up = up ∙ h.up; number = h.number; inc = subst (λ (t : TokensState). t.inc ≤ l.inc) (sym tokens) h.inc }
+  pub client_frame : (p : ClientPhase) → ClientAgrees false part c n p → ClientAgrees false part c m p
+  client_frame (clients.Down l) h = record { up = up ∙ h.up; number = h.number; inc = subst (λ (t : TokensState). t.inc ≤ l.inc) (sym tokens) h.inc; beyond = tt }
   client_frame (clients.Opening l o) h = record {
     up = up ∙ h.up;
     number = h.number;
     inc = subst (λ (t : TokensState). t.inc < l.inc) (sym tokens) h.inc;
     owner = h.owner;
     promised = ⊎_elim (λ first. inl first) (λ r. inr (record { epochs = r.epochs; rises = subst (λ (t : TokensState). epoch_of t.epochs part ≤ epoch_of o.known.promised.epochs part) (sym tokens) r.rises })) h.promised;
+    beyond = tt;
   }
   client_frame (clients.Serving s) h = record {
     up = up ∙ h.up;
@@ -32,6 +33,8 @@ module _ (part c : ℕ) (n m : Net) (tokens : m.tokens c ≡ n.tokens c) (up : m
     inc = h.inc;
     epochs = h.epochs;
     giving = λ block g inside is. grows _ (h.giving block g inside is);
+    valued = h.valued;
+    logged = tt;
   }
 
 promises_more : (part most more : ℕ) → most ≤ more → (p : ClientPhase) → PromisesWithin part most p → PromisesWithin part more p

@@ -1,23 +1,30 @@
 -- What a packet that was sent owes to the node that gets it.
-use Rattle.std.proofs.Common.{◌≡◌, ⊎_elim, ℕ, ◌≤◌, ◌<◌, List, None, Some, refl, subst, ◌∙◌, arith, get_or}
+use Rattle.std.proofs.Common.{◌≡◌, ⊎_elim, ℕ, ◌≤◌, ◌<◌, false, List, None, Some, refl, subst, ◌∙◌, arith, get_or}
 use Rattle.std.specs.Prelude.{All}
 use Rattle.manager_node.specs.declared.lasting.Lasting.{Lasting as Kept}
 use Rattle.manager_node.specs.declared.phase.Phase.{Phase as ManagerPhase}
 use Rattle.manager_node.specs.declared.phase.Phase.TheVariants.{Down, Waiting, Serving as Serves}
 use Rattle.manager_node.specs.declared.serving.Serving.{Serving}
+use Rattle.manager_node.specs.declared.slot_phase.SlotPhase.{SlotPhase}
+use Rattle.manager_node.specs.declared.slot_phase.SlotPhase.TheVariants as phase
+use Rattle.manager_node.specs.Takeovers.{report_input}
 use Rattle.node_tie.specs.CleanerEvents.{CleanerGets, NewsLow}
 use Rattle.node_tie.specs.ClientEvents.{ClientGets, GetsBody, NewsWithin}
-use Rattle.node_tie.specs.ManagerEvents.{AllNewsGets, GaveGets, ManagerGets, ReportGets, ServingGets, WaitingGets, WantGets, epoch_in}
+use Rattle.node_tie.specs.ManagerEvents.{AbsentGets, AllNewsGets, DeltasGets, FoundGets, GaveGets, ManagerGets, ReportGets, ServingGets, TakeoverGets, WaitingGets, WantGets, epoch_in, slot_in}
 use Rattle.node_tie.specs.Sight.{ForwardSeen, GrantSeen, PollSeen, RecallSeen, SupplySeen}
+use Rattle.takeover.specs.declared.input.In.{In as Input}
 use Rattle.token_manager.specs.SlotState.{SlotState}
 use Rattle.token_protocol.specs.Basics.{In}
 use Rattle.wire_msg.specs.declared.body.Body.{Body}
 use Rattle.wire_msg.specs.declared.body.Body.TheVariants as body
+use Rattle.wire_msg.specs.declared.deltas.Deltas.{Deltas}
 use Rattle.wire_msg.specs.declared.deltas.Poll.{Poll}
 use Rattle.wire_msg.specs.declared.deltas.Report.{Report}
 use Rattle.wire_msg.specs.declared.packet.Packet.{Packet}
 use Rattle.wire_msg.specs.declared.registry.News.{News}
 use Rattle.wire_msg.specs.declared.registry.Welcome.{Welcome}
+use Rattle.wire_msg.specs.declared.storage.Found.{Found}
+use Rattle.wire_msg.specs.declared.storage.Missing.{Missing}
 use Rattle.wire_msg.specs.declared.tokens.Forward.{Forward}
 use Rattle.wire_msg.specs.declared.tokens.Gave.{Gave}
 use Rattle.wire_msg.specs.declared.tokens.Grant.{Grant}
@@ -128,8 +135,8 @@ module _ (k : Cluster) (part : ℕ) (s : Scene) where
   client_body c from to (body.CkptDone m) h same = tt
   client_body c from to (body.CkptAck m) h same = tt
 
-  pub client_gets : (c : ℕ) (q : Packet) → Fact k part s q → q.to ≡ Client c → ClientGets part (epoch_now k part s) c s.net (s.client c).phase q
-  client_gets c q fact same = client_body c q.from q.to q.body fact same
+  pub client_gets : (c : ℕ) (q : Packet) → Fact k part s q → q.to ≡ Client c → ClientGets false part (epoch_now k part s) c s.net (s.client c).phase q
+  client_gets c q fact same = record { brings = client_body c q.from q.to q.body fact same; reads = tt }
 
   -- ---- the cleaner
 
@@ -168,6 +175,34 @@ module _ (k : Cluster) (part : ℕ) (s : Scene) where
   report_gets Cleaner to m h = h
   report_gets Registry to m h = tt
 
+  -- logs may lose what they held here: nothing is owed of what they tell
+  deltas_gets : (from : NodeId) (m : Deltas) → DeltasGets false (members k part) part s.net from m
+  deltas_gets (Client c) m = λ of. tt
+  deltas_gets (Manager c) m = tt
+  deltas_gets (Server c) m = tt
+  deltas_gets Cleaner m = λ of. tt
+  deltas_gets Registry m = tt
+
+  takeover_gets : (p : SlotPhase) (given : Input) → TakeoverGets false (members k part) part s.net p given
+  takeover_gets (phase.Taking t) given = tt
+  takeover_gets (phase.Active a) given = tt
+  takeover_gets (phase.Away epoch) given = tt
+  takeover_gets (phase.Broken epoch seg) given = tt
+
+  found_gets : (p : SlotPhase) (from : NodeId) (m : Found) → FoundGets false (members k part) part s.net p from m
+  found_gets p (Client c) m = tt
+  found_gets p (Manager c) m = tt
+  found_gets p (Server v) m = λ own is. takeover_gets p _
+  found_gets p Cleaner m = tt
+  found_gets p Registry m = tt
+
+  absent_gets : (p : SlotPhase) (from : NodeId) (m : Missing) → AbsentGets false (members k part) part s.net p from m
+  absent_gets p (Client c) m = tt
+  absent_gets p (Manager c) m = tt
+  absent_gets p (Server v) m = λ own is. takeover_gets p _
+  absent_gets p Cleaner m = tt
+  absent_gets p Registry m = tt
+
   -- what was entered, its slot's lord was in that life
   abbrev pub Entered : Type 0
   Entered = (e : ℕ) (z : SlotState) → s.net.slots e ≡ Some z
@@ -203,7 +238,7 @@ module _ (k : Cluster) (part : ℕ) (s : Scene) where
             (subst (λ p. PastAt k part p (s.since news.epoch) news.epoch) is (subst (λ x. PastAt k part (s.manager x).phase (s.since news.epoch) news.epoch) lord past))
 
     serving_body : (v : Serving) → (s.manager j).phase ≡ Serves v → ManagerSees k part s j (Serves v) → (from to : NodeId) (m : Body) → SentBy k part s from to m
-        → ServingGets part (epoch_now k part s) j s.net (members k part) v.lasting.inc (epoch_in part (Serves v)) from m
+        → ServingGets false part (epoch_now k part s) j s.net (members k part) v.lasting.inc (slot_in part (Serves v)) from m
     serving_body v is sees from to (body.Want m) h = want_gets from to m h
     serving_body v is sees from to (body.Grant m) h = tt
     serving_body v is sees from to (body.Forward m) h = tt
@@ -211,15 +246,15 @@ module _ (k : Cluster) (part : ℕ) (s : Scene) where
     serving_body v is sees from to (body.Recall m) h = tt
     serving_body v is sees from to (body.Gave m) h = gave_gets from to m h
     serving_body v is sees from to (body.Gone m) h = tt
-    serving_body v is sees from to (body.Deltas m) h = tt
+    serving_body v is sees from to (body.Deltas m) h = deltas_gets from m
     serving_body v is sees from to (body.DeltaAck m) h = tt
     serving_body v is sees from to (body.Poll m) h = tt
-    serving_body v is sees from to (body.Report m) h = report_gets from to m h
+    serving_body v is sees from to (body.Report m) h = (report_gets from to m h, λ of same. takeover_gets (slot_in part (Serves v)) (report_input from m))
     serving_body v is sees from to (body.Store m) h = tt
     serving_body v is sees from to (body.Stored m) h = tt
     serving_body v is sees from to (body.Fetch m) h = tt
-    serving_body v is sees from to (body.Fragment m) h = tt
-    serving_body v is sees from to (body.Missing m) h = tt
+    serving_body v is sees from to (body.Fragment m) h = found_gets (slot_in part (Serves v)) from m
+    serving_body v is sees from to (body.Missing m) h = absent_gets (slot_in part (Serves v)) from m
     serving_body v is sees from to (body.Fence m) h = tt
     serving_body v is sees from to (body.Fenced m) h = tt
     serving_body v is sees from to (body.List m) h = tt
@@ -272,7 +307,7 @@ module _ (k : Cluster) (part : ℕ) (s : Scene) where
     waiting_body kept hello is from to (body.CkptDone m) h same = tt
     waiting_body kept hello is from to (body.CkptAck m) h same = tt
 
-    pub manager_gets : (p : ManagerPhase) → (s.manager j).phase ≡ p → ManagerSees k part s j p → (q : Packet) → Fact k part s q → q.to ≡ Manager j → ManagerGets part (epoch_now k part s) j s.net (members k part) p q
+    pub manager_gets : (p : ManagerPhase) → (s.manager j).phase ≡ p → ManagerSees k part s j p → (q : Packet) → Fact k part s q → q.to ≡ Manager j → ManagerGets false part (epoch_now k part s) j s.net (members k part) p q
     manager_gets (Down kept) is sees q fact same = tt
     manager_gets (Waiting kept hello) is sees q fact same = waiting_body kept hello is q.from q.to q.body fact same
     manager_gets (Serves v) is sees q fact same = serving_body v is sees q.from q.to q.body fact

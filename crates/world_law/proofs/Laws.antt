@@ -1,5 +1,5 @@
 -- Every run of the nodes has one owner: each event keeps a moment standing to the small world of each slot, in which a block has one owner at most.
-use Rattle.std.proofs.Common.{◌≡◌, ℕ, zero, suc, ◌+◌, ◌<◌, true, List, [], ◌∷◌, ◌++◌, Option, None, Some, map, take, slice_get, slice_set, unwrap_or, refl, sym, ap, subst, ◌∙◌, arith}
+use Rattle.std.proofs.Common.{◌≡◌, ℕ, zero, suc, ◌+◌, ◌<◌, true, false, List, [], ◌∷◌, ◌++◌, Option, None, Some, map, take, slice_get, slice_set, unwrap_or, refl, sym, ap, subst, ◌∙◌, arith}
 use Rattle.std.specs.List.{fold}
 use Rattle.std.proofs.lemmas.List.Elements.{recursion_from_All}
 use Rattle.client_node.specs.declared.phase.Phase.{Phase}
@@ -10,7 +10,7 @@ use Rattle.core_world.specs.declared.any_node.AnyNode.{AnyNode}
 use Rattle.core_world.specs.declared.any_node.AnyNode.TheVariants as any
 use Rattle.manager_node.specs.Events.{happens}
 use Rattle.manager_node.specs.Phases as managers
-use Rattle.node_tie.proofs.StoreFrames.{none_falls}
+use Rattle.node_tie.proofs.StoreFrames.{all_neutral}
 use Rattle.node_tie.specs.AskingEvents.{EventsKeepAsking, PhaseAsks, StartsAsking}
 use Rattle.node_tie.specs.CleanerEvents.{CleanerDoes, CleanerGoes, CleanerOwed, CleanerStarts, CleanerTakes}
 use Rattle.node_tie.specs.ClientEvents.{ClientAgrees, ClientGoes, ClientOwed, ClientStands, ClientTakes}
@@ -21,7 +21,7 @@ use Rattle.node_tie.specs.StoreEvents.{ServersSay}
 use Rattle.cleaner_node.specs.CleanerEvents as cleaners
 use Rattle.store_nodes.specs.declared.server.Server.{Server as ServerNode}
 use Rattle.token_client.specs.State.{TokensState, held_of}
-use Rattle.token_law.proofs.Promises.{with_promise}
+use Rattle.node_tie.proofs.SmallWorld.{with_promise}
 use Rattle.token_law.specs.Laws.{IsClient, OneOwner}
 use Rattle.token_protocol.specs.Basics.{In}
 use Rattle.version_model.specs.declared.act.Act.{Act}
@@ -98,16 +98,16 @@ module _ (laws : NodeLaws) (k : Cluster) (part : ℕ) (of_eight : part < 8) wher
         here : slice_get nodes place ≡ Some (any.Client (s.client c))
         here = sym (ap (node_in nodes) at) ∙ st.placed.clients c b.some less
 
-        agreed : ClientAgrees part c s.net (s.client c).phase × ClientStands part (epoch_now k part s) c s.net (s.client c).phase
+        agreed : ClientAgrees false part c s.net (s.client c).phase × ClientStands part (epoch_now k part s) c s.net (s.client c).phase
         agreed = st.clients c b.some less
 
-        gets : (x : Do) → what ≡ x → ClientOwed part (epoch_now k part s) c s.net (s.client c).phase x
+        gets : (x : Do) → what ≡ x → ClientOwed false part (epoch_now k part s) c s.net (s.client c).phase x
         gets Begin same = tt
         gets Tick same = tt
         gets (Deliver q) same = (let f = fact q same in client_gets k part s c q f.0 f.1)
 
-        go : ClientGoes (members k part) part (epoch_now k part s) c s.net (s.client c).phase (takes (s.client c) what).state (takes (s.client c) what).outs
-        go = laws.client (members k part) part (epoch_now k part s) c of_eight b.some less s.net (s.client c) what agreed.0 agreed.1 (gets what refl)
+        go : ClientGoes false (members k part) part (epoch_now k part s) c s.net (s.client c).phase (takes (s.client c) what).state (takes (s.client c) what).outs
+        go = laws.client false (members k part) part (epoch_now k part s) c of_eight b.some less s.net (s.client c) what agreed.0 agreed.1 (gets what refl)
 
         asks : PhaseAsks (takes (s.client c) what).state
         asks = laws.keeps_asking (s.client c) what agreed.1.asks
@@ -117,7 +117,7 @@ module _ (laws : NodeLaws) (k : Cluster) (part : ℕ) (of_eight : part < 8) wher
       manager_scene k part RegistrySound nodes sent s st j place clock b.some b.within at here what fact (happens (s.manager j) what) go,
       manager_turn k part RegistrySound nodes sent s st j place clock b.some b.within at here what fact (happens (s.manager j) what) go,
       falls_stay (members k part) s.net go.next acts _ go.tokens go.up
-          (none_falls (ManagerDoes part go.next.sent (epoch_now k part s) (managers.lasting_of (happens (s.manager j) what).state).inc) (Manager (managers.lasting_of (s.manager j).phase).number) (λ a is. is) (happens (s.manager j) what).outs
+          (all_neutral (ManagerDoes part go.next.sent (epoch_now k part s) (managers.lasting_of (happens (s.manager j) what).state).inc) (Manager (managers.lasting_of (s.manager j).phase).number) (λ a is. is) (happens (s.manager j) what).outs
           (recursion_from_All (ManagerDoes part go.next.sent (epoch_now k part s) (managers.lasting_of (happens (s.manager j) what).state).inc) (happens (s.manager j) what).outs go.does)) falls,
     )
       where
@@ -130,13 +130,13 @@ module _ (laws : NodeLaws) (k : Cluster) (part : ℕ) (of_eight : part < 8) wher
         sees : ManagerSees k part s j (s.manager j).phase
         sees = st.managers j b.some b.within
 
-        gets : (x : Do) → what ≡ x → ManagerEventGets part (epoch_now k part s) j s.net (members k part) (s.manager j).phase x
+        gets : (x : Do) → what ≡ x → ManagerEventGets false part (epoch_now k part s) j s.net (members k part) (s.manager j).phase x
         gets Begin same = tt
         gets Tick same = tt
         gets (Deliver q) same = (let f = fact q same in manager_gets k part s st.entered j (s.manager j).phase refl sees q f.0 f.1)
 
-        go : ManagerGoes (members k part) part (epoch_now k part s) j s.net (s.manager j).phase what (happens (s.manager j) what)
-        go = laws.manager (members k part) part (epoch_now k part s) j s.net (s.manager j) what of_eight (sym (st.peers j b.some b.within)) sees.agrees sees.within (gets what refl)
+        go : ManagerGoes false (members k part) part (epoch_now k part s) j s.net (s.manager j).phase what (happens (s.manager j) what)
+        go = laws.manager false (members k part) part (epoch_now k part s) j s.net (s.manager j) what of_eight (sym (st.peers j b.some b.within)) sees.agrees sees.within (gets what refl)
 
     server_after : (n : ℕ) → place_of k (Server n) ≡ Some place → (node : AnyNode) → slice_get nodes place ≡ Some node → After node
     server_after n at node is = subst After (one_node (any.Server there.0) node (sym here ∙ is))
@@ -156,7 +156,7 @@ module _ (laws : NodeLaws) (k : Cluster) (part : ℕ) (of_eight : part < 8) wher
       cleaner_scene k part RegistrySound nodes sent s st place clock at here went go,
       cleaner_turn k part RegistrySound nodes sent s st place clock at here went go,
       falls_stay (members k part) s.net (record s.net { promised = go.next }) acts _ refl refl
-          (none_falls (CleanerDoes part go.next (cleaners.lasting_of went.state).inc) Cleaner (λ a is. is) went.outs
+          (all_neutral (CleanerDoes part go.next (cleaners.lasting_of went.state).inc) Cleaner (λ a is. is) went.outs
           (recursion_from_All (CleanerDoes part go.next (cleaners.lasting_of went.state).inc) went.outs go.does)) falls,
     )
       where
@@ -172,7 +172,7 @@ module _ (laws : NodeLaws) (k : Cluster) (part : ℕ) (of_eight : part < 8) wher
         gets (Deliver q) same = (let f = fact q same in cleaner_gets k part s q f.0 f.1)
 
         go : CleanerGoes part s.net.promised (epoch_now k part s) s.cleaner.phase went.state went.outs
-        go = laws.cleaner part s.net.promised (epoch_now k part s) of_eight st.cleaner.0 s.cleaner what st.cleaner.1 (gets what refl)
+        go = (laws.cleaner false (members k part) part s.net.promised (epoch_now k part s) s.net of_eight st.cleaner.0 tt s.cleaner what st.cleaner.1 (gets what refl) tt tt).0
 
     registry_after : ((q : Packet) → what ≡ Deliver q → Fact k part s q) → place_of k Registry ≡ Some place → (node : AnyNode) → slice_get nodes place ≡ Some node → After node
     registry_after fact at node is = subst After (one_node (any.Registry s.registry) node (sym here ∙ is))
@@ -228,7 +228,7 @@ module _ (laws : NodeLaws) (k : Cluster) (part : ℕ) (of_eight : part < 8) wher
   pub serves_there : (nodes : List AnyNode) (sent : List Packet) (s : Scene) → Stands k part nodes sent RegistrySound s → (c : ℕ) (t : TokensState) → tokens_of (node_in nodes (place_of k (Client c))) ≡ Some t → ServesThere s c t
   serves_there nodes sent s st c t is = by_place (place_of k (Client c)) refl
     where
-      by_phase : (p : Phase) → ClientAgrees part c s.net p → IsClient (members k part) c → tokens_in p ≡ Some t → ServesThere s c t
+      by_phase : (p : Phase) → ClientAgrees false part c s.net p → IsClient (members k part) c → tokens_in p ≡ Some t → ServesThere s c t
       by_phase (Down l) agrees client none = absurd (cc)
       by_phase (Opening l o) agrees client none = absurd (cc)
       by_phase (Serves v) agrees client has = record { client = client; up = agrees.up; tokens = agrees.tokens ∙ one_node v.tokens t has }
@@ -251,7 +251,7 @@ front laws e setup run count part of_eight =
 module _ (laws : NodeLaws) (small : OneOwner) where
   one_owner_now : (w : World AnyNode) (k : Cluster) → w.cluster ≡ k → ((part : ℕ) (of_eight : part < 8) → GoodWorld laws k part of_eight w) → HasOneOwner w
   one_owner_now w k cluster good b c d s t at_c at_d own held =
-      small (members k part) part (with_promise 1 now.net) b (record { run = st.runs; inside = itself part }) c d x.client y.client x.up y.up
+      small false (members k part) part (with_promise 1 now.net) b (record { run = st.runs; inside = itself part }) c d x.client y.client x.up y.up
       (subst (λ (t : TokensState). is_own (held_of t.blocks b).mode ≡ true) (sym x.tokens) own) (subst (λ (t : TokensState). is_held (held_of t.blocks b).mode ≡ true) (sym y.tokens) held)
     where
       part : ℕ

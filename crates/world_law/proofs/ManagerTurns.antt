@@ -11,12 +11,12 @@ use Rattle.manager_node.specs.declared.slot_phase.SlotPhase.TheVariants as phase
 use Rattle.manager_node.specs.Phases.{Went_to, lasting_of}
 use Rattle.node_base.specs.Effects.{packets_of}
 use Rattle.node_tie.proofs.ManagerFrames.{manager_on}
+use Rattle.node_tie.proofs.SmallWorld.{any_promise, promised_stays, with_promise}
 use Rattle.node_tie.specs.CleanerEvents.{CleanerStands, CleanerWelcomed}
 use Rattle.node_tie.specs.ManagerEvents.{HeldAt, ManagerAgrees, ManagerGoes, NamedBy, NamedIn, Names, TakingAt, epoch_in, is_serving, is_waiting, slot_in}
 use Rattle.node_tie.specs.Sight.{ManagerDoes, ManagerSends}
 use Rattle.store_nodes.specs.declared.registry_node.RegistryNode.{RegistryNode}
 use Rattle.token_client.specs.State.{TokensState}
-use Rattle.token_law.proofs.Promises.{any_promise, promised_stays, with_promise}
 use Rattle.token_law.specs.Net.{Net}
 use Rattle.token_manager.specs.SlotState.{SlotState}
 use Rattle.token_protocol.specs.Basics.{put, In}
@@ -98,7 +98,7 @@ one_of false = inr refl
 module _ (k : Cluster) (part : ℕ) (RegistrySound : RegistryNode → Type 0) (nodes : List AnyNode) (sent : List Packet) (s : Scene) (st : Stands k part nodes sent RegistrySound s)
     (j p clock : ℕ) (some : 0 < j) (most : j ≤ k.managers) (at : place_of k (Manager j) ≡ Some p) (is : slice_get nodes p ≡ Some (any.Manager (s.manager j)))
     (what : Do) (fact : (q : Packet) → what ≡ Deliver q → Fact k part s q × (q.to ≡ Manager j)) (w : Went_to)
-    (go : ManagerGoes (members k part) part (epoch_now k part s) j s.net (s.manager j).phase what w) where
+    (go : ManagerGoes false (members k part) part (epoch_now k part s) j s.net (s.manager j).phase what w) where
   abbrev after_node : ManagerNode
   after_node = record (s.manager j) { phase = w.state }
 
@@ -118,7 +118,7 @@ module _ (k : Cluster) (part : ℕ) (RegistrySound : RegistryNode → Type 0) (n
   up_same c = ap (λ (f : ℕ → Bool). f c) go.up
 
   promised : go.next.promised ≡ s.net.promised
-  promised = promised_stays (members k part) part s.net go.next go.runs
+  promised = promised_stays false (members k part) part s.net go.next go.runs
 
   grown : Grown k part s manager_scene
   grown = record {
@@ -329,7 +329,7 @@ module _ (k : Cluster) (part : ℕ) (RegistrySound : RegistryNode → Type 0) (n
 
   pub manager_turn : Stands k part nodes_now sent_now RegistrySound manager_scene
   manager_turn = record {
-    runs = runs_on (members k part) part _ (with_promise 1 s.net) (with_promise 1 go.next) st.runs (any_promise (members k part) part 1 s.net go.next go.runs);
+    runs = runs_on (members k part) part _ (with_promise 1 s.net) (with_promise 1 go.next) st.runs (any_promise false (members k part) part 1 s.net go.next go.runs);
     placed = placed;
     sound = st.sound;
     clients = λ c pos less. (let h = st.clients c pos less in

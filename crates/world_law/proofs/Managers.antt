@@ -1,5 +1,5 @@
 -- Each slot has one manager at an epoch, whose epoch is none above the registry's and promised by who serves, and which believes what is held.
-use Rattle.std.proofs.Common.{◌≡◌, ℕ, ◌≤◌, ◌<◌, ◌==◌, true, List, Option, None, Some, refl, sym, ap, subst, ◌∙◌, arith}
+use Rattle.std.proofs.Common.{◌≡◌, ℕ, ◌≤◌, ◌<◌, ◌==◌, true, false, List, Option, None, Some, refl, sym, ap, subst, ◌∙◌, arith}
 use Rattle.std.proofs.lemmas.Bool.Decides.{nat_tests}
 use Rattle.std.proofs.Math.Nat.{mod-eq_of_lt}
 use Rattle.core_world.specs.AnyNode.{any_start, any_step}
@@ -18,7 +18,7 @@ use Rattle.cleaner_node.specs.declared.cleaner.Phase.{Phase as CleanerPhase}
 use Rattle.cleaner_node.specs.declared.cleaner.Phase.TheVariants as cleaners
 use Rattle.token_client.specs.State.{TokensState, epoch_of, held_of, is_in_slot}
 use Rattle.token_client.specs.Transition.{accepts}
-use Rattle.token_law.proofs.Promises.{with_promise}
+use Rattle.node_tie.proofs.SmallWorld.{with_promise}
 use Rattle.token_law.specs.Laws.{ActiveEpochsPromised, GrantsBelieved, HoldingsBelieved, Reigns}
 use Rattle.token_manager.specs.Laws.{share_of}
 use Rattle.token_manager.specs.SlotState.{SlotState}
@@ -140,15 +140,15 @@ module _ (laws : NodeLaws) (small_promised : ActiveEpochsPromised) (small_believ
     one = λ j i s t at_j at_i same. sym (managed j s at_j).lord ∙ (ap now.lord same ∙ (managed i t at_i).lord);
     below = λ j s at_j. subst (λ x. s.epoch ≤ x) (sym registry_epoch) (managed j s at_j).below;
     promised = λ j c s t at_j at_c. (let x = managed j s at_j in let y = served c t at_c in
-        subst (λ (z : TokensState). s.epoch ≤ epoch_of z.epochs part) y.tokens (small_promised (members k part) part (with_promise 1 now.net) some_block (record { run = st.runs; inside = of_slot }) s.epoch x.slot x.there c y.client));
+        subst (λ (z : TokensState). s.epoch ≤ epoch_of z.epochs part) y.tokens (small_promised false (members k part) part (with_promise 1 now.net) some_block (record { run = st.runs; inside = of_slot }) s.epoch x.slot x.there c y.client));
     cleaner_promised = λ j s p at_j serves. (let x = managed j s at_j in cleaner_above j s p x (subst (λ cl. promised_of (node_in w.nodes (place_of cl Cleaner)) ≡ Some p) same_cluster serves));
     believed = λ j c s t b at_j latest at_c inside. (let x = managed j s at_j in let y = served c t at_c in
         subst (λ (z : TokensState). rank (held_of z.blocks b).mode ≤ share_of s.beliefs b c) y.tokens
         (subst (λ beliefs. rank (held_of (now.net.tokens c).blocks b).mode ≤ share_of beliefs b c) (ap (λ (z : SlotState). z.beliefs) x.same)
-        (small_believed (members k part) part (with_promise 1 now.net) b (record { run = st.runs; inside = inside }) s.epoch x.slot (newest j s at_j latest) c y.client y.up)));
+        (small_believed false (members k part) part (with_promise 1 now.net) b (record { run = st.runs; inside = inside }) s.epoch x.slot (newest j s at_j latest) c y.client y.up)));
     acceptable = λ j c s t packet m at_j latest at_c sent to is inside accepted. (let x = managed j s at_j in let y = served c t at_c in
         subst (λ beliefs. rank m.mode ≤ share_of beliefs m.block c) (ap (λ (z : SlotState). z.beliefs) x.same)
-        (small_acceptable (members k part) part (with_promise 1 now.net) m.block (record { run = st.runs; inside = inside }) s.epoch x.slot (newest j s at_j latest) c y.client y.up
+        (small_acceptable false (members k part) part (with_promise 1 now.net) m.block (record { run = st.runs; inside = inside }) s.epoch x.slot (newest j s at_j latest) c y.client y.up
         m.stamp m.inc m.req m.mode m.entry (granted c packet m (was_sent w.sent packet sent) to is inside)
         (subst (λ (z : TokensState). accepts z m.block m.stamp m.inc m.req m.mode ≡ true) (sym y.tokens) accepted)));
   }

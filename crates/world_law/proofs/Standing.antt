@@ -1,6 +1,6 @@
 -- How a moment of a run stands to a moment of the small world of one slot: each client and manager is seen there, and the promise of the cleaner, each packet
 -- about tokens was sent there, and who was given which epoch, in which incarnation, is told beside it.
-use Rattle.std.proofs.Common.{◌≡◌, ◌⊎◌, ℕ, ◌+◌, ◌≤◌, ◌<◌, true, List, Some}
+use Rattle.std.proofs.Common.{◌≡◌, ◌⊎◌, ℕ, ◌+◌, ◌≤◌, ◌<◌, true, false, List, Some}
 use Rattle.client_node.specs.declared.client.Client.{Client as ClientNode}
 use Rattle.client_node.specs.Phases as clients
 use Rattle.core_world.specs.declared.any_node.AnyNode.{AnyNode}
@@ -19,7 +19,7 @@ use Rattle.cleaner_node.specs.CleanerEvents as cleaners
 use Rattle.cleaner_node.specs.declared.cleaner.Cleaner.{Cleaner as CleanerNode}
 use Rattle.store_nodes.specs.declared.registry_node.RegistryNode.{RegistryNode}
 use Rattle.store_nodes.specs.declared.server.Server.{Server as ServerNode}
-use Rattle.token_law.proofs.Promises.{with_promise}
+use Rattle.node_tie.proofs.SmallWorld.{with_promise}
 use Rattle.token_law.specs.Net.{Net, Runs, opening}
 use Rattle.token_manager.specs.SlotState.{SlotState}
 use Rattle.token_protocol.specs.Basics.{In}
@@ -156,10 +156,10 @@ module _ (k : Cluster) (part : ℕ) where
       pub registry : node_in nodes (place_of k Registry) ≡ Some (any.Registry s.registry)
 
     pub record Stands (RegistrySound : RegistryNode → Type 0) (s : Scene) : Type 0 where
-      pub runs : Runs members part opening (with_promise 1 s.net)
+      pub runs : Runs false members part opening (with_promise 1 s.net)
       pub placed : Placed s
       pub sound : RegistrySound s.registry
-      pub clients : (c : ℕ) → 0 < c → c < members → ClientAgrees part c s.net (s.client c).phase × ClientStands part (epoch_now s) c s.net (s.client c).phase
+      pub clients : (c : ℕ) → 0 < c → c < members → ClientAgrees false part c s.net (s.client c).phase × ClientStands part (epoch_now s) c s.net (s.client c).phase
       pub managers : (j : ℕ) → 0 < j → j ≤ k.managers → ManagerSees s j (s.manager j).phase
       -- the cleaner has promised an epoch that the slot had
       pub cleaner : (s.net.promised ≤ epoch_now s) × CleanerStands part s.net.promised (epoch_now s) s.cleaner.phase

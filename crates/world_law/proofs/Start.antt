@@ -109,8 +109,8 @@ module _ (first_asks : StartsAsking) (first_agrees : FirstManagerAgrees) (cleane
   first_epoch (suc (suc (suc (suc (suc (suc (suc zero))))))) = omega arith
   first_epoch (suc (suc (suc (suc (suc (suc (suc (suc n)))))))) = omega arith
 
-  client_agrees : (c : ℕ) → ClientAgrees part c opening (first_client c script.setup (items_of script.lines (Client c))).phase
-  client_agrees c = record { up = refl; tokens = refl; number = refl; inc = refl; epochs = refl; giving = λ block g inside is. absurd (cc) }
+  client_agrees : (c : ℕ) → ClientAgrees false part c opening (first_client c script.setup (items_of script.lines (Client c))).phase
+  client_agrees c = record { up = refl; tokens = refl; number = refl; inc = refl; epochs = refl; giving = λ block g inside is. absurd (cc); valued = λ block held. absurd (cc); logged = tt }
 
   -- the slot's first manager is one of the run
   one_of_them : (0 < manager_now k part start_scene) × (manager_now k part start_scene ≤ script.setup.managers)
@@ -157,7 +157,7 @@ module _ (first_asks : StartsAsking) (first_agrees : FirstManagerAgrees) (cleane
     sound = begun.sound;
     clients = λ c some less. (client_agrees c, record { asks = first_asks c script.setup (items_of script.lines (Client c)); within = (let a = first_epoch part in let b = begun.epoch in omega arith); promises = tt });
     managers = λ j some most. sees j some;
-    cleaner = ((let b = begun.epoch in omega arith), cleaner_starts part (epoch_now k part start_scene) of_eight script.setup (items_of script.lines Cleaner));
+    cleaner = ((let b = begun.epoch in omega arith), (cleaner_starts part (epoch_now k part start_scene) of_eight script.setup (items_of script.lines Cleaner)).0);
     peers = λ j some most. refl;
     current = (refl, sym (begun.incarnations (manager_now k part start_scene)));
     some = (let b = begun.epoch in omega arith);
