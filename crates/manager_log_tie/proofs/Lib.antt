@@ -1,0 +1,16 @@
+mod Spelled
+mod Written
+mod Leaving
+mod Rows
+mod Bytes
+mod Slots
+mod Taking
+mod SlotPhases
+mod Tables
+mod Frames
+mod Logs
+mod Checkpointing
+mod Serving
+mod Renewed
+mod Phases
+mod Starts

@@ -1,0 +1,102 @@
+-- That what a manager writes to its log can be spelled: the numbers of the rows of its checkpoints are in the ranges of their types, and all else is looked at
+-- when a segment is begun.
+use Rattle.std.specs.Prelude.{List, IfSome}
+use Rattle.std.specs.List.{AllByRecursion}
+use Rattle.segment_format.specs.declared.segment.Item.{Item}
+use Rattle.segment_format.specs.declared.segment.Item.TheVariants.{Block, Delta, Part}
+use Rattle.segment_format.specs.Ranges.{FitsRow}
+use Rattle.stripe_code.specs.declared.round.Answer.{Answer}
+use Rattle.stripe_code.specs.declared.round.Told.{Told}
+use Rattle.stripe_code.specs.declared.round.Told.TheVariants.{Held, Missing}
+use Rattle.stripe_code.specs.Reading.{ReadingState}
+use Rattle.stripe_code.specs.Round.{RoundSoFar}
+use Rattle.stripe_code.specs.Stripe.{IsBytes}
+use Rattle.checkpoint.specs.WriterState.{Rows, WriterState}
+use Rattle.client_log.specs.declared.input.In.{In as Input}
+use Rattle.client_log.specs.declared.input.In.TheVariants.{Put, Parts, Seal, Acked, Maps, Tick}
+use Rattle.client_log.specs.History.{state_after}
+use Rattle.client_log.specs.LogState.{LogState}
+use Rattle.manager_node.specs.declared.slot_phase.SlotPhase.{SlotPhase}
+use Rattle.manager_node.specs.declared.slot_phase.SlotPhase.TheVariants as phase
+use Rattle.manager_node.specs.SlotTable.{Table}
+use Rattle.takeover.specs.declared.source.Present.{Present}
+use Rattle.takeover.specs.TakeState.{TakeState}
+use Rattle.wire_msg.specs.declared.body.Body.{Body}
+use Rattle.wire_msg.specs.declared.body.Body.TheVariants as body
+use Rattle.log_law.specs.Events.{IsWritten}
+use Rattle.client_log_tie.specs.ClientEvents.{BodyFits}
+use Rattle.client_log_tie.specs.Texts.{MapFits}
+
+-- ---- rows
+
+-- the numbers of each row are in the ranges of their types
+abbrev pub RowsFit : Rows → Type 0
+RowsFit rows = AllByRecursion FitsRow rows
+
+-- so they are on each of these pages
+abbrev pub PagesFit : List Rows → Type 0
+PagesFit pages = AllByRecursion RowsFit pages
+
+-- ---- the log
+
+-- a checkpoint has Parts alone
+abbrev pub PartFits : Item → Type 0
+PartFits (Block block value) = ⊥
+PartFits (Delta block ver hop item) = ⊥
+PartFits (Part slot rows) = RowsFit rows
+
+-- what a log of checkpoints takes: no version of a block is put
+abbrev pub InputFits : Input → Type 0
+InputFits (Put block entry value) = ⊥
+InputFits (Parts items) = AllByRecursion PartFits items
+InputFits Seal = Unit {0}
+InputFits (Acked name index generation) = Unit {0}
+InputFits (Maps m) = MapFits m
+InputFits Tick = Unit {0}
+
+-- Whatever fits and a log of checkpoints takes from now on, newest first: what is in flight then has a text.
+abbrev pub StaysWritten : LogState → Type 0
+StaysWritten s = (later : List Input) → AllByRecursion InputFits later → IfSome (state_after s later).flight (λ f. IsWritten f.segment)
+
+-- ---- what a manager has
+
+-- the pages that a writer has still to give out fit
+abbrev pub WriterFits : WriterState → Type 0
+WriterFits writer = IfSome writer.work (λ work. PagesFit work.left)
+
+-- the fragments of a round are bytes
+abbrev pub ToldFits : Told → Type 0
+ToldFits (Held f) = IsBytes f.bytes
+ToldFits (Missing generation) = Unit {0}
+
+abbrev pub RoundFits : RoundSoFar → Type 0
+RoundFits r = AllByRecursion (λ (a : Answer). ToldFits a.told) r.answers
+
+abbrev pub PresentFits : Present → Type 0
+PresentFits p = IfSome p.reading (λ (r : ReadingState). RoundFits r.round)
+
+-- what a takeover has read fits: the rows of whole sources and of the present one, and the fragments that came of a segment
+pub record TakeFits (s : TakeState) : Type 0 where
+  pub index : RowsFit s.index
+  pub chain : PagesFit s.chain
+  pub present : IfSome s.present PresentFits
+
+-- the rows of the index of a slot that is managed fit, and what is read of one that is taken over
+abbrev pub SlotFits : SlotPhase → Type 0
+SlotFits (phase.Active a) = RowsFit a.slot.index.rows
+SlotFits (phase.Away epoch) = Unit {0}
+SlotFits (phase.Taking taking) = TakeFits taking.take
+SlotFits (phase.Broken epoch seg) = Unit {0}
+
+-- so they do in each of its slots
+abbrev pub TableFits : Table → Type 0
+TableFits table = AllByRecursion SlotFits table
+
+-- ---- what comes
+
+-- The numbers of a packet are in the ranges of their types, as those of each packet that a program holds: the rows of Deltas, the bytes of a fragment, and the
+-- ids of the groups of a map.
+abbrev pub InRange : Body → Type 0
+InRange (body.Deltas m) = RowsFit m.rows
+InRange (body.Fragment m) = IsBytes m.fragment.bytes
+InRange b = BodyFits b

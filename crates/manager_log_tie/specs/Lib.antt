@@ -1,0 +1,3 @@
+pub mod Fitting
+pub mod Owner
+pub mod OwnerEvents

@@ -1,0 +1,19 @@
+//! What a manager does in one event, as what the owner of its log does in the small world of that log (`log_law`), as `client_log_tie` says it of a client. It
+//! has no code: the function below has an empty body, and its contract is a law. `specs/Owner.antt` says how a manager is seen there.
+#![tactic(auto)]
+
+ghost use Rattle.manager_log_tie.specs.OwnerEvents.{ManagerStarts, ManagerTakes};
+
+/// What an event makes of a manager is a run of the small world of its log, by its owner alone, if the packet that comes was sent there. It opens no log: while
+/// it is down, or awaits the Welcome of its restart, the owner is down, and at that Welcome the log begins anew.
+///
+/// - `start`: a manager at its start is seen in the opening of the small world, where the ids of the setup's groups fit.
+/// - `events`: a manager that is seen there before an event is seen after it in a world to which that one runs on; all that it sends was sent there, and all
+///   that it tells to be filed is filed there; it stores to its own log alone.
+///
+/// What is owed still is that numbers are in the ranges of their types: the rows of Deltas, the bytes of a fragment, and the ids of the groups of maps. That
+/// each segment of a checkpoint has a text follows from it: how many Parts and rows it has is looked at when it is begun.
+pub fn manager_log_events_are_seen()
+    ensures start { ManagerStarts }
+    ensures events { ManagerTakes }
+{}
