@@ -1,10 +1,9 @@
 -- What each input makes of the registry's state, in the small world.
-use Rattle.std.proofs.Common.{◌≡◌, ◌≢◌, ℕ, ◌-◌, ◌==◌, ◌≤◌, true, cond, List, refl, sym, ap, subst, ◌∙◌, inl, inr, arith}
-use Rattle.std.specs.Prelude.{nat_lt}
+use Rattle.std.proofs.Common.{◌≡◌, ◌≢◌, ℕ, ◌-◌, ◌==◌, ◌<◌, ◌≤◌, Bool, true, false, cond, List, refl, sym, ap, subst, ◌∙◌, inl, inr, arith}
+use Rattle.std.specs.Prelude.{nat_le, nat_lt}
 use Rattle.std.proofs.lemmas.Bool.Decides.{nat_tests}
 use Rattle.std.proofs.lemmas.List.{get_or-set_same, get_or-set_other}
 use Rattle.xfs_base.proofs.Booleans.{by_test, and_second}
-use Rattle.xfs_base.specs.declared.node.NodeId.{NodeId}
 use Rattle.xfs_base.specs.declared.node.NodeId.TheVariants.{Client, Manager, Server, Cleaner, Registry}
 use Rattle.xfs_base.specs.declared.segment.SegRef.{SegRef}
 use Rattle.xfs_base.specs.Steps.{still}
@@ -27,8 +26,13 @@ use Rattle.log_law.specs.Events.{Runs}
 use Rattle.log_law.specs.Events.Happens.{Hears, Raises}
 use Rattle.log_law.specs.Events.Runs.{Begun, On}
 use Rattle.node_log_tie.specs.Sight.{Asker, ReachedBy}
-use Rattle.node_log_tie.specs.RegistryEvents.{NamesGroups, RegistrySeen, low_of, IsFiled, Keeps, all_but_known}
-use Rattle.node_log_tie.proofs.Horizons.{HasHorizons, kept_nine, low_rises}
+use Rattle.node_log_tie.specs.RegistryEvents.{NamesGroups, RegistrySeen, low_of, IsFiled, all_but_known}
+use Rattle.node_log_tie.proofs.Horizons.{HasHorizons, kept_nine, low_rises, least_is_one}
+
+-- what the world lets the registry keep: horizons tell of the logs up to 9 alone
+pub record MayKeep (g : Setting) (n : Net) (b : BoardState) : Type 0 where
+  pub named : NamesGroups g b.groups
+  pub filed : g.log.0 ≤ 9 → IsFiled n (low_of g b)
 
 module _ (g : Setting) (owner : Asker) (n : Net) (b : BoardState) (before : RegistrySeen g n b) where
   -- The small world runs on, without a packet, to a net in which this state is seen.
@@ -38,9 +42,9 @@ module _ (g : Setting) (owner : Asker) (n : Net) (b : BoardState) (before : Regi
     pub seen : RegistrySeen g next c
     pub rest : all_but_known next ≡ all_but_known n
 
-  -- where the setting names its groups and its horizon is filed
+  -- where the setting names its groups, and its horizon is filed, if that tells of the log
   abbrev pub Leads : BoardState → Type 0
-  Leads c = Keeps g n c → MadeSeen c
+  Leads c = MayKeep g n c → MadeSeen c
 
   stays : Leads b
   stays keeps = record { next = n; runs = Begun; seen = before; rest = refl }
@@ -161,11 +165,22 @@ module _ (g : Setting) (owner : Asker) (n : Net) (b : BoardState) (before : Regi
     horizons = is.horizons;
   }
 
-  checkpoint_done : g.log.0 ≤ 9 → (slot epoch : ℕ) (parts : List SegRef) (horizon : List ℕ) → Leads (transition b (input.Done slot epoch parts horizon)).state
-  checkpoint_done some slot epoch parts horizon keeps =
-      let is : Checkpointed (done b slot epoch parts horizon).state = done_so slot epoch parts horizon in
-      raised (done b slot epoch parts horizon).state (low_rises g.log.0 some b (input.Done slot epoch parts horizon) before.horizons is.horizons) keeps.filed
-      (shown_at (done b slot epoch parts horizon).state is)
+  checkpoint_done : (slot epoch : ℕ) (parts : List SegRef) (horizon : List ℕ) → Leads (transition b (input.Done slot epoch parts horizon)).state
+  checkpoint_done slot epoch parts horizon keeps = by (nat_le g.log.0 9) refl
+    where
+      is : Checkpointed (done b slot epoch parts horizon).state
+      is = done_so slot epoch parts horizon
+
+      by : (t : Bool) → nat_le g.log.0 9 ≡ t → MadeSeen (done b slot epoch parts horizon).state
+      by true t =
+          let some : g.log.0 ≤ 9 = grind (arith, nat_tests) in
+          raised (done b slot epoch parts horizon).state (low_rises g.log.0 some b (input.Done slot epoch parts horizon) before.horizons is.horizons) (keeps.filed some)
+          (shown_at (done b slot epoch parts horizon).state is)
+      by false t =
+          let high : 9 < g.log.0 = grind (arith, nat_tests) in
+          let first : low_of g b ≡ 1 = least_is_one g.log.0 high b before.horizons in
+          let then_is : low_of g (done b slot epoch parts horizon).state ≡ 1 = least_is_one g.log.0 high (done b slot epoch parts horizon).state is.horizons in
+          raised (done b slot epoch parts horizon).state (omega arith) (inl (let e = before.low in omega arith)) (shown_at (done b slot epoch parts horizon).state is)
 
   -- ---- all inputs
 
@@ -175,11 +190,11 @@ module _ (g : Setting) (owner : Asker) (n : Net) (b : BoardState) (before : Regi
   InputReached (input.Reassign slot manager) = Unit {0}
   InputReached (input.Done slot epoch parts horizon) = Unit {0}
 
-  pub board_goes : g.log.0 ≤ 9 → (i : Input) → InputReached i → Leads (transition b i).state
-  board_goes some (input.Hello (Client c) inc) reached = stays
-  board_goes some (input.Hello (Manager k) inc) reached = manager_heard k inc
-  board_goes some (input.Hello (Server v) inc) reached = server_heard v inc reached
-  board_goes some (input.Hello Cleaner inc) reached = stays
-  board_goes some (input.Hello Registry inc) reached = stays
-  board_goes some (input.Reassign slot manager) reached = slot_given slot manager
-  board_goes some (input.Done slot epoch parts horizon) reached = checkpoint_done some slot epoch parts horizon
+  pub board_goes : (i : Input) → InputReached i → Leads (transition b i).state
+  board_goes (input.Hello (Client c) inc) reached = stays
+  board_goes (input.Hello (Manager k) inc) reached = manager_heard k inc
+  board_goes (input.Hello (Server v) inc) reached = server_heard v inc reached
+  board_goes (input.Hello Cleaner inc) reached = stays
+  board_goes (input.Hello Registry inc) reached = stays
+  board_goes (input.Reassign slot manager) reached = slot_given slot manager
+  board_goes (input.Done slot epoch parts horizon) reached = checkpoint_done slot epoch parts horizon

@@ -48,6 +48,7 @@ use Rattle.cleaner_node.specs.Jobs.{Done, with_questions, asks_maps, asks_list, 
 use Rattle.log_protocol.specs.Tables.{In}
 use Rattle.log_tie.specs.Setting.{Setting}
 use Rattle.log_tie.specs.Shelves.{is_of_log}
+use Rattle.log_tie.proofs.Names.{equal}
 use Rattle.log_law.specs.Net.{Net}
 use Rattle.log_law.specs.Net.Packet.{DeleteSent}
 use Rattle.log_law.specs.Events.Happens.{Drops}
@@ -167,7 +168,12 @@ module _ (g : Setting) (owner : Asker) (other : g.log ≡ cleaner_log → ⊥) (
           let m = may own in
           record {
             next = record n { sent = DeleteSent m.meta.name ∷ n.sent; dropped = m.meta.name ∷ n.dropped };
-            drop = record { runs = On Begun (Drops m.lists m.meta m.sent m.among (let e = ap (λ (s : SegName). s.seq) m.named in let b = m.below in omega arith)); dropped = λ x is. inr is; rest = refl };
+            drop = record {
+              runs = On Begun (Drops m.lists m.meta m.sent m.among (let e = ap (λ (s : SegName). s.seq) m.named in let b = m.below in omega arith));
+              dropped = λ x is. inr is;
+              rest = refl;
+              none = λ high. (let same : name.log.0 ≡ g.log.0 = equal name.log.0 g.log.0 own in let some = m.cleaned in absurd (omega arith));
+            };
             said = λ its. inl (ap DeleteSent (sym m.named));
             acted = λ its. inl (sym m.named);
             only = λ x is. ⊎_elim (λ same. inr (same ∙ m.named)) (λ was. inl was) is;

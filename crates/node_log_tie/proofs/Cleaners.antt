@@ -165,6 +165,7 @@ module _ (g : Setting) (owner : Asker) (other : g.log ≡ cleaner_log → ⊥) (
         drops = all_acts g owner w.next outs w.does;
         only = only_deleted g owner n w.next outs w.only;
         rest = w.drop.rest;
+        none = w.drop.none;
       }
 
 -- at the start

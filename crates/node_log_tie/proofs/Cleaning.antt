@@ -7,7 +7,7 @@ use Rattle.std.specs.declared.cmp.Ordering.TheVariants.{Less, Equal, Greater}
 use Rattle.std.specs.List.{AllByRecursion, cons_option}
 use Rattle.std.specs.Ordering.{match_ordering}
 use Rattle.std.proofs.lemmas.Bool.Decides.{nat_tests}
-use Rattle.xfs_base.proofs.Booleans.{by_test, and_second}
+use Rattle.xfs_base.proofs.Booleans.{by_test, and_first, and_second}
 use Rattle.xfs_base.specs.declared.fragment.FragMeta.{FragMeta}
 use Rattle.xfs_base.specs.declared.news.SlotNews.{SlotNews}
 use Rattle.xfs_base.specs.declared.segment.SegName.{SegName}
@@ -148,7 +148,9 @@ module _ (g : Setting) (n : Net) where
       let less : nat_lt meta.name.seq (least_horizon slots meta.name.log.0) ≡ true = and_second (is_cleaned meta.name.log.0) (nat_lt meta.name.seq (least_horizon slots meta.name.log.0)) is in
       let below : meta.name.seq < least_horizon slots meta.name.log.0 = grind (arith, nat_tests) in
       let same = ap (λ k. least_horizon slots k) log in
-      record { lists = at.lists; sent = at.sent; meta = meta; among = at.among; named = refl; below = omega arith }
+      let one : is_cleaned meta.name.log.0 ≡ true = and_first (is_cleaned meta.name.log.0) (nat_lt meta.name.seq (least_horizon slots meta.name.log.0)) is in
+      let some : meta.name.log.0 ≤ 9 = grind (arith, nat_tests) in
+      record { lists = at.lists; sent = at.sent; meta = meta; among = at.among; named = refl; below = omega arith; cleaned = some }
 
   one_candidate : (slots : List SlotNews) → least_horizon slots g.log.0 ≤ n.low → (entries : List (SegName × ℕ)) (meta : FragMeta) → ListedOfLog g n meta → Candidates g n entries
       → Candidates g n (candidates_with_one slots entries meta)

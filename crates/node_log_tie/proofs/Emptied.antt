@@ -1,5 +1,5 @@
 -- How a cleaner that serves goes on in the small world of a client's log: by drops alone, one thing after the other.
-use Rattle.std.proofs.Common.{◌≡◌, ◌⊎◌, ⊎_elim, ℕ, true, List, [], ◌∷◌, ◌++◌, inl, inr, refl, sym, subst, ◌∙◌, arith}
+use Rattle.std.proofs.Common.{◌≡◌, ◌<◌, ◌⊎◌, ⊎_elim, ℕ, true, List, [], ◌∷◌, ◌++◌, inl, inr, refl, sym, subst, ◌∙◌, arith}
 use Rattle.std.specs.Prelude.{All}
 use Rattle.std.specs.List.{AllByRecursion}
 use Rattle.std.proofs.lemmas.List.Elements.{All-nil, All-cons, All-append}
@@ -41,7 +41,7 @@ use Rattle.node_log_tie.proofs.Sights.{seen_later}
 
 module _ (g : Setting) (n next : Net) (later : Later n next) where
   pub drop_later : (name : SegName) → DropOfLog g n name → DropOfLog g next name
-  drop_later name h own = let m = h own in record { lists = m.lists; sent = later.sent _ m.sent; meta = m.meta; among = m.among; named = m.named; below = (let a = m.below in let b = later.low in omega arith) }
+  drop_later name h own = let m = h own in record { lists = m.lists; sent = later.sent _ m.sent; meta = m.meta; among = m.among; named = m.named; below = (let a = m.below in let b = later.low in omega arith); cleaned = m.cleaned }
 
   all_drop_later : (segs : List SegRef) → AllDrop g n segs → AllDrop g next segs
   all_drop_later segs all = all_weaker (λ (seg : SegRef). DropOfLog g n seg.name) (λ (seg : SegRef). DropOfLog g next seg.name) (λ seg. drop_later seg.name) segs all
@@ -90,17 +90,18 @@ module _ (g : Setting) (owner : Asker) where
       (λ was. ⊎_elim (λ old. inl old) (λ (ordered : Orders name outs). inr (ordered.0, in_before outs more _ ordered.1)) (first name was))
       (λ (ordered : Orders name more). inr (ordered.0, in_after outs more _ ordered.1)) (second name is)
 
-  -- a net with more drops
+  -- a net with more drops; of a manager's log there are none
   pub record Dropping (n next : Net) : Type 0 where
     pub runs : Runs g n next
     pub dropped : (name : SegName) → In name n.dropped → In name next.dropped
     pub rest : all_but_drops next ≡ all_but_drops n
+    pub none : 9 < g.log.0 → next ≡ n
 
   pub no_drop : (n : Net) → Dropping n n
-  no_drop n = record { runs = Begun; dropped = λ name is. is; rest = refl }
+  no_drop n = record { runs = Begun; dropped = λ name is. is; rest = refl; none = λ high. refl }
 
   pub then_drop : (n m o : Net) → Dropping n m → Dropping m o → Dropping n o
-  then_drop n m o a b = record { runs = runs_on g n m o a.runs b.runs; dropped = λ name is. b.dropped name (a.dropped name is); rest = b.rest ∙ a.rest }
+  then_drop n m o a b = record { runs = runs_on g n m o a.runs b.runs; dropped = λ name is. b.dropped name (a.dropped name is); rest = b.rest ∙ a.rest; none = λ high. b.none high ∙ a.none high }
 
   acted_later : (n next : Net) → Dropping n next → (a : Act) → DropActed g n a → DropActed g next a
   acted_later n next d (act.Dropped seg) h = λ own. d.dropped seg (h own)

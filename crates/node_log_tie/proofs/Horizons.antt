@@ -1,5 +1,5 @@
--- The least horizon of a log never falls.
-use Rattle.std.proofs.Common.{◌≡◌, ℕ, zero, suc, ◌-◌, ◌==◌, ◌<◌, ◌≤◌, true, List, [], ◌∷◌, length, map, slice_get, ◌∙◌, arith}
+-- The least horizon of a log never falls, and that of a log of which no horizon tells stays 1.
+use Rattle.std.proofs.Common.{◌≡◌, ℕ, zero, suc, ◌-◌, ◌==◌, ◌<◌, ◌≤◌, true, List, [], ◌∷◌, length, map, slice_get, refl, ◌∙◌, arith}
 use Rattle.std.specs.Prelude.{slice_index, slice_set, unwrap_or}
 use Rattle.std.specs.List.{AllByRecursion}
 use Rattle.std.proofs.lemmas.Grind.{get_or_default_zero}
@@ -68,3 +68,26 @@ module _ (log : ℕ) (some : log ≤ 9) (b c : BoardState) (old : HasHorizons b)
 pub low_rises : (log : ℕ) → log ≤ 9 → (b : BoardState) (i : In) → HasHorizons b → HasHorizons (transition b i).state
     → least_horizon log (map (slot_news b) all_slots) ≤ least_horizon log (map (slot_news (transition b i).state) all_slots)
 low_rises log some b i old new = least_rises log some b (transition b i).state old new (λ slot k below. (later_all b (i ∷ [])).horizons slot k below)
+
+-- ---- a log above 9
+
+-- a slot tells of nine logs: of any other its horizon is 1
+beyond : (h : List ℕ) (k : ℕ) → length h ≤ k → unwrap_or (slice_get h k) 1 ≡ 1
+beyond [] k less = refl
+beyond (x ∷ h) zero less = absurd (let e = less in omega arith)
+beyond (x ∷ h) (suc k) less = beyond h k (omega arith)
+
+pub least_is_one : (log : ℕ) → 9 < log → (b : BoardState) → HasHorizons b → least_horizon log (map (slot_news b) all_slots) ≡ 1
+least_is_one log high b nine =
+    let a = one 0 (omega arith) in
+    let c = one 1 (omega arith) in
+    let d = one 2 (omega arith) in
+    let e = one 3 (omega arith) in
+    let f = one 4 (omega arith) in
+    let h = one 5 (omega arith) in
+    let i = one 6 (omega arith) in
+    let j = one 7 (omega arith) in
+    omega arith
+  where
+    one : (slot : ℕ) → slot < 8 → horizon_of log (slot_news b slot) ≡ 1
+    one slot below = beyond (horizon_at b.checkpoints slot) (log - 1) (let e = nine slot below in omega arith)

@@ -44,14 +44,14 @@ use Rattle.log_law.specs.Events.Runs.{On}
 use Rattle.node_log_tie.specs.Sight.Question.{Unasked, OfMaps, OfOpening}
 use Rattle.node_log_tie.proofs.Sights.{asked_later}
 use Rattle.node_log_tie.specs.Sight.{Asker, Question, AskedBy, AnsweredBy, BodySeen, PacketSeen, EffectSeen, HelloSeen}
-use Rattle.node_log_tie.specs.RegistryEvents.{NamesGroups, RegistrySeen, Keeps, Hears, all_but_known, RegistryGoes}
-use Rattle.node_log_tie.proofs.Boards.{MadeSeen, board_goes}
+use Rattle.node_log_tie.specs.RegistryEvents.{NamesGroups, RegistrySeen, Hears, all_but_known, RegistryGoes, RegistryEventGoes, RegistryGoesAbove}
+use Rattle.node_log_tie.proofs.Boards.{MayKeep, MadeSeen, board_goes}
 use Rattle.node_log_tie.proofs.Going.{run_later}
 use Rattle.node_log_tie.proofs.Lists.{all_append, all_map, all_flat_map, packets_all}
 use Rattle.node_log_tie.proofs.Others.{same_or_other}
 use Rattle.node_log_tie.proofs.WholeMaps.{whole_map}
 
-module _ (g : Setting) (owner : Asker) (some : g.log.0 ≤ 9) (n : Net) where
+module _ (g : Setting) (owner : Asker) (n : Net) where
   -- The small world runs on to a net in which the registry is seen as it is then.
   record Goes (d : Done) : Type 0 where
     next : Net
@@ -62,7 +62,7 @@ module _ (g : Setting) (owner : Asker) (some : g.log.0 ≤ 9) (n : Net) where
 
   -- where its state is one that the world lets it keep
   abbrev GoesIf : Done → Type 0
-  GoesIf d = Keeps g n d.state.board → Goes d
+  GoesIf d = MayKeep g n d.state.board → Goes d
 
   stays : (node : RegistryNode) → RegistrySeen g n node.board → GoesIf (still node)
   stays node before keeps = record { next = n; runs = Runs.Begun; seen = before; does = tt; rest = refl }
@@ -93,7 +93,7 @@ module _ (g : Setting) (owner : Asker) (some : g.log.0 ≤ 9) (n : Net) where
   slot_given node before number slot manager keeps =
       let made = transition node.board (input.Reassign slot manager) in
       let to : RegistryNode = record node { board = made.state } in
-      let b : MadeSeen g owner n node.board before made.state = board_goes g owner n node.board before some (input.Reassign slot manager) tt keeps in
+      let b : MadeSeen g owner n node.board before made.state = board_goes g owner n node.board before (input.Reassign slot manager) tt keeps in
       record {
         next = published b.next made.state;
         runs = publishes b.next made.state b.seen b.runs;
@@ -161,7 +161,7 @@ module _ (g : Setting) (owner : Asker) (some : g.log.0 ≤ 9) (n : Net) where
   hello_answered node before from m hello keeps =
       let made = transition node.board (input.Hello from m.inc) in
       let to : RegistryNode = record node { board = made.state } in
-      let b : MadeSeen g owner n node.board before made.state = board_goes g owner n node.board before some (input.Hello from m.inc) hello.reached keeps in
+      let b : MadeSeen g owner n node.board before made.state = board_goes g owner n node.board before (input.Hello from m.inc) hello.reached keeps in
       let at : Net = published b.next made.state in
       welcomed from m at to made.outs (resent b.next made.state (MapSent made.state.groups ∷ b.next.sent) b.seen) (publishes b.next made.state b.seen b.runs) b.rest (inl refl)
       (λ is. asked_later g owner n at (run_later g n at (publishes b.next made.state b.seen b.runs)) m.inc (owner.asked m.ask) (hello.own is)) (same_or_other from owner.node)
@@ -177,7 +177,7 @@ module _ (g : Setting) (owner : Asker) (some : g.log.0 ≤ 9) (n : Net) where
   unfolding on_done
   checkpoint_kept node before from m keeps =
       let made = transition node.board (input.Done m.slot m.epoch m.parts m.horizon) in
-      let b : MadeSeen g owner n node.board before made.state = board_goes g owner n node.board before some (input.Done m.slot m.epoch m.parts m.horizon) tt keeps in
+      let b : MadeSeen g owner n node.board before made.state = board_goes g owner n node.board before (input.Done m.slot m.epoch m.parts m.horizon) tt keeps in
       record {
         next = b.next;
         runs = b.runs;
@@ -227,8 +227,8 @@ module _ (g : Setting) (owner : Asker) (some : g.log.0 ≤ 9) (n : Net) where
   taken_so : (r : RegistryNode) → RegistrySeen g n r.board → (what : Do) → Hears g owner n what → GoesIf (takes r what)
   taken_so r before what sent = by_test GoesIf (has_room r.board.version) (on_event r what) (still r) (λ t. happens r before what sent) (λ t. stays r before)
 
-  pub registry_goes : (r : RegistryNode) (what : Do) → RegistrySeen g n r.board → Hears g owner n what → Keeps g n (registry_step r what).node.board → RegistryGoes g owner n r what
-  registry_goes r what before sent keeps =
+  goes_on : (r : RegistryNode) (what : Do) → RegistrySeen g n r.board → Hears g owner n what → MayKeep g n (registry_step r what).node.board → RegistryGoes g owner n r what
+  goes_on r what before sent keeps =
       let goes : Goes (takes r what) = taken_so r before what sent keeps in
       record {
         next = goes.next;
@@ -237,6 +237,12 @@ module _ (g : Setting) (owner : Asker) (some : g.log.0 ≤ 9) (n : Net) where
         sends = packets_all (PacketSeen g owner goes.next) (EffectSeen g owner goes.next Registry) Registry (λ to said does. does) (takes r what).outs goes.does;
         rest = goes.rest;
       }
+
+pub registry_goes : RegistryEventGoes
+registry_goes g owner n r what some before sent keeps = goes_on g owner n r what before sent (record { named = keeps.named; filed = λ low. keeps.filed })
+
+pub registry_goes_above : RegistryGoesAbove
+registry_goes_above g owner n r what high before sent named = goes_on g owner n r what before sent (record { named = named; filed = λ low. absurd (omega arith) })
 
 -- ---- the start
 

@@ -54,7 +54,7 @@ pub record OpeningSeen (o : openings.Opening) : Type 0 where
 -- ---- how a job is seen
 
 module _ (g : Setting) (n : Net) where
-  -- a segment of the log may be dropped: some server listed it, and it is below the least horizon
+  -- a segment of the log may be dropped: some server listed it, it is below the least horizon, and it is of a log that is cleaned
   pub record MayDrop (name : SegName) : Type 0 where
     pub lists : List FragMeta
     pub sent : In (ListedSent lists) n.sent
@@ -62,6 +62,7 @@ module _ (g : Setting) (n : Net) where
     pub among : In meta lists
     pub named : meta.name ≡ name
     pub below : name.seq < n.low
+    pub cleaned : name.log.0 ≤ 9
 
   abbrev pub DropOfLog : SegName → Type 0
   DropOfLog name = is_of_log g name ≡ true → MayDrop name
@@ -117,7 +118,7 @@ abbrev pub OnlyDeleted : Net → Net → List Packet → Type 0
 OnlyDeleted n next sent = (name : SegName) → In name next.dropped → In name n.dropped ⊎ ((p : Packet) × In p sent × (p.body ≡ body.Delete (record { name = name })))
 
 -- The small world runs on, by drops alone, to a net in which the cleaner is seen as it is then; all that it sends was sent, and what it acts to be dropped is,
--- and nothing else of the log but what it has servers delete.
+-- and nothing else of the log but what it has servers delete. Of a manager's log it drops nothing: that small world stands still.
 pub record CleanerGoes (g : Setting) (owner : Asker) (n : Net) (cleaner : cleaners.Cleaner) (what : Do) : Type 0 where
   pub next : Net
   pub runs : Runs g n next
@@ -126,6 +127,7 @@ pub record CleanerGoes (g : Setting) (owner : Asker) (n : Net) (cleaner : cleane
   pub drops : All (DropActed g next) (cleaner_step cleaner what).acts
   pub only : OnlyDeleted n next (cleaner_step cleaner what).packets
   pub rest : all_but_drops next ≡ all_but_drops n
+  pub none : 9 < g.log.0 → next ≡ n
 
 -- Each event of the cleaner, where the log is not its own.
 abbrev pub CleanerEventGoes : Type 0

@@ -1,6 +1,5 @@
 -- What an event makes of the registry, as the small world of one log sees it.
 use Rattle.std.specs.Prelude.{◌≡◌, ◌<◌, ◌≤◌, ◌⊎◌, ℕ, suc, true, List, [], Some, length}
-use Rattle.xfs_base.specs.declared.node.NodeId.{NodeId}
 use Rattle.xfs_base.specs.declared.segment.SegName.{SegName}
 use Rattle.xfs_base.specs.declared.setup.Setup.{Setup}
 use Rattle.group_map.specs.declared.group.Group.{Group}
@@ -78,6 +77,12 @@ abbrev pub RegistryEventGoes : Type 0
 RegistryEventGoes =
     (g : Setting) (owner : Asker) (n : Net) (r : RegistryNode) (what : Do) → g.log.0 ≤ 9 → RegistrySeen g n r.board → Hears g owner n what
     → Keeps g n (registry_step r what).node.board → RegistryGoes g owner n r what
+
+-- So is each event of it in the small world of a log of which no horizon tells, as a manager's is: there the least horizon stays 1.
+abbrev pub RegistryGoesAbove : Type 0
+RegistryGoesAbove =
+    (g : Setting) (owner : Asker) (n : Net) (r : RegistryNode) (what : Do) → 9 < g.log.0 → RegistrySeen g n r.board → Hears g owner n what
+    → NamesGroups g (registry_step r what).node.board.groups → RegistryGoes g owner n r what
 
 -- At the start of a run the registry knows each server at generation 1, and no horizon above 1.
 abbrev pub RegistryStarts : Type 0

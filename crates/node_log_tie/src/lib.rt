@@ -3,7 +3,7 @@
 #![tactic(auto)]
 
 ghost use Rattle.node_log_tie.specs.CleanerEvents.{CleanerEventGoes, CleanerStarts};
-ghost use Rattle.node_log_tie.specs.RegistryEvents.{RegistryEventGoes, RegistryStarts};
+ghost use Rattle.node_log_tie.specs.RegistryEvents.{RegistryEventGoes, RegistryGoesAbove, RegistryStarts};
 ghost use Rattle.node_log_tie.specs.ServerEvents.{SentMapsName, ServerEventGoes, ServerStarts};
 
 /// What an event makes of a storage server is a run of the small world, if the packet that comes was sent there and the maps that were sent there have each
@@ -25,17 +25,19 @@ pub fn server_events_are_seen()
 /// - `start`: at the start of a run the registry is seen where each server is of generation 1, and the least horizon is 1.
 /// - `events`: a registry that is seen before an event is seen after it in a world to which that one runs on; all that it sends was sent there: maps that are
 ///   whole, and to the owner of the log the least horizon that is kept then.
+/// - `above`: so it is of a log above 9, as a manager's is: no horizon tells of it, and none need be filed.
 pub fn registry_events_are_seen()
     ensures start { RegistryStarts }
     ensures events { RegistryEventGoes }
+    ensures above { RegistryGoesAbove }
 {}
 
-/// What an event makes of the cleaner is a run of the small world of a client's log, by drops alone, if the packet that comes was sent there.
+/// What an event makes of the cleaner is a run of the small world of another log than its own, by drops alone, if the packet that comes was sent there.
 ///
 /// - `start`: the cleaner at its start is seen.
 /// - `events`: a cleaner that is seen before an event is seen after it in a world to which that one runs on by drops: each segment of the log that it has
 ///   deleted was listed by a server, and is below the least horizon. All that it sends was sent there, and each segment that it acts to be dropped is dropped
-///   there, and nothing but what it has servers delete; it stores and fences for its own log alone.
+///   there, and nothing but what it has servers delete; it stores and fences for its own log alone. Of a log above 9, as a manager's is, it drops nothing.
 pub fn cleaner_events_are_seen()
     ensures start { CleanerStarts }
     ensures events { CleanerEventGoes }
