@@ -26,7 +26,7 @@ use Rattle.stripe_code.specs.Joined.{part_at, rest_onto, one_gone, lower_of, two
 use Rattle.stripe_code.specs.Reading.{ReadingState, Step, is_target, segment_found, counts, read_as, judged, on_answer, goes_on, on_confirmed}
 use Rattle.stripe_code.specs.Round.{RoundSoFar, has_answered, taken, bytes_told, bytes_in, parts_in, missing_in, len_in, is_enough, have_answered, state_of}
 use Rattle.stripe_code.specs.Stripe.{plain, weighted}
-use Rattle.manager_log_tie.specs.Fitting.{ToldFits, RoundFits}
+use Rattle.cleaner_log_tie.specs.Fitting.{ToldFits, RoundFits}
 
 abbrev Bytes : List ℕ → Type 0
 Bytes xs = AllByRecursion (λ (byte : ℕ). byte < 256) xs

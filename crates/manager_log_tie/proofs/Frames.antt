@@ -20,6 +20,7 @@ use Rattle.node_log_tie.specs.Sight.Question.{OfMaps}
 use Rattle.client_log_tie.proofs.Frames.{grown_still, grown_on}
 use Rattle.client_log_tie.specs.ClientEvents.{ActSeen, Grown, OfItsLog}
 use Rattle.client_log_tie.specs.Owner.{Scene}
+use Rattle.manager_log_tie.specs.Fitting.{InRange}
 use Rattle.manager_log_tie.specs.Owner.{its_asker, Stands}
 use Rattle.manager_log_tie.proofs.SlotPhases.{Aside, IsAside}
 
@@ -70,6 +71,15 @@ module _ (g : Setting) (j : ℕ) where
   says_seen w asks to (body.Welcome m) h = absurd h
   says_seen w asks to (body.MapNews m) h = absurd h
   says_seen w asks to _ h = tt
+
+  -- and in range
+  pub says_fits : (w : Scene) (to : NodeId) (said : Body) → Says w to said → InRange said
+  says_fits w to (body.Deltas m) h = absurd h
+  says_fits w to (body.Live m) h = h
+  says_fits w to (body.Fragment m) h = absurd h
+  says_fits w to (body.Welcome m) h = absurd h
+  says_fits w to (body.MapNews m) h = absurd h
+  says_fits w to _ h = tt
 
   pub says_own : (w : Scene) (to : NodeId) (said : Body) → Says w to said → OfItsLog g said
   says_own w to (body.Store m) h = h.1

@@ -58,7 +58,7 @@ use Rattle.manager_log_tie.specs.Fitting.{InRange}
 use Rattle.manager_log_tie.specs.Owner.{its_asker, Lasts, IsDown, Awaits, Stands, ManagerAgrees}
 use Rattle.manager_log_tie.specs.OwnerEvents.{ManagerOwed, ManagerTakes}
 use Rattle.manager_log_tie.proofs.Checkpointing.{checkpoint_so}
-use Rattle.manager_log_tie.proofs.Frames.{ManagerDoes, AllDone, Goes, all_aside, says_seen, says_own}
+use Rattle.manager_log_tie.proofs.Frames.{ManagerDoes, AllDone, Goes, all_aside, says_seen, says_own, says_fits}
 use Rattle.manager_log_tie.proofs.Renewed.{SameElse, Fall, fall_of, Renewed, renewed}
 use Rattle.manager_log_tie.proofs.Serving.{news_so, packet_so, time_so}
 use Rattle.manager_log_tie.proofs.SlotPhases.{answers_aside}
@@ -331,6 +331,11 @@ module _ (g : Setting) (j number : ℕ) (own : number ≡ j) (w : Scene) where
   all_own es h =
       packets_all (λ (p : packets.Packet). OfItsLog g p.body) (ManagerDoes g j w) (nodes.Manager number) (λ to said does. says_own g j w to said does) es h
 
+  -- the numbers of what it sends are in range
+  all_fit : (es : List Effect) → AllDone g j w es → All (λ (p : packets.Packet). InRange p.body) (packets_of (nodes.Manager number) es)
+  all_fit es h =
+      packets_all (λ (p : packets.Packet). InRange p.body) (ManagerDoes g j w) (nodes.Manager number) (λ to said does. says_fits g j w to said does) es h
+
 lasts_of : (g : Setting) (j : ℕ) (w : Scene) (p : Phase) → ManagerAgrees g j w p → Lasts g j w (lasting_of p)
 lasts_of g j w (Down kept) h = h.lasts
 lasts_of g j w (Waiting kept hello) h = h.lasts
@@ -348,4 +353,5 @@ manager_takes g j is some doubts w m what h owed =
       sends = all_sent g j number own d.next (lasts_of g j d.next (happens m what).state d.agrees).asks (happens m what).outs d.does;
       acts = all_acted g j number own d.next (happens m what).outs d.does;
       own = all_own g j number own d.next (happens m what).outs d.does;
+      fits = all_fit g j number own d.next (happens m what).outs d.does;
     }

@@ -1,6 +1,6 @@
--- Rows that fit: what is merged of them, what is written of them in pages, and what a segment that fits tells of blocks.
+-- Rows that fit: what is merged of them, what they hold of a block, what is written of them in pages, and what a segment that fits tells of blocks.
 use Rattle.std.proofs.Common.{◌<◌, ℕ, ◌^◌, ◌==◌, Bool, List, [], ◌∷◌, map, filter, length, Option, Some, None, sym, subst, ◌∙◌}
-use Rattle.std.specs.Prelude.{IfSome}
+use Rattle.std.specs.Prelude.{IfSome, unwrap_or}
 use Rattle.std.specs.BTreeMap.{is_at, insert_entry}
 use Rattle.std.specs.declared.cmp.Ordering.{Ordering}
 use Rattle.std.specs.declared.cmp.Ordering.TheVariants.{Less, Equal, Greater}
@@ -12,6 +12,7 @@ use Rattle.xfs_base.proofs.Booleans.{by_test}
 use Rattle.xfs_base.specs.Blocks.{block_cmp}
 use Rattle.xfs_base.specs.declared.block.BlockId.{BlockId}
 use Rattle.xfs_base.specs.declared.entry.Entry.{Entry}
+use Rattle.xfs_base.specs.declared.entry.Place.{Place}
 use Rattle.xfs_base.specs.declared.segment.SegRef.{SegRef}
 use Rattle.segment_format.specs.declared.segment.Item.{Item}
 use Rattle.segment_format.specs.declared.segment.Item.TheVariants.{Block, Delta, Part}
@@ -20,7 +21,7 @@ use Rattle.segment_format.specs.Ranges.{FitsBlock, FitsItem, FitsPlace, FitsRow,
 use Rattle.segment_format.specs.Rows.{place_of, row_of, rows_of}
 use Rattle.segment_format.specs.Rule.{no_item}
 use Rattle.delta_index.proofs.JoinAlgebra.{same_block-eq}
-use Rattle.delta_index.specs.Entries.{is_newer}
+use Rattle.delta_index.specs.Entries.{is_newer, no_entry}
 use Rattle.delta_index.specs.Index.{entry_of, merged, merged_all}
 use Rattle.index_pages.specs.declared.layout.Page.{Page}
 use Rattle.index_pages.specs.Layout.{blocks_on}
@@ -30,7 +31,10 @@ use Rattle.checkpoint.specs.declared.plan.Plan.{Plan}
 use Rattle.checkpoint.specs.Plan.{writes_all, plan_of}
 use Rattle.checkpoint.specs.WriterState.{Rows}
 use Rattle.takeover.specs.Rows.{is_of, part_rows, told_of}
+use Rattle.token_manager.specs.declared.output.Out.{Out}
+use Rattle.token_manager.specs.declared.output.Out.TheVariants.{Live, Dead}
 use Rattle.token_manager.specs.Index.{Indexed, indexed, indexed_all}
+use Rattle.token_manager.specs.Transition.{is_place, found}
 use Rattle.node_log_tie.proofs.Lists.{all_append}
 use Rattle.manager_log_tie.specs.Fitting.{RowsFit, PagesFit}
 
@@ -66,7 +70,12 @@ pub all_indexed_fit : (i : Indexed) (more : Rows) → RowsFit i.rows → RowsFit
 all_indexed_fit i [] all new = all
 all_indexed_fit i (m ∷ more) all new = all_indexed_fit (indexed i m) more (indexed_fit i m all new.0) new.1
 
--- ---- what is written in pages
+-- ---- what is held of a block
+
+-- an entry that is told of a block fits
+abbrev pub LiveFits : BlockId → Out → Type 0
+LiveFits block (Live entry) = FitsRow (block, entry)
+LiveFits block _ = Unit {0}
 
 found_fits : (block : BlockId) (rows : Rows) → RowsFit rows → IfSome (lookup (is_at (block_cmp block)) rows) (λ (e : Entry). FitsRow (block, e))
 found_fits block [] all = tt
@@ -74,6 +83,16 @@ found_fits block (r ∷ rows) all =
     by_test (λ o. IfSome o (λ (e : Entry). FitsRow (block, e))) (eq_by_cmp block_cmp block r.0) (Some r.1) (lookup (is_at (block_cmp block)) rows)
     (λ t. (subst FitsBlock (same_block_exact block r.0 (sym (same_block-eq block r.0) ∙ t)) all.0.0, all.0.1, all.0.2, all.0.3))
     (λ t. found_fits block rows all.1)
+
+-- what is held of a block, if it lies somewhere
+pub placed_fits : (block : BlockId) (place : Place) (rows : Rows) → RowsFit rows → LiveFits block (found (entry_of rows block) place)
+placed_fits block place rows all = by (lookup (is_at (block_cmp block)) rows) (found_fits block rows all)
+  where
+    by : (o : Option Entry) → IfSome o (λ (e : Entry). FitsRow (block, e)) → LiveFits block (found (unwrap_or o no_entry) place)
+    by None h = tt
+    by (Some e) h = by_test (LiveFits block) (is_place e.place place) (Live e) Dead (λ t. h) (λ t. tt)
+
+-- ---- what is written in pages
 
 row_fits : (block : BlockId) (o : Option Entry) → IfSome o (λ (e : Entry). FitsRow (block, e)) → RowsFit (pages.row_of block o)
 row_fits block None h = tt

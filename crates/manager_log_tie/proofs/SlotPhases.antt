@@ -1,5 +1,5 @@
 -- What a manager has of a slot fits, whatever happens to the slot, and what it says then is no matter of a log.
-use Rattle.std.proofs.Common.{ℕ, ◌==◌, Bool, List, filter}
+use Rattle.std.proofs.Common.{ℕ, ◌==◌, Bool, List, [], filter}
 use Rattle.std.specs.Prelude.{Option, nat_lt}
 use Rattle.std.specs.List.{AllByRecursion}
 use Rattle.manager_node.specs.declared.slot_phase.SlotPhase.{SlotPhase}
@@ -8,7 +8,7 @@ use Rattle.manager_node.specs.Slots.{epoch_of}
 use Rattle.manager_node.specs.SlotTable.{Hearer, hears_of, cleaned_phase, named_phase}
 use Rattle.manager_node.specs.Takeovers as takeovers
 use Rattle.manager_node.specs.Takeovers.{Asker, fetches, says, says_each, heard, is_wanted, asks_again, report_input, on_report, phase_of}
-use Rattle.manager_node.specs.Tokens.{said, takes, want_input, on_want, check_input, check_said, on_check, on_usage_ask}
+use Rattle.manager_node.specs.Tokens.{said, takes, want_input, on_want, check_said, on_check, on_usage_ask}
 use Rattle.node_base.specs.Beginning.{answers_unanswered}
 use Rattle.node_base.specs.declared.effects.Effect.{Effect}
 use Rattle.node_base.specs.declared.effects.Effect.TheVariants.{Send, Answer, Lose, Does}
@@ -29,6 +29,7 @@ use Rattle.wire_msg.specs.declared.cleaning.Check.{Check}
 use Rattle.wire_msg.specs.declared.cleaning.UsageAsk.{UsageAsk}
 use Rattle.wire_msg.specs.declared.deltas.Report.{Report}
 use Rattle.wire_msg.specs.declared.tokens.Want.{Want}
+use Rattle.segment_format.specs.Ranges.{FitsRow}
 use Rattle.xfs_base.proofs.Booleans.{by_test}
 use Rattle.xfs_base.specs.Blocks.{slot_of}
 use Rattle.xfs_base.specs.declared.news.SlotNews.{SlotNews}
@@ -36,13 +37,14 @@ use Rattle.xfs_base.specs.declared.node.NodeId.{NodeId}
 use Rattle.xfs_base.specs.declared.segment.SegName.{SegName}
 use Rattle.xfs_base.specs.declared.segment.SegRef.{SegRef}
 use Rattle.xfs_base.specs.Steps.{Stepped, still}
-use Rattle.node_log_tie.proofs.Lists.{all_flat_map, answers_send}
+use Rattle.node_log_tie.proofs.Lists.{all_append, all_flat_map, answers_send}
 use Rattle.manager_log_tie.specs.Fitting.{SlotFits}
+use Rattle.manager_log_tie.proofs.Rows.{LiveFits, placed_fits}
 use Rattle.manager_log_tie.proofs.Leaving.{Leaves, leaves_each, all_filter}
 use Rattle.manager_log_tie.proofs.Slots.{SlotInFits, slot_goes, slot_starts}
 use Rattle.manager_log_tie.proofs.Taking.{TakeInFits, OutFits, take_goes}
 
--- ---- what is no matter of a log
+-- ---- what is no matter of a log, and in range
 
 abbrev pub Aside : Body → Type 0
 Aside (body.Store m) = ⊥
@@ -55,6 +57,8 @@ Aside (body.Delete m) = ⊥
 Aside (body.Hello m) = ⊥
 Aside (body.Welcome m) = ⊥
 Aside (body.MapNews m) = ⊥
+Aside (body.Deltas m) = ⊥
+Aside (body.Live m) = FitsRow (m.block, m.entry)
 Aside _ = Unit {0}
 
 abbrev pub IsAside : Effect → Type 0
@@ -100,20 +104,22 @@ phase_wants (phase.Active a) client want h = phase_takes (phase.Active a) (slot_
 phase_wants (phase.Away epoch) client want h = phase_takes (phase.Away epoch) (slot_of want.block.ino.0) (want_input client want) tt h
 phase_wants (phase.Taking t) client want h = phase_takes (phase.Taking t) (slot_of want.block.ino.0) (want_input client want) tt h
 
-one_checked : (check : Check) (epoch : ℕ) (o : SlotOut) → AllAside (check_said check epoch o)
+one_checked : (check : Check) (epoch : ℕ) (o : SlotOut) → LiveFits check.block o → AllAside (check_said check epoch o)
 unfolding check_said
-one_checked check epoch (slot_out.Grant client block stamp inc req mode entry) = (tt, tt)
-one_checked check epoch (slot_out.Forward client block stamp to inc req ver) = (tt, tt)
-one_checked check epoch (slot_out.Recall client block stamp keep) = (tt, tt)
-one_checked check epoch (slot_out.Applied log applied) = (tt, tt)
-one_checked check epoch (slot_out.Live entry) = (tt, tt)
-one_checked check epoch slot_out.Dead = (tt, tt)
+one_checked check epoch (slot_out.Grant client block stamp inc req mode entry) h = (tt, tt)
+one_checked check epoch (slot_out.Forward client block stamp to inc req ver) h = (tt, tt)
+one_checked check epoch (slot_out.Recall client block stamp keep) h = (tt, tt)
+one_checked check epoch (slot_out.Applied log applied) h = (tt, tt)
+one_checked check epoch (slot_out.Live entry) h = (h, tt)
+one_checked check epoch slot_out.Dead h = (tt, tt)
 
 pub phase_checks : (p : SlotPhase) (check : Check) → SlotFits p → PhaseGoes (on_check p check)
 unfolding on_check
 phase_checks (phase.Active a) check h = record {
   state = h;
-  outs = all_flat_map IsAside (check_said check a.slot.epoch) (one_checked check a.slot.epoch) (slot.transition a.slot (check_input check)).outs;
+  outs =
+      all_append IsAside (check_said check a.slot.epoch (slot.found (slot.entry_at a.slot check.block) check.place)) []
+      (one_checked check a.slot.epoch (slot.found (slot.entry_at a.slot check.block) check.place) (placed_fits check.block check.place a.slot.index.rows h)) tt;
 }
 phase_checks (phase.Away epoch) check h = record { state = tt; outs = tt }
 phase_checks (phase.Taking t) check h = record { state = h; outs = tt }

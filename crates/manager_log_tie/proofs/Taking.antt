@@ -30,7 +30,8 @@ use Rattle.xfs_base.specs.declared.node.NodeId.{NodeId}
 use Rattle.xfs_base.specs.declared.segment.SegName.{SegName}
 use Rattle.xfs_base.specs.Steps.{still}
 use Rattle.node_log_tie.proofs.Lists.{all_append, all_map}
-use Rattle.manager_log_tie.specs.Fitting.{RowsFit, PagesFit, ToldFits, RoundFits, PresentFits, TakeFits}
+use Rattle.cleaner_log_tie.specs.Fitting.{ToldFits, RoundFits}
+use Rattle.manager_log_tie.specs.Fitting.{RowsFit, PagesFit, PresentFits, TakeFits}
 use Rattle.manager_log_tie.proofs.Bytes.{NextFits, StepFits, answered_fits, confirmed_fits}
 use Rattle.manager_log_tie.proofs.Leaving.{Leaves}
 use Rattle.manager_log_tie.proofs.Rows.{all_joined_fit, told_fit}

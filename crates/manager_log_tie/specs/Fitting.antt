@@ -5,12 +5,7 @@ use Rattle.std.specs.List.{AllByRecursion}
 use Rattle.segment_format.specs.declared.segment.Item.{Item}
 use Rattle.segment_format.specs.declared.segment.Item.TheVariants.{Block, Delta, Part}
 use Rattle.segment_format.specs.Ranges.{FitsRow}
-use Rattle.stripe_code.specs.declared.round.Answer.{Answer}
-use Rattle.stripe_code.specs.declared.round.Told.{Told}
-use Rattle.stripe_code.specs.declared.round.Told.TheVariants.{Held, Missing}
 use Rattle.stripe_code.specs.Reading.{ReadingState}
-use Rattle.stripe_code.specs.Round.{RoundSoFar}
-use Rattle.stripe_code.specs.Stripe.{IsBytes}
 use Rattle.checkpoint.specs.WriterState.{Rows, WriterState}
 use Rattle.client_log.specs.declared.input.In.{In as Input}
 use Rattle.client_log.specs.declared.input.In.TheVariants.{Put, Parts, Seal, Acked, Maps, Tick}
@@ -24,8 +19,9 @@ use Rattle.takeover.specs.TakeState.{TakeState}
 use Rattle.wire_msg.specs.declared.body.Body.{Body}
 use Rattle.wire_msg.specs.declared.body.Body.TheVariants as body
 use Rattle.log_law.specs.Events.{IsWritten}
-use Rattle.client_log_tie.specs.ClientEvents.{BodyFits}
 use Rattle.client_log_tie.specs.Texts.{MapFits}
+use Rattle.cleaner_log_tie.specs.Fitting.{RoundFits}
+use Rattle.cleaner_log_tie.specs.Fitting as for_cleaner
 
 -- ---- rows
 
@@ -64,14 +60,6 @@ StaysWritten s = (later : List Input) → AllByRecursion InputFits later → IfS
 abbrev pub WriterFits : WriterState → Type 0
 WriterFits writer = IfSome writer.work (λ work. PagesFit work.left)
 
--- the fragments of a round are bytes
-abbrev pub ToldFits : Told → Type 0
-ToldFits (Held f) = IsBytes f.bytes
-ToldFits (Missing generation) = Unit {0}
-
-abbrev pub RoundFits : RoundSoFar → Type 0
-RoundFits r = AllByRecursion (λ (a : Answer). ToldFits a.told) r.answers
-
 abbrev pub PresentFits : Present → Type 0
 PresentFits p = IfSome p.reading (λ (r : ReadingState). RoundFits r.round)
 
@@ -92,11 +80,10 @@ SlotFits (phase.Broken epoch seg) = Unit {0}
 abbrev pub TableFits : Table → Type 0
 TableFits table = AllByRecursion SlotFits table
 
--- ---- what comes
+-- ---- packets
 
--- The numbers of a packet are in the ranges of their types, as those of each packet that a program holds: the rows of Deltas, the bytes of a fragment, and the
--- ids of the groups of a map.
+-- The numbers of a packet are in the ranges of their types, as those of each packet that a program holds: besides those of what comes to the cleaner (the row that
+-- a Live tells, the bytes of a fragment, the ids of the groups of a map), those of the rows of Deltas.
 abbrev pub InRange : Body → Type 0
 InRange (body.Deltas m) = RowsFit m.rows
-InRange (body.Fragment m) = IsBytes m.fragment.bytes
-InRange b = BodyFits b
+InRange b = for_cleaner.InRange b

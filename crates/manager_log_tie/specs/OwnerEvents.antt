@@ -38,7 +38,7 @@ module _ (g : Setting) (j : ℕ) (w : Scene) where
 -- ---- what an event makes of it
 
 -- The small world runs on, by its owner alone, to one in which the manager is seen as it is then, all that it sends was sent, and all that it tells to be filed
--- is filed; it stores to its own log alone.
+-- is filed; it stores to its own log alone, and the numbers of what it sends are in range.
 pub record ManagerGoes (g : Setting) (j : ℕ) (w : Scene) (d : NodeStep managers.Manager) : Type 0 where
   pub next : Scene
   pub grown : Grown g w next
@@ -46,6 +46,7 @@ pub record ManagerGoes (g : Setting) (j : ℕ) (w : Scene) (d : NodeStep manager
   pub sends : AllSeen g (its_asker j next) next.net d.packets
   pub acts : All (ActSeen next) d.acts
   pub own : All (λ (p : packets.Packet). OfItsLog g p.body) d.packets
+  pub fits : All (λ (p : packets.Packet). InRange p.body) d.packets
 
 -- Each event of a manager is a run of the small world of its log, whose restarts are all doubtful.
 abbrev pub ManagerTakes : Type 0

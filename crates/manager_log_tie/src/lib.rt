@@ -9,10 +9,10 @@ ghost use Rattle.manager_log_tie.specs.OwnerEvents.{ManagerStarts, ManagerTakes}
 ///
 /// - `start`: a manager at its start is seen in the opening of the small world, where the ids of the setup's groups fit.
 /// - `events`: a manager that is seen there before an event is seen after it in a world to which that one runs on; all that it sends was sent there, and all
-///   that it tells to be filed is filed there; it stores to its own log alone.
+///   that it tells to be filed is filed there; it stores to its own log alone, and the numbers of what it sends are in range.
 ///
-/// What is owed still is that numbers are in the ranges of their types: the rows of Deltas, the bytes of a fragment, and the ids of the groups of maps. That
-/// each segment of a checkpoint has a text follows from it: how many Parts and rows it has is looked at when it is begun.
+/// What is owed still is that the numbers of what comes are in the ranges of their types: the rows of Deltas, the bytes of a fragment, the ids of the groups of
+/// maps. That each segment of a checkpoint has a text follows from it: how many Parts and rows it has is looked at when it is begun.
 pub fn manager_log_events_are_seen()
     ensures start { ManagerStarts }
     ensures events { ManagerTakes }
