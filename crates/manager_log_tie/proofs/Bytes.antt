@@ -183,7 +183,8 @@ appended (x ∷ answers) a all h = (all.0, appended answers a all.1 h)
 taken_fits : (r : RoundSoFar) (server : ℕ) (t : Told) → RoundFits r → ToldFits t → RoundFits (taken r server t)
 unfolding taken
 taken_fits r server t h told =
-    by_test RoundFits (has_answered r.answers server) r (record r { answers = r.answers ++ record { server = server; told = t } ∷ [] }) (λ e. h) (λ e. appended r.answers (record { server = server; told = t }) h told)
+    by_test RoundFits (has_answered r.answers server) r (record r { answers = r.answers ++ record { server = server; told = t } ∷ [] }) (λ e. h)
+    (λ e. appended r.answers (record { server = server; told = t }) h told)
 
 -- ---- a reading
 
@@ -214,7 +215,8 @@ unfolding on_answer
 answered_fits r groups ask server t h told =
     let now : RoundSoFar = taken r.round server t in
     by_test StepFits (counts r ask server t) (judged (record r { round = now }) groups (state_of now)) (record { state = r; next = next.Wait })
-    (λ e. judged_fits (record r { round = now }) groups (state_of now) (taken_fits r.round server t h told) (state_bytes now (taken_fits r.round server t h told)))
+    (λ e. judged_fits (record r { round = now }) groups (state_of now) (taken_fits r.round server t h told)
+    (state_bytes now (taken_fits r.round server t h told)))
     (λ e. record { round = h; next = tt })
 
 -- what there is to ask between two rounds is answered

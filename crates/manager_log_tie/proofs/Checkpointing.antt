@@ -83,7 +83,8 @@ writer_goes_on s w h =
 writer_begins : (s : WriterState) (w : WorkState) → WriterFits s → PagesFit w.left → Writes (writer.begun s w)
 unfolding Writes
 writer_begins s w before h =
-    by_test Writes (writer.is_idle s) (writer.go_on (record s { number = s.number + 1 }) w) (still s) (λ t. writer_goes_on (record s { number = s.number + 1 }) w h)
+    by_test Writes (writer.is_idle s) (writer.go_on (record s { number = s.number + 1 }) w) (still s)
+    (λ t. writer_goes_on (record s { number = s.number + 1 }) w h)
     (λ t. record { state = before; outs = tt })
 
 writer_settles : (s : WriterState) (end : End) → WriterFits s → Writes (writer.on_settled s end)
@@ -272,7 +273,8 @@ module _ (g : Setting) (j : ℕ) (is : g.log ≡ log_of j) where
       let d : Leaves WriterFits OutFits r = writer_goes s.writer (writer_in.Ack ack.epoch s.dones) h.writer tt in
       by_test (λ (d : Done). Goes g j w d) (awaits s.checkpoint ack.ask) (answered_by s r) (still s)
       (λ t. by_test (λ (d : Done). Goes g j w d) (length r.outs == 0) (still (record s { writer = r.state }))
-      (next_slot (record s { writer = r.state; checkpoint = fold counted s.checkpoint r.outs })) (λ u. stays g j w (record s { writer = r.state }) (with_writer w s r.state h d.state))
+      (next_slot (record s { writer = r.state; checkpoint = fold counted s.checkpoint r.outs }))
+      (λ u. stays g j w (record s { writer = r.state }) (with_writer w s r.state h d.state))
       (λ u. next_so w (record s { writer = r.state; checkpoint = fold counted s.checkpoint r.outs })
       (with_job w (record s { writer = r.state }) (fold counted s.checkpoint r.outs) (with_writer w s r.state h d.state))))
       (λ t. stays g j w s h)

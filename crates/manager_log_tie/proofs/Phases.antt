@@ -185,7 +185,8 @@ module _ (g : Setting) (j : ℕ) (is : g.log ≡ log_of j) where
     index = h.index;
   }
 
-  down_so : (w : Scene) (kept : Kept) (number : ℕ) (asked : Option Work) → IsDown g j w kept → has_room kept.inc ≡ true → Went w (down_wish kept number (wish_at asked))
+  down_so : (w : Scene) (kept : Kept) (number : ℕ) (asked : Option Work) → IsDown g j w kept → has_room kept.inc ≡ true
+      → Went w (down_wish kept number (wish_at asked))
   down_so w kept number (Some (work.Restart node)) h room = restarts_so w kept number h room
   down_so w kept number (Some (work.Crash node)) h room = answers_so w (Down kept) number answer.Down h
   down_so w kept number (Some _) h room = answers_so w (Down kept) number answer.Down h

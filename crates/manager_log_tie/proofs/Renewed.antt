@@ -104,4 +104,5 @@ module _ (g : Setting) where
         }
 
     pub renewed : (n : Net) (life : ℕ) → n.inc < life → n.owner ≡ owner.Down → In (MapSent m) n.sent → Renewed n life
-    renewed n life less down came = subst (Renewed n) (let e : suc ((life - suc n.inc) + n.inc) ≡ life = omega arith in e) (passed (life - suc n.inc) n down came)
+    renewed n life less down came =
+        subst (Renewed n) (let e : suc ((life - suc n.inc) + n.inc) ≡ life = omega arith in e) (passed (life - suc n.inc) n down came)

@@ -52,7 +52,8 @@ inserted_fit (r ∷ rows) block entry all new =
 merged_fit : (rows : Rows) (block : BlockId) (entry : Entry) → RowsFit rows → FitsRow (block, entry) → RowsFit (merged rows block entry)
 unfolding merged
 merged_fit rows block entry all new =
-    by_test RowsFit (is_newer entry (entry_of rows block)) (insert_entry block_cmp rows block entry) rows (λ t. inserted_fit rows block entry all new) (λ t. all)
+    by_test RowsFit (is_newer entry (entry_of rows block)) (insert_entry block_cmp rows block entry) rows
+    (λ t. inserted_fit rows block entry all new) (λ t. all)
 
 pub all_merged_fit : (rows more : Rows) → RowsFit rows → RowsFit more → RowsFit (merged_all rows more)
 all_merged_fit rows [] all new = all
@@ -110,7 +111,8 @@ pages_fit rows (p ∷ ps) all = (held_fit rows (blocks_on p.first) all, pages_fi
 
 pub planned_fit : (s : PagesState) (parts : List SegRef) → RowsFit s.rows → PagesFit (plan_of s parts).pages
 planned_fit s parts all =
-    by_test (λ (p : Plan). PagesFit p.pages) (writes_all (length parts)) (record { pages = all_rows s; parts = [] }) (record { pages = changed_rows s; parts = parts })
+    by_test (λ (p : Plan). PagesFit p.pages) (writes_all (length parts)) (record { pages = all_rows s; parts = [] })
+    (record { pages = changed_rows s; parts = parts })
     (λ t. pages_fit s.rows s.pages all) (λ t. pages_fit s.rows (filter (λ page. page.changed) s.pages) all)
 
 -- ---- what a segment tells

@@ -166,7 +166,8 @@ module _ (g : Setting) (j : ℕ) (is : g.log ≡ log_of j) where
       → Goes w (on_body s clients from said)
   body_so w s clients from (body.MapNews news) h seen fit = fitting_so w s clients news h seen fit
   body_so w s clients from (body.Welcome m) h seen fit =
-      by_test (Goes w) (m.inc == s.lasting.inc) (on_fitting_news s clients m.news) (still s) (λ t. fitting_so w s clients m.news h seen.map fit) (λ t. stays g j w s h)
+      by_test (Goes w) (m.inc == s.lasting.inc) (on_fitting_news s clients m.news) (still s) (λ t. fitting_so w s clients m.news h seen.map fit)
+      (λ t. stays g j w s h)
   body_so w s clients from (body.Want want) h seen fit = want_so w s (client_in from) want h
   body_so w s clients from (body.Gave gave) h seen fit = gave_so w s (client_in from) gave h
   body_so w s clients from (body.Deltas deltas) h seen fit = deltas_so w s (fed_log from) deltas h fit

@@ -47,7 +47,8 @@ noted_on : (s : SlotState) (client : ℕ) (block : BlockId) (want : Wanted) (awa
 unfolding gave_noted
 noted_on s client block want awaited h =
     by_test Goes (is_ready s.applied awaited) (gave_last s client block want) (still (gave_one s client block want awaited))
-    (λ t. by_test Goes (has_turns s.turn 1) (finished (record (given s want client block) { jobs = without_job s.jobs block }) want) (still s) (λ u. h) (λ u. h))
+    (λ t. by_test Goes (has_turns s.turn 1) (finished (record (given s want client block) { jobs = without_job s.jobs block }) want) (still s) (λ u. h)
+    (λ u. h))
     (λ t. h)
 
 gave_on : (s : SlotState) (client : ℕ) (block : BlockId) (stamp : Stamp) (end : ℕ) → IndexFits s → Goes (on_gave s client block stamp end)

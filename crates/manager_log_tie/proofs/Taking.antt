@@ -109,7 +109,9 @@ read_on s source segment h fits = by (back_from source segment)
 
 again_on : (s : TakeState) (source : Source) (r : ReadingState) → Sources s → RoundFits r.round → Goes (again s source r)
 unfolding again
-again_on s source r h round = (let k : StepFits (on_confirmed r (s.ask + 1)) = confirmed_fits r (s.ask + 1) round in by (on_confirmed r (s.ask + 1)).state (on_confirmed r (s.ask + 1)).next k.round)
+again_on s source r h round =
+    (let k : StepFits (on_confirmed r (s.ask + 1)) = confirmed_fits r (s.ask + 1) round in
+    by (on_confirmed r (s.ask + 1)).state (on_confirmed r (s.ask + 1)).next k.round)
   where
     by : (q : ReadingState) (n : Next) → RoundFits q.round → Goes (confirmed_as s source q n)
     by q next.Ask fit = asks_on s source q h fit
@@ -138,7 +140,8 @@ told_on s ask server t h fits =
     sources : Sources (record s { present = None })
     sources = record { index = h.index; chain = h.chain }
 
-    by_reading : (source : Source) (r : Option ReadingState) → IfSome r (λ (x : ReadingState). RoundFits x.round) → Goes (told_in (record s { present = None }) source r ask server t)
+    by_reading : (source : Source) (r : Option ReadingState) → IfSome r (λ (x : ReadingState). RoundFits x.round)
+        → Goes (told_in (record s { present = None }) source r ask server t)
     by_reading source None round = quiet (reads (record s { present = None }) source None) (record { index = h.index; chain = h.chain; present = tt })
     by_reading source (Some r) round =
         let k : StepFits (on_answer r s.groups ask server t) = answered_fits r s.groups ask server t round fits in

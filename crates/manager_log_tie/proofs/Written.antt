@@ -79,8 +79,8 @@ fit_still : (s : LogState) → LogFits s → FitAfter (still s)
 unfolding FitAfter
 fit_still s h = h
 
-fit_launched : (s : LogState) (name : SegName) (prior : Prior) (items : List Item) → LogFits s → IsLog name.log.0 → FitsName name → FitsPrior prior → ItemsFit items
-    → FitAfter (launched s name prior items)
+fit_launched : (s : LogState) (name : SegName) (prior : Prior) (items : List Item) → LogFits s → IsLog name.log.0 → FitsName name → FitsPrior prior
+    → ItemsFit items → FitAfter (launched s name prior items)
 unfolding launched FitAfter
 fit_launched s name prior items h log named before fit = record {
   log = h.log;
@@ -107,7 +107,8 @@ fit_seal : (s : LogState) → LogFits s → FitAfter (on_seal s)
 unfolding on_seal
 fit_seal s h =
     by_test FitAfter (is_idle s && nat_lt 0 (length s.dirty) && has_next s.end.seq) (sealed s) (still s)
-    (λ t. nothing (is_idle s) (has_next s.end.seq) (subst (λ cs. (is_idle s && nat_lt 0 (length cs) && has_next s.end.seq) ≡ true) h.none t)) (λ t. fit_still s h)
+    (λ t. nothing (is_idle s) (has_next s.end.seq) (subst (λ cs. (is_idle s && nat_lt 0 (length cs) && has_next s.end.seq) ≡ true) h.none t))
+    (λ t. fit_still s h)
   where
     nothing : (a b : Bool) → (a && nat_lt 0 0 && b) ≡ true → FitAfter (sealed s)
     nothing true b e = contrary e
@@ -204,7 +205,8 @@ after_first s i [] = refl
 after_first s i (x ∷ later) = ap (λ z. (transition z x).state) (after_first s i later)
 
 pub written_after : (s : LogState) (i : Input) → StaysWritten s → InputFits i → StaysWritten (transition s i).state
-written_after s i h fits later all = subst (λ z. IfSome z.flight (λ f. IsWritten f.segment)) (sym (after_first s i later)) (h (later ++ i ∷ []) (appended later i all fits))
+written_after s i h fits later all =
+    subst (λ z. IfSome z.flight (λ f. IsWritten f.segment)) (sym (after_first s i later)) (h (later ++ i ∷ []) (appended later i all fits))
 
 pub writes_text : (s : LogState) (i : Input) → StaysWritten s → InputFits i → WritesText (transition s i)
 writes_text s i h fits = h (i ∷ []) (fits, tt)

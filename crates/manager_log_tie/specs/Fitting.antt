@@ -82,8 +82,8 @@ TableFits table = AllByRecursion SlotFits table
 
 -- ---- packets
 
--- The numbers of a packet are in the ranges of their types, as those of each packet that a program holds: besides those of what comes to the cleaner (the row that
--- a Live tells, the bytes of a fragment, the ids of the groups of a map), those of the rows of Deltas.
+-- The numbers of a packet are in the ranges of their types, as those of each packet that a program holds: besides those of what comes to the cleaner (the row
+-- that a Live tells, the bytes of a fragment, the ids of the groups of a map), those of the rows of Deltas.
 abbrev pub InRange : Body → Type 0
 InRange (body.Deltas m) = RowsFit m.rows
 InRange b = for_cleaner.InRange b

@@ -1,5 +1,5 @@
--- How a manager is seen as the owner of its log in the small world of that log. It opens no log: while it is down, or awaits the Welcome of its restart, the owner
--- is down, and at that Welcome the log begins anew.
+-- How a manager is seen as the owner of its log in the small world of that log. It opens no log: while it is down, or awaits the Welcome of its restart, the
+-- owner is down, and at that Welcome the log begins anew.
 use Rattle.std.specs.Prelude.{◌≡◌, ◌≤◌, ◌<◌, ◌^◌, ℕ}
 use Rattle.manager_node.specs.declared.lasting.Lasting.{Lasting as Kept}
 use Rattle.manager_node.specs.declared.phase.Phase.{Phase}
