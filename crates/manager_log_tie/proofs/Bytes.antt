@@ -28,7 +28,7 @@ use Rattle.stripe_code.specs.Round.{RoundSoFar, has_answered, taken, bytes_told,
 use Rattle.stripe_code.specs.Stripe.{plain, weighted}
 use Rattle.cleaner_log_tie.specs.Fitting.{ToldFits, RoundFits}
 
-abbrev Bytes : List ℕ → Type 0
+abbrev pub Bytes : List ℕ → Type 0
 Bytes xs = AllByRecursion (λ (byte : ℕ). byte < 256) xs
 
 abbrev PartBytes : Option (List ℕ) → Type 0
@@ -55,7 +55,7 @@ each_below (x ∷ xs) all (suc i) = each_below xs all.1 i
 
 -- ---- sums and products
 
-xor_bytes : (xs ys : List ℕ) → Bytes xs → Bytes ys → Bytes (xor_of xs ys)
+pub xor_bytes : (xs ys : List ℕ) → Bytes xs → Bytes ys → Bytes (xor_of xs ys)
 xor_bytes [] ys a b = tt
 xor_bytes (x ∷ xs) [] a b = tt
 xor_bytes (x ∷ xs) (y ∷ ys) a b = (xor_of_8 x y a.0 b.0, xor_bytes xs ys a.1 b.1)
@@ -75,7 +75,7 @@ product_byte (suc bits) by x less =
     xor_of_8 (by % 2 * x) (product_of bits (by / 2) (doubled x)) (bit_times (by % 2) x (omega arith) less)
     (product_byte bits (by / 2) (doubled x) (doubled_byte x))
 
-times_bytes : (by : ℕ) (xs : List ℕ) → Bytes xs → Bytes (times by xs)
+pub times_bytes : (by : ℕ) (xs : List ℕ) → Bytes xs → Bytes (times by xs)
 unfolding product
 times_bytes by [] all = tt
 times_bytes by (x ∷ xs) all = (product_byte 8 by x all.0, times_bytes by xs all.1)

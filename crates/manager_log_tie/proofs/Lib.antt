@@ -14,3 +14,4 @@ mod Serving
 mod Renewed
 mod Phases
 mod Starts
+mod Told

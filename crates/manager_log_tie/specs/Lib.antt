@@ -1,3 +1,4 @@
 pub mod Fitting
 pub mod Owner
 pub mod OwnerEvents
+pub mod Told

@@ -3,6 +3,9 @@
 #![tactic(auto)]
 
 ghost use Rattle.manager_log_tie.specs.OwnerEvents.{ManagerStarts, ManagerTakes};
+ghost use Rattle.manager_log_tie.specs.Told.{WhatIsToldIsInRange};
+
+use log_law::one_name_one_text;
 
 /// What an event makes of a manager is a run of the small world of its log, by its owner alone, if the packet that comes was sent there. It opens no log: while
 /// it is down, or awaits the Welcome of its restart, the owner is down, and at that Welcome the log begins anew.
@@ -17,3 +20,11 @@ pub fn manager_log_events_are_seen()
     ensures start { ManagerStarts }
     ensures events { ManagerTakes }
 {}
+
+/// What was stored and told of a log is in range: at each moment of every run of its small world each segment that was in flight has a text, and each fragment
+/// that was sent to be stored, or as what is held, is bytes. So a fragment that comes to one that reads a segment is in range by the small world of its log.
+pub fn what_is_told_is_in_range()
+    ensures { WhatIsToldIsInRange }
+{
+    one_name_one_text();
+}
