@@ -1,5 +1,5 @@
 //! What a manager does in one event, as what the owner of its log does in the small world of that log (`log_law`), as `client_log_tie` says it of a client. It
-//! has no code: the function below has an empty body, and its contract is a law. `specs/Owner.antt` says how a manager is seen there.
+//! has no code: each function below calls the laws that it stands on, and its contract is a law. `specs/Owner.antt` says how a manager is seen there.
 #![tactic(auto)]
 
 ghost use Rattle.manager_log_tie.specs.OwnerEvents.{ManagerStarts, ManagerTakes};
