@@ -39,7 +39,7 @@ use Rattle.xfs_base.specs.Limits.{u32_end}
 use Rattle.xfs_base.specs.Steps.{still, after}
 use Rattle.node_tie.specs.Asks.{AsksForCall}
 use Rattle.node_tie.specs.ClientEvents.{SeesServing, ClientStands, GetsBody, ServingReads, ClientGets, ClientGoes}
-use Rattle.node_tie.specs.ClientLogs.{FiledStay, LogAgrees}
+use Rattle.node_tie.specs.ClientLogs.{FiledStay, LogAgrees, end_upto}
 use Rattle.node_tie.specs.LogRows.{rows_flown, rows_waiting}
 use Rattle.node_tie.specs.Sight.{ClientDoes}
 use Rattle.node_tie.proofs.ClientBlocks as blocks
@@ -158,28 +158,27 @@ module _ (logs : Bool) (members part most c life top : ℕ) (small : part < 8) (
 
 -- ---- as the small world sees it
 
--- the end that the log of a client may have after an event
-abbrev pub end_upto : ℕ → Option FlightState → ℕ
-end_upto end None = end
-end_upto end (Some f) = end + 1
-
 -- what is filed in an event was in flight before it
-filed_stay : (k m : Books) (c : ℕ) (flight : Option FlightState) → Onward k m c → k.flying c ≡ is_some flight → m.end c ≤ end_upto (k.end c) flight → FiledStay k m c
-filed_stay k m c None on flies low q upto = on.past q (below q (m.end c) (k.end c) upto low)
+filed_stay : (k m : Books) (c : ℕ) (flight : Option FlightState) → Onward k m c → k.flying c ≡ is_some flight → m.end c ≤ end_upto (k.end c) flight
+    → FiledStay k m c flight
+filed_stay k m c flight on flies low = record { rises = on.rises; upto = low; rows = λ q upto. by_flight flight flies low q upto }
   where
     below : (q a b : ℕ) → q ≤ a → a ≤ b → q ≤ b
     below q a b h i = omega (arith, h, i)
-filed_stay k m c (Some f) on flies low q upto = by_end (nat_le q (k.end c)) refl
-  where
+
     within : (q e : ℕ) → nat_le q e ≡ true → q ≤ e
     within q e t = grind (arith, nat_tests)
 
     next : (q e end : ℕ) → nat_le q e ≡ false → q ≤ end → end ≤ e + 1 → suc e ≡ q
     next q e end t h i = grind (arith, nat_tests)
 
-    by_end : (t : Bool) → nat_le q (k.end c) ≡ t → m.rows c q ≡ k.rows c q
-    by_end true t = on.past q (within q (k.end c) t)
-    by_end false t = subst (λ x. m.rows c x ≡ k.rows c x) (next q (k.end c) (m.end c) t upto low) (on.flown flies)
+    by_end : k.flying c ≡ true → m.end c ≤ k.end c + 1 → (q : ℕ) → q ≤ m.end c → (t : Bool) → nat_le q (k.end c) ≡ t → m.rows c q ≡ k.rows c q
+    by_end flies low q upto true t = on.past q (within q (k.end c) t)
+    by_end flies low q upto false t = subst (λ x. m.rows c x ≡ k.rows c x) (next q (k.end c) (m.end c) t upto low) (on.flown flies)
+
+    by_flight : (o : Option FlightState) → k.flying c ≡ is_some o → m.end c ≤ end_upto (k.end c) o → (q : ℕ) → q ≤ m.end c → m.rows c q ≡ k.rows c q
+    by_flight None flies low q upto = on.past q (below q (m.end c) (k.end c) upto low)
+    by_flight (Some f) flies low q upto = by_end flies low q upto (nat_le q (k.end c)) refl
 
 module _ (logs : Bool) (members part most c : ℕ) (n : Net) (s : Serving) where
   abbrev pub top : ℕ
@@ -258,10 +257,10 @@ module _ (logs : Bool) (members part most c : ℕ) (n : Net) (s : Serving) where
 
   -- what was filed stays
   log_goes : SeesServing logs part c n s → (d : Done) (p : frames.Goes logs members part most c s.lasting.inc 0 top n d)
-      → Premise logs (FiledStay n.books p.next.books c)
+      → Premise logs (FiledStay n.books p.next.books c s.log.flight)
   log_goes before d p =
       premise_both logs
-      (λ (g : LogAgrees n.books c s.tokens s.log) (f : LogAgrees n.books c s.tokens s.log → FiledStay n.books p.next.books c). f g) before.logged
+      (λ (g : LogAgrees n.books c s.tokens s.log) (f : LogAgrees n.books c s.tokens s.log → FiledStay n.books p.next.books c s.log.flight). f g) before.logged
       (premise_both logs
       (λ (on : Onward n.books p.next.books c) (low : p.next.books.end c ≤ top) (g : LogAgrees n.books c s.tokens s.log).
       filed_stay n.books p.next.books c s.log.flight on g.seen.flying

@@ -2,6 +2,7 @@
 use Rattle.std.proofs.Common.{◌≡◌, ◌≤◌, ◌<◌, ◌⊎◌, ℕ, ◌+◌, Bool, true, cond, List, [], ◌∷◌, Option, Some, None, nat_lt, refl, arith, inl, inr}
 use Rattle.std.proofs.lemmas.Bool.Decides.{nat_tests}
 use Rattle.std.proofs.lemmas.List.Elements.{All-nil, All-cons}
+use Rattle.client_log.specs.LogState.{FlightState}
 use Rattle.client_node.specs.declared.lasting.Lasting.{Lasting}
 use Rattle.client_node.specs.declared.phase.Phase.{Phase}
 use Rattle.client_node.specs.declared.phase.Phase.TheVariants.{Down, Opening, Serving as Serves}
@@ -15,6 +16,7 @@ use Rattle.node_base.specs.declared.effects.Effect.TheVariants.{Answer as Answer
 use Rattle.node_base.specs.Effects.{acts_of}
 use Rattle.node_base.specs.Room.{has_room}
 use Rattle.token_client.specs.State.{epoch_of}
+use Rattle.token_law.specs.Books.{Books}
 use Rattle.token_law.specs.Net.{Net, acted}
 use Rattle.token_protocol.specs.Premises.{Premise}
 use Rattle.version_model.specs.declared.act.Act.{Act}
@@ -26,6 +28,7 @@ use Rattle.xfs_base.specs.declared.node.NodeId.TheVariants.{Client}
 use Rattle.xfs_base.specs.Limits.{u32_end}
 use Rattle.xfs_base.specs.Steps.{still}
 use Rattle.node_tie.specs.ClientEvents.{AwaitsFirst, SeesDown, Raises, ClientAgrees, PromisesWithin, ClientStands, BeginsLater, SaysBack, LogGoes, ClientGoes}
+use Rattle.node_tie.specs.ClientLogs.{end_upto}
 use Rattle.node_tie.proofs.ClientFalls.{all_did}
 use Rattle.node_tie.proofs.ClientFrames as frames
 use Rattle.node_tie.proofs.ClientOpening.{plain_does}
@@ -101,10 +104,14 @@ module _ (logs : Bool) (members part most c : ℕ) (small : part < 8) (pos : 0 <
   back_same (Opening l o) outs = tt
   back_same (Serves s) outs = tt
 
+  end_within : (k : Books) (l : ℕ) (o : Option FlightState) → k.end l ≤ end_upto (k.end l) o
+  end_within k l None = omega arith
+  end_within k l (Some f) = omega arith
+
   log_same : (p : Phase) → LogGoes n n.books c [] p p
   log_same (Down l) = refl
   log_same (Opening l o) = refl
-  log_same (Serves s) = λ q upto. refl
+  log_same (Serves s) = record { rises = omega arith; upto = end_within n.books c s.log.flight; rows = λ q upto. refl }
 
   pub still_so : (p : Phase) → ClientAgrees logs part c n p → ClientStands part most c n p → Goes p (still p)
   still_so p agrees h = stays_so p p [] agrees h.within h.promises (omega arith) (begins_same p) (back_same p []) (premise logs (log_same p))

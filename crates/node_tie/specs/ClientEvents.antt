@@ -139,6 +139,7 @@ module _ (part most c : ℕ) (n : Net) where
   ServingReads s packet (body.Missing m) = Tells n.books s packet.from m.ask (told.Missing m.generation)
   ServingReads s packet _ = Unit {0}
 
+  -- what a packet brings of logs, in each phase
   abbrev pub ReadsSo : Phase → packets.Packet → Type 0
   ReadsSo (Down l) packet = Unit {0}
   ReadsSo (Opening l o) packet = EndsSo n.books n.acts c (opens.on_packet o l.questions packet).progress
@@ -187,7 +188,7 @@ abbrev pub LogGoes : Net → Books → ℕ → List Effect → Phase → Phase �
 LogGoes n k c outs (Down l) (Serves s) = ⊥
 LogGoes n k c outs (Opening l o) (Serves s) =
     (chain : List SegName) × (count : ℕ) × In (Does (act.Back c chain)) outs × (k ≡ with_empty count (reopened n.books c (adopts n.acts c chain)) c)
-LogGoes n k c outs (Serves r) (Serves s) = FiledStay n.books k c
+LogGoes n k c outs (Serves r) (Serves s) = FiledStay n.books k c r.log.flight
 LogGoes n k c outs p (Down l) = k ≡ n.books
 LogGoes n k c outs p (Opening l o) = k ≡ n.books
 

@@ -1,7 +1,7 @@
 -- How the log of a client is seen in the small world, and beside the tokens: what waits to be written, and what is in flight.
-use Rattle.std.specs.Prelude.{◌≡◌, ◌⊎◌, ◌<◌, ◌≤◌, ℕ, suc, true, List, [], Option, Some, None}
+use Rattle.std.specs.Prelude.{◌≡◌, ◌⊎◌, ◌<◌, ◌≤◌, ℕ, suc, ◌+◌, true, List, [], Option, Some, None}
 use Rattle.std.specs.List.{AllByRecursion}
-use Rattle.client_log.specs.LogState.{LogState}
+use Rattle.client_log.specs.LogState.{FlightState, LogState}
 use Rattle.client_node.specs.declared.serving.Serving.{Serving}
 use Rattle.client_node.specs.Packets.{block_read, heard}
 use Rattle.client_node.specs.Reads.{reading_in, value_at}
@@ -55,9 +55,17 @@ pub record LogAgrees (k : Books) (c : ℕ) (t : TokensState) (l : LogState) : Ty
   pub beyond : NothingBeyond k c
   pub unsettled : WritesUnsettled t l
 
--- of this log no segment up to the end that it has then says anything else than before
-abbrev pub FiledStay : Books → Books → ℕ → Type 0
-FiledStay k m l = (q : ℕ) → q ≤ m.end l → m.rows l q ≡ k.rows l q
+-- the end that a log may have after an event: the next one, where that was in flight
+abbrev pub end_upto : ℕ → Option FlightState → ℕ
+end_upto end None = end
+end_upto end (Some f) = end + 1
+
+-- What is filed of a log in an event was in flight before it: the end doesn't fall, and rises to that at most; and no segment up to it says anything else than
+-- before.
+pub record FiledStay (k m : Books) (l : ℕ) (flight : Option FlightState) : Type 0 where
+  pub rises : k.end l ≤ m.end l
+  pub upto : m.end l ≤ end_upto (k.end l) flight
+  pub rows : (q : ℕ) → q ≤ m.end l → m.rows l q ≡ k.rows l q
 
 -- ---- what the world owes
 
@@ -88,6 +96,7 @@ pub record ReopensSo (k : Books) (acts : List Act) (c : ℕ) (o : Opened) : Type
   pub nothing_waits : o.log.dirty ≡ []
   pub nothing_flies : o.log.flight ≡ None
 
+-- so it is where an opening ends
 abbrev pub EndsSo : Books → List Act → ℕ → Progress → Type 0
 EndsSo k acts c (progress.Opened o) = ReopensSo k acts c o
 EndsSo k acts c (progress.Opening o) = Unit {0}
