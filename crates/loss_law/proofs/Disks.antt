@@ -1,0 +1,48 @@
+-- A filed segment that is torn has lost disks: who lacks its fragment is of a later generation, since logs stay whole.
+use Rattle.std.proofs.Common.{◌≡◌, ℕ, ◌<◌, ◌⊎◌, Bool, true, nat_lt, is_none, Option, Some, None, length, inl, inr, arith}
+use Rattle.std.specs.List.{count_by}
+use Rattle.std.specs.Prelude.{slice_index_or}
+use Rattle.std.proofs.lemmas.Bool.Decides.{nat_tests}
+use Rattle.xfs_base.specs.declared.fragment.Fragment.{Fragment}
+use Rattle.xfs_base.proofs.Booleans.{contrary}
+use Rattle.segment_format.specs.declared.segment.Segment.{Segment}
+use Rattle.group_map.specs.declared.group.Member.{Member}
+use Rattle.fragment_store.specs.ShelfState.{held_at}
+use Rattle.client_log.specs.Transition.{no_member}
+use Rattle.log_protocol.specs.Tables.{In}
+use Rattle.log_tie.specs.Setting.{Setting, fragment_of}
+use Rattle.log_tie.specs.Seen.{members_of}
+use Rattle.log_law.specs.Net.{Net}
+use Rattle.log_law.specs.Laws.{Moment, Holds, IsLater, LogsStayWhole}
+use Rattle.loss_law.specs.Losses.{IsTorn, ref_of, ATornSegmentLostDisks}
+use Rattle.loss_law.proofs.Counting.{counted_places}
+
+lacks_none : (o : Option Fragment) (f : Fragment) → o ≡ Some f → is_none o ≡ true → ⊥
+lacks_none None f e none = absurd cc
+lacks_none (Some h) f e none = contrary none
+
+is_less : (a b : ℕ) → a < b → nat_lt a b ≡ true
+is_less a b less = grind (arith, nat_tests)
+
+module _ (whole : LogsStayWhole) (g : Setting) (n : Net) (moment : Moment g n) (s : Segment) (is : In s n.flown) (filed : In s.name n.filed) (torn : IsTorn g (ref_of s) n) where
+  abbrev lack : Member → Bool
+  lack m = is_none (held_at (n.shelves m.server).held s.name)
+
+  abbrev later : Member → Bool
+  later m = nat_lt m.generation (n.shelves m.server).generation
+
+  abbrev at : ℕ → Member
+  at place = slice_index_or (members_of g s) place no_member
+
+  each_later : (place : ℕ) → place < length (members_of g s) → lack (at place) ≡ true → later (at place) ≡ true
+  each_later place within lacks = by ((whole g n moment).whole s is filed torn.kept place within)
+    where
+      by : Holds g n s place ⊎ IsLater g n s place → later (at place) ≡ true
+      by (inl holds) = absurd (lacks_none (held_at (n.shelves (at place).server).held s.name) (fragment_of g s place) holds lacks)
+      by (inr less) = is_less (at place).generation (n.shelves (at place).server).generation less
+
+  pub lost_disks : (g.stripe s.group).parity < count_by later (members_of g s)
+  lost_disks = let a = counted_places lack later (members_of g s) each_later in let b = torn.torn in omega arith
+
+pub a_torn_segment_lost_disks : LogsStayWhole → ATornSegmentLostDisks
+a_torn_segment_lost_disks whole g n moment s is filed torn = lost_disks whole g n moment s is filed torn

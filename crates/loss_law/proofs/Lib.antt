@@ -1,0 +1,14 @@
+mod Counting
+mod Pairs
+mod Shelves
+mod Growing
+mod Asking
+mod Events
+mod Interval
+mod Torn
+mod Kept
+mod Answering
+mod Readings
+mod Inputs
+mod Losing
+mod Disks

@@ -1,0 +1,112 @@
+-- In every run what is known of an opening stays so, and so what a reopening says is lost was torn.
+use Rattle.std.proofs.Common.{◌≡◌, suc, List, [], ◌∷◌, refl, sym, ap, subst, inl, inr}
+use Rattle.xfs_base.specs.declared.segment.SegName.{SegName}
+use Rattle.group_map.specs.GroupMapState.{GroupMapState}
+use Rattle.log_scan.specs.declared.input.In.{In as Input}
+use Rattle.log_scan.specs.declared.output.Out.{Out}
+use Rattle.log_scan.specs.declared.output.Out.TheVariants.{Hello, Fence, Fetch, Chain, Lost}
+use Rattle.log_scan.specs.ScanState.{ScanState, started}
+use Rattle.log_scan.specs.Transition as scan
+use Rattle.client_log.specs.Transition as log
+use Rattle.log_protocol.specs.Tables.{In}
+use Rattle.log_tie.specs.Setting.{Setting}
+use Rattle.log_law.specs.Net.{Net, opening, after_scan}
+use Rattle.log_law.specs.Net.Owner.{Opening}
+use Rattle.log_law.specs.Events.{CameToScan, Happens, Runs}
+use Rattle.log_law.specs.Events.Happens.{Acts, Writes, Opens, Crashes, Restarts, Renews, Serves, Bars, Lists, Hears, Raises, Publishes, Welcomes, Drops}
+use Rattle.log_law.specs.Events.Runs.{Begun, On}
+use Rattle.loss_law.specs.Losses.{is_opening, Takes, IsTrue, MissingsTrue, IsEarned, AReopeningLosesWhatIsTorn}
+use Rattle.loss_law.proofs.Growing.{Base}
+use Rattle.loss_law.proofs.Events.{opened_to, same_boot, writes_none, grows, base_then}
+use Rattle.loss_law.proofs.Kept.{StageKept, Kept, stage_on}
+use Rattle.loss_law.proofs.Readings.{Loses, Goes}
+use Rattle.loss_law.proofs.Inputs.{takes_goes}
+
+-- an event that leaves the owner alone
+module _ (g : Setting) (start n o : Net) (run : Runs g start n) (base : Base g n) (e : Happens g n o) (kept : Kept g run) where
+  aside : o.inc ≡ n.inc → o.owner ≡ n.owner → Kept g (On run e)
+  aside boot owner s is = stage_on g start n o run e (grows g n o base e) boot (ap is_opening is) s.opening.ask s.stage (kept s (sym_owner owner is))
+    where
+      sym_owner : o.owner ≡ n.owner → o.owner ≡ Opening s → n.owner ≡ Opening s
+      sym_owner a b = cc
+
+goes_of : (g : Setting) (start n : Net) (run : Runs g start n) (base : Base g n) (s : ScanState) (i : Input) (is : n.owner ≡ Opening s) (came : CameToScan g n i) (e : Happens g n (after_scan g n s (scan.transition s i))) → IsTrue run s i → Kept g run
+    → Goes g start n (after_scan g n s (scan.transition s i)) run e (grows g n _ base e) (same_boot g n s (scan.transition s i)) base s is (scan.transition s i)
+goes_of g start n run base s i is came e truth kept = takes_goes g start n (after_scan g n s (scan.transition s i)) run e (grows g n _ base e) (same_boot g n s (scan.transition s i)) base s is i came truth (kept s is)
+
+kept_then : (g : Setting) (start n o : Net) (run : Runs g start n) (base : Base g n) (e : Happens g n o) → ((s : ScanState) (i : Input) → Takes e s i → IsTrue run s i) → Kept g run → Kept g (On run e)
+kept_then g start n o run base (Acts s i is came texts) truth kept t at = absurd cc
+kept_then g start n o run base (Writes chain s i is came texts) truth kept t at = absurd (writes_none g n chain (log.transition s i) (log.transition s i).state.flight t at)
+kept_then g start n o run base (Opens s i is came can) truth kept t at =
+    let d = scan.transition s i in
+    let goes = goes_of g start n run base s i is came (Opens s i is came can) (truth s i (refl, refl)) kept in
+    subst (λ (z : ScanState). StageKept g (On run (Opens s i is came can)) z.opening.ask z.stage) (sym (opened_to g n s d t at)) (goes.kept (ap is_opening at))
+kept_then g start n o run base Crashes truth kept t at = absurd cc
+kept_then g start n o run base (Restarts is) truth kept t at = subst (λ (z : ScanState). StageKept g (On run (Restarts is)) z.opening.ask z.stage) (same at) tt
+  where
+    same : Opening (started g.log (suc n.inc)) ≡ Opening t → started g.log (suc n.inc) ≡ t
+    same e = cc
+kept_then g start n o run base (Renews m high doubts is came) truth kept t at = absurd cc
+kept_then g start n o run base (Serves v deed some came) truth kept t at = aside g start n o run base (Serves v deed some came) kept refl refl t at
+kept_then g start n o run base (Bars v l pass) truth kept t at = aside g start n o run base (Bars v l pass) kept refl refl t at
+kept_then g start n o run base (Lists v) truth kept t at = aside g start n o run base (Lists v) kept refl refl t at
+kept_then g start n o run base (Hears v generation up reached) truth kept t at = aside g start n o run base (Hears v generation up reached) kept refl refl t at
+kept_then g start n o run base (Raises low name up is below) truth kept t at = aside g start n o run base (Raises low name up is below) kept refl refl t at
+kept_then g start n o run base (Publishes m whole) truth kept t at = aside g start n o run base (Publishes m whole) kept refl refl t at
+kept_then g start n o run base (Welcomes inc ask news m is low whole) truth kept t at = aside g start n o run base (Welcomes inc ask news m is low whole) kept refl refl t at
+kept_then g start n o run base (Drops lists meta is among below) truth kept t at = aside g start n o run base (Drops lists meta is among below) kept refl refl t at
+
+-- ---- every run
+
+record Known (g : Setting) {start n : Net} (run : Runs g start n) : Type 0 where
+  base : Base g n
+  kept : Kept g run
+
+known : (g : Setting) (start n : Net) (run : Runs g start n) → Base g start → Kept g (Begun {n = start}) → MissingsTrue run → Known g run
+known g start n Begun base kept truth = record { base = base; kept = kept }
+known g start n (On {m = m} run e) base kept truth = on (known g start m run base kept truth.0)
+  where
+    on : Known g run → Known g (On run e)
+    on k = record { base = base_then g m n k.base e; kept = kept_then g start m n run k.base e truth.1 k.kept }
+
+first_base : (g : Setting) (m : GroupMapState) → Base g (opening g m)
+first_base g m = record { packets = λ p is. absurd is; below = λ name is. absurd is; opening = λ s is. absurd cc }
+
+lost_in : (P : SegName → Type 0) (outs : List Out) → Loses P outs → (name : SegName) → In (Lost name) outs → P name
+lost_in P [] all name is = absurd is
+lost_in P (Hello ask ∷ outs) all name (inl e) = absurd cc
+lost_in P (Hello ask ∷ outs) all name (inr is) = lost_in P outs all name is
+lost_in P (Fence server ∷ outs) all name (inl e) = absurd cc
+lost_in P (Fence server ∷ outs) all name (inr is) = lost_in P outs all name is
+lost_in P (Fetch server segment ask ∷ outs) all name (inl e) = absurd cc
+lost_in P (Fetch server segment ask ∷ outs) all name (inr is) = lost_in P outs all name is
+lost_in P (Chain segments end prior ∷ outs) all name (inl e) = absurd cc
+lost_in P (Chain segments end prior ∷ outs) all name (inr is) = lost_in P outs all name is
+lost_in P (Lost other ∷ outs) all name (inl e) = subst P (same e) all.0
+  where
+    same : Lost name ≡ Lost other → other ≡ name
+    same e = cc
+lost_in P (Lost other ∷ outs) all name (inr is) = lost_in P outs all.1 name is
+
+earned : (g : Setting) (start n o : Net) (run : Runs g start n) (k : Known g run) (e : Happens g n o) → ((s : ScanState) (i : Input) → Takes e s i → IsTrue run s i) → (s : ScanState) (i : Input) → Takes e s i → (name : SegName) → In (Lost name) (scan.transition s i).outs → IsEarned g run s name
+earned g start n o run k (Acts s i is came texts) truth t j takes name lost = absurd takes
+earned g start n o run k (Writes chain s i is came texts) truth t j takes name lost = absurd takes
+earned g start n o run k (Opens s i is came can) truth t j takes name lost =
+    let goes = goes_of g start n run k.base s i is came (Opens s i is came can) (truth s i (refl, refl)) k.kept in
+    let said : In (Lost name) (scan.transition s i).outs = subst (λ z. In (Lost name) (scan.transition s z).outs) (sym takes.1) (subst (λ z. In (Lost name) (scan.transition z j).outs) (sym takes.0) lost) in
+    subst (λ z. IsEarned g run z name) takes.0 (lost_in (IsEarned g run s) (scan.transition s i).outs goes.lost name said)
+earned g start n o run k Crashes truth t j takes name lost = absurd takes
+earned g start n o run k (Restarts is) truth t j takes name lost = absurd takes
+earned g start n o run k (Renews m high doubts is came) truth t j takes name lost = absurd takes
+earned g start n o run k (Serves v deed some came) truth t j takes name lost = absurd takes
+earned g start n o run k (Bars v l pass) truth t j takes name lost = absurd takes
+earned g start n o run k (Lists v) truth t j takes name lost = absurd takes
+earned g start n o run k (Hears v generation up reached) truth t j takes name lost = absurd takes
+earned g start n o run k (Raises low segment up is below) truth t j takes name lost = absurd takes
+earned g start n o run k (Publishes m whole) truth t j takes name lost = absurd takes
+earned g start n o run k (Welcomes inc ask news m is low whole) truth t j takes name lost = absurd takes
+earned g start n o run k (Drops lists meta is among below) truth t j takes name lost = absurd takes
+
+pub a_reopening_loses_what_is_torn : AReopeningLosesWhatIsTorn
+a_reopening_loses_what_is_torn g n o m happens truth s i takes name lost =
+    earned g (opening g m.map) n o m.run (known g (opening g m.map) n m.run (first_base g m.map) (λ t at. absurd cc) truth.0) happens truth.1 s i takes name lost
