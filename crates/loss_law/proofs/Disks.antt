@@ -1,9 +1,10 @@
 -- A filed segment that is torn has lost disks: who lacks its fragment is of a later generation, since logs stay whole.
-use Rattle.std.proofs.Common.{◌≡◌, ℕ, ◌<◌, ◌⊎◌, Bool, true, nat_lt, is_none, Option, Some, None, length, inl, inr, arith}
+use Rattle.std.proofs.Common.{◌≡◌, ℕ, ◌<◌, ◌⊎◌, Bool, true, nat_lt, is_none, Option, Some, None, length, inl, inr, arith, sym, subst}
 use Rattle.std.specs.List.{count_by}
 use Rattle.std.specs.Prelude.{slice_index_or}
 use Rattle.std.proofs.lemmas.Bool.Decides.{nat_tests}
 use Rattle.xfs_base.specs.declared.fragment.Fragment.{Fragment}
+use Rattle.xfs_base.specs.declared.segment.SegRef.{SegRef}
 use Rattle.xfs_base.proofs.Booleans.{contrary}
 use Rattle.segment_format.specs.declared.segment.Segment.{Segment}
 use Rattle.group_map.specs.declared.group.Member.{Member}
@@ -13,8 +14,10 @@ use Rattle.log_protocol.specs.Tables.{In}
 use Rattle.log_tie.specs.Setting.{Setting, fragment_of}
 use Rattle.log_tie.specs.Seen.{members_of}
 use Rattle.log_law.specs.Net.{Net}
+use Rattle.log_law.specs.Events.{Runs}
+use Rattle.log_law.specs.Events.Runs.{Begun, On}
 use Rattle.log_law.specs.Laws.{Moment, Holds, IsLater, LogsStayWhole}
-use Rattle.loss_law.specs.Losses.{IsTorn, ref_of, ATornSegmentLostDisks}
+use Rattle.loss_law.specs.Losses.{Once, is_opening, IsTorn, IsLost, ref_of, disks_lost, ATornSegmentLostDisks}
 use Rattle.loss_law.proofs.Counting.{counted_places}
 
 lacks_none : (o : Option Fragment) (f : Fragment) → o ≡ Some f → is_none o ≡ true → ⊥
@@ -46,3 +49,19 @@ module _ (whole : LogsStayWhole) (g : Setting) (n : Net) (moment : Moment g n) (
 
 pub a_torn_segment_lost_disks : LogsStayWhole → ATornSegmentLostDisks
 a_torn_segment_lost_disks whole g n moment s is filed torn = lost_disks whole g n moment s is filed torn
+
+-- what was torn once was lost then
+module _ (whole : LogsStayWhole) (g : Setting) (segment : SegRef) where
+  lost_then : (p : Net) → Moment g p → IsTorn g segment p → IsLost g segment p
+  lost_then p moment torn = record {
+    torn = torn;
+    disks = λ s is filed same. subst (λ z. (g.stripe z.group).parity < disks_lost g p z) same (a_torn_segment_lost_disks whole g p moment s is filed (subst (λ z. IsTorn g z p) (sym same) torn));
+  }
+
+  pub once_lost : (start n : Net) (run : Runs g start n) → ((p : Net) → Runs g start p → Moment g p) → Once is_opening (IsTorn g segment) run → Once is_opening (IsLost g segment) run
+  once_lost start n Begun to once = (once.0, lost_then start (to start Begun) once.1)
+  once_lost start n (On {m = m} run e) to once = (once.0, by (once_lost start m run to) once.1)
+    where
+      by : (Once is_opening (IsTorn g segment) run → Once is_opening (IsLost g segment) run) → IsTorn g segment n ⊎ Once is_opening (IsTorn g segment) run → IsLost g segment n ⊎ Once is_opening (IsLost g segment) run
+      by before (inl now) = inl (lost_then n (to n (On run e)) now)
+      by before (inr old) = inr (before old)

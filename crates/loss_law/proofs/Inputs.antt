@@ -26,11 +26,11 @@ use Rattle.log_law.specs.Net.Packet.{MapSent, WelcomeSent}
 use Rattle.log_law.specs.Net.Owner.{Opening}
 use Rattle.log_law.specs.Events.{CameToScan, Happens, Runs}
 use Rattle.log_law.specs.Events.Runs.{On}
-use Rattle.loss_law.specs.Losses.{IsTrue, IsEarned}
+use Rattle.loss_law.specs.Losses.{IsTrue}
 use Rattle.loss_law.proofs.Pairs.{ToldSo}
 use Rattle.loss_law.proofs.Growing.{AreNamed, Base, Grows}
 use Rattle.loss_law.proofs.Interval.{Between}
-use Rattle.loss_law.proofs.Kept.{Asks_on, Doubts, ReadingKept, ReadKept, StageKept, stage_on}
+use Rattle.loss_law.proofs.Kept.{WasTorn, Asks_on, Doubts, ReadingKept, ReadKept, StageKept, stage_on}
 use Rattle.loss_law.proofs.Readings.{Loses, fetches_lose, fences_lose, same_ask, Goes, Like, round_goes, picks_goes, over_goes, confirmed, answered}
 
 at_least : (a b : ℕ) → b ≤ max a b
@@ -47,7 +47,7 @@ module _ (g : Setting) (start n o : Net) (run : Runs g start n) (e : Happens g n
   own = record { ask = refl; log = (base.opening s is).log; groups = (base.opening s is).groups }
 
   -- the opening stays where it stands, with the same question
-  still : (p : OpeningState) (stage : Stage) (outs : List Out) → p.ask ≡ s.opening.ask → StageKept g run s.opening.ask stage → Loses (IsEarned g run s) outs → To (goes p stage outs)
+  still : (p : OpeningState) (stage : Stage) (outs : List Out) → p.ask ≡ s.opening.ask → StageKept g run s.opening.ask stage → Loses (WasTorn g run s) outs → To (goes p stage outs)
   still p stage outs same known quiet = record { kept = λ opens. subst (λ ask. StageKept g (On run e) ask stage) (sym same) (stage_on g start n o run e grows boot opens s.opening.ask stage known); lost = quiet }
 
   -- ---- a Welcome
@@ -75,7 +75,7 @@ module _ (g : Setting) (start n o : Net) (run : Runs g start n) (e : Happens g n
             omega arith
 
     welcomed_goes : (stage : Stage) → s.stage ≡ stage → StageKept g run s.opening.ask stage → To (scan.welcomed (record s.opening { groups = Some m }) stage least)
-    welcomed_goes Hails at k = record { kept = λ opens. tt; lost = fences_lose (IsEarned g run s) (scan.awaited (Some m) []) }
+    welcomed_goes Hails at k = record { kept = λ opens. tt; lost = fences_lose (WasTorn g run s) (scan.awaited (Some m) []) }
     welcomed_goes (Gathers lists) at k = record { kept = λ opens. tt; lost = tt }
     welcomed_goes (Asks lists) at k = picks_goes g start n o run e grows boot base s is risen lists risen_alike
     welcomed_goes (Reads b r) at k = confirms_goes b r at k
@@ -126,14 +126,14 @@ module _ (g : Setting) (start n o : Net) (run : Runs g start n) (e : Happens g n
 
   -- ---- time
 
-  asked_quiet : (r : Option ReadingState) → Loses (IsEarned g run s) (scan.asked_again s.opening r)
+  asked_quiet : (r : Option ReadingState) → Loses (WasTorn g run s) (scan.asked_again s.opening r)
   asked_quiet None = tt
-  asked_quiet (Some r) = by_test (Loses (IsEarned g run s)) (is_asking r.stage) (scan.fetches r) (Hello s.opening.ask ∷ []) (λ t. fetches_lose (IsEarned g run s) r.target.seg.name r.ask (to_ask r)) (λ t. tt)
+  asked_quiet (Some r) = by_test (Loses (WasTorn g run s)) (is_asking r.stage) (scan.fetches r) (Hello s.opening.ask ∷ []) (λ t. fetches_lose (WasTorn g run s) r.target.seg.name r.ask (to_ask r)) (λ t. tt)
 
-  tick_quiet : (stage : Stage) → Loses (IsEarned g run s) (scan.on_tick s.opening stage)
+  tick_quiet : (stage : Stage) → Loses (WasTorn g run s) (scan.on_tick s.opening stage)
   unfolding scan.on_tick
   tick_quiet Hails = tt
-  tick_quiet (Gathers lists) = fences_lose (IsEarned g run s) (scan.awaited s.opening.groups lists)
+  tick_quiet (Gathers lists) = fences_lose (WasTorn g run s) (scan.awaited s.opening.groups lists)
   tick_quiet (Asks lists) = tt
   tick_quiet (Reads b r) = asked_quiet r
   tick_quiet Over = tt

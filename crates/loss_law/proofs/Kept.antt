@@ -19,7 +19,7 @@ use Rattle.log_law.specs.Net.Packet.{HelloSent, WelcomeSent}
 use Rattle.log_law.specs.Net.Owner.{Opening}
 use Rattle.log_law.specs.Events.{Happens, Runs}
 use Rattle.log_law.specs.Events.Runs.{Begun, On}
-use Rattle.loss_law.specs.Losses.{Once, is_opening, has_drawn, LacksIn, IsTorn}
+use Rattle.loss_law.specs.Losses.{Once, is_opening, has_drawn, LacksIn, IsTorn, IsRead}
 use Rattle.loss_law.proofs.Counting.{Each, servers_of}
 use Rattle.loss_law.proofs.Pairs.{Single, AllAsked, AllSo, so_on}
 use Rattle.loss_law.proofs.Growing.{Base, Grows, sent_then}
@@ -136,3 +136,12 @@ module _ (g : Setting) (start n o : Net) (run : Runs g start n) (e : Happens g n
   stage_on ask (Asks lists) k = tt
   stage_on ask (Reads b r) k = read_on ask b r k
   stage_on ask Over k = tt
+
+-- ---- what is said to be lost
+
+-- the name is that of the segment that is read, and at some moment of this opening that was torn
+pub record WasTorn (g : Setting) {n m : Net} (run : Runs g n m) (s : ScanState) (name : SegName) : Type 0 where
+  pub segment : SegRef
+  pub named : name ≡ segment.name
+  pub is_read : IsRead s.stage segment
+  pub once : Once is_opening (IsTorn g segment) run

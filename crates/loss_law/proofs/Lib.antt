@@ -10,5 +10,5 @@ mod Kept
 mod Answering
 mod Readings
 mod Inputs
-mod Losing
 mod Disks
+mod Losing

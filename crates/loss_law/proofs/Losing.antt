@@ -15,12 +15,14 @@ use Rattle.log_law.specs.Net.Owner.{Opening}
 use Rattle.log_law.specs.Events.{CameToScan, Happens, Runs}
 use Rattle.log_law.specs.Events.Happens.{Acts, Writes, Opens, Crashes, Restarts, Renews, Serves, Bars, Lists, Hears, Raises, Publishes, Welcomes, Drops}
 use Rattle.log_law.specs.Events.Runs.{Begun, On}
-use Rattle.loss_law.specs.Losses.{is_opening, Takes, IsTrue, MissingsTrue, IsEarned, AReopeningLosesWhatIsTorn}
+use Rattle.log_law.specs.Laws.{LogsStayWhole}
+use Rattle.loss_law.specs.Losses.{is_opening, Takes, IsTrue, MissingsTrue, AReopeningLosesWhatIsTorn}
 use Rattle.loss_law.proofs.Growing.{Base}
 use Rattle.loss_law.proofs.Events.{opened_to, same_boot, writes_none, grows, base_then}
-use Rattle.loss_law.proofs.Kept.{StageKept, Kept, stage_on}
+use Rattle.loss_law.proofs.Kept.{StageKept, Kept, WasTorn, stage_on}
 use Rattle.loss_law.proofs.Readings.{Loses, Goes}
 use Rattle.loss_law.proofs.Inputs.{takes_goes}
+use Rattle.loss_law.proofs.Disks.{once_lost}
 
 -- an event that leaves the owner alone
 module _ (g : Setting) (start n o : Net) (run : Runs g start n) (base : Base g n) (e : Happens g n o) (kept : Kept g run) where
@@ -88,25 +90,26 @@ lost_in P (Lost other ∷ outs) all name (inl e) = subst P (same e) all.0
     same e = cc
 lost_in P (Lost other ∷ outs) all name (inr is) = lost_in P outs all.1 name is
 
-earned : (g : Setting) (start n o : Net) (run : Runs g start n) (k : Known g run) (e : Happens g n o) → ((s : ScanState) (i : Input) → Takes e s i → IsTrue run s i) → (s : ScanState) (i : Input) → Takes e s i → (name : SegName) → In (Lost name) (scan.transition s i).outs → IsEarned g run s name
-earned g start n o run k (Acts s i is came texts) truth t j takes name lost = absurd takes
-earned g start n o run k (Writes chain s i is came texts) truth t j takes name lost = absurd takes
-earned g start n o run k (Opens s i is came can) truth t j takes name lost =
+torn : (g : Setting) (start n o : Net) (run : Runs g start n) (k : Known g run) (e : Happens g n o) → ((s : ScanState) (i : Input) → Takes e s i → IsTrue run s i) → (s : ScanState) (i : Input) → Takes e s i → (name : SegName) → In (Lost name) (scan.transition s i).outs → WasTorn g run s name
+torn g start n o run k (Acts s i is came texts) truth t j takes name lost = absurd takes
+torn g start n o run k (Writes chain s i is came texts) truth t j takes name lost = absurd takes
+torn g start n o run k (Opens s i is came can) truth t j takes name lost =
     let goes = goes_of g start n run k.base s i is came (Opens s i is came can) (truth s i (refl, refl)) k.kept in
     let said : In (Lost name) (scan.transition s i).outs = subst (λ z. In (Lost name) (scan.transition s z).outs) (sym takes.1) (subst (λ z. In (Lost name) (scan.transition z j).outs) (sym takes.0) lost) in
-    subst (λ z. IsEarned g run z name) takes.0 (lost_in (IsEarned g run s) (scan.transition s i).outs goes.lost name said)
-earned g start n o run k Crashes truth t j takes name lost = absurd takes
-earned g start n o run k (Restarts is) truth t j takes name lost = absurd takes
-earned g start n o run k (Renews m high doubts is came) truth t j takes name lost = absurd takes
-earned g start n o run k (Serves v deed some came) truth t j takes name lost = absurd takes
-earned g start n o run k (Bars v l pass) truth t j takes name lost = absurd takes
-earned g start n o run k (Lists v) truth t j takes name lost = absurd takes
-earned g start n o run k (Hears v generation up reached) truth t j takes name lost = absurd takes
-earned g start n o run k (Raises low segment up is below) truth t j takes name lost = absurd takes
-earned g start n o run k (Publishes m whole) truth t j takes name lost = absurd takes
-earned g start n o run k (Welcomes inc ask news m is low whole) truth t j takes name lost = absurd takes
-earned g start n o run k (Drops lists meta is among below) truth t j takes name lost = absurd takes
+    subst (λ z. WasTorn g run z name) takes.0 (lost_in (WasTorn g run s) (scan.transition s i).outs goes.lost name said)
+torn g start n o run k Crashes truth t j takes name lost = absurd takes
+torn g start n o run k (Restarts is) truth t j takes name lost = absurd takes
+torn g start n o run k (Renews m high doubts is came) truth t j takes name lost = absurd takes
+torn g start n o run k (Serves v deed some came) truth t j takes name lost = absurd takes
+torn g start n o run k (Bars v l pass) truth t j takes name lost = absurd takes
+torn g start n o run k (Lists v) truth t j takes name lost = absurd takes
+torn g start n o run k (Hears v generation up reached) truth t j takes name lost = absurd takes
+torn g start n o run k (Raises low segment up is below) truth t j takes name lost = absurd takes
+torn g start n o run k (Publishes m whole) truth t j takes name lost = absurd takes
+torn g start n o run k (Welcomes inc ask news m is low whole) truth t j takes name lost = absurd takes
+torn g start n o run k (Drops lists meta is among below) truth t j takes name lost = absurd takes
 
-pub a_reopening_loses_what_is_torn : AReopeningLosesWhatIsTorn
-a_reopening_loses_what_is_torn g n o m happens truth s i takes name lost =
-    earned g (opening g m.map) n o m.run (known g (opening g m.map) n m.run (first_base g m.map) (λ t at. absurd cc) truth.0) happens truth.1 s i takes name lost
+pub a_reopening_loses_what_is_torn : LogsStayWhole → AReopeningLosesWhatIsTorn
+a_reopening_loses_what_is_torn whole g n o m happens truth s i takes name lost =
+    let t = torn g (opening g m.map) n o m.run (known g (opening g m.map) n m.run (first_base g m.map) (λ t at. absurd cc) truth.0) happens truth.1 s i takes name lost in
+    record { segment = t.segment; named = t.named; is_read = t.is_read; once = once_lost whole g t.segment (opening g m.map) n m.run (λ p run. record { map = m.map; whole = m.whole; run = run }) t.once }

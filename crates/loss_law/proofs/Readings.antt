@@ -39,13 +39,13 @@ use Rattle.log_law.specs.Net.Packet.{HelloSent, WelcomeSent}
 use Rattle.log_law.specs.Net.Owner.{Opening}
 use Rattle.log_law.specs.Events.{Happens, Runs}
 use Rattle.log_law.specs.Events.Runs.{Begun, On}
-use Rattle.loss_law.specs.Losses.{Once, is_opening, has_drawn, LacksIn, IsTorn, IsEarned}
+use Rattle.loss_law.specs.Losses.{Once, is_opening, has_drawn, LacksIn, IsTorn}
 use Rattle.loss_law.proofs.Counting.{Apart, Each, servers_of, Among}
 use Rattle.loss_law.proofs.Pairs.{ToldSo, AllSo, each_on, apart_missing, each_missing, among_missing}
 use Rattle.loss_law.proofs.Growing.{AskedBy, AreNamed, Base, Grows, sent_then}
 use Rattle.loss_law.proofs.Interval.{Before, Between, passed}
 use Rattle.loss_law.proofs.Torn.{is_torn}
-use Rattle.loss_law.proofs.Kept.{Middle, Asks_on, Doubts, RoundKept, ReadingKept, StageKept, once_keeps, once_now, middle_on, reading_on}
+use Rattle.loss_law.proofs.Kept.{WasTorn, Middle, Asks_on, Doubts, RoundKept, ReadingKept, StageKept, once_keeps, once_now, middle_on, reading_on}
 use Rattle.loss_law.proofs.Answering.{counted_parts, asks_still, RoundSo, taken_so, short_pairs}
 
 -- where a segment is said to be lost, this holds of its name
@@ -81,7 +81,7 @@ module _ (g : Setting) (start n o : Net) (run : Runs g start n) (e : Happens g n
   -- what is to be shown of what it does: what is known of it stays so while it is an opening, and what it says is lost is earned
   pub record Goes (d : Done) : Type 0 where
     pub kept : is_opening o.owner ≡ true → StageKept g (On run e) d.state.opening.ask d.state.stage
-    pub lost : Loses (IsEarned g run s) d.outs
+    pub lost : Loses (WasTorn g run s) d.outs
 
   -- an opening with the same last question
   pub record Like (p : OpeningState) : Type 0 where
@@ -128,7 +128,7 @@ module _ (g : Setting) (start n o : Net) (run : Runs g start n) (e : Happens g n
 
   begins_goes : (p : OpeningState) (b : Backward) (group : Option Group) → known_group p.groups b.next.group ≡ group → Like p → Goes (scan.begins_in p b group)
   begins_goes p b None of like = record { kept = λ opens. tt; lost = tt }
-  begins_goes p b (Some group) of like = record { kept = begun_kept p b group of like; lost = fetches_lose (IsEarned g run s) (scan.name_at p.log b.next) (p.ask + 1) (to_ask (begun p b group of like)) }
+  begins_goes p b (Some group) of like = record { kept = begun_kept p b group of like; lost = fetches_lose (WasTorn g run s) (scan.name_at p.log b.next) (p.ask + 1) (to_ask (begun p b group of like)) }
 
   pub round_goes : (p : OpeningState) (b : Backward) → Like p → Goes (scan.begins_round p b)
   unfolding scan.begins_round
@@ -175,11 +175,11 @@ module _ (g : Setting) (start n o : Net) (run : Runs g start n) (e : Happens g n
 
       again : Goes (scan.goes_on p b anew next.Ask)
       unfolding scan.goes_on
-      again = record { kept = anew_kept; lost = fetches_lose (IsEarned g run s) r.target.seg.name (p.ask + 1) (to_ask anew) }
+      again = record { kept = anew_kept; lost = fetches_lose (WasTorn g run s) r.target.seg.name (p.ask + 1) (to_ask anew) }
 
-    loses : (p : OpeningState) (q : ReadingState) → q.target ≡ r.target → IsEarned g run s r.target.seg.name → Goes (scan.goes_on p b q next.Lost)
+    loses : (p : OpeningState) (q : ReadingState) → q.target ≡ r.target → WasTorn g run s r.target.seg.name → Goes (scan.goes_on p b q next.Lost)
     unfolding scan.goes_on
-    loses p q same earned = record { kept = λ opens. tt; lost = (subst (λ (t : Target). IsEarned g run s t.seg.name) (sym same) earned, tt) }
+    loses p q same earned = record { kept = λ opens. tt; lost = (subst (λ (t : Target). WasTorn g run s t.seg.name) (sym same) earned, tt) }
 
     -- the question of the reader is answered, by a horizon that doesn't pass the segment
     decided : (p : OpeningState) (stage : rounds.Stage) → Like p → ((d : Doubts g run s.opening.ask r.target.seg) → d.bound ≤ p.low) → p.low ≤ b.next.seq → RoundKept g run s.opening.ask r stage → Goes (scan.goes_on p b (reading.goes_on r (p.ask + 1) stage).state (reading.goes_on r (p.ask + 1) stage).next)

@@ -76,24 +76,6 @@ pub record IsTorn (g : Setting) (segment : SegRef) (n : Net) : Type 0 where
   pub torn : (g.stripe segment.group).parity < lacking g n segment
   pub kept : In segment.name n.dropped → ⊥
 
--- this is the segment that an opening reads
-abbrev pub IsRead : Stage → SegRef → Type 0
-IsRead stage segment = (b : Backward) × (r : ReadingState) × (stage ≡ Reads b (Some r)) × (r.target.seg ≡ segment)
-
--- The name is that of the segment that is read, over the group that its successor names or the pick told, and at some moment of this opening that was torn.
-pub record IsEarned (g : Setting) {n m : Net} (run : Runs g n m) (s : ScanState) (name : SegName) : Type 0 where
-  pub segment : SegRef
-  pub named : name ≡ segment.name
-  pub is_read : IsRead s.stage segment
-  pub once : Once is_opening (IsTorn g segment) run
-
--- A reopening loses what is torn: where each Missing was true, and an opening takes an input by which it says that a segment is lost, that is earned.
-abbrev pub AReopeningLosesWhatIsTorn : Type 0
-AReopeningLosesWhatIsTorn =
-    (g : Setting) (n o : Net) (m : Moment g n) (happens : Happens g n o) → MissingsTrue (On m.run happens) → (s : ScanState) (i : Input) → Takes happens s i → (name : SegName) → In (Lost name) (transition s i).outs → IsEarned g m.run s name
-
--- ---- what a loss comes from
-
 -- a segment, over its group
 abbrev pub ref_of : Segment → SegRef
 ref_of s = record { name = s.name; group = s.group }
@@ -102,6 +84,30 @@ ref_of s = record { name = s.name; group = s.group }
 abbrev pub disks_lost : Setting → Net → SegRef → ℕ
 disks_lost g n segment = count_by (λ m. nat_lt m.generation (n.shelves m.server).generation) (g.stripe segment.group).members
 
--- Disks were lost: at every moment of every run, of a filed segment that is torn over its group more members have lost their disk than the parity makes good.
+-- It was lost then: it is torn, and where it is a filed segment over its group, more members have lost their disk than the parity makes good.
+pub record IsLost (g : Setting) (segment : SegRef) (n : Net) : Type 0 where
+  pub torn : IsTorn g segment n
+  pub disks : (s : Segment) → In s n.flown → In s.name n.filed → ref_of s ≡ segment → (g.stripe segment.group).parity < disks_lost g n segment
+
+-- ---- when an opening says so
+
+-- this is the segment that an opening reads
+abbrev pub IsRead : Stage → SegRef → Type 0
+IsRead stage segment = (b : Backward) × (r : ReadingState) × (stage ≡ Reads b (Some r)) × (r.target.seg ≡ segment)
+
+-- The name is that of the segment that is read, over the group that its successor names or the pick told, and at some moment of this opening it was lost.
+pub record IsEarned (g : Setting) {n m : Net} (run : Runs g n m) (s : ScanState) (name : SegName) : Type 0 where
+  pub segment : SegRef
+  pub named : name ≡ segment.name
+  pub is_read : IsRead s.stage segment
+  pub once : Once is_opening (IsLost g segment) run
+
+-- A reopening loses what is torn: where each Missing was true, and an opening takes an input by which it says that a segment is lost, that is earned.
+abbrev pub AReopeningLosesWhatIsTorn : Type 0
+AReopeningLosesWhatIsTorn =
+    (g : Setting) (n o : Net) (m : Moment g n) (happens : Happens g n o) → MissingsTrue (On m.run happens) → (s : ScanState) (i : Input) → Takes happens s i → (name : SegName) → In (Lost name) (transition s i).outs → IsEarned g m.run s name
+
+-- A torn segment lost disks: at every moment of every run, of a filed segment that is torn over its group more members have lost their disk than the parity
+-- makes good.
 abbrev pub ATornSegmentLostDisks : Type 0
 ATornSegmentLostDisks = (g : Setting) (n : Net) → Moment g n → (s : Segment) → In s n.flown → In s.name n.filed → IsTorn g (ref_of s) n → (g.stripe s.group).parity < disks_lost g n (ref_of s)
