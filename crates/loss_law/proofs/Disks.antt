@@ -1,5 +1,5 @@
--- A filed segment that is torn has lost disks: who lacks its fragment is of a later generation, since logs stay whole.
-use Rattle.std.proofs.Common.{◌≡◌, ℕ, ◌<◌, ◌⊎◌, Bool, true, nat_lt, is_none, Option, Some, None, length, inl, inr, arith, sym, subst}
+-- Of a filed segment that is torn disks were lost, since logs stay whole: who lacks its fragment is of a later generation. A fragment goes only with its disk.
+use Rattle.std.proofs.Common.{◌≡◌, ℕ, ◌<◌, ◌⊎◌, Bool, true, nat_lt, is_none, is_some, Option, Some, None, length, inl, inr, arith, sym, subst}
 use Rattle.std.specs.List.{count_by}
 use Rattle.std.specs.Prelude.{slice_index_or}
 use Rattle.std.proofs.lemmas.Bool.Decides.{nat_tests}
@@ -13,12 +13,14 @@ use Rattle.client_log.specs.Transition.{no_member}
 use Rattle.log_protocol.specs.Tables.{In}
 use Rattle.log_tie.specs.Setting.{Setting, fragment_of}
 use Rattle.log_tie.specs.Seen.{members_of}
-use Rattle.log_law.specs.Net.{Net}
+use Rattle.log_law.specs.Net.{Net, opening}
 use Rattle.log_law.specs.Events.{Runs}
 use Rattle.log_law.specs.Events.Runs.{Begun, On}
 use Rattle.log_law.specs.Laws.{Moment, Holds, IsLater, LogsStayWhole}
-use Rattle.loss_law.specs.Losses.{Once, is_opening, IsTorn, IsLost, ref_of, disks_lost, ATornSegmentLostDisks}
+use Rattle.loss_law.specs.Losses.{Once, is_opening, IsTorn, IsLost, ref_of, disks_lost, ATornSegmentLostDisks, FragmentsGoWithDisks}
 use Rattle.loss_law.proofs.Counting.{counted_places}
+use Rattle.loss_law.proofs.Events.{first_base}
+use Rattle.loss_law.proofs.Interval.{HeldOn, passed}
 
 lacks_none : (o : Option Fragment) (f : Fragment) → o ≡ Some f → is_none o ≡ true → ⊥
 lacks_none None f e none = absurd cc
@@ -65,3 +67,16 @@ module _ (whole : LogsStayWhole) (g : Setting) (segment : SegRef) where
       by : (Once is_opening (IsTorn g segment) run → Once is_opening (IsLost g segment) run) → IsTorn g segment n ⊎ Once is_opening (IsTorn g segment) run → IsLost g segment n ⊎ Once is_opening (IsLost g segment) run
       by before (inl now) = inl (lost_then n (to n (On run e)) now)
       by before (inr old) = inr (before old)
+
+-- what was held and isn't went with its disk
+pub fragments_go_with_disks : FragmentsGoWithDisks
+fragments_go_with_disks g n o moment later v name own held gone kept = by ((passed g n o (passed g (opening g moment.map) n (first_base g moment.map) moment.run).base later).holds v name own held)
+  where
+    unheld : (found : Option Fragment) → found ≡ None → is_some found ≡ true → ⊥
+    unheld None e is = contrary is
+    unheld (Some f) e is = absurd cc
+
+    by : HeldOn n o v name → (n.shelves v).generation < (o.shelves v).generation
+    by (inl is) = absurd (unheld (held_at (o.shelves v).held name) gone is)
+    by (inr (inl less)) = less
+    by (inr (inr is)) = absurd (kept is)

@@ -22,7 +22,7 @@ use Rattle.log_tie.specs.Setting.{Setting}
 use Rattle.log_tie.specs.Shelves.{Deed, is_of_log, is_stored, shelf_after}
 use Rattle.log_tie.specs.Shelves.Deed.{Stores, Fetches, Fences, Deletes, Fills, Loses}
 use Rattle.log_tie.proofs.Names.{equal}
-use Rattle.log_law.specs.Net.{Packet, Net, Told, log_packets, scan_packets, chain_in, first_write, after_log, fragment_told, answers, after_flight, after_told, after_scan, scans_on, listed}
+use Rattle.log_law.specs.Net.{Packet, Net, Told, opening, log_packets, scan_packets, chain_in, first_write, after_log, fragment_told, answers, after_flight, after_told, after_scan, scans_on, listed}
 use Rattle.log_law.specs.Net.Packet.{StoredSent, ListedSent, DeleteSent, MapSent, WelcomeSent}
 use Rattle.log_law.specs.Net.Owner.{Opening}
 use Rattle.log_law.specs.Events.{CameToScan, Happens}
@@ -220,3 +220,7 @@ fits_then g n o base (Drops lists meta is among below) t e = base.opening t e
 
 pub base_then : (g : Setting) (n o : Net) → Base g n → Happens g n o → Base g o
 base_then g n o base e = base_on g n o (grows g n o base e) base (fits_then g n o base e)
+
+-- at first nothing is known, and nothing needs to be
+pub first_base : (g : Setting) (m : GroupMapState) → Base g (opening g m)
+first_base g m = record { packets = λ p is. absurd is; below = λ name is. absurd is; opening = λ s is. absurd cc }

@@ -1,4 +1,4 @@
--- So does each input of an opening.
+-- Each input of an opening keeps what is known of it, and what it says is lost then is earned.
 use Rattle.std.proofs.Common.{◌≡◌, ℕ, ◌≤◌, ◌==◌, ◌&&◌, max, List, [], ◌∷◌, ◌++◌, Option, Some, None, length, refl, sym, ap, subst, arith}
 use Rattle.xfs_base.specs.declared.fragment.Fragment.{Fragment}
 use Rattle.xfs_base.specs.declared.news.SlotNews.{SlotNews}

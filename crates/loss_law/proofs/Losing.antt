@@ -1,7 +1,6 @@
 -- In every run what is known of an opening stays so, and so what a reopening says is lost was torn.
 use Rattle.std.proofs.Common.{◌≡◌, suc, List, [], ◌∷◌, refl, sym, ap, subst, inl, inr}
 use Rattle.xfs_base.specs.declared.segment.SegName.{SegName}
-use Rattle.group_map.specs.GroupMapState.{GroupMapState}
 use Rattle.log_scan.specs.declared.input.In.{In as Input}
 use Rattle.log_scan.specs.declared.output.Out.{Out}
 use Rattle.log_scan.specs.declared.output.Out.TheVariants.{Hello, Fence, Fetch, Chain, Lost}
@@ -18,7 +17,7 @@ use Rattle.log_law.specs.Events.Runs.{Begun, On}
 use Rattle.log_law.specs.Laws.{LogsStayWhole}
 use Rattle.loss_law.specs.Losses.{is_opening, Takes, IsTrue, MissingsTrue, AReopeningLosesWhatIsTorn}
 use Rattle.loss_law.proofs.Growing.{Base}
-use Rattle.loss_law.proofs.Events.{opened_to, same_boot, writes_none, grows, base_then}
+use Rattle.loss_law.proofs.Events.{first_base, opened_to, same_boot, writes_none, grows, base_then}
 use Rattle.loss_law.proofs.Kept.{StageKept, Kept, WasTorn, stage_on}
 use Rattle.loss_law.proofs.Readings.{Loses, Goes}
 use Rattle.loss_law.proofs.Inputs.{takes_goes}
@@ -70,9 +69,6 @@ known g start n (On {m = m} run e) base kept truth = on (known g start m run bas
   where
     on : Known g run → Known g (On run e)
     on k = record { base = base_then g m n k.base e; kept = kept_then g start m n run k.base e truth.1 k.kept }
-
-first_base : (g : Setting) (m : GroupMapState) → Base g (opening g m)
-first_base g m = record { packets = λ p is. absurd is; below = λ name is. absurd is; opening = λ s is. absurd cc }
 
 lost_in : (P : SegName → Type 0) (outs : List Out) → Loses P outs → (name : SegName) → In (Lost name) outs → P name
 lost_in P [] all name is = absurd is

@@ -4,7 +4,7 @@ use Rattle.std.specs.List.{count_by}
 use Rattle.xfs_base.specs.declared.segment.SegName.{SegName}
 use Rattle.xfs_base.specs.declared.segment.SegRef.{SegRef}
 use Rattle.segment_format.specs.declared.segment.Segment.{Segment}
-use Rattle.fragment_store.specs.ShelfState.{held_at}
+use Rattle.fragment_store.specs.ShelfState.{held_at, is_held}
 use Rattle.stripe_code.specs.Reading.{ReadingState}
 use Rattle.log_scan.specs.declared.input.In.{In as Input}
 use Rattle.log_scan.specs.declared.input.In.TheVariants.{Missing}
@@ -111,3 +111,9 @@ AReopeningLosesWhatIsTorn =
 -- makes good.
 abbrev pub ATornSegmentLostDisks : Type 0
 ATornSegmentLostDisks = (g : Setting) (n : Net) → Moment g n → (s : Segment) → In s n.flown → In s.name n.filed → IsTorn g (ref_of s) n → (g.stripe s.group).parity < disks_lost g n (ref_of s)
+
+-- A fragment goes only with its disk: a server that held a fragment of the log and holds none of that name later, while no Delete of it was sent, has lost its
+-- disk in between.
+abbrev pub FragmentsGoWithDisks : Type 0
+FragmentsGoWithDisks =
+    (g : Setting) (n o : Net) → Moment g n → Runs g n o → (v : ℕ) (name : SegName) → name.log ≡ g.log → is_held (n.shelves v) name ≡ true → held_at (o.shelves v).held name ≡ None → (In name o.dropped → ⊥) → (n.shelves v).generation < (o.shelves v).generation

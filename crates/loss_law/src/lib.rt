@@ -3,7 +3,7 @@
 //! `specs/Losses.antt` says what is asked of each Missing.
 #![tactic(auto)]
 
-ghost use Rattle.loss_law.specs.Losses.{AReopeningLosesWhatIsTorn, ATornSegmentLostDisks};
+ghost use Rattle.loss_law.specs.Losses.{AReopeningLosesWhatIsTorn, ATornSegmentLostDisks, FragmentsGoWithDisks};
 
 use log_law::logs_stay_whole;
 
@@ -25,3 +25,9 @@ pub fn a_torn_segment_lost_disks()
 {
     logs_stay_whole();
 }
+
+/// A fragment goes only with its disk: from each moment of every run to a later one, a server that held a fragment of the log and holds none of that name then,
+/// while no Delete of it was sent, has lost its disk in between.
+pub fn fragments_go_with_disks()
+    ensures gone { FragmentsGoWithDisks }
+{}
