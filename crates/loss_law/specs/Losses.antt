@@ -25,11 +25,12 @@ use Rattle.log_law.specs.Laws.{Moment}
 
 -- ---- moments
 
--- at some moment of the run it was so, and since then the owner keeps to this
+-- at some moment of the run it was so, and from that moment on the owner keeps to this
 abbrev pub Once : {g : Setting} {n m : Net} → (Owner → Bool) → (Net → Type 0) → Runs g n m → Type 0
 Once keeps P (Begun {n = n}) = (keeps n.owner ≡ true) × P n
 Once keeps P (On {o = o} run happens) = (keeps o.owner ≡ true) × (P o ⊎ Once keeps P run)
 
+-- It opens its log. Moments through which it does are of one opening, for between two there is a fall.
 abbrev pub is_opening : Owner → Bool
 is_opening Down = false
 is_opening (Opening s) = true
