@@ -1,5 +1,10 @@
 -- What the small world of a log does elsewhere leaves a node of it seen as it was.
-use Rattle.std.proofs.Common.{◌≡◌, ⊎_elim, ℕ, Option, Some, None, sym, ap, subst, ◌∙◌, inl, inr, arith}
+use Rattle.std.proofs.Common.{◌≡◌, ⊎_elim, ℕ, Option, Some, None, refl, sym, ap, subst, ◌∙◌, inl, inr, arith}
+use Rattle.cleaner_log_tie.proofs.Frames.{stands_later}
+use Rattle.cleaner_log_tie.specs.Owner.{CleanerAgrees, its_number}
+use Rattle.cleaner_node.specs.EmptyingEvents.{cleaner_log}
+use Rattle.cleaner_node.specs.declared.cleaner.Phase.{Phase as CleanerPhase}
+use Rattle.cleaner_node.specs.declared.cleaner.Phase.TheVariants as cleaners
 use Rattle.client_log_tie.specs.Owner.{Scene, ClientAgrees, LastsAs, MapCame, SeesStage}
 use Rattle.client_node.specs.declared.lasting.Lasting.{Lasting}
 use Rattle.client_node.specs.declared.phase.Phase.{Phase}
@@ -7,10 +12,10 @@ use Rattle.client_node.specs.declared.phase.Phase.TheVariants as clients
 use Rattle.group_map.specs.GroupMapState.{GroupMapState}
 use Rattle.log_law.specs.Net.{Net}
 use Rattle.log_law.specs.Openings.{next_number}
-use Rattle.log_protocol.specs.Tables.{In}
 use Rattle.log_owner.specs.declared.known.Known.{Known}
 use Rattle.log_owner.specs.declared.opening.Stage as stages
 use Rattle.log_owner.specs.declared.opening.Stage.TheVariants as stage
+use Rattle.log_protocol.specs.Tables.{In}
 use Rattle.log_tie.specs.Setting.{Setting}
 use Rattle.node_log_tie.proofs.Emptied.{emptying_later}
 use Rattle.node_log_tie.proofs.Lists.{if_some}
@@ -20,8 +25,6 @@ use Rattle.node_log_tie.specs.RegistryEvents.{RegistrySeen}
 use Rattle.node_log_tie.specs.ServerEvents.{RebuildSeen, ServerSeen}
 use Rattle.node_log_tie.specs.Sight.{Later, Question}
 use Rattle.registry.specs.BoardState.{BoardState}
-use Rattle.cleaner_node.specs.declared.cleaner.Phase.{Phase as CleanerPhase}
-use Rattle.cleaner_node.specs.declared.cleaner.Phase.TheVariants as cleaners
 use Rattle.store_nodes.specs.declared.server.Rebuilding.{Rebuilding}
 use Rattle.store_nodes.specs.declared.server.Server.{Server as ServerNode}
 use Rattle.world_logs.proofs.Standing.{IsRoomy}
@@ -60,6 +63,25 @@ module _ (g : Setting) (c : ℕ) (n next : Net) (asked : ℕ → Question) (late
   client_still (clients.Down l) h = (lasts_still l h.0, owner ∙ h.1)
   client_still (clients.Opening l o) h = (lasts_still l h.0, stage_still o.known l.questions.last o.stage h.1, h.2)
   client_still (clients.Serving s) h = (lasts_still s.lasting h.0, record { owner = owner ∙ h.1.owner; own = h.1.own })
+
+-- ---- the cleaner as the owner of its log
+
+module _ (g : Setting) (is : g.log ≡ cleaner_log) (n next : Net) (asked : ℕ → Question) (later : Later n next) (inc : next.inc ≡ n.inc) (owner : next.owner ≡ n.owner) where
+  abbrev mine : Scene
+  mine = record { net = n; asked = asked }
+
+  abbrev its : Scene
+  its = record { net = next; asked = asked }
+
+  pub cleaner_owner_still : (p : CleanerPhase) → CleanerAgrees g mine p → CleanerAgrees g its p
+  cleaner_owner_still (cleaners.Down l) h = (record { number = refl; inc = inc ∙ h.0.inc; fresh = h.0.fresh }, owner ∙ h.1)
+  cleaner_owner_still (cleaners.Opening l o) h = record {
+    lasts = record { number = refl; inc = inc ∙ h.lasts.inc; fresh = h.lasts.fresh };
+    sees = stage_still g its_number n next asked later inc owner o.known l.questions.last o.stage h.sees;
+    written = h.written;
+    asks = h.asks;
+  }
+  cleaner_owner_still (cleaners.Serving e) h = stands_later g is mine next later inc owner e h
 
 -- ---- servers, the cleaner, the registry
 

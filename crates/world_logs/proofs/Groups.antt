@@ -15,6 +15,7 @@ use Rattle.node_base.specs.Beginning.{begun, next_item, work_at}
 use Rattle.node_base.specs.Room.{has_room}
 use Rattle.node_base.specs.Setups.{IsSetup}
 use Rattle.node_base.specs.Shape.{is_well_formed}
+use Rattle.node_log_tie.proofs.Others.{same_or_other}
 use Rattle.registry.proofs.Losses.{loss_heard, loss_kept}
 use Rattle.registry.specs.Board.{can_move, hears_manager, hears_server, is_kept, transition}
 use Rattle.registry.specs.Board as board
@@ -41,7 +42,6 @@ use Rattle.world_law.proofs.Turning.{next_cluster, next_keeps}
 use Rattle.world_law.specs.Owners.{node_in, node_named}
 use Rattle.world_logs.specs.Horizons.{board_of}
 use Rattle.world_logs.specs.Shelves.{group_at, group_in, groups_of}
-use Rattle.node_log_tie.proofs.Others.{same_or_other}
 use Rattle.xfs_base.proofs.Booleans.{by_test}
 use Rattle.xfs_base.specs.declared.node.NodeId.{NodeId}
 use Rattle.xfs_base.specs.declared.node.NodeId.TheVariants.{Client, Manager, Server, Cleaner, Registry}

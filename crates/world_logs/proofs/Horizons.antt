@@ -1,6 +1,6 @@
 -- In every run no horizon that the registry keeps of a client's or the cleaner's log is beyond what that owner told to be filed: whatever others act to be filed,
 -- what any node holds and tells of the log is no further than that.
-use Rattle.std.proofs.Common.{◌≡◌, ⊎_elim, ℕ, zero, suc, ◌+◌, ◌≤◌, List, [], ◌∷◌, ◌++◌, Option, None, Some, drop, length, map, take, slice_get, slice_set, if◌then◌else◌, append-nil, inl, inr, refl, sym, ap, subst, ◌∙◌, arith}
+use Rattle.std.proofs.Common.{◌≡◌, ⊎_elim, ℕ, zero, suc, ◌≤◌, List, [], ◌∷◌, ◌++◌, Option, None, Some, drop, length, map, take, slice_get, slice_set, if◌then◌else◌, append-nil, inl, inr, refl, sym, ap, subst, ◌∙◌, arith}
 use Rattle.std.proofs.lemmas.List.{append_assoc}
 use Rattle.std.proofs.Math.Seq.{drop-append_seam, drop-length}
 use Rattle.std.specs.List.{AllByRecursion, fold}
@@ -38,11 +38,11 @@ use Rattle.world_law.specs.Owners.{moment, node_in}
 use Rattle.world_logs.proofs.OwnFiling.{owned, owned_itself}
 use Rattle.world_logs.specs.Doings.{acts_by, acts_of, owns}
 use Rattle.world_logs.specs.Horizons.{HorizonsReached, Reached, board_of}
+use Rattle.world_logs.proofs.HorizonTurns as turns
+use Rattle.world_logs.proofs.HorizonTurns.{Filing, no_acts}
 use Rattle.xfs_base.specs.declared.node.NodeId.{NodeId}
 use Rattle.xfs_base.specs.declared.node.NodeId.TheVariants.{Client, Manager, Server, Cleaner, Registry}
 use Rattle.xfs_base.specs.declared.setup.Setup.{Setup}
-use Rattle.world_logs.proofs.HorizonTurns as turns
-use Rattle.world_logs.proofs.HorizonTurns.{Filing, no_acts}
 
 module _ (laws : tokens.NodeLaws) (below : Filing) (k : Cluster) (c : ℕ) where
   abbrev Tokens : List AnyNode → List Packet → List Act → Type 0

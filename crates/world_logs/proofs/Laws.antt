@@ -1,5 +1,5 @@
--- Every run keeps the logs of its clients.
-use Rattle.std.proofs.Common.{◌≡◌, ◌^◌, ℕ, ◌+◌, ◌≤◌, ◌<◌, List, [], ◌∷◌, Some, length, take, inl, refl, sym, ap, subst, ◌∙◌, arith}
+-- Every run keeps the logs of its clients, and that of the cleaner.
+use Rattle.std.proofs.Common.{◌≡◌, ◌^◌, ℕ, ◌+◌, ◌≤◌, ◌<◌, List, [], ◌∷◌, Some, length, take, inl, inr, refl, sym, ap, subst, ◌∙◌, arith}
 use Rattle.std.specs.List.{fold}
 use Rattle.core_world.specs.AnyNode.{any_start, any_step}
 use Rattle.core_world.specs.declared.any_node.AnyNode.{AnyNode}
@@ -24,15 +24,17 @@ use Rattle.world_base.specs.Runs.{IsRun, Leads}
 use Rattle.world_law.proofs.Laws as tokens
 use Rattle.world_law.proofs.Start.{first_stands}
 use Rattle.world_law.specs.Owners.{moment, node_in, node_named}
-use Rattle.world_logs.proofs.Events.{Good, NodeLaws}
+use Rattle.world_logs.proofs.Goods.{Good, NodeLaws}
 use Rattle.world_logs.proofs.Fronts.{front_keeps, named_so}
 use Rattle.world_logs.proofs.Groups.{GroupsStay, board_has_map, first_map, in_run, map_in_run}
 use Rattle.world_logs.proofs.Reading.{has_text, is_whole, members_exist}
+use Rattle.world_logs.proofs.Roles.{IsThere, Role, log_by}
+use Rattle.world_logs.proofs.Roles.Role.{OfClient, OfCleaner}
 use Rattle.world_logs.proofs.Settings.{ids_fit, setting_of}
 use Rattle.world_logs.proofs.Start.{first_scene, start_stands}
 use Rattle.world_logs.specs.Doings.{did}
-use Rattle.world_logs.specs.Logs.{LogsStand}
-use Rattle.world_logs.specs.Horizons.{HorizonsReached, board_of}
+use Rattle.world_logs.specs.Logs.{AllInRange, CleanersLogStands, LogStands, LogsStand}
+use Rattle.world_logs.specs.Horizons.{HorizonsReached, IsOpened, board_of}
 use Rattle.world_logs.specs.Shelves.{group_at, shelf_at, shelf_of}
 use Rattle.xfs_base.specs.declared.node.NodeId.TheVariants.{Server, Registry}
 use Rattle.xfs_base.specs.declared.setup.Setup.{Setup}
@@ -60,8 +62,15 @@ module _ (below : Below) (e : Estate AnyNode) (ok : IsSetup e.script.setup) (run
   abbrev base : Setting
   base = below.setting.0
 
-  abbrev g : ℕ → Setting
-  g c = setting_of base e.world e.script.setup.servers c
+  abbrev g : Role → Setting
+  g r = setting_of base e.world e.script.setup.servers (log_by r)
+
+  abbrev There : Role → Type 0
+  There r = IsThere setup.clients (AllInRange e.world) r
+
+  opened : (r : Role) → There r → IsOpened setup.clients (log_by r)
+  opened (OfClient c) there = inl there
+  opened OfCleaner there = inr refl
 
   -- at the start the registry's map is well formed, so it is at the end
   first_board : board_of (node_named (start_world any_start e.script) Registry) ≡ Some (registry_start setup (items_of e.script.lines Registry)).board
@@ -75,22 +84,22 @@ module _ (below : Below) (e : Estate AnyNode) (ok : IsSetup e.script.setup) (run
       (board_has_map (node_named (start_world any_start e.script) Registry) (registry_start setup (items_of e.script.lines Registry)).board first_board
       (first_map setup ok (items_of e.script.lines Registry)))) id group is
 
-  first_named : (c : ℕ) → NamesGroups (g c) (groups.started setup.servers setup.groups)
+  first_named : (r : Role) → NamesGroups (g r) (groups.started setup.servers setup.groups)
   unfolding start_world
-  first_named c = named_so below.nodes below.groups base e.world setup ok few (start_world any_start e.script) refl (in_run below.groups e.events (start_world any_start e.script) e.world run)
-      (registry_start setup (items_of e.script.lines Registry)).board first_board c
+  first_named r = named_so below.nodes below.groups base e.world setup ok few (start_world any_start e.script) refl (in_run below.groups e.events (start_world any_start e.script) e.world run)
+      (registry_start setup (items_of e.script.lines Registry)).board first_board r
 
   good_at : (count : ℕ) → Good below.nodes base e.world setup ok few (moment e count).nodes (moment e count).sent (λ c. did e c count)
   unfolding start_world
   good_at count = front_keeps below.nodes below.groups base e.world setup ok few e.events count (start_world any_start e.script) (λ c. []) refl run
-      (tokens.front below.nodes.tokens e ok run 0 0 (omega arith)).1 (λ n c some most b is. low n c (inl (some, most)) b is)
+      (tokens.front below.nodes.tokens e ok run 0 0 (omega arith)).1 (λ n r there b is. low n (log_by r) (opened r there) b is)
       (record {
         fits = λ q h. absurd h;
-        logs = λ c some most. (
-          first_scene below.nodes.client_starts below.nodes.server_starts below.nodes.cleaner_starts below.nodes.registry_starts e.script ok
-              (g c) c refl refl some (let m = ok.clients.1 in omega arith) (first_named c),
-          start_stands below.nodes.client_starts below.nodes.server_starts below.nodes.cleaner_starts below.nodes.registry_starts e.script ok
-              (g c) c refl refl some (let m = ok.clients.1 in omega arith) (first_named c),
+        logs = λ r there. (
+          first_scene below.nodes.client_starts below.nodes.owner_starts below.nodes.server_starts below.nodes.cleaner_starts below.nodes.registry_starts e.script ok
+              (g r) r refl refl (AllInRange e.world) there (first_named r),
+          start_stands below.nodes.client_starts below.nodes.owner_starts below.nodes.server_starts below.nodes.cleaner_starts below.nodes.registry_starts e.script ok
+              (g r) r refl refl (AllInRange e.world) there (first_named r),
         );
       })
 
@@ -102,22 +111,28 @@ module _ (below : Below) (e : Estate AnyNode) (ok : IsSetup e.script.setup) (run
       (s.0.shelf, ap shelf_of (subst (λ cl. node_in (moment e count).nodes (place_of cl (Server v)) ≡ Some (any.Server s.0)) (sym f.0) s.1))
 
   -- the members of a group of the registry's at the end are servers
-  exist : (count c : ℕ) → 0 < c → c ≤ setup.clients → (id : ℕ) (group : Group) → group_at e.world id ≡ Some group → (place : ℕ) → place < length group.members
+  exist : (count : ℕ) → (id : ℕ) (group : Group) → group_at e.world id ≡ Some group → (place : ℕ) → place < length group.members
       → (shelf : ShelfState) × (shelf_at (moment e count) (server_of group.members place) ≡ Some shelf)
-  exist count c some most id group is place below_ =
+  exist count id group is place below_ =
       let end = length e.events in
       let same : moment e end ≡ e.world = at_end e.events (start_world any_start e.script) e.world run in
       let f = tokens.front below.nodes.tokens e ok run end 0 (omega arith) in
-      let l = (good_at end).logs c some most in
-      let s = members_exist base e.world (moment e end) setup.servers c k f.0 l.0 (did e c end) l.1 f.1.0.registry f.1.1.placed.registry id group
+      let l = (good_at end).logs (OfClient 1) (omega arith, ok.clients.0) in
+      let s = members_exist base e.world (moment e end) setup.servers (OfClient 1) k f.0 l.0 (did e 1 end) l.1 f.1.0.registry f.1.1.placed.registry id group
       (ap (λ w. group_at w id) same ∙ is) place below_ in
       shelf_there count (server_of group.members place) s.0 s.1
 
-  pub logs_stand : LogsStand e
-  logs_stand count c some most =
-      let l = (good_at count).logs c some most in
+  log_stands : (count : ℕ) (r : Role) → There r → LogStands e count (log_by r)
+  log_stands count r there =
+      let l = (good_at count).logs r there in
       let f = tokens.front below.nodes.tokens e ok run count 0 (omega arith) in
       record {
-        whole = λ name is kept. is_whole base e.world (moment e count) setup.servers c k f.0 l.0 (did e c count) l.1 below.whole below.text (exist count c some most) name is kept;
-        one_text = λ name of. has_text base e.world (moment e count) setup.servers c k f.0 l.0 (did e c count) l.1 below.text name of;
+        whole = λ name is kept. is_whole base e.world (moment e count) setup.servers r k f.0 l.0 (did e (log_by r) count) l.1 below.whole below.text (exist count) name is kept;
+        one_text = λ name of. has_text base e.world (moment e count) setup.servers r k f.0 l.0 (did e (log_by r) count) l.1 below.text name of;
       }
+
+  pub logs_stand : LogsStand e
+  logs_stand count c some most = log_stands count (OfClient c) (some, most)
+
+  pub cleaners_log_stands : CleanersLogStands e
+  cleaners_log_stands ranges count = log_stands count OfCleaner ranges

@@ -59,7 +59,7 @@ use Rattle.xfs_base.specs.declared.segment.LogId.{LogId}
 use Rattle.xfs_base.specs.declared.setup.Setup.{Setup}
 use Rattle.xfs_base.specs.Steps.{still}
 
-module _ (own : LogId) (high : 9 ≤ own.0) where
+module _ (own : LogId) (high : 10 ≤ own.0) where
   -- one that goes on with the same log, and says nothing of segments
   plain : (s : Serving) (outs : List Effect) → IsOfLog own s.log → AllSay outs → Goes own (record { state = s; outs = outs })
   plain s outs h says = record { of = h; says = says }
@@ -68,7 +68,7 @@ module _ (own : LogId) (high : 9 ≤ own.0) where
 
   stored_so : (o : LogOut) → SendsOwn own o → AllSay (checkpoints.stored o)
   unfolding checkpoints.stored
-  stored_so (log_out.Send f member) mine = (subst (λ (l : LogId). 9 ≤ l.0) (sym mine) high, tt)
+  stored_so (log_out.Send f member) mine = (subst (λ (l : LogId). 10 ≤ l.0) (sym mine) high, tt)
   stored_so (log_out.Settled end rows) mine = tt
 
   all_stored : (outs : List LogOut) → AllByRecursion (SendsOwn own) outs → AllSay (flat_map checkpoints.stored outs)
@@ -100,7 +100,7 @@ module _ (own : LogId) (high : 9 ≤ own.0) where
 
   log_so : (s : Serving) (o : LogOut) → SendsOwn own o → IsOfLog own s.log → Goes own (checkpoints.log_says s o)
   unfolding checkpoints.log_says checkpoints.on_settled
-  log_so s (log_out.Send f member) mine h = plain s _ h (subst (λ (l : LogId). 9 ≤ l.0) (sym mine) high, tt)
+  log_so s (log_out.Send f member) mine h = plain s _ h (subst (λ (l : LogId). 10 ≤ l.0) (sym mine) high, tt)
   log_so s (log_out.Settled end rows) mine h = goes_after own (checkpoints.filed s end) (checkpoints.writer_takes s (input.Settled end)) (tt, tt) (takes_so s (input.Settled end) h)
 
   writes_so : (s : Serving) (given : LogIn) → IsOfLog own s.log → Goes own (checkpoints.writes s given)
@@ -325,25 +325,25 @@ begins_so (Serves s) h = by (next_item s.lasting.items)
 
 -- ---- events
 
-begun_so : (kept : Kept) (maps : _) (slots : _) (groups : GroupMapState) → IsWritten (serving.begun kept maps slots groups)
-begun_so kept maps slots groups = record { log = _; high = omega arith; of = record { log = refl; flight = tt } }
+begun_so : (kept : Kept) (maps : _) (slots : _) (groups : GroupMapState) → 1 ≤ kept.number → IsWritten (serving.begun kept maps slots groups)
+begun_so kept maps slots groups some = record { log = _; high = omega arith; of = record { log = refl; flight = tt } }
 
-welcomed_so : (peers : _) (kept : Kept) (hello : ℕ) (m : Welcome) → Went (events.on_welcome peers kept hello m)
+welcomed_so : (peers : _) (kept : Kept) (hello : ℕ) (m : Welcome) → 1 ≤ kept.number → Went (events.on_welcome peers kept hello m)
 unfolding events.on_welcome
-welcomed_so peers kept hello m =
+welcomed_so peers kept hello m some =
     let s : Serving = serving.again kept (forgotten peers.servers) m.news.groups in
-    let own : IsWritten s = begun_so kept (forgotten peers.servers) table.unknown_table m.news.groups in
+    let own : IsWritten s = begun_so kept (forgotten peers.servers) table.unknown_table m.news.groups some in
     by_test Went (events.takes_welcome peers kept hello m) (serves (serving.on_news s peers.clients m.news)) (still (Waiting kept hello))
     (λ t. serves_so s (serving.on_news s peers.clients m.news) own (news_so own.log own.high s peers.clients m.news own.of)) (λ t. still_so (Waiting kept hello) tt)
 
-waits_so : (peers : _) (kept : Kept) (hello : ℕ) (m : Body) → Went (events.on_waiting peers kept hello m)
-waits_so peers kept hello (body.Welcome m) = welcomed_so peers kept hello m
-waits_so peers kept hello _ = still_so (Waiting kept hello) tt
+waits_so : (peers : _) (kept : Kept) (hello : ℕ) (m : Body) → 1 ≤ kept.number → Went (events.on_waiting peers kept hello m)
+waits_so peers kept hello (body.Welcome m) some = welcomed_so peers kept hello m some
+waits_so peers kept hello _ some = still_so (Waiting kept hello) tt
 
-packet_so : (peers : _) (p : Phase) (packet : Packet) → WritesItsLog p → Went (events.on_packet peers p packet)
-packet_so peers (Down kept) packet h = still_so (Down kept) tt
-packet_so peers (Waiting kept hello) packet h = waits_so peers kept hello packet.body
-packet_so peers (Serves s) packet h = serves_so s (serving.hears s peers.clients packet) h (hears_so h.log h.high s peers.clients packet h.of)
+packet_so : (peers : _) (p : Phase) (packet : Packet) → 1 ≤ (phases.lasting_of p).number → WritesItsLog p → Went (events.on_packet peers p packet)
+packet_so peers (Down kept) packet some h = still_so (Down kept) tt
+packet_so peers (Waiting kept hello) packet some h = waits_so peers kept hello packet.body some
+packet_so peers (Serves s) packet some h = serves_so s (serving.hears s peers.clients packet) h (hears_so h.log h.high s peers.clients packet h.of)
 
 time_so : (p : Phase) → WritesItsLog p → Went (events.on_time p)
 unfolding events.on_time
@@ -351,15 +351,16 @@ time_so (Down kept) h = still_so (Down kept) tt
 time_so (Waiting kept ask) h = record { writes = tt; says = (tt, tt) }
 time_so (Serves s) h = serves_so s (serving.on_tick s) h (tick_so h.log h.high s h.of)
 
-event_so : (peers : _) (p : Phase) (what : Do) → WritesItsLog p → Went (events.on_event peers p what)
+event_so : (peers : _) (p : Phase) (what : Do) → 1 ≤ (phases.lasting_of p).number → WritesItsLog p → Went (events.on_event peers p what)
 unfolding events.on_deliver
-event_so peers p Begin h = begins_so p h
-event_so peers p (Deliver packet) h = by_test Went (is_well_formed peers packet) (events.on_packet peers p packet) (still p) (λ t. packet_so peers p packet h) (λ t. still_so p h)
-event_so peers p Tick h = time_so p h
+event_so peers p Begin some h = begins_so p h
+event_so peers p (Deliver packet) some h = by_test Went (is_well_formed peers packet) (events.on_packet peers p packet) (still p) (λ t. packet_so peers p packet some h) (λ t. still_so p h)
+event_so peers p Tick some h = time_so p h
 
-happens_so : (m : ManagerNode) (what : Do) → WritesItsLog m.phase → Went (events.happens m what)
+happens_so : (m : ManagerNode) (what : Do) → 1 ≤ (phases.lasting_of m.phase).number → WritesItsLog m.phase → Went (events.happens m what)
 unfolding events.happens
-happens_so m what h = by_test Went (phases.phase_has_room m.phase) (events.on_event m.peers m.phase what) (still m.phase) (λ t. event_so m.peers m.phase what h) (λ t. still_so m.phase h)
+happens_so m what some h =
+    by_test Went (phases.phase_has_room m.phase) (events.on_event m.peers m.phase what) (still m.phase) (λ t. event_so m.peers m.phase what some h) (λ t. still_so m.phase h)
 
 -- a packet of a manager, which stores to its own log
 pub record IsManagers (p : Packet) : Type 0 where
@@ -372,14 +373,14 @@ pub record ManagerWrites (m : ManagerNode) (what : Do) : Type 0 where
   pub writes : WritesItsLog (manager_step m what).node.phase
   pub sends : All IsManagers (manager_step m what).packets
 
-pub manager_writes : (m : ManagerNode) (what : Do) → WritesItsLog m.phase → ManagerWrites m what
-manager_writes m what h =
-    let w : Went (events.happens m what) = happens_so m what h in
+pub manager_writes : (m : ManagerNode) (what : Do) → 1 ≤ (phases.lasting_of m.phase).number → WritesItsLog m.phase → ManagerWrites m what
+manager_writes m what some h =
+    let w : Went (events.happens m what) = happens_so m what some h in
     let number = (phases.lasting_of m.phase).number in
     record {
       writes = w.writes;
       sends = packets_all IsManagers Says (Manager number) (λ to said own. record { manager = number; from = refl; own = own }) (events.happens m what).outs w.says;
     }
 
-pub manager_begins : (j : ℕ) (setup : Setup) (items : List Work) → WritesItsLog (first_manager j setup items).phase
-manager_begins j setup items = begun_so _ _ _ _
+pub manager_begins : (j : ℕ) (setup : Setup) (items : List Work) → 1 ≤ j → WritesItsLog (first_manager j setup items).phase
+manager_begins j setup items some = begun_so _ _ _ _ some

@@ -16,10 +16,10 @@ use Rattle.wire_msg.specs.declared.body.Body.TheVariants as body
 use Rattle.xfs_base.specs.declared.segment.LogId.{LogId}
 use Rattle.xfs_base.specs.Steps.{Stepped, after, still, steps}
 
--- a log that is no client's
+-- a log that is neither a client's nor the cleaner's
 pub record IsWritten (s : Serving) : Type 0 where
   pub log : LogId
-  pub high : 9 ≤ log.0
+  pub high : 10 ≤ log.0
   pub of : IsOfLog log s.log
 
 -- a manager that serves writes such a log
@@ -30,7 +30,7 @@ WritesItsLog (Serves s) = IsWritten s
 
 -- what it stores is of such a log
 abbrev pub StoresItsOwn : Body → Type 0
-StoresItsOwn (body.Store m) = 9 ≤ m.fragment.meta.name.log.0
+StoresItsOwn (body.Store m) = 10 ≤ m.fragment.meta.name.log.0
 StoresItsOwn _ = Unit {0}
 
 abbrev pub Says : Effect → Type 0

@@ -2,6 +2,10 @@
 use Rattle.std.proofs.Common.{◌≡◌, ℕ, Bool, true, false, List, [], ◌∷◌, if◌then◌else◌, refl, sym, ap, subst, ◌∙◌}
 use Rattle.std.specs.List.{AllByRecursion}
 use Rattle.std.specs.Prelude.{All}
+use Rattle.cleaner_log_tie.specs.Owner.{its_number}
+use Rattle.cleaner_log_tie.specs.OwnerEvents.{OpeningOwed}
+use Rattle.cleaner_node.specs.declared.cleaner.Phase.{Phase as CleanerPhase}
+use Rattle.cleaner_node.specs.declared.cleaner.Phase.TheVariants as cleaners
 use Rattle.client_log_tie.specs.ClientEvents.{BodyFits, OfItsLog, PhaseOwed, StageTells}
 use Rattle.client_log_tie.specs.Owner.{Scene, ClientAgrees, SeesStage}
 use Rattle.client_log_tie.specs.Texts.{MapFits}
@@ -14,6 +18,7 @@ use Rattle.log_law.specs.Net.Packet.{MapSent}
 use Rattle.log_law.specs.Openings.{OpeningsGoOn}
 use Rattle.log_owner.specs.declared.opening.Stage as stages
 use Rattle.log_owner.specs.declared.opening.Stage.TheVariants as stage
+use Rattle.log_owner.specs.declared.known.Known.{Known}
 use Rattle.log_protocol.specs.Tables as tables
 use Rattle.log_tie.specs.Setting.{Setting}
 use Rattle.node_base.specs.declared.effects.Effect.{Effect}
@@ -30,7 +35,7 @@ use Rattle.wire_msg.specs.declared.packet.Packet.{Packet}
 use Rattle.wire_msg.specs.declared.registry.News.{News}
 use Rattle.world_logs.proofs.Room.{scan_has_room}
 use Rattle.world_logs.proofs.Says.{MaySay, OfLog, no_map_fits, plain_no_map}
-use Rattle.world_logs.proofs.Standing.{OwnerSeen}
+use Rattle.world_logs.proofs.Standing.{CleanerOwns, IsRoomy, OwnerSeen}
 use Rattle.xfs_base.specs.declared.node.NodeId.{NodeId}
 use Rattle.xfs_base.specs.declared.node.NodeId.TheVariants.{Client, Manager, Server, Cleaner, Registry}
 use Rattle.xfs_base.specs.declared.segment.LogId.{LogId}
@@ -64,25 +69,28 @@ in_those true acts a h = h
 in_those false acts a h = absurd h
 
 -- what is of a client's log bears its number
-pub of_log : (g : Setting) (c : ℕ) (is : g.log ≡ record { 0 = c }) (w : Scene) (h : Setting) (d : ℕ) → h.log ≡ record { 0 = d } → (m : Body) → OfItsLog h m
-    → OfLog g c is w d m
-of_log g c is w h d its (body.Store m) own = ap (λ (l : LogId). l.0) (own ∙ its)
-of_log g c is w h d its (body.Fence m) own = ap (λ (l : LogId). l.0) (own ∙ its)
-of_log g c is w h d its _ own = tt
+pub of_log : (h : Setting) (d : ℕ) → h.log ≡ record { 0 = d } → (m : Body) → OfItsLog h m → OfLog d m
+of_log h d its (body.Store m) own = ap (λ (l : LogId). l.0) (own ∙ its)
+of_log h d its (body.Fence m) own = ap (λ (l : LogId). l.0) (own ∙ its)
+of_log h d its _ own = tt
 
 -- what an opening is told: the ids of the groups of maps fit, and behind the end of a chain the log goes on
-pub phase_owed : (g : Setting) (c : ℕ) (w : Scene) → Moment g w.net → ((m : GroupMapState) → tables.In (MapSent m) w.net.sent → MapFits m) → OpeningsGoOn → (p : Phase)
-    → OwnerSeen g c w p → PhaseOwed g w.net p
-phase_owed g c w at maps law (clients.Down l) h = tt
-phase_owed g c w at maps law (clients.Opening l o) h = by o.stage h.agrees.1
-  where
-    by : (x : stages.Stage) → SeesStage g c w o.known l.questions.last x → StageTells g w.net x
-    by (stage.Scanning s) sees = record {
-      maps = maps;
-      end = law g w.net at (scan_has_room w.net s.scan sees.owner h.room) s.scan sees.owner;
-    }
-    by (stage.Settling s) sees = tt
-phase_owed g c w at maps law (clients.Serving s) h = tt
+module _ (g : Setting) (c : ℕ) (w : Scene) (at : Moment g w.net) (maps : (m : GroupMapState) → tables.In (MapSent m) w.net.sent → MapFits m) (law : OpeningsGoOn) where
+  stage_told : (k : Known) (last : ℕ) (x : stages.Stage) → SeesStage g c w k last x → IsRoomy w.net → StageTells g w.net x
+  stage_told k last (stage.Scanning s) sees room =
+      record { maps = maps; end = law g w.net at (scan_has_room w.net s.scan sees.owner room) s.scan sees.owner }
+  stage_told k last (stage.Settling s) sees room = tt
+
+  pub phase_owed : (p : Phase) → OwnerSeen g w c p → PhaseOwed g w.net p
+  phase_owed (clients.Down l) h = tt
+  phase_owed (clients.Opening l o) h = stage_told o.known l.questions.last o.stage h.agrees.1 h.room
+  phase_owed (clients.Serving s) h = tt
+
+pub opening_owed : (g : Setting) (w : Scene) → Moment g w.net → ((m : GroupMapState) → tables.In (MapSent m) w.net.sent → MapFits m) → OpeningsGoOn → (p : CleanerPhase)
+    → CleanerOwns g w p → OpeningOwed g w p
+opening_owed g w at maps law (cleaners.Down l) h = tt
+opening_owed g w at maps law (cleaners.Opening l o) h = stage_told g its_number w at maps law o.known l.questions.last o.stage h.agrees.sees h.room
+opening_owed g w at maps law (cleaners.Serving e) h = tt
 
 -- the number of a client that is seen
 pub number_is : (g : Setting) (c : ℕ) (w : Scene) (p : Phase) → ClientAgrees g c w p → (lasting_of p).number ≡ c

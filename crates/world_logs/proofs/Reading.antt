@@ -1,7 +1,7 @@
 -- What a moment that stands to the small worlds says of logs: each segment that was told to be filed is whole, and each name has one text.
-use Rattle.std.proofs.Common.{◌≡◌, ◌⊎◌, ⊎_elim, ℕ, suc, ◌==◌, ◌<◌, true, false, List, [], ◌∷◌, Option, None, Some, length, inl, inr, refl, sym, ap, subst, ◌∙◌}
+use Rattle.std.proofs.Common.{◌≡◌, ◌⊎◌, ⊎_elim, ℕ, ◌==◌, ◌<◌, true, false, List, [], ◌∷◌, Option, None, Some, length, inl, inr, refl, sym, ap, subst, ◌∙◌}
 use Rattle.client_log.specs.Transition.{no_member}
-use Rattle.client_log_tie.specs.Owner.{Scene, asker}
+use Rattle.client_log_tie.specs.Owner.{Scene}
 use Rattle.core_world.specs.declared.any_node.AnyNode.{AnyNode}
 use Rattle.core_world.specs.declared.any_node.AnyNode.TheVariants as any
 use Rattle.fragment_store.specs.ShelfState.{ShelfState, held_at}
@@ -34,6 +34,8 @@ use Rattle.world_law.proofs.Laws.{one_node}
 use Rattle.world_law.proofs.OtherTurns.{equal_or_not}
 use Rattle.world_law.proofs.Sent.{was_sent}
 use Rattle.world_law.specs.Owners.{node_in, node_named}
+use Rattle.world_logs.proofs.Lists.{in_was}
+use Rattle.world_logs.proofs.Roles.{Role, asker_by, log_by}
 use Rattle.world_logs.proofs.Settings.{setting_of, stripe_by, striped}
 use Rattle.world_logs.proofs.Standing.{Stands}
 use Rattle.world_logs.specs.Logs.{IsText, IsWhole, NotDeleted, log_of}
@@ -45,11 +47,6 @@ use Rattle.xfs_base.specs.declared.segment.LogId.{LogId}
 use Rattle.xfs_base.specs.declared.segment.SegName.{SegName}
 
 -- ---- lists and names
-
-in_was : (sent : List Packet) (p : Packet) → In p sent → WasSent sent p
-in_was [] p h = absurd h
-in_was (x ∷ sent) p (inl e) = (0, ap Some (sym e))
-in_was (x ∷ sent) p (inr h) = (let w = in_was sent p h in (suc w.0, w.1))
 
 decide : (a b : SegName) → (a ≡ b) ⊎ (a ≡ b → ⊥)
 decide a b = ⊎_elim
@@ -84,8 +81,11 @@ has_shelf (Some (any.Registry node)) shelf is = absurd cc
 
 -- ---- a moment
 
-module _ (base : Setting) (end w : World AnyNode) (servers c : ℕ) (k : Cluster) (cluster : w.cluster ≡ k) (v : Scene) (told : List Act)
-    (st : Stands (setting_of base end servers c) c v k w.nodes w.sent told) where
+module _ (base : Setting) (end w : World AnyNode) (servers : ℕ) (r : Role) (k : Cluster) (cluster : w.cluster ≡ k) (v : Scene) (told : List Act)
+    (st : Stands (setting_of base end servers (log_by r)) r v k w.nodes w.sent told) where
+  abbrev c : ℕ
+  c = log_by r
+
   abbrev g : Setting
   g = setting_of base end servers c
 
@@ -122,9 +122,9 @@ module _ (base : Setting) (end w : World AnyNode) (servers c : ℕ) (k : Cluster
     ours n e = subst (λ (z : SegName). is_of_log g z ≡ true) (sym e) (subst (λ (l : LogId). (l.0 == c) ≡ true) (sym of) (itself c))
 
     seen_as : (packet : Packet) (m : Body) (to : NodeId) → WasSent w.sent packet → packet.to ≡ to → packet.body ≡ m
-        → BodySeen g (asker c v) net packet.from to m
+        → BodySeen g (asker_by r v) net packet.from to m
     seen_as packet m to was at is =
-        subst (BodySeen g (asker c v) net packet.from to) is (subst (λ t. BodySeen g (asker c v) net packet.from t packet.body) at (st.facts packet (was_sent w.sent packet was)))
+        subst (BodySeen g (asker_by r v) net packet.from to) is (subst (λ t. BodySeen g (asker_by r v) net packet.from t packet.body) at (st.facts packet (was_sent w.sent packet was)))
 
     text : IsText w name its group
     text = record {

@@ -1,8 +1,15 @@
--- An owner that has its turn leaves room: no number of what was in flight is at its end, but that after the end of the log.
+-- An owner of a log that has its turn leaves room: no number of what was in flight is at its end, but that after the end of the log.
 use Rattle.std.proofs.Common.{◌≡◌, ◌⊎◌, ⊎_elim, ◌+◌, ◌≤◌, ℕ, Bool, true, false, refl, sym, ap, subst, ◌∙◌, inl, inr, arith}
 use Rattle.std.specs.Prelude.{◌&&◌, if◌then◌else◌}
 use Rattle.std.specs.List.{list_all}
 use Rattle.std.proofs.lemmas.Bool.Decides.{nat_tests}
+use Rattle.cleaner_log_tie.specs.Owner.{CleanerAgrees, its_number}
+use Rattle.cleaner_log_tie.specs.OwnerEvents.{OwnerGoes}
+use Rattle.cleaner_node.specs.CleanerEvents as cleaner_events
+use Rattle.cleaner_node.specs.declared.cleaner.Cleaner.{Cleaner as CleanerNode}
+use Rattle.cleaner_node.specs.declared.cleaner.Phase.{Phase as CleanerPhase}
+use Rattle.cleaner_node.specs.declared.cleaner.Phase.TheVariants as cleaners
+use Rattle.cleaner_node.specs.EmptyingEvents.{lasting_room}
 use Rattle.client_log.specs.LogState.{LogState}
 use Rattle.client_log.specs.Transition.{has_next}
 use Rattle.client_log_tie.specs.ClientEvents.{ClientGoes, FliesInBoot}
@@ -20,7 +27,7 @@ use Rattle.log_law.specs.Openings.{AllHaveNext, FliesNext, next_number}
 use Rattle.log_owner.specs.declared.known.Known.{Known}
 use Rattle.log_owner.specs.declared.opening.Stage as stages
 use Rattle.log_owner.specs.declared.opening.Stage.TheVariants as stage
-use Rattle.log_owner.specs.Opening.{attempt_of, log_room, stage_room}
+use Rattle.log_owner.specs.Opening.{attempt_of, log_room, opening_room, stage_room}
 use Rattle.log_protocol.specs.Tables.{In}
 use Rattle.log_scan.specs.ScanState.{ScanState}
 use Rattle.log_tie.specs.Setting.{Setting}
@@ -65,9 +72,8 @@ module _ (law : FliesNext) (g : Setting) (n o : Net) (at : Moment g n) (run : Ru
 pub scan_has_room : (n : Net) (s : ScanState) → n.owner ≡ Opening s → IsRoomy n → AllHaveNext n
 scan_has_room n s is room x among = ⊎_elim (λ has. has) (λ low. first_next x.name.seq (let e = ap next_number is in omega arith)) (room x among)
 
--- ---- a client
+-- ---- whose owner is the one of its phase
 
--- whose owner is the one of its phase
 abbrev owner_at : stages.Stage → Owner
 owner_at (stage.Scanning s) = Opening s.scan
 owner_at (stage.Settling s) = Writing s.chain s.log
@@ -112,3 +118,37 @@ client_leaves_room law g c w at node what sees go room =
     by false e =
         let same : (takes node what).state ≡ node.phase = ap (λ t. (if t then happens node what else still node.phase).state) e in
         inl (its_owner g c go.next node.phase (subst (ClientAgrees g c go.next) same go.agrees) ∙ sym (its_owner g c w node.phase sees))
+
+-- ---- the cleaner
+
+abbrev cleaner_by : CleanerPhase → Owner
+cleaner_by (cleaners.Down l) = Down
+cleaner_by (cleaners.Opening l o) = owner_at o.stage
+cleaner_by (cleaners.Serving e) = Serving e.log
+
+cleaner_next : (p : CleanerPhase) → cleaner_events.phase_room p ≡ true → (k : ℕ) → k ≤ next_number (cleaner_by p) → has_next k ≡ true
+cleaner_next (cleaners.Down l) room k le = first_next k le
+cleaner_next (cleaners.Opening l o) room k le =
+    stage_next o.stage
+    (and_second (list_all has_room o.known.promised.epochs) (stage_room o.stage) (and_second (has_room o.known.maps.version) _ (and_second (lasting_room l) (opening_room o) room))) k le
+cleaner_next (cleaners.Serving e) room k le =
+    log_next e.log
+    (and_first (log_room e.log) (list_all has_room e.promised.epochs)
+    (and_second (has_room e.maps.version) (log_room e.log && list_all has_room e.promised.epochs) (and_second (lasting_room e.lasting) _ room))) k le
+
+cleaner_owner : (g : Setting) (w : Scene) (p : CleanerPhase) → CleanerAgrees g w p → w.net.owner ≡ cleaner_by p
+cleaner_owner g w (cleaners.Down l) sees = sees.1
+cleaner_owner g w (cleaners.Opening l o) sees = stage_owner g its_number w o.known l.questions.last o.stage sees.sees
+cleaner_owner g w (cleaners.Serving e) sees = sees.log.owner
+
+pub cleaner_leaves_room : FliesNext → (g : Setting) (w : Scene) → Moment g w.net → (node : CleanerNode) (what : Do) → CleanerAgrees g w node.phase
+    → (go : OwnerGoes g w (cleaner_events.cleaner_step node what)) → IsRoomy w.net → IsRoomy go.next.net
+cleaner_leaves_room law g w at node what sees go room =
+    turn_leaves_room law g w.net go.next.net at go.grown.runs go.flies (by (cleaner_events.phase_room node.phase) refl) room
+  where
+    by : (t : Bool) → cleaner_events.phase_room node.phase ≡ t → (go.next.net.owner ≡ w.net.owner) ⊎ NextFits w.net
+    by true e = inr (λ k le. cleaner_next node.phase e k (let same = ap next_number (cleaner_owner g w node.phase sees) in omega arith))
+    by false e =
+        let same : (cleaner_events.takes node.peers node.phase what).state ≡ node.phase =
+        ap (λ t. (if t then cleaner_events.happens node.peers node.phase what else still node.phase).state) e in
+        inl (cleaner_owner g go.next node.phase (subst (CleanerAgrees g go.next) same go.agrees) ∙ sym (cleaner_owner g w node.phase sees))

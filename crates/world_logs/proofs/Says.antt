@@ -1,20 +1,20 @@
 -- Who sends what: a client or a manager sends nothing that a server answers, nor maps, nor Deletes; the registry alone sends maps.
 use Rattle.std.proofs.Common.{◌≡◌, ◌≤◌, ℕ, ◌==◌, true, sym, ap, ◌∙◌, arith}
+use Rattle.std.specs.Prelude.{List}
 use Rattle.client_log_tie.specs.ClientEvents.{BodyFits}
-use Rattle.client_log_tie.specs.Owner.{Scene, asker}
+use Rattle.client_log_tie.specs.Owner.{Scene}
 use Rattle.log_tie.proofs.Names.{equal}
 use Rattle.log_tie.specs.Setting.{Setting}
 use Rattle.node_log_tie.specs.Sight.{BodySeen}
 use Rattle.node_tie.specs.Sight.{ClientSends, CleanerSends, ManagerSends, ServerSends}
 use Rattle.token_law.specs.Net.{Packet as Told}
-use Rattle.std.specs.Prelude.{List}
 use Rattle.wire_msg.specs.declared.body.Body.{Body}
 use Rattle.wire_msg.specs.declared.body.Body.TheVariants as body
 use Rattle.wire_msg.specs.declared.packet.Packet.{Packet}
 use Rattle.world_base.specs.declared.cluster.Cluster.{Cluster}
-use Rattle.world_law.proofs.ClientTurns.{number}
 use Rattle.world_law.proofs.Standing as tokens
 use Rattle.world_logs.proofs.Managers.{StoresItsOwn}
+use Rattle.world_logs.proofs.Roles.{IsOf, Role, asker_by, log_by, no_manager, owner_by}
 use Rattle.xfs_base.specs.declared.node.NodeId.{NodeId}
 use Rattle.xfs_base.specs.declared.node.NodeId.TheVariants.{Client, Manager, Server, Cleaner, Registry}
 use Rattle.xfs_base.specs.declared.segment.LogId.{LogId}
@@ -108,43 +108,44 @@ plain_no_map (body.Welcome m) h = h
 plain_no_map (body.MapNews m) h = h
 plain_no_map _ h = tt
 
--- ---- what follows for a log of another client
+-- ---- what follows for a log of another owner
 
-module _ (g : Setting) (c : ℕ) (is : g.log ≡ record { 0 = c }) (w : Scene) where
-  -- a number that is tested to be the log's is the client's
-  of_client : (n : ℕ) → (n == g.log.0) ≡ true → n ≡ c
-  of_client n t = equal n g.log.0 t ∙ ap (λ (l : LogId). l.0) is
+-- what another client sends, if it stores and bars its own log alone
+abbrev pub OfLog : ℕ → Body → Type 0
+OfLog d (body.Store m) = m.fragment.meta.name.log.0 ≡ d
+OfLog d (body.Fence m) = m.log.0 ≡ d
+OfLog d _ = Unit {0}
 
-  -- what another client sends, if it stores and bars its own log alone
-  abbrev pub OfLog : ℕ → Body → Type 0
-  OfLog d (body.Store m) = m.fragment.meta.name.log.0 ≡ d
-  OfLog d (body.Fence m) = m.log.0 ≡ d
-  OfLog d _ = Unit {0}
+module _ (g : Setting) (r : Role) (is : IsOf g r) (w : Scene) where
+  -- a number that is tested to be the log's is the owner's
+  of_owner : (n : ℕ) → (n == g.log.0) ≡ true → n ≡ log_by r
+  of_owner n t = equal n g.log.0 t ∙ ap (λ (l : LogId). l.0) is
 
-  pub client_apart : (d : ℕ) → (d ≡ c → ⊥) → (to : NodeId) (m : Body) → Plain m → OfLog d m → BodySeen g (asker c w) w.net (Client d) to m
-  client_apart d other (Server v) (body.Store m) plain own = λ mine. absurd (other (sym own ∙ of_client m.fragment.meta.name.log.0 mine))
-  client_apart d other (Client x) (body.Store m) plain own = tt
-  client_apart d other (Manager x) (body.Store m) plain own = tt
-  client_apart d other Cleaner (body.Store m) plain own = tt
-  client_apart d other Registry (body.Store m) plain own = tt
-  client_apart d other (Server v) (body.Fence m) plain own = λ mine. absurd (other (sym own ∙ of_client m.log.0 mine))
-  client_apart d other (Client x) (body.Fence m) plain own = tt
-  client_apart d other (Manager x) (body.Fence m) plain own = tt
-  client_apart d other Cleaner (body.Fence m) plain own = tt
-  client_apart d other Registry (body.Fence m) plain own = tt
-  client_apart d other to (body.Stored m) plain own = absurd plain
-  client_apart d other to (body.Fragment m) plain own = absurd plain
-  client_apart d other to (body.Fenced m) plain own = absurd plain
-  client_apart d other to (body.Listed m) plain own = absurd plain
-  client_apart d other to (body.Delete m) plain own = absurd plain
-  client_apart d other to (body.Welcome m) plain own = absurd plain
-  client_apart d other to (body.MapNews m) plain own = absurd plain
-  client_apart d other to (body.Hello m) plain own = record { own = λ e. absurd (other (ap number e)); reached = tt }
-  client_apart d other to _ plain own = tt
+  module _ (d : ℕ) (other : d ≡ log_by r → ⊥) (away : Client d ≡ owner_by r → ⊥) where
+    pub client_apart : (to : NodeId) (m : Body) → Plain m → OfLog d m → BodySeen g (asker_by r w) w.net (Client d) to m
+    client_apart (Server v) (body.Store m) plain own = λ mine. absurd (other (sym own ∙ of_owner m.fragment.meta.name.log.0 mine))
+    client_apart (Client x) (body.Store m) plain own = tt
+    client_apart (Manager x) (body.Store m) plain own = tt
+    client_apart Cleaner (body.Store m) plain own = tt
+    client_apart Registry (body.Store m) plain own = tt
+    client_apart (Server v) (body.Fence m) plain own = λ mine. absurd (other (sym own ∙ of_owner m.log.0 mine))
+    client_apart (Client x) (body.Fence m) plain own = tt
+    client_apart (Manager x) (body.Fence m) plain own = tt
+    client_apart Cleaner (body.Fence m) plain own = tt
+    client_apart Registry (body.Fence m) plain own = tt
+    client_apart to (body.Stored m) plain own = absurd plain
+    client_apart to (body.Fragment m) plain own = absurd plain
+    client_apart to (body.Fenced m) plain own = absurd plain
+    client_apart to (body.Listed m) plain own = absurd plain
+    client_apart to (body.Delete m) plain own = absurd plain
+    client_apart to (body.Welcome m) plain own = absurd plain
+    client_apart to (body.MapNews m) plain own = absurd plain
+    client_apart to (body.Hello m) plain own = record { own = λ e. absurd (away e); reached = tt }
+    client_apart to _ plain own = tt
 
   -- what a manager sends
-  pub manager_apart : c ≤ 8 → (j : ℕ) (to : NodeId) (m : Body) → Plain m → NoFence m → StoresItsOwn m → BodySeen g (asker c w) w.net (Manager j) to m
-  manager_apart small j (Server v) (body.Store m) plain bars own = λ mine. absurd (let e = of_client m.fragment.meta.name.log.0 mine in let h = own in omega arith)
+  pub manager_apart : log_by r ≤ 9 → (j : ℕ) (to : NodeId) (m : Body) → Plain m → NoFence m → StoresItsOwn m → BodySeen g (asker_by r w) w.net (Manager j) to m
+  manager_apart small j (Server v) (body.Store m) plain bars own = λ mine. absurd (let e = of_owner m.fragment.meta.name.log.0 mine in let h = own in omega arith)
   manager_apart small j (Client x) (body.Store m) plain bars own = tt
   manager_apart small j (Manager x) (body.Store m) plain bars own = tt
   manager_apart small j Cleaner (body.Store m) plain bars own = tt
@@ -157,5 +158,5 @@ module _ (g : Setting) (c : ℕ) (is : g.log ≡ record { 0 = c }) (w : Scene) w
   manager_apart small j to (body.Delete m) plain bars own = absurd plain
   manager_apart small j to (body.Welcome m) plain bars own = absurd plain
   manager_apart small j to (body.MapNews m) plain bars own = absurd plain
-  manager_apart small j to (body.Hello m) plain bars own = record { own = λ e. absurd cc; reached = tt }
+  manager_apart small j to (body.Hello m) plain bars own = record { own = λ e. absurd (no_manager r j e); reached = tt }
   manager_apart small j to _ plain bars own = tt

@@ -1,8 +1,11 @@
--- How a moment of a run stands to a moment of the small world of one client's log: each node is seen there, and what was sent, filed and deleted is so there.
+-- How a moment of a run stands to a moment of the small world of one log, a client's or the cleaner's: each node is seen there, and what was sent, filed and
+-- deleted is so there.
 use Rattle.std.proofs.Common.{◌≡◌, ◌⊎◌, ◌≤◌, ℕ, true, List, Some}
+use Rattle.cleaner_log_tie.specs.Owner.{CleanerAgrees}
+use Rattle.cleaner_node.specs.declared.cleaner.Phase.{Phase as CleanerPhase}
 use Rattle.client_log.specs.Transition.{has_next}
 use Rattle.client_log_tie.specs.ClientEvents.{PhaseWritten}
-use Rattle.client_log_tie.specs.Owner.{Scene, ClientAgrees, asker}
+use Rattle.client_log_tie.specs.Owner.{Scene, ClientAgrees}
 use Rattle.client_node.specs.declared.phase.Phase.{Phase}
 use Rattle.core_world.specs.declared.any_node.AnyNode.{AnyNode}
 use Rattle.core_world.specs.declared.any_node.AnyNode.TheVariants as any
@@ -25,6 +28,8 @@ use Rattle.world_base.specs.Cluster.{place_of}
 use Rattle.world_base.specs.declared.cluster.Cluster.{Cluster}
 use Rattle.world_law.specs.Owners.{node_in}
 use Rattle.world_logs.proofs.Managers.{WritesItsLog}
+use Rattle.world_logs.proofs.Roles.{Role, asker_by}
+use Rattle.world_logs.proofs.Roles.Role.{OfClient, OfCleaner}
 use Rattle.xfs_base.specs.declared.node.NodeId.{NodeId}
 use Rattle.xfs_base.specs.declared.node.NodeId.TheVariants.{Client, Manager, Server, Cleaner, Registry}
 use Rattle.xfs_base.specs.declared.segment.SegName.{SegName}
@@ -37,17 +42,31 @@ Deletes name packets = (p : Packet) × In p packets × (p.body ≡ body.Delete (
 abbrev pub IsRoomy : Net → Type 0
 IsRoomy n = (s : Segment) → tables.In s n.flown → (has_next s.name.seq ≡ true) ⊎ (s.name.seq ≤ next_number n.owner)
 
-module _ (g : Setting) (c : ℕ) (w : Scene) where
-  -- the log's owner; of what was in flight no number is at its end, but that after the end of the log
-  pub record OwnerSeen (p : Phase) : Type 0 where
+module _ (g : Setting) (w : Scene) where
+  -- the log's owner, a client or the cleaner; of what was in flight no number is at its end, but that after the end of the log
+  pub record OwnerSeen (c : ℕ) (p : Phase) : Type 0 where
     pub agrees : ClientAgrees g c w p
     pub written : PhaseWritten p
     pub room : IsRoomy w.net
 
+  pub record CleanerOwns (p : CleanerPhase) : Type 0 where
+    pub agrees : CleanerAgrees g w p
+    pub room : IsRoomy w.net
+
+  -- a client, and the cleaner, in the small world of the log of this owner
+  abbrev pub ClientAs : Role → ℕ → Phase → Type 0
+  ClientAs (OfClient c) d p = d ≡ c → OwnerSeen c p
+  ClientAs OfCleaner d p = Unit {0}
+
+  abbrev pub CleanerAs : Role → CleanerPhase → Type 0
+  CleanerAs (OfClient c) p = CleanerSeen g w.net p
+  CleanerAs OfCleaner p = CleanerOwns p
+
+module _ (g : Setting) (r : Role) (w : Scene) where
   -- ---- a node of this name
 
   abbrev pub ClientThere : ℕ → AnyNode → Type 0
-  ClientThere d (any.Client node) = d ≡ c → OwnerSeen node.phase
+  ClientThere d (any.Client node) = ClientAs g w r d node.phase
   ClientThere d (any.Manager node) = ⊥
   ClientThere d (any.Server node) = ⊥
   ClientThere d (any.Cleaner node) = ⊥
@@ -71,7 +90,7 @@ module _ (g : Setting) (c : ℕ) (w : Scene) where
   CleanerThere (any.Client node) = ⊥
   CleanerThere (any.Manager node) = ⊥
   CleanerThere (any.Server node) = ⊥
-  CleanerThere (any.Cleaner node) = CleanerSeen g w.net node.phase
+  CleanerThere (any.Cleaner node) = CleanerAs g w r node.phase
   CleanerThere (any.Registry node) = ⊥
 
   abbrev pub RegistryThere : AnyNode → Type 0
@@ -94,6 +113,6 @@ module _ (g : Setting) (c : ℕ) (w : Scene) where
     pub record Stands : Type 0 where
       pub moment : Moment g w.net
       pub seen : (name : NodeId) (x : AnyNode) → node_in nodes (place_of k name) ≡ Some x → Seen name x
-      pub facts : (p : Packet) → In p sent → PacketSeen g (asker c w) w.net p
+      pub facts : (p : Packet) → In p sent → PacketSeen g (asker_by r w) w.net p
       pub filed : (name : SegName) → In (act.Filed name) told → tables.In name w.net.filed
       pub deleted : (name : SegName) → tables.In name w.net.dropped → Deletes name sent

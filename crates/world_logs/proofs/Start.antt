@@ -1,8 +1,11 @@
--- At the start of a run each client's log stands to the opening of its small world.
+-- At the start of a run the log of each client and that of the cleaner stand to the openings of their small worlds.
 use Rattle.std.proofs.Common.{◌≡◌, ℕ, ◌<◌, ◌≤◌, true, List, [], Option, None, Some, refl, sym, ap, subst, ◌∙◌, arith}
 use Rattle.std.proofs.lemmas.Bool.Decides.{nat_tests}
+use Rattle.cleaner_log_tie.specs.OwnerEvents.{OwnerStarts}
+use Rattle.cleaner_node.specs.CleanerEvents.{cleaner_start}
 use Rattle.client_log_tie.specs.ClientEvents.{ClientBegins, ClientStarts}
 use Rattle.client_log_tie.specs.Owner.{Scene}
+use Rattle.client_log_tie.specs.Texts.{MapFits}
 use Rattle.client_node.specs.Starting.{first_client}
 use Rattle.core_world.specs.AnyNode.{any_start}
 use Rattle.core_world.specs.declared.any_node.AnyNode.{AnyNode}
@@ -29,9 +32,12 @@ use Rattle.world_base.specs.NextWorld.{first_nodes}
 use Rattle.world_law.proofs.Laws.{one_node}
 use Rattle.world_law.proofs.Start.{first_stands}
 use Rattle.world_law.specs.Owners.{node_in}
+use Rattle.world_law.proofs.Places.{behind}
 use Rattle.world_logs.proofs.ManagerLogs.{manager_begins}
 use Rattle.world_logs.proofs.Settings.{map_fits}
-use Rattle.world_logs.proofs.Standing.{OwnerSeen, Seen, Stands}
+use Rattle.world_logs.proofs.Roles.{IsOf, IsThere, Role}
+use Rattle.world_logs.proofs.Roles.Role.{OfClient, OfCleaner}
+use Rattle.world_logs.proofs.Standing.{CleanerAs, ClientAs, OwnerSeen, Seen, Stands}
 use Rattle.xfs_base.specs.declared.node.NodeId.{NodeId}
 use Rattle.xfs_base.specs.declared.node.NodeId.TheVariants.{Client, Manager, Server, Cleaner, Registry}
 use Rattle.xfs_base.specs.declared.setup.Setup.{Setup}
@@ -40,8 +46,8 @@ use Rattle.xfs_base.specs.declared.setup.Setup.{Setup}
 pub log_small : (c : ℕ) → 0 < c → c ≤ 8 → is_log c ≡ true
 log_small c some most = grind (arith, nat_tests)
 
-module _ (clients : ClientStarts) (servers : ServerStarts) (cleaners : CleanerStarts) (registries : RegistryStarts) (script : Script) (ok : IsSetup script.setup)
-    (g : Setting) (c : ℕ) (is : g.log ≡ record { 0 = c }) (size : script.setup.servers ≡ g.servers) (some : 0 < c) (most : c ≤ 8)
+module _ (clients : ClientStarts) (owner : OwnerStarts) (servers : ServerStarts) (cleaners : CleanerStarts) (registries : RegistryStarts) (script : Script) (ok : IsSetup script.setup)
+    (g : Setting) (r : Role) (is : IsOf g r) (size : script.setup.servers ≡ g.servers) (more : Type 0) (is_there : IsThere script.setup.clients more r)
     (named : NamesGroups g (groups.started script.setup.servers script.setup.groups)) where
   abbrev setup : Setup
   setup = script.setup
@@ -58,29 +64,40 @@ module _ (clients : ClientStarts) (servers : ServerStarts) (cleaners : CleanerSt
   whole : WholeMap g (λ v. 1) map
   whole = (let r = registry_so [] in whole_map map r.map g r.size r.named (λ v. 1) r.known)
 
-  owner_so : (items : List Work) → OwnerSeen g c first_scene (first_client c setup items).phase
-  owner_so items = (let b : ClientBegins g c setup items = clients g c is (log_small c some most) setup items in
-      record { agrees = b.agrees; written = b.written (map_fits map (registry_so []).map); room = λ s among. absurd among })
+  fits : MapFits map
+  fits = map_fits map (registry_so []).map
 
-  starts : (name : NodeId) (items : List Work) → Seen g c first_scene name (any_start name setup items)
-  starts (Client d) items = λ e. subst (λ n. OwnerSeen g c first_scene (first_client n setup items).phase) (sym e) (owner_so items)
-  starts (Manager j) items = manager_begins j setup items
-  starts (Server v) items = servers g (opening g map) v setup items refl (record { named = whole.named; cut = whole.cut })
-  starts Cleaner items = cleaners g (opening g map) setup items
-  starts Registry items = registry_so items
+  owner_so : (c : ℕ) → g.log ≡ record { 0 = c } → 0 < c → c ≤ setup.clients → (items : List Work) → OwnerSeen g first_scene c (first_client c setup items).phase
+  owner_so c its some most items = (let b : ClientBegins g c setup items = clients g c its (log_small c some (let m = ok.clients.1 in omega arith)) setup items in
+      record { agrees = b.agrees; written = b.written fits; room = λ s among. absurd among })
+
+  client_so : (q : Role) → IsOf g q → IsThere setup.clients more q → (d : ℕ) (items : List Work) → ClientAs g first_scene q d (first_client d setup items).phase
+  client_so (OfClient c) of h d items = λ e. subst (λ n. OwnerSeen g first_scene c (first_client n setup items).phase) (sym e) (owner_so c of h.0 h.1 items)
+  client_so OfCleaner of h d items = tt
+
+  cleaner_so : (q : Role) → IsOf g q → (items : List Work) → CleanerAs g first_scene q (cleaner_start setup items).phase
+  cleaner_so (OfClient c) of items = cleaners g (opening g map) setup items
+  cleaner_so OfCleaner of items = record { agrees = owner g of setup items fits; room = λ s among. absurd among }
+
+  starts : (name : NodeId) (p : ℕ) → place_of (cluster_of script.setup) name ≡ Some p → (items : List Work) → Seen g r first_scene name (any_start name setup items)
+  starts (Client d) p at items = client_so r is is_there d items
+  starts (Manager j) p at items = manager_begins j setup items (behind setup.clients setup.managers j p at).some
+  starts (Server v) p at items = servers g (opening g map) v setup items refl (record { named = whole.named; cut = whole.cut })
+  starts Cleaner p at items = cleaner_so r is items
+  starts Registry p at items = registry_so items
 
   abbrev k : Cluster
   k = cluster_of script.setup
 
-  seen : (name : NodeId) (x : AnyNode) → node_in (first_nodes any_start script k) (place_of k name) ≡ Some x → Seen g c first_scene name x
+  seen : (name : NodeId) (x : AnyNode) → node_in (first_nodes any_start script k) (place_of k name) ≡ Some x → Seen g r first_scene name x
   seen name x here = by (place_of k name) refl
     where
-      by : (o : Option ℕ) → place_of k name ≡ o → Seen g c first_scene name x
+      by : (o : Option ℕ) → place_of k name ≡ o → Seen g r first_scene name x
       by None at = (let clash : None ≡ Some x = sym (ap (node_in (first_nodes any_start script k)) at) ∙ here in absurd cc)
       by (Some p) at =
-          subst (Seen g c first_scene name) (one_node (any_start name setup (items_of script.lines name)) x (sym (first_stands script name p at) ∙ here)) (starts name (items_of script.lines name))
+          subst (Seen g r first_scene name) (one_node (any_start name setup (items_of script.lines name)) x (sym (first_stands script name p at) ∙ here)) (starts name p at (items_of script.lines name))
 
-  pub start_stands : Stands g c first_scene k (first_nodes any_start script k) [] []
+  pub start_stands : Stands g r first_scene k (first_nodes any_start script k) [] []
   start_stands = record {
     moment = record { map = map; whole = whole; run = Begun };
     seen = seen;

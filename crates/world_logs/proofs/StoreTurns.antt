@@ -1,6 +1,10 @@
--- A server, the registry or the cleaner has its turn: the small world of a client's log runs on with it.
-use Rattle.std.proofs.Common.{◌≡◌, ◌⊎◌, ⊎_elim, ℕ, List, [], ◌∷◌, inl, inr, refl, sym, ap, subst}
-use Rattle.client_log_tie.specs.Owner.{Scene, asker}
+-- A server, the registry or the cleaner has its turn: the small world of a log runs on with it.
+use Rattle.std.proofs.Common.{◌≡◌, ◌⊎◌, ⊎_elim, ℕ, [], inl, inr, refl, sym, ap, subst}
+use Rattle.cleaner_node.specs.declared.cleaner.Phase.{Phase as CleanerPhase}
+use Rattle.cleaner_node.specs.CleanerEvents.{cleaner_step}
+use Rattle.cleaner_node.specs.declared.cleaner.Cleaner.{Cleaner as CleanerNode}
+use Rattle.client_log_tie.specs.Owner.{Scene}
+use Rattle.client_node.specs.declared.phase.Phase.{Phase}
 use Rattle.core_world.specs.declared.any_node.AnyNode.TheVariants as any
 use Rattle.log_law.specs.Events.{Runs}
 use Rattle.log_law.specs.Laws.{Moment}
@@ -13,17 +17,17 @@ use Rattle.node_log_tie.specs.CleanerEvents.{CleanerGoes}
 use Rattle.node_log_tie.specs.RegistryEvents.{RegistryGoes}
 use Rattle.node_log_tie.specs.ServerEvents.{ServerGoes}
 use Rattle.node_log_tie.specs.Sight.{Later, PacketSeen}
-use Rattle.cleaner_node.specs.CleanerEvents.{cleaner_step}
-use Rattle.cleaner_node.specs.declared.cleaner.Cleaner.{Cleaner as CleanerNode}
 use Rattle.store_nodes.specs.declared.registry_node.RegistryNode.{RegistryNode}
 use Rattle.store_nodes.specs.declared.server.Server.{Server as ServerNode}
 use Rattle.store_nodes.specs.RegistryEvents.{registry_step}
 use Rattle.store_nodes.specs.ServerEvents.{server_step}
-use Rattle.token_protocol.specs.Basics.{In}
 use Rattle.wire_msg.specs.declared.packet.Do.{Do}
 use Rattle.wire_msg.specs.declared.packet.Packet.{Packet}
-use Rattle.world_logs.proofs.Frames.{cleaner_still, client_still, registry_still, room_still, server_still}
-use Rattle.world_logs.proofs.Standing.{Deletes}
+use Rattle.world_logs.proofs.Frames.{cleaner_owner_still, cleaner_still, client_still, registry_still, room_still, server_still}
+use Rattle.world_logs.proofs.Lists.{in_listed}
+use Rattle.world_logs.proofs.Roles.{IsOf, Role, asker_by}
+use Rattle.world_logs.proofs.Roles.Role.{OfClient, OfCleaner}
+use Rattle.world_logs.proofs.Standing.{CleanerAs, ClientAs, Deletes}
 use Rattle.world_logs.proofs.Turns.{Keeps, Turn}
 use Rattle.xfs_base.specs.declared.node.NodeId.{NodeId}
 use Rattle.xfs_base.specs.declared.node.NodeId.TheVariants.{Server, Cleaner, Registry}
@@ -33,75 +37,82 @@ use Rattle.xfs_base.specs.declared.segment.SegName.{SegName}
 pub moment_on : (g : Setting) (n next : Net) → Moment g n → Runs g n next → Moment g next
 moment_on g n next m run = record { map = m.map; whole = m.whole; run = runs_on g (opening g m.map) n next m.run run }
 
-module _ (g : Setting) (c : ℕ) (w : Scene) (at : Moment g w.net) (next : Net) (run : Runs g w.net next) where
+module _ (g : Setting) (r : Role) (is : IsOf g r) (w : Scene) (at : Moment g w.net) (next : Net) (run : Runs g w.net next) where
   abbrev pub after : Scene
   after = record w { net = next }
 
   later : Later w.net next
   later = run_later g w.net next run
 
-  facts : (p : Packet) → PacketSeen g (asker c w) w.net p → PacketSeen g (asker c w) next p
-  facts p h = seen_later g (asker c w) w.net next later p.from p.to p.body h
+  facts : (p : Packet) → PacketSeen g (asker_by r w) w.net p → PacketSeen g (asker_by r w) next p
+  facts p h = seen_later g (asker_by r w) w.net next later p.from p.to p.body h
+
+  client_as : (q : Role) (d : ℕ) (p : Phase) → next.inc ≡ w.net.inc → next.owner ≡ w.net.owner → next.flown ≡ w.net.flown → ClientAs g w q d p → ClientAs g after q d p
+  client_as (OfClient c) d p inc owner flown h = λ e. (let o = h e in
+      record { agrees = client_still g c w.net next w.asked later inc owner p o.agrees; written = o.written; room = room_still w.net next owner flown o.room })
+  client_as OfCleaner d p inc owner flown h = tt
+
+  cleaner_as : (q : Role) → IsOf g q → (p : CleanerPhase) → next.inc ≡ w.net.inc → next.owner ≡ w.net.owner → next.flown ≡ w.net.flown → CleanerAs g w q p
+      → CleanerAs g after q p
+  cleaner_as (OfClient c) of p inc owner flown h = cleaner_still g w.net next later p h
+  cleaner_as OfCleaner of p inc owner flown h =
+      record { agrees = cleaner_owner_still g of w.net next w.asked later inc owner p h.agrees; room = room_still w.net next owner flown h.room }
 
   -- all but one node are seen as they were
   keeps : (name : NodeId) → next.inc ≡ w.net.inc → next.owner ≡ w.net.owner → next.flown ≡ w.net.flown
       → ((u : ℕ) → (Server u ≡ name → ⊥) → next.shelves u ≡ w.net.shelves u)
-      → ((Registry ≡ name → ⊥) → (next.registry ≡ w.net.registry) × (next.low ≡ w.net.low)) → Keeps g c w after name
+      → ((Registry ≡ name → ⊥) → (next.registry ≡ w.net.registry) × (next.low ≡ w.net.low)) → Keeps g r w after name
   keeps name inc owner flown shelves known = record {
-    owner = λ differs p h.
-        record { agrees = client_still g c w.net next w.asked later inc owner p h.agrees; written = h.written; room = room_still w.net next owner flown h.room };
+    client = λ d differs p h. client_as r d p inc owner flown h;
     server = λ u differs node h. server_still g w.net next later u node (shelves u differs) h;
-    cleaner = λ differs p h. cleaner_still g w.net next later p h;
+    cleaner = λ differs p h. cleaner_as r is p inc owner flown h;
     registry = λ differs b h. registry_still g w.net next later b (known differs).0 (known differs).1 h;
   }
 
-module _ (g : Setting) (c : ℕ) (w : Scene) (at : Moment g w.net) where
-  pub server_turn : (v : ℕ) (node : ServerNode) (what : Do) (go : ServerGoes g (asker c w) w.net v node what)
-      → Turn g c w (record w { net = go.next }) (Server v) (any.Server (server_step node what).node) (server_step node what).packets []
+module _ (g : Setting) (r : Role) (is : IsOf g r) (w : Scene) (at : Moment g w.net) where
+  pub server_turn : (v : ℕ) (node : ServerNode) (what : Do) (go : ServerGoes g (asker_by r w) w.net v node what)
+      → Turn g r w (record w { net = go.next }) (Server v) (any.Server (server_step node what).node) (server_step node what).packets []
   server_turn v node what go = record {
     moment = moment_on g w.net go.next at go.runs;
     there = go.seen;
-    others = keeps g c w at go.next go.runs (Server v) (ap (λ (n : Net). n.inc) go.rest) (ap (λ (n : Net). n.owner) go.rest) (ap (λ (n : Net). n.flown) go.rest) (λ u differs. go.shelves u (λ e. differs (ap Server e)))
+    others = keeps g r is w at go.next go.runs (Server v) (ap (λ (n : Net). n.inc) go.rest) (ap (λ (n : Net). n.owner) go.rest) (ap (λ (n : Net). n.flown) go.rest) (λ u differs. go.shelves u (λ e. differs (ap Server e)))
         (λ differs. (ap (λ (n : Net). n.registry) go.rest, ap (λ (n : Net). n.low) go.rest));
-    facts = facts g c w at go.next go.runs;
+    facts = facts g r is w at go.next go.runs;
     sends = go.sends;
     filed = λ n h. subst (tables.In n) (ap (λ (x : Net). x.filed) (sym go.rest)) h;
     files = λ n h. absurd h;
     only = λ n h. inl (subst (tables.In n) (ap (λ (x : Net). x.dropped) go.rest) h);
   }
 
-  pub registry_turn : (node : RegistryNode) (what : Do) (go : RegistryGoes g (asker c w) w.net node what)
-      → Turn g c w (record w { net = go.next }) Registry (any.Registry (registry_step node what).node) (registry_step node what).packets []
+  pub registry_turn : (node : RegistryNode) (what : Do) (go : RegistryGoes g (asker_by r w) w.net node what)
+      → Turn g r w (record w { net = go.next }) Registry (any.Registry (registry_step node what).node) (registry_step node what).packets []
   registry_turn node what go = record {
     moment = moment_on g w.net go.next at go.runs;
     there = go.seen;
-    others = keeps g c w at go.next go.runs Registry (ap (λ (n : Net). n.inc) go.rest) (ap (λ (n : Net). n.owner) go.rest) (ap (λ (n : Net). n.flown) go.rest)
+    others = keeps g r is w at go.next go.runs Registry (ap (λ (n : Net). n.inc) go.rest) (ap (λ (n : Net). n.owner) go.rest) (ap (λ (n : Net). n.flown) go.rest)
         (λ u differs. ap (λ (n : Net). n.shelves u) go.rest) (λ differs. absurd (differs refl));
-    facts = facts g c w at go.next go.runs;
+    facts = facts g r is w at go.next go.runs;
     sends = go.sends;
     filed = λ n h. subst (tables.In n) (ap (λ (x : Net). x.filed) (sym go.rest)) h;
     files = λ n h. absurd h;
     only = λ n h. inl (subst (tables.In n) (ap (λ (x : Net). x.dropped) go.rest) h);
   }
 
-  pub cleaner_turn : (node : CleanerNode) (what : Do) (go : CleanerGoes g (asker c w) w.net node what)
-      → Turn g c w (record w { net = go.next }) Cleaner (any.Cleaner (cleaner_step node what).node) (cleaner_step node what).packets []
+module _ (g : Setting) (c : ℕ) (is : IsOf g (OfClient c)) (w : Scene) (at : Moment g w.net) where
+  -- the cleaner, whose own log is another
+  pub cleaner_turn : (node : CleanerNode) (what : Do) (go : CleanerGoes g (asker_by (OfClient c) w) w.net node what)
+      → Turn g (OfClient c) w (record w { net = go.next }) Cleaner (any.Cleaner (cleaner_step node what).node) (cleaner_step node what).packets []
   cleaner_turn node what go = record {
     moment = moment_on g w.net go.next at go.runs;
     there = go.seen;
-    others = keeps g c w at go.next go.runs Cleaner (ap (λ (n : Net). n.inc) go.rest) (ap (λ (n : Net). n.owner) go.rest) (ap (λ (n : Net). n.flown) go.rest)
+    others = keeps g (OfClient c) is w at go.next go.runs Cleaner (ap (λ (n : Net). n.inc) go.rest) (ap (λ (n : Net). n.owner) go.rest) (ap (λ (n : Net). n.flown) go.rest)
         (λ u differs. ap (λ (n : Net). n.shelves u) go.rest) (λ differs. (ap (λ (n : Net). n.registry) go.rest, ap (λ (n : Net). n.low) go.rest));
-    facts = facts g c w at go.next go.runs;
+    facts = facts g (OfClient c) is w at go.next go.runs;
     sends = go.sends;
     filed = λ n h. subst (tables.In n) (ap (λ (x : Net). x.filed) (sym go.rest)) h;
     files = λ n h. absurd h;
     only = only;
   }
     where
-      listed : (xs : List Packet) (p : Packet) → tables.In p xs → In p xs
-      listed [] p is = absurd is
-      listed (x ∷ xs) p (inl e) = inl e
-      listed (x ∷ xs) p (inr is) = inr (listed xs p is)
-
       only : (n : SegName) → tables.In n go.next.dropped → tables.In n w.net.dropped ⊎ Deletes n (cleaner_step node what).packets
-      only n h = ⊎_elim (λ old. inl old) (λ d. inr (d.0, listed (cleaner_step node what).packets d.0 d.1, d.2)) (go.only n h)
+      only n h = ⊎_elim (λ old. inl old) (λ d. inr (d.0, in_listed (cleaner_step node what).packets d.0 d.1, d.2)) (go.only n h)

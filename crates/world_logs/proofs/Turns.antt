@@ -1,7 +1,8 @@
 -- A node that has its turn: the moment after it stands to a small world to which the one before runs on.
-use Rattle.std.proofs.Common.{◌≡◌, ◌⊎◌, ⊎_elim, ℕ, List, ◌++◌, Some, map, slice_get, slice_set, sym, ap, subst, ◌∙◌}
+use Rattle.std.proofs.Common.{◌≡◌, ◌⊎◌, ⊎_elim, ℕ, List, ◌++◌, Some, map, slice_get, slice_set, sym, subst, ◌∙◌}
 use Rattle.std.specs.Prelude.{All}
-use Rattle.client_log_tie.specs.Owner.{Scene, asker}
+use Rattle.cleaner_node.specs.declared.cleaner.Phase.{Phase as CleanerPhase}
+use Rattle.client_log_tie.specs.Owner.{Scene}
 use Rattle.client_node.specs.declared.phase.Phase.{Phase}
 use Rattle.core_world.specs.declared.any_node.AnyNode.{AnyNode}
 use Rattle.core_world.specs.declared.any_node.AnyNode.TheVariants as any
@@ -9,12 +10,10 @@ use Rattle.log_law.specs.Laws.{Moment}
 use Rattle.log_protocol.specs.Tables as tables
 use Rattle.log_tie.specs.Setting.{Setting}
 use Rattle.node_log_tie.proofs.Others.{same_or_other}
-use Rattle.node_log_tie.specs.CleanerEvents.{CleanerSeen}
 use Rattle.node_log_tie.specs.RegistryEvents.{RegistrySeen}
 use Rattle.node_log_tie.specs.ServerEvents.{ServerSeen}
 use Rattle.node_log_tie.specs.Sight.{PacketSeen}
 use Rattle.registry.specs.BoardState.{BoardState}
-use Rattle.cleaner_node.specs.declared.cleaner.Phase.{Phase as CleanerPhase}
 use Rattle.store_nodes.specs.declared.server.Server.{Server as ServerNode}
 use Rattle.token_protocol.specs.Basics.{In}
 use Rattle.version_model.specs.declared.act.Act.{Act}
@@ -28,23 +27,24 @@ use Rattle.world_law.proofs.Nodes as places
 use Rattle.world_law.proofs.Sent.{at_clock, in_append}
 use Rattle.world_law.specs.Owners.{node_in}
 use Rattle.world_logs.proofs.Lists.{in_after, in_before, in_map}
-use Rattle.world_logs.proofs.Standing.{Deletes, OwnerSeen, Seen, Stands}
+use Rattle.world_logs.proofs.Roles.{Role, asker_by}
+use Rattle.world_logs.proofs.Standing.{CleanerAs, ClientAs, Deletes, Seen, Stands}
 use Rattle.xfs_base.specs.declared.node.NodeId.{NodeId}
 use Rattle.xfs_base.specs.declared.node.NodeId.TheVariants.{Client, Manager, Server, Cleaner, Registry}
 use Rattle.xfs_base.specs.declared.segment.SegName.{SegName}
 
 -- ---- the other nodes
 
-module _ (g : Setting) (c : ℕ) (w v : Scene) (name : NodeId) where
+module _ (g : Setting) (r : Role) (w v : Scene) (name : NodeId) where
   -- all nodes but the one of this name are seen as they were
   pub record Keeps : Type 0 where
-    pub owner : (Client c ≡ name → ⊥) → (p : Phase) → OwnerSeen g c w p → OwnerSeen g c v p
+    pub client : (d : ℕ) → (Client d ≡ name → ⊥) → (p : Phase) → ClientAs g w r d p → ClientAs g v r d p
     pub server : (u : ℕ) → (Server u ≡ name → ⊥) → (node : ServerNode) → ServerSeen g w.net u node → ServerSeen g v.net u node
-    pub cleaner : (Cleaner ≡ name → ⊥) → (p : CleanerPhase) → CleanerSeen g w.net p → CleanerSeen g v.net p
+    pub cleaner : (Cleaner ≡ name → ⊥) → (p : CleanerPhase) → CleanerAs g w r p → CleanerAs g v r p
     pub registry : (Registry ≡ name → ⊥) → (b : BoardState) → RegistrySeen g w.net b → RegistrySeen g v.net b
 
-  pub all_keep : Keeps → (other : NodeId) (z : AnyNode) → (other ≡ name → ⊥) → Seen g c w other z → Seen g c v other z
-  all_keep k (Client d) (any.Client node) differs h = λ e. k.owner (λ s. differs (ap Client e ∙ s)) node.phase (h e)
+  pub all_keep : Keeps → (other : NodeId) (z : AnyNode) → (other ≡ name → ⊥) → Seen g r w other z → Seen g r v other z
+  all_keep k (Client d) (any.Client node) differs h = k.client d differs node.phase h
   all_keep k (Client d) (any.Manager node) differs h = absurd h
   all_keep k (Client d) (any.Server node) differs h = absurd h
   all_keep k (Client d) (any.Cleaner node) differs h = absurd h
@@ -73,41 +73,41 @@ module _ (g : Setting) (c : ℕ) (w v : Scene) (name : NodeId) where
 -- ---- what a turn owes
 
 -- The node of a name is another after its turn, sends these packets, and did these acts, where it is the log's owner.
-pub record Turn (g : Setting) (c : ℕ) (w v : Scene) (name : NodeId) (after : AnyNode) (packets : List Packet) (acts : List Act) : Type 0 where
+pub record Turn (g : Setting) (r : Role) (w v : Scene) (name : NodeId) (after : AnyNode) (packets : List Packet) (acts : List Act) : Type 0 where
   pub moment : Moment g v.net
-  pub there : Seen g c v name after
-  pub others : Keeps g c w v name
-  pub facts : (p : Packet) → PacketSeen g (asker c w) w.net p → PacketSeen g (asker c v) v.net p
-  pub sends : All (PacketSeen g (asker c v) v.net) packets
+  pub there : Seen g r v name after
+  pub others : Keeps g r w v name
+  pub facts : (p : Packet) → PacketSeen g (asker_by r w) w.net p → PacketSeen g (asker_by r v) v.net p
+  pub sends : All (PacketSeen g (asker_by r v) v.net) packets
   pub filed : (n : SegName) → tables.In n w.net.filed → tables.In n v.net.filed
   pub files : (n : SegName) → In (act.Filed n) acts → tables.In n v.net.filed
   pub only : (n : SegName) → tables.In n v.net.dropped → tables.In n w.net.dropped ⊎ Deletes n packets
 
-module _ (g : Setting) (c : ℕ) (w v : Scene) (k : Cluster) (nodes : List AnyNode) (sent : List Packet) (told : List Act) (st : Stands g c w k nodes sent told)
+module _ (g : Setting) (r : Role) (w v : Scene) (k : Cluster) (nodes : List AnyNode) (sent : List Packet) (told : List Act) (st : Stands g r w k nodes sent told)
     (name : NodeId) (place clock : ℕ) (at : place_of k name ≡ Some place) (x y : AnyNode) (is : slice_get nodes place ≡ Some x) (packets : List Packet) (acts : List Act)
-    (t : Turn g c w v name y packets acts) where
+    (t : Turn g r w v name y packets acts) where
   abbrev nodes_now : List AnyNode
   nodes_now = slice_set nodes place y
 
   abbrev sent_now : List Packet
   sent_now = sent ++ map (sent_at clock) packets
 
-  seen : (other : NodeId) (z : AnyNode) → node_in nodes_now (place_of k other) ≡ Some z → Seen g c v other z
+  seen : (other : NodeId) (z : AnyNode) → node_in nodes_now (place_of k other) ≡ Some z → Seen g r v other z
   seen other z here = ⊎_elim
-      (λ same. subst (λ n. Seen g c v n z) (sym same)
-      (subst (λ q. Seen g c v name q) (one_node y z (sym (places.here k nodes name place at y x is) ∙ subst (λ n. node_in nodes_now (place_of k n) ≡ Some z) same here)) t.there))
-      (λ differs. all_keep g c w v name t.others other z differs (st.seen other z (sym (places.there k nodes name place at y other differs) ∙ here)))
+      (λ same. subst (λ n. Seen g r v n z) (sym same)
+      (subst (λ q. Seen g r v name q) (one_node y z (sym (places.here k nodes name place at y x is) ∙ subst (λ n. node_in nodes_now (place_of k n) ≡ Some z) same here)) t.there))
+      (λ differs. all_keep g r w v name t.others other z differs (st.seen other z (sym (places.there k nodes name place at y other differs) ∙ here)))
       (same_or_other other name)
 
   deleted : (n : SegName) → Deletes n packets → Deletes n sent_now
   deleted n d = (sent_at clock d.0, in_after sent (map (sent_at clock) packets) (sent_at clock d.0) (in_map (sent_at clock) packets d.0 d.1), d.2)
 
-  pub turned : Stands g c v k nodes_now sent_now (told ++ acts)
+  pub turned : Stands g r v k nodes_now sent_now (told ++ acts)
   turned = record {
     moment = t.moment;
     seen = seen;
     facts = λ q h. ⊎_elim (λ old. t.facts q (st.facts q old))
-        (λ new. at_clock clock (PacketSeen g (asker c v) v.net) (PacketSeen g (asker c v) v.net) (λ p s. s) packets t.sends q new) (in_append sent (map (sent_at clock) packets) q h);
+        (λ new. at_clock clock (PacketSeen g (asker_by r v) v.net) (PacketSeen g (asker_by r v) v.net) (λ p s. s) packets t.sends q new) (in_append sent (map (sent_at clock) packets) q h);
     filed = λ n h. ⊎_elim (λ old. t.filed n (st.filed n old)) (λ new. t.files n new) (in_append told acts (act.Filed n) h);
     deleted = λ n h. ⊎_elim (λ old. (let d = st.deleted n old in (d.0, in_before sent (map (sent_at clock) packets) d.0 d.1, d.2))) (λ new. deleted n new) (t.only n h);
   }

@@ -1,5 +1,8 @@
--- Logs of clients: what holds at each moment of a run of the segments that clients told to be filed, and of all that is held or sent under a name.
+-- Logs of clients and of the cleaner: what holds at each moment of a run of the segments that their owners told to be filed, and of all that is held or sent
+-- under a name.
 use Rattle.std.specs.Prelude.{◌≡◌, ◌≤◌, ℕ, Some}
+use Rattle.cleaner_log_tie.specs.Fitting.{InRange}
+use Rattle.cleaner_node.specs.EmptyingEvents.{cleaner_log}
 use Rattle.core_world.specs.AnyNode.{any_start, any_step}
 use Rattle.core_world.specs.declared.any_node.AnyNode.{AnyNode}
 use Rattle.fragment_store.specs.ShelfState.{ShelfState, held_at}
@@ -24,7 +27,7 @@ use Rattle.xfs_base.specs.declared.node.NodeId.TheVariants as nodes
 use Rattle.xfs_base.specs.declared.segment.LogId.{LogId}
 use Rattle.xfs_base.specs.declared.segment.SegName.{SegName}
 
--- the log of a client
+-- the log of this number
 abbrev pub log_of : ℕ → LogId
 log_of c = record { 0 = c }
 
@@ -39,7 +42,7 @@ pub record IsText (w : World AnyNode) (name : SegName) (segment : Segment) (grou
   pub told : (packet : Packet) (m : Found) → WasSent w.sent packet → packet.body ≡ body.Fragment m → m.fragment.meta.name ≡ name
       → m.fragment ≡ piece segment group m.fragment.meta.index
 
--- each name of the client's log has one text
+-- each name of the log has one text
 abbrev pub HasOneText : World AnyNode → ℕ → Type 0
 HasOneText w c = (name : SegName) → name.log ≡ log_of c → (segment : Segment) × (group : Group) × IsText w name segment group
 
@@ -59,7 +62,7 @@ pub record IsWhole (end w : World AnyNode) (c : ℕ) (name : SegName) : Type 0 w
   pub kept : IsKept w segment group
   pub text : name.log ≡ log_of c → IsText w name segment group
 
--- so it is of each segment that the client has told to be filed, unless a Delete of it was sent
+-- so it is of each segment that the owner of the log has told to be filed, unless a Delete of it was sent
 abbrev pub LogIsWhole : Estate AnyNode → ℕ → ℕ → Type 0
 LogIsWhole e count c = (name : SegName) → In (act.Filed name) (did e c count) → NotDeleted (moment e count) name → IsWhole e.world (moment e count) c name
 
@@ -73,6 +76,17 @@ pub record LogStands (e : Estate AnyNode) (count c : ℕ) : Type 0 where
 abbrev pub LogsStand : Estate AnyNode → Type 0
 LogsStand e = (count c : ℕ) → 1 ≤ c → c ≤ e.script.setup.clients → LogStands e count c
 
+-- the numbers of all packets that were sent in a run are in the ranges of their types, as those of each packet that a program holds
+abbrev pub AllInRange : World AnyNode → Type 0
+AllInRange end = (packet : Packet) → WasSent end.sent packet → InRange packet.body
+
+-- so it is of the cleaner's log, where they are
+abbrev pub CleanersLogStands : Estate AnyNode → Type 0
+CleanersLogStands e = AllInRange e.world → (count : ℕ) → LogStands e count cleaner_log.0
+
 -- so it is of each run of a script of whose setup a run can be started, after doubtful restarts too
 abbrev pub RunsKeepLogs : Type 0
 RunsKeepLogs = (e : Estate AnyNode) → IsSetup e.script.setup → IsRun any_step any_start e.script e.events e.world → LogsStand e
+
+abbrev pub RunsKeepTheCleanersLog : Type 0
+RunsKeepTheCleanersLog = (e : Estate AnyNode) → IsSetup e.script.setup → IsRun any_step any_start e.script e.events e.world → CleanersLogStands e

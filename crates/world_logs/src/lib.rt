@@ -1,11 +1,12 @@
-//! The laws of every run of the nodes' world about the logs of clients: what was told to be filed is whole, and one name has one text. It has no code of the
-//! product: each function below calls the laws that it stands on, and its contract is a law. The proof carries, for each client, a run of the small world of its
-//! log (`log_law`) beside the run of the nodes; `proofs/Standing.antt` says how the two stand to each other.
+//! The laws of every run of the nodes' world about the logs of clients and of the cleaner: what was told to be filed is whole, and one name has one text. It has
+//! no code of the product: each function below calls the laws that it stands on, and its contract is a law. The proof carries, for each of these owners, a run of
+//! the small world of its log (`log_law`) beside the run of the nodes; `proofs/Standing.antt` says how the two stand to each other.
 #![tactic(auto)]
 
 ghost use Rattle.world_logs.specs.Horizons.{RunsReachHorizons};
-ghost use Rattle.world_logs.specs.Logs.{RunsKeepLogs};
+ghost use Rattle.world_logs.specs.Logs.{RunsKeepLogs, RunsKeepTheCleanersLog};
 
+use cleaner_log_tie::cleaner_log_events_are_seen;
 use client_log_tie::client_log_events_are_seen;
 use filed_tie::{
     cleaner_tells_what_is_filed, clients_tell_what_is_filed, managers_tell_what_is_filed,
@@ -21,15 +22,17 @@ use node_tie::{
 };
 
 /// Whatever messages are lost, repeated or reordered, and whichever nodes stop and start again, logs are whole at each moment of a run (the 1996 paper, on RAID):
-/// of each segment that a client told to be filed, and of which no Delete was sent, each member of its group holds its fragment, or its server has lost its disk
-/// since the group was made; and whatever is held, stored or sent under a name of a client's log is a fragment of one segment, the same for all of that name.
+/// of each segment that the owner of a log told to be filed, and of which no Delete was sent, each member of its group holds its fragment, or its server has lost its disk
+/// since the group was made; and whatever is held, stored or sent under a name of the log is a fragment of one segment, the same for all of that name.
 ///
 /// - `horizons`: in every run of a script of whose setup a run can be started, the least horizon that the registry keeps of a client's log, or of the cleaner's,
 ///   is 1 at most, or no more than one beyond a segment that this owner itself told to be filed.
-/// - `keeps`: logs are whole, and one name has one text, in every such run, however clients fall and open their logs again.
+/// - `keeps`: the logs of clients are whole, and one name has one text, in every such run, however clients fall and open their logs again.
+/// - `cleaners`: so is the cleaner's log, in every such run of which each number that was sent is in the range of its type, as it is in a running program.
 pub fn runs_keep_logs()
     ensures horizons { RunsReachHorizons }
     ensures keeps { RunsKeepLogs }
+    ensures cleaners { RunsKeepTheCleanersLog }
 {
     clients_ask_for_their_call();
     client_events_are_seen();
@@ -44,6 +47,7 @@ pub fn runs_keep_logs()
     server_events_are_seen();
     registry_events_are_seen();
     cleaner_events_are_seen();
+    cleaner_log_events_are_seen();
     groups_stay_as_made();
     settings_exist();
     logs_stay_whole();

@@ -1,6 +1,6 @@
 use Rattle.world_law.proofs.Laws.{NodeLaws}
 use Rattle.world_logs.proofs.Horizons.{horizons_reached}
-use Rattle.world_logs.proofs.Laws.{logs_stand}
+use Rattle.world_logs.proofs.Laws.{Below, cleaners_log_stands, logs_stand}
 use Rattle.world_logs.proofs.runs_keep_logs.Goals as goal
 use Rattle.world_logs.specs.Horizons.{RunsReachHorizons}
 
@@ -38,26 +38,30 @@ returns c =
       server = c.servers_tell_what_is_filed.ensures.alone;
       registry = c.registry_tells_what_is_filed.ensures.alone;
     }) in
+    let below : Below = record {
+      nodes = record {
+        tokens = tokens;
+        client_starts = c.client_log_events_are_seen.ensures.start;
+        client = c.client_log_events_are_seen.ensures.events;
+        server_starts = c.server_events_are_seen.ensures.start;
+        server = c.server_events_are_seen.ensures.events;
+        maps = c.server_events_are_seen.ensures.maps;
+        registry_starts = c.registry_events_are_seen.ensures.start;
+        registry = c.registry_events_are_seen.ensures.events;
+        cleaner_starts = c.cleaner_events_are_seen.ensures.start;
+        cleaner = c.cleaner_events_are_seen.ensures.events;
+        owner_starts = c.cleaner_log_events_are_seen.ensures.start;
+        owner = c.cleaner_log_events_are_seen.ensures.events;
+        goes_on = c.openings_go_on.ensures.on;
+        flies = c.openings_go_on.ensures.flies;
+      };
+      groups = c.groups_stay_as_made.ensures;
+      setting = c.settings_exist.ensures;
+      whole = c.logs_stay_whole.ensures.whole;
+      text = c.one_name_one_text.ensures.one_text;
+    } in
     record {
       horizons = horizons;
-      keeps = λ e ok run. logs_stand (record {
-        nodes = record {
-          tokens = tokens;
-          client_starts = c.client_log_events_are_seen.ensures.start;
-          client = c.client_log_events_are_seen.ensures.events;
-          server_starts = c.server_events_are_seen.ensures.start;
-          server = c.server_events_are_seen.ensures.events;
-          maps = c.server_events_are_seen.ensures.maps;
-          registry_starts = c.registry_events_are_seen.ensures.start;
-          registry = c.registry_events_are_seen.ensures.events;
-          cleaner_starts = c.cleaner_events_are_seen.ensures.start;
-          cleaner = c.cleaner_events_are_seen.ensures.events;
-          goes_on = c.openings_go_on.ensures.on;
-          flies = c.openings_go_on.ensures.flies;
-        };
-        groups = c.groups_stay_as_made.ensures;
-        setting = c.settings_exist.ensures;
-        whole = c.logs_stay_whole.ensures.whole;
-        text = c.one_name_one_text.ensures.one_text;
-      }) e ok run (horizons e ok run);
+      keeps = λ e ok run. logs_stand below e ok run (horizons e ok run);
+      cleaners = λ e ok run. cleaners_log_stands below e ok run (horizons e ok run);
     }
