@@ -7,7 +7,7 @@ ghost use Rattle.world_law.specs.Fallen.{NobodyHoldsThroughout};
 ghost use Rattle.world_law.specs.Managers.{OneManagerThroughout};
 ghost use Rattle.world_law.specs.Owners.{OneOwnerThroughout};
 ghost use Rattle.world_logs.specs.Horizons.{HorizonsReached};
-ghost use Rattle.world_logs.specs.Logs.{LogsStand};
+ghost use Rattle.world_logs.specs.Logs.{CleanersLogStands, LogsStand};
 
 use core_world::AnyNode;
 use std::alloc::Global;
@@ -22,9 +22,10 @@ use xfs_base::Gate;
 /// `docs/PROMISES.md` says what the claim promises. Where a run was played, no block had two owners at any of
 /// its moments, nor another holder beside an owner, whatever was lost, repeated or reordered (`one_owner`); no
 /// slot had two managers at one epoch (`one_manager`); and nobody held what a client fell with that wasn't back
-/// (`nobody_holds`). The least horizon of a client's log was 1, or no more than one beyond a segment that the client
-/// filed (`horizons_filed`). What clients filed stood whole on the servers' shelves, but for what was deleted and
-/// for lost disks, and one name had one text (`logs_stand`).
+/// (`nobody_holds`). The least horizon of a client's log, or of the cleaner's, was 1, or no more than one beyond a
+/// segment that its owner filed (`horizons_filed`). What clients filed stood whole on the servers' shelves, but for
+/// what was deleted and for lost disks, and one name had one text (`logs_stand`). So did what the cleaner filed, where
+/// the numbers of all packets were in the ranges of their types (`cleaners_log_stands`).
 pub fn solo<S: Source, K: Sink>(
     alloc: Global,
     words: &[String],
@@ -38,6 +39,7 @@ pub fn solo<S: Source, K: Sink>(
     ensures nobody_holds { IfSome result.estate NobodyHoldsThroughout }
     ensures horizons_filed { IfSome result.estate HorizonsReached }
     ensures logs_stand { IfSome result.estate LogsStand }
+    ensures cleaners_log_stands { IfSome result.estate CleanersLogStands }
 {
     every_run_has_one_owner();
     every_run_has_one_manager();
@@ -63,6 +65,7 @@ pub fn xfs<R: Threads + Wait + Sync, S: Source, K: Sink, G: Gate>(
     ensures nobody_holds { IfSome result.estate NobodyHoldsThroughout }
     ensures horizons_filed { IfSome result.estate HorizonsReached }
     ensures logs_stand { IfSome result.estate LogsStand }
+    ensures cleaners_log_stands { IfSome result.estate CleanersLogStands }
 {
     solo(alloc, words, source, sink)
 }

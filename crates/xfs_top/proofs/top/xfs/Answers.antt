@@ -20,3 +20,6 @@ returns-clause-horizons_filed g c = c.solo.ensures.horizons_filed
 
 pub returns-clause-logs_stand : goal.returns-clause-logs_stand
 returns-clause-logs_stand g c = c.solo.ensures.logs_stand
+
+pub returns-clause-cleaners_log_stands : goal.returns-clause-cleaners_log_stands
+returns-clause-cleaners_log_stands g c = c.solo.ensures.cleaners_log_stands
