@@ -36,10 +36,6 @@ pub at_most_nine : (clients : ℕ) (more : Type 0) → clients ≤ 8 → (r : Ro
 at_most_nine clients more few (Role.OfClient c) h = (let m = h.1 in omega arith)
 at_most_nine clients more few Role.OfCleaner h = omega arith
 
-pub one_at_least : (clients : ℕ) (more : Type 0) (r : Role) → IsThere clients more r → 1 ≤ log_by r
-one_at_least clients more (Role.OfClient c) h = h.0
-one_at_least clients more Role.OfCleaner h = omega arith
-
 pub no_server : (r : Role) (v : ℕ) → owner_by r ≡ Server v → ⊥
 no_server (Role.OfClient c) v e = absurd cc
 no_server Role.OfCleaner v e = absurd cc
