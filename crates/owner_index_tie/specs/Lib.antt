@@ -1,0 +1,4 @@
+pub mod Filing
+pub mod Owners
+pub mod ClientEvents
+pub mod ServerEvents

@@ -1,0 +1,28 @@
+//! What the owner of a log, a client or the cleaner, does in one event, as inputs of the machines that know where blocks lie: the tie of
+//! the nodes to the small world of `index_tie`, for one slot of the map. It has no code: each function below has an empty body, and its
+//! contract is a law. `specs/Owners.antt` says how an owner is seen in the small world, `specs/Filing.antt` what it files there.
+//!
+//! Of texts each name has one, which is given from outside: that what is in flight is the text of its name, and that what a reopening read
+//! back is what was filed and adopted, is owed.
+#![tactic(auto)]
+
+ghost use Rattle.owner_index_tie.specs.ClientEvents.{ClientEventGoes, ClientsStay, FirstClientAgrees};
+ghost use Rattle.owner_index_tie.specs.ServerEvents.{ServerEventGoes};
+
+/// What an event makes of a client is a run of the small world, if what it acts to be filed is new, and what a reopening of its log read
+/// back is what was filed and adopted.
+///
+/// - `start`: a client at its start is seen in the opening of the small world.
+/// - `events`: a client that is seen there before an event is seen after it in a world to which that one runs on by what its log files; the
+///   Deltas, the Reports and the ends that it sends tell what was filed.
+/// - `others`: what others do leaves a client seen, where what is filed of its log stays as it is.
+pub fn client_index_events_are_seen()
+    ensures start { FirstClientAgrees }
+    ensures events { ClientEventGoes }
+    ensures others { ClientsStay }
+{}
+
+/// What an event makes of a storage server is nothing in the small world: it files and drops nothing, and tells nothing of where blocks lie.
+pub fn server_index_events_are_seen()
+    ensures { ServerEventGoes }
+{}
