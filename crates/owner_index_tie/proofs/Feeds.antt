@@ -3,6 +3,7 @@ use Rattle.std.proofs.Common.{◌≡◌, ◌≤◌, ◌<◌, ℕ, suc, ◌-◌, 
 use Rattle.std.specs.Prelude.{nat_lt, nat_le}
 use Rattle.std.specs.List.{range_with_len}
 use Rattle.std.proofs.lemmas.Bool.Decides.{nat_tests}
+use Rattle.client_log.specs.LogState.{LogState}
 use Rattle.delta_feed.specs.FeedState.{FeedState}
 use Rattle.delta_feed.proofs.AfterInputs.{is_after}
 use Rattle.index_tie.specs.Feeds.{fed_at}
@@ -13,8 +14,10 @@ use Rattle.node_index_tie.specs.Sight.{RowsFit}
 use Rattle.segment_format.specs.Rows.{rows_of}
 use Rattle.xfs_base.specs.declared.block.BlockId.{BlockId}
 use Rattle.xfs_base.specs.declared.entry.Entry.{Entry}
+use Rattle.xfs_base.specs.declared.segment.End.{End}
+use Rattle.segment_format.specs.declared.segment.Segment.{Segment}
 use Rattle.owner_index_tie.specs.Filing.{IsSameLog}
-use Rattle.owner_index_tie.specs.Owners.{LogFits}
+use Rattle.owner_index_tie.specs.Owners.{LogFits, IsLastFiled, OwnerSeen}
 
 -- what holds where a seq is filed, and elsewhere
 pub by_filed : (P : List (BlockId × Entry) → Type 0) (f : Filed) (l q : ℕ) → (0 < q → q ≤ f.head l → P (rows_of (f.segment l q))) → P [] → P (rows_at f l q)
@@ -66,3 +69,16 @@ same_fits part n m l same k = record {
   fit = λ q. subst RowsFit (sym (same_rows l n.filed m.filed same q)) (k.fit q);
   short = let h = same.head in let a = k.short in omega arith;
 }
+
+module _ (part : ℕ) (n m : Net) (l : ℕ) where
+  same_end : (end : End) → IsSameLog l n.filed m.filed → IsLastFiled part n l end → IsLastFiled part m l end
+  same_end end same k = record {
+    seq = k.seq ∙ sym same.head;
+    pass = λ some. let h = same.head in k.pass (omega arith) ∙ ap (λ (x : Segment). x.name.pass) (sym (same.segment (n.filed.head l) (omega arith) (omega arith)))
+        ∙ ap (λ q. (m.filed.segment l q).name.pass) (sym h);
+  }
+
+  -- an owner that serves
+  pub same_owner : (number : ℕ) (state : LogState) (its : FeedState) → IsSameLog l n.filed m.filed → OwnerSeen part n l number state its → OwnerSeen part m l number state its
+  same_owner number state its same k =
+      record { number_is = k.number_is; log = k.log; end = same_end state.end same k.end; feed = same_feed part n m l its same k.feed }

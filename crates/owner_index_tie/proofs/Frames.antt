@@ -1,10 +1,10 @@
 -- What an owner does step by step: steps that file nothing, and steps that file.
-use Rattle.std.proofs.Common.{◌≡◌, ◌==◌, ℕ, suc, List, [], ◌∷◌, ◌++◌, map, Option, Some, None, refl, sym, ap, subst, ◌∙◌, arith}
+use Rattle.std.proofs.Common.{◌≡◌, ◌≤◌, ◌<◌, ◌==◌, ℕ, suc, List, [], ◌∷◌, ◌++◌, map, Option, Some, None, refl, sym, ap, subst, ◌∙◌, arith}
 use Rattle.std.specs.List.{AllByRecursion}
 use Rattle.index_tie.specs.Filed.{Filed}
 use Rattle.index_tie.specs.Growth.{IsMore, with_segment}
 use Rattle.index_tie.specs.Net.{Net}
-use Rattle.index_tie.specs.Takeovers.{of_log}
+use Rattle.index_tie.specs.Takeovers.{of_log, IsEnd, Linked}
 use Rattle.index_tie.proofs.Growth.{deltas_stay, more_is_filed}
 use Rattle.node_base.specs.Beginning.{answers_unanswered}
 use Rattle.node_base.specs.declared.effects.Effect.{Effect}
@@ -23,7 +23,7 @@ use Rattle.xfs_base.specs.Steps.{Stepped, still, after, steps}
 use Rattle.xfs_base.specs.declared.segment.End.{End}
 use Rattle.xfs_base.specs.declared.segment.SegName.{SegName}
 use Rattle.owner_index_tie.specs.Filing.{filing, with_name, after_act, after_effect, filed_after, OwedAct, FilesOwed}
-use Rattle.owner_index_tie.specs.Owners.{OwnerSays, OwnerDoes}
+use Rattle.owner_index_tie.specs.Owners.{EndTold, OwnerSays, OwnerDoes}
 
 pub all_map : {X Y : Type 0} (P : Y → Type 0) (f : X → Y) → ((x : X) → P (f x)) → (xs : List X) → AllByRecursion P (map f xs)
 all_map P f each [] = tt
@@ -31,43 +31,44 @@ all_map P f each (x ∷ xs) = (each x, all_map P f each xs)
 
 -- ---- what is said stays said while more is filed
 
-module _ (part : ℕ) (n : Net) (l since : ℕ) (f g : Filed) (more : IsMore f g) where
-  deltas_more : (m : Deltas) → DeltasKnown part (filing n f) l m → DeltasKnown part (filing n g) l m
-  deltas_more m k = record { tells = λ b inside. deltas_stay b f g l m.first m.upto m.rows more (k.tells b inside); fit = k.fit; short = k.short }
+module _ (part : ℕ) (n m : Net) (l since : ℕ) (more : IsMore n.filed m.filed) (same : m.horizon ≡ n.horizon) where
+  deltas_on : (d : Deltas) → DeltasKnown part n l d → DeltasKnown part m l d
+  deltas_on d k =
+      record { tells = λ b inside. deltas_stay b n.filed m.filed l d.first d.upto d.rows more (k.tells b inside); fit = k.fit; short = k.short }
 
-  end_more : (epoch : ℕ) (end : End) → EndKnown part (filing n f) epoch l end → EndKnown part (filing n g) epoch l end
-  end_more epoch end k =
+  end_on : (epoch : ℕ) (end : End) → EndKnown part n epoch l end → EndKnown part m epoch l end
+  end_on epoch end k =
       let low = of_log (n.horizon epoch) l in
-      record {
-        filed = λ some upto. let was = k.filed some upto in let last = was.filed in let most = more.head l in record {
+      subst (λ h. (0 < of_log (h epoch) l → of_log (h epoch) l ≤ end.seq → IsEnd m.filed l end) × (0 < of_log (h epoch) l → Linked m.filed l (of_log (h epoch) l) end.seq)
+      → EndKnown part m epoch l end) same (λ known. record { filed = known.0; linked = known.1; short = k.short }) (
+        λ some upto. let was = k.filed some upto in let last = was.filed in let most = more.head l in record {
           filed = omega arith;
           named = was.named ∙ ap (λ (s : Segment). s.name.pass) (sym (more.segment l end.seq (omega arith) last));
-        };
-        linked = λ some q from to. let was = k.filed some (omega arith) in let last = was.filed in
+        },
+        λ some q from to. let was = k.filed some (omega arith) in let last = was.filed in
             ap (λ (s : Segment). s.prior.pass) (more.segment l (suc q) (omega arith) (omega arith)) ∙ k.linked some q from to
-            ∙ ap (λ (s : Segment). s.name.pass) (sym (more.segment l q (omega arith) (omega arith)));
-        short = k.short;
-      }
+            ∙ ap (λ (s : Segment). s.name.pass) (sym (more.segment l q (omega arith) (omega arith))),
+      )
 
-  pub says_more : (b : Body) → OwnerSays part (filing n f) l since b → OwnerSays part (filing n g) l since b
-  says_more (body.Deltas m) h = λ inside. deltas_more m (h inside)
-  says_more (body.Report m) h = (
-    λ inside. end_more m.epoch m.end (h.0 inside),
-    record { late = h.1.late; filed = let a = h.1.filed in let most = more.head l in omega arith },
-  )
-  says_more (body.Want m) h = record { late = h.late; filed = let a = h.filed in let most = more.head l in omega arith }
-  says_more (body.Gave m) h = record { late = h.late; filed = let a = h.filed in let most = more.head l in omega arith }
-  says_more _ h = h
+  told_on : (end : ℕ) → EndTold part n l since end → EndTold part m l since end
+  told_on end h = record { late = h.late; filed = let a = h.filed in let most = more.head l in omega arith }
 
-  does_more : (e : Effect) → OwnerDoes part (filing n f) l since e → OwnerDoes part (filing n g) l since e
-  does_more (Send to m) h = says_more m h
-  does_more (Answers item answer) h = tt
-  does_more (Lose seg) h = tt
-  does_more (Does act) h = tt
+  pub says_on : (b : Body) → OwnerSays part n l since b → OwnerSays part m l since b
+  says_on (body.Deltas d) h = λ inside. deltas_on d (h inside)
+  says_on (body.Report r) h = (λ inside. end_on r.epoch r.end (h.0 inside), told_on r.end.seq h.1)
+  says_on (body.Want w) h = told_on w.end h
+  says_on (body.Gave g) h = told_on g.end h
+  says_on _ h = h
+
+  pub does_on : (e : Effect) → OwnerDoes part n l since e → OwnerDoes part m l since e
+  does_on (Send to b) h = says_on b h
+  does_on (Answers item answer) h = tt
+  does_on (Lose seg) h = tt
+  does_on (Does act) h = tt
 
 -- ---- what is filed
 
-more_itself : (f : Filed) → IsMore f f
+pub more_itself : (f : Filed) → IsMore f f
 more_itself f = record { head = λ l. let h = f.head l in omega arith; segment = λ l q some filed. refl }
 
 pub more_then : (f g h : Filed) → IsMore f g → IsMore g h → IsMore f h
@@ -214,7 +215,7 @@ module _ (New : Filed → Segment → Type 0) (part : ℕ) (texts : Texts) (n : 
       subst (λ h. Ends h d.state (outs ++ d.outs)) (sym (after_both texts l f outs d.outs ∙ ap (λ h. filed_after texts l h d.outs) same)) (record {
         at = two.at;
         says = all_both (Says g) outs d.outs
-            (all_weaker (Says f) (Says g) (does_more part n l since f g (more_after texts l f d.outs)) outs (all_do part n l since f outs all)) two.says;
+            (all_weaker (Says f) (Says g) (does_on part (filing n f) (filing n g) l since (more_after texts l f d.outs) refl) outs (all_do part n l since f outs all)) two.says;
       })
 
   -- a name is acted to be filed first, and then nothing is
@@ -240,7 +241,7 @@ module _ (New : Filed → Segment → Type 0) (part : ℕ) (texts : Texts) (n : 
       subst (λ x. Ends New part texts n l since Bt x e.state (d.outs ++ e.outs)) (sym (after_both texts l f d.outs e.outs)) (record {
         at = two.at;
         says = all_both (OwnerDoes part (filing n h) l since) d.outs e.outs
-            (all_weaker (OwnerDoes part (filing n g) l since) (OwnerDoes part (filing n h) l since) (does_more part n l since g h (more_after texts l g e.outs)) d.outs one.says)
+            (all_weaker (OwnerDoes part (filing n g) l since) (OwnerDoes part (filing n h) l since) (does_on part (filing n g) (filing n h) l since (more_after texts l g e.outs) refl) d.outs one.says)
             two.says;
       })
 

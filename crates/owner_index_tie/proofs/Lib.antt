@@ -17,3 +17,14 @@ pub mod ServingPackets
 pub mod ClientPhases
 pub mod Start
 pub mod Servers
+pub mod CleanerFrames
+pub mod CleanerSays
+pub mod CleanerJobs
+pub mod CleanerPromises
+pub mod CleanerLog
+pub mod CleanerHears
+pub mod CleanerNews
+pub mod CleanerBegins
+pub mod CleanerServing
+pub mod CleanerPhases
+pub mod CleanerStart

@@ -1,5 +1,5 @@
 -- A client at the start of a run is seen in the opening of the small world, and stays seen while nothing is filed of its log.
-use Rattle.std.proofs.Common.{ℕ, [], refl, sym, ap, ◌∙◌, arith}
+use Rattle.std.proofs.Common.{ℕ, [], refl, sym, arith}
 use Rattle.client_node.specs.declared.phase.Phase.{Phase}
 use Rattle.client_node.specs.declared.phase.Phase.TheVariants.{Down, Opening, Serving as Serves}
 use Rattle.index_tie.specs.Filed.{rows_at}
@@ -7,14 +7,12 @@ use Rattle.index_tie.specs.Net.{Net, opening}
 use Rattle.node_index_tie.specs.Sight.{Texts, RowsFit}
 use Rattle.node_index_tie.proofs.Moves.{some_none}
 use Rattle.segment_format.specs.declared.segment.Segment.{Segment}
-use Rattle.xfs_base.specs.declared.segment.End.{End}
 use Rattle.owner_index_tie.specs.ClientEvents.{RestingSeen, ClientAgrees, FirstClientAgrees, ClientsStay}
 use Rattle.owner_index_tie.specs.Filing.{IsSameLog}
-use Rattle.owner_index_tie.specs.Owners.{IsLastFiled}
-use Rattle.owner_index_tie.proofs.Feeds.{by_filed, same_feed, same_fits}
+use Rattle.owner_index_tie.proofs.Feeds.{by_filed, same_fits, same_owner}
 use Rattle.owner_index_tie.proofs.Turns.{none_next}
 
-nothing_fits : (any : ℕ → ℕ → Segment) (l q : ℕ) → RowsFit (rows_at (opening any).filed l q)
+pub nothing_fits : (any : ℕ → ℕ → Segment) (l q : ℕ) → RowsFit (rows_at (opening any).filed l q)
 nothing_fits any l q = by_filed RowsFit (opening any).filed l q (λ some most. absurd (omega arith)) tt
 
 pub first_client_agrees : FirstClientAgrees
@@ -36,23 +34,13 @@ first_client_agrees part texts any c setup works = (
 )
 
 module _ (part : ℕ) (texts : Texts) (n m : Net) (c : ℕ) (same : IsSameLog c n.filed m.filed) where
-  same_end : (end : End) → IsLastFiled part n c end → IsLastFiled part m c end
-  same_end end k = record {
-    seq = k.seq ∙ sym same.head;
-    pass = λ some. let h = same.head in k.pass (omega arith) ∙ ap (λ (x : Segment). x.name.pass) (sym (same.segment (n.filed.head c) (omega arith) (omega arith)))
-        ∙ ap (λ q. (m.filed.segment c q).name.pass) (sym h);
-  }
-
   same_resting : (number : ℕ) → RestingSeen part texts n c number → RestingSeen part texts m c number
   same_resting number h = record { number_is = h.number_is; fits = same_fits part n m c same h.fits }
 
   pub same_client : (p : Phase) → ClientAgrees part texts n c p → ClientAgrees part texts m c p
   same_client (Down l) h = same_resting l.number h
   same_client (Opening l o) h = (same_resting l.number h.0, h.1)
-  same_client (Serves s) h = (
-    record { number_is = h.0.number_is; log = h.0.log; end = same_end s.log.end h.0.end; feed = same_feed part n m c s.feed same h.0.feed },
-    h.1,
-  )
+  same_client (Serves s) h = (same_owner part n m c s.lasting.number s.log s.feed same h.0, h.1)
 
 pub clients_stay : ClientsStay
 clients_stay part texts n m c p same h = same_client part texts n m c same p h

@@ -2,3 +2,4 @@ pub mod Filing
 pub mod Owners
 pub mod ClientEvents
 pub mod ServerEvents
+pub mod CleanerEvents
