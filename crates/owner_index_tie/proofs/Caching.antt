@@ -17,7 +17,8 @@ use Rattle.xfs_base.specs.declared.entry.Entry.{Entry}
 use Rattle.xfs_base.specs.declared.token.Mode.TheVariants.{Copy}
 use Rattle.xfs_base.specs.Modes.{same_mode, is_held, is_nothing}
 
-pub stands_fold : {S A : Type 0} (At : S → Type 0) (step : S → A → S) → ((s : S) (x : A) → At s → At (step s x)) → (s : S) (xs : List A) → At s → At (fold step s xs)
+pub stands_fold : {S A : Type 0} (At : S → Type 0) (step : S → A → S) → ((s : S) (x : A) → At s → At (step s x)) → (s : S) (xs : List A) → At s
+    → At (fold step s xs)
 stands_fold At step one s [] h = h
 stands_fold At step one s (x ∷ xs) h = stands_fold At step one (step s x) xs (one s x h)
 

@@ -39,7 +39,8 @@ pub record Waits (d : job.Done) : Type 0 where
 promise_waits : (s : CleaningState) (slot epoch : ℕ) → s.phase ≡ Greeting → Waits (job.transition s (input.Promise slot epoch))
 unfolding job.on_promise
 promise_waits s slot epoch greets =
-    by_test Waits (is_above s.promised slot epoch) (job.turned (record s { promised = promised_with s.promised slot epoch }) (job.forgetting slot s.phase)) (still s)
+    by_test Waits (is_above s.promised slot epoch) (job.turned (record s { promised = promised_with s.promised slot epoch }) (job.forgetting slot s.phase))
+    (still s)
     (λ _. record { phase = ap (λ p. (job.forgetting slot p).state) greets; outs = ap (λ p. (job.forgetting slot p).outs) greets })
     (λ _. record { phase = greets; outs = refl })
 
@@ -85,17 +86,21 @@ module _ (part : ℕ) (texts : Texts) (since : ℕ) (answered : List Packet) (sm
     told_eight = ap length told_is ∙ jobs.with_length k.job.cleaning.promised slot epoch ∙ k.eight
 
     -- where it happens there, and this holds then
-    goes_there : (P : Net → Emptying → Type 0) → Happens part (held_in part texts) n m → P m told → frames.Goes_to part texts since answered P asked n (promises_slot e slot)
+    goes_there : (P : Net → Emptying → Type 0) → Happens part (held_in part texts) n m → P m told
+        → frames.Goes_to part texts since answered P asked n (promises_slot e slot)
     unfolding promises_slot cleans job_takes
     goes_there P happens holds =
-        subst (λ o. frames.Goes_to part texts since answered P asked n (steps says (takes_in e o (input.Promise slot epoch)).state (takes_in e o (input.Promise slot epoch)).outs)) (sym k.has)
+        subst (λ o. frames.Goes_to part texts since answered P asked n
+        (steps says (takes_in e o (input.Promise slot epoch)).state (takes_in e o (input.Promise slot epoch)).outs)) (sym k.has)
         (subst (λ outs. frames.Goes_to part texts since answered P asked n (steps says told outs)) (sym waits.outs)
         (frames.went_after part texts since answered P asked asked n m (still told) (On Begun happens) (jobs.grows_job n d) refl (λ x is. is)
         (frames.went_quiet part texts since answered asked m P told [] holds tt)))
 
     -- of another slot
     still_before : (slot ≡ part → ⊥) → frames.Goes_to part texts since answered Before asked n (promises_slot e slot)
-    still_before other = goes_there Before (subst (λ s. Happens part (held_in part texts) n (with_job n (job.transition s (input.Promise slot epoch)))) k.is (JobTakes (input.Promise slot epoch) other))
+    still_before other = goes_there Before
+        (subst (λ s. Happens part (held_in part texts) n (with_job n (job.transition s (input.Promise slot epoch)))) k.is
+        (JobTakes (input.Promise slot epoch) other))
         (let none = ap (λ p. promised_at p part) told_is ∙ jobs.with_other k.job.cleaning.promised slot epoch part other ∙ k.none in record {
           stands = record {
             late = k.stands.late;
@@ -119,16 +124,25 @@ module _ (part : ℕ) (texts : Texts) (since : ℕ) (answered : List Packet) (sm
     now_at : slot ≡ part → frames.Goes_to part texts since answered At asked n (promises_slot e slot)
     now_at same =
         let has : promised_at d.state.promised part ≡ epoch_of e.promised part =
-        ap (λ p. promised_at p part) told_is ∙ subst (λ x. promised_at (promised_with k.job.cleaning.promised x (epoch_of e.promised x)) part ≡ epoch_of e.promised part) (sym same)
+        ap (λ p. promised_at p part) told_is ∙ subst
+        (λ x. promised_at (promised_with k.job.cleaning.promised x (epoch_of e.promised x)) part ≡ epoch_of e.promised part) (sym same)
         (jobs.with_here k.job.cleaning.promised part (epoch_of e.promised part) small k.eight (let z = k.none in omega arith)) in
         let after_it : promised_at d.state.promised part ≡ n.promised = has ∙ sym k.stands.seen.promised in
         goes_there At
         (subst (λ p. Happens part (held_in part texts) n (record (with_job n d) { promised = p })) after_it
         (subst (λ s. n.promised ≤ promised_at (job.transition s (input.Promise slot epoch)).state.promised part
-        → Happens part (held_in part texts) n (record (with_job n (job.transition s (input.Promise slot epoch))) { promised = promised_at (job.transition s (input.Promise slot epoch)).state.promised part }))
+        → Happens part (held_in part texts) n
+        (record (with_job n (job.transition s (input.Promise slot epoch))) {
+          promised = promised_at
+              (job.transition s (input.Promise slot epoch)).state.promised part;
+        }))
         k.is
         (subst (λ x. n.promised ≤ promised_at (job.transition n.job (input.Promise x epoch)).state.promised part
-        → Happens part (held_in part texts) n (record (with_job n (job.transition n.job (input.Promise x epoch))) { promised = promised_at (job.transition n.job (input.Promise x epoch)).state.promised part }))
+        → Happens part (held_in part texts) n
+        (record (with_job n (job.transition n.job (input.Promise x epoch))) {
+          promised = promised_at
+              (job.transition n.job (input.Promise x epoch)).state.promised part;
+        }))
         (sym same) (λ low. JobPromises epoch low))
         (omega arith)))
         (record {
@@ -157,7 +171,8 @@ module _ (part : ℕ) (texts : Texts) (since : ℕ) (answered : List Packet) (sm
     is_then : its_done.state.promised ≡ promised_with j.cleaning.promised slot its_epoch
     is_then = promise_is j.cleaning slot its_epoch
 
-    then_seen : promised_at (promised_with j.cleaning.promised slot its_epoch) part ≡ epoch_of e.promised part → JobSeen part (with_job n its_done) (epoch_of e.promised part) its_done.state
+    then_seen : promised_at (promised_with j.cleaning.promised slot its_epoch) part ≡ epoch_of e.promised part
+        → JobSeen part (with_job n its_done) (epoch_of e.promised part) its_done.state
     then_seen told = record {
       is = refl;
       eight = ap length is_then ∙ jobs.with_length j.cleaning.promised slot its_epoch ∙ its.eight;
@@ -166,7 +181,8 @@ module _ (part : ℕ) (texts : Texts) (since : ℕ) (answered : List Packet) (sm
 
     again_other : (slot ≡ part → ⊥) → jobs.Takes part texts since answered n (epoch_of e.promised part) its_done
     again_other other = record {
-      happens = subst (λ s. Happens part (held_in part texts) n (with_job n (job.transition s (input.Promise slot its_epoch)))) its.is (JobTakes (input.Promise slot its_epoch) other);
+      happens = subst (λ s. Happens part (held_in part texts) n (with_job n (job.transition s (input.Promise slot its_epoch)))) its.is
+          (JobTakes (input.Promise slot its_epoch) other);
       seen = then_seen (jobs.with_other j.cleaning.promised slot its_epoch part other ∙ its.told);
     }
 
@@ -178,10 +194,18 @@ module _ (part : ℕ) (texts : Texts) (since : ℕ) (answered : List Packet) (sm
         record {
           happens = subst (λ p. Happens part (held_in part texts) n (record (with_job n its_done) { promised = p })) after_it
               (subst (λ s. n.promised ≤ promised_at (job.transition s (input.Promise slot its_epoch)).state.promised part
-              → Happens part (held_in part texts) n (record (with_job n (job.transition s (input.Promise slot its_epoch))) { promised = promised_at (job.transition s (input.Promise slot its_epoch)).state.promised part }))
+              → Happens part (held_in part texts) n
+              (record (with_job n (job.transition s (input.Promise slot its_epoch))) {
+                promised = promised_at
+                    (job.transition s (input.Promise slot its_epoch)).state.promised part;
+              }))
               its.is
               (subst (λ x. n.promised ≤ promised_at (job.transition n.job (input.Promise x its_epoch)).state.promised part
-              → Happens part (held_in part texts) n (record (with_job n (job.transition n.job (input.Promise x its_epoch))) { promised = promised_at (job.transition n.job (input.Promise x its_epoch)).state.promised part }))
+              → Happens part (held_in part texts) n
+              (record (with_job n (job.transition n.job (input.Promise x its_epoch))) {
+                promised = promised_at
+                    (job.transition n.job (input.Promise x its_epoch)).state.promised part;
+              }))
               (sym at) (λ low. JobPromises its_epoch low))
               (omega arith));
           seen = then_seen told;
@@ -189,7 +213,8 @@ module _ (part : ℕ) (texts : Texts) (since : ℕ) (answered : List Packet) (sm
 
   again_so : (asked : Questions) (n : Net) (e : Emptying) (slot : ℕ) → At n e → Goes asked n (promises_slot e slot)
   unfolding promises_slot
-  again_so asked n e slot h = jobs.cleans_so part texts since answered asked n e (input.Promise slot (epoch_of e.promised slot)) h (λ j same. by j same (slot == part) refl)
+  again_so asked n e slot h = jobs.cleans_so part texts since answered asked n e (input.Promise slot (epoch_of e.promised slot)) h
+      (λ j same. by j same (slot == part) refl)
     where
       at : (slot == part) ≡ true → slot ≡ part
       at is = eqb-true slot part is
@@ -223,9 +248,11 @@ module _ (part : ℕ) (texts : Texts) (since : ℕ) (answered : List Packet) (sm
       ]
 
       by : (t : Bool) → (slot == part) ≡ t → Goes asked n (steps promises_slot e (slot ∷ slots))
-      by true is = frames.went_through part texts since answered At At asked n (promises_slot e slot) (steps promises_slot (promises_slot e slot).state slots) (now_at asked n e k slot (at is))
+      by true is = frames.went_through part texts since answered At At asked n (promises_slot e slot) (steps promises_slot (promises_slot e slot).state slots)
+          (now_at asked n e k slot (at is))
           (λ w. frames.went_steps part texts since answered promises_slot again_so w.questions w.next (promises_slot e slot).state slots w.at)
-      by false is = frames.went_through part texts since answered Before At asked n (promises_slot e slot) (steps promises_slot (promises_slot e slot).state slots)
+      by false is = frames.went_through part texts since answered Before At asked n (promises_slot e slot)
+          (steps promises_slot (promises_slot e slot).state slots)
           (still_before asked n e k slot (other is)) (λ w. rest w.questions w.next (promises_slot e slot).state w.at (behind (other is)))
 
   all_told : (slots : List ℕ) → Claim slots
@@ -279,9 +306,11 @@ module _ (part : ℕ) (texts : Texts) (since : ℕ) (answered : List Packet) (sm
         none = told_nothing count part;
         greets = refl;
       } in
-      frames.went_after part texts since answered At asked asked n m (after d.outs (cleans d.state input.Tick)) (On Begun (JobBegins count)) grows refl (λ x is. is)
+      frames.went_after part texts since answered At asked asked n m (after d.outs (cleans d.state input.Tick)) (On Begun (JobBegins count)) grows refl
+      (λ x is. is)
       (frames.went_on part texts since answered asked m d (cleans d.state input.Tick) (all_told (range_with_len 0 8) asked m r before (in_slots part small))
-      (λ w. jobs.cleans_so part texts since answered w.questions w.next d.state input.Tick w.at (jobs.may_other part texts since answered w.next d.state input.Tick w.at tt tt)))
+      (λ w. jobs.cleans_so part texts since answered w.questions w.next d.state input.Tick w.at
+      (jobs.may_other part texts since answered w.next d.state input.Tick w.at tt tt)))
 
   pub clean_so : (asked : Questions) (n : Net) (e : Emptying) (number count : ℕ) → At n e → Goes asked n (on_clean e number count)
   unfolding on_clean

@@ -160,7 +160,8 @@ module _ (part : ℕ) (texts : Texts) (since : ℕ) (answered : List Packet) whe
   At n e = Stands n e.log e.feed e.promised e.job
 
   -- what others do leaves it standing
-  pub moved_on : (n m : Net) (log : LogState) (feed : FeedState) (promised : Promised) (job : Option Job) → IsSameLog 9 n.filed m.filed → m.promised ≡ n.promised
+  pub moved_on : (n m : Net) (log : LogState) (feed : FeedState) (promised : Promised) (job : Option Job) → IsSameLog 9 n.filed m.filed
+      → m.promised ≡ n.promised
       → m.job ≡ n.job → ((x : Packet) → In x n.sent → In x m.sent) → Stands n log feed promised job → Stands m log feed promised job
   moved_on n m log feed promised job same as_promised as_job sent h = record {
     late = let a = h.late in let b = same.head in omega arith;
@@ -200,9 +201,14 @@ module _ (part : ℕ) (texts : Texts) (since : ℕ) (answered : List Packet) whe
     pub went_through : (asked : Questions) (n : Net) (d : Stepped S Effect) (e : Stepped T Effect) → Goes_to P asked n d
         → ((w : Went asked n P d.state d.outs) → Goes_to Q w.questions w.next e) → Goes_to Q asked n (record { state = e.state; outs = d.outs ++ e.outs })
     went_through asked n d e p k owed =
-        let one = p (record { files = owed_before (IsMoved part answered) texts 9 n.filed d.outs e.outs owed.files; asks = all_before (EffectOwed part n) d.outs e.outs owed.asks }) in
+        let one = p (record {
+          files = owed_before (IsMoved part answered) texts 9 n.filed d.outs e.outs owed.files;
+          asks = all_before
+              (EffectOwed part n) d.outs e.outs owed.asks;
+        }) in
         let two = k one (record {
-          files = subst (λ f. FilesOwed (IsMoved part answered) texts 9 f e.outs) (sym one.filed) (owed_behind (IsMoved part answered) texts 9 n.filed d.outs e.outs owed.files);
+          files = subst (λ f. FilesOwed (IsMoved part answered) texts 9 f e.outs) (sym one.filed)
+              (owed_behind (IsMoved part answered) texts 9 n.filed d.outs e.outs owed.files);
           asks = all_owed_later part n one.next one.grows e.outs (all_behind (EffectOwed part n) d.outs e.outs owed.asks);
         }) in
         record {
@@ -223,7 +229,8 @@ module _ (part : ℕ) (texts : Texts) (since : ℕ) (answered : List Packet) whe
       → ((w : Went asked n At d.state d.outs) → Goes w.questions w.next e) → Goes asked n (after d.outs e)
   went_on asked n d e p k = went_through At At asked n d e p k
 
-  pub went_steps : {A : Type 0} (step : Emptying → A → Stepped Emptying Effect) → ((asked : Questions) (n : Net) (e : Emptying) (x : A) → At n e → Goes asked n (step e x))
+  pub went_steps : {A : Type 0} (step : Emptying → A → Stepped Emptying Effect)
+      → ((asked : Questions) (n : Net) (e : Emptying) (x : A) → At n e → Goes asked n (step e x))
       → (asked : Questions) (n : Net) (e : Emptying) (xs : List A) → At n e → Goes asked n (steps step e xs)
   went_steps step one asked n e [] h = λ owed. record {
     next = n;
@@ -280,7 +287,8 @@ module _ (part : ℕ) (texts : Texts) (since : ℕ) (answered : List Packet) whe
     plain_does (Lose seg) h = tt
     plain_does (Does act) h = plain_acts act h
 
-    pub went_quiet : {S : Type 0} (P : Net → S → Type 0) (s : S) (outs : List Effect) → P n s → AllPlain outs → Goes_to P asked n (record { state = s; outs = outs })
+    pub went_quiet : {S : Type 0} (P : Net → S → Type 0) (s : S) (outs : List Effect) → P n s → AllPlain outs
+        → Goes_to P asked n (record { state = s; outs = outs })
     went_quiet P s outs h all owed = record {
       next = n;
       runs = Begun;
@@ -292,15 +300,18 @@ module _ (part : ℕ) (texts : Texts) (since : ℕ) (answered : List Packet) whe
       says = all_weaker Plain (CleanerDoes part asked n since) plain_does outs all;
     }
 
-  pub quiet : (asked : Questions) (n : Net) (e : Emptying) (outs : List Effect) → At n e → AllPlain asked n outs → Goes asked n (record { state = e; outs = outs })
+  pub quiet : (asked : Questions) (n : Net) (e : Emptying) (outs : List Effect) → At n e → AllPlain asked n outs
+      → Goes asked n (record { state = e; outs = outs })
   quiet asked n e outs h all = went_quiet asked n At e outs h all
 
   -- what files nothing is told before
-  pub went_behind : (asked : Questions) (n : Net) (outs : List Effect) (d : Stepped Emptying Effect) → AllPlain asked n outs → Goes asked n d → Goes asked n (after outs d)
+  pub went_behind : (asked : Questions) (n : Net) (outs : List Effect) (d : Stepped Emptying Effect) → AllPlain asked n outs → Goes asked n d
+      → Goes asked n (after outs d)
   went_behind asked n outs d all p owed =
       let same = plain_files asked n outs all in
       let w = p (record {
-        files = subst (λ f. FilesOwed (IsMoved part answered) texts 9 f d.outs) same (owed_behind (IsMoved part answered) texts 9 n.filed outs d.outs owed.files);
+        files = subst (λ f. FilesOwed (IsMoved part answered) texts 9 f d.outs) same
+            (owed_behind (IsMoved part answered) texts 9 n.filed outs d.outs owed.files);
         asks = all_behind (EffectOwed part n) outs d.outs owed.asks;
       }) in
       record {
@@ -320,7 +331,8 @@ module _ (part : ℕ) (texts : Texts) (since : ℕ) (answered : List Packet) whe
   -- ---- things that happen in the small world first
 
   -- that file nothing
-  pub went_after : {S : Type 0} (P : Net → S → Type 0) (asked more : Questions) (n m : Net) (d : Stepped S Effect) → Runs part (held_in part texts) n m → Grows n m
+  pub went_after : {S : Type 0} (P : Net → S → Type 0) (asked more : Questions) (n m : Net) (d : Stepped S Effect) → Runs part (held_in part texts) n m
+      → Grows n m
       → m.filed ≡ n.filed → Asked_more asked more → Goes_to P more m d → Goes_to P asked n d
   went_after P asked more n m d runs grows same kept p owed =
       let w = p (record {

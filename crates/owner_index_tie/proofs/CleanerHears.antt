@@ -82,7 +82,8 @@ module _ (part : ℕ) (texts : Texts) (since : ℕ) (answered : List Packet) (sm
   unfolding on_listed
   listed_so e None m h = still_so e h
   listed_so e (Some server) m h =
-      by_test Goes (is_out (lists_of e.job) m.ask) (cleans e (input.Listed server m.held)) (still e) (λ _. calm e (input.Listed server m.held) tt tt h) (λ _. still_so e h)
+      by_test Goes (is_out (lists_of e.job) m.ask) (cleans e (input.Listed server m.held)) (still e) (λ _. calm e (input.Listed server m.held) tt tt h)
+      (λ _. still_so e h)
 
   pub usage_so : (e : Emptying) (m : Usage) → At e → Goes (on_usage e m)
   unfolding on_usage
@@ -117,7 +118,8 @@ module _ (part : ℕ) (texts : Texts) (since : ℕ) (answered : List Packet) (sm
       given k = jobs.cleans_so part texts since answered asked n e (input.Dead m.block m.epoch) h
           (jobs.may_dead part texts since answered n e m.block m.epoch k.name k.below h k.sent k.hand)
 
-      by : is_out (check_of (hand_of e.job) m.block) m.ask ≡ true → (t : Bool) → (slot_of m.block.ino.0 == part) ≡ t → Goes (cleans e (input.Dead m.block m.epoch))
+      by : is_out (check_of (hand_of e.job) m.block) m.ask ≡ true → (t : Bool) → (slot_of m.block.ino.0 == part) ≡ t
+          → Goes (cleans e (input.Dead m.block m.epoch))
       by out true is = given (gets (inside is) out)
       by out false is = calm e (input.Dead m.block m.epoch) tt (outside is) h
 
@@ -134,7 +136,8 @@ module _ (part : ℕ) (texts : Texts) (since : ℕ) (answered : List Packet) (sm
       let at = rejobbed part texts since answered n e.log e.feed e.promised e.job (job_read e.job) (reread (epoch_of e.promised part) e.job) h in
       jobs.cleans_so part texts since answered asked n r (input.Read read) at (jobs.may_read part texts since answered n r read at owed)
 
-  confirmed_job : (epoch : ℕ) (job : Job) (o : Option Hand) (ask : ℕ) → JobAgrees part n epoch (Some job) → JobAgrees part n epoch (Some (hand_confirmed_in job o ask).state)
+  confirmed_job : (epoch : ℕ) (job : Job) (o : Option Hand) (ask : ℕ) → JobAgrees part n epoch (Some job)
+      → JobAgrees part n epoch (Some (hand_confirmed_in job o ask).state)
   confirmed_job epoch job None ask k = k
   confirmed_job epoch job (Some hand) ask k = k
 
@@ -146,7 +149,8 @@ module _ (part : ℕ) (texts : Texts) (since : ℕ) (answered : List Packet) (sm
       (λ k. confirmed_job (epoch_of e.promised part) job job.hand ask (subst (JobAgrees part n (epoch_of e.promised part)) same k)) h
 
   after_confirmed_so : (e : Emptying) (x : Next) → At e → Goes (after_confirmed e x)
-  after_confirmed_so e next.Ask h = frames.quiet part texts since answered asked n e (fetches (hand_of e.job)) h (fetches_plain part texts since answered asked n (hand_of e.job))
+  after_confirmed_so e next.Ask h = frames.quiet part texts since answered asked n e (fetches (hand_of e.job)) h
+      (fetches_plain part texts since answered asked n (hand_of e.job))
   after_confirmed_so e next.Lost h = ends_so e None h tt
   after_confirmed_so e next.Wait h = still_so e h
   after_confirmed_so e next.Again h = still_so e h
@@ -164,7 +168,8 @@ module _ (part : ℕ) (texts : Texts) (since : ℕ) (answered : List Packet) (sm
   heard_job epoch job None groups ask server t k = k
   heard_job epoch job (Some hand) groups ask server t k = k
 
-  told_at : (e : Emptying) (o : Option Job) (groups : Option GroupMapState) (ask server : ℕ) (t : Told) → e.job ≡ o → At e → At (told_in e o groups ask server t).state
+  told_at : (e : Emptying) (o : Option Job) (groups : Option GroupMapState) (ask server : ℕ) (t : Told) → e.job ≡ o → At e
+      → At (told_in e o groups ask server t).state
   unfolding job_hears
   told_at e None groups ask server t same h = h
   told_at e (Some job) None ask server t same h = h

@@ -131,10 +131,12 @@ module _ (part : ℕ) where
       other is same = let s = same in grind (arith, nat_tests, s, is)
 
       by : (t : Bool) → (news.slot == part) ≡ t → promised_at (promised_with promised news.slot news.epoch) part ≡ promised_at promised part
-      by true is = ap (λ p. promised_at p part) (with_lower promised news.slot news.epoch (subst (λ k. news.epoch ≤ promised_at promised k) (sym (at is)) (low (at is))))
+      by true is = ap (λ p. promised_at p part)
+          (with_lower promised news.slot news.epoch (subst (λ k. news.epoch ≤ promised_at promised k) (sym (at is)) (low (at is))))
       by false is = with_other promised news.slot news.epoch part (other is)
 
-  pub of_news : (slots : List SlotNews) (promised : List ℕ) → NoHigher (promised_at promised part) slots → promised_at (promised_of slots promised) part ≡ promised_at promised part
+  pub of_news : (slots : List SlotNews) (promised : List ℕ) → NoHigher (promised_at promised part) slots
+      → promised_at (promised_of slots promised) part ≡ promised_at promised part
   of_news [] promised low = refl
   of_news (news ∷ slots) promised low =
       let first = with_news promised news low.0 in
@@ -216,13 +218,15 @@ module _ (part : ℕ) (texts : Texts) (since : ℕ) (answered : List Packet) whe
       }
 
   -- a Dead of the slot
-  pub may_dead : (n : Net) (e : Emptying) (block : BlockId) (epoch : ℕ) (name : SegName) (below : ℕ) → At n e → In (AnsweredDead n.number block name below epoch) n.sent
+  pub may_dead : (n : Net) (e : Emptying) (block : BlockId) (epoch : ℕ) (name : SegName) (below : ℕ) → At n e
+      → In (AnsweredDead n.number block name below epoch) n.sent
       → IsInHand name n.job.phase → May n e (input.Dead block epoch)
   may_dead n e block epoch name below h sent hand j same =
       let k = its n e j h same in
       let kept = same_promises j.cleaning (input.Dead block epoch) tt in
       record {
-        happens = subst (λ s. Happens part (held_in part texts) n (with_job n (job.transition s (input.Dead block epoch)))) k.is (JobHearsDead block epoch name below sent hand);
+        happens = subst (λ s. Happens part (held_in part texts) n (with_job n (job.transition s (input.Dead block epoch)))) k.is
+            (JobHearsDead block epoch name below sent hand);
         seen = record { is = refl; eight = ap length kept ∙ k.eight; told = ap (λ p. promised_at p part) kept ∙ k.told };
       }
 
@@ -233,7 +237,8 @@ module _ (part : ℕ) (texts : Texts) (since : ℕ) (answered : List Packet) whe
   unfolding job.on_welcome
   welcome_promises s slots groups low =
       by_test (λ (d : job.Done). (length d.state.promised ≡ length s.promised) × (promised_at d.state.promised part ≡ promised_at s.promised part))
-      (job.is_greeting s.phase && (length slots == 8)) (job.welcomed s slots groups) (still s) (λ _. (of_length slots s.promised, of_news part slots s.promised low)) (λ _. (refl, refl))
+      (job.is_greeting s.phase && (length slots == 8)) (job.welcomed s slots groups) (still s)
+      (λ _. (of_length slots s.promised, of_news part slots s.promised low)) (λ _. (refl, refl))
 
   pub may_welcome : (n : Net) (e : Emptying) (slots : List SlotNews) (groups : GroupMapState) → At n e → NoHigher part (epoch_of e.promised part) slots
       → May n e (input.Welcome slots groups)
@@ -246,7 +251,8 @@ module _ (part : ℕ) (texts : Texts) (since : ℕ) (answered : List Packet) whe
       record {
         happens = subst (λ p. Happens part (held_in part texts) n (record (with_job n d) { promised = p })) after_it
             (subst (λ s. n.promised ≤ promised_at (job.transition s i).state.promised part
-            → Happens part (held_in part texts) n (record (with_job n (job.transition s i)) { promised = promised_at (job.transition s i).state.promised part })) k.is
+            → Happens part (held_in part texts) n
+            (record (with_job n (job.transition s i)) { promised = promised_at (job.transition s i).state.promised part })) k.is
             (λ low. JobWelcomed slots groups low) (omega arith));
         seen = record { is = refl; eight = w.0 ∙ k.eight; told = w.1 ∙ k.told };
       }

@@ -51,7 +51,8 @@ module _ (part : ℕ) (texts : Texts) (since : ℕ) (answered : List Packet) whe
 
   -- ---- what it tells of its log
 
-  ranges_plain : (asked : Questions) (n : Net) (managers : Managers) (outs : List feed_outs.Out) → AllByRecursion (owners.OwnerDoes part n 9) (map (range managers) outs)
+  ranges_plain : (asked : Questions) (n : Net) (managers : Managers) (outs : List feed_outs.Out)
+      → AllByRecursion (owners.OwnerDoes part n 9) (map (range managers) outs)
       → frames.AllPlain part texts since answered asked n (map (range managers) outs)
   ranges_plain asked n managers [] all = tt
   ranges_plain asked n managers (Range slot first upto rows ∷ outs) all = (all.0, ranges_plain asked n managers outs all.1)
@@ -71,7 +72,8 @@ module _ (part : ℕ) (texts : Texts) (since : ℕ) (answered : List Packet) whe
       (frames.quiet part texts since answered asked n e (store fragment member ∷ []) h (tt, tt)) (λ w. sends_so w.questions w.next e outs all.1 w.at)
   sends_so asked n e (Settled end rows ∷ outs) all h = absurd all.0
 
-  rests_so : (asked : Questions) (n : Net) (e : Emptying) (r : log.Done) → LogNext 9 r.state → Rests e.log r → At n e → Goes asked n (steps writes_one (record e { log = r.state }) r.outs)
+  rests_so : (asked : Questions) (n : Net) (e : Emptying) (r : log.Done) → LogNext 9 r.state → Rests e.log r → At n e
+      → Goes asked n (steps writes_one (record e { log = r.state }) r.outs)
   rests_so asked n e r next k h =
       sends_so asked n (record e { log = r.state }) r.outs k.sends (relogged part texts since answered n e.log r.state e.feed e.promised e.job next k.same h)
 
@@ -87,7 +89,8 @@ module _ (part : ℕ) (texts : Texts) (since : ℕ) (answered : List Packet) whe
   moved_job n epoch None k = k
   moved_job n epoch (Some job) k = k
 
-  module _ (asked : Questions) (n : Net) (e : Emptying) (h : At n e) (text : FlightIsText texts e.log) (r : log.Done) (next : LogNext 9 r.state) (k : Lands e.log r) where
+  module _ (asked : Questions) (n : Net) (e : Emptying) (h : At n e) (text : FlightIsText texts e.log) (r : log.Done) (next : LogNext 9 r.state)
+      (k : Lands e.log r) where
     abbrev old : Segment
     old = k.old.segment
 
@@ -95,7 +98,8 @@ module _ (part : ℕ) (texts : Texts) (since : ℕ) (answered : List Packet) whe
     its_name = name_of cleaner_log (end_from old)
 
     name_is : its_name ≡ old.name
-    name_is = ap (λ (x : LogId). record { log = x; seq = old.name.seq; pass = old.name.pass }) (sym h.seen.owner.log.own ∙ sym (h.seen.owner.log.of k.old k.was))
+    name_is = ap (λ (x : LogId). record { log = x; seq = old.name.seq; pass = old.name.pass })
+        (sym h.seen.owner.log.own ∙ sym (h.seen.owner.log.of k.old k.was))
 
     at_next : old.name.seq ≡ suc (n.filed.head 9)
     at_next = h.seen.owner.log.next k.old k.was ∙ ap suc h.seen.owner.end.seq
@@ -111,8 +115,10 @@ module _ (part : ℕ) (texts : Texts) (since : ℕ) (answered : List Packet) whe
 
     fed_at : FilesNext (IsMoved part answered) texts 9 n.filed its_name → At m then_fed
     fed_at it =
-        let g = grown part texts n 9 since n.filed 9 r.state e.feed old h.late refl h.seen.owner.feed (subst (λ (x : Segment). RowsFit (rows_of x)) text_is it.fits) it.short next k.end at_next in
-        let s = subst (λ (x : Segment). OwnerSeen part (filing n (with_segment n.filed 9 x)) 9 9 r.state (settled e.feed old.name.seq (rows_of old))) (sym text_is) g.seen in
+        let g = grown part texts n 9 since n.filed 9 r.state e.feed old h.late refl h.seen.owner.feed
+        (subst (λ (x : Segment). RowsFit (rows_of x)) text_is it.fits) it.short next k.end at_next in
+        let s = subst (λ (x : Segment). OwnerSeen part (filing n (with_segment n.filed 9 x)) 9 9 r.state (settled e.feed old.name.seq (rows_of old)))
+        (sym text_is) g.seen in
         record {
           late = subst (λ (x : Segment). since ≤ (with_segment n.filed 9 x).head 9) (sym text_is) g.late;
           heard = h.heard;

@@ -67,14 +67,16 @@ said_log e (out.Finished count ∷ outs) all = absurd all.0
 
 forgetting_asks : (slot : ℕ) (p : Phase) → AllByRecursion IsUsageAsk (job.forgetting slot p).outs
 unfolding IsUsageAsk
-forgetting_asks slot (Counting c) = by_test (λ (t : _). AllByRecursion IsUsageAsk t.outs) (has_usage c.usages slot) _ (still (Counting c)) (λ _. (tt, tt)) (λ _. tt)
+forgetting_asks slot (Counting c) = by_test (λ (t : _). AllByRecursion IsUsageAsk t.outs) (has_usage c.usages slot) _ (still (Counting c)) (λ _. (tt, tt))
+    (λ _. tt)
 forgetting_asks slot p = tt
 
 promise_asks : (s : CleaningState) (slot epoch : ℕ) → AllByRecursion IsUsageAsk (job.transition s (input.Promise slot epoch)).outs
 unfolding job.on_promise
 promise_asks s slot epoch =
     by_test (λ (d : job.Done). AllByRecursion IsUsageAsk d.outs) (is_above s.promised slot epoch)
-    (job.turned (record s { promised = promised_with s.promised slot epoch }) (job.forgetting slot s.phase)) (still s) (λ _. forgetting_asks slot s.phase) (λ _. tt)
+    (job.turned (record s { promised = promised_with s.promised slot epoch }) (job.forgetting slot s.phase)) (still s) (λ _. forgetting_asks slot s.phase)
+    (λ _. tt)
 
 taken_log : (e : Emptying) (o : Option Job) (slot epoch : ℕ)
     → (steps says (takes_in e o (input.Promise slot epoch)).state (takes_in e o (input.Promise slot epoch)).outs).state.log ≡ e.log
@@ -103,7 +105,8 @@ all_hear_log : (e : Emptying) (slots : List SlotNews) → (steps hears_slot e sl
 all_hear_log e [] = refl
 all_hear_log e (news ∷ slots) = all_hear_log (hears_slot e news).state slots ∙ hears_log e news
 
-mapped_log : (e : Emptying) (o : Option Job) (groups : GroupMapState) → (steps says (takes_in e o (input.Maps groups)).state (takes_in e o (input.Maps groups)).outs).state.log ≡ e.log
+mapped_log : (e : Emptying) (o : Option Job) (groups : GroupMapState)
+    → (steps says (takes_in e o (input.Maps groups)).state (takes_in e o (input.Maps groups)).outs).state.log ≡ e.log
 mapped_log e None groups = refl
 mapped_log e (Some j) groups = refl
 
@@ -123,7 +126,8 @@ module _ (part : ℕ) (texts : Texts) (since : ℕ) (answered : List Packet) (sm
   Goes_to P asked n d = frames.Goes_to part texts since answered P asked n d
 
   -- what holds stays so while the small world goes on
-  holding : (P : Net → Emptying → Type 0) (X : Net → Type 0) → ((u v : Net) → Grows u v → X u → X v) → (asked : Questions) (n : Net) (d : Done) → X n → Goes_to P asked n d
+  holding : (P : Net → Emptying → Type 0) (X : Net → Type 0) → ((u v : Net) → Grows u v → X u → X v) → (asked : Questions) (n : Net) (d : Done) → X n
+      → Goes_to P asked n d
       → Goes_to (λ v s. P v s × X v) asked n d
   holding P X later asked n d x goes owed = (let w = goes owed in record {
     next = w.next;
@@ -136,7 +140,8 @@ module _ (part : ℕ) (texts : Texts) (since : ℕ) (answered : List Packet) (sm
     says = w.says;
   })
 
-  weaker : (P Q : Net → Emptying → Type 0) → ((v : Net) (s : Emptying) → P v s → Q v s) → (asked : Questions) (n : Net) (d : Done) → Goes_to P asked n d → Goes_to Q asked n d
+  weaker : (P Q : Net → Emptying → Type 0) → ((v : Net) (s : Emptying) → P v s → Q v s) → (asked : Questions) (n : Net) (d : Done) → Goes_to P asked n d
+      → Goes_to Q asked n d
   weaker P Q to asked n d goes owed = (let w = goes owed in record {
     next = w.next;
     runs = w.runs;
@@ -164,24 +169,31 @@ module _ (part : ℕ) (texts : Texts) (since : ℕ) (answered : List Packet) (sm
   later_is : (a b : ℕ) → nat_lt a b ≡ true → a ≤ b
   later_is a b is = grind (arith, nat_tests)
 
-  hears_so : (asked : Questions) (n : Net) (e : Emptying) (news : SlotNews) → At n e → Goes_to (UpTo part texts since answered small news.slot news.epoch) asked n (hears_slot e news)
+  hears_so : (asked : Questions) (n : Net) (e : Emptying) (news : SlotNews) → At n e
+      → Goes_to (UpTo part texts since answered small news.slot news.epoch) asked n (hears_slot e news)
   unfolding hears_slot
   hears_so asked n e news h =
       by_test (Goes_to (UpTo part texts since answered small news.slot news.epoch) asked n) (nat_lt (epoch_of e.promised news.slot) news.epoch)
       (cleans (promises e news.slot news.epoch news.manager) (input.Promise news.slot news.epoch)) (still e)
       (λ is. promised_so part texts since answered small asked n news.slot news.epoch news.manager e h
       (λ same. subst (λ k. epoch_of e.promised k ≤ news.epoch) same (later_is (epoch_of e.promised news.slot) news.epoch is)))
-      (λ is. frames.went_quiet part texts since answered asked n (UpTo part texts since answered small news.slot news.epoch) e []
-      (h, λ same. let a = subst (λ k. news.epoch ≤ epoch_of e.promised k) same (no_later (epoch_of e.promised news.slot) news.epoch is) in let b = h.seen.promised in omega arith) tt)
+      (λ is. frames.went_quiet part texts since answered asked n (UpTo part texts since answered small news.slot news.epoch) e [] (
+        h,
+        λ same. let a = subst (λ k. news.epoch ≤ epoch_of e.promised k) same
+            (no_later (epoch_of e.promised news.slot) news.epoch is) in let b = h.seen.promised in omega arith,
+      ) tt)
 
   all_hear : (asked : Questions) (n : Net) (e : Emptying) (slots : List SlotNews) → At n e → Goes_to (Heard slots) asked n (steps hears_slot e slots)
   all_hear asked n e [] h = frames.went_quiet part texts since answered asked n (Heard []) e [] (h, tt) tt
   all_hear asked n e (news ∷ slots) h =
-      frames.went_through part texts since answered (UpTo part texts since answered small news.slot news.epoch) (Heard (news ∷ slots)) asked n (hears_slot e news)
+      frames.went_through part texts since answered (UpTo part texts since answered small news.slot news.epoch) (Heard (news ∷ slots)) asked n
+      (hears_slot e news)
       (steps hears_slot (hears_slot e news).state slots) (hears_so asked n e news h)
-      (λ w. weaker (λ v s. Heard slots v s × (news.slot ≡ part → news.epoch ≤ v.promised)) (Heard (news ∷ slots)) (λ v s x. (x.0.0, (x.1, x.0.1))) w.questions w.next
+      (λ w. weaker (λ v s. Heard slots v s × (news.slot ≡ part → news.epoch ≤ v.promised)) (Heard (news ∷ slots))
+      (λ v s x. (x.0.0, (x.1, x.0.1))) w.questions w.next
       (steps hears_slot (hears_slot e news).state slots)
-      (holding (Heard slots) (λ v. news.slot ≡ part → news.epoch ≤ v.promised) (λ u v g x same. let a = x same in let b = g.promised in omega arith) w.questions w.next
+      (holding (Heard slots) (λ v. news.slot ≡ part → news.epoch ≤ v.promised)
+      (λ u v g x same. let a = x same in let b = g.promised in omega arith) w.questions w.next
       (steps hears_slot (hears_slot e news).state slots) w.at.1 (all_hear w.questions w.next (hears_slot e news).state slots w.at.0)))
 
   -- ---- news
@@ -191,11 +203,13 @@ module _ (part : ℕ) (texts : Texts) (since : ℕ) (answered : List Packet) (sm
       jobs.cleans_so part texts since answered asked n e (input.Maps groups) h (jobs.may_other part texts since answered n e (input.Maps groups) h tt tt)
   regroups_so asked n e false groups h = frames.quiet part texts since answered asked n e [] h tt
 
-  log_regroups_so : (asked : Questions) (n : Net) (e : Emptying) (newer : Bool) (groups : GroupMapState) → At n e → FlightIsText texts e.log → Goes asked n (log_regrouped e newer groups)
+  log_regroups_so : (asked : Questions) (n : Net) (e : Emptying) (newer : Bool) (groups : GroupMapState) → At n e → FlightIsText texts e.log
+      → Goes asked n (log_regrouped e newer groups)
   log_regroups_so asked n e true groups h text = writes_so part texts since answered asked n e (log_in.Maps groups) h text
   log_regroups_so asked n e false groups h text = frames.quiet part texts since answered asked n e [] h tt
 
-  takes_so : (asked : Questions) (n : Net) (e : Emptying) (news : News) → At n e → FlightIsText texts e.log → Goes_to (Heard news.slots) asked n (takes_news e news)
+  takes_so : (asked : Questions) (n : Net) (e : Emptying) (news : News) → At n e → FlightIsText texts e.log
+      → Goes_to (Heard news.slots) asked n (takes_news e news)
   unfolding takes_news hears_slots
   takes_so asked n e news h text =
       let newer = is_older e.maps news in
@@ -203,10 +217,12 @@ module _ (part : ℕ) (texts : Texts) (since : ℕ) (answered : List Packet) (sm
       let a = job_regrouped r newer news.groups in
       let b = steps hears_slot a.state news.slots in
       let same = all_hear_log a.state news.slots ∙ regrouped_log r newer news.groups in
-      frames.went_through part texts since answered At (Heard news.slots) asked n a (after b.outs (log_regrouped b.state newer news.groups)) (regroups_so asked n r newer news.groups h)
+      frames.went_through part texts since answered At (Heard news.slots) asked n a (after b.outs (log_regrouped b.state newer news.groups))
+      (regroups_so asked n r newer news.groups h)
       (λ w. frames.went_through part texts since answered (Heard news.slots) (Heard news.slots) w.questions w.next b (log_regrouped b.state newer news.groups)
       (all_hear w.questions w.next a.state news.slots w.at)
-      (λ x. holding At (λ v. NoHigher part v.promised news.slots) (no_higher_later news.slots) x.questions x.next (log_regrouped b.state newer news.groups) x.at.1
+      (λ x. holding At (λ v. NoHigher part v.promised news.slots) (no_higher_later news.slots) x.questions x.next
+      (log_regrouped b.state newer news.groups) x.at.1
       (log_regroups_so x.questions x.next b.state newer news.groups x.at.0 (subst (FlightIsText texts) (sym same) text))))
 
   pub news_so : (asked : Questions) (n : Net) (e : Emptying) (news : News) → At n e → FlightIsText texts e.log → Goes asked n (on_news e news)

@@ -11,7 +11,6 @@ use Rattle.cleaner_node.specs.declared.lasting.Lasting.{Lasting}
 use Rattle.cleaner_node.specs.CleanerEvents.{Went_to, serves_on, crashes, next_life, owner_of, back, after_opening, opened_on, restarts, answers, down_wishes, opening_wishes, serving_wishes, wish_at, begun_life, down_at, opening_at, serving_at, on_begin, hears, on_deliver, on_time, happens, phase_room, takes}
 use Rattle.cleaner_node.specs.EmptyingEvents.{on_clean, on_packet, on_tick}
 use Rattle.cleaner_node.specs.Jobs.{Done}
-use Rattle.index_tie.specs.Filed.{Filed}
 use Rattle.index_tie.specs.Net.{Net}
 use Rattle.index_tie.specs.Net.Happens.{CleanerFiles, JobBegins, Promises}
 use Rattle.index_tie.specs.Net.Runs.{Begun, On}
@@ -51,7 +50,7 @@ use Rattle.xfs_base.proofs.Booleans.{by_test}
 use Rattle.xfs_base.specs.declared.node.NodeId.{NodeId}
 use Rattle.xfs_base.specs.Steps.{still}
 use Rattle.owner_index_tie.specs.CleanerEvents.{CleanerRests, CleanerAgrees, IsMoved, CleanerSays, CleanerActs, CleanerDoes, EventGets, PacketGets, ReopensOn, WritesTexts, CleanerEventGoes}
-use Rattle.owner_index_tie.specs.Filing.{filing, filed_after}
+use Rattle.owner_index_tie.specs.Filing.{IsSameLog, filing, filed_after}
 use Rattle.owner_index_tie.specs.Owners.{LogFits, OpeningSeen, StageWrites}
 use Rattle.owner_index_tie.proofs.CleanerBegins.{clean_so}
 use Rattle.owner_index_tie.proofs.CleanerFrames as frames
@@ -63,7 +62,7 @@ use Rattle.owner_index_tie.proofs.Feeds.{same_owner, same_fits}
 use Rattle.owner_index_tie.proofs.Frames as effects
 use Rattle.owner_index_tie.proofs.OpeningLog as log
 use Rattle.owner_index_tie.proofs.Openings as events
-use Rattle.owner_index_tie.proofs.Running.{texts_after, runs_after}
+use Rattle.owner_index_tie.proofs.Running.{texts_after, others_after, runs_after}
 
 -- ---- what an opening does
 
@@ -104,7 +103,8 @@ module _ (part : ℕ) (texts : Texts) (n : Net) (small : part < 8) where
   abbrev Goes : Questions → Net → Went_to → Type 0
   Goes asked v w = frames.Goes_to part texts since n.sent PhaseSo asked v w
 
-  quiet : (asked : Questions) (v : Net) (p : Phase) (outs : List Effect) → PhaseSo v p → frames.AllPlain part texts since n.sent asked v outs → Goes asked v (record { state = p; outs = outs })
+  quiet : (asked : Questions) (v : Net) (p : Phase) (outs : List Effect) → PhaseSo v p → frames.AllPlain part texts since n.sent asked v outs
+      → Goes asked v (record { state = p; outs = outs })
   quiet asked v p outs h all = frames.went_quiet part texts since n.sent asked v PhaseSo p outs h all
 
   answers_so : (asked : Questions) (v : Net) (p : Phase) (number : ℕ) (a : Answer) → PhaseSo v p → Goes asked v (answers p number a)
@@ -136,7 +136,8 @@ module _ (part : ℕ) (texts : Texts) (n : Net) (small : part < 8) where
 
   serving_crashes : (asked : Questions) (v : Net) (e : Emptying) (number : ℕ) → At v e → Goes asked v (crashes e.lasting number)
   serving_crashes asked v e number h =
-      frames.went_after part texts since n.sent PhaseSo asked asked v (jobless part texts since n.sent v) (crashes e.lasting number) (On Begun (JobBegins 0)) (grows_jobless part texts since n.sent v) refl
+      frames.went_after part texts since n.sent PhaseSo asked asked v (jobless part texts since n.sent v) (crashes e.lasting number) (On Begun (JobBegins 0))
+      (grows_jobless part texts since n.sent v) refl
       (λ x is. is)
       (crashes_so asked (jobless part texts since n.sent v) e.lasting number
       (record { fits = record { fit = h.seen.owner.feed.fit; short = h.seen.owner.feed.short }; job = told_nothing 0 part }))
@@ -206,7 +207,8 @@ module _ (part : ℕ) (texts : Texts) (n : Net) (small : part < 8) where
     rests_in : (v : Net) → v ≡ filing n v.filed → LogFits part (filing n v.filed) 9 → CleanerRests part v
     rests_in v is fits = record { fits = fits_in v is fits; job = none_in v is }
 
-    back_so : (asked : Questions) (v : Net) (l : Lasting) (o : Opened) → Files v (progress.Opened o) → length o.promised.epochs ≡ 8 → n.promised ≤ epoch_of o.promised part
+    back_so : (asked : Questions) (v : Net) (l : Lasting) (o : Opened) → Files v (progress.Opened o) → length o.promised.epochs ≡ 8
+        → n.promised ≤ epoch_of o.promised part
         → Goes asked v (back l o)
     back_so asked v l o k eight newer =
         let epoch = epoch_of o.promised part in
@@ -230,10 +232,12 @@ module _ (part : ℕ) (texts : Texts) (n : Net) (small : part < 8) where
         } in
         frames.went_after part texts since n.sent PhaseSo asked asked v m (back l o) (On Begun (Promises epoch low (none_in v k.is))) grows refl (λ x is. is)
         (quiet asked m (back l o).state (back l o).outs at
-        (all_both (frames.Plain part texts since n.sent asked m) (pushes_all o.promised.managers o.feed) _ (pushes_plain part texts since n.sent asked m o.promised.managers o.feed owner.feed)
+        (all_both (frames.Plain part texts since n.sent asked m) (pushes_all o.promised.managers o.feed) _
+        (pushes_plain part texts since n.sent asked m o.promised.managers o.feed owner.feed)
         (answers_plain part texts since n.sent asked m l.items.unanswered answer.Done)))
 
-    after_opening_so : (asked : Questions) (v : Net) (l : Lasting) (p : Progress) → Files v p → Newer (after_opening l p).state → Goes asked v (after_opening l p)
+    after_opening_so : (asked : Questions) (v : Net) (l : Lasting) (p : Progress) → Files v p → Newer (after_opening l p).state
+        → Goes asked v (after_opening l p)
     unfolding after_opening
     after_opening_so asked v l (progress.Opening o) k newer = quiet asked v (Opening l o) [] (rests_in v k.is k.seen.0, k.seen.1) tt
     after_opening_so asked v l (progress.Opened o) k newer = back_so asked v l o k newer.0 newer.1
@@ -251,12 +255,14 @@ module _ (part : ℕ) (texts : Texts) (n : Net) (small : part < 8) where
 
   -- ---- the next item begins
 
-  down_wish : (asked : Questions) (servers : ℕ) (l : Lasting) (number : ℕ) (wish : Wish) → CleanerRests part n → Goes asked n (down_wishes servers l number wish)
+  down_wish : (asked : Questions) (servers : ℕ) (l : Lasting) (number : ℕ) (wish : Wish) → CleanerRests part n
+      → Goes asked n (down_wishes servers l number wish)
   down_wish asked servers l number Restart h = restarts_so asked n servers l number h
   down_wish asked servers l number Crash h = answers_so asked n (Down l) number answer.Down h
   down_wish asked servers l number (Clean count) h = answers_so asked n (Down l) number answer.Down h
 
-  opening_wish : (asked : Questions) (l : Lasting) (o : openings.Opening) (number : ℕ) (wish : Wish) → PhaseSo n (Opening l o) → Goes asked n (opening_wishes l o number wish)
+  opening_wish : (asked : Questions) (l : Lasting) (o : openings.Opening) (number : ℕ) (wish : Wish) → PhaseSo n (Opening l o)
+      → Goes asked n (opening_wishes l o number wish)
   opening_wish asked l o number Crash h = crashes_so asked n l number h.0
   opening_wish asked l o number Restart h = answers_so asked n (Opening l o) number answer.Up h
   opening_wish asked l o number (Clean count) h = answers_so asked n (Opening l o) number answer.Down h
@@ -297,7 +303,8 @@ module _ (part : ℕ) (texts : Texts) (n : Net) (small : part < 8) where
   is_stage (stage.Scanning s) text = tt
   is_stage (stage.Settling s) text = (text, λ back. back)
 
-  gets_end : (l : Lasting) (o : openings.Opening) (m : Lasting) (p : Progress) → ReopensOn part texts n (Opening l o) (after_opening m p).state → log.EndGets texts 9 n.filed o.stage p
+  gets_end : (l : Lasting) (o : openings.Opening) (m : Lasting) (p : Progress) → ReopensOn part texts n (Opening l o) (after_opening m p).state
+      → log.EndGets texts 9 n.filed o.stage p
   unfolding after_opening
   gets_end l o m (progress.Opening x) gets = tt
   gets_end l o m (progress.Opened r) gets = gets.0
@@ -309,9 +316,11 @@ module _ (part : ℕ) (texts : Texts) (n : Net) (small : part < 8) where
   gets_newer l o (Serving e) gets = gets.1
 
   opens_to : (asked : Questions) (owner : Owner) (l : Lasting) (o : openings.Opening) (w : Went) → PhaseSo n (Opening l o)
-      → log.WentSo (IsMoved part n.sent) part texts n 9 since n.filed o.stage w → AllByRecursion (MayDo owner) w.effects → Goes_on asked (Opening l o) (opened_on l w)
+      → log.WentSo (IsMoved part n.sent) part texts n 9 since n.filed o.stage w → AllByRecursion (MayDo owner) w.effects
+      → Goes_on asked (Opening l o) (opened_on l w)
   opens_to asked owner l o w h goes may gets =
-      opened_on_so h.0.job asked owner l w (goes (gets_end l o (record l { questions = w.questions }) w.progress gets)) may (gets_newer l o (opened_on l w).state gets)
+      opened_on_so h.0.job asked owner l w (goes (gets_end l o (record l { questions = w.questions }) w.progress gets)) may
+      (gets_newer l o (opened_on l w).state gets)
 
   hears_so : (asked : Questions) (p : Phase) (packet : Sent) → PhaseText p → PacketGets part n p packet → Goes_on asked p (hears p packet)
   unfolding hears
@@ -320,12 +329,15 @@ module _ (part : ℕ) (texts : Texts) (n : Net) (small : part < 8) where
       opens_to asked o.known.owner l o (opening.on_packet o l.questions packet) h.0
       (events.packet_goes (IsMoved part n.sent) part texts n 9 since n.filed (omega arith) h.0.0.fits o.stage o l.questions packet h.0.1 (is_stage o.stage h.1))
       (behaving.packet_so o l.questions packet).does
-  hears_so asked (Serving e) packet h gets = λ reopens. serves_so asked n (on_packet e packet) (serving.packet_so part texts since n.sent small asked n e h.0 h.1 packet gets)
+  hears_so asked (Serving e) packet h gets = λ reopens. serves_so asked n (on_packet e packet)
+      (serving.packet_so part texts since n.sent small asked n e h.0 h.1 packet gets)
 
-  delivers_so : (asked : Questions) (peers : Peers) (p : Phase) (packet : Sent) → PhaseText p → PacketGets part n p packet → Goes_on asked p (on_deliver peers p packet)
+  delivers_so : (asked : Questions) (peers : Peers) (p : Phase) (packet : Sent) → PhaseText p → PacketGets part n p packet
+      → Goes_on asked p (on_deliver peers p packet)
   unfolding on_deliver
   delivers_so asked peers p packet h gets =
-      by_test (Goes_on asked p) (is_well_formed peers packet) (hears p packet) (still p) (λ _. hears_so asked p packet h gets) (λ _ reopens. quiet asked n p [] h.0 tt)
+      by_test (Goes_on asked p) (is_well_formed peers packet) (hears p packet) (still p) (λ _. hears_so asked p packet h gets)
+      (λ _ reopens. quiet asked n p [] h.0 tt)
 
   time_so : (asked : Questions) (p : Phase) → PhaseText p → Goes_on asked p (on_time p)
   unfolding on_time
@@ -343,7 +355,8 @@ module _ (part : ℕ) (texts : Texts) (n : Net) (small : part < 8) where
 
   takes_so : (asked : Questions) (peers : Peers) (p : Phase) (what : Do) → PhaseText p → EventGets part n p what → Goes_on asked p (takes peers p what)
   takes_so asked peers p what h gets =
-      by_test (Goes_on asked p) (phase_room p) (happens peers p what) (still p) (λ _. happens_so asked peers p what h gets) (λ _ reopens. quiet asked n p [] h.0 tt)
+      by_test (Goes_on asked p) (phase_room p) (happens peers p what) (still p) (λ _. happens_so asked peers p what h gets)
+      (λ _ reopens. quiet asked n p [] h.0 tt)
 
   -- ---- what it is there
 
@@ -367,6 +380,8 @@ cleaner_event_goes part texts asked n cleaner what small agreed owed =
       runs = k.runs;
       agrees = agrees part texts n small k.next w.state k.at owed.writes;
       filed = k.filed;
+      more = k.grows.filed;
+      others = λ l other. subst (IsSameLog l n.filed) (sym k.filed) (others_after texts 9 l other n.filed w.outs);
       named = λ are. subst (λ f. AreTexts texts f) (sym k.filed) (texts_after (IsMoved part n.sent) texts 9 n.filed w.outs owed.files are);
       slots = k.grows.slots;
       epoch = k.grows.epoch;

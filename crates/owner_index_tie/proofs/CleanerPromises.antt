@@ -47,18 +47,22 @@ epoch_is p slot = unwrap_or-slice_get p.epochs slot 0
 
 pub to_length : (p : Promised) (slot epoch manager : ℕ) → length p.epochs ≡ 8 → length (promised_to p slot epoch manager).epochs ≡ 8
 to_length p slot epoch manager eight =
-    by_test (λ (q : Promised). length q.epochs ≡ 8) (nat_lt slot 8) (record { epochs = slice_set p.epochs slot epoch; managers = manager_set p.managers slot manager }) p
+    by_test (λ (q : Promised). length q.epochs ≡ 8) (nat_lt slot 8)
+    (record { epochs = slice_set p.epochs slot epoch; managers = manager_set p.managers slot manager }) p
     (λ _. length-set p.epochs slot epoch ∙ eight) (λ _. eight)
 
 pub to_here : (p : Promised) (slot epoch manager : ℕ) → slot < 8 → length p.epochs ≡ 8 → epoch_of (promised_to p slot epoch manager) slot ≡ epoch
 to_here p slot epoch manager small eight =
-    by_test (λ (q : Promised). epoch_of q slot ≡ epoch) (nat_lt slot 8) (record { epochs = slice_set p.epochs slot epoch; managers = manager_set p.managers slot manager }) p
-    (λ _. epoch_is (record { epochs = slice_set p.epochs slot epoch; managers = manager_set p.managers slot manager }) slot ∙ get_or-set_same p.epochs slot epoch 0 (omega arith))
+    by_test (λ (q : Promised). epoch_of q slot ≡ epoch) (nat_lt slot 8)
+    (record { epochs = slice_set p.epochs slot epoch; managers = manager_set p.managers slot manager }) p
+    (λ _. epoch_is (record { epochs = slice_set p.epochs slot epoch; managers = manager_set p.managers slot manager }) slot
+    ∙ get_or-set_same p.epochs slot epoch 0 (omega arith))
     (λ is. absurd (let s = small in grind (arith, nat_tests, s, is)))
 
 pub to_other : (p : Promised) (slot epoch manager k : ℕ) → (slot ≡ k → ⊥) → epoch_of (promised_to p slot epoch manager) k ≡ epoch_of p k
 to_other p slot epoch manager k other =
-    by_test (λ (q : Promised). epoch_of q k ≡ epoch_of p k) (nat_lt slot 8) (record { epochs = slice_set p.epochs slot epoch; managers = manager_set p.managers slot manager }) p
+    by_test (λ (q : Promised). epoch_of q k ≡ epoch_of p k) (nat_lt slot 8)
+    (record { epochs = slice_set p.epochs slot epoch; managers = manager_set p.managers slot manager }) p
     (λ _. epoch_is (record { epochs = slice_set p.epochs slot epoch; managers = manager_set p.managers slot manager }) k
     ∙ get_or-set_other p.epochs slot k epoch 0 (λ same. other (sym same)) ∙ sym (epoch_is p k))
     (λ _. refl)
@@ -120,7 +124,8 @@ module _ (part : ℕ) (texts : Texts) (since : ℕ) (answered : List Packet) (sm
     abbrev pub Up : Net → Emptying → Type 0
     Up v s = At v s × (epoch ≤ v.promised)
 
-    ups : (m : Net) (d : Done) → Grows n m → m.promised ≡ epoch → Runs part (held_in part texts) n m → m.filed ≡ n.filed → Goes asked m d → frames.Goes_to part texts since answered Up asked n d
+    ups : (m : Net) (d : Done) → Grows n m → m.promised ≡ epoch → Runs part (held_in part texts) n m → m.filed ≡ n.filed → Goes asked m d
+        → frames.Goes_to part texts since answered Up asked n d
     ups m d grows is runs same goes =
         frames.went_after part texts since answered Up asked asked n m d runs grows same (λ x there. there)
         (λ owed. let w = goes owed in record {
@@ -171,7 +176,11 @@ module _ (part : ℕ) (texts : Texts) (since : ℕ) (answered : List Packet) (sm
       promised_told : HasPromised told (Some (record j { cleaning = d.state }))
       promised_told = (let g = jobs.grows_job n d in record {
         runs = On Begun (subst (λ s. n.promised ≤ promised_at (job.transition s (input.Promise part epoch)).state.promised part
-            → Happens part (held_in part texts) n (record (with_job n (job.transition s (input.Promise part epoch))) { promised = promised_at (job.transition s (input.Promise part epoch)).state.promised part }))
+            → Happens part (held_in part texts) n
+            (record (with_job n (job.transition s (input.Promise part epoch))) {
+              promised = promised_at
+                  (job.transition s (input.Promise part epoch)).state.promised part;
+            }))
             its.is (λ low. JobPromises epoch low) (let a = h.seen.promised in let b = promised_now in omega arith));
         grows = record {
           slots = refl;
@@ -185,7 +194,12 @@ module _ (part : ℕ) (texts : Texts) (since : ℕ) (answered : List Packet) (sm
         };
         filed = refl;
         promised = promised_now;
-        job = record { is = refl; eight = ap length (promise_is j.cleaning part epoch) ∙ jobs.with_length j.cleaning.promised part epoch ∙ its.eight; told = promised_now };
+        job = record {
+          is = refl;
+          eight = ap length (promise_is j.cleaning part epoch) ∙ jobs.with_length j.cleaning.promised part epoch
+              ∙ its.eight;
+          told = promised_now;
+        };
       })
 
     pub of_slot : frames.Goes_to part texts since answered Up asked n (cleans kept (input.Promise part epoch))
@@ -193,11 +207,13 @@ module _ (part : ℕ) (texts : Texts) (since : ℕ) (answered : List Packet) (sm
     of_slot = by e.job refl
       where
         by : (o : Option Job) → e.job ≡ o
-            → frames.Goes_to part texts since answered Up asked n (steps says (takes_in kept o (input.Promise part epoch)).state (takes_in kept o (input.Promise part epoch)).outs)
+            → frames.Goes_to part texts since answered Up asked n
+            (steps says (takes_in kept o (input.Promise part epoch)).state (takes_in kept o (input.Promise part epoch)).outs)
         by None same =
             let k = promised_alone same in
             ups alone (still kept) k.grows k.promised k.runs k.filed
-            (frames.quiet part texts since answered asked alone kept [] (subst (Stands part texts since answered alone e.log e.feed kept.promised) (sym same) (kept_at alone None k)) tt)
+            (frames.quiet part texts since answered asked alone kept []
+            (subst (Stands part texts since answered alone e.log e.feed kept.promised) (sym same) (kept_at alone None k)) tt)
         by (Some j) same =
             let k = promised_told j same in
             let m = told j same in
@@ -242,7 +258,8 @@ module _ (part : ℕ) (texts : Texts) (since : ℕ) (answered : List Packet) (sm
           subst (λ f. 0 < of_log (v.horizon epoch) 9 → Linked f 9 (of_log (v.horizon epoch) 9) (f.head 9)) (sym k.filed)
           (subst (λ hs. 0 < of_log (hs epoch) 9 → Linked n.filed 9 (of_log (hs epoch) 9) (n.filed.head 9)) (sym k.grows.horizon) linked) in (
             (λ inside. Standing.end_known part v 9 since v.filed 9 e.log e.feed s epoch links, Standing.end_told part v 9 since v.filed 9 e.log e.feed s),
-            λ inside. inl (sym (ap (λ x. CleanerReported x (m.filed.head 9)) k.promised ∙ ap (CleanerReported epoch) (ap (λ (f : Filed). f.head 9) k.filed ∙ sym h.seen.owner.end.seq))),
+            λ inside. inl (sym (ap (λ x. CleanerReported x (m.filed.head 9)) k.promised ∙ ap (CleanerReported epoch)
+                (ap (λ (f : Filed). f.head 9) k.filed ∙ sym h.seen.owner.end.seq))),
           )
 
       pub of_poll : frames.Goes_to part texts since answered Up asked n (after (report ∷ []) (cleans kept (input.Promise part epoch)))
@@ -250,12 +267,14 @@ module _ (part : ℕ) (texts : Texts) (since : ℕ) (answered : List Packet) (sm
       of_poll = by e.job refl
         where
           by : (o : Option Job) → e.job ≡ o
-              → frames.Goes_to part texts since answered Up asked n (after (report ∷ []) (steps says (takes_in kept o (input.Promise part epoch)).state (takes_in kept o (input.Promise part epoch)).outs))
+              → frames.Goes_to part texts since answered Up asked n
+              (after (report ∷ []) (steps says (takes_in kept o (input.Promise part epoch)).state (takes_in kept o (input.Promise part epoch)).outs))
           by None same =
               let k = reported alone None (promised_alone same) in
               let v = reporting alone in
               ups v (after (report ∷ []) (still kept)) k.grows k.promised k.runs k.filed
-              (frames.quiet part texts since answered asked v kept (report ∷ []) (subst (Stands part texts since answered v e.log e.feed kept.promised) (sym same) (kept_at v None k))
+              (frames.quiet part texts since answered asked v kept (report ∷ [])
+              (subst (Stands part texts since answered v e.log e.feed kept.promised) (sym same) (kept_at v None k))
               (report_plain alone None (promised_alone same), tt))
           by (Some j) same =
               let p = promised_told j same in
@@ -293,7 +312,8 @@ module _ (part : ℕ) (texts : Texts) (since : ℕ) (answered : List Packet) (sm
         let k = subst (JobAgrees part n (epoch_of others.promised part)) same still_at.seen.job in
         let is = promise_is j.cleaning slot epoch in
         record {
-          happens = subst (λ s. Happens part (held_in part texts) n (with_job n (job.transition s (input.Promise slot epoch)))) k.is (JobTakes (input.Promise slot epoch) other);
+          happens = subst (λ s. Happens part (held_in part texts) n (with_job n (job.transition s (input.Promise slot epoch)))) k.is
+              (JobTakes (input.Promise slot epoch) other);
           seen = record {
             is = refl;
             eight = ap length is ∙ jobs.with_length j.cleaning.promised slot epoch ∙ k.eight;
@@ -344,23 +364,30 @@ module _ (part : ℕ) (texts : Texts) (since : ℕ) (answered : List Packet) (sm
     at_other is same = let s = same in grind (arith, nat_tests, s, is)
 
     any_slot : (e : Emptying) → At n e → (slot ≡ part → epoch_of e.promised part ≤ epoch)
-        → frames.Goes_to part texts since answered (UpTo slot epoch) asked n (cleans (record e { promised = promised_to e.promised slot epoch manager }) (input.Promise slot epoch))
+        → frames.Goes_to part texts since answered (UpTo slot epoch) asked n
+        (cleans (record e { promised = promised_to e.promised slot epoch manager }) (input.Promise slot epoch))
     any_slot e h low = by (slot == part) refl
       where
         by : (t : Bool) → (slot == part) ≡ t
-            → frames.Goes_to part texts since answered (UpTo slot epoch) asked n (cleans (record e { promised = promised_to e.promised slot epoch manager }) (input.Promise slot epoch))
-        by true is = subst (λ k. frames.Goes_to part texts since answered (UpTo k epoch) asked n (cleans (record e { promised = promised_to e.promised k epoch manager }) (input.Promise k epoch)))
+            → frames.Goes_to part texts since answered (UpTo slot epoch) asked n
+            (cleans (record e { promised = promised_to e.promised slot epoch manager }) (input.Promise slot epoch))
+        by true is = subst (λ k. frames.Goes_to part texts since answered (UpTo k epoch) asked n
+            (cleans (record e { promised = promised_to e.promised k epoch manager }) (input.Promise k epoch)))
             (sym (at_slot is))
-            (weaker (λ v s u. (u.0, λ same. u.1)) asked n (cleans (record e { promised = promised_to e.promised part epoch manager }) (input.Promise part epoch)) (of_slot asked n e h epoch manager (low (at_slot is))))
+            (weaker (λ v s u. (u.0, λ same. u.1)) asked n
+            (cleans (record e { promised = promised_to e.promised part epoch manager }) (input.Promise part epoch))
+            (of_slot asked n e h epoch manager (low (at_slot is))))
         by false is = weaker (λ v s u. (u, λ same. absurd (at_other is same))) asked n
-            (cleans (record e { promised = promised_to e.promised slot epoch manager }) (input.Promise slot epoch)) (of_other asked n e h slot epoch manager (at_other is))
+            (cleans (record e { promised = promised_to e.promised slot epoch manager }) (input.Promise slot epoch))
+            (of_other asked n e h slot epoch manager (at_other is))
 
     -- a slot is promised to an epoch of a manager
     pub promised_so : (e : Emptying) → At n e → (slot ≡ part → epoch_of e.promised part ≤ epoch)
         → frames.Goes_to part texts since answered (UpTo slot epoch) asked n (cleans (promises e slot epoch manager) (input.Promise slot epoch))
     unfolding promises
     promised_so e h low =
-        by_test (λ (r : Emptying). frames.Goes_to part texts since answered (UpTo slot epoch) asked n (cleans (record r { promised = promised_to r.promised slot epoch manager }) (input.Promise slot epoch)))
+        by_test (λ (r : Emptying). frames.Goes_to part texts since answered (UpTo slot epoch) asked n
+        (cleans (record r { promised = promised_to r.promised slot epoch manager }) (input.Promise slot epoch)))
         (nat_lt (epoch_of e.promised slot) epoch) (record e { feed = new_epoch e.feed slot }) e
         (λ _. any_slot (record e { feed = new_epoch e.feed slot }) (refed n e slot h) low) (λ _. any_slot e h low)
 
@@ -378,11 +405,14 @@ module _ (part : ℕ) (texts : Texts) (since : ℕ) (answered : List Packet) (sm
         → Goes asked n (after (its_report e ∷ []) (cleans (record e { promised = promised_to e.promised slot epoch manager }) (input.Promise slot epoch)))
     polled_from e h low linked = by (slot == part) refl
       where
-        by : (t : Bool) → (slot == part) ≡ t → Goes asked n (after (its_report e ∷ []) (cleans (record e { promised = promised_to e.promised slot epoch manager }) (input.Promise slot epoch)))
-        by true is = subst (λ k. Goes asked n (after (Send (Manager manager) (body.Report (record { slot = k; epoch = epoch; held = []; end = e.log.end })) ∷ [])
+        by : (t : Bool) → (slot == part) ≡ t
+            → Goes asked n (after (its_report e ∷ []) (cleans (record e { promised = promised_to e.promised slot epoch manager }) (input.Promise slot epoch)))
+        by true is = subst (λ k. Goes asked n
+            (after (Send (Manager manager) (body.Report (record { slot = k; epoch = epoch; held = []; end = e.log.end })) ∷ [])
             (cleans (record e { promised = promised_to e.promised k epoch manager }) (input.Promise k epoch)))) (sym (at_slot is))
             (weaker (λ v s u. u.0) asked n _ (of_poll asked n e h epoch manager (low (at_slot is)) (linked (at_slot is))))
-        by false is = frames.went_behind part texts since answered asked n (its_report e ∷ []) (cleans (record e { promised = promised_to e.promised slot epoch manager }) (input.Promise slot epoch))
+        by false is = frames.went_behind part texts since answered asked n (its_report e ∷ [])
+            (cleans (record e { promised = promised_to e.promised slot epoch manager }) (input.Promise slot epoch))
             (other_report e h (at_other is), tt) (of_other asked n e h slot epoch manager (at_other is))
 
     pub polled_so : (e : Emptying) → At n e → (slot ≡ part → epoch_of e.promised part ≤ epoch)
@@ -390,6 +420,7 @@ module _ (part : ℕ) (texts : Texts) (since : ℕ) (answered : List Packet) (sm
         → Goes asked n (after (its_report (promises e slot epoch manager) ∷ []) (cleans (promises e slot epoch manager) (input.Promise slot epoch)))
     unfolding promises
     polled_so e h low linked =
-        by_test (λ (r : Emptying). Goes asked n (after (its_report r ∷ []) (cleans (record r { promised = promised_to r.promised slot epoch manager }) (input.Promise slot epoch))))
+        by_test (λ (r : Emptying). Goes asked n
+        (after (its_report r ∷ []) (cleans (record r { promised = promised_to r.promised slot epoch manager }) (input.Promise slot epoch))))
         (nat_lt (epoch_of e.promised slot) epoch) (record e { feed = new_epoch e.feed slot }) e
         (λ _. polled_from (record e { feed = new_epoch e.feed slot }) (refed n e slot h) low linked) (λ _. polled_from e h low linked)

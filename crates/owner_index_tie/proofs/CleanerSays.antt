@@ -91,13 +91,15 @@ module _ (part : ℕ) (texts : Texts) (since : ℕ) (answered : List Packet) whe
   quiet asked n e outs h all = frames.quiet part texts since answered asked n e outs h all
 
   -- another job that is the small world's too
-  pub rejobbed : (n : Net) (s : LogState) (f : FeedState) (p : Promised) (o later : Option Job) → (JobAgrees part n (epoch_of p part) o → JobAgrees part n (epoch_of p part) later)
+  pub rejobbed : (n : Net) (s : LogState) (f : FeedState) (p : Promised) (o later : Option Job)
+      → (JobAgrees part n (epoch_of p part) o → JobAgrees part n (epoch_of p part) later)
       → Stands part texts since answered n s f p o → Stands part texts since answered n s f p later
   rejobbed n s f p o later to h =
       record { late = h.late; heard = h.heard; seen = record { owner = h.seen.owner; eight = h.seen.eight; promised = h.seen.promised; job = to h.seen.job } }
 
   -- another state of the log, with the same end
-  pub relogged : (n : Net) (s later : LogState) (f : FeedState) (p : Promised) (o : Option Job) → LogNext 9 later → later.end ≡ s.end → Stands part texts since answered n s f p o
+  pub relogged : (n : Net) (s later : LogState) (f : FeedState) (p : Promised) (o : Option Job) → LogNext 9 later → later.end ≡ s.end
+      → Stands part texts since answered n s f p o
       → Stands part texts since answered n later f p o
   relogged n s later f p o next same h = record {
     late = h.late;
@@ -130,13 +132,15 @@ module _ (part : ℕ) (texts : Texts) (since : ℕ) (answered : List Packet) whe
   list_so asked n e None server same h = quiet asked n e [] h tt
   list_so asked n e (Some job) server same h =
       quiet asked n (asks_list e (Some job) server).state (asks_list e (Some job) server).outs
-      (rejobbed n e.log e.feed e.promised e.job (asks_list e (Some job) server).state.job (λ k. subst (JobAgrees part n (epoch_of e.promised part)) same k) h) (tt, tt)
+      (rejobbed n e.log e.feed e.promised e.job (asks_list e (Some job) server).state.job (λ k. subst (JobAgrees part n (epoch_of e.promised part)) same k) h)
+      (tt, tt)
 
   usage_so : (asked : Questions) (n : Net) (e : Emptying) (o : Option Job) (slot : ℕ) → e.job ≡ o → At n e → Goes asked n (asks_usage e o slot)
   usage_so asked n e None slot same h = quiet asked n e [] h tt
   usage_so asked n e (Some job) slot same h =
       quiet asked n (asks_usage e (Some job) slot).state (asks_usage e (Some job) slot).outs
-      (rejobbed n e.log e.feed e.promised e.job (asks_usage e (Some job) slot).state.job (λ k. subst (JobAgrees part n (epoch_of e.promised part)) same k) h) (tt, tt)
+      (rejobbed n e.log e.feed e.promised e.job (asks_usage e (Some job) slot).state.job (λ k. subst (JobAgrees part n (epoch_of e.promised part)) same k) h)
+      (tt, tt)
 
   holds_so : (n : Net) (e : Emptying) (o : Option Job) (seg : SegRef) → e.job ≡ o → At n e → At n (holds_in e o seg)
   holds_so n e None seg same h = h
@@ -153,7 +157,8 @@ module _ (part : ℕ) (texts : Texts) (since : ℕ) (answered : List Packet) whe
 
   reads_so : (asked : Questions) (n : Net) (e : Emptying) (seg : SegRef) → At n e → Goes asked n (reads e seg)
   unfolding reads holds
-  reads_so asked n e seg h = quiet asked n (holds e seg) (fetches (hand_of (holds e seg).job)) (holds_so n e e.job seg refl h) (fetches_plain asked n (hand_of (holds e seg).job))
+  reads_so asked n e seg h = quiet asked n (holds e seg) (fetches (hand_of (holds e seg).job)) (holds_so n e e.job seg refl h)
+      (fetches_plain asked n (hand_of (holds e seg).job))
 
   -- ---- its checks
 
@@ -180,7 +185,8 @@ module _ (part : ℕ) (texts : Texts) (since : ℕ) (answered : List Packet) whe
       asked_there : (may : MayAsk part n c) → frames.Went part texts since answered asked n At e (check_sent e block place (Some ask)).outs
       asked_there may =
           let j = subst (JobAgrees part n (epoch_of e.promised part)) same h.seen.job in
-          let told : promised_at n.job.promised part ≡ n.promised = ap (λ (x : CleaningState). promised_at x.promised part) j.is ∙ j.told ∙ sym h.seen.promised in
+          let told : promised_at n.job.promised part ≡ n.promised = ap (λ (x : CleaningState). promised_at x.promised part) j.is ∙ j.told
+          ∙ sym h.seen.promised in
           let p = Checked n.number block place may.epoch in
           record {
             next = with_packet n p;
@@ -198,7 +204,8 @@ module _ (part : ℕ) (texts : Texts) (since : ℕ) (answered : List Packet) whe
             filed = refl;
             questions = (ask, n.number, place.seg.name) ∷ asked;
             kept = λ x is. inr is;
-            at = frames.moved_on part texts since answered n (with_packet n p) e.log e.feed e.promised e.job (record { head = refl; segment = λ q some most. refl }) refl refl
+            at = frames.moved_on part texts since answered n (with_packet n p) e.log e.feed e.promised e.job
+                (record { head = refl; segment = λ q some most. refl }) refl refl
                 (λ x is. inr is) h;
             says = (λ inside. record { number = n.number; below = may.epoch; sent = inl refl; question = inl refl }, tt);
           }
@@ -233,14 +240,16 @@ module _ (part : ℕ) (texts : Texts) (since : ℕ) (answered : List Packet) whe
   put_so asked n e one h =
       let r = log.on_put e.log one.0 (record { entry = one.1; value = one.2 }) in
       let k = put_stays 9 e.log h.seen.owner.log one.0 (record { entry = one.1; value = one.2 }) in
-      quiet asked n (record e { log = r.state }) (flat_map stored r.outs) (relogged n e.log r.state e.feed e.promised e.job k.next k.rests.same h) (stored_plain asked n r.outs)
+      quiet asked n (record e { log = r.state }) (flat_map stored r.outs) (relogged n e.log r.state e.feed e.promised e.job k.next k.rests.same h)
+      (stored_plain asked n r.outs)
 
   seal_so : (asked : Questions) (n : Net) (e : Emptying) → At n e → Goes asked n (puts e log_in.Seal)
   unfolding puts
   seal_so asked n e h =
       let r = log.on_seal e.log in
       let k = seal_stays 9 e.log h.seen.owner.log in
-      quiet asked n (record e { log = r.state }) (flat_map stored r.outs) (relogged n e.log r.state e.feed e.promised e.job k.next k.rests.same h) (stored_plain asked n r.outs)
+      quiet asked n (record e { log = r.state }) (flat_map stored r.outs) (relogged n e.log r.state e.feed e.promised e.job k.next k.rests.same h)
+      (stored_plain asked n r.outs)
 
   moves_so : (asked : Questions) (n : Net) (e : Emptying) (blocks : List (BlockId × Entry × Option (List ℕ))) → At n e → Goes asked n (moves e blocks)
   unfolding moves
@@ -256,8 +265,10 @@ module _ (part : ℕ) (texts : Texts) (since : ℕ) (answered : List Packet) whe
   deletes_so asked n e None server name same dead h = quiet asked n e [] h tt
   deletes_so asked n e (Some job) server name same dead h =
       quiet asked n (deletes e (Some job) server name).state (deletes e (Some job) server name).outs
-      (rejobbed n e.log e.feed e.promised e.job (deletes e (Some job) server name).state.job (λ k. subst (JobAgrees part n (epoch_of e.promised part)) same k) h)
-      (all_both (frames.Plain part texts since answered asked n) (drops (is_whole job.hand) name) (Send (Server server) (body.Delete (record { name = name })) ∷ [])
+      (rejobbed n e.log e.feed e.promised e.job (deletes e (Some job) server name).state.job
+      (λ k. subst (JobAgrees part n (epoch_of e.promised part)) same k) h)
+      (all_both (frames.Plain part texts since answered asked n) (drops (is_whole job.hand) name)
+      (Send (Server server) (body.Delete (record { name = name })) ∷ [])
       (by_test (AllPlain asked n) (is_whole job.hand) (Does (Dropped name) ∷ []) [] (λ _. (dead, tt)) (λ _. tt)) (dead, tt))
 
   pub answers_plain : (asked : Questions) (n : Net) (item : Option ℕ) (a : Answer) → AllPlain asked n (answers_unanswered item a)
@@ -310,8 +321,10 @@ module _ (part : ℕ) (texts : Texts) (since : ℕ) (answered : List Packet) whe
   one_said asked n e (out.Delete server name) k h = deletes_so asked n e e.job server name refl k h
   one_said asked n e (out.Finished count) k h = finishes_so asked n e count h
 
-  pub all_said : (asked : Questions) (n : Net) (e : Emptying) (outs : List Out) → AllByRecursion (Known n.deleted) outs → At n e → Goes asked n (steps says e outs)
+  pub all_said : (asked : Questions) (n : Net) (e : Emptying) (outs : List Out) → AllByRecursion (Known n.deleted) outs → At n e
+      → Goes asked n (steps says e outs)
   all_said asked n e [] known h = quiet asked n e [] h tt
   all_said asked n e (o ∷ outs) known h =
       frames.went_on part texts since answered asked n (says e o) (steps says (says e o).state outs) (one_said asked n e o known.0 h)
-      (λ w. all_said w.questions w.next (says e o).state outs (all_weaker (Known n.deleted) (Known w.next.deleted) (known_later n w.next w.grows) outs known.1) w.at)
+      (λ w. all_said w.questions w.next (says e o).state outs
+      (all_weaker (Known n.deleted) (Known w.next.deleted) (known_later n w.next w.grows) outs known.1) w.at)

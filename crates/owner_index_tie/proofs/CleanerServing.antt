@@ -61,7 +61,8 @@ module _ (part : ℕ) (texts : Texts) (since : ℕ) (answered : List Packet) (sm
         let l = writes j.state log_in.Tick in
         frames.went_on part texts since answered asked n j (after l.outs (record { state = l.state; outs = pushes_all l.state.promised.managers l.state.feed }))
         (jobs.cleans_so part texts since answered asked n e input.Tick h (jobs.may_other part texts since answered n e input.Tick h tt tt))
-        (λ w. frames.went_on part texts since answered w.questions w.next l (record { state = l.state; outs = pushes_all l.state.promised.managers l.state.feed })
+        (λ w. frames.went_on part texts since answered w.questions w.next l
+        (record { state = l.state; outs = pushes_all l.state.promised.managers l.state.feed })
         (ticks_so part texts since answered w.questions w.next j.state w.at)
         (λ x. frames.quiet part texts since answered x.questions x.next l.state (pushes_all l.state.promised.managers l.state.feed) x.at
         (pushes_plain part texts since answered x.questions x.next l.state.promised.managers l.state.feed x.at.seen.owner.feed)))

@@ -47,7 +47,7 @@ use Rattle.owner_index_tie.specs.Owners.{OpeningSeen, StageWrites, OwnerDoes}
 use Rattle.owner_index_tie.proofs.Frames as frames
 use Rattle.owner_index_tie.proofs.OpeningLog as log
 use Rattle.owner_index_tie.proofs.Openings as events
-use Rattle.owner_index_tie.proofs.Running.{texts_after, runs_after}
+use Rattle.owner_index_tie.proofs.Running.{texts_after, others_after, runs_after}
 use Rattle.owner_index_tie.proofs.ServingCalls as calls
 use Rattle.owner_index_tie.proofs.ServingPackets as serving
 use Rattle.owner_index_tie.proofs.Standing.{Stands, pushes_all_plain}
@@ -86,11 +86,13 @@ module _ (part : ℕ) (texts : Texts) (n : Net) (c : ℕ) (some : 0 < c) (most :
 
   crashes_so : (f : Filed) (l : Lasting) (number : ℕ) → RestingSeen part texts (filing n f) c l.number → Goes f (crashed l number)
   crashes_so f l number h =
-      quiet f (Down (record l { items = answered l.items })) (crashed l number).outs h (frames.both_plain part n c since f l.items.unanswered answer.Cut number answer.Done)
+      quiet f (Down (record l { items = answered l.items })) (crashed l number).outs h
+      (frames.both_plain part n c since f l.items.unanswered answer.Cut number answer.Done)
 
   restarts_so : (f : Filed) (servers : ℕ) (l : Lasting) → RestingSeen part texts (filing n f) c l.number → Goes f (restarted servers l)
   restarts_so f servers l h =
-      quiet f (restarted servers l).state (restarted servers l).outs (h, events.first_so c (owner_of l) servers l.questions (ap (λ m. record { 0 = m }) h.number_is)) (tt, tt)
+      quiet f (restarted servers l).state (restarted servers l).outs
+      (h, events.first_so c (owner_of l) servers l.questions (ap (λ m. record { 0 = m }) h.number_is)) (tt, tt)
 
   -- ---- the end of an opening
 
@@ -100,7 +102,8 @@ module _ (part : ℕ) (texts : Texts) (n : Net) (c : ℕ) (some : 0 < c) (most :
       (record { late = h.late; seen = record { number_is = own; log = h.seen.log; end = h.seen.end; feed = h.seen.feed } }) (
         tt,
         all_both (frames.Plain part n c since f) (pushes_all o.promised.managers o.feed) _
-            (pushes_all_plain part n c since f some most o.promised.managers o.feed h.seen.feed) (frames.answers_plain part n c since f l.items.unanswered answer.Done),
+            (pushes_all_plain part n c since f some most o.promised.managers o.feed h.seen.feed)
+            (frames.answers_plain part n c since f l.items.unanswered answer.Done),
       )
 
   abbrev ProgressSeen : Filed → Progress → Type 0
@@ -114,7 +117,8 @@ module _ (part : ℕ) (texts : Texts) (n : Net) (c : ℕ) (some : 0 < c) (most :
       (frames.answers_plain part n c since f l.items.unanswered (answer.Lost seg))
 
   opened_on_so : (l : Lasting) (capacity : ℕ) (w : Went) → l.number ≡ c
-      → frames.Goes (IsNews part) part texts n c since ProgressSeen n.filed (record { state = w.progress; outs = w.effects }) → Goes n.filed (opened_on l capacity w)
+      → frames.Goes (IsNews part) part texts n c since ProgressSeen n.filed (record { state = w.progress; outs = w.effects })
+      → Goes n.filed (opened_on l capacity w)
   opened_on_so l capacity w own p =
       let m : Lasting = record l { questions = w.questions } in
       let e : Went_to = after_opening m capacity w.progress in
@@ -130,7 +134,8 @@ module _ (part : ℕ) (texts : Texts) (n : Net) (c : ℕ) (some : 0 < c) (most :
       let d : Done = goes_on t x in
       let p = calls.goes_on_so part n c since some most f t x h in
       let q = calls.runs_so part n c since some most f d.state p.at in
-      quiet f (Serves (runs d.state).state) (d.outs ++ (runs d.state).outs) q.at (all_both (frames.Plain part n c since f) d.outs (runs d.state).outs p.plain q.plain)
+      quiet f (Serves (runs d.state).state) (d.outs ++ (runs d.state).outs) q.at
+      (all_both (frames.Plain part n c since f) d.outs (runs d.state).outs p.plain q.plain)
 
   opens_so : (f : Filed) (s : Serving) (number : ℕ) → Stood f s → Goes f (serves_on (opens s number))
   unfolding opens
@@ -155,7 +160,8 @@ module _ (part : ℕ) (texts : Texts) (n : Net) (c : ℕ) (some : 0 < c) (most :
 
   serving_so : (f : Filed) (s : Serving) (number : ℕ) (wanted : Option Work) → Stood f s → Goes f (serving_begins s number (wish_of wanted))
   serving_so f s number (Some (work.Crash node)) h =
-      frames.goes_behind (IsNews part) part texts n c since PhaseSo f (falls s ∷ []) (crashed s.lasting number) (tt, tt) (crashes_so f s.lasting number (rests_from f s h))
+      frames.goes_behind (IsNews part) part texts n c since PhaseSo f (falls s ∷ []) (crashed s.lasting number) (tt, tt)
+      (crashes_so f s.lasting number (rests_from f s h))
   serving_so f s number (Some (work.Restart node)) h = answers_so f (Serves s) number answer.Up h
   serving_so f s number (Some _) h = opens_so f s number h
   serving_so f s number None h = opens_so f s number h
@@ -185,7 +191,8 @@ module _ (part : ℕ) (texts : Texts) (n : Net) (c : ℕ) (some : 0 < c) (most :
   is_stage (stage.Scanning s) text = tt
   is_stage (stage.Settling s) text = (text, λ back. back)
 
-  gets_end : (l : Lasting) (o : openings.Opening) (m : Lasting) (capacity : ℕ) (p : Progress) → ReopensOn part texts n c (Opening l o) (after_opening m capacity p).state
+  gets_end : (l : Lasting) (o : openings.Opening) (m : Lasting) (capacity : ℕ) (p : Progress)
+      → ReopensOn part texts n c (Opening l o) (after_opening m capacity p).state
       → log.EndGets texts c n.filed o.stage p
   gets_end l o m capacity (progress.Opening x) gets = tt
   gets_end l o m capacity (progress.Opened r) gets = gets
@@ -213,7 +220,8 @@ module _ (part : ℕ) (texts : Texts) (n : Net) (c : ℕ) (some : 0 < c) (most :
       polled (body.Poll m) owed = owed
       polled _ owed = tt
 
-  delivers_so : (peers : Peers) (capacity : ℕ) (p : Phase) (packet : Packet) → PhaseText p → BodyGets part texts n c packet.body → Goes_to p (delivers peers capacity p packet)
+  delivers_so : (peers : Peers) (capacity : ℕ) (p : Phase) (packet : Packet) → PhaseText p → BodyGets part texts n c packet.body
+      → Goes_to p (delivers peers capacity p packet)
   delivers_so peers capacity p packet h owed =
       by_test (λ (w : Went_to). Goes_to p w) (is_well_formed peers packet) (on_deliver capacity p packet) (still p)
       (λ _. on_deliver_so capacity p packet h owed) (λ _ gets. still_so n.filed p h.0)
@@ -225,7 +233,8 @@ module _ (part : ℕ) (texts : Texts) (n : Net) (c : ℕ) (some : 0 < c) (most :
       opens_to l o capacity (opening.on_tick o l.questions) h.0
       (events.tick_goes (IsNews part) part texts n c since n.filed (omega arith) h.0.0.fits o.stage o l.questions h.0.1 (is_stage o.stage h.1))
   on_time_so capacity (Serves s) h =
-      serves_so s (after (packets.on_tick s).outs (runs (packets.on_tick s).state)) (serving.time_so (IsNews part) part texts n c since some most n.filed s h.0 h.1)
+      serves_so s (after (packets.on_tick s).outs (runs (packets.on_tick s).state))
+      (serving.time_so (IsNews part) part texts n c since some most n.filed s h.0 h.1)
 
   happens_so : (client : Client) (what : Do) → PhaseText client.phase → EventGets part texts n c what → Goes_to client.phase (happens client what)
   happens_so client Begin h owed = λ gets. on_begin_so client.peers.servers client.phase h.0
@@ -258,7 +267,10 @@ client_event_goes part texts n c client what some below agreed owed =
     record {
       next = filing n f;
       is = refl;
-      runs = runs_after (IsNews part) part texts (held_in part texts) n c (λ g name it. ClientFiles c (texts name) some below it.segment it.new) n.filed w.outs owed.files;
+      more = frames.more_after texts c n.filed w.outs;
+      others = λ l other. others_after texts c l other n.filed w.outs;
+      runs = runs_after (IsNews part) part texts (held_in part texts) n c
+          (λ g name it. ClientFiles c (texts name) some below it.segment it.new) n.filed w.outs owed.files;
       agrees = agrees part texts n c some most f w.state k.at owed.writes;
       named = λ are. texts_after (IsNews part) texts c n.filed w.outs owed.files are;
       does = All-from_recursion (OwnerDoes part (filing n f) c (n.filed.head c)) w.outs k.says;

@@ -74,11 +74,13 @@ module _ (part : ℕ) (n m : Net) (l : ℕ) where
   same_end : (end : End) → IsSameLog l n.filed m.filed → IsLastFiled part n l end → IsLastFiled part m l end
   same_end end same k = record {
     seq = k.seq ∙ sym same.head;
-    pass = λ some. let h = same.head in k.pass (omega arith) ∙ ap (λ (x : Segment). x.name.pass) (sym (same.segment (n.filed.head l) (omega arith) (omega arith)))
+    pass = λ some. let h = same.head in k.pass (omega arith) ∙ ap (λ (x : Segment). x.name.pass)
+        (sym (same.segment (n.filed.head l) (omega arith) (omega arith)))
         ∙ ap (λ q. (m.filed.segment l q).name.pass) (sym h);
   }
 
   -- an owner that serves
-  pub same_owner : (number : ℕ) (state : LogState) (its : FeedState) → IsSameLog l n.filed m.filed → OwnerSeen part n l number state its → OwnerSeen part m l number state its
+  pub same_owner : (number : ℕ) (state : LogState) (its : FeedState) → IsSameLog l n.filed m.filed → OwnerSeen part n l number state its
+      → OwnerSeen part m l number state its
   same_owner number state its same k =
       record { number_is = k.number_is; log = k.log; end = same_end state.end same k.end; feed = same_feed part n m l its same k.feed }

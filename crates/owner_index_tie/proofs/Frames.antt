@@ -39,7 +39,8 @@ module _ (part : ℕ) (n m : Net) (l since : ℕ) (more : IsMore n.filed m.filed
   end_on : (epoch : ℕ) (end : End) → EndKnown part n epoch l end → EndKnown part m epoch l end
   end_on epoch end k =
       let low = of_log (n.horizon epoch) l in
-      subst (λ h. (0 < of_log (h epoch) l → of_log (h epoch) l ≤ end.seq → IsEnd m.filed l end) × (0 < of_log (h epoch) l → Linked m.filed l (of_log (h epoch) l) end.seq)
+      subst (λ h. (0 < of_log (h epoch) l → of_log (h epoch) l ≤ end.seq → IsEnd m.filed l end) ×
+      (0 < of_log (h epoch) l → Linked m.filed l (of_log (h epoch) l) end.seq)
       → EndKnown part m epoch l end) same (λ known. record { filed = known.0; linked = known.1; short = k.short }) (
         λ some upto. let was = k.filed some upto in let last = was.filed in let most = more.head l in record {
           filed = omega arith;
@@ -215,7 +216,8 @@ module _ (New : Filed → Segment → Type 0) (part : ℕ) (texts : Texts) (n : 
       subst (λ h. Ends h d.state (outs ++ d.outs)) (sym (after_both texts l f outs d.outs ∙ ap (λ h. filed_after texts l h d.outs) same)) (record {
         at = two.at;
         says = all_both (Says g) outs d.outs
-            (all_weaker (Says f) (Says g) (does_on part (filing n f) (filing n g) l since (more_after texts l f d.outs) refl) outs (all_do part n l since f outs all)) two.says;
+            (all_weaker (Says f) (Says g) (does_on part (filing n f) (filing n g) l since (more_after texts l f d.outs) refl) outs
+            (all_do part n l since f outs all)) two.says;
       })
 
   -- a name is acted to be filed first, and then nothing is
@@ -229,7 +231,8 @@ module _ (New : Filed → Segment → Type 0) (part : ℕ) (texts : Texts) (n : 
       (record { at = q.at; says = (tt, all_do part n l since g d.outs q.plain) })
 
 -- one thing follows another, maybe of another state
-module _ (New : Filed → Segment → Type 0) (part : ℕ) (texts : Texts) (n : Net) (l since : ℕ) {S T : Type 0} (At : Filed → S → Type 0) (Bt : Filed → T → Type 0) where
+module _ (New : Filed → Segment → Type 0) (part : ℕ) (texts : Texts) (n : Net) (l since : ℕ) {S T : Type 0} (At : Filed → S → Type 0)
+    (Bt : Filed → T → Type 0) where
   pub goes_through : (f : Filed) (d : Stepped S Effect) (e : Stepped T Effect) → Goes New part texts n l since At f d
       → (At (filed_after texts l f d.outs) d.state → Goes New part texts n l since Bt (filed_after texts l f d.outs) e)
       → Goes New part texts n l since Bt f (record { state = e.state; outs = d.outs ++ e.outs })
@@ -241,7 +244,8 @@ module _ (New : Filed → Segment → Type 0) (part : ℕ) (texts : Texts) (n : 
       subst (λ x. Ends New part texts n l since Bt x e.state (d.outs ++ e.outs)) (sym (after_both texts l f d.outs e.outs)) (record {
         at = two.at;
         says = all_both (OwnerDoes part (filing n h) l since) d.outs e.outs
-            (all_weaker (OwnerDoes part (filing n g) l since) (OwnerDoes part (filing n h) l since) (does_on part (filing n g) (filing n h) l since (more_after texts l g e.outs) refl) d.outs one.says)
+            (all_weaker (OwnerDoes part (filing n g) l since) (OwnerDoes part (filing n h) l since)
+            (does_on part (filing n g) (filing n h) l since (more_after texts l g e.outs) refl) d.outs one.says)
             two.says;
       })
 

@@ -86,7 +86,8 @@ module _ (New : Filed → Segment → Type 0) (part : ℕ) (texts : Texts) (n : 
   abbrev pub WentSo : Went → Type 0
   WentSo w = EndGets texts l f at w.progress → ProgressGoes (record { state = w.progress; outs = w.effects })
 
-module _ (New : Filed → Segment → Type 0) (part : ℕ) (texts : Texts) (n : Net) (l since : ℕ) (f : Filed) (late : since ≤ f.head l) (sized : LogFits part (filing n f) l) (at : Stage) where
+module _ (New : Filed → Segment → Type 0) (part : ℕ) (texts : Texts) (n : Net) (l since : ℕ) (f : Filed) (late : since ≤ f.head l)
+    (sized : LogFits part (filing n f) l) (at : Stage) where
   abbrev Seen : Filed → Progress → Type 0
   Seen g p = ProgressSeen part n l since g p
 
@@ -150,18 +151,22 @@ module _ (New : Filed → Segment → Type 0) (part : ℕ) (texts : Texts) (n : 
       abbrev g : Filed
       g = filed_after texts l f chained
 
-      opens_at : FilesOwed New texts l f (chained ++ Does (ActsFiled its_name) ∷ []) → Stands part n l since (with_name texts l g its_name) l r.state (feed_of s.low s.chain (log_steps.end_from old))
+      opens_at : FilesOwed New texts l f (chained ++ Does (ActsFiled its_name) ∷ [])
+          → Stands part n l since (with_name texts l g its_name) l r.state (feed_of s.low s.chain (log_steps.end_from old))
       opens_at owed =
-          let it = reopened New part texts n l f s.low s.log.end.seq s.chain back sized (frames.owed_before New texts l f chained (Does (ActsFiled its_name) ∷ []) owed) in
+          let it = reopened New part texts n l f s.low s.log.end.seq s.chain back sized
+          (frames.owed_before New texts l f chained (Does (ActsFiled its_name) ∷ []) owed) in
           let at_next : old.name.seq ≡ suc (g.head l) = h.log.next a.old a.was ∙ ap suc (sym it.head) in
           let text_is : texts its_name ≡ old = ap texts name_is ∙ text a.old a.was in
           let next_owed = (frames.owed_behind New texts l f chained (Does (ActsFiled its_name) ∷ []) owed).0 at_next in
           let rows : rows_of old ≡ [] = says_nothing old (h.empty a.old a.was) in
           let more = (frames.more_after texts l f chained).head l in let from = late in
           let feed = fed (started (s.low - 1)) s.chain in
-          subst (λ (x : Filed). Stands part n l since x l r.state (settled feed old.name.seq [])) (sym (next_files texts l g its_name at_next ∙ ap (with_segment g l) text_is))
+          subst (λ (x : Filed). Stands part n l since x l r.state (settled feed old.name.seq []))
+          (sym (next_files texts l g its_name at_next ∙ ap (with_segment g l) text_is))
           (subst (λ rs. Stands part n l since (with_segment g l old) l r.state (settled feed old.name.seq rs)) rows
-          (grown part texts n l since g l r.state feed old (omega arith) refl it.feed (subst (λ (x : Segment). RowsFit (rows_of x)) text_is next_owed.fits) next_owed.short next a.end at_next))
+          (grown part texts n l since g l r.state feed old (omega arith) refl it.feed
+          (subst (λ (x : Segment). RowsFit (rows_of x)) text_is next_owed.fits) next_owed.short next a.end at_next))
 
       filed_says : (x : Filed) (chain : List Segment) → AllByRecursion (OwnerDoes part (filing n x) l since) (map filed chain)
       filed_says x chain = frames.all_map (OwnerDoes part (filing n x) l since) filed (λ s. tt) chain
@@ -169,7 +174,8 @@ module _ (New : Filed → Segment → Type 0) (part : ℕ) (texts : Texts) (n : 
       opened_goes : Moves (opens k (record s { log = r.state }) (Some (log_steps.end_from old)))
       opened_goes owed =
           let x = with_name texts l g its_name in
-          subst (λ y. frames.Ends New part texts n l since Seen y (progress.Opened (opened k (record s { log = r.state }) (log_steps.end_from old))) (chained ++ Does (ActsFiled its_name) ∷ []))
+          subst (λ y. frames.Ends New part texts n l since Seen y (progress.Opened (opened k (record s { log = r.state }) (log_steps.end_from old)))
+          (chained ++ Does (ActsFiled its_name) ∷ []))
           (sym (frames.after_both texts l f chained (Does (ActsFiled its_name) ∷ [])))
           (record {
             at = opens_at owed;
@@ -183,10 +189,16 @@ module _ (New : Filed → Segment → Type 0) (part : ℕ) (texts : Texts) (n : 
         frames.goes_behind New part texts n l since Seen f (written r.outs).outs (opens k t (written r.outs).state) (written_plain None r.outs)
         (subst (λ o. Moves (opens k t o)) (sym (written_sends None r.outs rests.sends)) (plain_so (at_log k t) [] (at_log_so t h) tt))
 
-    seen_on : (s : Settling) (r : log_steps.Done) → SettlingSeen l s → LogNext l r.state → Rests s.log r → LogWent s.log r → SettlingSeen l (record s { log = r.state })
+    seen_on : (s : Settling) (r : log_steps.Done) → SettlingSeen l s → LogNext l r.state → Rests s.log r → LogWent s.log r
+        → SettlingSeen l (record s { log = r.state })
     seen_on s r h next rests went =
         ⊎_elim
-        (λ (g : GoesOn s.log r). record { log = next; nothing_waits = g.dirty ∙ h.nothing_waits; empty = λ x is. let b = g.flight x is in b.items ∙ h.empty b.old b.was })
+        (λ (g : GoesOn s.log r). record {
+          log = next;
+          nothing_waits = g.dirty ∙ h.nothing_waits;
+          empty = λ x is. let b = g.flight x is in b.items
+              ∙ h.empty b.old b.was;
+        })
         (λ (lands : flights.Lands s.log r). absurd (subst (AllByRecursion IsSend) lands.outs rests.sends).0)
         went
 
@@ -196,7 +208,8 @@ module _ (New : Filed → Segment → Type 0) (part : ℕ) (texts : Texts) (n : 
         let t : Settling = record s { log = r.state } in
         ⊎_elim
         (λ (rests : Rests s.log r). rests_so s r rests (seen_on s r h turns.next rests went))
-        (λ (lands : Lands s.log r). frames.goes_behind New part texts n l since Seen f (written r.outs).outs (opens k t (written r.outs).state) (written_plain None r.outs)
+        (λ (lands : Lands s.log r). frames.goes_behind New part texts n l since Seen f (written r.outs).outs (opens k t (written r.outs).state)
+        (written_plain None r.outs)
         (subst (λ o. Moves (opens k t o)) (sym (landed_at s.log r lands))
         (opened_goes s h text r turns.next lands (back (subst (λ o. EndGets texts l f at (opens k t o).state) (landed_at s.log r lands) gets)))))
         turns.went

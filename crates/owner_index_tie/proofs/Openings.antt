@@ -44,7 +44,8 @@ use Rattle.owner_index_tie.proofs.OpeningLog.{IsStage, WentSo}
 pub first_so : (l : ℕ) (owner : Owner) (servers : ℕ) (q : Questions) → owner.log ≡ record { 0 = l } → OpeningSeen l (at_first owner servers q)
 first_so l owner servers q own = record { own = own; stage = tt }
 
-module _ (New : Filed → Segment → Type 0) (part : ℕ) (texts : Texts) (n : Net) (l since : ℕ) (f : Filed) (late : since ≤ f.head l) (sized : LogFits part (filing n f) l) (at : Stage) where
+module _ (New : Filed → Segment → Type 0) (part : ℕ) (texts : Texts) (n : Net) (l since : ℕ) (f : Filed) (late : since ≤ f.head l)
+    (sized : LogFits part (filing n f) l) (at : Stage) where
   abbrev So : Went → Type 0
   So w = WentSo New part texts n l since f at w
 
@@ -98,9 +99,11 @@ module _ (New : Filed → Segment → Type 0) (part : ℕ) (texts : Texts) (n : 
       → So (on_stored (record { known = k; stage = x }) q m)
   unfolding on_stored
   stored_so k (stage.Scanning s) q m own h owed = log.rests_at New part texts n l since f late sized at k own q s
-  stored_so k (stage.Settling s) q m own h owed = log.writes_so New part texts n l since f late sized at k own s (log_in.Acked m.name m.index m.generation) tt h owed.0 owed.1
+  stored_so k (stage.Settling s) q m own h owed = log.writes_so New part texts n l since f late sized at k own s
+      (log_in.Acked m.name m.index m.generation) tt h owed.0 owed.1
 
-  tick_so : (k : Known) (x : Stage) (q : Questions) → k.owner.log ≡ record { 0 = l } → StageSeen l x → IsStage texts l f at x → So (on_tick (record { known = k; stage = x }) q)
+  tick_so : (k : Known) (x : Stage) (q : Questions) → k.owner.log ≡ record { 0 = l } → StageSeen l x → IsStage texts l f at x
+      → So (on_tick (record { known = k; stage = x }) q)
   unfolding on_tick
   tick_so k (stage.Scanning s) q own h owed = log.scans_so New part texts n l since f late sized at k own q s input.Tick
   tick_so k (stage.Settling s) q own h owed = log.writes_so New part texts n l since f late sized at k own s log_in.Tick tt h owed.0 owed.1
@@ -117,13 +120,16 @@ module _ (New : Filed → Segment → Type 0) (part : ℕ) (texts : Texts) (n : 
   news_so o q news h owed =
       by_test So (fits o.known.maps news && is_older o.known.maps news)
       (regrouped (record o.known { maps = taken o.known.maps news }) q news.groups o.stage) (drops o q)
-      (λ _. regrouped_so (record o.known { maps = taken o.known.maps news }) q news.groups o.stage h.own h.stage owed) (λ _. log.opening_so New part texts n l since f late sized at o q h)
+      (λ _. regrouped_so (record o.known { maps = taken o.known.maps news }) q news.groups o.stage h.own h.stage owed)
+      (λ _. log.opening_so New part texts n l since f late sized at o q h)
 
   module _ (k : Known) (own : k.owner.log ≡ record { 0 = l }) (q : Questions) (s : Scanning) where
-    welcomed_with_so : (maps : Maps) (news : News) (asked : ℕ) (groups : Option GroupMapState) → So (welcomed_with (record k { maps = maps }) q s news asked groups)
+    welcomed_with_so : (maps : Maps) (news : News) (asked : ℕ) (groups : Option GroupMapState)
+        → So (welcomed_with (record k { maps = maps }) q s news asked groups)
     welcomed_with_so maps news asked None = log.rests_at New part texts n l since f late sized at (record k { maps = maps }) own q s
     welcomed_with_so maps news asked (Some groups) =
-        log.scans_so New part texts n l since f late sized at (record k { maps = maps; promised = promised_in news.slots }) own q (record s { asked = nothing_asked }) (input.Welcome asked news.slots groups)
+        log.scans_so New part texts n l since f late sized at (record k { maps = maps; promised = promised_in news.slots }) own q
+        (record s { asked = nothing_asked }) (input.Welcome asked news.slots groups)
 
     welcomed_so : (news : News) (asked : ℕ) → So (welcomed k q s news asked)
     unfolding welcomed
@@ -138,7 +144,8 @@ module _ (New : Filed → Segment → Type 0) (part : ℕ) (texts : Texts) (n : 
         by_test So (is_meant k m) (welcomed_as k q s m.news (own_of s.asked m.ask)) (stays (at_scan k s) q)
         (λ _. welcomed_as_so m.news (own_of s.asked m.ask)) (λ _. log.rests_at New part texts n l since f late sized at k own q s)
 
-  welcome_so : (k : Known) (x : Stage) (q : Questions) (m : Welcome) → k.owner.log ≡ record { 0 = l } → StageSeen l x → So (on_welcome (record { known = k; stage = x }) q m)
+  welcome_so : (k : Known) (x : Stage) (q : Questions) (m : Welcome) → k.owner.log ≡ record { 0 = l } → StageSeen l x
+      → So (on_welcome (record { known = k; stage = x }) q m)
   unfolding on_welcome
   welcome_so k (stage.Scanning s) q m own h = welcomed_in_so k own q s m
   welcome_so k (stage.Settling s) q m own h = log.log_rests New part texts n l since f late sized at k own q s h
@@ -160,7 +167,8 @@ module _ (New : Filed → Segment → Type 0) (part : ℕ) (texts : Texts) (n : 
   packet_goes o q p h owed =
       by_test So (names_known o.known.maps p.body) (on_body o q p.from p.body)
       (went (progress.Opening o) (drawn q) (hello o.known.owner.inc (next_ask q) ∷ []))
-      (λ _. body_so o q p.from p.body h owed) (λ _ gets. log.plain_so New part texts n l since f late sized at (progress.Opening o) (hello o.known.owner.inc (next_ask q) ∷ []) (sized, h) (tt, tt))
+      (λ _. body_so o q p.from p.body h owed)
+      (λ _ gets. log.plain_so New part texts n l since f late sized at (progress.Opening o) (hello o.known.owner.inc (next_ask q) ∷ []) (sized, h) (tt, tt))
 
   pub tick_goes : (o : Opening) (q : Questions) → OpeningSeen l o → IsStage texts l f at o.stage → So (on_tick o q)
   tick_goes o q h owed = tick_so o.known o.stage q h.own h.stage owed

@@ -89,7 +89,8 @@ module _ (New : Filed → Segment → Type 0) (part : ℕ) (texts : Texts) (n : 
 
     fed_more : suc (v.head l) < u32_end → FeedSeen part (filing n later) l (fed_with feed s)
     unfolding fed_with
-    fed_more short = subst (λ q. FeedSeen part (filing n later) l (settled feed q (rows_of s))) (sym seq) ((feeds_grow part (filing n v) l feed k.feed).own s fits short)
+    fed_more short = subst (λ q. FeedSeen part (filing n later) l (settled feed q (rows_of s))) (sym seq)
+        ((feeds_grow part (filing n v) l feed k.feed).own s fits short)
 
     same_more : (h : Filed) → ((q : ℕ) → 0 < q → q ≤ v.head l → h.segment l q ≡ g.segment l q) → h.segment l (suc (v.head l)) ≡ s
         → (q : ℕ) → 0 < q → q ≤ later.head l → h.segment l q ≡ later.segment l q
@@ -139,7 +140,8 @@ module _ (New : Filed → Segment → Type 0) (part : ℕ) (texts : Texts) (n : 
   abbrev Claim : ℕ → ℕ → List Segment → Type 0
   Claim last first chain =
       (v g : Filed) (feed : FeedState) → Along v g feed → NumberedFrom first chain → first ≤ suc (v.head l) → first + length chain ≡ suc last → g.head l ≤ last
-      → ((s : Segment) → Among s chain → v.head l < s.name.seq → s.name.seq ≤ g.head l → s ≡ g.segment l s.name.seq) → AllByRecursion (λ s. s ≡ texts s.name) chain
+      → ((s : Segment) → Among s chain → v.head l < s.name.seq → s.name.seq ≤ g.head l → s ≡ g.segment l s.name.seq)
+      → AllByRecursion (λ s. s ≡ texts s.name) chain
       → AllByRecursion (λ (s : Segment). RowsFit (rows_of s)) chain → FilesOwed New texts l g (map filed chain)
       → Arrives last (filed_after texts l g (map filed chain)) (fed feed chain)
 
@@ -179,7 +181,8 @@ module _ (New : Filed → Segment → Type 0) (part : ℕ) (texts : Texts) (n : 
           (let e = top is in let w = inside within in grind (arith, nat_tests, e, w)) in
           let e = head_is l v s in
           rest (with_segment v l s) h (fed_with feed s)
-          (reads_on v g feed s k (top is) fits.0 (inside within) (old s (inl refl) (let t = top is in omega arith) (let t = top is in let w = inside within in omega arith)))
+          (reads_on v g feed s k (top is) fits.0 (inside within)
+          (old s (inl refl) (let t = top is in omega arith) (let t = top is in let w = inside within in omega arith)))
           numbers.1 (let a = seq in let t = top is in omega arith) next_to (subst (λ x. x.head l ≤ last) (sym same) most)
           (λ x there after upto. subst (λ (y : Filed). x ≡ y.segment l x.name.seq) (sym same)
           (old x (inr there) (omega arith) (subst (λ (y : Filed). x.name.seq ≤ y.head l) same upto)))

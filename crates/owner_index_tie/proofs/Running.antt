@@ -1,5 +1,5 @@
 -- What an owner files runs in the small world, and it stays that of each name the text is filed.
-use Rattle.std.proofs.Common.{◌≡◌, ◌≤◌, ◌==◌, ℕ, suc, Bool, true, false, cond, List, [], ◌∷◌, refl, sym, ap, subst, arith}
+use Rattle.std.proofs.Common.{◌≡◌, ◌≤◌, ◌==◌, ℕ, suc, Bool, true, false, cond, List, [], ◌∷◌, refl, sym, ap, subst, ◌∙◌, arith}
 use Rattle.std.proofs.lemmas.Bool.{eqb-true}
 use Rattle.std.proofs.lemmas.Bool.Decides.{nat_tests}
 use Rattle.checkpoint.specs.WriterState.{Rows}
@@ -17,7 +17,8 @@ use Rattle.version_model.specs.declared.act.Act.TheVariants.{Filed as ActsFiled}
 use Rattle.xfs_base.proofs.Booleans.{by_test}
 use Rattle.xfs_base.specs.declared.segment.SegName.{SegName}
 use Rattle.xfs_base.specs.declared.segment.SegRef.{SegRef}
-use Rattle.owner_index_tie.specs.Filing.{filing, with_name, after_act, after_effect, filed_after, FilesNext, OwedAct, OwedEffect, FilesOwed}
+use Rattle.index_tie.proofs.Tables.{at_other}
+use Rattle.owner_index_tie.specs.Filing.{IsSameLog, filing, with_name, after_act, after_effect, filed_after, FilesNext, OwedAct, OwedEffect, FilesOwed}
 
 -- ---- a segment of a name
 
@@ -65,6 +66,43 @@ module _ (New : Filed → Segment → Type 0) (texts : Texts) (l : ℕ) where
   pub texts_after : (f : Filed) (es : List Effect) → FilesOwed New texts l f es → AreTexts texts f → AreTexts texts (filed_after texts l f es)
   texts_after f [] owed are = are
   texts_after f (e ∷ es) owed are = texts_after (after_effect texts l f e) es owed.1 (effect_text f e owed.0 are)
+
+-- ---- other logs
+
+same_itself : (l : ℕ) (f : Filed) → IsSameLog l f f
+same_itself l f = record { head = refl; segment = λ q some most. refl }
+
+same_then : (l : ℕ) (f g h : Filed) → IsSameLog l f g → IsSameLog l g h → IsSameLog l f h
+same_then l f g h a b = record {
+  head = b.head ∙ a.head;
+  segment = λ q some most. let e = a.head in b.segment q some (omega arith) ∙ a.segment q some most;
+}
+
+module _ (texts : Texts) (l other : ℕ) (apart : other ≡ l → ⊥) where
+  same_name : (f : Filed) (name : SegName) → IsSameLog other f (with_name texts l f name)
+  same_name f name =
+      by_test (IsSameLog other f) (name.seq == suc (f.head l)) (with_segment f l (texts name)) f
+      (λ _. record {
+        head = at_other other l (suc (f.head l)) (f.head other) apart;
+        segment = λ q some most. at_other other l (cond (q == suc (f.head l)) (texts name) (f.segment other q)) (f.segment other q) apart;
+      })
+      (λ _. same_itself other f)
+
+  same_act : (f : Filed) (a : Act) → IsSameLog other f (after_act texts l f a)
+  same_act f (ActsFiled name) = same_name f name
+  same_act f _ = same_itself other f
+
+  same_effect : (f : Filed) (e : Effect) → IsSameLog other f (after_effect texts l f e)
+  same_effect f (Send to m) = same_itself other f
+  same_effect f (Answer item answer) = same_itself other f
+  same_effect f (Lose seg) = same_itself other f
+  same_effect f (Does act) = same_act f act
+
+  -- an owner files nothing of another log
+  pub others_after : (f : Filed) (es : List Effect) → IsSameLog other f (filed_after texts l f es)
+  others_after f [] = same_itself other f
+  others_after f (e ∷ es) = same_then other f (after_effect texts l f e) (filed_after texts l (after_effect texts l f e) es) (same_effect f e)
+      (others_after (after_effect texts l f e) es)
 
 -- ---- runs
 

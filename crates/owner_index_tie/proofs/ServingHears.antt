@@ -94,12 +94,14 @@ module _ (part : ℕ) (n : Net) (l since : ℕ) (some : 0 < l) (most : l ≤ 9) 
       let d : client.Done = client.on_recalled s.tokens r.block r.stamp r.keep in
       let t : Serving = record s { tokens = d.state } in
       by_test (λ (x : Done). Goes x) (is_stamp (held_at s r.block).stamp r.stamp) (says_again s r d) (takes_back s r.block r.stamp r.keep)
-      (λ e. tokens.plain_so part n l since some most f t (again t r d.outs) h (again_says t r d.outs h)) (λ e. tokens.takes_back_so part n l since some most f s r.block r.stamp r.keep h)
+      (λ e. tokens.plain_so part n l since some most f t (again t r d.outs) h (again_says t r d.outs h))
+      (λ e. tokens.takes_back_so part n l since some most f s r.block r.stamp r.keep h)
 
   pub on_gone_so : (s : Serving) (m : Gone) → At s → Goes (on_gone s m)
   unfolding on_gone
   on_gone_so s m h =
-      by_test (λ (d : Done). Goes d) (is_gone s m) (loses s m.block m.seg) (still s) (λ t. tokens.loses_so part n l since some most f s m.block m.seg h) (λ t. still_so s h)
+      by_test (λ (d : Done). Goes d) (is_gone s m) (loses s m.block m.seg) (still s) (λ t. tokens.loses_so part n l since some most f s m.block m.seg h)
+      (λ t. still_so s h)
 
   pub on_ack_so : (s : Serving) (a : DeltaAck) → At s → Goes (still (on_ack s a))
   unfolding on_ack

@@ -91,7 +91,8 @@ module _ (part : ℕ) (n : Net) (l since : ℕ) (some : 0 < l) (most : l ≤ 9) 
   pub puts_so : (s : Serving) (block : BlockId) (entry : Entry) (value : Option (List ℕ)) → At s → Goes (writes s (log_in.Put block entry value))
   unfolding writes
   puts_so s block entry value h =
-      let i = log_in.Put block entry value in rests_so s (log.transition s.log i) h (put_stays l s.log h.seen.log block (record { entry = entry; value = value }))
+      let i = log_in.Put block entry value in rests_so s (log.transition s.log i) h
+      (put_stays l s.log h.seen.log block (record { entry = entry; value = value }))
 
   pub ticks_so : (s : Serving) → At s → Goes (writes s log_in.Tick)
   unfolding writes
@@ -131,8 +132,10 @@ module _ (New : Filed → Segment → Type 0) (part : ℕ) (texts : Texts) (n : 
     fed = feeds (settled_rows t (rows_of old)) (end_from old) (rows_of old)
 
     fed_stands : OwedAct New texts l f (ActsFiled name) → Stood g fed
-    fed_stands owed = cache.settled_rows_so (λ number log feed. Stands part n l since g number log (feeding.settled feed old.name.seq (rows_of old))) t (rows_of old)
-        (filed_stands part texts n l since f s.lasting.number r.state s.feed old New s.log name h at_next (ap texts name_is ∙ text k.old k.was) (owed at_next) next
+    fed_stands owed = cache.settled_rows_so (λ number log feed. Stands part n l since g number log (feeding.settled feed old.name.seq (rows_of old))) t
+        (rows_of old)
+        (filed_stands part texts n l since f s.lasting.number r.state s.feed old New s.log name h at_next (ap texts name_is ∙ text k.old k.was)
+        (owed at_next) next
         k.end at_next)
 
     -- what comes after
@@ -151,7 +154,8 @@ module _ (New : Filed → Segment → Type 0) (part : ℕ) (texts : Texts) (n : 
         frames.quiet_on part n l since g (Stood g) sent (seals_again sent.state (list_any is_settling (Settled (end_from old) (rows_of old) ∷ k.rest)))
         (frames.quiet_on part n l since g (Stood g) gone (steps writes_one gone.state k.rest)
         (frames.quiet_after part n l since g (Stood g) (pushes_all fed.managers fed.feed) (steps gives_if_clean fed (dirty_in t.tokens.blocks))
-        (pushes_all_plain part n l since g some most fed.managers fed.feed at.seen.feed) (given_up part n l since some most g fed (dirty_in t.tokens.blocks) at))
+        (pushes_all_plain part n l since g some most fed.managers fed.feed at.seen.feed)
+        (given_up part n l since some most g fed (dirty_in t.tokens.blocks) at))
         (λ i. sends_so part n l since some most g gone.state k.rest i k.sends))
         (λ i. seals_again_so part n l since some most g sent.state (list_any is_settling (Settled (end_from old) (rows_of old) ∷ k.rest)) i)
 

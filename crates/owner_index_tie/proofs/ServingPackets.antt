@@ -56,12 +56,14 @@ one_want s b = by_test (λ (d : TokensDone). AllByRecursion IsWant d.outs) (nat_
 
 new_wants : (s : TokensState) (blocks : List BlockId) → AllByRecursion IsWant (steps ask_copy s blocks).outs
 new_wants s [] = tt
-new_wants s (b ∷ blocks) = all_both IsWant (ask_copy s b).outs (steps ask_copy (ask_copy s b).state blocks).outs (one_want s b) (new_wants (ask_copy s b).state blocks)
+new_wants s (b ∷ blocks) = all_both IsWant (ask_copy s b).outs (steps ask_copy (ask_copy s b).state blocks).outs (one_want s b)
+    (new_wants (ask_copy s b).state blocks)
 
 promise_wants : (s : TokensState) (slot epoch : ℕ) → AllByRecursion IsWant (on_promise s slot epoch).outs
 unfolding on_promise
 promise_wants s slot epoch =
-    by_test (λ (d : TokensDone). AllByRecursion IsWant d.outs) (may_promise s slot epoch) (steps ask_copy (raised s slot epoch) (fetched_in slot s.blocks)) (still s)
+    by_test (λ (d : TokensDone). AllByRecursion IsWant d.outs) (may_promise s slot epoch) (steps ask_copy (raised s slot epoch) (fetched_in slot s.blocks))
+    (still s)
     (λ t. new_wants (raised s slot epoch) (fetched_in slot s.blocks)) (λ t. tt)
 
 follows_log : (s : Serving) (outs : List Out) → AllByRecursion IsWant outs → (follows s outs).state.log ≡ s.log
@@ -150,8 +152,10 @@ module _ (New : Filed → Segment → Type 0) (part : ℕ) (texts : Texts) (n : 
     body_files from (body.DeltaAck m) owed = quiet f (on_body s from (body.DeltaAck m)) (hearing.on_ack_so part n l since some most f s m h)
     body_files from (body.Poll m) owed = quiet f (on_body s from (body.Poll m)) (hearing.on_poll_so part n l since some most f s from m h owed)
     body_files from (body.Stored m) owed = flights.writes_so New part texts n l since some most f s (log_in.Acked m.name m.index m.generation) h text
-    body_files from (body.Fragment m) owed = quiet f (on_body s from (body.Fragment m)) (hearing.on_told_so part n l since some most f s from m.ask (told.Held m.fragment) h)
-    body_files from (body.Missing m) owed = quiet f (on_body s from (body.Missing m)) (hearing.on_told_so part n l since some most f s from m.ask (told.Missing m.generation) h)
+    body_files from (body.Fragment m) owed = quiet f (on_body s from (body.Fragment m))
+        (hearing.on_told_so part n l since some most f s from m.ask (told.Held m.fragment) h)
+    body_files from (body.Missing m) owed = quiet f (on_body s from (body.Missing m))
+        (hearing.on_told_so part n l since some most f s from m.ask (told.Missing m.generation) h)
     body_files from (body.MapNews m) owed = news_files m
     body_files from (body.Welcome m) owed = welcome_files m
     body_files from _ owed = still_files

@@ -65,7 +65,8 @@ module _ (part : ℕ) (n : Net) (l since : ℕ) (some : 0 < l) (most : l ≤ 9) 
   seals_so s h =
       let r = seal_stays l s.log h.seen.log in
       plain_so (record s { log = (log.on_seal s.log).state }) (flat_map stored (log.on_seal s.log).outs)
-      (rested part n l since f s.lasting.number s.log (log.on_seal s.log).state s.feed h r.next r.rests.same) (stored_plain part n l since f (log.on_seal s.log).outs)
+      (rested part n l since f s.lasting.number s.log (log.on_seal s.log).state s.feed h r.next r.rests.same)
+      (stored_plain part n l since f (log.on_seal s.log).outs)
 
   -- ---- readings
 
@@ -123,7 +124,8 @@ module _ (part : ℕ) (n : Net) (l since : ℕ) (some : 0 < l) (most : l ≤ 9) 
 
   before_plain : (s : Serving) (block : BlockId) (again : ℕ) → At s → AllPlain (before_want s block again)
   before_plain s block again h =
-      by_test (λ (es : List Effect). AllPlain es) (again == 0) (deltas s block) [] (λ t. pushes_plain part n l since f some most s.managers s.feed h.seen.feed _) (λ t. tt)
+      by_test (λ (es : List Effect). AllPlain es) (again == 0) (deltas s block) []
+      (λ t. pushes_plain part n l since f some most s.managers s.feed h.seen.feed _) (λ t. tt)
 
   follows_one_so : (s : Serving) (o : outputs.Out) → At s → Goes (follows_one s o)
   unfolding follows_one
@@ -131,7 +133,8 @@ module _ (part : ℕ) (n : Net) (l since : ℕ) (some : 0 < l) (most : l ≤ 9) 
       frames.quiet_after part n l since f At (before_want s block again) (gives s (want s block req again mode ∷ [])) (before_plain s block again h)
       (plain_so s (want s block req again mode ∷ []) h (end_told part n l since f s.lasting.number s.log s.feed h, tt))
   follows_one_so s (output.Gave block stamp) h =
-      frames.quiet_after part n l since f At (deltas s block) (gives s (gave s block stamp ∷ [])) (pushes_plain part n l since f some most s.managers s.feed h.seen.feed _)
+      frames.quiet_after part n l since f At (deltas s block) (gives s (gave s block stamp ∷ []))
+      (pushes_plain part n l since f some most s.managers s.feed h.seen.feed _)
       (plain_so s (gave s block stamp ∷ []) h (end_told part n l since f s.lasting.number s.log s.feed h, tt))
   follows_one_so s (output.Flush block) h = seals_so s h
   follows_one_so s (output.Read block place) h = reads_so s block place h

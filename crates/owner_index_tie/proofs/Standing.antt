@@ -31,7 +31,8 @@ module _ (part : ℕ) (n : Net) (l since : ℕ) (f : Filed) where
 
   -- ---- its log and its feed
 
-  pub rested : (number : ℕ) (log later : LogState) (feed : FeedState) → Stands number log feed → LogNext l later → later.end ≡ log.end → Stands number later feed
+  pub rested : (number : ℕ) (log later : LogState) (feed : FeedState) → Stands number log feed → LogNext l later → later.end ≡ log.end
+      → Stands number later feed
   rested number log later feed h next same = record {
     late = h.late;
     seen = record {
@@ -67,7 +68,8 @@ module _ (part : ℕ) (n : Net) (l since : ℕ) (f : Filed) where
 
     pub pushes_plain : (slot : ℕ) → AllPlain part n l since f (pushes managers feed slot)
     pushes_plain slot = ranges_plain (pushed feed slot)
-        (recursion_from_All (owners.OwnerDoes part (filing n f) l) (pushes managers feed slot) ((owners_tell part (filing n f) l feed managers some most k).one slot))
+        (recursion_from_All (owners.OwnerDoes part (filing n f) l) (pushes managers feed slot)
+        ((owners_tell part (filing n f) l feed managers some most k).one slot))
 
     pub pushes_all_plain : AllPlain part n l since f (pushes_all managers feed)
     pushes_all_plain = ranges_plain (ticked feed)
@@ -79,7 +81,8 @@ module _ (part : ℕ) (n : Net) (l since : ℕ) (f : Filed) where
     end_told = record { late = let a = h.late in let e = h.seen.end.seq in omega arith; filed = let e = h.seen.end.seq in omega arith }
 
     -- so it is of the end that it reports, where the log is linked
-    pub end_known : (epoch : ℕ) → (0 < of_log (n.horizon epoch) l → Linked f l (of_log (n.horizon epoch) l) (f.head l)) → EndKnown part (filing n f) epoch l log.end
+    pub end_known : (epoch : ℕ) → (0 < of_log (n.horizon epoch) l → Linked f l (of_log (n.horizon epoch) l) (f.head l))
+        → EndKnown part (filing n f) epoch l log.end
     end_known epoch linked =
         let same = h.seen.end.seq in
         let low = of_log (n.horizon epoch) l in

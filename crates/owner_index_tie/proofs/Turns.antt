@@ -162,7 +162,8 @@ module _ (l : ℕ) where
       follows_turn Restripe = stay_turns (restriped t g)
           (launched_stays s t (next_attempt g.segment.name) g.segment.prior g.segment.items end (log ∙ h.own) of_log at_next)
       follows_turn Settle = settles
-      follows_turn Wait = stay_turns (still (record t { flight = Some g })) (still_stays s (record t { flight = Some g }) end (flying t g (log ∙ h.own) of_log at_next))
+      follows_turn Wait = stay_turns (still (record t { flight = Some g }))
+          (still_stays s (record t { flight = Some g }) end (flying t g (log ∙ h.own) of_log at_next))
 
       looks_turn : Turns l s (looked_at s t g)
       unfolding looked_at
@@ -190,7 +191,8 @@ module _ (l : ℕ) where
         by (Some f) is = looks_turn (record s { groups = groups }) refl refl f f is refl
 
     pub log_turns : (i : In) → Turns l s (transition s i)
-    log_turns (Put block entry value) = stay_turns (on_put s block (record { entry = entry; value = value })) (put_stays block (record { entry = entry; value = value }))
+    log_turns (Put block entry value) = stay_turns (on_put s block (record { entry = entry; value = value }))
+        (put_stays block (record { entry = entry; value = value }))
     log_turns (Parts items) = stay_turns (on_parts s items) (parts_stay items)
     log_turns Seal = stay_turns (on_seal s) seal_stays
     log_turns (Acked name index generation) = acked_turns name index generation

@@ -24,7 +24,7 @@ use Rattle.node_base.specs.declared.effects.Effect.TheVariants.{Send, Answer, Lo
 use Rattle.node_index_tie.specs.Pages.{FlightIsText}
 use Rattle.node_index_tie.specs.Sight.{Texts, Questions, held_in, AreTexts, CheckKnown}
 use Rattle.segment_format.specs.declared.segment.Segment.{Segment}
-use Rattle.index_tie.specs.Growth.{said_of}
+use Rattle.index_tie.specs.Growth.{IsMore, said_of}
 use Rattle.stripe_cleaner.specs.CleaningState.{CleaningState}
 use Rattle.stripe_cleaner.specs.Promises.{promised_at}
 use Rattle.stripe_code.specs.declared.reading.Next.TheVariants as next
@@ -188,6 +188,8 @@ pub record CleanerGoes (part : ℕ) (texts : Texts) (asked : Questions) (n : Net
   pub runs : Runs part (held_in part texts) n next
   pub agrees : CleanerAgrees part next texts w.state
   pub filed : next.filed ≡ filed_after texts 9 n.filed w.outs
+  pub more : IsMore n.filed next.filed
+  pub others : (l : ℕ) → (l ≡ 9 → ⊥) → IsSameLog l n.filed next.filed
   pub named : AreTexts texts n.filed → AreTexts texts next.filed
   pub slots : next.slots ≡ n.slots
   pub epoch : next.epoch ≡ n.epoch
@@ -204,12 +206,14 @@ pub record CleanerGoes (part : ℕ) (texts : Texts) (asked : Questions) (n : Net
 abbrev pub CleanerEventGoes : Type 0
 CleanerEventGoes =
     (part : ℕ) (texts : Texts) (asked : Questions) (n : Net) (cleaner : ACleaner) (what : Do) → part < 8 → CleanerAgrees part n texts cleaner.phase
-    → CleanerOwed part texts n cleaner.phase what (takes cleaner.peers cleaner.phase what) → CleanerGoes part texts asked n (takes cleaner.peers cleaner.phase what)
+    → CleanerOwed part texts n cleaner.phase what (takes cleaner.peers cleaner.phase what)
+    → CleanerGoes part texts asked n (takes cleaner.peers cleaner.phase what)
 
 -- At the start of a run the cleaner is seen in the opening of the small world.
 abbrev pub CleanerStartAgrees : Type 0
 CleanerStartAgrees =
-    (part : ℕ) (texts : Texts) (any : ℕ → ℕ → Segment) (setup : Setup) (works : List Work) → part < 8 → CleanerAgrees part (opening any) texts (cleaner_start setup works).phase
+    (part : ℕ) (texts : Texts) (any : ℕ → ℕ → Segment) (setup : Setup) (works : List Work) → part < 8
+    → CleanerAgrees part (opening any) texts (cleaner_start setup works).phase
 
 -- What others do leaves the cleaner seen, where what is filed of its log and what it has there stay as they are.
 pub record LeavesCleaner (n m : Net) : Type 0 where

@@ -7,6 +7,7 @@ use Rattle.client_node.specs.declared.client.Client.{Client as AClient}
 use Rattle.client_node.specs.declared.phase.Phase.{Phase}
 use Rattle.client_node.specs.declared.phase.Phase.TheVariants.{Down, Opening, Serving as Serves}
 use Rattle.index_tie.specs.Filed.{Filed}
+use Rattle.index_tie.specs.Growth.{IsMore}
 use Rattle.index_tie.specs.Net.{Net, Runs, IsNewer, opening}
 use Rattle.index_tie.specs.Takeovers.{of_log, Linked}
 use Rattle.node_index_tie.specs.Pages.{FlightIsText}
@@ -80,10 +81,12 @@ module _ (part : ℕ) (texts : Texts) (n : Net) (c : ℕ) where
 -- ---- what an event is
 
 -- An event of client c is a list of things that happen in the small world: its log files each segment that it acts to be filed and that was not filed before, and
--- nothing else changes. What it tells of its log is so then.
+-- nothing else changes, of no other log. What it tells of its log is so then.
 pub record ClientGoes (part : ℕ) (texts : Texts) (n : Net) (c : ℕ) (w : Went_to) : Type 0 where
   pub next : Net
   pub is : next ≡ filing n (filed_after texts c n.filed w.outs)
+  pub more : IsMore n.filed next.filed
+  pub others : (l : ℕ) → (l ≡ c → ⊥) → IsSameLog l n.filed next.filed
   pub runs : Runs part (held_in part texts) n next
   pub agrees : ClientAgrees part texts next c w.state
   pub named : AreTexts texts n.filed → AreTexts texts next.filed
@@ -98,8 +101,10 @@ ClientEventGoes =
 -- At the start of a run a client is seen in the opening of the small world.
 abbrev pub FirstClientAgrees : Type 0
 FirstClientAgrees =
-    (part : ℕ) (texts : Texts) (any : ℕ → ℕ → Segment) (c : ℕ) (setup : Setup) (works : List Work) → ClientAgrees part texts (opening any) c (first_client c setup works).phase
+    (part : ℕ) (texts : Texts) (any : ℕ → ℕ → Segment) (c : ℕ) (setup : Setup) (works : List Work)
+    → ClientAgrees part texts (opening any) c (first_client c setup works).phase
 
 -- What others do leaves a client seen, where what is filed of its log stays as it is.
 abbrev pub ClientsStay : Type 0
-ClientsStay = (part : ℕ) (texts : Texts) (n m : Net) (c : ℕ) (p : Phase) → IsSameLog c n.filed m.filed → ClientAgrees part texts n c p → ClientAgrees part texts m c p
+ClientsStay = (part : ℕ) (texts : Texts) (n m : Net) (c : ℕ) (p : Phase) → IsSameLog c n.filed m.filed → ClientAgrees part texts n c p
+    → ClientAgrees part texts m c p
