@@ -23,10 +23,10 @@ use Rattle.version_model.specs.declared.answer.Answer.TheVariants.{Busy}
 use Rattle.xfs_base.proofs.Booleans.{by_test}
 use Rattle.xfs_base.specs.Steps.{still, after, steps}
 use Rattle.owner_index_tie.specs.CleanerEvents.{JobSeen, JobAgrees}
+use Rattle.owner_index_tie.proofs.CleanerEpochs.{promise_is}
 use Rattle.owner_index_tie.proofs.CleanerFrames as frames
 use Rattle.owner_index_tie.proofs.CleanerFrames.{Grows, Stands}
 use Rattle.owner_index_tie.proofs.CleanerJobs as jobs
-use Rattle.owner_index_tie.proofs.CleanerPromises.{promise_is}
 use Rattle.owner_index_tie.proofs.CleanerSays.{told_nothing}
 use Rattle.owner_index_tie.proofs.Feeds.{same_owner}
 use Rattle.owner_index_tie.proofs.Frames.{more_itself}

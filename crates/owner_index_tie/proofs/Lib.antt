@@ -17,6 +17,7 @@ pub mod ServingPackets
 pub mod ClientPhases
 pub mod Start
 pub mod Servers
+pub mod CleanerEpochs
 pub mod CleanerFrames
 pub mod CleanerSays
 pub mod CleanerJobs
