@@ -29,3 +29,8 @@ pub mod CleanerBegins
 pub mod CleanerServing
 pub mod CleanerPhases
 pub mod CleanerStart
+pub mod MovesLog
+pub mod MovesJob
+pub mod MovesOpening
+pub mod MovesServing
+pub mod Moving

@@ -3,3 +3,4 @@ pub mod Owners
 pub mod ClientEvents
 pub mod ServerEvents
 pub mod CleanerEvents
+pub mod CleanerMoves

@@ -7,6 +7,7 @@
 #![tactic(auto)]
 
 ghost use Rattle.owner_index_tie.specs.CleanerEvents.{CleanerEventGoes, CleanerStartAgrees, CleanerStays};
+ghost use Rattle.owner_index_tie.specs.CleanerMoves.{CleanerMovesAnswered, CleanerStartsMoving, FlightsAreMoves};
 ghost use Rattle.owner_index_tie.specs.ClientEvents.{ClientEventGoes, ClientsStay, FirstClientAgrees};
 ghost use Rattle.owner_index_tie.specs.ServerEvents.{ServerEventGoes};
 
@@ -35,6 +36,18 @@ pub fn cleaner_index_events_are_seen()
     ensures start { CleanerStartAgrees }
     ensures events { CleanerEventGoes }
     ensures others { CleanerStays }
+{}
+
+/// What the cleaner writes into its log was answered Live, and is moved once.
+///
+/// - `start`: so it is of the cleaner at its start.
+/// - `events`: so it stays, of what waits in its log, of what is in flight, and of what its job is to move, where a Live that comes was answered.
+/// - `flights`: what is in flight then says of each block of the slot what was answered Live, moved once, as the small world asks of what the
+///   cleaner files.
+pub fn cleaner_moves_what_was_live()
+    ensures start { CleanerStartsMoving }
+    ensures events { CleanerMovesAnswered }
+    ensures flights { FlightsAreMoves }
 {}
 
 /// What an event makes of a storage server is nothing in the small world: it files and drops nothing, and tells nothing of where blocks lie.
