@@ -1,4 +1,6 @@
 -- How a job of the cleaner begins: it is told what each slot is promised to.
+use Rattle.index_tie.specs.Filed.{Filed}
+use Rattle.segment_format.specs.declared.segment.Segment.{Segment}
 use Rattle.std.proofs.Common.{◌≡◌, ◌≤◌, ◌<◌, ◌==◌, ℕ, zero, suc, Bool, true, false, List, [], ◌∷◌, inl, inr, Some, None, is_some, length, refl, sym, ap, subst, ◌∙◌, arith}
 use Rattle.std.specs.List.{range_with_len}
 use Rattle.std.proofs.lemmas.Bool.{eqb-true}
@@ -44,16 +46,16 @@ promise_waits s slot epoch greets =
     (λ _. record { phase = ap (λ p. (job.forgetting slot p).state) greets; outs = ap (λ p. (job.forgetting slot p).outs) greets })
     (λ _. record { phase = greets; outs = refl })
 
-module _ (part : ℕ) (texts : Texts) (since : ℕ) (answered : List Packet) (small : part < 8) where
+module _ (New : Filed → Segment → Type 0) (part : ℕ) (texts : Texts) (since : ℕ) (answered : List Packet) (small : part < 8) where
   abbrev At : Net → Emptying → Type 0
-  At n e = Stands part texts since answered n e.log e.feed e.promised e.job
+  At n e = Stands New part texts since answered n e.log e.feed e.promised e.job
 
   abbrev Goes : Questions → Net → Done → Type 0
-  Goes asked n d = frames.Goes part texts since answered asked n d
+  Goes asked n d = frames.Goes New part texts since answered asked n d
 
   -- its job is the small world's, awaits its Welcome, and was not told of the slot yet
   pub record Before (n : Net) (e : Emptying) : Type 0 where
-    pub stands : Stands part texts since answered n e.log e.feed e.promised None
+    pub stands : Stands New part texts since answered n e.log e.feed e.promised None
     pub job : Job
     pub has : e.job ≡ Some job
     pub is : n.job ≡ job.cleaning
@@ -87,17 +89,17 @@ module _ (part : ℕ) (texts : Texts) (since : ℕ) (answered : List Packet) (sm
 
     -- where it happens there, and this holds then
     goes_there : (P : Net → Emptying → Type 0) → Happens part (held_in part texts) n m → P m told
-        → frames.Goes_to part texts since answered P asked n (promises_slot e slot)
+        → frames.Goes_to New part texts since answered P asked n (promises_slot e slot)
     unfolding promises_slot cleans job_takes
     goes_there P happens holds =
-        subst (λ o. frames.Goes_to part texts since answered P asked n
+        subst (λ o. frames.Goes_to New part texts since answered P asked n
         (steps says (takes_in e o (input.Promise slot epoch)).state (takes_in e o (input.Promise slot epoch)).outs)) (sym k.has)
-        (subst (λ outs. frames.Goes_to part texts since answered P asked n (steps says told outs)) (sym waits.outs)
-        (frames.went_after part texts since answered P asked asked n m (still told) (On Begun happens) (jobs.grows_job n d) refl (λ x is. is)
-        (frames.went_quiet part texts since answered asked m P told [] holds tt)))
+        (subst (λ outs. frames.Goes_to New part texts since answered P asked n (steps says told outs)) (sym waits.outs)
+        (frames.went_after New part texts since answered P asked asked n m (still told) (On Begun happens) (jobs.grows_job n d) refl (λ x is. is)
+        (frames.went_quiet New part texts since answered asked m P told [] holds tt)))
 
     -- of another slot
-    still_before : (slot ≡ part → ⊥) → frames.Goes_to part texts since answered Before asked n (promises_slot e slot)
+    still_before : (slot ≡ part → ⊥) → frames.Goes_to New part texts since answered Before asked n (promises_slot e slot)
     still_before other = goes_there Before
         (subst (λ s. Happens part (held_in part texts) n (with_job n (job.transition s (input.Promise slot epoch)))) k.is
         (JobTakes (input.Promise slot epoch) other))
@@ -121,7 +123,7 @@ module _ (part : ℕ) (texts : Texts) (since : ℕ) (answered : List Packet) (sm
         })
 
     -- of the slot
-    now_at : slot ≡ part → frames.Goes_to part texts since answered At asked n (promises_slot e slot)
+    now_at : slot ≡ part → frames.Goes_to New part texts since answered At asked n (promises_slot e slot)
     now_at same =
         let has : promised_at d.state.promised part ≡ epoch_of e.promised part =
         ap (λ p. promised_at p part) told_is ∙ subst
@@ -179,14 +181,14 @@ module _ (part : ℕ) (texts : Texts) (since : ℕ) (answered : List Packet) (sm
       told = ap (λ p. promised_at p part) is_then ∙ told;
     }
 
-    again_other : (slot ≡ part → ⊥) → jobs.Takes part texts since answered n (epoch_of e.promised part) its_done
+    again_other : (slot ≡ part → ⊥) → jobs.Takes New part texts since answered n (epoch_of e.promised part) its_done
     again_other other = record {
       happens = subst (λ s. Happens part (held_in part texts) n (with_job n (job.transition s (input.Promise slot its_epoch)))) its.is
           (JobTakes (input.Promise slot its_epoch) other);
       seen = then_seen (jobs.with_other j.cleaning.promised slot its_epoch part other ∙ its.told);
     }
 
-    again_here : slot ≡ part → jobs.Takes part texts since answered n (epoch_of e.promised part) its_done
+    again_here : slot ≡ part → jobs.Takes New part texts since answered n (epoch_of e.promised part) its_done
     again_here at =
         let told = subst (λ x. promised_at (promised_with j.cleaning.promised x (epoch_of e.promised x)) part ≡ epoch_of e.promised part) (sym at)
         (jobs.with_here j.cleaning.promised part (epoch_of e.promised part) small its.eight (let a = its.told in omega arith)) in
@@ -213,7 +215,7 @@ module _ (part : ℕ) (texts : Texts) (since : ℕ) (answered : List Packet) (sm
 
   again_so : (asked : Questions) (n : Net) (e : Emptying) (slot : ℕ) → At n e → Goes asked n (promises_slot e slot)
   unfolding promises_slot
-  again_so asked n e slot h = jobs.cleans_so part texts since answered asked n e (input.Promise slot (epoch_of e.promised slot)) h
+  again_so asked n e slot h = jobs.cleans_so New part texts since answered asked n e (input.Promise slot (epoch_of e.promised slot)) h
       (λ j same. by j same (slot == part) refl)
     where
       at : (slot == part) ≡ true → slot ≡ part
@@ -223,7 +225,7 @@ module _ (part : ℕ) (texts : Texts) (since : ℕ) (answered : List Packet) (sm
       other is equal = let s = equal in grind (arith, nat_tests, s, is)
 
       by : (j : Job) (same : e.job ≡ Some j) (t : Bool) → (slot == part) ≡ t
-          → jobs.Takes part texts since answered n (epoch_of e.promised part) (job.transition j.cleaning (input.Promise slot (epoch_of e.promised slot)))
+          → jobs.Takes New part texts since answered n (epoch_of e.promised part) (job.transition j.cleaning (input.Promise slot (epoch_of e.promised slot)))
       by j same true is = again_here n e slot h j same (at is)
       by j same false is = again_other n e slot h j same (other is)
 
@@ -248,10 +250,11 @@ module _ (part : ℕ) (texts : Texts) (since : ℕ) (answered : List Packet) (sm
       ]
 
       by : (t : Bool) → (slot == part) ≡ t → Goes asked n (steps promises_slot e (slot ∷ slots))
-      by true is = frames.went_through part texts since answered At At asked n (promises_slot e slot) (steps promises_slot (promises_slot e slot).state slots)
+      by true is = frames.went_through New part texts since answered At At asked n (promises_slot e slot)
+          (steps promises_slot (promises_slot e slot).state slots)
           (now_at asked n e k slot (at is))
-          (λ w. frames.went_steps part texts since answered promises_slot again_so w.questions w.next (promises_slot e slot).state slots w.at)
-      by false is = frames.went_through part texts since answered Before At asked n (promises_slot e slot)
+          (λ w. frames.went_steps New part texts since answered promises_slot again_so w.questions w.next (promises_slot e slot).state slots w.at)
+      by false is = frames.went_through New part texts since answered Before At asked n (promises_slot e slot)
           (steps promises_slot (promises_slot e slot).state slots)
           (still_before asked n e k slot (other is)) (λ w. rest w.questions w.next (promises_slot e slot).state w.at (behind (other is)))
 
@@ -306,14 +309,14 @@ module _ (part : ℕ) (texts : Texts) (since : ℕ) (answered : List Packet) (sm
         none = told_nothing count part;
         greets = refl;
       } in
-      frames.went_after part texts since answered At asked asked n m (after d.outs (cleans d.state input.Tick)) (On Begun (JobBegins count)) grows refl
+      frames.went_after New part texts since answered At asked asked n m (after d.outs (cleans d.state input.Tick)) (On Begun (JobBegins count)) grows refl
       (λ x is. is)
-      (frames.went_on part texts since answered asked m d (cleans d.state input.Tick) (all_told (range_with_len 0 8) asked m r before (in_slots part small))
-      (λ w. jobs.cleans_so part texts since answered w.questions w.next d.state input.Tick w.at
-      (jobs.may_other part texts since answered w.next d.state input.Tick w.at tt tt)))
+      (frames.went_on New part texts since answered asked m d (cleans d.state input.Tick) (all_told (range_with_len 0 8) asked m r before (in_slots part small))
+      (λ w. jobs.cleans_so New part texts since answered w.questions w.next d.state input.Tick w.at
+      (jobs.may_other New part texts since answered w.next d.state input.Tick w.at tt tt)))
 
   pub clean_so : (asked : Questions) (n : Net) (e : Emptying) (number count : ℕ) → At n e → Goes asked n (on_clean e number count)
   unfolding on_clean
   clean_so asked n e number count h =
       by_test (Goes asked n) (is_some e.lasting.items.unanswered) (record { state = e; outs = Answers number Busy ∷ [] }) (begins_job e number count)
-      (λ _. frames.quiet part texts since answered asked n e (Answers number Busy ∷ []) h (tt, tt)) (λ _. begins_so asked n e number count h)
+      (λ _. frames.quiet New part texts since answered asked n e (Answers number Busy ∷ []) h (tt, tt)) (λ _. begins_so asked n e number count h)

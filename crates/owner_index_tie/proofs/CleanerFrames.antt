@@ -1,4 +1,5 @@
 -- What the cleaner does step by step, in the small world: things that happen there, what it is told, and how steps follow one another.
+use Rattle.index_tie.specs.Filed.{Filed}
 use Rattle.std.proofs.Common.{◌≡◌, ◌≤◌, ◌<◌, ℕ, suc, List, [], ◌∷◌, ◌++◌, Option, Some, None, refl, sym, ap, subst, ◌∙◌, arith}
 use Rattle.std.specs.List.{AllByRecursion}
 use Rattle.cleaner_node.specs.declared.emptying.Emptying.{Emptying}
@@ -149,7 +150,7 @@ pub same_job : (part : ℕ) (n m : Net) (epoch : ℕ) (o : Option Job) → m.job
 same_job part n m epoch None same k = ap (λ (x : CleaningState). promised_at x.promised part) same ∙ k
 same_job part n m epoch (Some job) same k = record { is = same ∙ k.is; eight = k.eight; told = k.told }
 
-module _ (part : ℕ) (texts : Texts) (since : ℕ) (answered : List Packet) where
+module _ (New : Filed → Segment → Type 0) (part : ℕ) (texts : Texts) (since : ℕ) (answered : List Packet) where
   -- the cleaner stands so; no less is filed, and no less was answered, than from the start on
   pub record Stands (n : Net) (log : LogState) (feed : FeedState) (promised : Promised) (job : Option Job) : Type 0 where
     pub late : since ≤ n.filed.head 9
@@ -176,7 +177,7 @@ module _ (part : ℕ) (texts : Texts) (since : ℕ) (answered : List Packet) whe
 
   -- what is owed of what is done
   pub record Owed (n : Net) (outs : List Effect) : Type 0 where
-    pub files : FilesOwed (IsMoved part answered) texts 9 n.filed outs
+    pub files : FilesOwed New texts 9 n.filed outs
     pub asks : AllByRecursion (EffectOwed part n) outs
 
   -- by things that happen there the small world comes to one where this holds, and what was told is so
@@ -202,13 +203,13 @@ module _ (part : ℕ) (texts : Texts) (since : ℕ) (answered : List Packet) whe
         → ((w : Went asked n P d.state d.outs) → Goes_to Q w.questions w.next e) → Goes_to Q asked n (record { state = e.state; outs = d.outs ++ e.outs })
     went_through asked n d e p k owed =
         let one = p (record {
-          files = owed_before (IsMoved part answered) texts 9 n.filed d.outs e.outs owed.files;
+          files = owed_before New texts 9 n.filed d.outs e.outs owed.files;
           asks = all_before
               (EffectOwed part n) d.outs e.outs owed.asks;
         }) in
         let two = k one (record {
-          files = subst (λ f. FilesOwed (IsMoved part answered) texts 9 f e.outs) (sym one.filed)
-              (owed_behind (IsMoved part answered) texts 9 n.filed d.outs e.outs owed.files);
+          files = subst (λ f. FilesOwed New texts 9 f e.outs) (sym one.filed)
+              (owed_behind New texts 9 n.filed d.outs e.outs owed.files);
           asks = all_owed_later part n one.next one.grows e.outs (all_behind (EffectOwed part n) d.outs e.outs owed.asks);
         }) in
         record {
@@ -310,8 +311,8 @@ module _ (part : ℕ) (texts : Texts) (since : ℕ) (answered : List Packet) whe
   went_behind asked n outs d all p owed =
       let same = plain_files asked n outs all in
       let w = p (record {
-        files = subst (λ f. FilesOwed (IsMoved part answered) texts 9 f d.outs) same
-            (owed_behind (IsMoved part answered) texts 9 n.filed outs d.outs owed.files);
+        files = subst (λ f. FilesOwed New texts 9 f d.outs) same
+            (owed_behind New texts 9 n.filed outs d.outs owed.files);
         asks = all_behind (EffectOwed part n) outs d.outs owed.asks;
       }) in
       record {
@@ -336,7 +337,7 @@ module _ (part : ℕ) (texts : Texts) (since : ℕ) (answered : List Packet) whe
       → m.filed ≡ n.filed → Asked_more asked more → Goes_to P more m d → Goes_to P asked n d
   went_after P asked more n m d runs grows same kept p owed =
       let w = p (record {
-        files = subst (λ f. FilesOwed (IsMoved part answered) texts 9 f d.outs) (sym same) owed.files;
+        files = subst (λ f. FilesOwed New texts 9 f d.outs) (sym same) owed.files;
         asks = all_owed_later part n m grows d.outs owed.asks;
       }) in
       record {
@@ -368,20 +369,19 @@ module _ (part : ℕ) (texts : Texts) (since : ℕ) (answered : List Packet) whe
 
   -- a segment of the log
   pub went_filing : (asked : Questions) (n : Net) (name : SegName) (d : Stepped Emptying Effect) → name.seq ≡ suc (n.filed.head 9)
-      → ((x : Packet) → In x answered → In x n.sent)
-      → (FilesNext (IsMoved part answered) texts 9 n.filed name → Goes asked (files_one n name) d) → Goes asked n (after (Does (ActsFiled name) ∷ []) d)
-  went_filing asked n name d at heard k owed =
+      → IsMoved part n.sent n.filed (texts name) → (FilesNext New texts 9 n.filed name → Goes asked (files_one n name) d)
+      → Goes asked n (after (Does (ActsFiled name) ∷ []) d)
+  went_filing asked n name d at moved k owed =
       let it = owed.files.0 at in
       let m = files_one n name in
       let same = next_files texts 9 n.filed name at in
       let w = k it (record {
-        files = subst (λ f. FilesOwed (IsMoved part answered) texts 9 f d.outs) same owed.files.1;
+        files = subst (λ f. FilesOwed New texts 9 f d.outs) same owed.files.1;
         asks = all_owed_later part n m (grows_filing n name) d.outs owed.asks.1;
       }) in
       record {
         next = w.next;
-        runs = runs_through n m w.next (On Begun (CleanerFiles (texts name) it.segment
-            (λ b inside some. let move = it.new b inside some in record { entry = move.entry; answered = heard _ move.answered; version = move.version; hop = move.hop }))) w.runs;
+        runs = runs_through n m w.next (On Begun (CleanerFiles (texts name) it.segment moved)) w.runs;
         grows = grows_then n m w.next (grows_filing n name) w.grows;
         filed = w.filed ∙ ap (λ f. filed_after texts 9 f d.outs) (sym same);
         questions = w.questions;

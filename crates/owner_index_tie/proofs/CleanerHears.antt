@@ -1,4 +1,5 @@
 -- What each packet that is for its job, and a Poll, make of a cleaner that serves.
+use Rattle.index_tie.specs.Filed.{Filed}
 use Rattle.std.proofs.Common.{◌≡◌, ◌≤◌, ◌<◌, ◌==◌, ℕ, Bool, true, false, List, [], Option, Some, None, nat_lt, refl, subst, arith}
 use Rattle.std.proofs.lemmas.Bool.{eqb-true}
 use Rattle.std.proofs.lemmas.Bool.Decides.{nat_tests}
@@ -41,19 +42,19 @@ use Rattle.owner_index_tie.proofs.CleanerJobs as jobs
 use Rattle.owner_index_tie.proofs.CleanerPromises.{polled_so}
 use Rattle.owner_index_tie.proofs.CleanerSays.{rejobbed, fetches_plain}
 
-module _ (part : ℕ) (texts : Texts) (since : ℕ) (answered : List Packet) (small : part < 8) (asked : Questions) (n : Net) where
+module _ (New : Filed → Segment → Type 0) (part : ℕ) (texts : Texts) (since : ℕ) (answered : List Packet) (small : part < 8) (asked : Questions) (n : Net) where
   abbrev At : Emptying → Type 0
-  At e = Stands part texts since answered n e.log e.feed e.promised e.job
+  At e = Stands New part texts since answered n e.log e.feed e.promised e.job
 
   abbrev Goes : Done → Type 0
-  Goes d = frames.Goes part texts since answered asked n d
+  Goes d = frames.Goes New part texts since answered asked n d
 
   still_so : (e : Emptying) → At e → Goes (still e)
-  still_so e h = frames.quiet part texts since answered asked n e [] h tt
+  still_so e h = frames.quiet New part texts since answered asked n e [] h tt
 
   -- an input of which the small world asks no more
   calm : (e : Emptying) (i : inputs.In) → jobs.IsNoPromise i → IsOther part i → At e → Goes (cleans e i)
-  calm e i quiet other h = jobs.cleans_so part texts since answered asked n e i h (jobs.may_other part texts since answered n e i h quiet other)
+  calm e i quiet other h = jobs.cleans_so New part texts since answered asked n e i h (jobs.may_other New part texts since answered n e i h quiet other)
 
   -- ---- answers to its questions
 
@@ -115,8 +116,8 @@ module _ (part : ℕ) (texts : Texts) (since : ℕ) (answered : List Packet) (sm
       outside is same = let s = same in grind (arith, nat_tests, s, is)
 
       given : DeadGiven part n m → Goes (cleans e (input.Dead m.block m.epoch))
-      given k = jobs.cleans_so part texts since answered asked n e (input.Dead m.block m.epoch) h
-          (jobs.may_dead part texts since answered n e m.block m.epoch k.name k.below h k.sent k.hand)
+      given k = jobs.cleans_so New part texts since answered asked n e (input.Dead m.block m.epoch) h
+          (jobs.may_dead New part texts since answered n e m.block m.epoch k.name k.below h k.sent k.hand)
 
       by : is_out (check_of (hand_of e.job) m.block) m.ask ≡ true → (t : Bool) → (slot_of m.block.ino.0 == part) ≡ t
           → Goes (cleans e (input.Dead m.block m.epoch))
@@ -133,8 +134,8 @@ module _ (part : ℕ) (texts : Texts) (since : ℕ) (answered : List Packet) (sm
   unfolding ends_reading
   ends_so e read h owed =
       let r = record e { job = job_read e.job } in
-      let at = rejobbed part texts since answered n e.log e.feed e.promised e.job (job_read e.job) (reread (epoch_of e.promised part) e.job) h in
-      jobs.cleans_so part texts since answered asked n r (input.Read read) at (jobs.may_read part texts since answered n r read at owed)
+      let at = rejobbed New part texts since answered n e.log e.feed e.promised e.job (job_read e.job) (reread (epoch_of e.promised part) e.job) h in
+      jobs.cleans_so New part texts since answered asked n r (input.Read read) at (jobs.may_read New part texts since answered n r read at owed)
 
   confirmed_job : (epoch : ℕ) (job : Job) (o : Option Hand) (ask : ℕ) → JobAgrees part n epoch (Some job)
       → JobAgrees part n epoch (Some (hand_confirmed_in job o ask).state)
@@ -145,12 +146,12 @@ module _ (part : ℕ) (texts : Texts) (since : ℕ) (answered : List Packet) (sm
   unfolding job_confirmed
   confirmed_at e None ask same h = h
   confirmed_at e (Some job) ask same h =
-      rejobbed part texts since answered n e.log e.feed e.promised e.job (Some (hand_confirmed_in job job.hand ask).state)
+      rejobbed New part texts since answered n e.log e.feed e.promised e.job (Some (hand_confirmed_in job job.hand ask).state)
       (λ k. confirmed_job (epoch_of e.promised part) job job.hand ask (subst (JobAgrees part n (epoch_of e.promised part)) same k)) h
 
   after_confirmed_so : (e : Emptying) (x : Next) → At e → Goes (after_confirmed e x)
-  after_confirmed_so e next.Ask h = frames.quiet part texts since answered asked n e (fetches (hand_of e.job)) h
-      (fetches_plain part texts since answered asked n (hand_of e.job))
+  after_confirmed_so e next.Ask h = frames.quiet New part texts since answered asked n e (fetches (hand_of e.job)) h
+      (fetches_plain New part texts since answered asked n (hand_of e.job))
   after_confirmed_so e next.Lost h = ends_so e None h tt
   after_confirmed_so e next.Wait h = still_so e h
   after_confirmed_so e next.Again h = still_so e h
@@ -174,7 +175,7 @@ module _ (part : ℕ) (texts : Texts) (since : ℕ) (answered : List Packet) (sm
   told_at e None groups ask server t same h = h
   told_at e (Some job) None ask server t same h = h
   told_at e (Some job) (Some groups) ask server t same h =
-      rejobbed part texts since answered n e.log e.feed e.promised e.job (Some (hand_hears_in job job.hand groups ask server t).state)
+      rejobbed New part texts since answered n e.log e.feed e.promised e.job (Some (hand_hears_in job job.hand groups ask server t).state)
       (λ k. heard_job (epoch_of e.promised part) job job.hand groups ask server t (subst (JobAgrees part n (epoch_of e.promised part)) same k)) h
 
   after_told_so : (e : Emptying) (x : Next) → At e → ((s : Segment) → x ≡ next.Read s → ReadFor n.filed (Some s) n.job.phase) → Goes (after_told e x)
@@ -199,7 +200,7 @@ module _ (part : ℕ) (texts : Texts) (since : ℕ) (answered : List Packet) (sm
   polled_by : (e : Emptying) (manager : ℕ) (p : Poll) → At e → PollGets part n p → Goes (polled e manager p)
   polled_by e manager p h gets =
       by_test Goes (nat_lt p.epoch (epoch_of e.promised p.slot)) (still e) (reports e manager p) (λ _. still_so e h)
-      (λ is. polled_so part texts since answered small asked n p.slot p.epoch manager e h
+      (λ is. polled_so New part texts since answered small asked n p.slot p.epoch manager e h
       (λ same. subst (λ k. epoch_of e.promised k ≤ p.epoch) same (no_later p.epoch (epoch_of e.promised p.slot) is)) gets)
 
   pub poll_so : (e : Emptying) (from : NodeId) (p : Poll) → At e → PollGets part n p → Goes (on_poll e from p)

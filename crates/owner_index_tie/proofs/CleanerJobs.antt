@@ -1,4 +1,5 @@
 -- What a job takes is taken in the small world, and then what it says is done.
+use Rattle.index_tie.specs.Filed.{Filed}
 use Rattle.std.proofs.Common.{◌≡◌, ◌≤◌, ◌<◌, ◌==◌, ◌&&◌, ℕ, Bool, true, false, List, [], ◌∷◌, ◌++◌, Option, Some, None, length, set, inl, inr, refl, sym, ap, subst, ◌∙◌, arith}
 use Rattle.std.specs.List.{AllByRecursion}
 use Rattle.std.proofs.lemmas.Bool.{eqb-true}
@@ -148,12 +149,12 @@ of_length (news ∷ slots) promised = of_length slots (promised_with promised ne
 
 -- ---- what it takes
 
-module _ (part : ℕ) (texts : Texts) (since : ℕ) (answered : List Packet) where
+module _ (New : Filed → Segment → Type 0) (part : ℕ) (texts : Texts) (since : ℕ) (answered : List Packet) where
   abbrev At : Net → Emptying → Type 0
-  At n e = Stands part texts since answered n e.log e.feed e.promised e.job
+  At n e = Stands New part texts since answered n e.log e.feed e.promised e.job
 
   abbrev Goes : Questions → Net → Done → Type 0
-  Goes asked n d = frames.Goes part texts since answered asked n d
+  Goes asked n d = frames.Goes New part texts since answered asked n d
 
   -- the job goes on in the small world
   abbrev pub rejobbed : Emptying → Job → job.Done → Emptying
@@ -168,8 +169,9 @@ module _ (part : ℕ) (texts : Texts) (since : ℕ) (answered : List Packet) whe
       → Goes asked n (steps says (rejobbed e j d) d.outs)
   taken asked n e j d h t =
       let m = with_job n d in
-      frames.went_after part texts since answered At asked asked n m (steps says (rejobbed e j d) d.outs) (On Begun t.happens) (grows_job n d) refl (λ x is. is)
-      (all_said part texts since answered asked m (rejobbed e j d) d.outs (said_known n d)
+      frames.went_after New part texts since answered At asked asked n m (steps says (rejobbed e j d) d.outs) (On Begun t.happens) (grows_job n d) refl
+      (λ x is. is)
+      (all_said New part texts since answered asked m (rejobbed e j d) d.outs (said_known n d)
       (record {
         late = h.late;
         heard = h.heard;
@@ -190,7 +192,7 @@ module _ (part : ℕ) (texts : Texts) (since : ℕ) (answered : List Packet) whe
   cleans_so asked n e i h may = by e.job refl
     where
       by : (o : Option Job) → e.job ≡ o → Goes asked n (steps says (takes_in e o i).state (takes_in e o i).outs)
-      by None same = frames.quiet part texts since answered asked n e [] h tt
+      by None same = frames.quiet New part texts since answered asked n e [] h tt
       by (Some j) same = taken asked n e j (job.transition j.cleaning i) h (may j same)
 
   -- ---- inputs

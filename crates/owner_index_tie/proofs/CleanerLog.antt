@@ -1,4 +1,5 @@
 -- What the cleaner does once its log takes an input: where a segment is settled it is filed, and the job goes on.
+use Rattle.index_tie.specs.Filed.{Filed}
 use Rattle.std.proofs.Common.{⊎_elim, ◌≡◌, ◌≤◌, ℕ, suc, List, [], ◌∷◌, map, Option, Some, None, refl, sym, ap, subst, ◌∙◌, arith}
 use Rattle.std.specs.List.{AllByRecursion}
 use Rattle.std.proofs.lemmas.List.Elements.{recursion_from_All}
@@ -22,7 +23,6 @@ use Rattle.log_owner.specs.declared.promised.Managers.{Managers}
 use Rattle.log_owner.specs.Promised.{epoch_of}
 use Rattle.log_owner.specs.Sending.{name_of, range, store, pushes_all}
 use Rattle.node_index_tie.specs.OwnerEvents as owners
-use Rattle.node_index_tie.specs.Pages.{FlightIsText}
 use Rattle.node_index_tie.specs.Sight.{Texts, Questions, RowsFit}
 use Rattle.node_index_tie.proofs.Flights.{IsSend}
 use Rattle.node_index_tie.proofs.Owners.{owners_tell}
@@ -40,25 +40,26 @@ use Rattle.owner_index_tie.proofs.CleanerFrames.{Stands}
 use Rattle.owner_index_tie.proofs.CleanerJobs as jobs
 use Rattle.owner_index_tie.proofs.CleanerSays.{relogged}
 use Rattle.owner_index_tie.proofs.Growing.{grown}
+use Rattle.owner_index_tie.proofs.MovesLog.{FlightKnown, segment_moves}
 use Rattle.owner_index_tie.proofs.Turns.{Rests, Lands, Turns, tick_stays, log_turns}
 
-module _ (part : ℕ) (texts : Texts) (since : ℕ) (answered : List Packet) where
+module _ (New : Filed → Segment → Type 0) (part : ℕ) (texts : Texts) (since : ℕ) (answered : List Packet) where
   abbrev At : Net → Emptying → Type 0
-  At n e = Stands part texts since answered n e.log e.feed e.promised e.job
+  At n e = Stands New part texts since answered n e.log e.feed e.promised e.job
 
   abbrev Goes : Questions → Net → Done → Type 0
-  Goes asked n d = frames.Goes part texts since answered asked n d
+  Goes asked n d = frames.Goes New part texts since answered asked n d
 
   -- ---- what it tells of its log
 
   ranges_plain : (asked : Questions) (n : Net) (managers : Managers) (outs : List feed_outs.Out)
       → AllByRecursion (owners.OwnerDoes part n 9) (map (range managers) outs)
-      → frames.AllPlain part texts since answered asked n (map (range managers) outs)
+      → frames.AllPlain New part texts since answered asked n (map (range managers) outs)
   ranges_plain asked n managers [] all = tt
   ranges_plain asked n managers (Range slot first upto rows ∷ outs) all = (all.0, ranges_plain asked n managers outs all.1)
 
   pub pushes_plain : (asked : Questions) (n : Net) (managers : Managers) (f : FeedState) → owners.FeedSeen part n 9 f
-      → frames.AllPlain part texts since answered asked n (pushes_all managers f)
+      → frames.AllPlain New part texts since answered asked n (pushes_all managers f)
   pushes_plain asked n managers f k = ranges_plain asked n managers (ticked f)
       (recursion_from_All (owners.OwnerDoes part n 9) (pushes_all managers f) (owners_tell part n 9 f managers (omega arith) (omega arith) k).each)
 
@@ -66,16 +67,17 @@ module _ (part : ℕ) (texts : Texts) (since : ℕ) (answered : List Packet) whe
 
   sends_so : (asked : Questions) (n : Net) (e : Emptying) (outs : List Out) → AllByRecursion IsSend outs → At n e → Goes asked n (steps writes_one e outs)
   unfolding writes_one
-  sends_so asked n e [] all h = frames.quiet part texts since answered asked n e [] h tt
+  sends_so asked n e [] all h = frames.quiet New part texts since answered asked n e [] h tt
   sends_so asked n e (Send fragment member ∷ outs) all h =
-      frames.went_on part texts since answered asked n (record { state = e; outs = store fragment member ∷ [] }) (steps writes_one e outs)
-      (frames.quiet part texts since answered asked n e (store fragment member ∷ []) h (tt, tt)) (λ w. sends_so w.questions w.next e outs all.1 w.at)
+      frames.went_on New part texts since answered asked n (record { state = e; outs = store fragment member ∷ [] }) (steps writes_one e outs)
+      (frames.quiet New part texts since answered asked n e (store fragment member ∷ []) h (tt, tt)) (λ w. sends_so w.questions w.next e outs all.1 w.at)
   sends_so asked n e (Settled end rows ∷ outs) all h = absurd all.0
 
   rests_so : (asked : Questions) (n : Net) (e : Emptying) (r : log.Done) → LogNext 9 r.state → Rests e.log r → At n e
       → Goes asked n (steps writes_one (record e { log = r.state }) r.outs)
   rests_so asked n e r next k h =
-      sends_so asked n (record e { log = r.state }) r.outs k.sends (relogged part texts since answered n e.log r.state e.feed e.promised e.job next k.same h)
+      sends_so asked n (record e { log = r.state }) r.outs k.sends
+      (relogged New part texts since answered n e.log r.state e.feed e.promised e.job next k.same h)
 
   pub ticks_so : (asked : Questions) (n : Net) (e : Emptying) → At n e → Goes asked n (writes e Tick)
   unfolding writes
@@ -89,7 +91,7 @@ module _ (part : ℕ) (texts : Texts) (since : ℕ) (answered : List Packet) whe
   moved_job n epoch None k = k
   moved_job n epoch (Some job) k = k
 
-  module _ (asked : Questions) (n : Net) (e : Emptying) (h : At n e) (text : FlightIsText texts e.log) (r : log.Done) (next : LogNext 9 r.state)
+  module _ (asked : Questions) (n : Net) (e : Emptying) (h : At n e) (text : FlightKnown part texts answered e.log) (r : log.Done) (next : LogNext 9 r.state)
       (k : Lands e.log r) where
     abbrev old : Segment
     old = k.old.segment
@@ -105,15 +107,24 @@ module _ (part : ℕ) (texts : Texts) (since : ℕ) (answered : List Packet) whe
     at_next = h.seen.owner.log.next k.old k.was ∙ ap suc h.seen.owner.end.seq
 
     text_is : texts its_name ≡ old
-    text_is = ap texts name_is ∙ text k.old k.was
+    text_is = ap texts name_is ∙ text.0 k.old k.was
+
+    moved : IsMoved part n.sent n.filed (texts its_name)
+    moved = subst (IsMoved part n.sent n.filed) (sym text_is)
+        (λ b inside some. let move = segment_moves part answered old (text.1 k.old k.was) b inside some in record {
+          entry = move.entry;
+          answered = h.heard _ move.answered;
+          version = move.version;
+          hop = move.hop;
+        })
 
     abbrev m : Net
-    m = frames.files_one part texts since answered n its_name
+    m = frames.files_one New part texts since answered n its_name
 
     abbrev then_fed : Emptying
     then_fed = fed (record e { log = r.state }) (end_from old) (rows_of old)
 
-    fed_at : FilesNext (IsMoved part answered) texts 9 n.filed its_name → At m then_fed
+    fed_at : FilesNext New texts 9 n.filed its_name → At m then_fed
     fed_at it =
         let g = grown part texts n 9 since n.filed 9 r.state e.feed old h.late refl h.seen.owner.feed
         (subst (λ (x : Segment). RowsFit (rows_of x)) text_is it.fits) it.short next k.end at_next in
@@ -136,20 +147,21 @@ module _ (part : ℕ) (texts : Texts) (since : ℕ) (answered : List Packet) whe
     abbrev behind : Done
     behind = after gone.outs (steps writes_one gone.state k.rest)
 
-    behind_so : FilesNext (IsMoved part answered) texts 9 n.filed its_name → Goes asked m behind
+    behind_so : FilesNext New texts 9 n.filed its_name → Goes asked m behind
     behind_so it =
         let at = fed_at it in
-        frames.went_on part texts since answered asked m gone (steps writes_one gone.state k.rest)
-        (frames.went_behind part texts since answered asked m (pushes_all then_fed.promised.managers then_fed.feed) (cleans then_fed input.Moved)
+        frames.went_on New part texts since answered asked m gone (steps writes_one gone.state k.rest)
+        (frames.went_behind New part texts since answered asked m (pushes_all then_fed.promised.managers then_fed.feed) (cleans then_fed input.Moved)
         (pushes_plain asked m then_fed.promised.managers then_fed.feed at.seen.owner.feed)
-        (jobs.cleans_so part texts since answered asked m then_fed input.Moved at (jobs.may_other part texts since answered m then_fed input.Moved at tt tt)))
+        (jobs.cleans_so New part texts since answered asked m then_fed input.Moved at
+        (jobs.may_other New part texts since answered m then_fed input.Moved at tt tt)))
         (λ w. sends_so w.questions w.next gone.state k.rest k.sends w.at)
 
     lands_so : Goes asked n (steps writes_one (record e { log = r.state }) (Settled (end_from old) (rows_of old) ∷ k.rest))
     unfolding writes_one settles
-    lands_so = frames.went_filing part texts since answered asked n its_name behind at_next h.heard behind_so
+    lands_so = frames.went_filing New part texts since answered asked n its_name behind at_next moved behind_so
 
-  turns_so : (asked : Questions) (n : Net) (e : Emptying) (r : log.Done) → At n e → FlightIsText texts e.log → Turns 9 e.log r
+  turns_so : (asked : Questions) (n : Net) (e : Emptying) (r : log.Done) → At n e → FlightKnown part texts answered e.log → Turns 9 e.log r
       → Goes asked n (steps writes_one (record e { log = r.state }) r.outs)
   turns_so asked n e r h text turns =
       ⊎_elim
@@ -159,6 +171,6 @@ module _ (part : ℕ) (texts : Texts) (since : ℕ) (answered : List Packet) whe
       turns.went
 
   -- any input
-  pub writes_so : (asked : Questions) (n : Net) (e : Emptying) (i : LogIn) → At n e → FlightIsText texts e.log → Goes asked n (writes e i)
+  pub writes_so : (asked : Questions) (n : Net) (e : Emptying) (i : LogIn) → At n e → FlightKnown part texts answered e.log → Goes asked n (writes e i)
   unfolding writes
   writes_so asked n e i h text = turns_so asked n e (log.transition e.log i) h text (log_turns 9 e.log h.seen.owner.log i)

@@ -1,4 +1,6 @@
 -- What the maps make of a cleaner that serves: it promises later epochs, its log looks whether its flight is settled, and its job is welcomed.
+use Rattle.index_tie.specs.Filed.{Filed}
+use Rattle.segment_format.specs.declared.segment.Segment.{Segment}
 use Rattle.std.proofs.Common.{◌≡◌, ◌≤◌, ◌<◌, ◌==◌, ◌&&◌, ℕ, Bool, true, false, List, [], ◌∷◌, Option, Some, None, nat_lt, refl, sym, subst, ◌∙◌, arith}
 use Rattle.std.specs.List.{AllByRecursion}
 use Rattle.std.proofs.lemmas.Bool.Decides.{nat_tests}
@@ -12,7 +14,7 @@ use Rattle.group_map.specs.GroupMapState.{GroupMapState}
 use Rattle.index_tie.specs.Net.{Net, Packet}
 use Rattle.log_owner.specs.Promised.{epoch_of}
 use Rattle.node_base.specs.Maps.{fits, is_older, taken}
-use Rattle.node_index_tie.specs.Pages.{FlightIsText}
+use Rattle.owner_index_tie.proofs.MovesLog.{FlightKnown}
 use Rattle.node_index_tie.specs.Sight.{Texts, Questions}
 use Rattle.stripe_cleaner.specs.CleaningState.{CleaningState}
 use Rattle.stripe_cleaner.specs.Counting.{has_usage}
@@ -115,15 +117,15 @@ unfolding cleans job_takes
 regrouped_log e true groups = mapped_log e e.job groups
 regrouped_log e false groups = refl
 
-module _ (part : ℕ) (texts : Texts) (since : ℕ) (answered : List Packet) (small : part < 8) where
+module _ (New : Filed → Segment → Type 0) (part : ℕ) (texts : Texts) (since : ℕ) (answered : List Packet) (small : part < 8) where
   abbrev At : Net → Emptying → Type 0
-  At n e = Stands part texts since answered n e.log e.feed e.promised e.job
+  At n e = Stands New part texts since answered n e.log e.feed e.promised e.job
 
   abbrev Goes : Questions → Net → Done → Type 0
-  Goes asked n d = frames.Goes part texts since answered asked n d
+  Goes asked n d = frames.Goes New part texts since answered asked n d
 
   abbrev Goes_to : (Net → Emptying → Type 0) → Questions → Net → Done → Type 0
-  Goes_to P asked n d = frames.Goes_to part texts since answered P asked n d
+  Goes_to P asked n d = frames.Goes_to New part texts since answered P asked n d
 
   -- what holds stays so while the small world goes on
   holding : (P : Net → Emptying → Type 0) (X : Net → Type 0) → ((u v : Net) → Grows u v → X u → X v) → (asked : Questions) (n : Net) (d : Done) → X n
@@ -170,23 +172,23 @@ module _ (part : ℕ) (texts : Texts) (since : ℕ) (answered : List Packet) (sm
   later_is a b is = grind (arith, nat_tests)
 
   hears_so : (asked : Questions) (n : Net) (e : Emptying) (news : SlotNews) → At n e
-      → Goes_to (UpTo part texts since answered small news.slot news.epoch) asked n (hears_slot e news)
+      → Goes_to (UpTo New part texts since answered small news.slot news.epoch) asked n (hears_slot e news)
   unfolding hears_slot
   hears_so asked n e news h =
-      by_test (Goes_to (UpTo part texts since answered small news.slot news.epoch) asked n) (nat_lt (epoch_of e.promised news.slot) news.epoch)
+      by_test (Goes_to (UpTo New part texts since answered small news.slot news.epoch) asked n) (nat_lt (epoch_of e.promised news.slot) news.epoch)
       (cleans (promises e news.slot news.epoch news.manager) (input.Promise news.slot news.epoch)) (still e)
-      (λ is. promised_so part texts since answered small asked n news.slot news.epoch news.manager e h
+      (λ is. promised_so New part texts since answered small asked n news.slot news.epoch news.manager e h
       (λ same. subst (λ k. epoch_of e.promised k ≤ news.epoch) same (later_is (epoch_of e.promised news.slot) news.epoch is)))
-      (λ is. frames.went_quiet part texts since answered asked n (UpTo part texts since answered small news.slot news.epoch) e [] (
+      (λ is. frames.went_quiet New part texts since answered asked n (UpTo New part texts since answered small news.slot news.epoch) e [] (
         h,
         λ same. let a = subst (λ k. news.epoch ≤ epoch_of e.promised k) same
             (no_later (epoch_of e.promised news.slot) news.epoch is) in let b = h.seen.promised in omega arith,
       ) tt)
 
   all_hear : (asked : Questions) (n : Net) (e : Emptying) (slots : List SlotNews) → At n e → Goes_to (Heard slots) asked n (steps hears_slot e slots)
-  all_hear asked n e [] h = frames.went_quiet part texts since answered asked n (Heard []) e [] (h, tt) tt
+  all_hear asked n e [] h = frames.went_quiet New part texts since answered asked n (Heard []) e [] (h, tt) tt
   all_hear asked n e (news ∷ slots) h =
-      frames.went_through part texts since answered (UpTo part texts since answered small news.slot news.epoch) (Heard (news ∷ slots)) asked n
+      frames.went_through New part texts since answered (UpTo New part texts since answered small news.slot news.epoch) (Heard (news ∷ slots)) asked n
       (hears_slot e news)
       (steps hears_slot (hears_slot e news).state slots) (hears_so asked n e news h)
       (λ w. weaker (λ v s. Heard slots v s × (news.slot ≡ part → news.epoch ≤ v.promised)) (Heard (news ∷ slots))
@@ -200,15 +202,16 @@ module _ (part : ℕ) (texts : Texts) (since : ℕ) (answered : List Packet) (sm
 
   regroups_so : (asked : Questions) (n : Net) (e : Emptying) (newer : Bool) (groups : GroupMapState) → At n e → Goes asked n (job_regrouped e newer groups)
   regroups_so asked n e true groups h =
-      jobs.cleans_so part texts since answered asked n e (input.Maps groups) h (jobs.may_other part texts since answered n e (input.Maps groups) h tt tt)
-  regroups_so asked n e false groups h = frames.quiet part texts since answered asked n e [] h tt
+      jobs.cleans_so New part texts since answered asked n e (input.Maps groups) h
+      (jobs.may_other New part texts since answered n e (input.Maps groups) h tt tt)
+  regroups_so asked n e false groups h = frames.quiet New part texts since answered asked n e [] h tt
 
-  log_regroups_so : (asked : Questions) (n : Net) (e : Emptying) (newer : Bool) (groups : GroupMapState) → At n e → FlightIsText texts e.log
+  log_regroups_so : (asked : Questions) (n : Net) (e : Emptying) (newer : Bool) (groups : GroupMapState) → At n e → FlightKnown part texts answered e.log
       → Goes asked n (log_regrouped e newer groups)
-  log_regroups_so asked n e true groups h text = writes_so part texts since answered asked n e (log_in.Maps groups) h text
-  log_regroups_so asked n e false groups h text = frames.quiet part texts since answered asked n e [] h tt
+  log_regroups_so asked n e true groups h text = writes_so New part texts since answered asked n e (log_in.Maps groups) h text
+  log_regroups_so asked n e false groups h text = frames.quiet New part texts since answered asked n e [] h tt
 
-  takes_so : (asked : Questions) (n : Net) (e : Emptying) (news : News) → At n e → FlightIsText texts e.log
+  takes_so : (asked : Questions) (n : Net) (e : Emptying) (news : News) → At n e → FlightKnown part texts answered e.log
       → Goes_to (Heard news.slots) asked n (takes_news e news)
   unfolding takes_news hears_slots
   takes_so asked n e news h text =
@@ -217,19 +220,20 @@ module _ (part : ℕ) (texts : Texts) (since : ℕ) (answered : List Packet) (sm
       let a = job_regrouped r newer news.groups in
       let b = steps hears_slot a.state news.slots in
       let same = all_hear_log a.state news.slots ∙ regrouped_log r newer news.groups in
-      frames.went_through part texts since answered At (Heard news.slots) asked n a (after b.outs (log_regrouped b.state newer news.groups))
+      frames.went_through New part texts since answered At (Heard news.slots) asked n a (after b.outs (log_regrouped b.state newer news.groups))
       (regroups_so asked n r newer news.groups h)
-      (λ w. frames.went_through part texts since answered (Heard news.slots) (Heard news.slots) w.questions w.next b (log_regrouped b.state newer news.groups)
+      (λ w. frames.went_through New part texts since answered (Heard news.slots) (Heard news.slots) w.questions w.next b
+      (log_regrouped b.state newer news.groups)
       (all_hear w.questions w.next a.state news.slots w.at)
       (λ x. holding At (λ v. NoHigher part v.promised news.slots) (no_higher_later news.slots) x.questions x.next
       (log_regrouped b.state newer news.groups) x.at.1
-      (log_regroups_so x.questions x.next b.state newer news.groups x.at.0 (subst (FlightIsText texts) (sym same) text))))
+      (log_regroups_so x.questions x.next b.state newer news.groups x.at.0 (subst (FlightKnown part texts answered) (sym same) text))))
 
-  pub news_so : (asked : Questions) (n : Net) (e : Emptying) (news : News) → At n e → FlightIsText texts e.log → Goes asked n (on_news e news)
+  pub news_so : (asked : Questions) (n : Net) (e : Emptying) (news : News) → At n e → FlightKnown part texts answered e.log → Goes asked n (on_news e news)
   news_so asked n e news h text =
       by_test (Goes asked n) (fits e.maps news) (takes_news e news) (still e)
       (λ _. weaker (Heard news.slots) At (λ v s x. x.0) asked n (takes_news e news) (takes_so asked n e news h text))
-      (λ _. frames.quiet part texts since answered asked n e [] h tt)
+      (λ _. frames.quiet New part texts since answered asked n e [] h tt)
 
   -- ---- a Welcome
 
@@ -239,24 +243,24 @@ module _ (part : ℕ) (texts : Texts) (since : ℕ) (answered : List Packet) (sm
 
   welcomed_so : (asked : Questions) (n : Net) (e : Emptying) (slots : List SlotNews) (groups : Option GroupMapState) → At n e → NoHigher part n.promised slots
       → Goes asked n (welcomes_over e slots groups)
-  welcomed_so asked n e slots None h low = frames.quiet part texts since answered asked n e [] h tt
+  welcomed_so asked n e slots None h low = frames.quiet New part texts since answered asked n e [] h tt
   welcomed_so asked n e slots (Some groups) h low =
-      jobs.cleans_so part texts since answered asked n e (input.Welcome slots groups) h
-      (jobs.may_welcome part texts since answered n e slots groups h (subst (λ m. NoHigher part m slots) h.seen.promised low))
+      jobs.cleans_so New part texts since answered asked n e (input.Welcome slots groups) h
+      (jobs.may_welcome New part texts since answered n e slots groups h (subst (λ m. NoHigher part m slots) h.seen.promised low))
 
   welcomes_so : (asked : Questions) (n : Net) (e : Emptying) (m : Welcome) → At n e → NoHigher part n.promised m.news.slots → Goes asked n (welcomes e m)
   unfolding welcomes
   welcomes_so asked n e m h low =
       by_test (Goes asked n) (is_out (hello_of e.job) m.ask) (welcomes_over (record e { job = greeted e.job }) m.news.slots e.maps.groups) (still e)
       (λ _. welcomed_so asked n (record e { job = greeted e.job }) m.news.slots e.maps.groups
-      (rejobbed part texts since answered n e.log e.feed e.promised e.job (greeted e.job) (greeted_job n (epoch_of e.promised part) e.job) h) low)
-      (λ _. frames.quiet part texts since answered asked n e [] h tt)
+      (rejobbed New part texts since answered n e.log e.feed e.promised e.job (greeted e.job) (greeted_job n (epoch_of e.promised part) e.job) h) low)
+      (λ _. frames.quiet New part texts since answered asked n e [] h tt)
 
-  pub welcome_so : (asked : Questions) (n : Net) (e : Emptying) (m : Welcome) → At n e → FlightIsText texts e.log → Goes asked n (on_welcome e m)
+  pub welcome_so : (asked : Questions) (n : Net) (e : Emptying) (m : Welcome) → At n e → FlightKnown part texts answered e.log → Goes asked n (on_welcome e m)
   unfolding on_welcome
   welcome_so asked n e m h text =
       let d = takes_news e m.news in
       by_test (Goes asked n) ((m.inc == e.lasting.inc) && fits e.maps m.news) (after d.outs (welcomes d.state m)) (still e)
-      (λ _. frames.went_through part texts since answered (Heard m.news.slots) At asked n d (welcomes d.state m) (takes_so asked n e m.news h text)
+      (λ _. frames.went_through New part texts since answered (Heard m.news.slots) At asked n d (welcomes d.state m) (takes_so asked n e m.news h text)
       (λ w. welcomes_so w.questions w.next d.state m w.at.0 w.at.1))
-      (λ _. frames.quiet part texts since answered asked n e [] h tt)
+      (λ _. frames.quiet New part texts since answered asked n e [] h tt)

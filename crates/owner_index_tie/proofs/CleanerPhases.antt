@@ -1,4 +1,6 @@
 -- What each event makes of the cleaner: a run of the small world, after which it is seen there.
+use Rattle.index_tie.specs.Filed.{Filed}
+use Rattle.segment_format.specs.declared.segment.Segment.{Segment}
 use Rattle.std.proofs.Common.{◌≡◌, ◌≤◌, ◌<◌, ℕ, List, [], ◌∷◌, ◌++◌, Option, Some, None, length, refl, sym, ap, subst, ◌∙◌, arith}
 use Rattle.std.specs.List.{AllByRecursion}
 use Rattle.std.proofs.lemmas.List.Elements.{All-from_recursion}
@@ -49,7 +51,8 @@ use Rattle.wire_msg.specs.declared.packet.Packet.{Packet as Sent}
 use Rattle.xfs_base.proofs.Booleans.{by_test}
 use Rattle.xfs_base.specs.declared.node.NodeId.{NodeId}
 use Rattle.xfs_base.specs.Steps.{still}
-use Rattle.owner_index_tie.specs.CleanerEvents.{CleanerRests, CleanerAgrees, IsMoved, CleanerSays, CleanerActs, CleanerDoes, EventGets, PacketGets, ReopensOn, WritesTexts, CleanerEventGoes}
+use Rattle.owner_index_tie.specs.CleanerEvents.{CleanerRests, PhaseAgrees, NewFor, IsMoved, CleanerSays, CleanerActs, CleanerDoes, EventGets, PacketGets, ReopensOn, WritesTexts, CleanerEventGoes}
+use Rattle.owner_index_tie.specs.CleanerMoves.{CleanerMoves, DoAnswers}
 use Rattle.owner_index_tie.specs.Filing.{IsSameLog, filing, filed_after}
 use Rattle.owner_index_tie.specs.Owners.{LogFits, OpeningSeen, StageWrites}
 use Rattle.owner_index_tie.proofs.CleanerBegins.{clean_so}
@@ -60,6 +63,7 @@ use Rattle.owner_index_tie.proofs.CleanerSays.{told_nothing, jobless, grows_jobl
 use Rattle.owner_index_tie.proofs.CleanerServing as serving
 use Rattle.owner_index_tie.proofs.Feeds.{same_owner, same_fits}
 use Rattle.owner_index_tie.proofs.Frames as effects
+use Rattle.owner_index_tie.proofs.Moving.{cleaner_moves_answered, moves_later}
 use Rattle.owner_index_tie.proofs.OpeningLog as log
 use Rattle.owner_index_tie.proofs.Openings as events
 use Rattle.owner_index_tie.proofs.Running.{texts_after, others_after, runs_after}
@@ -87,12 +91,12 @@ module _ (part : ℕ) (asked : Questions) (n : Net) (since : ℕ) (owner : Owner
   opener_all : (es : List Effect) → AllByRecursion (MayDo owner) es → AllByRecursion (CleanerDoes part asked n since) es
   opener_all es all = all_weaker (MayDo owner) (CleanerDoes part asked n since) opener_does es all
 
-module _ (part : ℕ) (texts : Texts) (n : Net) (small : part < 8) where
+module _ (New : Filed → Segment → Type 0) (part : ℕ) (texts : Texts) (n : Net) (small : part < 8) where
   abbrev since : ℕ
   since = n.filed.head 9
 
   abbrev At : Net → Emptying → Type 0
-  At v e = Stands part texts since n.sent v e.log e.feed e.promised e.job
+  At v e = Stands New part texts since n.sent v e.log e.feed e.promised e.job
 
   -- the cleaner, as it is seen then; that what is in flight is the text of its name is apart
   abbrev PhaseSo : Net → Phase → Type 0
@@ -101,16 +105,16 @@ module _ (part : ℕ) (texts : Texts) (n : Net) (small : part < 8) where
   PhaseSo v (Serving e) = At v e
 
   abbrev Goes : Questions → Net → Went_to → Type 0
-  Goes asked v w = frames.Goes_to part texts since n.sent PhaseSo asked v w
+  Goes asked v w = frames.Goes_to New part texts since n.sent PhaseSo asked v w
 
-  quiet : (asked : Questions) (v : Net) (p : Phase) (outs : List Effect) → PhaseSo v p → frames.AllPlain part texts since n.sent asked v outs
+  quiet : (asked : Questions) (v : Net) (p : Phase) (outs : List Effect) → PhaseSo v p → frames.AllPlain New part texts since n.sent asked v outs
       → Goes asked v (record { state = p; outs = outs })
-  quiet asked v p outs h all = frames.went_quiet part texts since n.sent asked v PhaseSo p outs h all
+  quiet asked v p outs h all = frames.went_quiet New part texts since n.sent asked v PhaseSo p outs h all
 
   answers_so : (asked : Questions) (v : Net) (p : Phase) (number : ℕ) (a : Answer) → PhaseSo v p → Goes asked v (answers p number a)
   answers_so asked v p number a h = quiet asked v p (Answers number a ∷ []) h (tt, tt)
 
-  serves_so : (asked : Questions) (v : Net) (d : Done) → frames.Goes part texts since n.sent asked v d → Goes asked v (serves_on d)
+  serves_so : (asked : Questions) (v : Net) (d : Done) → frames.Goes New part texts since n.sent asked v d → Goes asked v (serves_on d)
   serves_so asked v d goes owed = (let w = goes owed in record {
     next = w.next;
     runs = w.runs;
@@ -125,10 +129,10 @@ module _ (part : ℕ) (texts : Texts) (n : Net) (small : part < 8) where
   -- ---- falls and restarts
 
   crash_plain : (asked : Questions) (v : Net) (l : Lasting) (number : ℕ)
-      → frames.AllPlain part texts since n.sent asked v (answers_unanswered l.items.unanswered answer.Cut ++ Answers number answer.Done ∷ [])
+      → frames.AllPlain New part texts since n.sent asked v (answers_unanswered l.items.unanswered answer.Cut ++ Answers number answer.Done ∷ [])
   crash_plain asked v l number =
-      all_both (frames.Plain part texts since n.sent asked v) (answers_unanswered l.items.unanswered answer.Cut) (Answers number answer.Done ∷ [])
-      (answers_plain part texts since n.sent asked v l.items.unanswered answer.Cut) (tt, tt)
+      all_both (frames.Plain New part texts since n.sent asked v) (answers_unanswered l.items.unanswered answer.Cut) (Answers number answer.Done ∷ [])
+      (answers_plain New part texts since n.sent asked v l.items.unanswered answer.Cut) (tt, tt)
 
   crashes_so : (asked : Questions) (v : Net) (l : Lasting) (number : ℕ) → CleanerRests part v → Goes asked v (crashes l number)
   unfolding crashes
@@ -136,10 +140,11 @@ module _ (part : ℕ) (texts : Texts) (n : Net) (small : part < 8) where
 
   serving_crashes : (asked : Questions) (v : Net) (e : Emptying) (number : ℕ) → At v e → Goes asked v (crashes e.lasting number)
   serving_crashes asked v e number h =
-      frames.went_after part texts since n.sent PhaseSo asked asked v (jobless part texts since n.sent v) (crashes e.lasting number) (On Begun (JobBegins 0))
-      (grows_jobless part texts since n.sent v) refl
+      frames.went_after New part texts since n.sent PhaseSo asked asked v (jobless New part texts since n.sent v) (crashes e.lasting number)
+      (On Begun (JobBegins 0))
+      (grows_jobless New part texts since n.sent v) refl
       (λ x is. is)
-      (crashes_so asked (jobless part texts since n.sent v) e.lasting number
+      (crashes_so asked (jobless New part texts since n.sent v) e.lasting number
       (record { fits = record { fit = h.seen.owner.feed.fit; short = h.seen.owner.feed.short }; job = told_nothing 0 part }))
 
   restarts_so : (asked : Questions) (v : Net) (servers : ℕ) (l : Lasting) (number : ℕ) → CleanerRests part v → Goes asked v (restarts servers l number)
@@ -173,16 +178,20 @@ module _ (part : ℕ) (texts : Texts) (n : Net) (small : part < 8) where
   sent_in : (v : Net) → v ≡ filing n v.filed → v.sent ≡ n.sent
   sent_in v is = ap (λ (x : Net). x.sent) is
 
-  opening_went : (asked : Questions) (owner : Owner) (w : Went)
-      → effects.Goes (IsMoved part n.sent) part texts n 9 since (log.ProgressSeen part n 9 since) n.filed (record { state = w.progress; outs = w.effects })
-      → AllByRecursion (MayDo owner) w.effects → frames.Goes_to part texts since n.sent Files asked n (record { state = w.progress; outs = w.effects })
-  opening_went asked owner w goes may owed =
+  -- what is filed there is moved
+  abbrev IsMovedThere : Type 0
+  IsMovedThere = (f : Filed) (s : Segment) → New f s → IsMoved part n.sent f s
+
+  opening_went : (moved : IsMovedThere) (asked : Questions) (owner : Owner) (w : Went)
+      → effects.Goes New part texts n 9 since (log.ProgressSeen part n 9 since) n.filed (record { state = w.progress; outs = w.effects })
+      → AllByRecursion (MayDo owner) w.effects → frames.Goes_to New part texts since n.sent Files asked n (record { state = w.progress; outs = w.effects })
+  opening_went moved asked owner w goes may owed =
       let m = filing n (filed_after texts 9 n.filed w.effects) in
       let k = goes owed.files in
       record {
         next = m;
-        runs = runs_after (IsMoved part n.sent) part texts (held_in part texts) n 9
-            (λ g name it. CleanerFiles (texts name) it.segment it.new) n.filed w.effects owed.files;
+        runs = runs_after New part texts (held_in part texts) n 9
+            (λ g name it. CleanerFiles (texts name) it.segment (moved g (texts name) it.new)) n.filed w.effects owed.files;
         grows = record {
           slots = refl;
           epoch = refl;
@@ -230,11 +239,12 @@ module _ (part : ℕ) (texts : Texts) (n : Net) (small : part < 8) where
           heard = λ x is. subst (λ xs. In x xs) (sym (sent_in v k.is)) is;
           seen = record { owner = owner; eight = eight; promised = refl; job = none_in v k.is };
         } in
-        frames.went_after part texts since n.sent PhaseSo asked asked v m (back l o) (On Begun (Promises epoch low (none_in v k.is))) grows refl (λ x is. is)
+        frames.went_after New part texts since n.sent PhaseSo asked asked v m (back l o) (On Begun (Promises epoch low (none_in v k.is))) grows refl
+        (λ x is. is)
         (quiet asked m (back l o).state (back l o).outs at
-        (all_both (frames.Plain part texts since n.sent asked m) (pushes_all o.promised.managers o.feed) _
-        (pushes_plain part texts since n.sent asked m o.promised.managers o.feed owner.feed)
-        (answers_plain part texts since n.sent asked m l.items.unanswered answer.Done)))
+        (all_both (frames.Plain New part texts since n.sent asked m) (pushes_all o.promised.managers o.feed) _
+        (pushes_plain New part texts since n.sent asked m o.promised.managers o.feed owner.feed)
+        (answers_plain New part texts since n.sent asked m l.items.unanswered answer.Done)))
 
     after_opening_so : (asked : Questions) (v : Net) (l : Lasting) (p : Progress) → Files v p → Newer (after_opening l p).state
         → Goes asked v (after_opening l p)
@@ -243,15 +253,15 @@ module _ (part : ℕ) (texts : Texts) (n : Net) (small : part < 8) where
     after_opening_so asked v l (progress.Opened o) k newer = back_so asked v l o k newer.0 newer.1
     after_opening_so asked v l (progress.Lost seg) k newer =
         quiet asked v (Down (record l { items = answered l.items })) (answers_unanswered l.items.unanswered (answer.Lost seg)) (rests_in v k.is k.seen)
-        (answers_plain part texts since n.sent asked v l.items.unanswered (answer.Lost seg))
+        (answers_plain New part texts since n.sent asked v l.items.unanswered (answer.Lost seg))
 
-    opened_on_so : (asked : Questions) (owner : Owner) (l : Lasting) (w : Went)
-        → effects.Goes (IsMoved part n.sent) part texts n 9 since (log.ProgressSeen part n 9 since) n.filed (record { state = w.progress; outs = w.effects })
+    opened_on_so : (moved : IsMovedThere) (asked : Questions) (owner : Owner) (l : Lasting) (w : Went)
+        → effects.Goes New part texts n 9 since (log.ProgressSeen part n 9 since) n.filed (record { state = w.progress; outs = w.effects })
         → AllByRecursion (MayDo owner) w.effects → Newer (opened_on l w).state → Goes asked n (opened_on l w)
-    opened_on_so asked owner l w goes may newer =
+    opened_on_so moved asked owner l w goes may newer =
         let m = record l { questions = w.questions } in
-        frames.went_through part texts since n.sent Files PhaseSo asked n (record { state = w.progress; outs = w.effects }) (after_opening m w.progress)
-        (opening_went asked owner w goes may) (λ x. after_opening_so x.questions x.next m w.progress x.at newer)
+        frames.went_through New part texts since n.sent Files PhaseSo asked n (record { state = w.progress; outs = w.effects }) (after_opening m w.progress)
+        (opening_went moved asked owner w goes may) (λ x. after_opening_so x.questions x.next m w.progress x.at newer)
 
   -- ---- the next item begins
 
@@ -270,7 +280,8 @@ module _ (part : ℕ) (texts : Texts) (n : Net) (small : part < 8) where
   serving_wish : (asked : Questions) (e : Emptying) (number : ℕ) (wish : Wish) → At n e → Goes asked n (serving_wishes e number wish)
   serving_wish asked e number Crash h = serving_crashes asked n e number h
   serving_wish asked e number Restart h = answers_so asked n (Serving e) number answer.Up h
-  serving_wish asked e number (Clean count) h = serves_so asked n (on_clean e number count) (clean_so part texts since n.sent small asked n e number count h)
+  serving_wish asked e number (Clean count) h = serves_so asked n (on_clean e number count)
+      (clean_so New part texts since n.sent small asked n e number count h)
 
   down_item : (asked : Questions) (servers : ℕ) (l : Lasting) (item : Option ℕ) → CleanerRests part n → Goes asked n (down_at servers l item)
   down_item asked servers l None h = quiet asked n (Down l) [] h tt
@@ -294,7 +305,13 @@ module _ (part : ℕ) (texts : Texts) (n : Net) (small : part < 8) where
 
   -- with what is in flight
   abbrev PhaseText : Phase → Type 0
-  PhaseText p = PhaseSo n p × WritesTexts part texts n p
+  PhaseText p = PhaseSo n p × (WritesTexts part texts n p × CleanerMoves part n.sent p)
+
+  -- in an opening what is filed is moved
+  abbrev OpensMoved : Phase → Type 0
+  OpensMoved (Opening l o) = IsMovedThere
+  OpensMoved (Down l) = Unit {0}
+  OpensMoved (Serving e) = Unit {0}
 
   abbrev Goes_on : Questions → Phase → Went_to → Type 0
   Goes_on asked p w = ReopensOn part texts n p w.state → Goes asked n w
@@ -315,74 +332,94 @@ module _ (part : ℕ) (texts : Texts) (n : Net) (small : part < 8) where
   gets_newer l o (Opening m x) gets = tt
   gets_newer l o (Serving e) gets = gets.1
 
-  opens_to : (asked : Questions) (owner : Owner) (l : Lasting) (o : openings.Opening) (w : Went) → PhaseSo n (Opening l o)
-      → log.WentSo (IsMoved part n.sent) part texts n 9 since n.filed o.stage w → AllByRecursion (MayDo owner) w.effects
+  opens_to : (moved : IsMovedThere) (asked : Questions) (owner : Owner) (l : Lasting) (o : openings.Opening) (w : Went) → PhaseSo n (Opening l o)
+      → log.WentSo New part texts n 9 since n.filed o.stage w → AllByRecursion (MayDo owner) w.effects
       → Goes_on asked (Opening l o) (opened_on l w)
-  opens_to asked owner l o w h goes may gets =
-      opened_on_so h.0.job asked owner l w (goes (gets_end l o (record l { questions = w.questions }) w.progress gets)) may
+  opens_to moved asked owner l o w h goes may gets =
+      opened_on_so h.0.job moved asked owner l w (goes (gets_end l o (record l { questions = w.questions }) w.progress gets)) may
       (gets_newer l o (opened_on l w).state gets)
 
-  hears_so : (asked : Questions) (p : Phase) (packet : Sent) → PhaseText p → PacketGets part n p packet → Goes_on asked p (hears p packet)
+  hears_so : (asked : Questions) (p : Phase) (packet : Sent) → OpensMoved p → PhaseText p → PacketGets part n p packet → Goes_on asked p (hears p packet)
   unfolding hears
-  hears_so asked (Down l) packet h gets = λ reopens. quiet asked n (Down l) [] h.0 tt
-  hears_so asked (Opening l o) packet h gets =
-      opens_to asked o.known.owner l o (opening.on_packet o l.questions packet) h.0
-      (events.packet_goes (IsMoved part n.sent) part texts n 9 since n.filed (omega arith) h.0.0.fits o.stage o l.questions packet h.0.1 (is_stage o.stage h.1))
+  hears_so asked (Down l) packet moved h gets = λ reopens. quiet asked n (Down l) [] h.0 tt
+  hears_so asked (Opening l o) packet moved h gets =
+      opens_to moved asked o.known.owner l o (opening.on_packet o l.questions packet) h.0
+      (events.packet_goes New part texts n 9 since n.filed (omega arith) h.0.0.fits o.stage o l.questions packet h.0.1 (is_stage o.stage h.1.0))
       (behaving.packet_so o l.questions packet).does
-  hears_so asked (Serving e) packet h gets = λ reopens. serves_so asked n (on_packet e packet)
-      (serving.packet_so part texts since n.sent small asked n e h.0 h.1 packet gets)
+  hears_so asked (Serving e) packet moved h gets = λ reopens. serves_so asked n (on_packet e packet)
+      (serving.packet_so New part texts since n.sent small asked n e h.0 (h.1.0, h.1.1.0.flight) packet gets)
 
-  delivers_so : (asked : Questions) (peers : Peers) (p : Phase) (packet : Sent) → PhaseText p → PacketGets part n p packet
+  delivers_so : (asked : Questions) (peers : Peers) (p : Phase) (packet : Sent) → OpensMoved p → PhaseText p → PacketGets part n p packet
       → Goes_on asked p (on_deliver peers p packet)
   unfolding on_deliver
-  delivers_so asked peers p packet h gets =
-      by_test (Goes_on asked p) (is_well_formed peers packet) (hears p packet) (still p) (λ _. hears_so asked p packet h gets)
+  delivers_so asked peers p packet moved h gets =
+      by_test (Goes_on asked p) (is_well_formed peers packet) (hears p packet) (still p) (λ _. hears_so asked p packet moved h gets)
       (λ _ reopens. quiet asked n p [] h.0 tt)
 
-  time_so : (asked : Questions) (p : Phase) → PhaseText p → Goes_on asked p (on_time p)
+  time_so : (asked : Questions) (p : Phase) → OpensMoved p → PhaseText p → Goes_on asked p (on_time p)
   unfolding on_time
-  time_so asked (Down l) h = λ reopens. quiet asked n (Down l) [] h.0 tt
-  time_so asked (Opening l o) h =
-      opens_to asked o.known.owner l o (opening.on_tick o l.questions) h.0
-      (events.tick_goes (IsMoved part n.sent) part texts n 9 since n.filed (omega arith) h.0.0.fits o.stage o l.questions h.0.1 (is_stage o.stage h.1))
+  time_so asked (Down l) moved h = λ reopens. quiet asked n (Down l) [] h.0 tt
+  time_so asked (Opening l o) moved h =
+      opens_to moved asked o.known.owner l o (opening.on_tick o l.questions) h.0
+      (events.tick_goes New part texts n 9 since n.filed (omega arith) h.0.0.fits o.stage o l.questions h.0.1 (is_stage o.stage h.1.0))
       (behaving.tick_so o l.questions).does
-  time_so asked (Serving e) h = λ reopens. serves_so asked n (on_tick e) (serving.time_so part texts since n.sent small asked n e h.0 h.1)
+  time_so asked (Serving e) moved h = λ reopens. serves_so asked n (on_tick e)
+      (serving.time_so New part texts since n.sent small asked n e h.0 (h.1.0, h.1.1.0.flight))
 
-  happens_so : (asked : Questions) (peers : Peers) (p : Phase) (what : Do) → PhaseText p → EventGets part n p what → Goes_on asked p (happens peers p what)
-  happens_so asked peers p Begin h gets = λ reopens. begin_so asked peers.servers p h.0
-  happens_so asked peers p (Deliver packet) h gets = delivers_so asked peers p packet h gets
-  happens_so asked peers p Tick h gets = time_so asked p h
+  happens_so : (asked : Questions) (peers : Peers) (p : Phase) (what : Do) → OpensMoved p → PhaseText p → EventGets part n p what
+      → Goes_on asked p (happens peers p what)
+  happens_so asked peers p Begin moved h gets = λ reopens. begin_so asked peers.servers p h.0
+  happens_so asked peers p (Deliver packet) moved h gets = delivers_so asked peers p packet moved h gets.0
+  happens_so asked peers p Tick moved h gets = time_so asked p moved h
 
-  takes_so : (asked : Questions) (peers : Peers) (p : Phase) (what : Do) → PhaseText p → EventGets part n p what → Goes_on asked p (takes peers p what)
-  takes_so asked peers p what h gets =
-      by_test (Goes_on asked p) (phase_room p) (happens peers p what) (still p) (λ _. happens_so asked peers p what h gets)
+  takes_so : (asked : Questions) (peers : Peers) (p : Phase) (what : Do) → OpensMoved p → PhaseText p → EventGets part n p what
+      → Goes_on asked p (takes peers p what)
+  takes_so asked peers p what moved h gets =
+      by_test (Goes_on asked p) (phase_room p) (happens peers p what) (still p) (λ _. happens_so asked peers p what moved h gets)
       (λ _ reopens. quiet asked n p [] h.0 tt)
 
   -- ---- what it is there
 
-  stands : (p : Phase) → CleanerAgrees part n texts p → PhaseText p
-  stands (Down l) h = (h, tt)
-  stands (Opening l o) h = ((h.0, h.1.0), h.1.1)
-  stands (Serving e) h = (record { late = omega arith; heard = λ x is. is; seen = h.0 }, h.1)
+  stands : (p : Phase) → PhaseAgrees part n texts p → CleanerMoves part n.sent p → PhaseText p
+  stands (Down l) h moves = (h, (tt, moves))
+  stands (Opening l o) h moves = ((h.0, h.1.0), (h.1.1, moves))
+  stands (Serving e) h moves = (record { late = omega arith; heard = λ x is. is; seen = h.0 }, (h.1, moves))
 
-  agrees : (v : Net) (p : Phase) → PhaseSo v p → WritesTexts part texts n p → CleanerAgrees part v texts p
+  agrees : (v : Net) (p : Phase) → PhaseSo v p → WritesTexts part texts n p → PhaseAgrees part v texts p
   agrees v (Down l) h text = h
   agrees v (Opening l o) h text = (h.0, (h.1, text))
   agrees v (Serving e) h text = (h.seen, text)
 
+-- what is asked of an opening is asked of it
+opens_moved : (part : ℕ) (texts : Texts) (n : Net) (small : part < 8) (p : Phase) → OpensMoved (NewFor part texts n p) part texts n small p
+opens_moved part texts n small (Down l) = tt
+opens_moved part texts n small (Opening l o) = λ f s new. new
+opens_moved part texts n small (Serving e) = tt
+
+answers_come : (part : ℕ) (n : Net) (p : Phase) (what : Do) → EventGets part n p what → DoAnswers part n.sent what
+answers_come part n p Begin gets = tt
+answers_come part n p (Deliver packet) gets = gets.1
+answers_come part n p Tick gets = tt
+
 pub cleaner_event_goes : CleanerEventGoes
 cleaner_event_goes part texts asked n cleaner what small agreed owed =
     let w = takes cleaner.peers cleaner.phase what in
-    let k = takes_so part texts n small asked cleaner.peers cleaner.phase what (stands part texts n small cleaner.phase agreed) owed.gets owed.reopens
+    let new = NewFor part texts n cleaner.phase in
+    let k = takes_so new part texts n small asked cleaner.peers cleaner.phase what (opens_moved part texts n small cleaner.phase)
+    (stands new part texts n small cleaner.phase agreed.phase agreed.moves) owed.gets owed.reopens
     (record { files = owed.files; asks = owed.asks }) in
     record {
       next = k.next;
       runs = k.runs;
-      agrees = agrees part texts n small k.next w.state k.at owed.writes;
+      agrees = record {
+        phase = agrees new part texts n small k.next w.state k.at owed.writes;
+        moves = moves_later part n.sent k.next.sent k.grows.sent w.state
+            (cleaner_moves_answered part n.sent cleaner what agreed.moves (answers_come part n cleaner.phase what owed.gets));
+      };
       filed = k.filed;
       more = k.grows.filed;
       others = λ l other. subst (IsSameLog l n.filed) (sym k.filed) (others_after texts 9 l other n.filed w.outs);
-      named = λ are. subst (λ f. AreTexts texts f) (sym k.filed) (texts_after (IsMoved part n.sent) texts 9 n.filed w.outs owed.files are);
+      named = λ are. subst (λ f. AreTexts texts f) (sym k.filed) (texts_after new texts 9 n.filed w.outs owed.files are);
       slots = k.grows.slots;
       epoch = k.grows.epoch;
       horizon = k.grows.horizon;

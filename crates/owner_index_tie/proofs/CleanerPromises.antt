@@ -1,4 +1,5 @@
 -- What the cleaner promises is promised in the small world, by its job where it has one.
+use Rattle.segment_format.specs.declared.segment.Segment.{Segment}
 use Rattle.std.proofs.Common.{◌≡◌, ◌≤◌, ◌<◌, ◌==◌, ℕ, Bool, true, false, List, [], ◌∷◌, inl, inr, Option, Some, None, length, nat_lt, refl, sym, ap, subst, ◌∙◌, arith}
 use Rattle.std.proofs.lemmas.Bool.{eqb-true}
 use Rattle.std.proofs.lemmas.Bool.Decides.{nat_tests}
@@ -36,12 +37,12 @@ use Rattle.owner_index_tie.proofs.Feeds.{same_owner}
 use Rattle.owner_index_tie.proofs.Frames.{more_itself}
 use Rattle.owner_index_tie.proofs.Standing as Standing
 
-module _ (part : ℕ) (texts : Texts) (since : ℕ) (answered : List Packet) (small : part < 8) where
+module _ (New : Filed → Segment → Type 0) (part : ℕ) (texts : Texts) (since : ℕ) (answered : List Packet) (small : part < 8) where
   abbrev At : Net → Emptying → Type 0
-  At n e = Stands part texts since answered n e.log e.feed e.promised e.job
+  At n e = Stands New part texts since answered n e.log e.feed e.promised e.job
 
   abbrev Goes : Questions → Net → Done → Type 0
-  Goes asked n d = frames.Goes part texts since answered asked n d
+  Goes asked n d = frames.Goes New part texts since answered asked n d
 
   -- the owner, in a small world where the same is filed
   same_files : (n m : Net) (e : Emptying) → m.filed ≡ n.filed → OwnerSeen part n 9 9 e.log e.feed → OwnerSeen part m 9 9 e.log e.feed
@@ -69,7 +70,7 @@ module _ (part : ℕ) (texts : Texts) (since : ℕ) (answered : List Packet) (sm
       pub promised : m.promised ≡ epoch
       pub job : JobAgrees part m epoch o
 
-    kept_at : (m : Net) (o : Option Job) → HasPromised m o → Stands part texts since answered m e.log e.feed kept.promised o
+    kept_at : (m : Net) (o : Option Job) → HasPromised m o → Stands New part texts since answered m e.log e.feed kept.promised o
     kept_at m o k = record {
       late = let a = h.late in let b = ap (λ (f : Filed). f.head 9) k.filed in omega arith;
       heard = λ x is. k.grows.sent x (h.heard x is);
@@ -86,9 +87,9 @@ module _ (part : ℕ) (texts : Texts) (since : ℕ) (answered : List Packet) (sm
     Up v s = At v s × (epoch ≤ v.promised)
 
     ups : (m : Net) (d : Done) → Grows n m → m.promised ≡ epoch → Runs part (held_in part texts) n m → m.filed ≡ n.filed → Goes asked m d
-        → frames.Goes_to part texts since answered Up asked n d
+        → frames.Goes_to New part texts since answered Up asked n d
     ups m d grows is runs same goes =
-        frames.went_after part texts since answered Up asked asked n m d runs grows same (λ x there. there)
+        frames.went_after New part texts since answered Up asked asked n m d runs grows same (λ x there. there)
         (λ owed. let w = goes owed in record {
           next = w.next;
           runs = w.runs;
@@ -163,24 +164,24 @@ module _ (part : ℕ) (texts : Texts) (since : ℕ) (answered : List Packet) (sm
         };
       })
 
-    pub of_slot : frames.Goes_to part texts since answered Up asked n (cleans kept (input.Promise part epoch))
+    pub of_slot : frames.Goes_to New part texts since answered Up asked n (cleans kept (input.Promise part epoch))
     unfolding cleans job_takes
     of_slot = by e.job refl
       where
         by : (o : Option Job) → e.job ≡ o
-            → frames.Goes_to part texts since answered Up asked n
+            → frames.Goes_to New part texts since answered Up asked n
             (steps says (takes_in kept o (input.Promise part epoch)).state (takes_in kept o (input.Promise part epoch)).outs)
         by None same =
             let k = promised_alone same in
             ups alone (still kept) k.grows k.promised k.runs k.filed
-            (frames.quiet part texts since answered asked alone kept []
-            (subst (Stands part texts since answered alone e.log e.feed kept.promised) (sym same) (kept_at alone None k)) tt)
+            (frames.quiet New part texts since answered asked alone kept []
+            (subst (Stands New part texts since answered alone e.log e.feed kept.promised) (sym same) (kept_at alone None k)) tt)
         by (Some j) same =
             let k = promised_told j same in
             let m = told j same in
-            let r = jobs.rejobbed part texts since answered kept j (d j same) in
+            let r = jobs.rejobbed New part texts since answered kept j (d j same) in
             ups m (steps says r (d j same).outs) k.grows k.promised k.runs k.filed
-            (all_said part texts since answered asked m r (d j same).outs (jobs.said_known n (d j same)) (kept_at m r.job k))
+            (all_said New part texts since answered asked m r (d j same).outs (jobs.said_known n (d j same)) (kept_at m r.job k))
 
     -- ---- a Report of it
 
@@ -210,7 +211,7 @@ module _ (part : ℕ) (texts : Texts) (since : ℕ) (answered : List Packet) (sm
       abbrev report : Effect
       report = Send (Manager manager) (body.Report (record { slot = part; epoch = epoch; held = []; end = kept.log.end }))
 
-      report_plain : (m : Net) (o : Option Job) → HasPromised m o → frames.Plain part texts since answered asked (reporting m) report
+      report_plain : (m : Net) (o : Option Job) → HasPromised m o → frames.Plain New part texts since answered asked (reporting m) report
       report_plain m o k =
           let v = reporting m in
           let at = kept_at v o (reported m o k) in
@@ -223,29 +224,29 @@ module _ (part : ℕ) (texts : Texts) (since : ℕ) (answered : List Packet) (sm
                 (ap (λ (f : Filed). f.head 9) k.filed ∙ sym h.seen.owner.end.seq))),
           )
 
-      pub of_poll : frames.Goes_to part texts since answered Up asked n (after (report ∷ []) (cleans kept (input.Promise part epoch)))
+      pub of_poll : frames.Goes_to New part texts since answered Up asked n (after (report ∷ []) (cleans kept (input.Promise part epoch)))
       unfolding cleans job_takes
       of_poll = by e.job refl
         where
           by : (o : Option Job) → e.job ≡ o
-              → frames.Goes_to part texts since answered Up asked n
+              → frames.Goes_to New part texts since answered Up asked n
               (after (report ∷ []) (steps says (takes_in kept o (input.Promise part epoch)).state (takes_in kept o (input.Promise part epoch)).outs))
           by None same =
               let k = reported alone None (promised_alone same) in
               let v = reporting alone in
               ups v (after (report ∷ []) (still kept)) k.grows k.promised k.runs k.filed
-              (frames.quiet part texts since answered asked v kept (report ∷ [])
-              (subst (Stands part texts since answered v e.log e.feed kept.promised) (sym same) (kept_at v None k))
+              (frames.quiet New part texts since answered asked v kept (report ∷ [])
+              (subst (Stands New part texts since answered v e.log e.feed kept.promised) (sym same) (kept_at v None k))
               (report_plain alone None (promised_alone same), tt))
           by (Some j) same =
               let p = promised_told j same in
               let m = told j same in
-              let r = jobs.rejobbed part texts since answered kept j (d j same) in
+              let r = jobs.rejobbed New part texts since answered kept j (d j same) in
               let k = reported m r.job p in
               let v = reporting m in
               ups v (after (report ∷ []) (steps says r (d j same).outs)) k.grows k.promised k.runs k.filed
-              (frames.went_behind part texts since answered asked v (report ∷ []) (steps says r (d j same).outs) (report_plain m r.job p, tt)
-              (all_said part texts since answered asked v r (d j same).outs (jobs.said_known n (d j same)) (kept_at v r.job k)))
+              (frames.went_behind New part texts since answered asked v (report ∷ []) (steps says r (d j same).outs) (report_plain m r.job p, tt)
+              (all_said New part texts since answered asked v r (d j same).outs (jobs.said_known n (d j same)) (kept_at v r.job k)))
 
   -- ---- an epoch of another slot
 
@@ -268,7 +269,7 @@ module _ (part : ℕ) (texts : Texts) (since : ℕ) (answered : List Packet) (sm
       };
     }
 
-    may_promise : jobs.May part texts since answered n others (input.Promise slot epoch)
+    may_promise : jobs.May New part texts since answered n others (input.Promise slot epoch)
     may_promise j same =
         let k = subst (JobAgrees part n (epoch_of others.promised part)) same still_at.seen.job in
         let is = promise_is j.cleaning slot epoch in
@@ -283,7 +284,7 @@ module _ (part : ℕ) (texts : Texts) (since : ℕ) (answered : List Packet) (sm
         }
 
     of_other : Goes asked n (cleans others (input.Promise slot epoch))
-    of_other = jobs.cleans_so part texts since answered asked n others (input.Promise slot epoch) still_at may_promise
+    of_other = jobs.cleans_so New part texts since answered asked n others (input.Promise slot epoch) still_at may_promise
 
   -- ---- any slot
 
@@ -305,7 +306,7 @@ module _ (part : ℕ) (texts : Texts) (since : ℕ) (answered : List Packet) (sm
   UpTo slot epoch v s = At v s × (slot ≡ part → epoch ≤ v.promised)
 
   pub weaker : {P Q : Net → Emptying → Type 0} → ((v : Net) (s : Emptying) → P v s → Q v s) → (asked : Questions) (n : Net) (d : Done)
-      → frames.Goes_to part texts since answered P asked n d → frames.Goes_to part texts since answered Q asked n d
+      → frames.Goes_to New part texts since answered P asked n d → frames.Goes_to New part texts since answered Q asked n d
   weaker to asked n d goes owed = (let w = goes owed in record {
     next = w.next;
     runs = w.runs;
@@ -325,14 +326,14 @@ module _ (part : ℕ) (texts : Texts) (since : ℕ) (answered : List Packet) (sm
     at_other is same = let s = same in grind (arith, nat_tests, s, is)
 
     any_slot : (e : Emptying) → At n e → (slot ≡ part → epoch_of e.promised part ≤ epoch)
-        → frames.Goes_to part texts since answered (UpTo slot epoch) asked n
+        → frames.Goes_to New part texts since answered (UpTo slot epoch) asked n
         (cleans (record e { promised = promised_to e.promised slot epoch manager }) (input.Promise slot epoch))
     any_slot e h low = by (slot == part) refl
       where
         by : (t : Bool) → (slot == part) ≡ t
-            → frames.Goes_to part texts since answered (UpTo slot epoch) asked n
+            → frames.Goes_to New part texts since answered (UpTo slot epoch) asked n
             (cleans (record e { promised = promised_to e.promised slot epoch manager }) (input.Promise slot epoch))
-        by true is = subst (λ k. frames.Goes_to part texts since answered (UpTo k epoch) asked n
+        by true is = subst (λ k. frames.Goes_to New part texts since answered (UpTo k epoch) asked n
             (cleans (record e { promised = promised_to e.promised k epoch manager }) (input.Promise k epoch)))
             (sym (at_slot is))
             (weaker (λ v s u. (u.0, λ same. u.1)) asked n
@@ -344,10 +345,10 @@ module _ (part : ℕ) (texts : Texts) (since : ℕ) (answered : List Packet) (sm
 
     -- a slot is promised to an epoch of a manager
     pub promised_so : (e : Emptying) → At n e → (slot ≡ part → epoch_of e.promised part ≤ epoch)
-        → frames.Goes_to part texts since answered (UpTo slot epoch) asked n (cleans (promises e slot epoch manager) (input.Promise slot epoch))
+        → frames.Goes_to New part texts since answered (UpTo slot epoch) asked n (cleans (promises e slot epoch manager) (input.Promise slot epoch))
     unfolding promises
     promised_so e h low =
-        by_test (λ (r : Emptying). frames.Goes_to part texts since answered (UpTo slot epoch) asked n
+        by_test (λ (r : Emptying). frames.Goes_to New part texts since answered (UpTo slot epoch) asked n
         (cleans (record r { promised = promised_to r.promised slot epoch manager }) (input.Promise slot epoch)))
         (nat_lt (epoch_of e.promised slot) epoch) (record e { feed = new_epoch e.feed slot }) e
         (λ _. any_slot (record e { feed = new_epoch e.feed slot }) (refed n e slot h) low) (λ _. any_slot e h low)
@@ -356,7 +357,7 @@ module _ (part : ℕ) (texts : Texts) (since : ℕ) (answered : List Packet) (sm
     abbrev its_report : Emptying → Effect
     its_report e = Send (Manager manager) (body.Report (record { slot = slot; epoch = epoch; held = []; end = e.log.end }))
 
-    other_report : (e : Emptying) → At n e → (slot ≡ part → ⊥) → frames.Plain part texts since answered asked n (its_report e)
+    other_report : (e : Emptying) → At n e → (slot ≡ part → ⊥) → frames.Plain New part texts since answered asked n (its_report e)
     other_report e h other =
         let s : Standing.Stands part n 9 since n.filed 9 e.log e.feed = record { late = h.late; seen = h.seen.owner } in
         ((λ inside. absurd (other inside), Standing.end_told part n 9 since n.filed 9 e.log e.feed s), λ inside. absurd (other inside))
@@ -372,7 +373,7 @@ module _ (part : ℕ) (texts : Texts) (since : ℕ) (answered : List Packet) (sm
             (after (Send (Manager manager) (body.Report (record { slot = k; epoch = epoch; held = []; end = e.log.end })) ∷ [])
             (cleans (record e { promised = promised_to e.promised k epoch manager }) (input.Promise k epoch)))) (sym (at_slot is))
             (weaker (λ v s u. u.0) asked n _ (of_poll asked n e h epoch manager (low (at_slot is)) (linked (at_slot is))))
-        by false is = frames.went_behind part texts since answered asked n (its_report e ∷ [])
+        by false is = frames.went_behind New part texts since answered asked n (its_report e ∷ [])
             (cleans (record e { promised = promised_to e.promised slot epoch manager }) (input.Promise slot epoch))
             (other_report e h (at_other is), tt) (of_other asked n e h slot epoch manager (at_other is))
 

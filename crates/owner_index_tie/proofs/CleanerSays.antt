@@ -1,4 +1,6 @@
 -- What a job says has the cleaner do: it asks, puts what is live into its log, and has dropped segments deleted; the job that is over is gone.
+use Rattle.index_tie.specs.Filed.{Filed}
+use Rattle.segment_format.specs.declared.segment.Segment.{Segment}
 use Rattle.std.proofs.Common.{◌≡◌, ◌==◌, ℕ, zero, suc, Bool, true, false, List, [], ◌∷◌, Option, Some, None, inl, inr, refl, sym, ap, subst, ◌∙◌, arith}
 use Rattle.std.specs.List.{AllByRecursion, flat_map}
 use Rattle.std.proofs.lemmas.Bool.{eqb-true}
@@ -77,30 +79,30 @@ pub known_later : (n m : Net) → Grows n m → (o : Out) → Known n.deleted o 
 known_later n m g (out.Delete server name) k = g.deleted name k
 known_later n m g _ k = k
 
-module _ (part : ℕ) (texts : Texts) (since : ℕ) (answered : List Packet) where
+module _ (New : Filed → Segment → Type 0) (part : ℕ) (texts : Texts) (since : ℕ) (answered : List Packet) where
   abbrev At : Net → Emptying → Type 0
-  At n e = Stands part texts since answered n e.log e.feed e.promised e.job
+  At n e = Stands New part texts since answered n e.log e.feed e.promised e.job
 
   abbrev Goes : Questions → Net → Done → Type 0
-  Goes asked n d = frames.Goes part texts since answered asked n d
+  Goes asked n d = frames.Goes New part texts since answered asked n d
 
   abbrev AllPlain : Questions → Net → List Effect → Type 0
-  AllPlain asked n outs = frames.AllPlain part texts since answered asked n outs
+  AllPlain asked n outs = frames.AllPlain New part texts since answered asked n outs
 
   quiet : (asked : Questions) (n : Net) (e : Emptying) (outs : List Effect) → At n e → AllPlain asked n outs → Goes asked n (record { state = e; outs = outs })
-  quiet asked n e outs h all = frames.quiet part texts since answered asked n e outs h all
+  quiet asked n e outs h all = frames.quiet New part texts since answered asked n e outs h all
 
   -- another job that is the small world's too
   pub rejobbed : (n : Net) (s : LogState) (f : FeedState) (p : Promised) (o later : Option Job)
       → (JobAgrees part n (epoch_of p part) o → JobAgrees part n (epoch_of p part) later)
-      → Stands part texts since answered n s f p o → Stands part texts since answered n s f p later
+      → Stands New part texts since answered n s f p o → Stands New part texts since answered n s f p later
   rejobbed n s f p o later to h =
       record { late = h.late; heard = h.heard; seen = record { owner = h.seen.owner; eight = h.seen.eight; promised = h.seen.promised; job = to h.seen.job } }
 
   -- another state of the log, with the same end
   pub relogged : (n : Net) (s later : LogState) (f : FeedState) (p : Promised) (o : Option Job) → LogNext 9 later → later.end ≡ s.end
-      → Stands part texts since answered n s f p o
-      → Stands part texts since answered n later f p o
+      → Stands New part texts since answered n s f p o
+      → Stands New part texts since answered n later f p o
   relogged n s later f p o next same h = record {
     late = h.late;
     heard = h.heard;
@@ -153,7 +155,7 @@ module _ (part : ℕ) (texts : Texts) (since : ℕ) (answered : List Packet) whe
     where
       by : (r : Option ReadingState) → AllPlain asked n (fetches_for hand.seg.name r)
       by None = tt
-      by (Some r) = all_map (frames.Plain part texts since answered asked n) (fetch hand.seg.name r.ask) (λ server. tt) (to_ask r)
+      by (Some r) = all_map (frames.Plain New part texts since answered asked n) (fetch hand.seg.name r.ask) (λ server. tt) (to_ask r)
 
   reads_so : (asked : Questions) (n : Net) (e : Emptying) (seg : SegRef) → At n e → Goes asked n (reads e seg)
   unfolding reads holds
@@ -182,7 +184,7 @@ module _ (part : ℕ) (texts : Texts) (since : ℕ) (answered : List Packet) whe
       of_other : (slot_of block.ino.0 == part) ≡ false → slot_of block.ino.0 ≡ part → ⊥
       of_other is inside = let i = inside in grind (arith, nat_tests, i, is)
 
-      asked_there : (may : MayAsk part n c) → frames.Went part texts since answered asked n At e (check_sent e block place (Some ask)).outs
+      asked_there : (may : MayAsk part n c) → frames.Went New part texts since answered asked n At e (check_sent e block place (Some ask)).outs
       asked_there may =
           let j = subst (JobAgrees part n (epoch_of e.promised part)) same h.seen.job in
           let told : promised_at n.job.promised part ≡ n.promised = ap (λ (x : CleaningState). promised_at x.promised part) j.is ∙ j.told
@@ -204,13 +206,13 @@ module _ (part : ℕ) (texts : Texts) (since : ℕ) (answered : List Packet) whe
             filed = refl;
             questions = (ask, n.number, place.seg.name) ∷ asked;
             kept = λ x is. inr is;
-            at = frames.moved_on part texts since answered n (with_packet n p) e.log e.feed e.promised e.job
+            at = frames.moved_on New part texts since answered n (with_packet n p) e.log e.feed e.promised e.job
                 (record { head = refl; segment = λ q some most. refl }) refl refl
                 (λ x is. inr is) h;
             says = (λ inside. record { number = n.number; below = may.epoch; sent = inl refl; question = inl refl }, tt);
           }
 
-      by : (t : Bool) → (slot_of block.ino.0 == part) ≡ t → frames.Went part texts since answered asked n At e (check_sent e block place (Some ask)).outs
+      by : (t : Bool) → (slot_of block.ino.0 == part) ≡ t → frames.Went New part texts since answered asked n At e (check_sent e block place (Some ask)).outs
       by true is = asked_there (owed.asks.0 (of_slot is))
       by false is = quiet asked n e (check_sent e block place (Some ask)).outs h ((λ inside. absurd (of_other is inside)), tt) owed
 
@@ -255,8 +257,8 @@ module _ (part : ℕ) (texts : Texts) (since : ℕ) (answered : List Packet) whe
   unfolding moves
   moves_so asked n e blocks h =
       let d = steps puts_block e blocks in
-      frames.went_on part texts since answered asked n d (puts d.state log_in.Seal)
-      (frames.went_steps part texts since answered puts_block put_so asked n e blocks h) (λ w. seal_so w.questions w.next d.state w.at)
+      frames.went_on New part texts since answered asked n d (puts d.state log_in.Seal)
+      (frames.went_steps New part texts since answered puts_block put_so asked n e blocks h) (λ w. seal_so w.questions w.next d.state w.at)
 
   -- ---- its deletes, and its end
 
@@ -267,7 +269,7 @@ module _ (part : ℕ) (texts : Texts) (since : ℕ) (answered : List Packet) whe
       quiet asked n (deletes e (Some job) server name).state (deletes e (Some job) server name).outs
       (rejobbed n e.log e.feed e.promised e.job (deletes e (Some job) server name).state.job
       (λ k. subst (JobAgrees part n (epoch_of e.promised part)) same k) h)
-      (all_both (frames.Plain part texts since answered asked n) (drops (is_whole job.hand) name)
+      (all_both (frames.Plain New part texts since answered asked n) (drops (is_whole job.hand) name)
       (Send (Server server) (body.Delete (record { name = name })) ∷ [])
       (by_test (AllPlain asked n) (is_whole job.hand) (Does (Dropped name) ∷ []) [] (λ _. (dead, tt)) (λ _. tt)) (dead, tt))
 
@@ -294,7 +296,7 @@ module _ (part : ℕ) (texts : Texts) (since : ℕ) (answered : List Packet) whe
   finishes_so : (asked : Questions) (n : Net) (e : Emptying) (count : ℕ) → At n e → Goes asked n (finishes e count)
   finishes_so asked n e count h =
       let m = jobless n in
-      frames.went_after part texts since answered At asked asked n m (finishes e count) (On Begun (JobBegins 0)) (grows_jobless n) refl (λ x is. is)
+      frames.went_after New part texts since answered At asked asked n m (finishes e count) (On Begun (JobBegins 0)) (grows_jobless n) refl (λ x is. is)
       (quiet asked m (finishes e count).state (finishes e count).outs
       (record {
         late = h.late;
@@ -325,6 +327,6 @@ module _ (part : ℕ) (texts : Texts) (since : ℕ) (answered : List Packet) whe
       → Goes asked n (steps says e outs)
   all_said asked n e [] known h = quiet asked n e [] h tt
   all_said asked n e (o ∷ outs) known h =
-      frames.went_on part texts since answered asked n (says e o) (steps says (says e o).state outs) (one_said asked n e o known.0 h)
+      frames.went_on New part texts since answered asked n (says e o) (steps says (says e o).state outs) (one_said asked n e o known.0 h)
       (λ w. all_said w.questions w.next (says e o).state outs
       (all_weaker (Known n.deleted) (Known w.next.deleted) (known_later n w.next w.grows) outs known.1) w.at)

@@ -8,10 +8,11 @@ use Rattle.node_index_tie.specs.Sight.{Texts}
 use Rattle.node_index_tie.proofs.Moves.{some_none}
 use Rattle.stripe_cleaner.specs.CleaningState.{CleaningState}
 use Rattle.stripe_cleaner.specs.Promises.{promised_at}
-use Rattle.owner_index_tie.specs.CleanerEvents.{CleanerRests, CleanerAgrees, CleanerStartAgrees, LeavesCleaner, CleanerStays}
+use Rattle.owner_index_tie.specs.CleanerEvents.{CleanerRests, PhaseAgrees, CleanerStartAgrees, LeavesCleaner, CleanerStays}
 use Rattle.owner_index_tie.proofs.CleanerFrames.{same_job}
 use Rattle.owner_index_tie.proofs.CleanerSays.{told_nothing}
 use Rattle.owner_index_tie.proofs.Feeds.{same_owner, same_fits}
+use Rattle.owner_index_tie.proofs.Moving.{cleaner_starts_moving, moves_later}
 use Rattle.owner_index_tie.proofs.Start.{nothing_fits}
 use Rattle.owner_index_tie.proofs.Turns.{none_next}
 
@@ -28,33 +29,36 @@ first_epoch managers (suc (suc (suc (suc (suc (suc (suc zero))))))) h = refl
 first_epoch managers (suc (suc (suc (suc (suc (suc (suc (suc k)))))))) h = absurd (omega arith)
 
 pub cleaner_start_agrees : CleanerStartAgrees
-cleaner_start_agrees part texts any setup works small = (
-  record {
-    owner = record {
-      number_is = refl;
-      log = none_next 9 _ refl refl;
-      end = record { seq = refl; pass = λ some. absurd (omega arith) };
-      feed = record {
-        base = 0;
-        inputs = [];
-        is = refl;
-        fed = record { known = omega arith; end = refl; each = refl };
-        fit = nothing_fits any 9;
-        short = omega arith;
+cleaner_start_agrees part texts any setup works small = record {
+  phase = (
+    record {
+      owner = record {
+        number_is = refl;
+        log = none_next 9 _ refl refl;
+        end = record { seq = refl; pass = λ some. absurd (omega arith) };
+        feed = record {
+          base = 0;
+          inputs = [];
+          is = refl;
+          fed = record { known = omega arith; end = refl; each = refl };
+          fit = nothing_fits any 9;
+          short = omega arith;
+        };
       };
-    };
-    eight = refl;
-    promised = first_epoch setup.managers part small;
-    job = told_nothing 0 part;
-  },
-  λ f is. absurd (some_none f (sym is)),
-)
+      eight = refl;
+      promised = first_epoch setup.managers part small;
+      job = told_nothing 0 part;
+    },
+    λ f is. absurd (some_none f (sym is)),
+  );
+  moves = cleaner_starts_moving part [] setup works;
+}
 
 module _ (part : ℕ) (texts : Texts) (n m : Net) (same : LeavesCleaner n m) where
   same_rests : CleanerRests part n → CleanerRests part m
   same_rests h = record { fits = same_fits part n m 9 same.log h.fits; job = ap (λ (x : CleaningState). promised_at x.promised part) same.job ∙ h.job }
 
-  same_cleaner : (p : Phase) → CleanerAgrees part n texts p → CleanerAgrees part m texts p
+  same_cleaner : (p : Phase) → PhaseAgrees part n texts p → PhaseAgrees part m texts p
   same_cleaner (Down l) h = same_rests h
   same_cleaner (Opening l o) h = (same_rests h.0, h.1)
   same_cleaner (Serving e) h = (
@@ -68,4 +72,4 @@ module _ (part : ℕ) (texts : Texts) (n m : Net) (same : LeavesCleaner n m) whe
   )
 
 pub cleaner_stays : CleanerStays
-cleaner_stays part texts n m p same h = same_cleaner part texts n m same p h
+cleaner_stays part texts n m p same h = record { phase = same_cleaner part texts n m same p h.phase; moves = moves_later part n.sent m.sent same.sent p h.moves }

@@ -15,7 +15,10 @@ use Rattle.client_log.specs.Transition.{Done, all_sends, launched, next_name, pr
 use Rattle.delta_index.specs.Entries.{no_entry, first_greatest, is_newer}
 use Rattle.delta_index.specs.Join.{entries_of}
 use Rattle.group_map.specs.GroupMapState.{GroupMapState}
-use Rattle.index_tie.specs.Net.{Packet}
+use Rattle.index_tie.specs.Growth.{said_of}
+use Rattle.index_tie.specs.Net.{Packet, IsMove}
+use Rattle.node_index_tie.specs.Pages.{FlightIsText}
+use Rattle.node_index_tie.specs.Sight.{Texts}
 use Rattle.indexmap.specs.IndexMap.{insert_entry}
 use Rattle.node_index_tie.proofs.Moves.{all_both, some_none}
 use Rattle.segment_format.specs.declared.segment.Item.{Item}
@@ -25,7 +28,7 @@ use Rattle.segment_format.specs.Rows.{place_of, row_of, rows_of}
 use Rattle.segment_format.specs.Rule.{no_item}
 use Rattle.xfs_base.proofs.BlockOrder.{same_block_exact}
 use Rattle.xfs_base.proofs.Booleans.{by_test}
-use Rattle.xfs_base.specs.Blocks.{same_block}
+use Rattle.xfs_base.specs.Blocks.{same_block, slot_of}
 use Rattle.xfs_base.specs.declared.block.BlockId.{BlockId}
 use Rattle.xfs_base.specs.declared.entry.Entry.{Entry}
 use Rattle.xfs_base.specs.declared.segment.Prior.{Prior}
@@ -210,8 +213,16 @@ module _ (part : ℕ) (sent : List Packet) where
       one true = all.0
       one false = h
 
-pub flights_are_moves : FlightsAreMoves
-flights_are_moves part sent s f h is b inside some =
-    let k = greatest_moves part sent b no_entry (entries_of b (rows_of f.segment)) (λ none. absurd (omega arith))
-    (entries_move part sent f.segment b f.segment.items (h.flight f is)) some in
+-- what a segment whose items are moves says of each block of the slot was answered Live, and is moved once
+pub segment_moves : (part : ℕ) (sent : List Packet) (s : Segment) → AllByRecursion (ItemMoves part sent) s.items → (b : BlockId) → slot_of b.ino.0 ≡ part
+    → 0 < (said_of s b).ver → IsMove b sent s
+segment_moves part sent s all b inside some =
+    let k = greatest_moves part sent b no_entry (entries_of b (rows_of s)) (λ none. absurd (omega arith)) (entries_move part sent s b s.items all) some in
     record { entry = k.entry; answered = k.answered inside; version = k.version; hop = k.hop }
+
+-- what is in flight is the text of its name, and is moved
+abbrev pub FlightKnown : ℕ → Texts → List Packet → LogState → Type 0
+FlightKnown part texts sent s = FlightIsText texts s × ((f : FlightState) → s.flight ≡ Some f → AllByRecursion (ItemMoves part sent) f.segment.items)
+
+pub flights_are_moves : FlightsAreMoves
+flights_are_moves part sent s f h is b inside some = segment_moves part sent f.segment (h.flight f is) b inside some

@@ -8,6 +8,20 @@ use Rattle.cleaner_node.specs.declared.emptying.Emptying.{Emptying}
 use Rattle.cleaner_node.specs.declared.lasting.Lasting.{Lasting}
 use Rattle.cleaner_node.specs.CleanerEvents.{Went_to, crashes, after_opening, restarts, down_wishes, opening_wishes, serving_wishes, wish_at, begun_life, down_at, opening_at, serving_at, on_begin, hears, on_deliver, on_time, happens, phase_room}
 use Rattle.index_tie.specs.Net.{Packet}
+use Rattle.log_protocol.specs.Tables.{In}
+use Rattle.cleaner_node.specs.declared.job.Job.{Job}
+use Rattle.client_log.specs.declared.dirty.Change.{Change}
+use Rattle.client_log.specs.LogState.{LogState}
+use Rattle.log_owner.specs.declared.opening.Stage.{Stage}
+use Rattle.log_owner.specs.declared.opening.Stage.TheVariants as stage
+use Rattle.segment_format.specs.declared.segment.Item.{Item}
+use Rattle.segment_format.specs.declared.segment.Item.TheVariants.{Block, Delta, Part}
+use Rattle.stripe_cleaner.specs.declared.checks.Fate.{Fate}
+use Rattle.stripe_cleaner.specs.declared.checks.Fate.TheVariants.{Live}
+use Rattle.stripe_cleaner.specs.declared.phase.Phase as phases
+use Rattle.stripe_cleaner.specs.declared.phase.Phase.TheVariants.{Checking}
+use Rattle.xfs_base.specs.declared.block.BlockId.{BlockId}
+use Rattle.xfs_base.specs.declared.entry.Entry.{Entry}
 use Rattle.log_owner.specs.declared.opened.Progress.{Progress}
 use Rattle.log_owner.specs.declared.opened.Progress.TheVariants as progress
 use Rattle.log_owner.specs.declared.opening.Opening as openings
@@ -15,13 +29,13 @@ use Rattle.log_owner.specs.Opening as opening
 use Rattle.node_base.specs.Beginning.{next_item}
 use Rattle.node_base.specs.declared.peers.Peers.{Peers}
 use Rattle.node_base.specs.Shape.{is_well_formed}
-use Rattle.node_index_tie.proofs.Moves.{some_none}
+use Rattle.node_index_tie.proofs.Moves.{some_none, all_weaker}
 use Rattle.wire_msg.specs.declared.packet.Do.{Do}
 use Rattle.wire_msg.specs.declared.packet.Do.TheVariants.{Begin, Deliver, Tick}
 use Rattle.wire_msg.specs.declared.packet.Packet as packets
 use Rattle.xfs_base.proofs.Booleans.{by_test}
 use Rattle.xfs_base.specs.Steps.{still}
-use Rattle.owner_index_tie.specs.CleanerMoves.{StageMoves, CleanerMoves, BodyAnswers, DoAnswers, CleanerStartsMoving, CleanerMovesAnswered}
+use Rattle.owner_index_tie.specs.CleanerMoves.{IsMovedOnce, ItemMoves, LogMoves, FateMoves, CheckMoves, PhaseMoves, JobMoves, StageMoves, CleanerMoves, BodyAnswers, DoAnswers, CleanerStartsMoving, CleanerMovesAnswered}
 use Rattle.owner_index_tie.proofs.MovesOpening as opens
 use Rattle.owner_index_tie.proofs.MovesServing as serving
 
@@ -110,3 +124,42 @@ cleaner_moves_answered part sent cleaner what h live =
 
 pub cleaner_starts_moving : CleanerStartsMoving
 cleaner_starts_moving part sent setup works = (record { dirty = tt; flight = λ f is. absurd (some_none f (sym is)) }, tt)
+
+-- ---- more is answered
+
+module _ (part : ℕ) (sent more : List Packet) (grows : (x : Packet) → In x sent → In x more) where
+  once_later : (b : BlockId) (e : Entry) → IsMovedOnce part sent b e → IsMovedOnce part more b e
+  once_later b e k = record { entry = k.entry; answered = λ inside. grows _ (k.answered inside); version = k.version; hop = k.hop }
+
+  item_later : (i : Item) → ItemMoves part sent i → ItemMoves part more i
+  item_later (Block block value) k = tt
+  item_later (Delta block ver hop item) k = once_later block (record { ver = ver; hop = hop; place = None }) k
+  item_later (Part slot rows) k = tt
+
+  log_later : (s : LogState) → LogMoves part sent s → LogMoves part more s
+  log_later s h = record {
+    dirty = all_weaker (λ (c : BlockId × Change). IsMovedOnce part sent c.0 c.1.entry) (λ (c : BlockId × Change). IsMovedOnce part more c.0 c.1.entry)
+        (λ c k. once_later c.0 c.1.entry k) s.dirty h.dirty;
+    flight = λ f is. all_weaker (ItemMoves part sent) (ItemMoves part more) item_later f.segment.items (h.flight f is);
+  }
+
+  fate_later : (block : BlockId) (f : Fate) → FateMoves part sent block f → FateMoves part more block f
+  fate_later block (Live e value) k = once_later block e k
+  fate_later block _ k = tt
+
+  phase_later : (p : phases.Phase) → PhaseMoves part sent p → PhaseMoves part more p
+  phase_later (Checking j segment checks) h = all_weaker (CheckMoves part sent) (CheckMoves part more) (λ c k. fate_later c.block c.fate k) checks h
+  phase_later _ h = tt
+
+  job_later : (o : Option Job) → JobMoves part sent o → JobMoves part more o
+  job_later None h = tt
+  job_later (Some j) h = phase_later j.cleaning.phase h
+
+  stage_later : (x : Stage) → StageMoves part sent x → StageMoves part more x
+  stage_later (stage.Scanning s) h = tt
+  stage_later (stage.Settling s) h = log_later s.log h
+
+  pub moves_later : (p : Phase) → CleanerMoves part sent p → CleanerMoves part more p
+  moves_later (Down l) h = tt
+  moves_later (Opening l o) h = stage_later o.stage h
+  moves_later (Serving e) h = (log_later e.log h.0, job_later e.job h.1)

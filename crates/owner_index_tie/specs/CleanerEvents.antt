@@ -46,6 +46,7 @@ use Rattle.xfs_base.specs.declared.block.BlockId.{BlockId}
 use Rattle.xfs_base.specs.declared.node.NodeId.{NodeId}
 use Rattle.xfs_base.specs.declared.segment.SegName.{SegName}
 use Rattle.xfs_base.specs.declared.setup.Setup.{Setup}
+use Rattle.owner_index_tie.specs.CleanerMoves.{CleanerMoves, BodyAnswers}
 use Rattle.owner_index_tie.specs.Filing.{filed_after, FilesOwed, IsSameLog}
 use Rattle.owner_index_tie.specs.Owners.{LogFits, OwnerSeen, OpeningSeen, StageWrites, EndOwed, OwnerSays}
 
@@ -75,10 +76,15 @@ module _ (part : ℕ) (n : Net) where
     pub fits : LogFits part n 9
     pub job : promised_at n.job.promised part ≡ 0
 
-  abbrev pub CleanerAgrees : Texts → Phase → Type 0
-  CleanerAgrees texts (Down l) = CleanerRests
-  CleanerAgrees texts (Opening l o) = CleanerRests × (OpeningSeen 9 o × StageWrites texts o.stage)
-  CleanerAgrees texts (Serving e) = EmptyingSeen e.log e.feed e.promised e.job × FlightIsText texts e.log
+  abbrev pub PhaseAgrees : Texts → Phase → Type 0
+  PhaseAgrees texts (Down l) = CleanerRests
+  PhaseAgrees texts (Opening l o) = CleanerRests × (OpeningSeen 9 o × StageWrites texts o.stage)
+  PhaseAgrees texts (Serving e) = EmptyingSeen e.log e.feed e.promised e.job × FlightIsText texts e.log
+
+  -- and what it has in its log, and is to move, was answered Live there
+  pub record CleanerAgrees (texts : Texts) (p : Phase) : Type 0 where
+    pub phase : PhaseAgrees texts p
+    pub moves : CleanerMoves part n.sent p
 
 -- ---- what the world owes an event
 
@@ -137,7 +143,7 @@ module _ (part : ℕ) (n : Net) where
   PacketGets (Down l) packet = Unit {0}
 
   abbrev pub EventGets : Phase → Do → Type 0
-  EventGets p (Deliver packet) = PacketGets p packet
+  EventGets p (Deliver packet) = PacketGets p packet × BodyAnswers part n.sent packet.body
   EventGets p Begin = Unit {0}
   EventGets p Tick = Unit {0}
 
@@ -152,10 +158,16 @@ module _ (part : ℕ) (texts : Texts) (n : Net) where
   WritesTexts (Opening l o) = StageWrites texts o.stage
   WritesTexts (Serving e) = FlightIsText texts e.log
 
-  -- The world owes the cleaner that what it files is what was answered Live, moved once; that it may ask what it asks; that answers are to its questions, and
+  -- what is new of what it files: what a reopening adopts was answered Live, and moved once; what one that serves files is shown to be
+  abbrev pub NewFor : Phase → Filed → Segment → Type 0
+  NewFor (Opening l o) f s = IsMoved part n.sent f s
+  NewFor (Down l) f s = Unit {0}
+  NewFor (Serving e) f s = Unit {0}
+
+  -- The world owes the cleaner that what a reopening adopts was answered Live, and moved once; that it may ask what it asks; that answers are to its questions, and
   -- what is read is what was filed; and the rest as it owes a client.
   pub record CleanerOwed (p : Phase) (what : Do) (w : Went_to) : Type 0 where
-    pub files : FilesOwed (IsMoved part n.sent) texts 9 n.filed w.outs
+    pub files : FilesOwed (NewFor p) texts 9 n.filed w.outs
     pub asks : AllByRecursion (EffectOwed part n) w.outs
     pub reopens : ReopensOn p w.state
     pub gets : EventGets part n p what
@@ -220,6 +232,7 @@ pub record LeavesCleaner (n m : Net) : Type 0 where
   pub log : IsSameLog 9 n.filed m.filed
   pub promised : m.promised ≡ n.promised
   pub job : m.job ≡ n.job
+  pub sent : (x : Packet) → In x n.sent → In x m.sent
 
 abbrev pub CleanerStays : Type 0
 CleanerStays = (part : ℕ) (texts : Texts) (n m : Net) (p : Phase) → LeavesCleaner n m → CleanerAgrees part n texts p → CleanerAgrees part m texts p

@@ -2,5 +2,5 @@ pub mod Filing
 pub mod Owners
 pub mod ClientEvents
 pub mod ServerEvents
-pub mod CleanerEvents
 pub mod CleanerMoves
+pub mod CleanerEvents

@@ -24,13 +24,13 @@ pub fn client_index_events_are_seen()
     ensures others { ClientsStay }
 {}
 
-/// What an event makes of the cleaner is a run of the small world, if what it acts to be filed was answered Live, moved once, if it may ask what
-/// it asks, and if answers and what it reads are of the segment in hand.
+/// What an event makes of the cleaner is a run of the small world, if what a reopening of its log adopts was answered Live and moved once, if it
+/// may ask what it asks, and if answers and what it reads are of the segment in hand.
 ///
 /// - `start`: the cleaner at its start is seen in the opening of the small world.
 /// - `events`: a cleaner that is seen there before an event is seen after it in a world to which that one runs on: by what its log files, by what
-///   it promises and reports, by its job, and by its Checks. What it tells of its log, its Reports and its Checks are so there, and each segment
-///   that it drops, and has deleted, was to be deleted there.
+///   it promises and reports, by its job, and by its Checks. What it tells of its log, its Reports and its Checks are so there, what it files was
+///   answered Live there and is moved once, and each segment that it drops, and has deleted, was to be deleted there.
 /// - `others`: what others do leaves the cleaner seen, where what is filed of its log, and what it has there, stay as they are.
 pub fn cleaner_index_events_are_seen()
     ensures start { CleanerStartAgrees }
