@@ -1,9 +1,8 @@
--- What each event makes of the cleaner: a run of the small world, after which it is seen there.
+-- What each event makes of the cleaner, in each of its phases.
 use Rattle.index_tie.specs.Filed.{Filed}
 use Rattle.segment_format.specs.declared.segment.Segment.{Segment}
 use Rattle.std.proofs.Common.{◌≡◌, ◌≤◌, ◌<◌, ℕ, List, [], ◌∷◌, ◌++◌, Option, Some, None, length, refl, sym, ap, subst, ◌∙◌, arith}
 use Rattle.std.specs.List.{AllByRecursion}
-use Rattle.std.proofs.lemmas.List.Elements.{All-from_recursion}
 use Rattle.cleaner_node.specs.declared.cleaner.Phase.{Phase}
 use Rattle.cleaner_node.specs.declared.cleaner.Phase.TheVariants.{Down, Opening, Serving}
 use Rattle.cleaner_node.specs.declared.cleaner.Wish.{Wish}
@@ -34,7 +33,7 @@ use Rattle.node_base.specs.declared.effects.Effect.{Effect}
 use Rattle.node_base.specs.declared.effects.Effect.TheVariants.{Send, Answer as Answers, Lose, Does}
 use Rattle.node_base.specs.declared.peers.Peers.{Peers}
 use Rattle.node_base.specs.Shape.{is_well_formed}
-use Rattle.node_index_tie.specs.Sight.{Texts, Questions, held_in, AreTexts}
+use Rattle.node_index_tie.specs.Sight.{Texts, Questions, held_in}
 use Rattle.log_protocol.specs.Tables.{In}
 use Rattle.stripe_cleaner.specs.CleaningState.{CleaningState}
 use Rattle.stripe_cleaner.specs.Promises.{promised_at}
@@ -51,9 +50,9 @@ use Rattle.wire_msg.specs.declared.packet.Packet.{Packet as Sent}
 use Rattle.xfs_base.proofs.Booleans.{by_test}
 use Rattle.xfs_base.specs.declared.node.NodeId.{NodeId}
 use Rattle.xfs_base.specs.Steps.{still}
-use Rattle.owner_index_tie.specs.CleanerEvents.{CleanerRests, PhaseAgrees, NewFor, IsMoved, CleanerSays, CleanerActs, CleanerDoes, EventGets, PacketGets, ReopensOn, WritesTexts, CleanerEventGoes}
-use Rattle.owner_index_tie.specs.CleanerMoves.{CleanerMoves, DoAnswers}
-use Rattle.owner_index_tie.specs.Filing.{IsSameLog, filing, filed_after}
+use Rattle.owner_index_tie.specs.CleanerEvents.{CleanerRests, PhaseAgrees, IsMoved, CleanerSays, CleanerActs, CleanerDoes, EventGets, PacketGets, ReopensOn, WritesTexts}
+use Rattle.owner_index_tie.specs.CleanerMoves.{CleanerMoves}
+use Rattle.owner_index_tie.specs.Filing.{filing, filed_after}
 use Rattle.owner_index_tie.specs.Owners.{LogFits, OpeningSeen, StageWrites}
 use Rattle.owner_index_tie.proofs.CleanerBegins.{clean_so}
 use Rattle.owner_index_tie.proofs.CleanerFrames as frames
@@ -63,10 +62,9 @@ use Rattle.owner_index_tie.proofs.CleanerSays.{told_nothing, jobless, grows_jobl
 use Rattle.owner_index_tie.proofs.CleanerServing as serving
 use Rattle.owner_index_tie.proofs.Feeds.{same_owner, same_fits}
 use Rattle.owner_index_tie.proofs.Frames as effects
-use Rattle.owner_index_tie.proofs.Moving.{cleaner_moves_answered, moves_later}
 use Rattle.owner_index_tie.proofs.OpeningLog as log
 use Rattle.owner_index_tie.proofs.Openings as events
-use Rattle.owner_index_tie.proofs.Running.{texts_after, others_after, runs_after}
+use Rattle.owner_index_tie.proofs.Running.{runs_after}
 
 -- ---- what an opening does
 
@@ -99,7 +97,7 @@ module _ (New : Filed → Segment → Type 0) (part : ℕ) (texts : Texts) (n : 
   At v e = Stands New part texts since n.sent v e.log e.feed e.promised e.job
 
   -- the cleaner, as it is seen then; that what is in flight is the text of its name is apart
-  abbrev PhaseSo : Net → Phase → Type 0
+  abbrev pub PhaseSo : Net → Phase → Type 0
   PhaseSo v (Down l) = CleanerRests part v
   PhaseSo v (Opening l o) = CleanerRests part v × OpeningSeen 9 o
   PhaseSo v (Serving e) = At v e
@@ -179,7 +177,7 @@ module _ (New : Filed → Segment → Type 0) (part : ℕ) (texts : Texts) (n : 
   sent_in v is = ap (λ (x : Net). x.sent) is
 
   -- what is filed there is moved
-  abbrev IsMovedThere : Type 0
+  abbrev pub IsMovedThere : Type 0
   IsMovedThere = (f : Filed) (s : Segment) → New f s → IsMoved part n.sent f s
 
   opening_went : (moved : IsMovedThere) (asked : Questions) (owner : Owner) (w : Went)
@@ -304,16 +302,16 @@ module _ (New : Filed → Segment → Type 0) (part : ℕ) (texts : Texts) (n : 
   -- ---- packets and time
 
   -- with what is in flight
-  abbrev PhaseText : Phase → Type 0
+  abbrev pub PhaseText : Phase → Type 0
   PhaseText p = PhaseSo n p × (WritesTexts part texts n p × CleanerMoves part n.sent p)
 
   -- in an opening what is filed is moved
-  abbrev OpensMoved : Phase → Type 0
+  abbrev pub OpensMoved : Phase → Type 0
   OpensMoved (Opening l o) = IsMovedThere
   OpensMoved (Down l) = Unit {0}
   OpensMoved (Serving e) = Unit {0}
 
-  abbrev Goes_on : Questions → Phase → Went_to → Type 0
+  abbrev pub Goes_on : Questions → Phase → Went_to → Type 0
   Goes_on asked p w = ReopensOn part texts n p w.state → Goes asked n w
 
   is_stage : (x : Stage) → StageWrites texts x → log.IsStage texts 9 n.filed x x
@@ -372,7 +370,7 @@ module _ (New : Filed → Segment → Type 0) (part : ℕ) (texts : Texts) (n : 
   happens_so asked peers p (Deliver packet) moved h gets = delivers_so asked peers p packet moved h gets.0
   happens_so asked peers p Tick moved h gets = time_so asked p moved h
 
-  takes_so : (asked : Questions) (peers : Peers) (p : Phase) (what : Do) → OpensMoved p → PhaseText p → EventGets part n p what
+  pub takes_so : (asked : Questions) (peers : Peers) (p : Phase) (what : Do) → OpensMoved p → PhaseText p → EventGets part n p what
       → Goes_on asked p (takes peers p what)
   takes_so asked peers p what moved h gets =
       by_test (Goes_on asked p) (phase_room p) (happens peers p what) (still p) (λ _. happens_so asked peers p what moved h gets)
@@ -380,54 +378,12 @@ module _ (New : Filed → Segment → Type 0) (part : ℕ) (texts : Texts) (n : 
 
   -- ---- what it is there
 
-  stands : (p : Phase) → PhaseAgrees part n texts p → CleanerMoves part n.sent p → PhaseText p
+  pub stands : (p : Phase) → PhaseAgrees part n texts p → CleanerMoves part n.sent p → PhaseText p
   stands (Down l) h moves = (h, (tt, moves))
   stands (Opening l o) h moves = ((h.0, h.1.0), (h.1.1, moves))
   stands (Serving e) h moves = (record { late = omega arith; heard = λ x is. is; seen = h.0 }, (h.1, moves))
 
-  agrees : (v : Net) (p : Phase) → PhaseSo v p → WritesTexts part texts n p → PhaseAgrees part v texts p
+  pub agrees : (v : Net) (p : Phase) → PhaseSo v p → WritesTexts part texts n p → PhaseAgrees part v texts p
   agrees v (Down l) h text = h
   agrees v (Opening l o) h text = (h.0, (h.1, text))
   agrees v (Serving e) h text = (h.seen, text)
-
--- what is asked of an opening is asked of it
-opens_moved : (part : ℕ) (texts : Texts) (n : Net) (small : part < 8) (p : Phase) → OpensMoved (NewFor part texts n p) part texts n small p
-opens_moved part texts n small (Down l) = tt
-opens_moved part texts n small (Opening l o) = λ f s new. new
-opens_moved part texts n small (Serving e) = tt
-
-answers_come : (part : ℕ) (n : Net) (p : Phase) (what : Do) → EventGets part n p what → DoAnswers part n.sent what
-answers_come part n p Begin gets = tt
-answers_come part n p (Deliver packet) gets = gets.1
-answers_come part n p Tick gets = tt
-
-pub cleaner_event_goes : CleanerEventGoes
-cleaner_event_goes part texts asked n cleaner what small agreed owed =
-    let w = takes cleaner.peers cleaner.phase what in
-    let new = NewFor part texts n cleaner.phase in
-    let k = takes_so new part texts n small asked cleaner.peers cleaner.phase what (opens_moved part texts n small cleaner.phase)
-    (stands new part texts n small cleaner.phase agreed.phase agreed.moves) owed.gets owed.reopens
-    (record { files = owed.files; asks = owed.asks }) in
-    record {
-      next = k.next;
-      runs = k.runs;
-      agrees = record {
-        phase = agrees new part texts n small k.next w.state k.at owed.writes;
-        moves = moves_later part n.sent k.next.sent k.grows.sent w.state
-            (cleaner_moves_answered part n.sent cleaner what agreed.moves (answers_come part n cleaner.phase what owed.gets));
-      };
-      filed = k.filed;
-      more = k.grows.filed;
-      others = λ l other. subst (IsSameLog l n.filed) (sym k.filed) (others_after texts 9 l other n.filed w.outs);
-      named = λ are. subst (λ f. AreTexts texts f) (sym k.filed) (texts_after new texts 9 n.filed w.outs owed.files are);
-      slots = k.grows.slots;
-      epoch = k.grows.epoch;
-      horizon = k.grows.horizon;
-      parts = k.grows.parts;
-      promised = k.grows.promised;
-      sent = k.grows.sent;
-      deleted = k.grows.deleted;
-      questions = k.questions;
-      kept = k.kept;
-      does = All-from_recursion (CleanerDoes part k.questions k.next (n.filed.head 9)) w.outs k.says;
-    }

@@ -28,6 +28,7 @@ pub mod CleanerNews
 pub mod CleanerBegins
 pub mod CleanerServing
 pub mod CleanerPhases
+pub mod CleanerEvents
 pub mod CleanerStart
 pub mod MovesLog
 pub mod MovesJob
