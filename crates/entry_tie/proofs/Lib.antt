@@ -1,0 +1,26 @@
+pub mod Frames
+pub mod Rising
+pub mod ClientTokens
+mod Feeds
+mod LogTurns
+mod ServingTokens
+mod ServingLog
+mod ServingCalls
+mod ServingPackets
+mod Openings
+pub mod ClientPhases
+mod Leaving
+pub mod Rows
+pub mod Slots
+mod Taking
+mod SlotPhases
+mod Tables
+mod LogParts
+mod Checkpointing
+mod ManagerServing
+pub mod Managers
+pub mod CleanerChecks
+mod CleanerFlights
+mod CleanerJobs
+mod CleanerServing
+pub mod CleanerPhases

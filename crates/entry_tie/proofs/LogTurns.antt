@@ -1,0 +1,163 @@
+-- What an input makes of a log: it tells of no end, or it tells first that the segment that was in flight is settled.
+use Rattle.std.proofs.Common.{◌≡◌, ◌⊎◌, ℕ, ◌+◌, true, false, cond, ◌&&◌, List, [], ◌∷◌, ◌++◌, Option, Some, None, refl, sym, ap, inl, inr, nat_lt, ◌∙◌}
+use Rattle.std.specs.Prelude.{length, drop, take}
+use Rattle.std.specs.List.{AllByRecursion}
+use Rattle.xfs_base.specs.declared.block.BlockId.{BlockId}
+use Rattle.xfs_base.specs.declared.segment.Prior.{Prior}
+use Rattle.xfs_base.specs.declared.segment.SegName.{SegName}
+use Rattle.xfs_base.specs.Limits.{segment_blocks}
+use Rattle.xfs_base.specs.Steps.{still}
+use Rattle.xfs_base.proofs.Booleans.{by_test}
+use Rattle.segment_format.specs.declared.segment.Item.{Item}
+use Rattle.segment_format.specs.declared.segment.Segment.{Segment}
+use Rattle.segment_format.specs.Rows.{rows_of}
+use Rattle.group_map.specs.declared.group.Member.{Member}
+use Rattle.group_map.specs.GroupMapState.{GroupMapState}
+use Rattle.client_log.specs.declared.dirty.Change.{Change}
+use Rattle.client_log.specs.declared.flight.Fate.{Fate}
+use Rattle.client_log.specs.declared.flight.Fate.TheVariants.{Restripe, Settle, Wait}
+use Rattle.client_log.specs.declared.input.In.{In as Input}
+use Rattle.client_log.specs.declared.input.In.TheVariants.{Put, Parts, Seal, Acked, Maps, Tick}
+use Rattle.client_log.specs.declared.output.Out.{Out}
+use Rattle.client_log.specs.declared.output.Out.TheVariants.{Send, Settled}
+use Rattle.client_log.specs.Fate.{fate_of}
+use Rattle.client_log.specs.Fragments.{piece}
+use Rattle.client_log.specs.Items.{items_of}
+use Rattle.client_log.specs.LogState.{FlightState, LogState, is_noted}
+use Rattle.client_log.specs.Texts.{has_text}
+use Rattle.client_log.specs.Transition.{Done, sends, all_sends, group_for, flown, launched, next_name, prior_from, writes, has_next, is_idle, is_full, can_go_on, sealed, if_full, waits, on_put, on_seal, on_parts, next_attempt, restriped, end_from, landed, settled, can_follow, followed, looked_at, is_of, noting, on_acked, on_maps, on_tick, transition}
+
+abbrev pub IsSend : Out → Type 0
+IsSend (Send fragment member) = Unit {0}
+IsSend (Settled end rows) = ⊥
+
+-- only fragments are sent
+abbrev pub Rests : Done → Type 0
+Rests d = AllByRecursion IsSend d.outs
+
+-- the segment that was in flight is told to be settled, first of all
+pub record Lands (was : Option FlightState) (d : Done) : Type 0 where
+  pub flight : FlightState
+  pub is : was ≡ Some flight
+  pub rest : List Out
+  pub outs : d.outs ≡ Settled (end_from flight.segment) (rows_of flight.segment) ∷ rest
+  pub sends : AllByRecursion IsSend rest
+
+abbrev pub Turns : Option FlightState → Done → Type 0
+Turns was d = Rests d ⊎ Lands was d
+
+-- ---- sending
+
+all_are : (f : FlightState) (ms : List Member) (place : ℕ) → AllByRecursion IsSend (sends f ms place)
+all_are f [] place = tt
+all_are f (m ∷ ms) place =
+    elim (is_noted f.noted place) as (λ b. AllByRecursion IsSend (cond b [] (Send (piece f.segment f.group place) m ∷ []) ++ sends f ms (place + 1))) [
+      | true ↦ all_are f ms (place + 1)
+      | false ↦ (tt, all_are f ms (place + 1))
+    ]
+
+all_sent : (f : FlightState) → AllByRecursion IsSend (all_sends f)
+unfolding all_sends
+all_sent f = all_are f f.group.members 0
+
+-- ---- a segment begins
+
+still_rests : (s : LogState) → Rests (still s)
+still_rests s = tt
+
+launched_rests : (s : LogState) (name : SegName) (prior : Prior) (items : List Item) → Rests (launched s name prior items)
+unfolding launched
+launched_rests s name prior items = all_sent (flown name prior items (group_for s.groups s.log.0 name.seq))
+
+sealed_rests : (s : LogState) → Rests (sealed s)
+unfolding sealed
+sealed_rests s =
+    launched_rests (record s { dirty = drop segment_blocks s.dirty }) (next_name (record s { dirty = drop segment_blocks s.dirty })) (prior_from s.end)
+    (items_of 0 (take segment_blocks s.dirty))
+
+if_full_rests : (s : LogState) → Rests (if_full s)
+unfolding if_full
+if_full_rests s = by_test (Rests) (is_full s) (sealed s) (still s) (λ t. sealed_rests s) (λ t. still_rests s)
+
+pub put_rests : (s : LogState) (block : BlockId) (change : Change) → Rests (on_put s block change)
+unfolding on_put
+put_rests s block change =
+    by_test (Rests) (can_go_on (waits s block change)) (if_full (waits s block change)) (still s) (λ t. if_full_rests (waits s block change))
+    (λ t. still_rests s)
+
+pub seal_rests : (s : LogState) → Rests (on_seal s)
+unfolding on_seal
+seal_rests s =
+    by_test (Rests) (is_idle s && nat_lt 0 (length s.dirty) && has_next s.end.seq) (sealed s) (still s) (λ t. sealed_rests s) (λ t. still_rests s)
+
+pub parts_rest : (s : LogState) (items : List Item) → Rests (on_parts s items)
+unfolding on_parts
+parts_rest s items =
+    by_test (Rests) (is_idle s && has_next s.end.seq && has_text items) (writes s items) (still s)
+    (λ t. launched_rests s (next_name s) (prior_from s.end) items) (λ t. still_rests s)
+
+-- ---- a segment is settled
+
+abbrev segment_in : FlightState → Option FlightState → Segment
+segment_in other None = other.segment
+segment_in other (Some f) = f.segment
+
+settled_lands : (s : LogState) (f : FlightState) → Lands (Some f) (settled s f)
+unfolding settled
+settled_lands s f = record { flight = f; is = refl; rest = (if_full (landed s f)).outs; outs = refl; sends = if_full_rests (landed s f) }
+
+-- what is told of a flight does not depend on what is noted of it
+noted_lands : (f g : FlightState) (d : Done) → g.segment ≡ f.segment → Lands (Some g) d → Lands (Some f) d
+noted_lands f g d same h = record {
+  flight = f;
+  is = refl;
+  rest = h.rest;
+  outs = h.outs ∙ ap (λ (x : Segment). Settled (end_from x) (rows_of x) ∷ h.rest) (sym (ap (λ (o : Option FlightState). segment_in g o) h.is) ∙ same);
+  sends = h.sends;
+}
+
+as_noted : (f g : FlightState) (d : Done) → g.segment ≡ f.segment → Turns (Some g) d → Turns (Some f) d
+as_noted f g d same (inl rests) = inl rests
+as_noted f g d same (inr lands) = inr (noted_lands f g d same lands)
+
+follows_on : (s : LogState) (f : FlightState) (fate : Fate) → Turns (Some f) (followed s f fate)
+unfolding restriped
+follows_on s f Restripe = inl (launched_rests s (next_attempt f.segment.name) f.segment.prior f.segment.items)
+follows_on s f Settle = inr (settled_lands s f)
+follows_on s f Wait = inl tt
+
+looks_on : (before s : LogState) (f : FlightState) → Turns (Some f) (looked_at before s f)
+unfolding looked_at
+looks_on before s f =
+    by_test (Turns (Some f)) (can_follow s f (fate_of s.groups f)) (followed s f (fate_of s.groups f)) (still before) (λ t. follows_on s f (fate_of s.groups f))
+    (λ t. inl tt)
+
+acked_turns : (s : LogState) (name : SegName) (index generation : ℕ) → Turns s.flight (on_acked s name index generation)
+unfolding on_acked
+acked_turns s name index generation =
+    elim s.flight as (λ o. Turns o (elim o [ None ↦ still s | Some f ↦ cond (is_of f name index generation) (looked_at s s (noting f index)) (still s) ])) [
+      | None ↦ inl tt
+      | Some f ↦ by_test (Turns (Some f)) (is_of f name index generation) (looked_at s s (noting f index)) (still s)
+          (λ t. as_noted f (noting f index) (looked_at s s (noting f index)) refl (looks_on s s (noting f index))) (λ t. inl tt)
+    ]
+
+maps_turn : (s : LogState) (groups : GroupMapState) → Turns s.flight (on_maps s groups)
+unfolding on_maps
+maps_turn s groups =
+    let t : LogState = record s { groups = groups } in
+    elim s.flight as (λ o. Turns o (elim o [ None ↦ still t | Some f ↦ looked_at s t f ])) [
+      | None ↦ inl tt
+      | Some f ↦ looks_on s t f
+    ]
+
+pub tick_rests : (s : LogState) → Rests (on_tick s)
+unfolding on_tick
+tick_rests s = elim s.flight as (λ o. Rests (elim o [ None ↦ still s | Some f ↦ record { state = s; outs = all_sends f } ])) [ None ↦ tt | Some f ↦ all_sent f ]
+
+pub log_turns : (s : LogState) (i : Input) → Turns s.flight (transition s i)
+log_turns s (Put block entry value) = inl (put_rests s block (record { entry = entry; value = value }))
+log_turns s (Parts items) = inl (parts_rest s items)
+log_turns s Seal = inl (seal_rests s)
+log_turns s (Acked name index generation) = acked_turns s name index generation
+log_turns s (Maps m) = maps_turn s m
+log_turns s Tick = inl (tick_rests s)

@@ -1,0 +1,4 @@
+pub mod Told
+pub mod ClientTells
+pub mod ManagerTells
+pub mod CleanerTells
