@@ -9,6 +9,7 @@ use Rattle.client_node.specs.declared.serving.Serving.{Serving}
 use Rattle.client_node.specs.Flights.{held_at}
 use Rattle.client_node.specs.Packets as packets
 use Rattle.client_node.specs.Phases.{client_step, Went_to, crashed, next_life, restarted, back, after_opening, opened_on, answers, begins_call, call_at, opens, serves_on, wish_of, down_begins, opening_begins, serving_begins, falls, lasting_of, begins_item, on_begin, on_deliver, on_time, delivers, happens, client_room, takes}
+use Rattle.client_node.specs.Reads.{reading_in}
 use Rattle.client_node.specs.Running.{goes_on}
 use Rattle.client_node.specs.Sends.{Done, gives}
 use Rattle.log_owner.specs.declared.opened.Opened.{Opened}
@@ -22,6 +23,8 @@ use Rattle.node_base.specs.Beginning.{next_item, begun, work_at, waiting, answer
 use Rattle.node_base.specs.declared.effects.Effect.TheVariants.{Answer as Answers}
 use Rattle.node_base.specs.declared.peers.Peers.{Peers}
 use Rattle.node_base.specs.Shape.{is_well_formed}
+use Rattle.stripe_code.specs.declared.target.BlockAt.{BlockAt}
+use Rattle.stripe_code.specs.Reading.{ReadingState}
 use Rattle.token_client.specs.declared.held.Fetch.{Fetch}
 use Rattle.version_model.specs.declared.act.Act.{Act}
 use Rattle.version_model.specs.declared.answer.Answer.{Answer}
@@ -34,11 +37,13 @@ use Rattle.wire_msg.specs.declared.packet.Packet.{Packet}
 use Rattle.xfs_base.proofs.Booleans.{by_test}
 use Rattle.xfs_base.specs.declared.block.BlockId.{BlockId}
 use Rattle.xfs_base.specs.declared.entry.Entry.{Entry}
+use Rattle.xfs_base.specs.declared.segment.SegRef.{SegRef}
 use Rattle.xfs_base.specs.declared.node.NodeId.TheVariants.{Client as AClient}
 use Rattle.xfs_base.specs.Steps.{still}
 use Rattle.filed_tie.proofs.Frames.{all_append, all_before, all_behind}
-use Rattle.entry_tie.specs.ClientTells.{FetchTold, DeltasTold, FeedTold, PhaseHolds, ClientHolds, PhaseOwed, ClientOwed, ClientStartsTold, ClientHoldsRise, ClientsTellTold}
+use Rattle.entry_tie.specs.ClientTells.{FetchTold, BlockTold, ReadingTold, DeltasTold, FeedTold, PhaseHolds, ClientHolds, PhaseOwed, ClientOwed, ClientStartsTold, ClientHoldsRise, ClientsTellTold}
 use Rattle.entry_tie.specs.Told.{Told, BodyTold, DoTold, told_by, TellsTold}
+use Rattle.entry_tie.proofs.ClientReads.{CallTold, begun_told}
 use Rattle.entry_tie.proofs.Feeds.{pushes_all_say}
 use Rattle.entry_tie.proofs.Frames as frames
 use Rattle.entry_tie.proofs.Frames.{all_weaker, contains_all}
@@ -78,7 +83,7 @@ module _ (told : Told) (done : List Act) where
 
   back_so : (l : Lasting) (capacity : ℕ) (o : Opened) → FeedTold told o.feed → Goes (back l capacity o)
   back_so l capacity o h =
-      frames.goes_plain told done PhaseSo (back l capacity o).state (back l capacity o).outs (record { fetches = λ block. tt; feed = h }) (
+      frames.goes_plain told done PhaseSo (back l capacity o).state (back l capacity o).outs (record { fetches = λ block. tt; feed = h; reading = tt }) (
         tt,
         all_append (frames.Says told done) (pushes_all o.promised.managers o.feed) _ (pushes_all_say told done o.promised.managers o.feed h)
             (frames.answers_say told done l.items.unanswered answer.Done),
@@ -104,11 +109,15 @@ module _ (told : Told) (done : List Act) where
   serves_so : (d : Done) → tokens.Goes told done d → Goes (serves_on d)
   serves_so d p acts = p acts
 
-  begins_so : (s : Serving) (number : ℕ) (going : Option Going) → tokens.At told done s → tokens.Goes told done (begins_call s number going)
-  begins_so s number None h = tokens.plain_so told done s (Answers number answer.Done ∷ []) h (tt, tt)
-  begins_so s number (Some x) h =
+  begins_so : (s : Serving) (number : ℕ) (going : Option Going) → CallTold told going → tokens.At told done s → tokens.Goes told done (begins_call s number going)
+  begins_so s number None is h = tokens.plain_so told done s (Answers number answer.Done ∷ []) h (tt, tt)
+  begins_so s number (Some x) is h =
       let t : Serving = record s { lasting = record s.lasting { items = waiting s.lasting.items number } } in
-      serving.runs_after told done (goes_on t x) (calls.goes_on_so told done t x h)
+      serving.runs_after told done (goes_on t x) (calls.goes_on_so told done t x is h)
+
+  call_begun : (s : Serving) (number : ℕ) (wanted : Option Work) → CallTold told (call_at s number wanted)
+  call_begun s number None = tt
+  call_begun s number (Some w) = begun_told told w number s.lasting.number
 
   opens_so : (s : Serving) (number : ℕ) → tokens.At told done s → tokens.Goes told done (opens s number)
   unfolding opens
@@ -116,7 +125,7 @@ module _ (told : Told) (done : List Act) where
       by_test (λ (d : Done). tokens.Goes told done d) (is_some s.lasting.items.unanswered) (gives s (Answers number answer.Busy ∷ []))
       (begins_call s number (call_at s number (work_at s.lasting.items number)))
       (λ t. tokens.plain_so told done s (Answers number answer.Busy ∷ []) h (tt, tt))
-      (λ t. begins_so s number (call_at s number (work_at s.lasting.items number)) h)
+      (λ t. begins_so s number (call_at s number (work_at s.lasting.items number)) (call_begun s number (work_at s.lasting.items number)) h)
 
   down_so : (servers number : ℕ) (l : Lasting) (wanted : Option Work) → Goes (down_begins servers l number (wish_of wanted))
   down_so servers number l (Some (work.Restart node)) = restarts_so servers (next_life l number)
@@ -184,12 +193,12 @@ module _ (told : Told) (done : List Act) where
   stands : (p : Phase) → PhaseHolds told p → PhaseSo p
   stands (Down l) h = tt
   stands (Opening l o) h = tt
-  stands (Serves s) h = record { fetches = h.fetches; feed = h.feed }
+  stands (Serves s) h = record { fetches = h.fetches; feed = h.feed; reading = h.reading }
 
   holds : (p : Phase) → PhaseSo p → PhaseHolds told p
   holds (Down l) h = tt
   holds (Opening l o) h = tt
-  holds (Serves s) h = record { fetches = h.fetches; feed = h.feed }
+  holds (Serves s) h = record { fetches = h.fetches; feed = h.feed; reading = h.reading }
 
 -- ---- the law
 
@@ -207,12 +216,22 @@ pub clients_tell : ClientsTellTold
 clients_tell rows client what h is owed = any_client_tells (told_by rows) client what h is owed
 
 pub client_starts : ClientStartsTold
-client_starts rows number setup works = record { fetches = λ block. tt; feed = tt }
+client_starts rows number setup works = record { fetches = λ block. tt; feed = tt; reading = tt }
 
 module _ (told later : Told) (more : (block : BlockId) (entry : Entry) → told block entry → later block entry) where
   fetch_rises : (block : BlockId) (fetch : Option Fetch) → FetchTold told block fetch → FetchTold later block fetch
   fetch_rises block None h = tt
   fetch_rises block (Some fetch) h = record { hop = h.hop; is = more block (record { ver = fetch.ver; hop = h.hop; place = Some fetch.place }) h.is }
+
+  block_rises : (seg : SegRef) (at : Option BlockAt) → BlockTold told seg at → BlockTold later seg at
+  block_rises seg None h = tt
+  block_rises seg (Some at) h =
+      let there = h.there in
+      record { ver = h.ver; there = record { hop = there.hop; is = more at.block _ there.is } }
+
+  reading_rises : (r : Option ReadingState) → ReadingTold told r → ReadingTold later r
+  reading_rises None h = tt
+  reading_rises (Some r) h = block_rises r.target.seg r.target.block h
 
   pub phase_rises : (p : Phase) → PhaseHolds told p → PhaseHolds later p
   phase_rises (Down l) h = tt
@@ -220,6 +239,7 @@ module _ (told later : Told) (more : (block : BlockId) (entry : Entry) → told 
   phase_rises (Serves s) h = record {
     fetches = λ block. fetch_rises block (held_at s block).fetch (h.fetches block);
     feed = all_weaker (DeltasTold told) (DeltasTold later) (λ deltas. rows_rise told later more deltas.rows) s.feed.filed h.feed;
+    reading = reading_rises (reading_in s.call) h.reading;
   }
 
 pub client_rises : ClientHoldsRise

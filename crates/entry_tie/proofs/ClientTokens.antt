@@ -238,7 +238,7 @@ abbrev pub IsWant : Out → Type 0
 IsWant (output.Want block req again mode) = Unit {0}
 IsWant _ = ⊥
 
-asked_for : (s : TokensState) (block : BlockId) (mode : Mode) → AllByRecursion IsWant (new_want s block mode).outs
+pub asked_for : (s : TokensState) (block : BlockId) (mode : Mode) → AllByRecursion IsWant (new_want s block mode).outs
 unfolding new_want
 asked_for s block mode = by_test (λ (d : Done). AllByRecursion IsWant d.outs) (nat_lt s.req u32_end) _ (still s) (λ t. (tt, tt)) (λ t. tt)
 

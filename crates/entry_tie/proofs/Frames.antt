@@ -129,6 +129,13 @@ module _ (told : Told) (done : List Act) where
     goes_steps f one s [] h = goes_still s h
     goes_steps f one s (x ∷ xs) h = goes_on (f s x) (steps f (f s x).state xs) (one s x h) (λ k. goes_steps f one (f s x).state xs k)
 
+    -- one thing for each item of a list of such items
+    pub goes_each : {A : Type 0} (Takes : A → Type 0) (f : S → A → Stepped S Effect) → ((s : S) (x : A) → Takes x → At s → Goes (f s x)) → (s : S) (xs : List A)
+        → AllByRecursion Takes xs → At s → Goes (steps f s xs)
+    goes_each Takes f one s [] all h = goes_still s h
+    goes_each Takes f one s (x ∷ xs) all h =
+        goes_on (f s x) (steps f (f s x).state xs) (one s x all.0 h) (λ k. goes_each Takes f one (f s x).state xs all.1 k)
+
     pub stands_fold : {A : Type 0} (f : S → A → S) → ((s : S) (x : A) → At s → At (f s x)) → (s : S) (xs : List A) → At s → At (fold f s xs)
     stands_fold f one s [] h = h
     stands_fold f one s (x ∷ xs) h = stands_fold f one (f s x) xs (one s x h)

@@ -1,6 +1,7 @@
 pub mod Frames
 pub mod Rising
 pub mod ClientTokens
+pub mod ClientReads
 mod Feeds
 mod LogTurns
 mod ServingTokens

@@ -9,6 +9,7 @@ use Rattle.client_node.specs.declared.serving.Serving.{Serving}
 use Rattle.client_node.specs.Fitting.{put_fits}
 use Rattle.client_node.specs.Flights.{held_at}
 use Rattle.client_node.specs.Follow.{notes_gone, seals}
+use Rattle.client_node.specs.Reads.{reading_in}
 use Rattle.client_node.specs.Running.{after_answer, goes_on, Ran, answers_call, ran, runs_call, runs_once, runs_upto, runs, most_steps}
 use Rattle.client_node.specs.Sends.{Done}
 use Rattle.file_plan.specs.declared.block_call.BlockAnswer.{BlockAnswer}
@@ -28,7 +29,9 @@ use Rattle.xfs_base.specs.declared.token.Mode.{Mode}
 use Rattle.xfs_base.specs.declared.token.Mode.TheVariants.{Copy, Own}
 use Rattle.xfs_base.specs.Modes.{is_nothing}
 use Rattle.xfs_base.specs.Steps.{after}
+use Rattle.entry_tie.specs.ClientTells.{ReadingTold}
 use Rattle.entry_tie.specs.Told.{Told}
+use Rattle.entry_tie.proofs.ClientReads as reads_told
 use Rattle.entry_tie.proofs.LogTurns.{put_rests}
 use Rattle.entry_tie.proofs.Frames as frames
 use Rattle.entry_tie.proofs.ServingLog as flights
@@ -61,14 +64,14 @@ module _ (told : Told) (done : List Act) where
       let t : Serving = wrote s block value in
       frames.goes_after told done At (Does (Wrote s.lasting.number block value) ∷ []) (put_of t block value) (tt, tt)
       (flights.rests_so told done t (log_in.Put block (record { ver = (held_at t block).ver; hop = 0; place = None }) value)
-      (record { fetches = tokens.wrote_so told s.tokens block value h.fetches; feed = h.feed })
+      (record { fetches = tokens.wrote_so told s.tokens block value h.fetches; feed = h.feed; reading = h.reading })
       (put_rests t.log block (record { entry = record { ver = (held_at t block).ver; hop = 0; place = None }; value = value })))
 
   lets_go_so : (s : Serving) (block : BlockId) → At s → At (lets_go s block)
   lets_go_so s block h =
       let t : Serving = record s { tokens = (client.on_evict s.tokens block).state } in
       by_test (λ (u : Serving). At u) (is_none (held_at s block).value) (notes_gone t block) s
-      (λ e. serving.notes_gone_so told done t block (record { fetches = tokens.evict_so told s.tokens block h.fetches; feed = h.feed })) (λ e. h)
+      (λ e. serving.notes_gone_so told done t block (record { fetches = tokens.evict_so told s.tokens block h.fetches; feed = h.feed; reading = h.reading })) (λ e. h)
 
   held_back_so : (s : Serving) (block : BlockId) → At s → Goes (held_back s block).done
   held_back_so s block h = serving.still_so told done (lets_go s block) (lets_go_so s block h)
@@ -115,31 +118,34 @@ module _ (told : Told) (done : List Act) where
 
   -- ---- the open call
 
-  pub goes_on_so : (s : Serving) (going : Going) → At s → Goes (goes_on s going)
+  pub goes_on_so : (s : Serving) (going : Going) → reads_told.GoingTold told going → At s → Goes (goes_on s going)
   unfolding goes_on
-  goes_on_so s (On call) h = serving.still_so told done (record s { call = Some call }) h
-  goes_on_so s (Ends answer) h =
+  goes_on_so s (On call) is h = serving.still_so told done (record s { call = Some call }) (record { fetches = h.fetches; feed = h.feed; reading = is })
+  goes_on_so s (Ends answer) is h =
       serving.plain_so told done (record s { lasting = record s.lasting { items = answered s.lasting.items } })
       (answers_unanswered s.lasting.items.unanswered answer) h
       (frames.answers_say told done s.lasting.items.unanswered answer)
 
-  answers_call_so : (s : Serving) (call : Call) (answer : Option BlockAnswer) → At s → Goes (answers_call s call answer).done
-  answers_call_so s call None h = serving.still_so told done (record s { call = Some call }) h
-  answers_call_so s call (Some a) h = goes_on_so s (after_answer call.plan a) h
+  answers_call_so : (s : Serving) (call : Call) (answer : Option BlockAnswer) → ReadingTold told call.reading → At s → Goes (answers_call s call answer).done
+  answers_call_so s call None is h =
+      serving.still_so told done (record s { call = Some call }) (record { fetches = h.fetches; feed = h.feed; reading = is })
+  answers_call_so s call (Some a) is h = goes_on_so s (after_answer call.plan a) (reads_told.next_told told call.plan a) h
 
   -- what was made is told to the call
-  ran_so : (call : Call) (made : Made) → Goes made.done → Goes (ran call made).done
-  ran_so call made p =
+  ran_so : (call : Call) (made : Made) → ReadingTold told call.reading → Goes made.done → Goes (ran call made).done
+  ran_so call made is p =
       frames.goes_on told done At made.done (answers_call made.done.state call made.answer).done p
-      (λ k. answers_call_so made.done.state call made.answer k)
+      (λ k. answers_call_so made.done.state call made.answer is k)
 
-  runs_call_so : (s : Serving) (call : Option Call) → At s → Goes (runs_call s call).done
-  runs_call_so s None h = serving.still_so told done s h
-  runs_call_so s (Some call) h = ran_so call (makes (record s { call = None }) call.step) (makes_so (record s { call = None }) call.step h)
+  runs_call_so : (s : Serving) (call : Option Call) → ReadingTold told (reading_in call) → At s → Goes (runs_call s call).done
+  runs_call_so s None is h = serving.still_so told done s h
+  runs_call_so s (Some call) is h =
+      ran_so call (makes (record s { call = None }) call.step) is
+      (makes_so (record s { call = None }) call.step (record { fetches = h.fetches; feed = h.feed; reading = tt }))
 
   runs_once_so : (s : Serving) → At s → Goes (runs_once s).done
   unfolding runs_once
-  runs_once_so s h = runs_call_so s s.call h
+  runs_once_so s h = runs_call_so s s.call h.reading h
 
   -- after the first turn come the others
   turns_from : (k : ℕ) (s : Serving) → ((t : Serving) → At t → Goes (runs_upto k t)) → Goes (runs_once s).done → Goes (runs_upto (suc k) s)

@@ -50,7 +50,7 @@ module _ (told : Told) (done : List Act) where
 
   notes_settled_so : (s : Serving) (row : BlockId × Entry) → At s → At (notes_settled s row)
   unfolding notes_settled
-  notes_settled_so s row h = record { fetches = tokens.settled_so told s.tokens row.0 row.1.ver h.fetches; feed = h.feed }
+  notes_settled_so s row h = record { fetches = tokens.settled_so told s.tokens row.0 row.1.ver h.fetches; feed = h.feed; reading = h.reading }
 
   keeps_clean_so : (s : Serving) (row : BlockId × Entry) → At s → At (keeps_clean s row)
   unfolding keeps_clean
@@ -80,7 +80,7 @@ module _ (told : Told) (done : List Act) where
       let t : Serving = settled_rows s rows in
       let k : At t = settled_rows_so s rows h in
       let fed : Serving = feeds t end rows in
-      let at : At fed = record { fetches = k.fetches; feed = settled_told told t.feed end.seq rows k.feed filed } in
+      let at : At fed = record { fetches = k.fetches; feed = settled_told told t.feed end.seq rows k.feed filed; reading = k.reading } in
       frames.goes_after told done At (Does (Filed (name_of (log_of s.lasting) end)) ∷ pushes_all fed.managers fed.feed)
       (steps gives_if_clean fed (dirty_in s.tokens.blocks))
       (tt, pushes_all_say told done fed.managers fed.feed at.feed)

@@ -11,6 +11,7 @@ use Rattle.client_node.specs.Running.{runs}
 use Rattle.client_node.specs.Sends.{Done, gives, report}
 use Rattle.delta_feed.specs.Transition.{acknowledged, new_epoch}
 use Rattle.group_map.specs.GroupMapState.{GroupMapState}
+use Rattle.log_owner.specs.Promised.{manager_set}
 use Rattle.log_owner.specs.Sending.{pushes_all}
 use Rattle.node_base.specs.declared.effects.Effect.{Effect}
 use Rattle.node_base.specs.Known.{names_known}
@@ -45,7 +46,7 @@ use Rattle.xfs_base.specs.declared.node.NodeId.{NodeId}
 use Rattle.xfs_base.specs.declared.node.NodeId.TheVariants as node
 use Rattle.xfs_base.specs.Modes.{is_own}
 use Rattle.xfs_base.specs.Steps.{Stepped, still, after, steps}
-use Rattle.entry_tie.specs.ClientTells.{FlightOwed}
+use Rattle.entry_tie.specs.ClientTells.{FlightOwed, ReadingTold}
 use Rattle.entry_tie.specs.Told.{Told, BodyTold}
 use Rattle.entry_tie.proofs.LogTurns.{tick_rests}
 use Rattle.entry_tie.proofs.Feeds.{acknowledged_told, renewed_told, pushes_all_say}
@@ -53,6 +54,7 @@ use Rattle.entry_tie.proofs.Frames as frames
 use Rattle.entry_tie.proofs.ServingCalls as calls
 use Rattle.entry_tie.proofs.ServingLog as flights
 use Rattle.entry_tie.proofs.ServingTokens as serving
+use Rattle.entry_tie.proofs.ClientReads.{OutTold, wants_told, heard_told}
 use Rattle.entry_tie.proofs.ClientTokens as tokens
 use Rattle.entry_tie.proofs.ClientTokens.{IsWant, promise_wants}
 
@@ -93,7 +95,7 @@ module _ (told : Told) (done : List Act) where
   on_forward_so s f h =
       let taken : client.Done = client.on_forwarded s.tokens f.block f.stamp f.ver in
       serving.plain_so told done (record s { tokens = taken.state }) (flat_map (supplies f) taken.outs)
-      (record { fetches = tokens.forwarded_so told s.tokens f.block f.stamp f.ver h.fetches; feed = h.feed }) (supplies_say f taken.outs)
+      (record { fetches = tokens.forwarded_so told s.tokens f.block f.stamp f.ver h.fetches; feed = h.feed; reading = h.reading }) (supplies_say f taken.outs)
 
   again_says : (s : Serving) (r : Recall) (outs : List outputs.Out) → serving.AllSay told done (again s r outs)
   again_says s r [] = tt
@@ -106,7 +108,7 @@ module _ (told : Told) (done : List Act) where
       let t : Serving = record s { tokens = d.state } in
       by_test (λ (x : Done). Goes x) (is_stamp (held_at s r.block).stamp r.stamp) (says_again s r d) (takes_back s r.block r.stamp r.keep)
       (λ e. serving.plain_so told done t (again t r d.outs)
-      (record { fetches = tokens.on_recalled_so told s.tokens r.block r.stamp r.keep h.fetches; feed = h.feed }) (again_says t r d.outs))
+      (record { fetches = tokens.on_recalled_so told s.tokens r.block r.stamp r.keep h.fetches; feed = h.feed; reading = h.reading }) (again_says t r d.outs))
       (λ e. serving.takes_back_so told done s r.block r.stamp r.keep h)
 
   on_gone_so : (s : Serving) (m : Gone) → At s → Goes (on_gone s m)
@@ -119,7 +121,7 @@ module _ (told : Told) (done : List Act) where
   on_ack_so s a h =
       still_so (on_ack s a)
       (by_test (λ (t : Serving). At t) (is_acked s a) (record s { feed = acknowledged s.feed a.slot a.applied }) s
-      (λ t. record { fetches = h.fetches; feed = acknowledged_told told s.feed a.slot a.applied h.feed }) (λ t. h))
+      (λ t. record { fetches = h.fetches; feed = acknowledged_told told s.feed a.slot a.applied h.feed; reading = h.reading }) (λ t. h))
 
   -- ---- fragments
 
@@ -130,13 +132,15 @@ module _ (told : Told) (done : List Act) where
   ends_fetch_so s at next.Ask h = still_so s h
   ends_fetch_so s at next.Lost h = still_so s h
 
-  told_at_so : (s : Serving) (at : Option BlockAt) (x : Heard) → At s → Goes (told_at s at x)
-  told_at_so s None x h = still_so s h
-  told_at_so s (Some at) x h = ends_fetch_so (with_reading s x.reading) at x.next h
+  told_at_so : (s : Serving) (at : Option BlockAt) (x : Heard) → ReadingTold told x.reading → At s → Goes (told_at s at x)
+  told_at_so s None x is h = still_so s h
+  told_at_so s (Some at) x is h = ends_fetch_so (with_reading s x.reading) at x.next (serving.read_so told done s x.reading is h)
 
   told_by_so : (s : Serving) (server ask : ℕ) (t : Answered) → At s → Goes (told_by s server ask t)
   unfolding told_by
-  told_by_so s server ask t h = told_at_so s (block_read (reading_in s.call)) (heard (reading_in s.call) s.maps.groups ask server t) h
+  told_by_so s server ask t h =
+      told_at_so s (block_read (reading_in s.call)) (heard (reading_in s.call) s.maps.groups ask server t)
+      (heard_told told (reading_in s.call) s.maps.groups ask server t h.reading) h
 
   on_told_so : (s : Serving) (from : NodeId) (ask : ℕ) (t : Answered) → At s → Goes (on_told s from ask t)
   on_told_so s (node.Server server) ask t h = told_by_so s server ask t h
@@ -151,30 +155,35 @@ module _ (told : Told) (done : List Act) where
   unfolding renews
   renews_so s slot epoch h =
       by_test (λ (t : Serving). At t) (nat_lt _ epoch) (record s { feed = new_epoch s.feed slot }) s
-      (λ t. record { fetches = h.fetches; feed = renewed_told told s.feed slot h.feed }) (λ t. h)
+      (λ t. record { fetches = h.fetches; feed = renewed_told told s.feed slot h.feed; reading = h.reading }) (λ t. h)
 
   promises_so : (s : Serving) (slot epoch manager : ℕ) → At s → At (promises s slot epoch manager).state
   unfolding promises
   promises_so s slot epoch manager h =
       let t : Serving = renews s slot epoch in
       let k : At t = renews_so s slot epoch h in
-      record { fetches = tokens.promise_so told t.tokens slot epoch k.fetches; feed = k.feed }
+      let u : Serving = record t { managers = manager_set t.managers slot manager; tokens = (client.on_promise t.tokens slot epoch).state } in
+      serving.ends_so told done u (record { fetches = tokens.promise_so told t.tokens slot epoch k.fetches; feed = k.feed; reading = k.reading })
+
+  promises_told : (s : Serving) (slot epoch manager : ℕ) → AllByRecursion (OutTold told) (promises s slot epoch manager).outs
+  unfolding promises
+  promises_told s slot epoch manager =
+      wants_told told (promises s slot epoch manager).outs (promise_wants (renews s slot epoch).tokens slot epoch)
 
   promised_in_so : (s : Serving) (news : SlotNews) → At s → Goes (promised_in s news)
   promised_in_so s news h =
       let p : Stepped Serving outputs.Out = promises s news.slot news.epoch news.manager in
-      serving.follows_so told done p.state p.outs (promises_so s news.slot news.epoch news.manager h)
+      serving.follows_so told done p.state p.outs (promises_told s news.slot news.epoch news.manager) (promises_so s news.slot news.epoch news.manager h)
 
-  reports_so : (slot epoch : ℕ) (p : Stepped Serving outputs.Out) → At p.state → Goes (reports slot epoch p)
-  reports_so slot epoch p h =
-      frames.goes_after told done At (report p.state slot epoch ∷ []) (follows p.state p.outs) (tt, tt)
-      (serving.follows_so told done p.state p.outs h)
+  reports_so : (slot epoch : ℕ) (p : Stepped Serving outputs.Out) → AllByRecursion (OutTold told) p.outs → At p.state → Goes (reports slot epoch p)
+  reports_so slot epoch p all h =
+      frames.goes_after told done At (report p.state slot epoch ∷ []) (follows p.state p.outs) (tt, tt) (serving.follows_so told done p.state p.outs all h)
 
   polled_so : (s : Serving) (manager : ℕ) (p : Poll) → At s → Goes (polled s manager p)
   unfolding polled
   polled_so s manager p h =
       by_test (λ (d : Done). Goes d) (may_report s p) (reports p.slot p.epoch (promises s p.slot p.epoch manager)) (still s)
-      (λ t. reports_so p.slot p.epoch (promises s p.slot p.epoch manager) (promises_so s p.slot p.epoch manager h)) (λ t. still_so s h)
+      (λ t. reports_so p.slot p.epoch (promises s p.slot p.epoch manager) (promises_told s p.slot p.epoch manager) (promises_so s p.slot p.epoch manager h)) (λ t. still_so s h)
 
   on_poll_so : (s : Serving) (from : NodeId) (p : Poll) → At s → Goes (on_poll s from p)
   on_poll_so s (node.Manager manager) p h = polled_so s manager p h

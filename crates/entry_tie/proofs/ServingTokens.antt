@@ -1,12 +1,13 @@
 -- What a client that serves does at an input of its tokens: it fetches, and tells managers, what is told.
 use Rattle.std.proofs.Common.{ℕ, ◌==◌, Bool, List, [], ◌∷◌, Option, Some, None, is_none}
-use Rattle.std.specs.List.{flat_map}
+use Rattle.std.specs.List.{AllByRecursion, flat_map}
 use Rattle.client_log.specs.declared.output.Out.{Out as LogOut}
 use Rattle.client_log.specs.declared.output.Out.TheVariants as log_out
 use Rattle.client_log.specs.Transition as log
+use Rattle.client_node.specs.declared.call.Call.{Call}
 use Rattle.client_node.specs.declared.serving.Serving.{Serving}
 use Rattle.client_node.specs.Follow.{evicts, notes_clean, notes_gone, notes_copy, seals, follows_one, follows, hands, takes_back}
-use Rattle.client_node.specs.Reads.{ends_reading, with_reading, draws, reading_in, loses, loses_at, fetches, group_in, begins_over, begins, confirmed_next, ask_after, drawn_after, confirms, target_of, same_target, reads_over, reads}
+use Rattle.client_node.specs.Reads.{ends_reading, with_reading, draws, reading_in, kept_while, loses, loses_at, fetches, group_in, begins_over, begins, confirmed_next, ask_after, drawn_after, confirms, target_of, same_target, reads_over, reads}
 use Rattle.client_node.specs.Sends.{Done, gives, deltas, want, before_want, gave}
 use Rattle.coop_cache.specs.declared.output.Out as cache_out
 use Rattle.coop_cache.specs.declared.output.Out.TheVariants.{Victim}
@@ -43,20 +44,22 @@ use Rattle.xfs_base.specs.declared.token.Stamp.{Stamp}
 use Rattle.xfs_base.specs.Modes.{same_mode, is_nothing}
 use Rattle.xfs_base.specs.Steps.{still}
 use Rattle.filed_tie.proofs.Frames.{all_map}
-use Rattle.entry_tie.specs.ClientTells.{FeedTold}
+use Rattle.entry_tie.specs.ClientTells.{FeedTold, LiesTold, BlockTold, ReadingTold}
 use Rattle.entry_tie.specs.Told.{Told}
+use Rattle.entry_tie.proofs.ClientReads as reads_told
 use Rattle.entry_tie.proofs.ClientTokens as tokens
 use Rattle.entry_tie.proofs.Feeds as feeds
 use Rattle.entry_tie.proofs.Frames as frames
 
 module _ (told : Told) (done : List Act) where
-  -- what it is fetching lies where it is told, and its feed keeps what is told
-  pub record Stands (its : TokensState) (kept : FeedState) : Type 0 where
+  -- what it fetches and reads lies where it is told, and its feed keeps what is told
+  pub record Stands (its : TokensState) (kept : FeedState) (open_call : Option Call) : Type 0 where
     pub fetches : tokens.FetchesTold told its
     pub feed : FeedTold told kept
+    pub reading : ReadingTold told (reading_in open_call)
 
   abbrev pub At : Serving → Type 0
-  At s = Stands s.tokens s.feed
+  At s = Stands s.tokens s.feed s.call
 
   abbrev pub Goes : Done → Type 0
   Goes d = frames.Goes told done At d
@@ -83,7 +86,7 @@ module _ (told : Told) (done : List Act) where
 
   evicts_so : (s : Serving) (o : cache_out.Out) → At s → At (evicts s o)
   unfolding evicts
-  evicts_so s (Victim block) h = record { fetches = tokens.evict_so told s.tokens block h.fetches; feed = h.feed }
+  evicts_so s (Victim block) h = record { fetches = tokens.evict_so told s.tokens block h.fetches; feed = h.feed; reading = h.reading }
 
   pub notes_clean_so : (s : Serving) (block : BlockId) → At s → At (notes_clean s block)
   unfolding notes_clean
@@ -113,51 +116,63 @@ module _ (told : Told) (done : List Act) where
   loses_so s block seg h =
       plain_so (record s { lasting = record s.lasting { items = answered s.lasting.items }; call = None; tokens = (client.on_quit s.tokens block).state })
       (Lose seg ∷ answers_unanswered s.lasting.items.unanswered (Lost seg))
-      (record { fetches = tokens.quit_so told s.tokens block h.fetches; feed = h.feed }) (tt, frames.answers_say told done s.lasting.items.unanswered (Lost seg))
+      (record { fetches = tokens.quit_so told s.tokens block h.fetches; feed = h.feed; reading = tt }) (tt, frames.answers_say told done s.lasting.items.unanswered (Lost seg))
 
   loses_at_so : (s : Serving) (at : Option BlockAt) (seg : SegName) → At s → Goes (loses_at s at seg)
   loses_at_so s None seg h = still_so s h
   loses_at_so s (Some at) seg h = loses_so s at.block seg h
 
-  begins_over_so : (s : Serving) (target : Target) (group : Option Group) → At s → Goes (begins_over s target group)
-  begins_over_so s target None h = still_so s h
-  begins_over_so s target (Some group) h =
+  -- the open call reads this
+  pub read_so : (s : Serving) (r : Option ReadingState) → ReadingTold told r → At s → At (with_reading s r)
+  read_so s r is h = record { fetches = h.fetches; feed = h.feed; reading = reads_told.call_told told s.call r is }
+
+  pub ends_so : (s : Serving) → At s → At (ends_reading s)
+  ends_so s h = read_so s (kept_while s.tokens (reading_in s.call)) (reads_told.kept_told told s.tokens (reading_in s.call) h.reading) h
+
+  abbrev TargetTold : Target → Type 0
+  TargetTold target = BlockTold told target.seg target.block
+
+  begins_over_so : (s : Serving) (target : Target) (group : Option Group) → TargetTold target → At s → Goes (begins_over s target group)
+  begins_over_so s target None is h = still_so s h
+  begins_over_so s target (Some group) is h =
       let r : ReadingState = begun target group (next_ask s.lasting.questions) in
-      plain_so (with_reading (draws s) (Some r)) (fetches r) h (fetches_say r)
+      plain_so (with_reading (draws s) (Some r)) (fetches r) (read_so (draws s) (Some r) is h) (fetches_say r)
 
-  begins_so : (s : Serving) (target : Target) → At s → Goes (begins s target)
+  begins_so : (s : Serving) (target : Target) → TargetTold target → At s → Goes (begins s target)
   unfolding begins
-  begins_so s target h = begins_over_so s target (group_in s.maps.groups target.seg.group) h
+  begins_so s target is h = begins_over_so s target (group_in s.maps.groups target.seg.group) is h
 
-  confirmed_next_so : (s : Serving) (r : ReadingState) (x : Next) → At s → Goes (confirmed_next s r x)
-  confirmed_next_so s r next.Lost h = loses_at_so s r.target.block r.target.seg.name h
-  confirmed_next_so s r next.Ask h = plain_so (with_reading s (Some r)) (fetches r) h (fetches_say r)
-  confirmed_next_so s r next.Wait h = still_so (with_reading s (Some r)) h
-  confirmed_next_so s r next.Again h = still_so (with_reading s (Some r)) h
-  confirmed_next_so s r (next.Read segment) h = still_so (with_reading s (Some r)) h
+  confirmed_next_so : (s : Serving) (r : ReadingState) (x : Next) → TargetTold r.target → At s → Goes (confirmed_next s r x)
+  confirmed_next_so s r next.Lost is h = loses_at_so s r.target.block r.target.seg.name h
+  confirmed_next_so s r next.Ask is h = plain_so (with_reading s (Some r)) (fetches r) (read_so s (Some r) is h) (fetches_say r)
+  confirmed_next_so s r next.Wait is h = still_so (with_reading s (Some r)) (read_so s (Some r) is h)
+  confirmed_next_so s r next.Again is h = still_so (with_reading s (Some r)) (read_so s (Some r) is h)
+  confirmed_next_so s r (next.Read segment) is h = still_so (with_reading s (Some r)) (read_so s (Some r) is h)
 
-  drawn_after_so : (s : Serving) (r : ReadingState) (x : Next) (stage : Stage) → At s → Goes (confirmed_next (drawn_after s stage) r x)
-  drawn_after_so s r x Between h = confirmed_next_so (draws s) r x h
-  drawn_after_so s r x Asking h = confirmed_next_so s r x h
-  drawn_after_so s r x Doubted h = confirmed_next_so s r x h
-  drawn_after_so s r x Over h = confirmed_next_so s r x h
+  drawn_after_so : (s : Serving) (r : ReadingState) (x : Next) (stage : Stage) → TargetTold r.target → At s → Goes (confirmed_next (drawn_after s stage) r x)
+  drawn_after_so s r x Between is h = confirmed_next_so (draws s) r x is h
+  drawn_after_so s r x Asking is h = confirmed_next_so s r x is h
+  drawn_after_so s r x Doubted is h = confirmed_next_so s r x is h
+  drawn_after_so s r x Over is h = confirmed_next_so s r x is h
 
-  confirms_so : (s : Serving) (r : ReadingState) → At s → Goes (confirms s r)
+  confirms_so : (s : Serving) (r : ReadingState) → TargetTold r.target → At s → Goes (confirms s r)
   unfolding confirms
-  confirms_so s r h =
+  confirms_so s r is h =
       let step : Step = on_confirmed r (ask_after s r.ask r.stage) in
-      drawn_after_so s step.state step.next r.stage h
+      drawn_after_so s step.state step.next r.stage (reads_told.confirmed_told told r (ask_after s r.ask r.stage) is) h
 
-  reads_over_so : (s : Serving) (target : Target) (reading : Option ReadingState) → At s → Goes (reads_over s target reading)
-  reads_over_so s target None h = begins_so s target h
-  reads_over_so s target (Some r) h =
-      by_test (λ (d : Done). Goes d) (same_target r.target target) (confirms s r) (begins s target) (λ t. confirms_so s r h) (λ t. begins_so s target h)
+  reads_over_so : (s : Serving) (target : Target) (reading : Option ReadingState) → TargetTold target → ReadingTold told reading → At s
+      → Goes (reads_over s target reading)
+  reads_over_so s target None is was h = begins_so s target is h
+  reads_over_so s target (Some r) is was h =
+      by_test (λ (d : Done). Goes d) (same_target r.target target) (confirms s r) (begins s target) (λ t. confirms_so s r was h) (λ t. begins_so s target is h)
 
-  reads_so : (s : Serving) (block : BlockId) (place : Place) → At s → Goes (reads s block place)
+  reads_so : (s : Serving) (block : BlockId) (place : Place) → LiesTold told block place → At s → Goes (reads s block place)
   unfolding reads
-  reads_so s block place h =
+  reads_so s block place is h =
       by_test (λ (d : Done). Goes d) (is_none s.call) (still s) (reads_over (with_reading s None) (target_of block place) (reading_in s.call))
-      (λ t. still_so s h) (λ t. reads_over_so (with_reading s None) (target_of block place) (reading_in s.call) h)
+      (λ t. still_so s h)
+      (λ t. reads_over_so (with_reading s None) (target_of block place) (reading_in s.call) is h.reading (read_so s None tt h))
 
   -- ---- what the tokens say
 
@@ -165,28 +180,29 @@ module _ (told : Told) (done : List Act) where
   before_says s block again h =
       by_test (λ (es : List Effect). AllSay es) (again == 0) (deltas s block) [] (λ t. feeds.pushes_say told done s.managers s.feed h.feed _) (λ t. tt)
 
-  follows_one_so : (s : Serving) (o : outputs.Out) → At s → Goes (follows_one s o)
+  follows_one_so : (s : Serving) (o : outputs.Out) → reads_told.OutTold told o → At s → Goes (follows_one s o)
   unfolding follows_one
-  follows_one_so s (output.Want block req again mode) h =
+  follows_one_so s (output.Want block req again mode) is h =
       frames.goes_after told done At (before_want s block again) (gives s (want s block req again mode ∷ [])) (before_says s block again h)
       (plain_so s (want s block req again mode ∷ []) h (tt, tt))
-  follows_one_so s (output.Gave block stamp) h =
+  follows_one_so s (output.Gave block stamp) is h =
       frames.goes_after told done At (deltas s block) (gives s (gave s block stamp ∷ [])) (feeds.pushes_say told done s.managers s.feed h.feed _)
       (plain_so s (gave s block stamp ∷ []) h (tt, tt))
-  follows_one_so s (output.Flush block) h = seals_so s h
-  follows_one_so s (output.Read block place) h = reads_so s block place h
-  follows_one_so s (output.Ready block) h = still_so (notes_copy s block) (notes_copy_so s block h)
-  follows_one_so s (output.Supply block ver value) h = still_so s h
+  follows_one_so s (output.Flush block) is h = seals_so s h
+  follows_one_so s (output.Read block place) is h = reads_so s block place is h
+  follows_one_so s (output.Ready block) is h = still_so (notes_copy s block) (notes_copy_so s block h)
+  follows_one_so s (output.Supply block ver value) is h = still_so s h
 
-  pub follows_so : (s : Serving) (outs : List outputs.Out) → At s → Goes (follows s outs)
+  pub follows_so : (s : Serving) (outs : List outputs.Out) → AllByRecursion (reads_told.OutTold told) outs → At s → Goes (follows s outs)
   unfolding follows
-  follows_so s outs h = frames.goes_steps told done At follows_one follows_one_so s outs h
+  follows_so s outs all h = frames.goes_each told done At (reads_told.OutTold told) follows_one follows_one_so s outs all h
 
   pub hands_so : (s : Serving) (i : inputs.In) → tokens.InputTold told i → At s → Goes (hands s i)
   unfolding hands
   hands_so s i is h =
       let r : client.Done = client.transition s.tokens i in
-      follows_so (ends_reading (record s { tokens = r.state })) r.outs (record { fetches = tokens.tokens_so told s.tokens i is h.fetches; feed = h.feed })
+      follows_so (ends_reading (record s { tokens = r.state })) r.outs (reads_told.tokens_say told s.tokens i is)
+      (ends_so (record s { tokens = r.state }) (record { fetches = tokens.tokens_so told s.tokens i is h.fetches; feed = h.feed; reading = h.reading }))
 
   pub takes_back_so : (s : Serving) (block : BlockId) (stamp : Stamp) (keep : Bool) → At s → Goes (takes_back s block stamp keep)
   unfolding takes_back

@@ -9,6 +9,7 @@ use Rattle.client_node.specs.declared.phase.Phase.TheVariants.{Down, Opening, Se
 use Rattle.client_node.specs.declared.serving.Serving.{Serving}
 use Rattle.client_node.specs.Flights.{held_at, log_of}
 use Rattle.client_node.specs.Phases.{client_step}
+use Rattle.client_node.specs.Reads.{reading_in}
 use Rattle.client_node.specs.Starting.{first_client}
 use Rattle.delta_feed.specs.declared.feed.FiledDeltas.{FiledDeltas}
 use Rattle.delta_feed.specs.FeedState.{FeedState}
@@ -17,13 +18,17 @@ use Rattle.log_owner.specs.declared.opening.Stage.TheVariants as stage
 use Rattle.log_owner.specs.Sending.{name_of}
 use Rattle.segment_format.specs.declared.segment.Segment.{Segment}
 use Rattle.segment_format.specs.Rows.{rows_of}
+use Rattle.stripe_code.specs.declared.target.BlockAt.{BlockAt}
+use Rattle.stripe_code.specs.Reading.{ReadingState}
 use Rattle.token_client.specs.declared.held.Fetch.{Fetch}
 use Rattle.version_model.specs.declared.act.Act.{Act}
 use Rattle.version_model.specs.declared.act.Act.TheVariants.{Filed}
 use Rattle.version_model.specs.declared.work.Work.{Work}
 use Rattle.wire_msg.specs.declared.packet.Do.{Do}
 use Rattle.xfs_base.specs.declared.block.BlockId.{BlockId}
+use Rattle.xfs_base.specs.declared.entry.Place.{Place}
 use Rattle.xfs_base.specs.declared.segment.LogId.{LogId}
+use Rattle.xfs_base.specs.declared.segment.SegRef.{SegRef}
 use Rattle.xfs_base.specs.declared.setup.Setup.{Setup}
 use Rattle.entry_tie.specs.Told.{Told, RowsTold, PlaceTold, FiledRows, told_by, HoldsRise, EventsTellTold}
 
@@ -33,6 +38,20 @@ use Rattle.entry_tie.specs.Told.{Told, RowsTold, PlaceTold, FiledRows, told_by, 
 abbrev pub FetchTold : Told → BlockId → Option Fetch → Type 0
 FetchTold told block None = Unit {0}
 FetchTold told block (Some fetch) = PlaceTold told block fetch.ver fetch.place
+
+-- it is told that some version of the block lies at this place
+pub record LiesTold (told : Told) (block : BlockId) (place : Place) : Type 0 where
+  pub ver : ℕ
+  pub there : PlaceTold told block ver place
+
+-- a block is read from a segment where it is told to lie
+abbrev pub BlockTold : Told → SegRef → Option BlockAt → Type 0
+BlockTold told seg None = Unit {0}
+BlockTold told seg (Some at) = LiesTold told at.block (record { seg = seg; item = at.item })
+
+abbrev pub ReadingTold : Told → Option ReadingState → Type 0
+ReadingTold told None = Unit {0}
+ReadingTold told (Some r) = BlockTold told r.target.seg r.target.block
 
 -- what is kept of a settled segment, to be told to managers
 abbrev pub DeltasTold : Told → FiledDeltas → Type 0
@@ -44,6 +63,7 @@ FeedTold told feed = AllByRecursion (DeltasTold told) feed.filed
 pub record ServingHolds (told : Told) (s : Serving) : Type 0 where
   pub fetches : (block : BlockId) → FetchTold told block (held_at s block).fetch
   pub feed : FeedTold told s.feed
+  pub reading : ReadingTold told (reading_in s.call)
 
 abbrev pub PhaseHolds : Told → Phase → Type 0
 PhaseHolds told (Down l) = Unit {0}
