@@ -32,7 +32,8 @@ IsUsageAsk (out.UsageAsk slot) = Unit {0}
 IsUsageAsk _ = ⊥
 
 forgetting_asks : (slot : ℕ) (p : Phase) → AllByRecursion IsUsageAsk (forgetting slot p).outs
-forgetting_asks slot (Counting c) = by_test (λ (t : Turn). AllByRecursion IsUsageAsk t.outs) (has_usage c.usages slot) _ (still (Counting c)) (λ t. (tt, tt)) (λ t. tt)
+forgetting_asks slot (Counting c) =
+    by_test (λ (t : Turn). AllByRecursion IsUsageAsk t.outs) (has_usage c.usages slot) _ (still (Counting c)) (λ t. (tt, tt)) (λ t. tt)
 forgetting_asks slot Greeting = tt
 forgetting_asks slot (Listing l) = tt
 forgetting_asks slot (Reading j segment) = tt

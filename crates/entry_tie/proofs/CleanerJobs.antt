@@ -1,6 +1,6 @@
 -- What the cleaner that serves does for its job: what the job knows of live blocks was told, and its feed keeps what is told.
 use Rattle.std.proofs.Common.{ℕ, Bool, true, false, List, [], ◌∷◌, Option, Some, None}
-use Rattle.std.specs.List.{flat_map}
+use Rattle.std.specs.List.{AllByRecursion, flat_map}
 use Rattle.xfs_base.specs.declared.block.BlockId.{BlockId}
 use Rattle.xfs_base.specs.declared.entry.Entry.{Entry}
 use Rattle.xfs_base.specs.declared.entry.Place.{Place}
@@ -13,6 +13,8 @@ use Rattle.client_log.specs.declared.input.In.{In as LogIn}
 use Rattle.client_log.specs.declared.input.In.TheVariants as log_in
 use Rattle.client_log.specs.declared.output.Out.{Out as LogOut}
 use Rattle.client_log.specs.declared.output.Out.TheVariants as log_out
+use Rattle.client_log.specs.declared.dirty.Change.{Change}
+use Rattle.client_log.specs.LogState.{FlightState}
 use Rattle.client_log.specs.Transition as log
 use Rattle.delta_feed.specs.FeedState.{FeedState}
 use Rattle.log_owner.specs.Opening.{stored}
@@ -42,20 +44,22 @@ use Rattle.cleaner_node.specs.Hands.{Heard, fetches_for, fetches}
 use Rattle.cleaner_node.specs.Jobs.{Done, with_questions, asks_maps, asks_list, asks_usage, hand_checks_in, job_checks, checked_in, checks_block, check_sent, asks_check, hand_of, holds_in, holds, reads, puts, puts_block, moves, is_whole, drops, deletes, finishes, says, takes_in, job_takes, cleans, lists_of, usages_of, check_of, is_out, on_listed, on_usage, on_live, on_dead, on_deleted, job_read, ends_reading, hand_hears_in, job_hears, hand_confirmed_in, job_confirmed, told_in, told_by, confirmed_in, confirmed, after_confirmed, reads_again, after_told, on_told}
 use Rattle.xfs_base.proofs.Booleans.{by_test}
 use Rattle.filed_tie.proofs.Frames.{all_append, all_map}
-use Rattle.entry_tie.specs.CleanerTells.{JobTold}
+use Rattle.entry_tie.specs.CleanerTells.{JobTold, MovesOn, LogMoves}
 use Rattle.entry_tie.specs.ClientTells.{FeedTold}
 use Rattle.entry_tie.specs.Told.{Told}
 use Rattle.entry_tie.proofs.Frames as frames
-use Rattle.entry_tie.proofs.CleanerChecks.{InputTold, cleaning_so}
+use Rattle.entry_tie.proofs.CleanerChecks.{InputTold, BlockMoved, OutMoved, cleaning_so, cleaning_gives}
+use Rattle.entry_tie.proofs.LogMoves.{put_moves, seal_moves}
 
 module _ (told : Told) (done : List Act) where
   -- one with its job and its feed
-  pub record Stands (its_job : Option Job) (its_feed : FeedState) : Type 0 where
+  pub record Stands (its_job : Option Job) (its_feed : FeedState) (waits : List (BlockId × Change)) (flies : Option FlightState) : Type 0 where
     pub job : JobTold told its_job
     pub feed : FeedTold told its_feed
+    pub log : MovesOn told waits flies
 
   abbrev pub At : Emptying → Type 0
-  At e = Stands e.job e.feed
+  At e = Stands e.job e.feed e.log.dirty e.log.flight
 
   abbrev pub Goes : Done → Type 0
   Goes d = frames.Goes told done At d
@@ -73,17 +77,18 @@ module _ (told : Told) (done : List Act) where
 
   maps_asked : (e : Emptying) (job : Option Job) → JobTold told job → At e → Goes (asks_maps e job)
   maps_asked e None held h = stays e h
-  maps_asked e (Some job) held h = at_once (asks_maps e (Some job)).state (asks_maps e (Some job)).outs (record { job = held; feed = h.feed }) (tt, tt)
+  maps_asked e (Some job) held h =
+      at_once (asks_maps e (Some job)).state (asks_maps e (Some job)).outs (record { job = held; feed = h.feed; log = h.log }) (tt, tt)
 
   list_asked : (e : Emptying) (job : Option Job) (server : ℕ) → JobTold told job → At e → Goes (asks_list e job server)
   list_asked e None server held h = stays e h
   list_asked e (Some job) server held h =
-      at_once (asks_list e (Some job) server).state (asks_list e (Some job) server).outs (record { job = held; feed = h.feed }) (tt, tt)
+      at_once (asks_list e (Some job) server).state (asks_list e (Some job) server).outs (record { job = held; feed = h.feed; log = h.log }) (tt, tt)
 
   usage_asked : (e : Emptying) (job : Option Job) (slot : ℕ) → JobTold told job → At e → Goes (asks_usage e job slot)
   usage_asked e None slot held h = stays e h
   usage_asked e (Some job) slot held h =
-      at_once (asks_usage e (Some job) slot).state (asks_usage e (Some job) slot).outs (record { job = held; feed = h.feed }) (tt, tt)
+      at_once (asks_usage e (Some job) slot).state (asks_usage e (Some job) slot).outs (record { job = held; feed = h.feed; log = h.log }) (tt, tt)
 
   hand_checked : (job : Job) (q : Questions) (hand : Option Hand) (block : BlockId) → JobTold told (Some job)
       → JobTold told (Some (hand_checks_in job q hand block).job)
@@ -93,7 +98,7 @@ module _ (told : Told) (done : List Act) where
   checked_kept : (e : Emptying) (job : Option Job) (block : BlockId) → JobTold told job → At e → At (checked_in e job block).state
   unfolding job_checks
   checked_kept e None block held h = h
-  checked_kept e (Some job) block held h = record { job = hand_checked job e.lasting.questions job.hand block held; feed = h.feed }
+  checked_kept e (Some job) block held h = record { job = hand_checked job e.lasting.questions job.hand block held; feed = h.feed; log = h.log }
 
   check_said : (e : Emptying) (block : BlockId) (place : Place) (ask : Option ℕ) → At e → Goes (check_sent e block place ask)
   check_said e block place None h = stays e h
@@ -115,7 +120,7 @@ module _ (told : Told) (done : List Act) where
 
   in_hand : (e : Emptying) (job : Option Job) (seg : SegRef) → JobTold told job → At e → At (holds_in e job seg)
   in_hand e None seg held h = h
-  in_hand e (Some job) seg held h = record { job = held; feed = h.feed }
+  in_hand e (Some job) seg held h = record { job = held; feed = h.feed; log = h.log }
 
   read_begun : (e : Emptying) (seg : SegRef) → At e → Goes (reads e seg)
   unfolding reads holds
@@ -128,19 +133,23 @@ module _ (told : Told) (done : List Act) where
   all_stored (log_out.Send f member ∷ outs) = (tt, all_stored outs)
   all_stored (log_out.Settled end rows ∷ outs) = all_stored outs
 
-  put_so : (e : Emptying) (i : LogIn) → At e → Goes (puts e i)
+  put_so : (e : Emptying) (i : LogIn) → At e → LogMoves told (log.transition e.log i).state → Goes (puts e i)
   unfolding puts
-  put_so e i h = at_once (record e { log = (log.transition e.log i).state }) (flat_map stored (log.transition e.log i).outs) h (all_stored (log.transition e.log i).outs)
+  put_so e i h logs =
+      at_once (record e { log = (log.transition e.log i).state }) (flat_map stored (log.transition e.log i).outs)
+      (record { job = h.job; feed = h.feed; log = logs }) (all_stored (log.transition e.log i).outs)
 
-  block_put : (e : Emptying) (one : BlockId × Entry × Option (List ℕ)) → At e → Goes (puts_block e one)
+  block_put : (e : Emptying) (one : BlockId × Entry × Option (List ℕ)) → BlockMoved told one → At e → Goes (puts_block e one)
   unfolding puts_block
-  block_put e one h = put_so e (log_in.Put one.0 one.1 one.2) h
+  block_put e one is h =
+      put_so e (log_in.Put one.0 one.1 one.2) h (put_moves told e.log one.0 (record { entry = one.1; value = one.2 }) is h.log)
 
-  blocks_moved : (e : Emptying) (blocks : List (BlockId × Entry × Option (List ℕ))) → At e → Goes (moves e blocks)
+  blocks_moved : (e : Emptying) (blocks : List (BlockId × Entry × Option (List ℕ))) → AllByRecursion (BlockMoved told) blocks → At e → Goes (moves e blocks)
   unfolding moves
-  blocks_moved e blocks h =
+  blocks_moved e blocks all h =
       let d : Done = steps puts_block e blocks in
-      frames.goes_on told done At d (puts d.state log_in.Seal) (frames.goes_steps told done At puts_block block_put e blocks h) (λ k. put_so d.state log_in.Seal k)
+      frames.goes_on told done At d (puts d.state log_in.Seal) (frames.goes_each told done At (BlockMoved told) puts_block block_put e blocks all h)
+      (λ k. put_so d.state log_in.Seal k (seal_moves told d.state.log k.log))
 
   -- ---- a segment is dropped
 
@@ -151,34 +160,40 @@ module _ (told : Told) (done : List Act) where
   segment_deleted : (e : Emptying) (job : Option Job) (server : ℕ) (name : SegName) → JobTold told job → At e → Goes (deletes e job server name)
   segment_deleted e None server name held h = stays e h
   segment_deleted e (Some job) server name held h =
-      at_once (deletes e (Some job) server name).state (deletes e (Some job) server name).outs (record { job = held; feed = h.feed })
+      at_once (deletes e (Some job) server name).state (deletes e (Some job) server name).outs (record { job = held; feed = h.feed; log = h.log })
       (all_append (frames.Says told done) (drops (is_whole job.hand) name) _ (drop_says (is_whole job.hand) name) (tt, tt))
 
   job_over : (e : Emptying) (count : ℕ) → At e → Goes (finishes e count)
-  job_over e count h = at_once (finishes e count).state (finishes e count).outs (record { job = tt; feed = h.feed })
+  job_over e count h = at_once (finishes e count).state (finishes e count).outs (record { job = tt; feed = h.feed; log = h.log })
       (frames.answers_say told done e.lasting.items.unanswered (Count count))
 
-  job_says : (e : Emptying) (o : Out) → At e → Goes (says e o)
+  job_says : (e : Emptying) (o : Out) → OutMoved told o → At e → Goes (says e o)
   unfolding says
-  job_says e out.Hello h = maps_asked e e.job h.job h
-  job_says e (out.List server) h = list_asked e e.job server h.job h
-  job_says e (out.UsageAsk slot) h = usage_asked e e.job slot h.job h
-  job_says e (out.Fetch seg) h = read_begun e seg h
-  job_says e (out.Check block place) h = check_asked e block place h
-  job_says e (out.Move blocks) h = blocks_moved e blocks h
-  job_says e (out.Delete server name) h = segment_deleted e e.job server name h.job h
-  job_says e (out.Finished count) h = job_over e count h
+  job_says e out.Hello is h = maps_asked e e.job h.job h
+  job_says e (out.List server) is h = list_asked e e.job server h.job h
+  job_says e (out.UsageAsk slot) is h = usage_asked e e.job slot h.job h
+  job_says e (out.Fetch seg) is h = read_begun e seg h
+  job_says e (out.Check block place) is h = check_asked e block place h
+  job_says e (out.Move blocks) is h = blocks_moved e blocks is h
+  job_says e (out.Delete server name) is h = segment_deleted e e.job server name h.job h
+  job_says e (out.Finished count) is h = job_over e count h
 
   -- ---- the job takes an input
 
   took : (e : Emptying) (job : Option Job) (given : Input) → InputTold told given → JobTold told job → At e → At (takes_in e job given).state
   took e None given is held h = h
-  took e (Some job) given is held h = record { job = cleaning_so told job.cleaning given is held; feed = h.feed }
+  took e (Some job) given is held h = record { job = cleaning_so told job.cleaning given is held; feed = h.feed; log = h.log }
+
+  gave : (e : Emptying) (job : Option Job) (given : Input) → InputTold told given → JobTold told job
+      → AllByRecursion (OutMoved told) (takes_in e job given).outs
+  gave e None given is held = tt
+  gave e (Some job) given is held = cleaning_gives told job.cleaning given is held
 
   pub job_goes_on : (e : Emptying) (given : Input) → InputTold told given → At e → Goes (cleans e given)
   unfolding cleans job_takes
   job_goes_on e given is h =
-      frames.goes_steps told done At says job_says (takes_in e e.job given).state (takes_in e e.job given).outs (took e e.job given is h.job h)
+      frames.goes_each told done At (OutMoved told) says job_says (takes_in e e.job given).state (takes_in e e.job given).outs (gave e e.job given is h.job)
+      (took e e.job given is h.job h)
 
   -- ---- what comes for it
 
@@ -216,7 +231,8 @@ module _ (told : Told) (done : List Act) where
 
   reading_ended : (e : Emptying) (read : Option Segment) → At e → Goes (ends_reading e read)
   unfolding ends_reading
-  reading_ended e read h = job_goes_on (record e { job = job_read e.job }) (input.Read read) tt (record { job = read_kept e.job h.job; feed = h.feed })
+  reading_ended e read h =
+      job_goes_on (record e { job = job_read e.job }) (input.Read read) tt (record { job = read_kept e.job h.job; feed = h.feed; log = h.log })
     where
       read_kept : (job : Option Job) → JobTold told job → JobTold told (job_read job)
       read_kept None held = tt
@@ -225,7 +241,7 @@ module _ (told : Told) (done : List Act) where
   confirms : (e : Emptying) (job : Option Job) (ask : ℕ) → JobTold told job → At e → At (confirmed_in e job ask).state
   unfolding job_confirmed
   confirms e None ask held h = h
-  confirms e (Some job) ask held h = record { job = by job.hand; feed = h.feed }
+  confirms e (Some job) ask held h = record { job = by job.hand; feed = h.feed; log = h.log }
     where
       by : (hand : Option Hand) → JobTold told (Some (hand_confirmed_in job hand ask).state)
       by None = held
@@ -256,7 +272,7 @@ module _ (told : Told) (done : List Act) where
   unfolding job_hears
   hears_told e None groups ask server t held h = h
   hears_told e (Some job) None ask server t held h = h
-  hears_told e (Some job) (Some groups) ask server t held h = record { job = by job.hand; feed = h.feed }
+  hears_told e (Some job) (Some groups) ask server t held h = record { job = by job.hand; feed = h.feed; log = h.log }
     where
       by : (hand : Option Hand) → JobTold told (Some (hand_hears_in job hand groups ask server t).state)
       by None = held
@@ -265,4 +281,5 @@ module _ (told : Told) (done : List Act) where
   pub told_came : (e : Emptying) (server : Option ℕ) (ask : ℕ) (t : Answered) → At e → Goes (on_told e server ask t)
   unfolding on_told told_by
   told_came e None ask t h = stays e h
-  told_came e (Some server) ask t h = told_so (told_by e ask server t).state (told_by e ask server t).next (hears_told e e.job e.maps.groups ask server t h.job h)
+  told_came e (Some server) ask t h =
+      told_so (told_by e ask server t).state (told_by e ask server t).next (hears_told e e.job e.maps.groups ask server t h.job h)

@@ -7,7 +7,13 @@ use Rattle.xfs_base.specs.declared.node.NodeId.TheVariants.{Cleaner as TheCleane
 use Rattle.xfs_base.specs.Steps.{still}
 use Rattle.log_owner.specs.declared.opened.Progress.{Progress}
 use Rattle.log_owner.specs.declared.opened.Progress.TheVariants as progress
+use Rattle.client_log.specs.LogState.{FlightState, LogState}
 use Rattle.log_owner.specs.declared.opening.Opening as openings
+use Rattle.log_owner.specs.declared.opening.Stage.{Stage}
+use Rattle.log_owner.specs.declared.opening.Stage.TheVariants as stage
+use Rattle.segment_format.specs.declared.segment.Item.{Item}
+use Rattle.segment_format.specs.declared.segment.Item.TheVariants as item
+use Rattle.std.specs.Prelude.{IfSome}
 use Rattle.log_owner.specs.Opening as opening
 use Rattle.log_owner.specs.Opening.{Went}
 use Rattle.log_owner.specs.Sending.{pushes_all}
@@ -38,7 +44,7 @@ use Rattle.cleaner_node.specs.declared.lasting.Lasting.{Lasting}
 use Rattle.cleaner_node.specs.EmptyingEvents.{on_clean, on_packet, on_tick}
 use Rattle.cleaner_node.specs.Jobs.{Done}
 use Rattle.filed_tie.proofs.Frames.{all_append, all_before, all_behind}
-use Rattle.entry_tie.specs.CleanerTells.{FateTold, CheckTold, CheckingTold, JobTold, PhaseHolds, CleanerHolds, PhaseOwed, CleanerOwed, CleanerStartsTold, CleanerHoldsRise, CleanerTellsTold}
+use Rattle.entry_tie.specs.CleanerTells.{MovedTold, WaitTold, ItemTold, FlightMoves, LogMoves, StageHolds, FateTold, CheckTold, CheckingTold, JobTold, PhaseHolds, CleanerHolds, PhaseOwed, CleanerOwed, CleanerStartsTold, CleanerHoldsRise, CleanerTellsTold}
 use Rattle.entry_tie.specs.ClientTells.{DeltasTold}
 use Rattle.entry_tie.specs.Told.{Told, BodyTold, DoTold, told_by, TellsTold}
 use Rattle.entry_tie.proofs.CleanerJobs as jobs
@@ -46,13 +52,14 @@ use Rattle.entry_tie.proofs.CleanerServing.{cleaning_wished, packet_heard, time_
 use Rattle.entry_tie.proofs.Feeds.{pushes_all_say}
 use Rattle.entry_tie.proofs.Frames as frames
 use Rattle.entry_tie.proofs.Frames.{all_weaker, contains_all}
+use Rattle.entry_tie.proofs.LogMoves.{empty_moves, acked_moves, maps_move, tick_moves}
 use Rattle.entry_tie.proofs.Openings as events
 use Rattle.entry_tie.proofs.Rising.{told_more, rows_rise}
 
 module _ (told : Told) (done : List Act) where
   abbrev PhaseSo : Phase → Type 0
   PhaseSo (Down l) = Unit {0}
-  PhaseSo (Opening l o) = Unit {0}
+  PhaseSo (Opening l o) = StageHolds told o.stage
   PhaseSo (Serving e) = jobs.At told done e
 
   abbrev Goes : Went_to → Type 0
@@ -70,6 +77,25 @@ module _ (told : Told) (done : List Act) where
   serves : (d : Done) → jobs.Goes told done d → Goes (serves_on d)
   serves d p acts = p acts
 
+  -- ---- the opening of the log
+
+  opening_log : events.KeepsLog (LogMoves told)
+  opening_log = record {
+    first = λ log inc end groups. record { waits = tt; flight = tt };
+    begins = empty_moves told;
+    acked = acked_moves told;
+    maps = maps_move told;
+    ticks = tick_moves told;
+  }
+
+  kept : (at : Stage) → StageHolds told at → events.StageKeeps told done (LogMoves told) opening_log at
+  kept (stage.Scanning s) h = tt
+  kept (stage.Settling s) h = h
+
+  held : (at : Stage) → events.StageKeeps told done (LogMoves told) opening_log at → StageHolds told at
+  held (stage.Scanning s) h = tt
+  held (stage.Settling s) h = h
+
   -- ---- crash and restart
 
   crashed : (l : Lasting) (number : ℕ) → Goes (crashes l number)
@@ -77,18 +103,18 @@ module _ (told : Told) (done : List Act) where
   crashed l number =
       at_once (crashes l number).state (crashes l number).outs tt (frames.both_say told done l.items.unanswered answer.Cut number answer.Done)
 
-  progressed : (l : Lasting) (p : Progress) → events.ProgressHolds told done p → Goes (after_opening l p)
+  progressed : (l : Lasting) (p : Progress) → events.ProgressHolds told done (LogMoves told) opening_log p → Goes (after_opening l p)
   unfolding after_opening
-  progressed l (progress.Opening o) h = stays (Opening l o) tt
+  progressed l (progress.Opening o) h = stays (Opening l o) (held o.stage h)
   progressed l (progress.Opened o) h =
-      at_once (after_opening l (progress.Opened o)).state (after_opening l (progress.Opened o)).outs (record { job = tt; feed = h })
+      at_once (after_opening l (progress.Opened o)).state (after_opening l (progress.Opened o)).outs (record { job = tt; feed = h.fed; log = h.keeps })
       (all_append (frames.Says told done) (pushes_all o.promised.managers o.feed) (answers_unanswered l.items.unanswered answer.Done)
-      (pushes_all_say told done o.promised.managers o.feed h) (frames.answers_say told done l.items.unanswered answer.Done))
+      (pushes_all_say told done o.promised.managers o.feed h.fed) (frames.answers_say told done l.items.unanswered answer.Done))
   progressed l (progress.Lost seg) h =
       at_once (after_opening l (progress.Lost seg)).state (after_opening l (progress.Lost seg)).outs tt
       (frames.answers_say told done l.items.unanswered (answer.Lost seg))
 
-  opened : (l : Lasting) (w : Went) → events.WentSo told done w → Goes (opened_on l w)
+  opened : (l : Lasting) (w : Went) → events.WentSo told done (LogMoves told) opening_log w → Goes (opened_on l w)
   opened l w p acts =
       let m : Lasting = record l { questions = w.questions } in
       let e : Went_to = after_opening m w.progress in
@@ -109,10 +135,10 @@ module _ (told : Told) (done : List Act) where
   down_wish servers l number Crash = answered (Down l) number answer.Down tt
   down_wish servers l number (Clean count) = answered (Down l) number answer.Down tt
 
-  opening_wish : (l : Lasting) (o : openings.Opening) (number : ℕ) (wish : Wish) → Goes (opening_wishes l o number wish)
-  opening_wish l o number Crash = crashed l number
-  opening_wish l o number Restart = answered (Opening l o) number answer.Up tt
-  opening_wish l o number (Clean count) = answered (Opening l o) number answer.Down tt
+  opening_wish : (l : Lasting) (o : openings.Opening) (number : ℕ) (wish : Wish) → StageHolds told o.stage → Goes (opening_wishes l o number wish)
+  opening_wish l o number Crash h = crashed l number
+  opening_wish l o number Restart h = answered (Opening l o) number answer.Up h
+  opening_wish l o number (Clean count) h = answered (Opening l o) number answer.Down h
 
   serving_wish : (e : Emptying) (number : ℕ) (wish : Wish) → jobs.At told done e → Goes (serving_wishes e number wish)
   serving_wish e number Crash h = crashed e.lasting number
@@ -123,9 +149,9 @@ module _ (told : Told) (done : List Act) where
   down_item servers l None = stays (Down l) tt
   down_item servers l (Some number) = down_wish servers l number (wish_at l.items number)
 
-  opening_item : (l : Lasting) (o : openings.Opening) (item : Option ℕ) → Goes (opening_at l o item)
-  opening_item l o None = stays (Opening l o) tt
-  opening_item l o (Some number) = opening_wish l o number (wish_at l.items number)
+  opening_item : (l : Lasting) (o : openings.Opening) (item : Option ℕ) → StageHolds told o.stage → Goes (opening_at l o item)
+  opening_item l o None h = stays (Opening l o) h
+  opening_item l o (Some number) h = opening_wish l o number (wish_at l.items number) h
 
   serving_item : (e : Emptying) (item : Option ℕ) → jobs.At told done e → Goes (serving_at e item)
   serving_item e None h = stays (Serving e) h
@@ -134,7 +160,7 @@ module _ (told : Told) (done : List Act) where
   item_begun : (servers : ℕ) (p : Phase) → PhaseSo p → Goes (on_begin servers p)
   unfolding on_begin
   item_begun servers (Down l) h = down_item servers (begun_life l) (next_item l.items)
-  item_begun servers (Opening l o) h = opening_item (begun_life l) o (next_item l.items)
+  item_begun servers (Opening l o) h = opening_item (begun_life l) o (next_item l.items) h
   item_begun servers (Serving e) h = serving_item (record e { lasting = begun_life e.lasting }) (next_item e.lasting.items) h
 
   -- ---- packets and time
@@ -142,7 +168,8 @@ module _ (told : Told) (done : List Act) where
   heard : (p : Phase) (packet : Packet) → BodyTold told packet.body → PhaseSo p → PhaseOwed told done p → Goes (hears p packet)
   unfolding hears
   heard (Down l) packet is h owed = stays (Down l) tt
-  heard (Opening l o) packet is h owed = opened l (opening.on_packet o l.questions packet) (events.packet_goes told done o l.questions packet owed)
+  heard (Opening l o) packet is h owed =
+      opened l (opening.on_packet o l.questions packet) (events.packet_goes told done (LogMoves told) opening_log o l.questions packet owed (kept o.stage h))
   heard (Serving e) packet is h owed = serves (on_packet e packet) (packet_heard told done e packet is h owed)
 
   delivered : (peers : Peers) (p : Phase) (packet : Packet) → BodyTold told packet.body → PhaseSo p → PhaseOwed told done p → Goes (on_deliver peers p packet)
@@ -153,7 +180,8 @@ module _ (told : Told) (done : List Act) where
   passed : (p : Phase) → PhaseSo p → PhaseOwed told done p → Goes (on_time p)
   unfolding on_time
   passed (Down l) h owed = stays (Down l) tt
-  passed (Opening l o) h owed = opened l (opening.on_tick o l.questions) (events.tick_goes told done o l.questions owed)
+  passed (Opening l o) h owed =
+      opened l (opening.on_tick o l.questions) (events.tick_goes told done (LogMoves told) opening_log o l.questions owed (kept o.stage h))
   passed (Serving e) h owed = serves (on_tick e) (time_passes told done e h)
 
   all_events : (peers : Peers) (p : Phase) (what : Do) → DoTold told what → PhaseSo p → PhaseOwed told done p → Goes (happens peers p what)
@@ -167,13 +195,13 @@ module _ (told : Told) (done : List Act) where
 
   stands : (p : Phase) → PhaseHolds told p → PhaseSo p
   stands (Down l) h = tt
-  stands (Opening l o) h = tt
-  stands (Serving e) h = record { job = h.job; feed = h.feed }
+  stands (Opening l o) h = h
+  stands (Serving e) h = record { job = h.job; feed = h.feed; log = h.log }
 
   holds : (p : Phase) → PhaseSo p → PhaseHolds told p
   holds (Down l) h = tt
-  holds (Opening l o) h = tt
-  holds (Serving e) h = record { job = h.job; feed = h.feed }
+  holds (Opening l o) h = h
+  holds (Serving e) h = record { job = h.job; feed = h.feed; log = h.log }
 
 -- ---- the law
 
@@ -191,7 +219,7 @@ pub cleaner_tells : CleanerTellsTold
 cleaner_tells rows cleaner what h is owed = any_cleaner_tells (told_by rows) cleaner what h is owed
 
 pub cleaner_starts : CleanerStartsTold
-cleaner_starts rows setup works = record { job = tt; feed = tt }
+cleaner_starts rows setup works = record { job = tt; feed = tt; log = record { waits = tt; flight = tt } }
 
 module _ (told later : Told) (more : (block : BlockId) (entry : Entry) → told block entry → later block entry) where
   fate_rises : (block : BlockId) (fate : Fate) → FateTold told block fate → FateTold later block fate
@@ -213,11 +241,34 @@ module _ (told later : Told) (more : (block : BlockId) (entry : Entry) → told 
   job_rises None h = tt
   job_rises (Some job) h = checking_rises job.cleaning.phase h
 
+  moved_rises : (block : BlockId) (entry : Entry) → MovedTold told block entry → MovedTold later block entry
+  moved_rises block entry h = record { before = h.before; is = more block h.before h.is; moved = h.moved }
+
+  item_rises : (i : Item) → ItemTold told i → ItemTold later i
+  item_rises (item.Block block value) h = tt
+  item_rises (item.Delta block ver hop at) h = record { before = h.before; is = more block h.before h.is; ver = h.ver; hop = h.hop }
+  item_rises (item.Part slot rows) h = tt
+
+  flight_rises : (o : Option FlightState) → IfSome o (FlightMoves told) → IfSome o (FlightMoves later)
+  flight_rises None h = tt
+  flight_rises (Some f) h = all_weaker (ItemTold told) (ItemTold later) item_rises f.segment.items h
+
+  log_rises : (log : LogState) → LogMoves told log → LogMoves later log
+  log_rises log h = record {
+    waits = all_weaker (WaitTold told) (WaitTold later) (λ w. moved_rises w.0 w.1.entry) log.dirty h.waits;
+    flight = flight_rises log.flight h.flight;
+  }
+
+  stage_rises : (at : Stage) → StageHolds told at → StageHolds later at
+  stage_rises (stage.Scanning s) h = tt
+  stage_rises (stage.Settling s) h = log_rises s.log h
+
   pub phase_rises : (p : Phase) → PhaseHolds told p → PhaseHolds later p
   phase_rises (Down l) h = tt
-  phase_rises (Opening l o) h = tt
+  phase_rises (Opening l o) h = stage_rises o.stage h
   phase_rises (Serving e) h = record {
     job = job_rises e.job h.job;
+    log = log_rises e.log h.log;
     feed = all_weaker (DeltasTold told) (DeltasTold later) (λ deltas. rows_rise told later more deltas.rows) e.feed.filed h.feed;
   }
 

@@ -43,13 +43,14 @@ use Rattle.node_base.specs.declared.effects.Effect.TheVariants.{Answer as Answer
 use Rattle.version_model.specs.declared.act.Act.TheVariants.{Filed}
 use Rattle.version_model.specs.declared.answer.Answer.TheVariants.{Busy}
 use Rattle.cleaner_node.specs.EmptyingEvents.{cleaner_log, promises_slot, promises_all, with_new_job, begins_job, on_clean, job_moved, fed, settles, writes_one, writes, on_ack, renews, promises, reports, on_poll, hears_slot, hears_slots, job_regrouped, log_regrouped, takes_news, on_news, hello_of, greeted, welcomes_over, welcomes, on_welcome, on_body, asks_for_maps, on_packet, on_tick}
-use Rattle.entry_tie.specs.CleanerTells.{JobTold}
+use Rattle.entry_tie.specs.CleanerTells.{JobTold, LogMoves}
 use Rattle.entry_tie.specs.ClientTells.{FlightOwed}
 use Rattle.entry_tie.specs.Told.{Told, RowsTold, BodyTold}
 use Rattle.entry_tie.proofs.CleanerFlights.{slots_flight, groups_flight}
 use Rattle.entry_tie.proofs.CleanerJobs as jobs
 use Rattle.entry_tie.proofs.Feeds.{settled_told, acknowledged_told, renewed_told, pushes_all_say}
 use Rattle.entry_tie.proofs.Frames as frames
+use Rattle.entry_tie.proofs.LogMoves.{acked_moves, maps_move, tick_moves}
 use Rattle.entry_tie.proofs.LogTurns.{IsSend, Rests, Lands, Turns, tick_rests, log_turns}
 
 module _ (told : Told) (done : List Act) where
@@ -76,7 +77,7 @@ module _ (told : Told) (done : List Act) where
   unfolding begins_job
   job_begun e number count h =
       let d : Done = promises_all (with_new_job e number count) in
-      frames.goes_on told done At d (cleans d.state input.Tick) (all_promised (with_new_job e number count) (record { job = tt; feed = h.feed }))
+      frames.goes_on told done At d (cleans d.state input.Tick) (all_promised (with_new_job e number count) (record { job = tt; feed = h.feed; log = h.log }))
       (λ k. jobs.job_goes_on told done d.state input.Tick tt k)
 
   pub cleaning_wished : (e : Emptying) (number count : ℕ) → At e → Goes (on_clean e number count)
@@ -93,7 +94,7 @@ module _ (told : Told) (done : List Act) where
   unfolding settles
   segment_settled e end rows h filed =
       let f : Emptying = fed e end rows in
-      let k : At f = record { job = job_kept e.job h.job; feed = settled_told told e.feed end.seq rows h.feed filed } in
+      let k : At f = record { job = job_kept e.job h.job; feed = settled_told told e.feed end.seq rows h.feed filed; log = h.log } in
       frames.goes_after told done At (Does (Filed (name_of cleaner_log end)) ∷ pushes_all f.promised.managers f.feed) (cleans f input.Moved)
       (tt, pushes_all_say told done f.promised.managers f.feed k.feed) (jobs.job_goes_on told done f input.Moved tt k)
     where
@@ -111,7 +112,7 @@ module _ (told : Told) (done : List Act) where
   sends_so e (log_out.Settled end rows ∷ outs) h all = absurd all.0
 
   -- the segment is told first: it is acted to be filed
-  lands_so : (e : Emptying) (l : LogState) (f : FlightState) (rest : List LogOut) → At e
+  lands_so : (e : Emptying) (l : LogState) (f : FlightState) (rest : List LogOut) → At (record e { log = l })
       → (Contains done (Filed (name_of cleaner_log (end_from f.segment))) → RowsTold told (rows_of f.segment)) → AllByRecursion IsSend rest
       → Goes (steps writes_one (record e { log = l }) (log_out.Settled (end_from f.segment) (rows_of f.segment) ∷ rest))
   unfolding writes_one settles
@@ -126,7 +127,10 @@ module _ (told : Told) (done : List Act) where
   abbrev Owed : Emptying → Type 0
   Owed e = FlightOwed told done cleaner_log e.log
 
-  writes_from : (e : Emptying) (r : log.Done) → At e → Owed e → Turns e.log.flight r → Goes (steps writes_one (record e { log = r.state }) r.outs)
+  writes_from : (e : Emptying) (r : log.Done) → At (record e {
+    log =
+        r.state;
+  }) → Owed e → Turns e.log.flight r → Goes (steps writes_one (record e { log = r.state }) r.outs)
   writes_from e r h owed turns =
       let t : Emptying = record e { log = r.state } in
       ⊎_elim
@@ -134,27 +138,29 @@ module _ (told : Told) (done : List Act) where
       (λ (lands : Lands e.log.flight r). subst (λ outs. Goes (steps writes_one t outs)) (sym lands.outs)
       (lands_so e r.state lands.flight lands.rest h (owed lands.flight lands.is) lands.sends)) turns
 
-  log_takes : (e : Emptying) (i : LogIn) → At e → Owed e → Goes (writes e i)
+  log_takes : (e : Emptying) (i : LogIn) → At e → LogMoves told (log.transition e.log i).state → Owed e → Goes (writes e i)
   unfolding writes
-  log_takes e i h owed = writes_from e (log.transition e.log i) h owed (log_turns e.log i)
+  log_takes e i h logs owed = writes_from e (log.transition e.log i) (record { job = h.job; feed = h.feed; log = logs }) owed (log_turns e.log i)
 
   log_ticks : (e : Emptying) → At e → Goes (writes e log_in.Tick)
   unfolding writes
-  log_ticks e h = sends_so (record e { log = (log.on_tick e.log).state }) (log.on_tick e.log).outs h (tick_rests e.log)
+  log_ticks e h =
+      sends_so (record e { log = (log.on_tick e.log).state }) (log.on_tick e.log).outs
+      (record { job = h.job; feed = h.feed; log = tick_moves told e.log h.log }) (tick_rests e.log)
 
   acknowledged : (e : Emptying) (m : DeltaAck) → At e → Goes (on_ack e m)
   unfolding on_ack
   acknowledged e m h =
       let t : Emptying = record e { feed = feed.acknowledged e.feed m.slot m.applied } in
       by_test (λ (d : Done). Goes d) (epoch_of e.promised m.slot == m.epoch) (still t) (still e)
-      (λ x. stays t (record { job = h.job; feed = acknowledged_told told e.feed m.slot m.applied h.feed })) (λ x. stays e h)
+      (λ x. stays t (record { job = h.job; feed = acknowledged_told told e.feed m.slot m.applied h.feed; log = h.log })) (λ x. stays e h)
 
   -- ---- promises
 
   renewed : (e : Emptying) (slot epoch : ℕ) → At e → At (renews e slot epoch)
   renewed e slot epoch h =
       by_test (λ (t : Emptying). At t) (nat_lt (epoch_of e.promised slot) epoch) (record e { feed = feed.new_epoch e.feed slot }) e
-      (λ t. record { job = h.job; feed = renewed_told told e.feed slot h.feed }) (λ t. h)
+      (λ t. record { job = h.job; feed = renewed_told told e.feed slot h.feed; log = h.log }) (λ t. h)
 
   promised : (e : Emptying) (slot epoch manager : ℕ) → At e → At (promises e slot epoch manager)
   unfolding promises
@@ -199,7 +205,7 @@ module _ (told : Told) (done : List Act) where
   job_hears_groups e false groups h = stays e h
 
   log_hears_groups : (e : Emptying) (newer : Bool) (groups : GroupMapState) → At e → Owed e → Goes (log_regrouped e newer groups)
-  log_hears_groups e true groups h owed = log_takes e (log_in.Maps groups) h owed
+  log_hears_groups e true groups h owed = log_takes e (log_in.Maps groups) h (maps_move told e.log groups h.log) owed
   log_hears_groups e false groups h owed = stays e h
 
   news_taken : (e : Emptying) (news : News) → At e → Owed e → Goes (takes_news e news)
@@ -226,7 +232,7 @@ module _ (told : Told) (done : List Act) where
   unfolding welcomes
   job_welcomed e m h =
       by_test (λ (d : Done). Goes d) (is_out (hello_of e.job) m.ask) (welcomes_over (record e { job = greeted e.job }) m.news.slots e.maps.groups) (still e)
-      (λ t. welcomed_over (record e { job = greeted e.job }) m.news.slots e.maps.groups (record { job = by e.job h.job; feed = h.feed })) (λ t. stays e h)
+      (λ t. welcomed_over (record e { job = greeted e.job }) m.news.slots e.maps.groups (record { job = by e.job h.job; feed = h.feed; log = h.log })) (λ t. stays e h)
     where
       by : (job : Option Job) → JobTold told job → JobTold told (greeted job)
       by None held = tt
@@ -246,7 +252,8 @@ module _ (told : Told) (done : List Act) where
   body_heard e from (body.Welcome m) is h owed = welcome_heard e m h owed
   body_heard e from (body.Poll m) is h owed = poll_heard e from m h
   body_heard e from (body.DeltaAck m) is h owed = acknowledged e m h
-  body_heard e from (body.Stored m) is h owed = log_takes e (log_in.Acked m.name m.index m.generation) h owed
+  body_heard e from (body.Stored m) is h owed =
+      log_takes e (log_in.Acked m.name m.index m.generation) h (acked_moves told e.log m.name m.index m.generation h.log) owed
   body_heard e from (body.Listed m) is h owed = jobs.list_came told done e (server_in from) m h
   body_heard e from (body.Usage m) is h owed = jobs.usage_came told done e m h
   body_heard e from (body.Fragment m) is h owed = jobs.told_came told done e (server_in from) m.ask (answered.Held m.fragment) h

@@ -1,5 +1,6 @@
 -- What each event makes of a client: it holds what is told, and tells nothing else.
 use Rattle.std.proofs.Common.{ℕ, List, [], ◌∷◌, Option, Some, None, is_some}
+use Rattle.client_log.specs.LogState.{LogState}
 use Rattle.client_node.specs.declared.call.Going.{Going}
 use Rattle.client_node.specs.declared.client.Client.{Client}
 use Rattle.client_node.specs.declared.lasting.Lasting.{Lasting}
@@ -16,6 +17,8 @@ use Rattle.log_owner.specs.declared.opened.Opened.{Opened}
 use Rattle.log_owner.specs.declared.opened.Progress.{Progress}
 use Rattle.log_owner.specs.declared.opened.Progress.TheVariants as progress
 use Rattle.log_owner.specs.declared.opening.Opening as openings
+use Rattle.log_owner.specs.declared.opening.Stage.{Stage}
+use Rattle.log_owner.specs.declared.opening.Stage.TheVariants as stage
 use Rattle.log_owner.specs.Opening as opening
 use Rattle.log_owner.specs.Opening.{Went}
 use Rattle.log_owner.specs.Sending.{pushes_all}
@@ -81,6 +84,23 @@ module _ (told : Told) (done : List Act) where
 
   -- ---- the end of an opening
 
+  -- of the log that is opened nothing is claimed
+  abbrev AnyLog : LogState → Type 0
+  AnyLog log = Unit {0}
+
+  any_log : events.KeepsLog AnyLog
+  any_log = record {
+    first = λ log inc end groups. tt;
+    begins = λ s h. tt;
+    acked = λ s name index generation h. tt;
+    maps = λ s groups h. tt;
+    ticks = λ s h. tt;
+  }
+
+  any_stage : (at : Stage) → events.StageKeeps told done AnyLog any_log at
+  any_stage (stage.Scanning s) = tt
+  any_stage (stage.Settling s) = tt
+
   back_so : (l : Lasting) (capacity : ℕ) (o : Opened) → FeedTold told o.feed → Goes (back l capacity o)
   back_so l capacity o h =
       frames.goes_plain told done PhaseSo (back l capacity o).state (back l capacity o).outs (record { fetches = λ block. tt; feed = h; reading = tt }) (
@@ -89,14 +109,14 @@ module _ (told : Told) (done : List Act) where
             (frames.answers_say told done l.items.unanswered answer.Done),
       )
 
-  after_opening_so : (l : Lasting) (capacity : ℕ) (p : Progress) → events.ProgressHolds told done p → Goes (after_opening l capacity p)
+  after_opening_so : (l : Lasting) (capacity : ℕ) (p : Progress) → events.ProgressHolds told done AnyLog any_log p → Goes (after_opening l capacity p)
   after_opening_so l capacity (progress.Opening o) h = still_so (Opening l o) tt
-  after_opening_so l capacity (progress.Opened o) h = back_so l capacity o h
+  after_opening_so l capacity (progress.Opened o) h = back_so l capacity o h.fed
   after_opening_so l capacity (progress.Lost seg) h =
       frames.goes_plain told done PhaseSo (Down (record l { items = answered l.items })) (answers_unanswered l.items.unanswered (answer.Lost seg)) tt
       (frames.answers_say told done l.items.unanswered (answer.Lost seg))
 
-  opened_on_so : (l : Lasting) (capacity : ℕ) (w : Went) → events.WentSo told done w → Goes (opened_on l capacity w)
+  opened_on_so : (l : Lasting) (capacity : ℕ) (w : Went) → events.WentSo told done AnyLog any_log w → Goes (opened_on l capacity w)
   opened_on_so l capacity w p acts =
       let m : Lasting = record l { questions = w.questions } in
       let e : Went_to = after_opening m capacity w.progress in
@@ -109,7 +129,8 @@ module _ (told : Told) (done : List Act) where
   serves_so : (d : Done) → tokens.Goes told done d → Goes (serves_on d)
   serves_so d p acts = p acts
 
-  begins_so : (s : Serving) (number : ℕ) (going : Option Going) → CallTold told going → tokens.At told done s → tokens.Goes told done (begins_call s number going)
+  begins_so : (s : Serving) (number : ℕ) (going : Option Going) → CallTold told going → tokens.At told done s
+      → tokens.Goes told done (begins_call s number going)
   begins_so s number None is h = tokens.plain_so told done s (Answers number answer.Done ∷ []) h (tt, tt)
   begins_so s number (Some x) is h =
       let t : Serving = record s { lasting = record s.lasting { items = waiting s.lasting.items number } } in
@@ -164,7 +185,7 @@ module _ (told : Told) (done : List Act) where
   unfolding on_deliver
   on_deliver_so capacity (Down l) packet is h owed = still_so (Down l) h
   on_deliver_so capacity (Opening l o) packet is h owed =
-      opened_on_so l capacity (opening.on_packet o l.questions packet) (events.packet_goes told done o l.questions packet owed)
+      opened_on_so l capacity (opening.on_packet o l.questions packet) (events.packet_goes told done AnyLog any_log o l.questions packet owed (any_stage o.stage))
   on_deliver_so capacity (Serves s) packet is h owed =
       serves_so (serving.and_runs told done (packets.on_packet s packet)) (serving.packet_so told done s packet is h owed)
 
@@ -177,7 +198,8 @@ module _ (told : Told) (done : List Act) where
   on_time_so : (capacity : ℕ) (p : Phase) → PhaseSo p → PhaseOwed told done p → Goes (on_time capacity p)
   unfolding on_time
   on_time_so capacity (Down l) h owed = still_so (Down l) h
-  on_time_so capacity (Opening l o) h owed = opened_on_so l capacity (opening.on_tick o l.questions) (events.tick_goes told done o l.questions owed)
+  on_time_so capacity (Opening l o) h owed =
+      opened_on_so l capacity (opening.on_tick o l.questions) (events.tick_goes told done AnyLog any_log o l.questions owed (any_stage o.stage))
   on_time_so capacity (Serves s) h owed = serves_so (serving.and_runs told done (packets.on_tick s)) (serving.time_so told done s h)
 
   happens_so : (client : Client) (what : Do) → DoTold told what → PhaseSo client.phase → PhaseOwed told done client.phase → Goes (happens client what)

@@ -82,7 +82,12 @@ module _ (told : Told) where
   need_out s block mode =
       by_test AllOut (must_ask (held_of s.blocks block) mode) (new_want s block mode) (still s) (λ _. new_want_out s block mode) (λ _. tt)
 
-  copy_out : (block : BlockId) (ver hop : ℕ) (place : Option Place) → told block (record { ver = ver; hop = hop; place = place }) → OutTold (copy_next block place)
+  copy_out : (block : BlockId) (ver hop : ℕ) (place : Option Place) → told block (record {
+    ver =
+        ver;
+    hop = hop;
+    place = place;
+  }) → OutTold (copy_next block place)
   copy_out block ver hop None is = tt
   copy_out block ver hop (Some place) is = record { ver = ver; there = record { hop = hop; is = is } }
 

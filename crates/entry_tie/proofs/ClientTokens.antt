@@ -161,7 +161,8 @@ module _ (told : Told) where
 
   pub evict_so : (s : TokensState) (block : BlockId) → FetchesTold s → FetchesTold (on_evict s block).state
   unfolding on_evict
-  evict_so s block all = by_test Keeps (may_evict (held_of s.blocks block)) _ (still s) (λ t. put_so s block (let_go (held_of s.blocks block)) (all block) all) (λ t. all)
+  evict_so s block all =
+      by_test Keeps (may_evict (held_of s.blocks block)) _ (still s) (λ t. put_so s block (let_go (held_of s.blocks block)) (all block) all) (λ t. all)
 
   reask_so : (s : TokensState) (block : BlockId) → FetchesTold s → Keeps (on_reask s block)
   unfolding on_reask
@@ -170,7 +171,8 @@ module _ (told : Told) where
 
   pub quit_so : (s : TokensState) (block : BlockId) → FetchesTold s → FetchesTold (on_quit s block).state
   unfolding on_quit
-  quit_so s block all = by_test Keeps (is_asking (held_of s.blocks block)) _ (still s) (λ t. put_so s block (unasked (held_of s.blocks block)) tt all) (λ t. all)
+  quit_so s block all =
+      by_test Keeps (is_asking (held_of s.blocks block)) _ (still s) (λ t. put_so s block (unasked (held_of s.blocks block)) tt all) (λ t. all)
 
   -- ---- promises, and time
 
@@ -244,7 +246,8 @@ asked_for s block mode = by_test (λ (d : Done). AllByRecursion IsWant d.outs) (
 
 all_asked : (s : TokensState) (blocks : List BlockId) → AllByRecursion IsWant (steps ask_copy s blocks).outs
 all_asked s [] = tt
-all_asked s (b ∷ bs) = all_append IsWant (ask_copy s b).outs (steps ask_copy (ask_copy s b).state bs).outs (asked_for s b Copy) (all_asked (ask_copy s b).state bs)
+all_asked s (b ∷ bs) =
+    all_append IsWant (ask_copy s b).outs (steps ask_copy (ask_copy s b).state bs).outs (asked_for s b Copy) (all_asked (ask_copy s b).state bs)
 
 pub promise_wants : (s : TokensState) (slot epoch : ℕ) → AllByRecursion IsWant (on_promise s slot epoch).outs
 unfolding on_promise

@@ -1,8 +1,8 @@
 -- What an event has a node do, step by step: where all that it acts is among the acts of the event, the node stands so then, and what it sends tells nothing
 -- but what is told.
 use Rattle.std.proofs.Common.{ℕ, Bool, List, [], ◌∷◌, ◌++◌, filter, Option, Some, None}
-use Rattle.std.specs.Prelude.{Contains, fold}
-use Rattle.std.specs.List.{AllByRecursion}
+use Rattle.std.specs.Prelude.{Contains, IfSome, fold}
+use Rattle.std.specs.List.{AllByRecursion, cons_option, filter_map}
 use Rattle.node_base.specs.Beginning.{answers_unanswered}
 use Rattle.node_base.specs.declared.effects.Effect.{Effect}
 use Rattle.node_base.specs.declared.effects.Effect.TheVariants.{Send, Answer as Answers, Lose, Does}
@@ -30,6 +30,15 @@ pub all_filter : {X : Type 0} (P : X → Type 0) (p : X → Bool) (xs : List X) 
 all_filter P p [] all = tt
 all_filter P p (x ∷ xs) all =
     by_test (AllByRecursion P) (p x) (x ∷ filter p xs) (filter p xs) (λ _. (all.0, all_filter P p xs all.1)) (λ _. all_filter P p xs all.1)
+
+all_cons : {Y : Type 0} (P : Y → Type 0) (o : Option Y) (ys : List Y) → IfSome o P → AllByRecursion P ys → AllByRecursion P (cons_option o ys)
+all_cons P None ys is all = all
+all_cons P (Some y) ys is all = (is, all)
+
+pub all_filter_map : {X Y : Type 0} (P : Y → Type 0) (Q : X → Type 0) (f : X → Option Y) → ((x : X) → Q x → IfSome (f x) P) → (xs : List X)
+    → AllByRecursion Q xs → AllByRecursion P (filter_map f xs)
+all_filter_map P Q f each [] all = tt
+all_filter_map P Q f each (x ∷ xs) all = all_cons P (f x) (filter_map f xs) (each x all.0) (all_filter_map P Q f each xs all.1)
 
 -- a list contains each of its items
 pub contains_all : {X : Type 0} (xs : List X) → AllByRecursion (Contains xs) xs

@@ -68,7 +68,8 @@ module _ (told : Told) where
   put_in Equal block entry row rows rest is new here all more = (subst (λ b. told b entry) (block_cmp_exact block row.0 is) new, all)
   put_in Greater block entry row rows rest is new here all more = (here, more)
 
-  inserted_told : (rows : Rows) (block : BlockId) (entry : Entry) → RowsTold told rows → told block entry → RowsTold told (insert_entry block_cmp rows block entry)
+  inserted_told : (rows : Rows) (block : BlockId) (entry : Entry) → RowsTold told rows → told block entry
+      → RowsTold told (insert_entry block_cmp rows block entry)
   inserted_told [] block entry all new = (new, tt)
   inserted_told (row ∷ rows) block entry all new =
       put_in (block_cmp block row.0) block entry row rows (insert_entry block_cmp rows block entry) refl new all.0 all.1 (inserted_told rows block entry all.1 new)

@@ -140,4 +140,5 @@ module _ (told : Told) (done : List Act) where
   -- an input by which nothing is settled
   pub rests_so : (s : Serving) (i : Input) → At s → Rests (log.transition s.log i) → Goes (writes s i)
   unfolding writes
-  rests_so s i h rests = (let t : Serving = record s { log = (log.transition s.log i).state } in said_so t (log.transition s.log i).outs (sends_so t (log.transition s.log i).outs h rests))
+  rests_so s i h rests =
+      (let t : Serving = record s { log = (log.transition s.log i).state } in said_so t (log.transition s.log i).outs (sends_so t (log.transition s.log i).outs h rests))

@@ -47,7 +47,8 @@ module _ (told : Told) where
   slot_read (p ∷ t) (suc place) all = slot_read t place all.1
 
   -- it is another
-  slot_put : (t : Table) (place : ℕ) (q : SlotPhase) → SlotHolds told q → AllByRecursion (SlotHolds told) t → AllByRecursion (SlotHolds told) (slice_set t place q)
+  slot_put : (t : Table) (place : ℕ) (q : SlotPhase) → SlotHolds told q → AllByRecursion (SlotHolds told) t
+      → AllByRecursion (SlotHolds told) (slice_set t place q)
   slot_put [] place q new all = tt
   slot_put (p ∷ t) zero q new all = (new, all.1)
   slot_put (p ∷ t) (suc place) q new all = (all.0, slot_put t place q new all.1)
@@ -148,7 +149,8 @@ module _ (told : Told) (nothing : AllowsNothing told) where
 
   one_asks : (polls : Bool) (a : TableAsker) (k : ℕ) → TableAskerHolds a → Any k → TableAsks (asks polls a k)
   unfolding asks
-  one_asks polls a k h any = at_taken-goes a k (λ one. takeovers.asks_again one k polls) (λ p at here. asker_asks told nothing (asker p a.questions) k polls here) h
+  one_asks polls a k h any =
+      at_taken-goes a k (λ one. takeovers.asks_again one k polls) (λ p at here. asker_asks told nothing (asker p a.questions) k polls here) h
 
   pub table_asks : (polls : Bool) (a : TableAsker) → TableAskerHolds a → TableAsks (asks_all polls a)
   table_asks polls a h = leaves_each TableAskerHolds Gives Any (asks polls) (one_asks polls) a all_slots h any_slots

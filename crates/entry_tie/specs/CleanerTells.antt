@@ -1,5 +1,5 @@
 -- What the cleaner holds of where blocks lie.
-use Rattle.std.specs.Prelude.{◌≡◌, List, Option, Some, None}
+use Rattle.std.specs.Prelude.{◌≡◌, ℕ, ◌+◌, List, Option, Some, None, IfSome}
 use Rattle.std.specs.List.{AllByRecursion}
 use Rattle.cleaner_node.specs.CleanerEvents.{cleaner_start, cleaner_step}
 use Rattle.cleaner_node.specs.declared.cleaner.Cleaner.{Cleaner}
@@ -8,6 +8,12 @@ use Rattle.cleaner_node.specs.declared.cleaner.Phase.TheVariants.{Down, Opening,
 use Rattle.cleaner_node.specs.declared.emptying.Emptying.{Emptying}
 use Rattle.cleaner_node.specs.declared.job.Job.{Job}
 use Rattle.cleaner_node.specs.EmptyingEvents.{cleaner_log}
+use Rattle.client_log.specs.declared.dirty.Change.{Change}
+use Rattle.client_log.specs.LogState.{FlightState, LogState}
+use Rattle.log_owner.specs.declared.opening.Stage.{Stage}
+use Rattle.log_owner.specs.declared.opening.Stage.TheVariants as stage
+use Rattle.segment_format.specs.declared.segment.Item.{Item}
+use Rattle.segment_format.specs.declared.segment.Item.TheVariants as item
 use Rattle.stripe_cleaner.specs.Checks.{moved_once}
 use Rattle.stripe_cleaner.specs.declared.checks.Check.{Check}
 use Rattle.stripe_cleaner.specs.declared.checks.Fate.{Fate}
@@ -54,13 +60,47 @@ abbrev pub JobTold : Told → Option Job → Type 0
 JobTold told None = Unit {0}
 JobTold told (Some job) = CheckingTold told job.cleaning.phase
 
+-- what waits in its log is moved from where it is told
+abbrev pub WaitTold : Told → BlockId × Change → Type 0
+WaitTold told wait = MovedTold told wait.0 wait.1.entry
+
+-- a version of the block that is told, moved once more
+pub record VersionTold (told : Told) (block : BlockId) (its_ver its_hop : ℕ) : Type 0 where
+  pub before : Entry
+  pub is : told block before
+  pub ver : its_ver ≡ before.ver
+  pub hop : its_hop ≡ before.hop + 1
+
+-- each Delta of a segment that it writes says of such a version
+abbrev pub ItemTold : Told → Item → Type 0
+ItemTold told (item.Block block value) = Unit {0}
+ItemTold told (item.Delta block ver hop at) = VersionTold told block ver hop
+ItemTold told (item.Part slot rows) = Unit {0}
+
+abbrev pub FlightMoves : Told → FlightState → Type 0
+FlightMoves told flight = AllByRecursion (ItemTold told) flight.segment.items
+
+-- what waits and what is in flight
+pub record MovesOn (told : Told) (dirty : List (BlockId × Change)) (flies : Option FlightState) : Type 0 where
+  pub waits : AllByRecursion (WaitTold told) dirty
+  pub flight : IfSome flies (FlightMoves told)
+
+abbrev pub LogMoves : Told → LogState → Type 0
+LogMoves told log = MovesOn told log.dirty log.flight
+
+-- an opening has only the opening segment in flight
+abbrev pub StageHolds : Told → Stage → Type 0
+StageHolds told (stage.Scanning s) = Unit {0}
+StageHolds told (stage.Settling s) = LogMoves told s.log
+
 pub record EmptyingHolds (told : Told) (e : Emptying) : Type 0 where
   pub job : JobTold told e.job
+  pub log : LogMoves told e.log
   pub feed : FeedTold told e.feed
 
 abbrev pub PhaseHolds : Told → Phase → Type 0
 PhaseHolds told (Down l) = Unit {0}
-PhaseHolds told (Opening l o) = Unit {0}
+PhaseHolds told (Opening l o) = StageHolds told o.stage
 PhaseHolds told (Serving e) = EmptyingHolds told e
 
 abbrev pub CleanerHolds : Told → Cleaner → Type 0
