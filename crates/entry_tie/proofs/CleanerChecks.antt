@@ -185,7 +185,8 @@ module _ (told : Told) where
 
   deleted_keeps : (server : ℕ) (name : SegName) (p : Phase) → CheckingTold told p → Keeps (deleted_in server name p)
   deleted_keeps server name (Deleting j segment servers) h =
-      by_test Keeps (same_name name segment.name && is_among servers server) (left_to_delete j segment (without servers server)) (still (Deleting j segment servers))
+      by_test Keeps (same_name name segment.name && is_among servers server) (left_to_delete j segment (without servers server))
+      (still (Deleting j segment servers))
       (λ t. by_test Keeps (length (without servers server) == 0) (next (counted j)) _ (λ u. next_keeps (counted j)) (λ u. tt)) (λ t. tt)
   deleted_keeps server name (Checking j segment checks) h = h
   deleted_keeps server name (Counting c) h = tt
@@ -356,7 +357,8 @@ module _ (told : Told) where
 
   deleted_gives : (server : ℕ) (name : SegName) (p : Phase) → Gives (deleted_in server name p)
   deleted_gives server name (Deleting j segment servers) =
-      by_test Gives (same_name name segment.name && is_among servers server) (left_to_delete j segment (without servers server)) (still (Deleting j segment servers))
+      by_test Gives (same_name name segment.name && is_among servers server) (left_to_delete j segment (without servers server))
+      (still (Deleting j segment servers))
       (λ t. by_test Gives (length (without servers server) == 0) (next (counted j)) _ (λ u. next_gives (counted j)) (λ u. tt)) (λ t. tt)
   deleted_gives server name (Checking j segment checks) = tt
   deleted_gives server name (Counting c) = tt

@@ -232,7 +232,8 @@ module _ (told : Told) (done : List Act) where
   unfolding welcomes
   job_welcomed e m h =
       by_test (λ (d : Done). Goes d) (is_out (hello_of e.job) m.ask) (welcomes_over (record e { job = greeted e.job }) m.news.slots e.maps.groups) (still e)
-      (λ t. welcomed_over (record e { job = greeted e.job }) m.news.slots e.maps.groups (record { job = by e.job h.job; feed = h.feed; log = h.log })) (λ t. stays e h)
+      (λ t. welcomed_over (record e { job = greeted e.job }) m.news.slots e.maps.groups (record { job = by e.job h.job; feed = h.feed; log = h.log }))
+      (λ t. stays e h)
     where
       by : (job : Option Job) → JobTold told job → JobTold told (greeted job)
       by None held = tt

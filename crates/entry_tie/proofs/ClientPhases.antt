@@ -185,7 +185,8 @@ module _ (told : Told) (done : List Act) where
   unfolding on_deliver
   on_deliver_so capacity (Down l) packet is h owed = still_so (Down l) h
   on_deliver_so capacity (Opening l o) packet is h owed =
-      opened_on_so l capacity (opening.on_packet o l.questions packet) (events.packet_goes told done AnyLog any_log o l.questions packet owed (any_stage o.stage))
+      opened_on_so l capacity (opening.on_packet o l.questions packet)
+      (events.packet_goes told done AnyLog any_log o l.questions packet owed (any_stage o.stage))
   on_deliver_so capacity (Serves s) packet is h owed =
       serves_so (serving.and_runs told done (packets.on_packet s packet)) (serving.packet_so told done s packet is h owed)
 

@@ -1,4 +1,5 @@
--- What the tokens of a client have it read from logs, at each input: a block is read where a grant tells it to lie; and a reading, once it is begun, is of one place.
+-- What the tokens of a client have it read from logs, at each input: a block is read where a grant tells it to lie; and a reading that is begun is of one
+-- place.
 use Rattle.std.proofs.Common.{ℕ, Bool, List, [], ◌∷◌, Option, Some, None, is_some}
 use Rattle.std.specs.List.{AllByRecursion, list_any}
 use Rattle.std.specs.Map.{values_of}
@@ -96,7 +97,11 @@ module _ (told : Told) where
   unfolding on_granted
   granted_out s block stamp inc req mode entry is =
       by_test AllOut (accepts s block stamp inc req mode) _ (still s)
-      (λ _. (by_test OutTold (is_own mode) (output.Ready block) (copy_next block entry.place) (λ _. tt) (λ _. copy_out block entry.ver entry.hop entry.place is), tt))
+      (λ _. (
+        by_test OutTold (is_own mode) (output.Ready block) (copy_next block entry.place) (λ _. tt)
+            (λ _. copy_out block entry.ver entry.hop entry.place is),
+        tt,
+      ))
       (λ _. tt)
 
   supplied_out : (s : TokensState) (block : BlockId) (stamp : Stamp) (inc req ver : ℕ) (value : Option (List ℕ))

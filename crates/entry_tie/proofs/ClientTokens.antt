@@ -150,14 +150,16 @@ module _ (told : Told) where
   pub settled_so : (s : TokensState) (block : BlockId) (ver : ℕ) → FetchesTold s → FetchesTold (on_settled s block ver).state
   unfolding on_settled
   settled_so s block ver all =
-      by_test Keeps (is_settled_by (held_of s.blocks block) ver) _ (still s) (λ t. put_so s block (version_settled (held_of s.blocks block) ver) (all block) all)
+      by_test Keeps (is_settled_by (held_of s.blocks block) ver) _ (still s)
+      (λ t. put_so s block (version_settled (held_of s.blocks block) ver) (all block) all)
       (λ t. all)
 
   fetched_so : (s : TokensState) (block : BlockId) (value : Option (List ℕ)) → FetchesTold s → Keeps (on_fetched s block value)
   unfolding on_fetched
   fetched_so s block value all =
       let h : Held = held_of s.blocks block in
-      by_test Keeps (may_end_fetch h) _ (still s) (λ t. put_so s block (fetch_ended h h.fetch value) (ended_so h block h.fetch value (all block)) all) (λ t. all)
+      by_test Keeps (may_end_fetch h) _ (still s) (λ t. put_so s block (fetch_ended h h.fetch value) (ended_so h block h.fetch value (all block)) all)
+      (λ t. all)
 
   pub evict_so : (s : TokensState) (block : BlockId) → FetchesTold s → FetchesTold (on_evict s block).state
   unfolding on_evict

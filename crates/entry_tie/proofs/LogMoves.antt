@@ -62,7 +62,12 @@ module _ (told : Told) where
   change_told : (before : ℕ) (block : BlockId) (change : Change) → MovedTold told block change.entry
       → AllByRecursion (ItemTold told) (change_items before block change)
   change_told before block change is =
-      let version : VersionTold told block change.entry.ver change.entry.hop = record { before = is.before; is = is.is; ver = ap (λ (e : Entry). e.ver) is.moved; hop = ap (λ (e : Entry). e.hop) is.moved } in
+      let version : VersionTold told block change.entry.ver change.entry.hop = record {
+        before = is.before;
+        is = is.is;
+        ver = ap (λ (e : Entry). e.ver) is.moved;
+        hop = ap (λ (e : Entry). e.hop) is.moved;
+      } in
       elim change.value as (λ o. AllByRecursion (ItemTold told) (elim o [
         | None ↦ Delta block change.entry.ver change.entry.hop no_item ∷ []
         | Some bytes ↦ Block block (Some bytes) ∷ Delta block change.entry.ver change.entry.hop before ∷ []

@@ -36,7 +36,8 @@ module _ (told : Told) where
   unfolding sealed
   sealed_holds s clear =
       let t : LogState = record s { dirty = drop segment_blocks s.dirty } in
-      launched_holds t (next_name t) (prior_from s.end) (items_of 0 (take segment_blocks s.dirty)) (ap (λ (d : List (BlockId × Change)). drop segment_blocks d) clear)
+      launched_holds t (next_name t) (prior_from s.end) (items_of 0 (take segment_blocks s.dirty))
+      (ap (λ (d : List (BlockId × Change)). drop segment_blocks d) clear)
       (subst (λ (d : List (BlockId × Change)). AllByRecursion (PartTold told) (items_of 0 (take segment_blocks d))) (sym clear) tt)
 
   if_full_holds : (s : LogState) → LogHolds told s → Keeps (if_full s)

@@ -172,7 +172,8 @@ module _ (told : Told) (nothing : AllowsNothing told) where
       → Does (on_body s clients from said)
   body_on s clients from (body.MapNews news) h is owed = fitting_on s clients news h
   body_on s clients from (body.Welcome welcome) h is owed =
-      by_test Does (welcome.inc == s.lasting.inc) (on_fitting_news s clients welcome.news) (still s) (λ _. fitting_on s clients welcome.news h) (λ _. unmoved s h)
+      by_test Does (welcome.inc == s.lasting.inc) (on_fitting_news s clients welcome.news) (still s) (λ _. fitting_on s clients welcome.news h)
+      (λ _. unmoved s h)
   body_on s clients from (body.Want want) h is owed = want_on s (client_in from) want h
   body_on s clients from (body.Gave gave) h is owed = gave_on s (client_in from) gave h
   body_on s clients from (body.Deltas deltas) h is owed = deltas_on s (fed_log from) deltas h is

@@ -72,12 +72,14 @@ module _ (told : Told) where
       → RowsTold told (insert_entry block_cmp rows block entry)
   inserted_told [] block entry all new = (new, tt)
   inserted_told (row ∷ rows) block entry all new =
-      put_in (block_cmp block row.0) block entry row rows (insert_entry block_cmp rows block entry) refl new all.0 all.1 (inserted_told rows block entry all.1 new)
+      put_in (block_cmp block row.0) block entry row rows (insert_entry block_cmp rows block entry) refl new all.0 all.1
+      (inserted_told rows block entry all.1 new)
 
   merged_told : (rows : Rows) (block : BlockId) (entry : Entry) → RowsTold told rows → told block entry → RowsTold told (merged rows block entry)
   unfolding merged
   merged_told rows block entry all new =
-      by_test (RowsTold told) (is_newer entry (entry_of rows block)) (insert_entry block_cmp rows block entry) rows (λ t. inserted_told rows block entry all new)
+      by_test (RowsTold told) (is_newer entry (entry_of rows block)) (insert_entry block_cmp rows block entry) rows
+      (λ t. inserted_told rows block entry all new)
       (λ t. all)
 
   all_merged : (rows more : Rows) → RowsTold told rows → RowsTold told more → RowsTold told (merged_all rows more)

@@ -71,7 +71,8 @@ module _ (told : Told) (done : List Act) where
   lets_go_so s block h =
       let t : Serving = record s { tokens = (client.on_evict s.tokens block).state } in
       by_test (λ (u : Serving). At u) (is_none (held_at s block).value) (notes_gone t block) s
-      (λ e. serving.notes_gone_so told done t block (record { fetches = tokens.evict_so told s.tokens block h.fetches; feed = h.feed; reading = h.reading })) (λ e. h)
+      (λ e. serving.notes_gone_so told done t block
+      (record { fetches = tokens.evict_so told s.tokens block h.fetches; feed = h.feed; reading = h.reading })) (λ e. h)
 
   held_back_so : (s : Serving) (block : BlockId) → At s → Goes (held_back s block).done
   held_back_so s block h = serving.still_so told done (lets_go s block) (lets_go_so s block h)
@@ -85,13 +86,15 @@ module _ (told : Told) (done : List Act) where
   puts_so : (s : Serving) (block : BlockId) (value : Option (List ℕ)) → At s → Goes (puts s block value).done
   unfolding puts
   puts_so s block value h =
-      by_test (λ (m : Made). Goes m.done) (may_write (held_at s block)) (changes_if_fits s block value) (needs s block Own) (λ t. changes_if_fits_so s block value h)
+      by_test (λ (m : Made). Goes m.done) (may_write (held_at s block)) (changes_if_fits s block value) (needs s block Own)
+      (λ t. changes_if_fits_so s block value h)
       (λ t. needs_so s block Own h)
 
   puts_again_so : (s : Serving) (block : BlockId) (ver : ℕ) (value : Option (List ℕ)) → At s
       → Goes (puts_again s block ver value).done
   puts_again_so s block ver value h =
-      by_test (λ (m : Made). Goes m.done) ((held_at s block).ver == ver) (changes_if_fits s block value) (changed s block) (λ t. changes_if_fits_so s block value h)
+      by_test (λ (m : Made). Goes m.done) ((held_at s block).ver == ver) (changes_if_fits s block value) (changed s block)
+      (λ t. changes_if_fits_so s block value h)
       (λ t. serving.still_so told done (lets_go s block) (lets_go_so s block h))
 
   puts_at_so : (s : Serving) (block : BlockId) (ver : ℕ) (value : Option (List ℕ)) → At s

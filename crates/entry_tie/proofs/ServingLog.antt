@@ -1,5 +1,5 @@
--- What a client that serves does once its log takes an input: where the segment that was in flight is settled it is acted to be filed, so the feed keeps what it
--- says.
+-- What a client that serves does once its log takes an input: where the segment that was in flight is settled it is acted to be filed, so the feed keeps
+-- what it says.
 use Rattle.std.proofs.Common.{⊎_elim, ◌&&◌, not, Bool, List, [], ◌∷◌, Option, Some, None, sym, subst}
 use Rattle.std.specs.Prelude.{Contains, fold}
 use Rattle.std.specs.List.{AllByRecursion, list_any}
@@ -99,7 +99,8 @@ module _ (told : Told) (done : List Act) where
 
   seals_again_so : (s : Serving) (settling : Bool) → At s → Goes (seals_again s settling)
   seals_again_so s settling h =
-      by_test (λ (d : Done). Goes d) (settling && is_giving s.tokens) (seals s) (still s) (λ t. serving.seals_so told done s h) (λ t. serving.still_so told done s h)
+      by_test (λ (d : Done). Goes d) (settling && is_giving s.tokens) (seals s) (still s) (λ t. serving.seals_so told done s h)
+      (λ t. serving.still_so told done s h)
 
   -- what it said is done
   abbrev said : Serving → List Out → Done
@@ -141,4 +142,5 @@ module _ (told : Told) (done : List Act) where
   pub rests_so : (s : Serving) (i : Input) → At s → Rests (log.transition s.log i) → Goes (writes s i)
   unfolding writes
   rests_so s i h rests =
-      (let t : Serving = record s { log = (log.transition s.log i).state } in said_so t (log.transition s.log i).outs (sends_so t (log.transition s.log i).outs h rests))
+      let t : Serving = record s { log = (log.transition s.log i).state } in
+      said_so t (log.transition s.log i).outs (sends_so t (log.transition s.log i).outs h rests)

@@ -183,7 +183,8 @@ module _ (told : Told) (done : List Act) where
   unfolding polled
   polled_so s manager p h =
       by_test (λ (d : Done). Goes d) (may_report s p) (reports p.slot p.epoch (promises s p.slot p.epoch manager)) (still s)
-      (λ t. reports_so p.slot p.epoch (promises s p.slot p.epoch manager) (promises_told s p.slot p.epoch manager) (promises_so s p.slot p.epoch manager h)) (λ t. still_so s h)
+      (λ t. reports_so p.slot p.epoch (promises s p.slot p.epoch manager) (promises_told s p.slot p.epoch manager)
+      (promises_so s p.slot p.epoch manager h)) (λ t. still_so s h)
 
   on_poll_so : (s : Serving) (from : NodeId) (p : Poll) → At s → Goes (on_poll s from p)
   on_poll_so s (node.Manager manager) p h = polled_so s manager p h

@@ -116,7 +116,8 @@ module _ (told : Told) (done : List Act) where
   loses_so s block seg h =
       plain_so (record s { lasting = record s.lasting { items = answered s.lasting.items }; call = None; tokens = (client.on_quit s.tokens block).state })
       (Lose seg ∷ answers_unanswered s.lasting.items.unanswered (Lost seg))
-      (record { fetches = tokens.quit_so told s.tokens block h.fetches; feed = h.feed; reading = tt }) (tt, frames.answers_say told done s.lasting.items.unanswered (Lost seg))
+      (record { fetches = tokens.quit_so told s.tokens block h.fetches; feed = h.feed; reading = tt })
+      (tt, frames.answers_say told done s.lasting.items.unanswered (Lost seg))
 
   loses_at_so : (s : Serving) (at : Option BlockAt) (seg : SegName) → At s → Goes (loses_at s at seg)
   loses_at_so s None seg h = still_so s h

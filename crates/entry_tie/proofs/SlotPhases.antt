@@ -76,7 +76,8 @@ module _ (told : Told) (nothing : AllowsNothing told) where
       record {
         state = d.state;
         outs =
-            all_flat_map_of Says (SlotOutTold told nothing) (said number a.slot.epoch) (one_said number a.slot.epoch) (slot.transition a.slot given).outs d.outs;
+            all_flat_map_of Says (SlotOutTold told nothing) (said number a.slot.epoch) (one_said number a.slot.epoch)
+            (slot.transition a.slot given).outs d.outs;
       }
   phase_takes (phase.Away epoch) number given is h = record { state = tt; outs = tt }
   phase_takes (phase.Taking t) number given is h = record { state = h; outs = tt }

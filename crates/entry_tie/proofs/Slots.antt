@@ -118,7 +118,8 @@ module _ (told : Told) (nothing : AllowsNothing told) where
 
   apply_on : (s : SlotState) (log : LogId) (upto : ℕ) (rows : List (BlockId × Entry)) → RowsTold told rows → StateHolds s → Goes (apply s log upto rows)
   apply_on s log upto rows new h =
-      goes_after StateHolds OutTold (Applied log upto ∷ []) (steps finished_at (with_deltas s log upto rows) (ready_blocks s.jobs (applied_upto s.applied log upto)))
+      goes_after StateHolds OutTold (Applied log upto ∷ [])
+      (steps finished_at (with_deltas s log upto rows) (ready_blocks s.jobs (applied_upto s.applied log upto)))
       (tt, tt)
       (each_finished (with_deltas s log upto rows) (ready_blocks s.jobs (applied_upto s.applied log upto)) (indexed_told told s.index rows h new))
 

@@ -13,9 +13,9 @@ ghost use Rattle.entry_tie.specs.ManagerTells.{ManagerHoldsRise, ManagerStartsTo
 ///
 /// - `start`: a client at its start holds nothing of it.
 /// - `rises`: what filed segments said they say later too.
-/// - `events`: where the place of each block that the client fetches or reads, each row that its feed keeps, and what the packet that comes tells, is what filed
-///   segments say, and so is what the segment says that its log has in flight, and each that it read back, where it acts them to be filed in the event, then so
-///   is all that it holds after the event, and all that it sends.
+/// - `events`: where the place of each block that the client fetches or reads, each row that its feed keeps, and what the packet that comes tells, is what
+///   filed segments say, and so is what the segment says that its log has in flight, and each that it read back, where it acts them to be filed in the event,
+///   then so is all that it holds after the event, and all that it sends.
 pub fn clients_tell_told_entries()
     ensures start { ClientStartsTold }
     ensures rises { ClientHoldsRise }
@@ -39,9 +39,9 @@ pub fn managers_tell_told_entries()
 ///
 /// - `start`: the cleaner at its start holds nothing of it.
 /// - `rises`: what filed segments said they say later too.
-/// - `events`: where what its job knows of live blocks, what waits in its log, and what is in flight there, is what filed segments say, moved once more, and each
-///   row that its feed keeps, and what the packet that comes tells, is what filed segments say, and so is what the segment says that its log has in flight, and
-///   each that it read back, where it acts them to be filed in the event, then so is all that it holds after the event, and all that it sends.
+/// - `events`: where what its job knows of live blocks, what waits in its log, and what is in flight there, is what filed segments say, moved once more, and
+///   each row that its feed keeps, and what the packet that comes tells, is what filed segments say, and so is what the segment says that its log has in
+///   flight, and each that it read back, where it acts them to be filed in the event, then so is all that it holds after the event, and all that it sends.
 pub fn cleaner_tells_told_entries()
     ensures start { CleanerStartsTold }
     ensures rises { CleanerHoldsRise }
