@@ -26,3 +26,5 @@ mod CleanerFlights
 mod CleanerJobs
 mod CleanerServing
 pub mod CleanerPhases
+pub mod Servers
+pub mod Registries

@@ -2,12 +2,13 @@
 //! function below has an empty body, and its contract is a law. `specs/Told.antt` says what of a packet tells where a block lies.
 //!
 //! The laws are stated of the rows that filed segments say; they are proved of any entries that are told, in `proofs/ClientPhases.antt`,
-//! `proofs/Managers.antt` and `proofs/CleanerPhases.antt`.
+//! `proofs/Managers.antt`, `proofs/CleanerPhases.antt`, `proofs/Servers.antt` and `proofs/Registries.antt`.
 #![tactic(auto)]
 
 ghost use Rattle.entry_tie.specs.CleanerTells.{CleanerHoldsRise, CleanerStartsTold, CleanerTellsTold};
 ghost use Rattle.entry_tie.specs.ClientTells.{ClientHoldsRise, ClientStartsTold, ClientsTellTold};
 ghost use Rattle.entry_tie.specs.ManagerTells.{ManagerHoldsRise, ManagerStartsTold, ManagersTellTold};
+ghost use Rattle.entry_tie.specs.OtherTells.{RegistryTellsNone, ServersTellNone};
 
 /// What a client holds and tells of where blocks lie was filed.
 ///
@@ -46,4 +47,18 @@ pub fn cleaner_tells_told_entries()
     ensures start { CleanerStartsTold }
     ensures rises { CleanerHoldsRise }
     ensures events { CleanerTellsTold }
+{}
+
+/// A storage server tells nothing of where blocks lie.
+///
+/// - `events`: whatever was filed, and whatever happens to the server, no packet that it sends tells where a block lies.
+pub fn servers_tell_no_entries()
+    ensures events { ServersTellNone }
+{}
+
+/// The registry tells nothing of where blocks lie.
+///
+/// - `events`: whatever was filed, and whatever happens to the registry, no packet that it sends tells where a block lies.
+pub fn registry_tells_no_entries()
+    ensures events { RegistryTellsNone }
 {}
