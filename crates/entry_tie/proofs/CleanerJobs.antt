@@ -48,7 +48,8 @@ use Rattle.entry_tie.specs.CleanerTells.{JobTold, MovesOn, LogMoves}
 use Rattle.entry_tie.specs.ClientTells.{FeedTold}
 use Rattle.entry_tie.specs.Told.{Told}
 use Rattle.entry_tie.proofs.Frames as frames
-use Rattle.entry_tie.proofs.CleanerChecks.{InputTold, BlockMoved, OutMoved, cleaning_so, cleaning_gives}
+use Rattle.entry_tie.proofs.CleanerChecks.{InputTold, cleaning_so}
+use Rattle.entry_tie.proofs.CleanerMoves.{BlockMoved, OutMoved, cleaning_gives}
 use Rattle.entry_tie.proofs.LogMoves.{put_moves, seal_moves}
 
 module _ (told : Told) (done : List Act) where

@@ -21,6 +21,7 @@ mod Checkpointing
 mod ManagerServing
 pub mod Managers
 pub mod CleanerChecks
+pub mod CleanerMoves
 pub mod LogMoves
 mod CleanerFlights
 mod CleanerJobs

@@ -84,7 +84,7 @@ FlightOwed told acts log s =
 abbrev pub SegmentOwed : Told → List Act → Segment → Type 0
 SegmentOwed told acts segment = Contains acts (Filed segment.name) → RowsTold told (rows_of segment)
 
--- once an opening has read its log back, it owns what it files
+-- once an opening has read its log back, it is owed so of what it read
 abbrev pub StageOwed : Told → List Act → Stage → Type 0
 StageOwed told acts (stage.Scanning s) = Unit {0}
 StageOwed told acts (stage.Settling s) = AllByRecursion (SegmentOwed told acts) s.chain
