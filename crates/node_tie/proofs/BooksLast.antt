@@ -132,7 +132,7 @@ module _ (logs : Bool) (members part : ℕ) where
   happens_last n m (GetsWant e s c inc req again block mode end at is) = lasts_still n.books
   happens_last n m (GetsGave e s c block stamp end at is) = lasts_still n.books
   happens_last n m (Ticks e s at) = lasts_still n.books
-  happens_last n m (Crashes c flight falls pos less up so) = lasts_still n.books
+  happens_last n m (Crashes c flight falls pos less up once so) = lasts_still n.books
   happens_last n m (Returns c inc epochs chain count pos less up later rises flies) = opens_last n.books c (adopts n.acts c chain) count
   happens_last n m (SealsCopies l rows above idle copies) = lasts_sealed n.books l rows
   happens_last n m (FilesCopies l above flies) = lasts_filed n.books l

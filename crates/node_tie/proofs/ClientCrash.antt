@@ -128,7 +128,7 @@ module _ (s : Serving) where
       (λ dirty. (apart a e.0 below.0, apart_all a es below.1)) (λ clean. apart_all a es below.1)
 
   -- no block falls twice
-  once : (es : List (BlockId × Held)) → InOrder es → NamesNoBlockTwice (falls_in es)
+  pub once : (es : List (BlockId × Held)) → InOrder es → NamesNoBlockTwice (falls_in es)
   unfolding IsStrictlySortedBy
   once [] sorted = tt
   once (e ∷ es) sorted =
@@ -198,7 +198,6 @@ module _ (s : Serving) where
       → FallsSo k c s.tokens (flight_of s.log.flight) (map (fall_of s) (dirty_in s.tokens.blocks))
   falls_so k c sound g = record {
     flies = flies_so s.log.flight ∙ sym g.seen.flying;
-    once = once s.tokens.blocks sound.sorted;
     each = λ b.
         found b s.tokens.blocks sound.sorted
         ∙ fall_is b (row_in (rows_flown s.log.flight) b)

@@ -41,7 +41,7 @@ use Rattle.xfs_base.specs.Steps.{still, after}
 use Rattle.node_tie.specs.ClientEvents.{SeesServing, ClientAgrees, ClientStands, ClientGets, EndsInTime, ClientDid, ClientGoes, ClientOwed, ClientTakes}
 use Rattle.node_tie.specs.ClientLogs.{LogAgrees}
 use Rattle.node_tie.proofs.ClientBooks.{onward_still, put_here, put_there, same_log}
-use Rattle.node_tie.proofs.ClientCrash.{falls_so}
+use Rattle.node_tie.proofs.ClientCrash.{falls_so, once}
 use Rattle.node_tie.proofs.ClientFalls.{all_did, falls_dirty}
 use Rattle.node_tie.proofs.ClientFrames as frames
 use Rattle.node_tie.proofs.ClientOpens as opening
@@ -95,7 +95,7 @@ module _ (logs : Bool) (members part most c : ℕ) (small : part < 8) (pos : 0 <
 
       fallen_grown : frames.Grown logs members part c n fallen (Fell c flight falling ∷ [])
       fallen_grown = record {
-        runs = On Begun (Crashes c flight falling pos less sees.up (premise_by logs
+        runs = On Begun (Crashes c flight falling pos less sees.up (once begun_serving s.tokens.blocks h.asks.sound.sorted) (premise_by logs
             (λ (g : LogAgrees n.books c s.tokens s.log).
             subst (λ (t : TokensState). FallsSo n.books c t flight falling) (sym sees.tokens) (falls_so begun_serving n.books c h.asks.sound g)) sees.logged));
         others = λ d other. (refl, put_there n.up c false d other);

@@ -68,7 +68,7 @@ module _ (logs : Bool) (members part : ℕ) where
   stays n m (GetsWant e s c inc req again block mode end at is) = refl
   stays n m (GetsGave e s c block stamp end at is) = refl
   stays n m (Ticks e s at) = refl
-  stays n m (Crashes c flight falls pos less up so) = refl
+  stays n m (Crashes c flight falls pos less up once so) = refl
   stays n m (Returns c inc epochs chain count pos less up later rises flies) = refl
   stays n m (SealsCopies l rows above idle copies) = refl
   stays n m (FilesCopies l above flies) = refl
@@ -103,7 +103,7 @@ module _ (logs : Bool) (members part : ℕ) where
   happens_any k n m (GetsWant e s c inc req again block mode end at is) = GetsWant e s c inc req again block mode end at is
   happens_any k n m (GetsGave e s c block stamp end at is) = GetsGave e s c block stamp end at is
   happens_any k n m (Ticks e s at) = Ticks e s at
-  happens_any k n m (Crashes c flight falls pos less up so) = Crashes c flight falls pos less up so
+  happens_any k n m (Crashes c flight falls pos less up once so) = Crashes c flight falls pos less up once so
   happens_any k n m (Returns c inc epochs chain count pos less up later rises flies) = Returns c inc epochs chain count pos less up later rises flies
   happens_any k n m (SealsCopies l rows above idle copies) = SealsCopies l rows above idle copies
   happens_any k n m (FilesCopies l above flies) = FilesCopies l above flies

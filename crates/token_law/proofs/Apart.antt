@@ -101,40 +101,40 @@ back_kept up acts c chain i =
     differs : (d e : ℕ) → (d ≡ e → ⊥) → (d == e) ≡ false
     differs d e other = grind (arith, nat_tests)
 
-pub falls_keep : (members part : ℕ) (n m : Net) → Happens true members part n m → FallsKept n.up n.acts → FallsKept m.up m.acts
-falls_keep members part n m (Acts c end x serves own) i = wrote_kept n.up n.acts c (n.tokens c) x i
-falls_keep members part n m (Elsewhere c end x serves other) i = i
-falls_keep members part n m (Reports c end serves) i = i
-falls_keep members part n m (GetsCopy c end block stamp inc req entry serves is) i = i
-falls_keep members part n m (GetsOwn c end block stamp inc req entry value serves is accepts room) i = kept_on n.up n.up n.acts (act.Wrote c block value) i tt i.waits
-falls_keep members part n m (Declines c end block stamp inc req entry serves is accepts) i = i
-falls_keep members part n m (GetsRecall c end block stamp keep serves is) i = i
-falls_keep members part n m (GetsForward c other block stamp inc req ver value pos less is up serves held) i = i
-falls_keep members part n m (GetsSupply c end block stamp inc req ver value serves is) i = i
-falls_keep members part n m (Fetches c end block value serves there) i = i
-falls_keep members part n m (Reads c block value pos less up held is) i =
+pub falls_keep : (logs : Bool) (members part : ℕ) (n m : Net) → Happens logs members part n m → FallsKept n.up n.acts → FallsKept m.up m.acts
+falls_keep logs members part n m (Acts c end x serves own) i = wrote_kept n.up n.acts c (n.tokens c) x i
+falls_keep logs members part n m (Elsewhere c end x serves other) i = i
+falls_keep logs members part n m (Reports c end serves) i = i
+falls_keep logs members part n m (GetsCopy c end block stamp inc req entry serves is) i = i
+falls_keep logs members part n m (GetsOwn c end block stamp inc req entry value serves is accepts room) i = kept_on n.up n.up n.acts (act.Wrote c block value) i tt i.waits
+falls_keep logs members part n m (Declines c end block stamp inc req entry serves is accepts) i = i
+falls_keep logs members part n m (GetsRecall c end block stamp keep serves is) i = i
+falls_keep logs members part n m (GetsForward c other block stamp inc req ver value pos less is up serves held) i = i
+falls_keep logs members part n m (GetsSupply c end block stamp inc req ver value serves is) i = i
+falls_keep logs members part n m (Fetches c end block value serves there) i = i
+falls_keep logs members part n m (Reads c block value pos less up held is) i =
     let h = history_after n.acts nothing_yet in
     let ver = (held_of (n.tokens c).blocks block).ver in
     kept_on n.up n.up n.acts (act.Read c block ver value) i tt
     (λ d up_. by_test (λ (g : History). g.told d ≡ []) (is_by_other c ver (h.of_block block).versions) (change block (pin ver) h) h (λ _. i.waits d up_) (λ _. i.waits d up_))
-falls_keep members part n m (Syncs c pos less up clean) i = kept_on n.up n.up n.acts (act.Synced c) i tt i.waits
-falls_keep members part n m (Seals c rows pos less up free newest) i = i
-falls_keep members part n m (Files c pos less up flies) i = i
-falls_keep members part n m (GetsDeltas e s log first upto rows at known some covers) i = i
-falls_keep members part n m (GetsWant e s c inc req again block mode end at is) i = i
-falls_keep members part n m (GetsGave e s c block stamp end at is) i = i
-falls_keep members part n m (Ticks e s at) i = i
-falls_keep members part n m (Crashes c flight falls pos less up so) i = fell_kept n.up n.acts c flight falls up so.once i
-falls_keep members part n m (Returns c inc epochs chain count pos less up later rises flies) i = back_kept n.up n.acts c chain i
-falls_keep members part n m (SealsCopies l rows out free originals) i = i
-falls_keep members part n m (FilesCopies l out flies) i = i
-falls_keep members part n m (Reopens l adopted count out flies) i = i
-falls_keep members part n m (Activates e index applied rows ends order none all each sent gathered) i = i
-falls_keep members part n m (Says a neutral) i = said_kept n.up n.acts a neutral i
+falls_keep logs members part n m (Syncs c pos less up clean) i = kept_on n.up n.up n.acts (act.Synced c) i tt i.waits
+falls_keep logs members part n m (Seals c rows pos less up free newest) i = i
+falls_keep logs members part n m (Files c pos less up flies) i = i
+falls_keep logs members part n m (GetsDeltas e s log first upto rows at known some covers) i = i
+falls_keep logs members part n m (GetsWant e s c inc req again block mode end at is) i = i
+falls_keep logs members part n m (GetsGave e s c block stamp end at is) i = i
+falls_keep logs members part n m (Ticks e s at) i = i
+falls_keep logs members part n m (Crashes c flight falls pos less up once so) i = fell_kept n.up n.acts c flight falls up once i
+falls_keep logs members part n m (Returns c inc epochs chain count pos less up later rises flies) i = back_kept n.up n.acts c chain i
+falls_keep logs members part n m (SealsCopies l rows out free originals) i = i
+falls_keep logs members part n m (FilesCopies l out flies) i = i
+falls_keep logs members part n m (Reopens l adopted count out flies) i = i
+falls_keep logs members part n m (Activates e index applied rows ends order none all each sent gathered) i = i
+falls_keep logs members part n m (Says a neutral) i = said_kept n.up n.acts a neutral i
 
-pub falls_kept : (members part : ℕ) (n : Net) → Runs true members part opening n → FallsKept n.up n.acts
-falls_kept members part n r = go opening n r (record { apart = tt; waits = λ c _. refl })
+pub falls_kept : (logs : Bool) (members part : ℕ) (n : Net) → Runs logs members part opening n → FallsKept n.up n.acts
+falls_kept logs members part n r = go opening n r (record { apart = tt; waits = λ c _. refl })
   where
-    go : (a m : Net) → Runs true members part a m → FallsKept a.up a.acts → FallsKept m.up m.acts
+    go : (a m : Net) → Runs logs members part a m → FallsKept a.up a.acts → FallsKept m.up m.acts
     go a m Begun i = i
-    go a m (On {m = k} rs h) i = falls_keep members part k m h (go a k rs i)
+    go a m (On {m = k} rs h) i = falls_keep logs members part k m h (go a k rs i)

@@ -127,7 +127,7 @@ keeps logs members part n m (GetsGave e s c block stamp end at is) sure i =
           slot_event logs members part n i b v e s x at (λ _. (h.0, λ same of_epoch. (h.1 same).1 of_epoch)) (λ _. tt) (takes-transition s x tt).0);
     }
 keeps logs members part n m (Ticks e s at) sure i = record { sound = i.sound; ran = ran_put n.slots e s (i.ran e s at) i.ran; views = λ b inside. tick_event logs members part n i b (i.views b inside) e s at }
-keeps logs members part n m (Crashes c flight falls pos less up so) sure i = record {
+keeps logs members part n m (Crashes c flight falls pos less up once so) sure i = record {
   sound = i.sound;
   ran = i.ran;
   views = λ b inside. crash_view logs members part b n (i.views b inside) c flight falls pos less up so;

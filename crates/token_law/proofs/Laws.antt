@@ -130,7 +130,7 @@ no_clients part b n m (GetsDeltas e s log first upto rows at known some covers) 
 no_clients part b n m (GetsWant e s c inc req again block mode end at is) i = i
 no_clients part b n m (GetsGave e s c block stamp end at is) i = i
 no_clients part b n m (Ticks e s at) i = i
-no_clients part b n m (Crashes c flight falls pos less up so) i = absurd (omega arith)
+no_clients part b n m (Crashes c flight falls pos less up once so) i = absurd (omega arith)
 no_clients part b n m (Returns c inc epochs chain count pos less up later rises flies) i = absurd (omega arith)
 no_clients part b n m (SealsCopies l rows out free originals) i = i
 no_clients part b n m (FilesCopies l out flies) i = i
@@ -149,4 +149,4 @@ acts_are_legal (suc members) part n b m =
     subst LegalActs v.acts (acts_legal (suc members) v.world v.steps)
 
 pub falls_are_apart : FallsAreApart
-falls_are_apart members part n run = (falls_kept members part n run).apart
+falls_are_apart logs members part n run = (falls_kept logs members part n run).apart

@@ -131,7 +131,7 @@ books_keep members part n m (GetsDeltas e s log first upto rows at known some co
 books_keep members part n m (GetsWant e s c inc req again block mode end at is) i = i
 books_keep members part n m (GetsGave e s c block stamp end at is) i = i
 books_keep members part n m (Ticks e s at) i = i
-books_keep members part n m (Crashes c flight falls pos less up so) i = i
+books_keep members part n m (Crashes c flight falls pos less up once so) i = i
 books_keep members part n m (Returns c inc epochs chain count pos less up later rises flies) i =
     whole_empty members count (reopened n.books c (adopts n.acts c chain)) c (whole_reopened members n.books c (adopts n.acts c chain) i)
 books_keep members part n m (SealsCopies l rows out free originals) i = whole_sealed members n.books l rows (λ within. absurd (omega arith)) i

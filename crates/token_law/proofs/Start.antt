@@ -112,7 +112,7 @@ pub record Whole (logs : Bool) (members part : ℕ) (n : Net) : Type 0 where
   pub sure : Premise logs (Sure members n)
 
 sure_on : (logs : Bool) (members part : ℕ) (n m : Net) → Happens logs members part n m → Premise logs (Sure members n) → Premise logs (Sure members m)
-sure_on true members part n m h s = record { books = books_keep members part n m h s.books; falls = falls_keep members part n m h s.falls }
+sure_on true members part n m h s = record { books = books_keep members part n m h s.books; falls = falls_keep true members part n m h s.falls }
 sure_on false members part n m h s = tt
 
 pub always : (logs : Bool) (members part : ℕ) (n : Net) → 0 < members → Runs logs members part opening n → Whole logs members part n

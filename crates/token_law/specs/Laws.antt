@@ -72,4 +72,4 @@ ActsAreLegal = (members part : ℕ) (n : Net) (b : BlockId) → Moment true memb
 
 -- No client falls again before it is back, and no fall names a block twice.
 abbrev pub FallsAreApart : Type 0
-FallsAreApart = (members part : ℕ) (n : Net) → Runs true members part opening n → FallsApart n.acts
+FallsAreApart = (logs : Bool) (members part : ℕ) (n : Net) → Runs logs members part opening n → FallsApart n.acts

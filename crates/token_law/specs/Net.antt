@@ -32,6 +32,7 @@ use Rattle.token_tie.specs.Inputs.{granted_and_wrote, granted_and_evicted}
 use Rattle.version_model.specs.declared.act.Act.{Act}
 use Rattle.version_model.specs.declared.act.Act.TheVariants as act
 use Rattle.version_model.specs.declared.act.Fall.{Fall}
+use Rattle.version_model.specs.Legal.{NamesNoBlockTwice}
 use Rattle.token_law.specs.Books.{Row, Books, no_books, sealed, filed, reopened, with_empty}
 use Rattle.token_law.specs.Owed.{SealsNewest, SealsOriginals, ReadsThere, DeltasCover, Gathered, FallsSo, adopts, AllClean, IsNeutral}
 
@@ -206,8 +207,8 @@ pub data Happens (logs : Bool) (members part : ℕ) : Net → Net → Type 0 whe
       → Happens logs members part n (after_slot n e (slot.transition s (told.Gave c block stamp end)))
   -- a manager ticks
   Ticks : {n : Net} (e : ℕ) (s : SlotState) → n.slots e ≡ Some s → Happens logs members part n (after_slot n e (slot.transition s told.Tick))
-  -- a client falls
-  Crashes : {n : Net} (c : ℕ) (flight : Option (ℕ × ℕ)) (falls : List Fall) → 0 < c → c < members → n.up c ≡ true
+  -- a client falls, and names no block twice
+  Crashes : {n : Net} (c : ℕ) (flight : Option (ℕ × ℕ)) (falls : List Fall) → 0 < c → c < members → n.up c ≡ true → NamesNoBlockTwice falls
       → Premise logs (FallsSo n.books c (n.tokens c) flight falls)
       → Happens logs members part n (acted (record n { up = put n.up c false }) (act.Fell c flight falls ∷ []))
   -- A client returns in a later incarnation, and promises no less than before. By the chain that it found, what it had in flight is filed or is no more; behind

@@ -19,7 +19,6 @@ use Rattle.version_model.specs.declared.act.Act.TheVariants as act
 use Rattle.version_model.specs.declared.act.Fall.{Fall}
 use Rattle.version_model.specs.Effects.{history_after}
 use Rattle.version_model.specs.History.{nothing_yet}
-use Rattle.version_model.specs.Legal.{NamesNoBlockTwice}
 use Rattle.token_law.specs.Books.{Row, Books, AreOnce, row_in, nothing_said, said, IsFiled}
 
 -- ---- segments
@@ -70,7 +69,6 @@ fall_from b h row = if is_dirty h then Some (record { block = b; low = h.settled
 -- what a client that falls tells: whether a segment is in flight, and of each dirty block to which versions it may fall
 pub record FallsSo (k : Books) (c : ℕ) (s : TokensState) (flight : Option (ℕ × ℕ)) (falls : List Fall) : Type 0 where
   pub flies : is_some flight ≡ k.flying c
-  pub once : NamesNoBlockTwice falls
   pub each : (b : BlockId) → fall_of b falls ≡ fall_from b (held_of s.blocks b) (said k c (suc (k.end c)) b)
 
 -- whether the chain that a client found has what was in flight when it fell
