@@ -1,5 +1,5 @@
 -- A client that has its turn: the moment after it stands to the small world that runs on with it.
-use Rattle.std.proofs.Common.{◌≡◌, ⊎_elim, ℕ, false, ◌≤◌, ◌<◌, List, ◌++◌, Some, map, slice_get, slice_set, get_or, refl, sym, ap, subst, ◌∙◌, arith}
+use Rattle.std.proofs.Common.{◌≡◌, ⊎_elim, ℕ, Bool, false, ◌≤◌, ◌<◌, List, ◌++◌, Some, map, slice_get, slice_set, get_or, refl, sym, ap, subst, ◌∙◌, arith}
 use Rattle.client_node.specs.declared.client.Client.{Client as ClientNode}
 use Rattle.client_node.specs.declared.phase.Phase.{Phase}
 use Rattle.client_node.specs.declared.phase.Phase.TheVariants.{Down, Opening, Serving as Serves}
@@ -7,11 +7,14 @@ use Rattle.client_node.specs.Phases.{Went_to, lasting_of}
 use Rattle.core_world.specs.declared.any_node.AnyNode.{AnyNode}
 use Rattle.core_world.specs.declared.any_node.AnyNode.TheVariants as any
 use Rattle.node_base.specs.declared.effects.Effect.{Effect}
-use Rattle.node_base.specs.Effects.{packets_of}
+use Rattle.node_base.specs.Effects.{acts_of, packets_of}
+use Rattle.node_tie.proofs.BooksLast.{books_last}
+use Rattle.node_tie.proofs.CleanerTurns.{cleaner_on}
 use Rattle.node_tie.proofs.ManagerFrames.{manager_on}
-use Rattle.node_tie.proofs.SmallWorld.{any_promise, promised_stays, with_promise}
+use Rattle.node_tie.proofs.SmallWorld.{any_promise, premise_by, promised_stays, with_promise}
 use Rattle.node_tie.specs.AskingEvents.{PhaseAsks}
 use Rattle.node_tie.specs.CleanerEvents.{CleanerStands, CleanerWelcomed}
+use Rattle.node_tie.specs.CleanerLogs.{its_log}
 use Rattle.node_tie.specs.ClientEvents.{ClientAgrees, ClientDid, ClientGoes, ClientStands, WelcomeRises}
 use Rattle.node_tie.specs.Sight.{ClientSends}
 use Rattle.store_nodes.specs.declared.registry_node.RegistryNode.{RegistryNode}
@@ -20,6 +23,7 @@ use Rattle.token_law.specs.Net.{Net}
 use Rattle.token_protocol.specs.Basics.{put, In}
 use Rattle.token_protocol.proofs.Refining.{put_each}
 use Rattle.token_tie.proofs.Frames.{put_here}
+use Rattle.version_model.specs.declared.act.Act.{Act}
 use Rattle.wire_msg.specs.declared.body.Body.{Body}
 use Rattle.wire_msg.specs.declared.packet.Packet.{Packet}
 use Rattle.wire_msg.specs.declared.registry.Welcome.{Welcome}
@@ -50,25 +54,33 @@ welcome_frame part most c n m tokens (Down l) w h = tt
 welcome_frame part most c n m tokens (Opening l o) w h = λ same i d less of_part. subst (λ (t : TokensState). epoch_of t.epochs part ≤ (get_or w.news.slots i d).epoch) (sym tokens) (h same i d less of_part)
 welcome_frame part most c n m tokens (Serves s) w h = tt
 
-module _ (part most c : ℕ) (n : Net) where
+module _ (logs : Bool) (part most c : ℕ) (n : Net) where
   -- a Welcome of a life that a client had says nothing of one that begins, and what it owes to an opening stands still with that
-  pub welcome_after : (p p' : Phase) (members : ℕ) (outs : List Effect) (go : ClientGoes false members part most c n p p' outs) (w : Welcome) → w.inc ≤ (lasting_of p).inc → WelcomeRises part most c n p w → WelcomeRises part most c go.next p' w
+  pub welcome_after : (p p' : Phase) (members : ℕ) (outs : List Effect) (go : ClientGoes logs members part most c n p p' outs) (w : Welcome) → w.inc ≤ (lasting_of p).inc → WelcomeRises part most c n p w → WelcomeRises part most c go.next p' w
   welcome_after p (Down next) members outs go w life h = tt
   welcome_after p (Serves s) members outs go w life h = tt
   welcome_after (Down l) (Opening next o) members outs go w life h = λ same. (let later = go.begins in absurd (omega arith))
   welcome_after (Serves s) (Opening next o) members outs go w life h = λ same. (let later = go.begins in absurd (omega arith))
   welcome_after (Opening l q) (Opening next o) members outs go w life h = λ same. (let later = go.later in let now : w.inc ≡ l.inc = omega arith in welcome_frame part most c n go.next (go.stands tt) (Opening l q) w h now)
 
+pub numbered : (logs : Bool) (part c : ℕ) (n : Net) (p : Phase) → ClientAgrees logs part c n p → (lasting_of p).number ≡ c
+numbered logs part c n (Down l) h = h.number
+numbered logs part c n (Opening l o) h = h.number
+numbered logs part c n (Serves s) h = h.number
+
+-- so it is where nothing is asked of logs
 pub number_is : (part c : ℕ) (n : Net) (p : Phase) → ClientAgrees false part c n p → (lasting_of p).number ≡ c
-number_is part c n (Down l) h = h.number
-number_is part c n (Opening l o) h = h.number
-number_is part c n (Serves s) h = h.number
+number_is part c n p h = numbered false part c n p h
 
 -- ---- the turn
 
-module _ (k : Cluster) (part : ℕ) (RegistrySound : RegistryNode → Type 0) (nodes : List AnyNode) (sent : List Packet) (s : Scene) (st : Stands k part nodes sent RegistrySound s)
+pub no_client : (c members l : ℕ) → c < members → members ≤ l → l ≡ c → ⊥
+no_client c members l less few is = omega arith
+
+module _ (logs : Bool) (k : Cluster) (part : ℕ) (RegistrySound : RegistryNode → Type 0) (nodes : List AnyNode) (sent : List Packet) (done : List Act) (s : Scene)
+    (st : Stands logs k part nodes sent done RegistrySound s)
     (c p clock : ℕ) (some : 0 < c) (within : c < members k part) (at : place_of k (Client c) ≡ Some p) (is : slice_get nodes p ≡ Some (any.Client (s.client c)))
-    (w : Went_to) (go : ClientGoes false (members k part) part (epoch_now k part s) c s.net (s.client c).phase w.state w.outs) (asks : PhaseAsks w.state) where
+    (w : Went_to) (go : ClientGoes logs (members k part) part (epoch_now k part s) c s.net (s.client c).phase w.state w.outs) (asks : PhaseAsks w.state) where
   abbrev after_node : ClientNode
   after_node = record (s.client c) { phase = w.state }
 
@@ -82,7 +94,7 @@ module _ (k : Cluster) (part : ℕ) (RegistrySound : RegistryNode → Type 0) (n
   sent_now = sent ++ map (sent_at clock) (packets_of (Client (lasting_of (s.client c).phase).number) w.outs)
 
   promised : go.next.promised ≡ s.net.promised
-  promised = promised_stays false (members k part) part s.net go.next go.runs
+  promised = promised_stays logs (members k part) part s.net go.next go.runs
 
   grown : Grown k part s client_scene
   grown = record {
@@ -94,7 +106,7 @@ module _ (k : Cluster) (part : ℕ) (RegistrySound : RegistryNode → Type 0) (n
     given = λ e most. (refl, refl);
     new = λ e less most. absurd (omega arith);
     welcomes = λ d m. put_each (λ d (x : ClientNode). m.inc ≤ life_of_client s d → WelcomeRises part (epoch_now k part s) d s.net (s.client d).phase m → WelcomeRises part (epoch_now k part s) d go.next x.phase m)
-        s.client c after_node (λ life h. welcome_after part (epoch_now k part s) c s.net (s.client c).phase w.state (members k part) w.outs go m life h)
+        s.client c after_node (λ life h. welcome_after logs part (epoch_now k part s) c s.net (s.client c).phase w.state (members k part) w.outs go m life h)
         (λ d other life h. welcome_frame part (epoch_now k part s) d s.net go.next (go.others d other).0 (s.client d).phase m h) d;
     cleans = omega arith;
     promises = omega (arith, promised);
@@ -125,7 +137,7 @@ module _ (k : Cluster) (part : ℕ) (RegistrySound : RegistryNode → Type 0) (n
   new_facts : (q : Packet) → In q (map (sent_at clock) (packets_of (Client (lasting_of (s.client c).phase).number) w.outs)) → Fact k part client_scene q
   new_facts q h =
       sends (Client (lasting_of (s.client c).phase).number) clock (ClientDid part c s.net go.next.sent (lasting_of w.state).inc w.state) (Fact k part client_scene)
-      (λ to m does. fact_of (lasting_of (s.client c).phase).number (number_is part c s.net (s.client c).phase (st.clients c some within).0) to m does) w.outs go.does q h
+      (λ to m does. fact_of (lasting_of (s.client c).phase).number (numbered logs part c s.net (s.client c).phase (st.clients c some within).0) to m does) w.outs go.does q h
     where
       life_here : life_of_client client_scene c ≡ (lasting_of w.state).inc
       life_here = ap (λ (x : ClientNode). (lasting_of x.phase).inc) (put_here s.client c after_node)
@@ -136,17 +148,26 @@ module _ (k : Cluster) (part : ℕ) (RegistrySound : RegistryNode → Type 0) (n
           subst (λ y. (0 < y) × (y < members k part) × ClientSends part go.next.sent y (life_of_client client_scene y) to m) (sym same)
           (some, within, subst (λ l. ClientSends part go.next.sent c l to m) (sym life_here) h)
 
-  pub client_turn : Stands k part nodes_now sent_now RegistrySound client_scene
+  abbrev acts_now : List Act
+  acts_now = done ++ acts_of (Client (lasting_of (s.client c).phase).number) w.outs
+
+  acts : go.next.acts ≡ acts_now
+  acts = go.acts ∙ (ap (λ a. a ++ acts_of (Client c) w.outs) st.acts ∙ ap (λ x. done ++ acts_of (Client x) w.outs) (sym (numbered logs part c s.net (s.client c).phase (st.clients c some within).0)))
+
+  pub client_turn : Stands logs k part nodes_now sent_now acts_now RegistrySound client_scene
   client_turn = record {
-    runs = runs_on (members k part) part _ (with_promise 1 s.net) (with_promise 1 go.next) st.runs (any_promise false (members k part) part 1 s.net go.next go.runs);
+    runs = runs_on logs (members k part) part _ (with_promise 1 s.net) (with_promise 1 go.next) st.runs (any_promise logs (members k part) part 1 s.net go.next go.runs);
+    acts = acts;
     placed = placed;
     sound = st.sound;
-    clients = put_each (λ d (x : ClientNode). 0 < d → d < members k part → ClientAgrees false part d go.next x.phase × ClientStands part (epoch_now k part s) d go.next x.phase) s.client c after_node
+    clients = put_each (λ d (x : ClientNode). 0 < d → d < members k part → ClientAgrees logs part d go.next x.phase × ClientStands part (epoch_now k part s) d go.next x.phase) s.client c after_node
         (λ _ _. (go.agrees, record { asks = asks; within = go.within; promises = go.promises }))
         (λ d other pos less. (let h = st.clients d pos less in let o = go.others d other in
-        (client_frame part d s.net go.next o.0 o.1 go.grows (s.client d).phase h.0, stands_frame part (epoch_now k part s) (epoch_now k part s) d s.net go.next (omega arith) o.0 (s.client d).phase h.1)));
+        (client_frame logs part d s.net go.next o.0 o.1 (go.books d other) go.grows (s.client d).phase h.0, stands_frame part (epoch_now k part s) (epoch_now k part s) d s.net go.next (omega arith) o.0 (s.client d).phase h.1)));
     managers = sees;
     cleaner = subst (λ x. (x ≤ epoch_now k part s) × CleanerStands part x (epoch_now k part s) s.cleaner.phase) (sym promised) st.cleaner;
+    copies = premise_by logs (cleaner_on s.net.books go.next.books s.cleaner.phase (books_last logs (members k part) part s.net go.next go.runs) (go.books its_log (no_client c (members k part) its_log within st.few))) st.copies;
+    few = st.few;
     peers = st.peers;
     current = st.current;
     some = st.some;

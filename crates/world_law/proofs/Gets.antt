@@ -1,5 +1,5 @@
 -- What a packet that was sent owes to the node that gets it.
-use Rattle.std.proofs.Common.{◌≡◌, ⊎_elim, ℕ, ◌≤◌, ◌<◌, false, List, None, Some, refl, subst, ◌∙◌, arith, get_or}
+use Rattle.std.proofs.Common.{◌≡◌, ⊎_elim, ℕ, ◌≤◌, ◌<◌, Bool, true, false, List, None, Some, refl, subst, ◌∙◌, arith, get_or}
 use Rattle.std.specs.Prelude.{All}
 use Rattle.manager_node.specs.declared.lasting.Lasting.{Lasting as Kept}
 use Rattle.manager_node.specs.declared.phase.Phase.{Phase as ManagerPhase}
@@ -9,12 +9,13 @@ use Rattle.manager_node.specs.declared.slot_phase.SlotPhase.{SlotPhase}
 use Rattle.manager_node.specs.declared.slot_phase.SlotPhase.TheVariants as phase
 use Rattle.manager_node.specs.Takeovers.{report_input}
 use Rattle.node_tie.specs.CleanerEvents.{CleanerGets, NewsLow}
-use Rattle.node_tie.specs.ClientEvents.{ClientGets, GetsBody, NewsWithin}
-use Rattle.node_tie.specs.ManagerEvents.{AbsentGets, AllNewsGets, DeltasGets, FoundGets, GaveGets, ManagerGets, ReportGets, ServingGets, TakeoverGets, WaitingGets, WantGets, epoch_in, slot_in}
+use Rattle.node_tie.specs.ClientEvents.{ClientGets, GetsBody, NewsWithin, ReadsSo}
+use Rattle.node_tie.specs.ManagerEvents.{AbsentGets, AllNewsGets, DeltasGets, FoundGets, GaveGets, LastReportGets, ManagerGets, ReportGets, ServingGets, TakeoverGets, WaitingGets, WantGets, epoch_in, slot_in}
 use Rattle.node_tie.specs.Sight.{ForwardSeen, GrantSeen, PollSeen, RecallSeen, SupplySeen}
 use Rattle.takeover.specs.declared.input.In.{In as Input}
 use Rattle.token_manager.specs.SlotState.{SlotState}
 use Rattle.token_protocol.specs.Basics.{In}
+use Rattle.token_protocol.specs.Premises.{Premise}
 use Rattle.wire_msg.specs.declared.body.Body.{Body}
 use Rattle.wire_msg.specs.declared.body.Body.TheVariants as body
 use Rattle.wire_msg.specs.declared.deltas.Deltas.{Deltas}
@@ -34,6 +35,7 @@ use Rattle.wire_msg.specs.declared.tokens.Want.{Want}
 use Rattle.world_base.specs.declared.cluster.Cluster.{Cluster}
 use Rattle.world_law.proofs.Sent.{in_get}
 use Rattle.world_law.proofs.Standing.{AllTold, Fact, ManagerSees, NewsTold, PastAt, Scene, SentBy, Welcomed, epoch_now, members}
+use Rattle.world_law.specs.Owes.{ServingTold, SlotTold}
 use Rattle.xfs_base.specs.declared.news.SlotNews.{SlotNews}
 use Rattle.xfs_base.specs.declared.node.NodeId.{NodeId}
 use Rattle.xfs_base.specs.declared.node.NodeId.TheVariants.{Client, Manager, Server, Cleaner, Registry}
@@ -135,8 +137,9 @@ module _ (k : Cluster) (part : ℕ) (s : Scene) where
   client_body c from to (body.CkptDone m) h same = tt
   client_body c from to (body.CkptAck m) h same = tt
 
-  pub client_gets : (c : ℕ) (q : Packet) → Fact k part s q → q.to ≡ Client c → ClientGets false part (epoch_now k part s) c s.net (s.client c).phase q
-  client_gets c q fact same = record { brings = client_body c q.from q.to q.body fact same; reads = tt }
+  pub client_gets : (logs : Bool) (c : ℕ) (q : Packet) → Fact k part s q → q.to ≡ Client c → Premise logs (ReadsSo part (epoch_now k part s) c s.net (s.client c).phase q)
+      → ClientGets logs part (epoch_now k part s) c s.net (s.client c).phase q
+  client_gets logs c q fact same told = record { brings = client_body c q.from q.to q.body fact same; reads = told }
 
   -- ---- the cleaner
 
@@ -175,13 +178,14 @@ module _ (k : Cluster) (part : ℕ) (s : Scene) where
   report_gets Cleaner to m h = h
   report_gets Registry to m h = tt
 
-  -- logs may lose what they held here: nothing is owed of what they tell
-  deltas_gets : (from : NodeId) (m : Deltas) → DeltasGets false (members k part) part s.net from m
-  deltas_gets (Client c) m = λ of. tt
-  deltas_gets (Manager c) m = tt
-  deltas_gets (Server c) m = tt
-  deltas_gets Cleaner m = λ of. tt
-  deltas_gets Registry m = tt
+  -- where logs may lose what they held, nothing is owed of what they tell
+  deltas_gets : (logs : Bool) (from : NodeId) (m : Deltas) → Premise logs (DeltasGets true (members k part) part s.net from m) → DeltasGets logs (members k part) part s.net from m
+  deltas_gets true from m told = told
+  deltas_gets false (Client c) m told = λ of. tt
+  deltas_gets false (Manager c) m told = tt
+  deltas_gets false (Server c) m told = tt
+  deltas_gets false Cleaner m told = λ of. tt
+  deltas_gets false Registry m told = tt
 
   takeover_gets : (p : SlotPhase) (given : Input) → TakeoverGets false (members k part) part s.net p given
   takeover_gets (phase.Taking t) given = tt
@@ -189,19 +193,25 @@ module _ (k : Cluster) (part : ℕ) (s : Scene) where
   takeover_gets (phase.Away epoch) given = tt
   takeover_gets (phase.Broken epoch seg) given = tt
 
-  found_gets : (p : SlotPhase) (from : NodeId) (m : Found) → FoundGets false (members k part) part s.net p from m
-  found_gets p (Client c) m = tt
-  found_gets p (Manager c) m = tt
-  found_gets p (Server v) m = λ own is. takeover_gets p _
-  found_gets p Cleaner m = tt
-  found_gets p Registry m = tt
+  last_gets : (logs : Bool) (p : SlotPhase) (from : NodeId) (m : Report) → Premise logs (LastReportGets true (members k part) part s.net p from m) → LastReportGets logs (members k part) part s.net p from m
+  last_gets true p from m told = told
+  last_gets false p from m told = λ of same. takeover_gets p (report_input from m)
 
-  absent_gets : (p : SlotPhase) (from : NodeId) (m : Missing) → AbsentGets false (members k part) part s.net p from m
-  absent_gets p (Client c) m = tt
-  absent_gets p (Manager c) m = tt
-  absent_gets p (Server v) m = λ own is. takeover_gets p _
-  absent_gets p Cleaner m = tt
-  absent_gets p Registry m = tt
+  found_gets : (logs : Bool) (p : SlotPhase) (from : NodeId) (m : Found) → Premise logs (FoundGets true (members k part) part s.net p from m) → FoundGets logs (members k part) part s.net p from m
+  found_gets true p from m told = told
+  found_gets false p (Client c) m told = tt
+  found_gets false p (Manager c) m told = tt
+  found_gets false p (Server v) m told = λ own is. takeover_gets p _
+  found_gets false p Cleaner m told = tt
+  found_gets false p Registry m told = tt
+
+  absent_gets : (logs : Bool) (p : SlotPhase) (from : NodeId) (m : Missing) → Premise logs (AbsentGets true (members k part) part s.net p from m) → AbsentGets logs (members k part) part s.net p from m
+  absent_gets true p from m told = told
+  absent_gets false p (Client c) m told = tt
+  absent_gets false p (Manager c) m told = tt
+  absent_gets false p (Server v) m told = λ own is. takeover_gets p _
+  absent_gets false p Cleaner m told = tt
+  absent_gets false p Registry m told = tt
 
   -- what was entered, its slot's lord was in that life
   abbrev pub Entered : Type 0
@@ -237,40 +247,41 @@ module _ (k : Cluster) (part : ℕ) (s : Scene) where
             ⊎_elim (λ before. absurd (omega arith)) (λ in_life. in_life.1)
             (subst (λ p. PastAt k part p (s.since news.epoch) news.epoch) is (subst (λ x. PastAt k part (s.manager x).phase (s.since news.epoch) news.epoch) lord past))
 
-    serving_body : (v : Serving) → (s.manager j).phase ≡ Serves v → ManagerSees k part s j (Serves v) → (from to : NodeId) (m : Body) → SentBy k part s from to m
-        → ServingGets false part (epoch_now k part s) j s.net (members k part) v.lasting.inc (slot_in part (Serves v)) from m
-    serving_body v is sees from to (body.Want m) h = want_gets from to m h
-    serving_body v is sees from to (body.Grant m) h = tt
-    serving_body v is sees from to (body.Forward m) h = tt
-    serving_body v is sees from to (body.Supply m) h = tt
-    serving_body v is sees from to (body.Recall m) h = tt
-    serving_body v is sees from to (body.Gave m) h = gave_gets from to m h
-    serving_body v is sees from to (body.Gone m) h = tt
-    serving_body v is sees from to (body.Deltas m) h = deltas_gets from m
-    serving_body v is sees from to (body.DeltaAck m) h = tt
-    serving_body v is sees from to (body.Poll m) h = tt
-    serving_body v is sees from to (body.Report m) h = (report_gets from to m h, λ of same. takeover_gets (slot_in part (Serves v)) (report_input from m))
-    serving_body v is sees from to (body.Store m) h = tt
-    serving_body v is sees from to (body.Stored m) h = tt
-    serving_body v is sees from to (body.Fetch m) h = tt
-    serving_body v is sees from to (body.Fragment m) h = found_gets (slot_in part (Serves v)) from m
-    serving_body v is sees from to (body.Missing m) h = absent_gets (slot_in part (Serves v)) from m
-    serving_body v is sees from to (body.Fence m) h = tt
-    serving_body v is sees from to (body.Fenced m) h = tt
-    serving_body v is sees from to (body.List m) h = tt
-    serving_body v is sees from to (body.Listed m) h = tt
-    serving_body v is sees from to (body.Delete m) h = tt
-    serving_body v is sees from to (body.Deleted m) h = tt
-    serving_body v is sees from to (body.Check m) h = tt
-    serving_body v is sees from to (body.Live m) h = tt
-    serving_body v is sees from to (body.Dead m) h = tt
-    serving_body v is sees from to (body.UsageAsk m) h = tt
-    serving_body v is sees from to (body.Usage m) h = tt
-    serving_body v is sees from to (body.Hello m) h = tt
-    serving_body v is sees from to (body.Welcome m) h = λ life. serving_news v is sees m.news.slots (welcome_told from to m h).0
-    serving_body v is sees from to (body.MapNews m) h = serving_news v is sees m.slots (news_told from to m h)
-    serving_body v is sees from to (body.CkptDone m) h = tt
-    serving_body v is sees from to (body.CkptAck m) h = tt
+    serving_body : (logs : Bool) (v : Serving) → (s.manager j).phase ≡ Serves v → ManagerSees k part s j (Serves v) → (from to : NodeId) (m : Body) → SentBy k part s from to m
+        → Premise logs (SlotTold (members k part) part s.net (slot_in part (Serves v)) from m)
+        → ServingGets logs part (epoch_now k part s) j s.net (members k part) v.lasting.inc (slot_in part (Serves v)) from m
+    serving_body logs v is sees from to (body.Want m) h told = want_gets from to m h
+    serving_body logs v is sees from to (body.Grant m) h told = tt
+    serving_body logs v is sees from to (body.Forward m) h told = tt
+    serving_body logs v is sees from to (body.Supply m) h told = tt
+    serving_body logs v is sees from to (body.Recall m) h told = tt
+    serving_body logs v is sees from to (body.Gave m) h told = gave_gets from to m h
+    serving_body logs v is sees from to (body.Gone m) h told = tt
+    serving_body logs v is sees from to (body.Deltas m) h told = deltas_gets logs from m told
+    serving_body logs v is sees from to (body.DeltaAck m) h told = tt
+    serving_body logs v is sees from to (body.Poll m) h told = tt
+    serving_body logs v is sees from to (body.Report m) h told = (report_gets from to m h, last_gets logs (slot_in part (Serves v)) from m told)
+    serving_body logs v is sees from to (body.Store m) h told = tt
+    serving_body logs v is sees from to (body.Stored m) h told = tt
+    serving_body logs v is sees from to (body.Fetch m) h told = tt
+    serving_body logs v is sees from to (body.Fragment m) h told = found_gets logs (slot_in part (Serves v)) from m told
+    serving_body logs v is sees from to (body.Missing m) h told = absent_gets logs (slot_in part (Serves v)) from m told
+    serving_body logs v is sees from to (body.Fence m) h told = tt
+    serving_body logs v is sees from to (body.Fenced m) h told = tt
+    serving_body logs v is sees from to (body.List m) h told = tt
+    serving_body logs v is sees from to (body.Listed m) h told = tt
+    serving_body logs v is sees from to (body.Delete m) h told = tt
+    serving_body logs v is sees from to (body.Deleted m) h told = tt
+    serving_body logs v is sees from to (body.Check m) h told = tt
+    serving_body logs v is sees from to (body.Live m) h told = tt
+    serving_body logs v is sees from to (body.Dead m) h told = tt
+    serving_body logs v is sees from to (body.UsageAsk m) h told = tt
+    serving_body logs v is sees from to (body.Usage m) h told = tt
+    serving_body logs v is sees from to (body.Hello m) h told = tt
+    serving_body logs v is sees from to (body.Welcome m) h told = λ life. serving_news v is sees m.news.slots (welcome_told from to m h).0
+    serving_body logs v is sees from to (body.MapNews m) h told = serving_news v is sees m.slots (news_told from to m h)
+    serving_body logs v is sees from to (body.CkptDone m) h told = tt
+    serving_body logs v is sees from to (body.CkptAck m) h told = tt
 
     waiting_body : (kept : Kept) (hello : ℕ) → (s.manager j).phase ≡ Waiting kept hello → (from to : NodeId) (m : Body) → SentBy k part s from to m → to ≡ Manager j
         → WaitingGets part (epoch_now k part s) j s.net kept.inc m
@@ -307,7 +318,8 @@ module _ (k : Cluster) (part : ℕ) (s : Scene) where
     waiting_body kept hello is from to (body.CkptDone m) h same = tt
     waiting_body kept hello is from to (body.CkptAck m) h same = tt
 
-    pub manager_gets : (p : ManagerPhase) → (s.manager j).phase ≡ p → ManagerSees k part s j p → (q : Packet) → Fact k part s q → q.to ≡ Manager j → ManagerGets false part (epoch_now k part s) j s.net (members k part) p q
-    manager_gets (Down kept) is sees q fact same = tt
-    manager_gets (Waiting kept hello) is sees q fact same = waiting_body kept hello is q.from q.to q.body fact same
-    manager_gets (Serves v) is sees q fact same = serving_body v is sees q.from q.to q.body fact
+    pub manager_gets : (logs : Bool) (p : ManagerPhase) → (s.manager j).phase ≡ p → ManagerSees k part s j p → (q : Packet) → Fact k part s q → q.to ≡ Manager j
+        → Premise logs (ServingTold (members k part) part s.net p q) → ManagerGets logs part (epoch_now k part s) j s.net (members k part) p q
+    manager_gets logs (Down kept) is sees q fact same told = tt
+    manager_gets logs (Waiting kept hello) is sees q fact same told = waiting_body kept hello is q.from q.to q.body fact same
+    manager_gets logs (Serves v) is sees q fact same told = serving_body logs v is sees q.from q.to q.body fact told

@@ -12,6 +12,7 @@ pub mod RegistryTurns
 pub mod OtherTurns
 pub mod Start
 pub mod Falls
+pub mod Turns
 pub mod Laws
 pub mod Fallen
 pub mod Managers

@@ -9,10 +9,11 @@ use Rattle.manager_node.specs.declared.phase.Phase.TheVariants.{Down, Waiting, S
 use Rattle.manager_node.specs.declared.slot_phase.SlotPhase.{SlotPhase}
 use Rattle.manager_node.specs.declared.slot_phase.SlotPhase.TheVariants as phase
 use Rattle.manager_node.specs.Phases.{Went_to, lasting_of}
-use Rattle.node_base.specs.Effects.{packets_of}
+use Rattle.node_base.specs.Effects.{acts_of, packets_of}
 use Rattle.node_tie.proofs.ManagerFrames.{manager_on}
-use Rattle.node_tie.proofs.SmallWorld.{any_promise, promised_stays, with_promise}
+use Rattle.node_tie.proofs.SmallWorld.{any_promise, premise_by, promised_stays, with_promise}
 use Rattle.node_tie.specs.CleanerEvents.{CleanerStands, CleanerWelcomed}
+use Rattle.node_tie.specs.CleanerLogs.{CleanerCopies}
 use Rattle.node_tie.specs.ManagerEvents.{HeldAt, ManagerAgrees, ManagerGoes, NamedBy, NamedIn, Names, TakingAt, epoch_in, is_serving, is_waiting, slot_in}
 use Rattle.node_tie.specs.Sight.{ManagerDoes, ManagerSends}
 use Rattle.store_nodes.specs.declared.registry_node.RegistryNode.{RegistryNode}
@@ -22,6 +23,7 @@ use Rattle.token_manager.specs.SlotState.{SlotState}
 use Rattle.token_protocol.specs.Basics.{put, In}
 use Rattle.token_protocol.proofs.Refining.{put_each}
 use Rattle.token_tie.proofs.Frames.{put_here}
+use Rattle.version_model.specs.declared.act.Act.{Act}
 use Rattle.wire_msg.specs.declared.body.Body.{Body}
 use Rattle.wire_msg.specs.declared.body.Body.TheVariants as body
 use Rattle.wire_msg.specs.declared.packet.Do.{Do}
@@ -33,7 +35,7 @@ use Rattle.world_base.specs.declared.cluster.Cluster.{Cluster}
 use Rattle.world_base.specs.NextWorld.{sent_at}
 use Rattle.world_law.proofs.ClientTurns.{number, welcome_frame}
 use Rattle.world_law.proofs.Facts.{Grown, fact_stays}
-use Rattle.world_law.proofs.Frames.{client_frame, runs_on, stands_frame}
+use Rattle.world_law.proofs.Frames.{client_frame, runs_on, same_books, stands_frame}
 use Rattle.world_law.proofs.Gets.{news_told, welcome_told}
 use Rattle.world_law.proofs.Nodes.{here, there}
 use Rattle.world_law.proofs.Sent.{in_append, sends}
@@ -95,10 +97,11 @@ one_of : (t : Bool) → (t ≡ true) ⊎ (t ≡ false)
 one_of true = inl refl
 one_of false = inr refl
 
-module _ (k : Cluster) (part : ℕ) (RegistrySound : RegistryNode → Type 0) (nodes : List AnyNode) (sent : List Packet) (s : Scene) (st : Stands k part nodes sent RegistrySound s)
+module _ (logs : Bool) (k : Cluster) (part : ℕ) (RegistrySound : RegistryNode → Type 0) (nodes : List AnyNode) (sent : List Packet) (done : List Act) (s : Scene)
+    (st : Stands logs k part nodes sent done RegistrySound s)
     (j p clock : ℕ) (some : 0 < j) (most : j ≤ k.managers) (at : place_of k (Manager j) ≡ Some p) (is : slice_get nodes p ≡ Some (any.Manager (s.manager j)))
     (what : Do) (fact : (q : Packet) → what ≡ Deliver q → Fact k part s q × (q.to ≡ Manager j)) (w : Went_to)
-    (go : ManagerGoes false (members k part) part (epoch_now k part s) j s.net (s.manager j).phase what w) where
+    (go : ManagerGoes logs (members k part) part (epoch_now k part s) j s.net (s.manager j).phase what w) where
   abbrev after_node : ManagerNode
   after_node = record (s.manager j) { phase = w.state }
 
@@ -118,7 +121,7 @@ module _ (k : Cluster) (part : ℕ) (RegistrySound : RegistryNode → Type 0) (n
   up_same c = ap (λ (f : ℕ → Bool). f c) go.up
 
   promised : go.next.promised ≡ s.net.promised
-  promised = promised_stays false (members k part) part s.net go.next go.runs
+  promised = promised_stays logs (members k part) part s.net go.next go.runs
 
   grown : Grown k part s manager_scene
   grown = record {
@@ -327,15 +330,24 @@ module _ (k : Cluster) (part : ℕ) (RegistrySound : RegistryNode → Type 0) (n
           subst (λ y. (0 < y) × (y ≤ k.managers) × ManagerSends part go.next.sent (epoch_now k part s) (life_of_manager manager_scene y) to m) (sym same)
           (some, most, subst (λ l. ManagerSends part go.next.sent (epoch_now k part s) l to m) (sym life_here) h)
 
-  pub manager_turn : Stands k part nodes_now sent_now RegistrySound manager_scene
+  abbrev acts_now : List Act
+  acts_now = done ++ acts_of (Manager (lasting_of before).number) w.outs
+
+  acts : go.next.acts ≡ acts_now
+  acts = go.acts ∙ (ap (λ a. a ++ acts_of (Manager j) w.outs) st.acts ∙ ap (λ x. done ++ acts_of (Manager x) w.outs) (sym (manager_number (members k part) part j s.net before sees.agrees)))
+
+  pub manager_turn : Stands logs k part nodes_now sent_now acts_now RegistrySound manager_scene
   manager_turn = record {
-    runs = runs_on (members k part) part _ (with_promise 1 s.net) (with_promise 1 go.next) st.runs (any_promise false (members k part) part 1 s.net go.next go.runs);
+    runs = runs_on logs (members k part) part _ (with_promise 1 s.net) (with_promise 1 go.next) st.runs (any_promise logs (members k part) part 1 s.net go.next go.runs);
+    acts = acts;
     placed = placed;
     sound = st.sound;
     clients = λ c pos less. (let h = st.clients c pos less in
-        (client_frame part c s.net go.next (tokens_same c) (up_same c) go.grows (s.client c).phase h.0, stands_frame part (epoch_now k part s) (epoch_now k part s) c s.net go.next (omega arith) (tokens_same c) (s.client c).phase h.1));
+        (client_frame logs part c s.net go.next (tokens_same c) (up_same c) (same_books s.net.books go.next.books go.books c) go.grows (s.client c).phase h.0, stands_frame part (epoch_now k part s) (epoch_now k part s) c s.net go.next (omega arith) (tokens_same c) (s.client c).phase h.1));
     managers = put_each (λ d (x : ManagerNode). 0 < d → d ≤ k.managers → ManagerSees k part manager_scene d x.phase) s.manager j after_node (λ _ _. sees_after) sees_others;
     cleaner = subst (λ x. (x ≤ epoch_now k part s) × CleanerStands part x (epoch_now k part s) s.cleaner.phase) (sym promised) st.cleaner;
+    copies = premise_by logs (subst (λ b. CleanerCopies b s.cleaner.phase) (sym go.books)) st.copies;
+    few = st.few;
     peers = put_each (λ d (x : ManagerNode). 0 < d → d ≤ k.managers → x.peers.clients + 1 ≡ members k part) s.manager j after_node (st.peers j) (λ d other. st.peers d);
     current = st.current;
     some = st.some;

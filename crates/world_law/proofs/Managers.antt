@@ -24,6 +24,7 @@ use Rattle.token_manager.specs.Laws.{share_of}
 use Rattle.token_manager.specs.SlotState.{SlotState}
 use Rattle.token_protocol.specs.Basics.{In}
 use Rattle.token_tie.specs.Seen.{rank}
+use Rattle.version_model.specs.declared.act.Act.{Act}
 use Rattle.wire_msg.specs.declared.body.Body.{Body}
 use Rattle.wire_msg.specs.declared.body.Body.TheVariants as body
 use Rattle.wire_msg.specs.declared.packet.Packet.{Packet}
@@ -45,7 +46,7 @@ use Rattle.xfs_base.specs.declared.block.BlockId.{BlockId}
 use Rattle.xfs_base.specs.declared.node.NodeId.{NodeId}
 use Rattle.xfs_base.specs.declared.node.NodeId.TheVariants.{Client, Cleaner, Manager, Registry}
 
-module _ (k : Cluster) (part : ℕ) (nodes : List AnyNode) (sent : List Packet) (s : Scene) (st : Stands k part nodes sent RegistrySound s) where
+module _ (k : Cluster) (part : ℕ) (nodes : List AnyNode) (sent : List Packet) (acts : List Act) (s : Scene) (st : Stands false k part nodes sent acts RegistrySound s) where
   -- a manager that manages the slot manages it in the small world
   pub record There (j : ℕ) (a : SlotState) : Type 0 where
     pub lord : s.lord a.epoch ≡ j
@@ -91,14 +92,14 @@ module _ (laws : NodeLaws) (small_promised : ActiveEpochsPromised) (small_believ
   abbrev now : Scene
   now = (front laws e setup run count part of_eight).1.0
 
-  st : Stands k part w.nodes w.sent RegistrySound now
+  st : Stands false k part w.nodes w.sent w.acts RegistrySound now
   st = (front laws e setup run count part of_eight).1.1
 
-  managed : (j : ℕ) (s : SlotState) → active_at w part j ≡ Some s → There k part w.nodes w.sent now st j s
-  managed j s is = manages_there k part w.nodes w.sent now st j s (subst (λ cl. active_of part (node_in w.nodes (place_of cl (Manager j))) ≡ Some s) same_cluster is)
+  managed : (j : ℕ) (s : SlotState) → active_at w part j ≡ Some s → There k part w.nodes w.sent w.acts now st j s
+  managed j s is = manages_there k part w.nodes w.sent w.acts now st j s (subst (λ cl. active_of part (node_in w.nodes (place_of cl (Manager j))) ≡ Some s) same_cluster is)
 
   served : (c : ℕ) (t : TokensState) → tokens_at w c ≡ Some t → ServesThere laws k part of_eight now c t
-  served c t is = serves_there laws k part of_eight w.nodes w.sent now st c t (subst (λ cl. tokens_of (node_in w.nodes (place_of cl (Client c))) ≡ Some t) same_cluster is)
+  served c t is = serves_there laws k part of_eight w.nodes w.sent w.acts now st c t (subst (λ cl. tokens_of (node_in w.nodes (place_of cl (Client c))) ≡ Some t) same_cluster is)
 
   registry_epoch : epoch_at w part ≡ epoch_now k part now
   registry_epoch = subst (λ cl. epoch_by part (node_in w.nodes (place_of cl Registry)) ≡ epoch_now k part now) (sym same_cluster) (ap (epoch_by part) st.placed.registry)
@@ -126,7 +127,7 @@ module _ (laws : NodeLaws) (small_promised : ActiveEpochsPromised) (small_believ
       (subst (λ (x : Body). SentBy k part now packet.from (Client c) x) is (subst (λ (x : NodeId). SentBy k part now packet.from x packet.body) to (st.facts packet sent)))
 
   -- the cleaner has promised what was entered
-  cleaner_above : (j : ℕ) (s : SlotState) (p : Promised) → There k part w.nodes w.sent now st j s → promised_of (node_in w.nodes (place_of k Cleaner)) ≡ Some p → s.epoch ≤ epoch_of p.epochs part
+  cleaner_above : (j : ℕ) (s : SlotState) (p : Promised) → There k part w.nodes w.sent w.acts now st j s → promised_of (node_in w.nodes (place_of k Cleaner)) ≡ Some p → s.epoch ≤ epoch_of p.epochs part
   cleaner_above j s p x serves = by_phase now.cleaner.phase st.cleaner.1 (sym (ap promised_of st.placed.cleaner) ∙ serves)
     where
       by_phase : (q : CleanerPhase) → CleanerStands part now.net.promised (epoch_now k part now) q → promised_in q ≡ Some p → s.epoch ≤ epoch_of p.epochs part

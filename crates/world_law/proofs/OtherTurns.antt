@@ -1,14 +1,18 @@
 -- A server or the cleaner that has its turn: the moment after it stands to the same small world, but for what the cleaner has promised.
 use Rattle.std.specs.Prelude.{All}
-use Rattle.std.proofs.Common.{◌≡◌, ◌⊎◌, ⊎_elim, ℕ, ◌≤◌, ◌<◌, ◌==◌, true, false, List, ◌++◌, Some, map, slice_get, slice_set, inl, inr, refl, sym, ap, subst, ◌∙◌, arith}
+use Rattle.std.proofs.Common.{◌≡◌, ◌⊎◌, ⊎_elim, ℕ, Bool, ◌≤◌, ◌<◌, ◌==◌, true, false, List, ◌++◌, Some, map, slice_get, slice_set, inl, inr, refl, sym, ap, subst, ◌∙◌, arith}
 use Rattle.std.proofs.lemmas.Bool.Decides.{nat_tests}
+use Rattle.std.proofs.lemmas.List.Elements.{recursion_from_All}
 use Rattle.core_world.specs.declared.any_node.AnyNode.{AnyNode}
 use Rattle.core_world.specs.declared.any_node.AnyNode.TheVariants as any
 use Rattle.node_base.specs.declared.effects.Effect.{Effect}
-use Rattle.node_base.specs.Effects.{packets_of}
+use Rattle.node_base.specs.Effects.{acts_of, packets_of}
+use Rattle.node_tie.proofs.BooksLast.{same_log}
 use Rattle.node_tie.proofs.ManagerFrames.{manager_on}
+use Rattle.node_tie.proofs.SmallWorld.{any_promise, says_all, with_promise}
 use Rattle.node_tie.proofs.StoreServer.{server_from}
 use Rattle.node_tie.specs.CleanerEvents.{CleanerDoes, CleanerGoes, CleanerWelcomed}
+use Rattle.node_tie.specs.CleanerLogs.{CleanerRuns, after_cleaner, its_log}
 use Rattle.node_tie.specs.Sight.{ServerSends}
 use Rattle.node_tie.specs.StoreEvents.{PacketsSay}
 use Rattle.cleaner_node.specs.CleanerEvents.{Went_to, lasting_of}
@@ -18,16 +22,19 @@ use Rattle.cleaner_node.specs.declared.cleaner.Phase.TheVariants.{Down, Opening,
 use Rattle.store_nodes.specs.declared.registry_node.RegistryNode.{RegistryNode}
 use Rattle.store_nodes.specs.declared.server.Server.{Server as ServerNode}
 use Rattle.store_nodes.specs.ServerEvents.{server_step}
+use Rattle.token_law.specs.Net.{acted}
+use Rattle.token_law.specs.Owed.{IsNeutral}
 use Rattle.token_protocol.specs.Basics.{In}
+use Rattle.version_model.specs.declared.act.Act.{Act}
 use Rattle.wire_msg.specs.declared.packet.Do.{Do}
 use Rattle.wire_msg.specs.declared.packet.Packet.{Packet}
 use Rattle.wire_msg.specs.declared.registry.Welcome.{Welcome}
 use Rattle.world_base.specs.Cluster.{place_of}
 use Rattle.world_base.specs.declared.cluster.Cluster.{Cluster}
 use Rattle.world_base.specs.NextWorld.{sent_at}
-use Rattle.world_law.proofs.ClientTurns.{number, welcome_frame}
+use Rattle.world_law.proofs.ClientTurns.{no_client, number, welcome_frame}
 use Rattle.world_law.proofs.Facts.{Grown, fact_stays}
-use Rattle.world_law.proofs.Frames.{client_frame, stands_frame}
+use Rattle.world_law.proofs.Frames.{client_frame, runs_on, stands_frame}
 use Rattle.world_law.proofs.Nodes.{here, there}
 use Rattle.world_law.proofs.Sent.{at_clock, in_append, sends}
 use Rattle.world_law.proofs.Standing.{Fact, ManagerSees, Placed, Scene, SentBy, Stands, epoch_now, members}
@@ -42,16 +49,77 @@ equal_or_not n m = elim (n == m) as (λ t. (n == m) ≡ t → (n ≡ m) ⊎ (n �
     same : (n m : ℕ) → (n == m) ≡ true → n ≡ m
     same n m h = grind (arith, nat_tests)
 
-module _ (k : Cluster) (part : ℕ) (RegistrySound : RegistryNode → Type 0) (nodes : List AnyNode) (sent : List Packet) (s : Scene) (st : Stands k part nodes sent RegistrySound s) (p clock : ℕ) (what : Do) where
+-- ---- acts that change no history
+
+module _ (logs : Bool) (k : Cluster) (part : ℕ) (RegistrySound : RegistryNode → Type 0) (nodes : List AnyNode) (sent : List Packet) (done : List Act) (s : Scene)
+    (st : Stands logs k part nodes sent done RegistrySound s) (more : List Act) (neutral : All IsNeutral more) where
+  -- they are said in the small world
+  abbrev pub said_scene : Scene
+  said_scene = record s { net = acted s.net more }
+
+  said_grown : Grown k part s said_scene
+  said_grown = record {
+    sent = λ x h. h;
+    lives = λ c. omega arith;
+    reigns = λ j. omega arith;
+    epochs = omega arith;
+    told = λ j. omega arith;
+    given = λ e low. (refl, refl);
+    new = λ e less most. absurd (omega arith);
+    welcomes = λ c m life h. welcome_frame part (epoch_now k part s) c s.net said_scene.net refl (s.client c).phase m h;
+    cleans = omega arith;
+    promises = omega arith;
+    cleaner = λ m life h. h;
+  }
+
+  pub said_fact : (q : Packet) → Fact k part s q → Fact k part said_scene q
+  said_fact q h = fact_stays k part s said_scene said_grown q h
+
+  said_sees : (j : ℕ) → 0 < j → j ≤ k.managers → ManagerSees k part said_scene j (s.manager j).phase
+  said_sees j pos most = (let h = st.managers j pos most in record {
+    agrees = manager_on (members k part) part s.net said_scene.net (λ x sent_. sent_) (omega arith) j (s.manager j).phase (λ e held. refl) h.agrees;
+    within = h.within;
+    owns = h.owns;
+    fresh = h.fresh;
+    known = h.known;
+    told = h.told;
+  })
+
+  pub said_stands : Stands logs k part nodes sent (done ++ more) RegistrySound said_scene
+  said_stands = record {
+    runs = runs_on logs (members k part) part _ (with_promise 1 s.net) (with_promise 1 said_scene.net) st.runs
+        (any_promise logs (members k part) part 1 s.net said_scene.net (says_all logs (members k part) part s.net more (recursion_from_All IsNeutral more neutral)));
+    acts = ap (λ a. a ++ more) st.acts;
+    placed = record { clients = st.placed.clients; managers = st.placed.managers; servers = st.placed.servers; cleaner = st.placed.cleaner; registry = st.placed.registry };
+    sound = st.sound;
+    clients = λ c pos less. (let h = st.clients c pos less in
+        (client_frame logs part c s.net said_scene.net refl refl (same_log s.net.books c) (λ x sent_. sent_) (s.client c).phase h.0, stands_frame part (epoch_now k part s) (epoch_now k part s) c s.net said_scene.net (omega arith) refl (s.client c).phase h.1));
+    managers = said_sees;
+    cleaner = st.cleaner;
+    copies = st.copies;
+    few = st.few;
+    peers = st.peers;
+    current = st.current;
+    some = st.some;
+    before = st.before;
+    entered = st.entered;
+    facts = λ q h. said_fact q (st.facts q h);
+  }
+
+module _ (logs : Bool) (k : Cluster) (part : ℕ) (RegistrySound : RegistryNode → Type 0) (nodes : List AnyNode) (sent : List Packet) (done : List Act) (s : Scene)
+    (st : Stands logs k part nodes sent done RegistrySound s) (p clock : ℕ) (what : Do) where
   -- nothing but the place of the node and what was sent changes
-  stands_so : (now : List AnyNode) (packets : List Packet) → Placed k part now (sent ++ packets) s → ((q : Packet) → In q packets → Fact k part s q) → Stands k part now (sent ++ packets) RegistrySound s
+  stands_so : (now : List AnyNode) (packets : List Packet) → Placed k part now (sent ++ packets) s → ((q : Packet) → In q packets → Fact k part s q) → Stands logs k part now (sent ++ packets) done RegistrySound s
   stands_so now packets placed new = record {
     runs = st.runs;
+    acts = st.acts;
     placed = placed;
     sound = st.sound;
     clients = st.clients;
     managers = st.managers;
     cleaner = st.cleaner;
+    copies = st.copies;
+    few = st.few;
     peers = st.peers;
     current = st.current;
     some = st.some;
@@ -63,7 +131,7 @@ module _ (k : Cluster) (part : ℕ) (RegistrySound : RegistryNode → Type 0) (n
   -- ---- a server
 
   pub server_turn : (n : ℕ) → place_of k (Server n) ≡ Some p → (server : ServerNode) → slice_get nodes p ≡ Some (any.Server server) → PacketsSay ServerSends (server_step server what).packets
-      → Stands k part (slice_set nodes p (any.Server (server_step server what).node)) (sent ++ map (sent_at clock) (server_step server what).packets) RegistrySound s
+      → Stands logs k part (slice_set nodes p (any.Server (server_step server what).node)) (sent ++ map (sent_at clock) (server_step server what).packets) done RegistrySound s
   server_turn n at server is says = stands_so now (map (sent_at clock) (server_step server what).packets) placed
       (λ q h. at_clock clock (λ x. (x.from ≡ Server server.number) × ServerSends x.body) (Fact k part s)
       (λ x both. subst (λ (y : NodeId). SentBy k part s y x.to x.body) (sym both.0) both.1)
@@ -106,13 +174,15 @@ module _ (part promised most : ℕ) where
   cleaner_after (Opening l o) (Opening next x) outs go m life h = λ same. (let later = go.later in let now : m.inc ≡ l.inc = omega arith in
       subst (λ y. All (λ (news : SlotNews). news.slot ≡ part → y ≤ news.epoch) m.news.slots) (sym (go.keeps tt)) (h now))
 
-module _ (k : Cluster) (part : ℕ) (RegistrySound : RegistryNode → Type 0) (nodes : List AnyNode) (sent : List Packet) (s : Scene) (st : Stands k part nodes sent RegistrySound s) (p clock : ℕ)
-    (at : place_of k Cleaner ≡ Some p) (is : slice_get nodes p ≡ Some (any.Cleaner s.cleaner)) (w : Went_to) (go : CleanerGoes part s.net.promised (epoch_now k part s) s.cleaner.phase w.state w.outs) where
+module _ (logs : Bool) (k : Cluster) (part : ℕ) (RegistrySound : RegistryNode → Type 0) (nodes : List AnyNode) (sent : List Packet) (done : List Act) (s : Scene)
+    (st : Stands logs k part nodes sent done RegistrySound s) (p clock : ℕ)
+    (at : place_of k Cleaner ≡ Some p) (is : slice_get nodes p ≡ Some (any.Cleaner s.cleaner)) (w : Went_to) (go : CleanerGoes part s.net.promised (epoch_now k part s) s.cleaner.phase w.state w.outs)
+    (run : CleanerRuns logs (members k part) part s.net s.cleaner.phase w.state w.outs) where
   abbrev after_node : CleanerNode
   after_node = record s.cleaner { phase = w.state }
 
   abbrev pub cleaner_scene : Scene
-  cleaner_scene = record s { net = record s.net { promised = go.next }; cleaner = after_node }
+  cleaner_scene = record s { net = record (after_cleaner s.net run.books w.outs) { promised = go.next }; cleaner = after_node }
 
   abbrev nodes_now : List AnyNode
   nodes_now = slice_set nodes p (any.Cleaner after_node)
@@ -163,15 +233,19 @@ module _ (k : Cluster) (part : ℕ) (RegistrySound : RegistryNode → Type 0) (n
   up_to : (a b c : ℕ) → a ≤ b → b ≤ c → a ≤ c
   up_to a b c h g = omega arith
 
-  pub cleaner_turn : Stands k part nodes_now sent_now RegistrySound cleaner_scene
+  pub cleaner_turn : Stands logs k part nodes_now sent_now (done ++ acts_of Cleaner w.outs) RegistrySound cleaner_scene
   cleaner_turn = record {
-    runs = st.runs;
+    runs = runs_on logs (members k part) part _ (with_promise 1 s.net) (with_promise 1 cleaner_scene.net) st.runs
+        (any_promise logs (members k part) part 1 s.net (after_cleaner s.net run.books w.outs) run.runs);
+    acts = ap (λ a. a ++ acts_of Cleaner w.outs) st.acts;
     placed = placed;
     sound = st.sound;
     clients = λ c pos less. (let h = st.clients c pos less in
-        (client_frame part c s.net cleaner_scene.net refl refl (λ x sent_. sent_) (s.client c).phase h.0, stands_frame part (epoch_now k part s) (epoch_now k part s) c s.net cleaner_scene.net (omega arith) refl (s.client c).phase h.1));
+        (client_frame logs part c s.net cleaner_scene.net refl refl (run.others c (λ own. no_client c (members k part) its_log less st.few (sym own))) (λ x sent_. sent_) (s.client c).phase h.0, stands_frame part (epoch_now k part s) (epoch_now k part s) c s.net cleaner_scene.net (omega arith) refl (s.client c).phase h.1));
     managers = sees;
     cleaner = (go.within, go.stands);
+    copies = run.copies;
+    few = st.few;
     peers = st.peers;
     current = st.current;
     some = st.some;

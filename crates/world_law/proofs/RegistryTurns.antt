@@ -1,5 +1,5 @@
 -- The registry that has its turn: a slot may be given anew, and the moment after it stands to the same small world.
-use Rattle.std.proofs.Common.{◌≡◌, ⊎_elim, ℕ, ◌+◌, ◌≤◌, ◌<◌, List, ◌++◌, Some, map, slice_get, slice_set, inl, inr, refl, sym, ap, subst, ◌∙◌, arith}
+use Rattle.std.proofs.Common.{◌≡◌, ⊎_elim, ℕ, Bool, ◌+◌, ◌≤◌, ◌<◌, List, ◌++◌, Some, map, slice_get, slice_set, inl, inr, refl, sym, ap, subst, ◌∙◌, arith}
 use Rattle.std.proofs.Math.Nat.{mod-lt}
 use Rattle.client_node.specs.declared.phase.Phase.{Phase as ClientPhase}
 use Rattle.client_node.specs.declared.phase.Phase.TheVariants as clients
@@ -21,6 +21,7 @@ use Rattle.token_client.specs.State.{epoch_of}
 use Rattle.token_protocol.specs.Basics.{put, In}
 use Rattle.token_protocol.proofs.Refining.{put_each, put_each_two}
 use Rattle.token_tie.proofs.Frames.{put_here}
+use Rattle.version_model.specs.declared.act.Act.{Act}
 use Rattle.wire_msg.specs.declared.body.Body.{Body}
 use Rattle.wire_msg.specs.declared.body.Body.TheVariants as body
 use Rattle.wire_msg.specs.declared.packet.Do.{Do}
@@ -72,7 +73,7 @@ held_known (phase.Active a) e h = h
 held_known (phase.Away epoch) e h = absurd h
 held_known (phase.Broken epoch seg) e h = absurd h
 
-module _ (k : Cluster) (part : ℕ) (nodes : List AnyNode) (sent : List Packet) (s : Scene) (st : Stands k part nodes sent RegistrySound s)
+module _ (logs : Bool) (k : Cluster) (part : ℕ) (nodes : List AnyNode) (sent : List Packet) (done : List Act) (s : Scene) (st : Stands logs k part nodes sent done RegistrySound s)
     (p clock : ℕ) (at : place_of k Registry ≡ Some p) (is : slice_get nodes p ≡ Some (any.Registry s.registry))
     (what : Do) (fact : (q : Packet) → what ≡ Deliver q → Fact k part s q) (go : RegistryGoes part s.registry what) where
   abbrev after_node : RegistryNode
@@ -270,14 +271,17 @@ module _ (k : Cluster) (part : ℕ) (nodes : List AnyNode) (sent : List Packet) 
       (λ x both. subst (λ n. SentBy k part registry_scene n x.to x.body) (sym both.0) (says x.to x.body both.1))
       (registry_step s.registry what).packets (λ i d less. (go.from i d less, go.sends i d less)) q h
 
-  pub registry_turn : Stands k part nodes_now sent_now RegistrySound registry_scene
+  pub registry_turn : Stands logs k part nodes_now sent_now done RegistrySound registry_scene
   registry_turn = record {
     runs = st.runs;
+    acts = st.acts;
     placed = placed;
     sound = go.board.sound;
     clients = λ c pos less. (let h = st.clients c pos less in (h.0, stands_frame part old new c s.net s.net rises refl (s.client c).phase h.1));
     managers = sees;
     cleaner = ((let a = st.cleaner.0 in let b = rises in omega arith), cleaner_more part s.net.promised old new rises s.cleaner.phase st.cleaner.1);
+    copies = st.copies;
+    few = st.few;
     peers = st.peers;
     current = (put_here s.lord new lord, put_here s.since new (inc_in after_node.board lord) ∙ ap (inc_in after_node.board) (sym (put_here s.lord new lord) ∙ put_here s.lord new lord));
     some = (let a = st.some in let b = rises in omega arith);

@@ -1,6 +1,6 @@
 -- How a moment of a run stands to a moment of the small world of one slot: each client and manager is seen there, and the promise of the cleaner, each packet
 -- about tokens was sent there, and who was given which epoch, in which incarnation, is told beside it.
-use Rattle.std.proofs.Common.{◌≡◌, ◌⊎◌, ℕ, ◌+◌, ◌≤◌, ◌<◌, true, false, List, Some}
+use Rattle.std.proofs.Common.{◌≡◌, ◌⊎◌, ℕ, ◌+◌, ◌≤◌, ◌<◌, Bool, true, List, Some}
 use Rattle.client_node.specs.declared.client.Client.{Client as ClientNode}
 use Rattle.client_node.specs.Phases as clients
 use Rattle.core_world.specs.declared.any_node.AnyNode.{AnyNode}
@@ -10,6 +10,7 @@ use Rattle.manager_node.specs.declared.phase.Phase.{Phase as ManagerPhase}
 use Rattle.manager_node.specs.declared.phase.Phase.TheVariants as managing
 use Rattle.manager_node.specs.Phases as managers
 use Rattle.node_tie.specs.CleanerEvents.{CleanerStands, CleanerWelcomed}
+use Rattle.node_tie.specs.CleanerLogs.{CleanerCopies, its_log}
 use Rattle.node_tie.specs.ClientEvents.{ClientAgrees, ClientStands, WelcomeRises}
 use Rattle.node_tie.specs.ManagerEvents.{ManagerAgrees, HeldAt, epoch_in, slot_in, is_serving}
 use Rattle.node_tie.specs.Sight.{ClientSends, CleanerSends, ManagerSends, ServerSends}
@@ -23,6 +24,8 @@ use Rattle.node_tie.proofs.SmallWorld.{with_promise}
 use Rattle.token_law.specs.Net.{Net, Runs, opening}
 use Rattle.token_manager.specs.SlotState.{SlotState}
 use Rattle.token_protocol.specs.Basics.{In}
+use Rattle.token_protocol.specs.Premises.{Premise}
+use Rattle.version_model.specs.declared.act.Act.{Act}
 use Rattle.wire_msg.specs.declared.body.Body.{Body}
 use Rattle.wire_msg.specs.declared.body.Body.TheVariants as body
 use Rattle.wire_msg.specs.declared.packet.Packet.{Packet}
@@ -155,20 +158,27 @@ module _ (k : Cluster) (part : ℕ) where
       pub cleaner : node_in nodes (place_of k Cleaner) ≡ Some (any.Cleaner s.cleaner)
       pub registry : node_in nodes (place_of k Registry) ≡ Some (any.Registry s.registry)
 
-    pub record Stands (RegistrySound : RegistryNode → Type 0) (s : Scene) : Type 0 where
-      pub runs : Runs false members part opening (with_promise 1 s.net)
-      pub placed : Placed s
-      pub sound : RegistrySound s.registry
-      pub clients : (c : ℕ) → 0 < c → c < members → ClientAgrees false part c s.net (s.client c).phase × ClientStands part (epoch_now s) c s.net (s.client c).phase
-      pub managers : (j : ℕ) → 0 < j → j ≤ k.managers → ManagerSees s j (s.manager j).phase
-      -- the cleaner has promised an epoch that the slot had
-      pub cleaner : (s.net.promised ≤ epoch_now s) × CleanerStands part s.net.promised (epoch_now s) s.cleaner.phase
-      pub peers : (j : ℕ) → 0 < j → j ≤ k.managers → (s.manager j).peers.clients + 1 ≡ members
-      -- the newest epoch was given to the slot's manager, in the incarnation that the registry knows
-      pub current : (s.lord (epoch_now s) ≡ manager_now s) × (s.since (epoch_now s) ≡ life_told s (manager_now s))
-      pub some : 0 < epoch_now s
-      -- no epoch was given in an incarnation that the registry didn't know
-      pub before : (e : ℕ) → 0 < e → e ≤ epoch_now s → s.since e ≤ life_told s (s.lord e)
-      pub entered : (e : ℕ) (z : SlotState) → s.net.slots e ≡ Some z
-          → (e ≤ epoch_now s) × (0 < s.lord e) × (s.lord e ≤ k.managers) × PastAt (s.manager (s.lord e)).phase (s.since e) e × (e ≤ s.net.promised)
-      pub facts : (p : Packet) → In p sent → Fact s p
+-- Of a moment of a run at which these acts were done. Where logs keep their word (true), the small world knows them, too.
+module _ (logs : Bool) (k : Cluster) (part : ℕ) (nodes : List AnyNode) (sent : List Packet) (done : List Act) where
+  pub record Stands (RegistrySound : RegistryNode → Type 0) (s : Scene) : Type 0 where
+    pub runs : Runs logs (members k part) part opening (with_promise 1 s.net)
+    -- all that was acted is acted there
+    pub acts : s.net.acts ≡ done
+    pub placed : Placed k part nodes sent s
+    pub sound : RegistrySound s.registry
+    pub clients : (c : ℕ) → 0 < c → c < members k part → ClientAgrees logs part c s.net (s.client c).phase × ClientStands part (epoch_now k part s) c s.net (s.client c).phase
+    pub managers : (j : ℕ) → 0 < j → j ≤ k.managers → ManagerSees k part s j (s.manager j).phase
+    -- the cleaner has promised an epoch that the slot had
+    pub cleaner : (s.net.promised ≤ epoch_now k part s) × CleanerStands part s.net.promised (epoch_now k part s) s.cleaner.phase
+    -- where logs keep their word, its log is seen, too, whose number no client has
+    pub copies : Premise logs (CleanerCopies s.net.books s.cleaner.phase)
+    pub few : members k part ≤ its_log
+    pub peers : (j : ℕ) → 0 < j → j ≤ k.managers → (s.manager j).peers.clients + 1 ≡ members k part
+    -- the newest epoch was given to the slot's manager, in the incarnation that the registry knows
+    pub current : (s.lord (epoch_now k part s) ≡ manager_now k part s) × (s.since (epoch_now k part s) ≡ life_told s (manager_now k part s))
+    pub some : 0 < epoch_now k part s
+    -- no epoch was given in an incarnation that the registry didn't know
+    pub before : (e : ℕ) → 0 < e → e ≤ epoch_now k part s → s.since e ≤ life_told s (s.lord e)
+    pub entered : (e : ℕ) (z : SlotState) → s.net.slots e ≡ Some z
+        → (e ≤ epoch_now k part s) × (0 < s.lord e) × (s.lord e ≤ k.managers) × PastAt k part (s.manager (s.lord e)).phase (s.since e) e × (e ≤ s.net.promised)
+    pub facts : (p : Packet) → In p sent → Fact k part s p

@@ -12,6 +12,8 @@ use Rattle.manager_map.specs.Slots.{entry_at, start_entries}
 use Rattle.manager_node.specs.Events.{first_manager}
 use Rattle.manager_node.specs.declared.slot_phase.SlotPhase.TheVariants as phase
 use Rattle.manager_node.specs.Slots.{first_active}
+use Rattle.node_tie.proofs.ClientStart.{client_starts}
+use Rattle.node_tie.proofs.SmallWorld.{premise}
 use Rattle.node_tie.specs.AskingEvents.{StartsAsking}
 use Rattle.node_tie.specs.CleanerEvents.{CleanerStarts}
 use Rattle.node_tie.specs.ClientEvents.{ClientAgrees}
@@ -63,6 +65,9 @@ module _ (script : Script) where
       within : p < node_count cluster
       within = place_within cluster node p at
 
+within_nine : (clients : ℕ) → clients ≤ 8 → clients + 1 ≤ 9
+within_nine clients most = omega arith
+
 -- a node of a kind has a place where there are so many
 place_there : (first count number : ℕ) → 0 < number → number ≤ count → place_behind first count number ≡ Some (first + number - 1)
 place_there first count number some most = ap (λ t. cond t (Some (first + number - 1)) None) (both number count some most)
@@ -70,8 +75,8 @@ place_there first count number some most = ap (λ t. cond t (Some (first + numbe
     both : (a c : ℕ) → 0 < a → a ≤ c → (nat_lt 0 a && nat_le a c) ≡ true
     both a c some most = grind (arith, nat_tests)
 
-module _ (first_asks : StartsAsking) (first_agrees : FirstManagerAgrees) (cleaner_starts : CleanerStarts) (begins : (part : ℕ) → part < 8 → (setup : Setup) (items : List Work) → RegistryBegins part setup.managers (registry_start setup items))
-    (script : Script) (managers : 1 ≤ script.setup.managers) (part : ℕ) (of_eight : part < 8) where
+module _ (logs : Bool) (first_asks : StartsAsking) (first_agrees : FirstManagerAgrees) (cleaner_starts : CleanerStarts) (begins : (part : ℕ) → part < 8 → (setup : Setup) (items : List Work) → RegistryBegins part setup.managers (registry_start setup items))
+    (script : Script) (clients : script.setup.clients ≤ 8) (managers : 1 ≤ script.setup.managers) (part : ℕ) (of_eight : part < 8) where
   abbrev k : Cluster
   k = cluster_of script.setup
 
@@ -109,8 +114,8 @@ module _ (first_asks : StartsAsking) (first_agrees : FirstManagerAgrees) (cleane
   first_epoch (suc (suc (suc (suc (suc (suc (suc zero))))))) = omega arith
   first_epoch (suc (suc (suc (suc (suc (suc (suc (suc n)))))))) = omega arith
 
-  client_agrees : (c : ℕ) → ClientAgrees false part c opening (first_client c script.setup (items_of script.lines (Client c))).phase
-  client_agrees c = record { up = refl; tokens = refl; number = refl; inc = refl; epochs = refl; giving = λ block g inside is. absurd (cc); valued = λ block held. absurd (cc); logged = tt }
+  client_agrees : (c : ℕ) → ClientAgrees logs part c opening (first_client c script.setup (items_of script.lines (Client c))).phase
+  client_agrees c = (client_starts logs part 1 c of_eight (omega arith) script.setup (items_of script.lines (Client c))).agrees
 
   -- the slot's first manager is one of the run
   one_of_them : (0 < manager_now k part start_scene) × (manager_now k part start_scene ≤ script.setup.managers)
@@ -150,14 +155,17 @@ module _ (first_asks : StartsAsking) (first_agrees : FirstManagerAgrees) (cleane
       ))
       (λ e other z is. absurd (cc))
 
-  pub start_stands : Stands k part (first_nodes any_start script k) [] RegistrySound start_scene
+  pub start_stands : Stands logs k part (first_nodes any_start script k) [] [] RegistrySound start_scene
   start_stands = record {
     runs = Begun;
+    acts = refl;
     placed = placed;
     sound = begun.sound;
     clients = λ c some less. (client_agrees c, record { asks = first_asks c script.setup (items_of script.lines (Client c)); within = (let a = first_epoch part in let b = begun.epoch in omega arith); promises = tt });
     managers = λ j some most. sees j some;
     cleaner = ((let b = begun.epoch in omega arith), (cleaner_starts part (epoch_now k part start_scene) of_eight script.setup (items_of script.lines Cleaner)).0);
+    copies = premise logs (cleaner_starts part (epoch_now k part start_scene) of_eight script.setup (items_of script.lines Cleaner)).1;
+    few = within_nine script.setup.clients clients;
     peers = λ j some most. refl;
     current = (refl, sym (begun.incarnations (manager_now k part start_scene)));
     some = (let b = begun.epoch in omega arith);

@@ -1,5 +1,6 @@
--- Clients that fell: what holds of the nodes of a run at each of its moments while such a client isn't back.
+-- Clients that fell: what holds at each moment of a run while such a client isn't back, and that falls are apart.
 use Rattle.std.specs.Prelude.{◌≡◌, ℕ, false, List, Some}
+use Rattle.act_tie.specs.Shown.{FallsApart}
 use Rattle.core_world.specs.AnyNode.{any_start, any_step}
 use Rattle.core_world.specs.declared.any_node.AnyNode.{AnyNode}
 use Rattle.node_base.specs.Setups.{IsSetup}
@@ -39,3 +40,11 @@ NobodyHoldsThroughout e = (count : ℕ) → NobodyHolds (moment e count)
 -- So it is of each run of a script of whose setup a run can be started.
 abbrev pub NobodyHoldsWhatFell : Type 0
 NobodyHoldsWhatFell = (e : Estate AnyNode) → IsSetup e.script.setup → IsRun any_step any_start e.script e.events e.world → NobodyHoldsThroughout e
+
+-- no client falls again before it is back, and no fall names a block twice: so it is of the acts up to each moment of a run
+abbrev pub FallsApartThroughout : Estate AnyNode → Type 0
+FallsApartThroughout e = (count : ℕ) → FallsApart (moment e count).acts
+
+-- And so it is of each run of a script of whose setup a run can be started.
+abbrev pub EveryRunHasFallsApart : Type 0
+EveryRunHasFallsApart = (e : Estate AnyNode) → IsSetup e.script.setup → IsRun any_step any_start e.script e.events e.world → FallsApartThroughout e

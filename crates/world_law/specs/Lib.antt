@@ -1,3 +1,4 @@
 pub mod Owners
 pub mod Managers
 pub mod Fallen
+pub mod Owes

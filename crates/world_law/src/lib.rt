@@ -1,11 +1,11 @@
-//! The laws of every run of the nodes' world: no block has two owners, no slot two managers at one epoch, and
-//! nobody holds what a client fell with that isn't back. It has no code of the product: each function below
+//! The laws of every run of the nodes' world: no block has two owners, no slot two managers at one epoch,
+//! nobody holds what a client fell with that isn't back, and falls are apart. It has no code of the product: each function below
 //! calls the laws that it stands on, and its contract is a law. The proof carries, for each slot of the map, a
 //! run of the small world of tokens (`token_law`) beside the run of the nodes; `proofs/Standing.antt` says how the
 //! two stand to each other.
 #![tactic(auto)]
 
-ghost use Rattle.world_law.specs.Fallen.{NobodyHoldsWhatFell};
+ghost use Rattle.world_law.specs.Fallen.{EveryRunHasFallsApart, NobodyHoldsWhatFell};
 ghost use Rattle.world_law.specs.Managers.{EveryRunHasOneManager};
 ghost use Rattle.world_law.specs.Owners.{EveryRunHasOneOwner};
 
@@ -13,7 +13,7 @@ use node_tie::{
     client_events_are_seen, clients_ask_for_their_call, manager_events_are_seen,
     other_events_are_seen,
 };
-use token_law::tokens_keep_their_word;
+use token_law::{acts_are_legal, tokens_keep_their_word};
 
 /// In every run, whatever messages are lost, repeated or reordered and whichever nodes stop, at each of its
 /// moments a block has one owner at most, and then no other client holds it (the 1996 paper, on cache
@@ -53,12 +53,15 @@ pub fn every_run_has_one_manager()
 /// losses of storage.
 ///
 /// - `nobody`: so it is of every run of a script of whose setup a run can be started.
+/// - `apart`: in every such run no client falls again before it is back, and no fall names a block twice.
 pub fn what_fell_is_held_by_nobody()
     ensures nobody { NobodyHoldsWhatFell }
+    ensures apart { EveryRunHasFallsApart }
 {
     clients_ask_for_their_call();
     client_events_are_seen();
     manager_events_are_seen();
     other_events_are_seen();
     tokens_keep_their_word();
+    acts_are_legal();
 }

@@ -1,18 +1,23 @@
-use Rattle.world_law.proofs.Fallen.{nobody_holds}
+use Rattle.world_law.proofs.Fallen.{falls_apart, nobody_holds}
+use Rattle.world_law.proofs.Laws.{NodeLaws}
 use Rattle.world_law.proofs.what_fell_is_held_by_nobody.Goals as goal
 
 pub returns : goal.returns
 returns c = record {
-  nobody = nobody_holds (record {
-    starts_asking = c.clients_ask_for_their_call.ensures.start;
-    keeps_asking = c.clients_ask_for_their_call.ensures.events;
-    client = c.client_events_are_seen.ensures.events;
-    first_manager = c.manager_events_are_seen.ensures.start;
-    manager = c.manager_events_are_seen.ensures.events;
-    begins = c.other_events_are_seen.ensures.start;
-    registry = c.other_events_are_seen.ensures.events;
-    server = c.other_events_are_seen.ensures.servers;
-    cleaner_starts = c.other_events_are_seen.ensures.cleaner_start;
-    cleaner = c.other_events_are_seen.ensures.cleaner;
-  }) c.tokens_keep_their_word.ensures.nobody;
+  nobody = nobody_holds laws c.tokens_keep_their_word.ensures.nobody;
+  apart = falls_apart laws c.acts_are_legal.ensures.apart;
 }
+  where
+    laws : NodeLaws
+    laws = record {
+      starts_asking = c.clients_ask_for_their_call.ensures.start;
+      keeps_asking = c.clients_ask_for_their_call.ensures.events;
+      client = c.client_events_are_seen.ensures.events;
+      first_manager = c.manager_events_are_seen.ensures.start;
+      manager = c.manager_events_are_seen.ensures.events;
+      begins = c.other_events_are_seen.ensures.start;
+      registry = c.other_events_are_seen.ensures.events;
+      server = c.other_events_are_seen.ensures.servers;
+      cleaner_starts = c.other_events_are_seen.ensures.cleaner_start;
+      cleaner = c.other_events_are_seen.ensures.cleaner;
+    }
