@@ -152,7 +152,9 @@ module _ (logs : Bool) (k : Cluster) (part : ℕ) (RegistrySound : RegistryNode 
   acts_now = done ++ acts_of (Client (lasting_of (s.client c).phase).number) w.outs
 
   acts : go.next.acts ≡ acts_now
-  acts = go.acts ∙ (ap (λ a. a ++ acts_of (Client c) w.outs) st.acts ∙ ap (λ x. done ++ acts_of (Client x) w.outs) (sym (numbered logs part c s.net (s.client c).phase (st.clients c some within).0)))
+  acts =
+      go.acts ∙ (ap (λ a. a ++ acts_of (Client c) w.outs) st.acts
+      ∙ ap (λ x. done ++ acts_of (Client x) w.outs) (sym (numbered logs part c s.net (s.client c).phase (st.clients c some within).0)))
 
   pub client_turn : Stands logs k part nodes_now sent_now acts_now RegistrySound client_scene
   client_turn = record {
@@ -166,7 +168,9 @@ module _ (logs : Bool) (k : Cluster) (part : ℕ) (RegistrySound : RegistryNode 
         (client_frame logs part d s.net go.next o.0 o.1 (go.books d other) go.grows (s.client d).phase h.0, stands_frame part (epoch_now k part s) (epoch_now k part s) d s.net go.next (omega arith) o.0 (s.client d).phase h.1)));
     managers = sees;
     cleaner = subst (λ x. (x ≤ epoch_now k part s) × CleanerStands part x (epoch_now k part s) s.cleaner.phase) (sym promised) st.cleaner;
-    copies = premise_by logs (cleaner_on s.net.books go.next.books s.cleaner.phase (books_last logs (members k part) part s.net go.next go.runs) (go.books its_log (no_client c (members k part) its_log within st.few))) st.copies;
+    copies = premise_by logs
+        (cleaner_on s.net.books go.next.books s.cleaner.phase (books_last logs (members k part) part s.net go.next go.runs)
+        (go.books its_log (no_client c (members k part) its_log within st.few))) st.copies;
     few = st.few;
     peers = st.peers;
     current = st.current;

@@ -334,7 +334,9 @@ module _ (logs : Bool) (k : Cluster) (part : ℕ) (RegistrySound : RegistryNode 
   acts_now = done ++ acts_of (Manager (lasting_of before).number) w.outs
 
   acts : go.next.acts ≡ acts_now
-  acts = go.acts ∙ (ap (λ a. a ++ acts_of (Manager j) w.outs) st.acts ∙ ap (λ x. done ++ acts_of (Manager x) w.outs) (sym (manager_number (members k part) part j s.net before sees.agrees)))
+  acts =
+      go.acts ∙ (ap (λ a. a ++ acts_of (Manager j) w.outs) st.acts
+      ∙ ap (λ x. done ++ acts_of (Manager x) w.outs) (sym (manager_number (members k part) part j s.net before sees.agrees)))
 
   pub manager_turn : Stands logs k part nodes_now sent_now acts_now RegistrySound manager_scene
   manager_turn = record {

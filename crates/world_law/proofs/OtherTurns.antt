@@ -1,4 +1,5 @@
--- A server or the cleaner that has its turn: the moment after it stands to the same small world, but for what the cleaner has promised.
+-- A server or the cleaner that has its turn: the moment after it stands to the same small world, but for what they act, and for what the cleaner has promised and
+-- what its log says.
 use Rattle.std.specs.Prelude.{All}
 use Rattle.std.proofs.Common.{◌≡◌, ◌⊎◌, ⊎_elim, ℕ, Bool, ◌≤◌, ◌<◌, ◌==◌, true, false, List, ◌++◌, Some, map, slice_get, slice_set, inl, inr, refl, sym, ap, subst, ◌∙◌, arith}
 use Rattle.std.proofs.lemmas.Bool.Decides.{nat_tests}
@@ -92,8 +93,10 @@ module _ (logs : Bool) (k : Cluster) (part : ℕ) (RegistrySound : RegistryNode 
     acts = ap (λ a. a ++ more) st.acts;
     placed = record { clients = st.placed.clients; managers = st.placed.managers; servers = st.placed.servers; cleaner = st.placed.cleaner; registry = st.placed.registry };
     sound = st.sound;
-    clients = λ c pos less. (let h = st.clients c pos less in
-        (client_frame logs part c s.net said_scene.net refl refl (same_log s.net.books c) (λ x sent_. sent_) (s.client c).phase h.0, stands_frame part (epoch_now k part s) (epoch_now k part s) c s.net said_scene.net (omega arith) refl (s.client c).phase h.1));
+    clients = λ c pos less. (let h = st.clients c pos less in (
+      client_frame logs part c s.net said_scene.net refl refl (same_log s.net.books c) (λ x sent_. sent_) (s.client c).phase h.0,
+      stands_frame part (epoch_now k part s) (epoch_now k part s) c s.net said_scene.net (omega arith) refl (s.client c).phase h.1,
+    ));
     managers = said_sees;
     cleaner = st.cleaner;
     copies = st.copies;
@@ -109,7 +112,8 @@ module _ (logs : Bool) (k : Cluster) (part : ℕ) (RegistrySound : RegistryNode 
 module _ (logs : Bool) (k : Cluster) (part : ℕ) (RegistrySound : RegistryNode → Type 0) (nodes : List AnyNode) (sent : List Packet) (done : List Act) (s : Scene)
     (st : Stands logs k part nodes sent done RegistrySound s) (p clock : ℕ) (what : Do) where
   -- nothing but the place of the node and what was sent changes
-  stands_so : (now : List AnyNode) (packets : List Packet) → Placed k part now (sent ++ packets) s → ((q : Packet) → In q packets → Fact k part s q) → Stands logs k part now (sent ++ packets) done RegistrySound s
+  stands_so : (now : List AnyNode) (packets : List Packet) → Placed k part now (sent ++ packets) s → ((q : Packet) → In q packets → Fact k part s q)
+      → Stands logs k part now (sent ++ packets) done RegistrySound s
   stands_so now packets placed new = record {
     runs = st.runs;
     acts = st.acts;
@@ -240,8 +244,10 @@ module _ (logs : Bool) (k : Cluster) (part : ℕ) (RegistrySound : RegistryNode 
     acts = ap (λ a. a ++ acts_of Cleaner w.outs) st.acts;
     placed = placed;
     sound = st.sound;
-    clients = λ c pos less. (let h = st.clients c pos less in
-        (client_frame logs part c s.net cleaner_scene.net refl refl (run.others c (λ own. no_client c (members k part) its_log less st.few (sym own))) (λ x sent_. sent_) (s.client c).phase h.0, stands_frame part (epoch_now k part s) (epoch_now k part s) c s.net cleaner_scene.net (omega arith) refl (s.client c).phase h.1));
+    clients = λ c pos less. (let h = st.clients c pos less in (
+      client_frame logs part c s.net cleaner_scene.net refl refl (run.others c (λ own. no_client c (members k part) its_log less st.few (sym own))) (λ x sent_. sent_) (s.client c).phase h.0,
+      stands_frame part (epoch_now k part s) (epoch_now k part s) c s.net cleaner_scene.net (omega arith) refl (s.client c).phase h.1,
+    ));
     managers = sees;
     cleaner = (go.within, go.stands);
     copies = run.copies;

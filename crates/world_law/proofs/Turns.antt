@@ -73,14 +73,20 @@ module _ (laws : NodeLaws) (logs : Bool) (k : Cluster) (part : ℕ) (of_eight : 
     -- the moment after it: it stands to a small world whose books went on as this node's events make them go
     pub record Turned (name : NodeId) (node : AnyNode) : Type 0 where
       pub next : Scene
-      pub stands : Stands logs k part (slice_set nodes place (any_step node what).node) (sent ++ map (sent_at clock) (any_step node what).packets) (acts ++ (any_step node what).acts) RegistrySound next
+      pub stands : Stands logs k part (slice_set nodes place (any_step node what).node) (sent ++ map (sent_at clock) (any_step node what).packets)
+          (acts ++ (any_step node what).acts) RegistrySound next
       pub books : BooksGo logs s.net next.net name node what
       pub falls : FallsStand (members k part) s.net acts → FallsStand (members k part) next.net (acts ++ (any_step node what).acts)
 
     abbrev pub Owed : NodeId → AnyNode → Type 0
     Owed name node = TurnOwes logs (members k part) part (epoch_now k part s) s.net name node what
 
-    client_after : (c : ℕ) → ((q : Packet) → what ≡ Deliver q → Fact k part s q × (q.to ≡ Client c)) → place_of k (Client c) ≡ Some place → (node : AnyNode) → slice_get nodes place ≡ Some node → Owed (Client c) node → Turned (Client c) node
+    -- what comes to this node was sent, and to it
+    abbrev pub Brought : NodeId → Type 0
+    Brought name = (q : Packet) → what ≡ Deliver q → Fact k part s q × (q.to ≡ name)
+
+    client_after : (c : ℕ) → Brought (Client c) → place_of k (Client c) ≡ Some place → (node : AnyNode) → slice_get nodes place ≡ Some node → Owed (Client c) node
+        → Turned (Client c) node
     client_after c fact at node is = subst (λ x. Owed (Client c) x → Turned (Client c) x) (one_node (any.Client (s.client c)) node (sym here ∙ is)) turned
       where
         b : Behind 0 k.clients c place
@@ -95,7 +101,8 @@ module _ (laws : NodeLaws) (logs : Bool) (k : Cluster) (part : ℕ) (of_eight : 
         agreed : ClientAgrees logs part c s.net (s.client c).phase × ClientStands part (epoch_now k part s) c s.net (s.client c).phase
         agreed = st.clients c b.some less
 
-        gets : (x : Do) → what ≡ x → Premise logs (ClientTold part (epoch_now k part s) s.net c (s.client c).phase x) → ClientOwed logs part (epoch_now k part s) c s.net (s.client c).phase x
+        gets : (x : Do) → what ≡ x → Premise logs (ClientTold part (epoch_now k part s) s.net c (s.client c).phase x)
+            → ClientOwed logs part (epoch_now k part s) c s.net (s.client c).phase x
         gets Begin same told = tt
         gets Tick same told = told
         gets (Deliver q) same told = (let f = fact q same in client_gets k part s logs c q f.0 f.1 told)
@@ -106,7 +113,8 @@ module _ (laws : NodeLaws) (logs : Bool) (k : Cluster) (part : ℕ) (of_eight : 
         turned : Owed (Client c) (any.Client (s.client c)) → Turned (Client c) (any.Client (s.client c))
         turned owed = went (laws.client logs (members k part) part (epoch_now k part s) c of_eight b.some less s.net (s.client c) what agreed.0 agreed.1 (gets what refl owed))
           where
-            went : ClientGoes logs (members k part) part (epoch_now k part s) c s.net (s.client c).phase (takes (s.client c) what).state (takes (s.client c) what).outs → Turned (Client c) (any.Client (s.client c))
+            went : ClientGoes logs (members k part) part (epoch_now k part s) c s.net (s.client c).phase (takes (s.client c) what).state (takes (s.client c) what).outs
+                → Turned (Client c) (any.Client (s.client c))
             went go = record {
               next = client_scene logs k part RegistrySound nodes sent acts s st c place clock b.some less at here (takes (s.client c) what) go asks;
               stands = client_turn logs k part RegistrySound nodes sent acts s st c place clock b.some less at here (takes (s.client c) what) go asks;
@@ -115,7 +123,8 @@ module _ (laws : NodeLaws) (logs : Bool) (k : Cluster) (part : ℕ) (of_eight : 
                   (s.client c).phase (takes (s.client c) what).state (takes (s.client c) what).outs go agreed.0;
             }
 
-    manager_after : (j : ℕ) → ((q : Packet) → what ≡ Deliver q → Fact k part s q × (q.to ≡ Manager j)) → place_of k (Manager j) ≡ Some place → (node : AnyNode) → slice_get nodes place ≡ Some node → Owed (Manager j) node → Turned (Manager j) node
+    manager_after : (j : ℕ) → Brought (Manager j) → place_of k (Manager j) ≡ Some place → (node : AnyNode) → slice_get nodes place ≡ Some node → Owed (Manager j) node
+        → Turned (Manager j) node
     manager_after j fact at node is = subst (λ x. Owed (Manager j) x → Turned (Manager j) x) (one_node (any.Manager (s.manager j)) node (sym here ∙ is)) turned
       where
         b : Behind k.clients k.managers j place
@@ -127,22 +136,30 @@ module _ (laws : NodeLaws) (logs : Bool) (k : Cluster) (part : ℕ) (of_eight : 
         sees : ManagerSees k part s j (s.manager j).phase
         sees = st.managers j b.some b.within
 
-        gets : (x : Do) → what ≡ x → Premise logs (ManagerTold (members k part) part s.net (s.manager j).phase x) → ManagerEventGets logs part (epoch_now k part s) j s.net (members k part) (s.manager j).phase x
+        gets : (x : Do) → what ≡ x → Premise logs (ManagerTold (members k part) part s.net (s.manager j).phase x)
+            → ManagerEventGets logs part (epoch_now k part s) j s.net (members k part) (s.manager j).phase x
         gets Begin same told = tt
         gets Tick same told = tt
         gets (Deliver q) same told = (let f = fact q same in manager_gets k part s st.entered j logs (s.manager j).phase refl sees q f.0 f.1 told)
 
         turned : Owed (Manager j) (any.Manager (s.manager j)) → Turned (Manager j) (any.Manager (s.manager j))
-        turned owed = went (laws.manager logs (members k part) part (epoch_now k part s) j s.net (s.manager j) what of_eight (sym (st.peers j b.some b.within)) sees.agrees sees.within (gets what refl owed))
+        turned owed =
+            went (laws.manager logs (members k part) part (epoch_now k part s) j s.net (s.manager j) what of_eight (sym (st.peers j b.some b.within)) sees.agrees sees.within
+            (gets what refl owed))
           where
-            went : ManagerGoes logs (members k part) part (epoch_now k part s) j s.net (s.manager j).phase what (happens (s.manager j) what) → Turned (Manager j) (any.Manager (s.manager j))
+            after : managers.Went_to
+            after = happens (s.manager j) what
+
+            went : ManagerGoes logs (members k part) part (epoch_now k part s) j s.net (s.manager j).phase what (happens (s.manager j) what)
+                → Turned (Manager j) (any.Manager (s.manager j))
             went go = record {
               next = manager_scene logs k part RegistrySound nodes sent acts s st j place clock b.some b.within at here what fact (happens (s.manager j) what) go;
               stands = manager_turn logs k part RegistrySound nodes sent acts s st j place clock b.some b.within at here what fact (happens (s.manager j) what) go;
               books = go.books;
               falls = falls_stay (members k part) s.net go.next acts _ go.tokens go.up
-                  (all_neutral (ManagerDoes part go.next.sent (epoch_now k part s) (managers.lasting_of (happens (s.manager j) what).state).inc) (Manager (managers.lasting_of (s.manager j).phase).number) (λ a is. is) (happens (s.manager j) what).outs
-                  (recursion_from_All (ManagerDoes part go.next.sent (epoch_now k part s) (managers.lasting_of (happens (s.manager j) what).state).inc) (happens (s.manager j) what).outs go.does));
+                  (all_neutral (ManagerDoes part go.next.sent (epoch_now k part s) (managers.lasting_of after.state).inc) (Manager (managers.lasting_of (s.manager j).phase).number)
+                  (λ a is. is) after.outs
+                  (recursion_from_All (ManagerDoes part go.next.sent (epoch_now k part s) (managers.lasting_of after.state).inc) after.outs go.does));
             }
 
     server_after : (n : ℕ) → place_of k (Server n) ≡ Some place → (node : AnyNode) → slice_get nodes place ≡ Some node → Turned (Server n) node
@@ -166,7 +183,7 @@ module _ (laws : NodeLaws) (logs : Bool) (k : Cluster) (part : ℕ) (of_eight : 
         says : PacketsSay ServerSends (server_step there.0 what).packets × AllNeutral (server_step there.0 what).acts
         says = laws.server there.0 what
 
-    cleaner_after : ((q : Packet) → what ≡ Deliver q → Fact k part s q × (q.to ≡ Cleaner)) → place_of k Cleaner ≡ Some place → (node : AnyNode) → slice_get nodes place ≡ Some node → Owed Cleaner node → Turned Cleaner node
+    cleaner_after : Brought Cleaner → place_of k Cleaner ≡ Some place → (node : AnyNode) → slice_get nodes place ≡ Some node → Owed Cleaner node → Turned Cleaner node
     cleaner_after fact at node is = subst (λ x. Owed Cleaner x → Turned Cleaner x) (one_node (any.Cleaner s.cleaner) node (sym here ∙ is)) turned
       where
         here : slice_get nodes place ≡ Some (any.Cleaner s.cleaner)
@@ -182,9 +199,11 @@ module _ (laws : NodeLaws) (logs : Bool) (k : Cluster) (part : ℕ) (of_eight : 
 
         turned : Owed Cleaner (any.Cleaner s.cleaner) → Turned Cleaner (any.Cleaner s.cleaner)
         turned owed =
-            (let t = laws.cleaner logs (members k part) part s.net.promised (epoch_now k part s) s.net of_eight st.cleaner.0 (premise logs st.few) s.cleaner what st.cleaner.1 (gets what refl) st.copies owed in goes t.0 t.1)
+            (let t = laws.cleaner logs (members k part) part s.net.promised (epoch_now k part s) s.net of_eight st.cleaner.0 (premise logs st.few) s.cleaner what st.cleaner.1
+            (gets what refl) st.copies owed in goes t.0 t.1)
           where
-            goes : CleanerGoes part s.net.promised (epoch_now k part s) s.cleaner.phase went.state went.outs → CleanerRuns logs (members k part) part s.net s.cleaner.phase went.state went.outs → Turned Cleaner (any.Cleaner s.cleaner)
+            goes : CleanerGoes part s.net.promised (epoch_now k part s) s.cleaner.phase went.state went.outs
+                → CleanerRuns logs (members k part) part s.net s.cleaner.phase went.state went.outs → Turned Cleaner (any.Cleaner s.cleaner)
             goes go run = record {
               next = cleaner_scene logs k part RegistrySound nodes sent acts s st place clock at here went go run;
               stands = cleaner_turn logs k part RegistrySound nodes sent acts s st place clock at here went go run;
@@ -218,7 +237,7 @@ module _ (laws : NodeLaws) (logs : Bool) (k : Cluster) (part : ℕ) (of_eight : 
         said_facts q gets = said_fact logs k part RegistrySound nodes sent acts s st (registry_step s.registry what).acts go.acts q (fact q gets)
 
     -- what one node's step makes of the moment, if logs give what is owed
-    pub turns : (name : NodeId) → ((q : Packet) → what ≡ Deliver q → Fact k part s q × (q.to ≡ name)) → place_of k name ≡ Some place → (node : AnyNode) → slice_get nodes place ≡ Some node → Owed name node → Turned name node
+    pub turns : (name : NodeId) → Brought name → place_of k name ≡ Some place → (node : AnyNode) → slice_get nodes place ≡ Some node → Owed name node → Turned name node
     turns (Client c) fact at node is owed = client_after c fact at node is owed
     turns (Manager j) fact at node is owed = manager_after j fact at node is owed
     turns (Server n) fact at node is owed = server_after n at node is
@@ -241,15 +260,18 @@ module _ (laws : NodeLaws) (logs : Bool) (k : Cluster) (part : ℕ) (of_eight : 
     pub record EventTurned (nodes : List AnyNode) (sent : List Packet) (acts : List Act) : Type 0 where
       pub next : Scene
       pub stands : Stands logs k part nodes sent acts RegistrySound next
-      pub books : (next.net.books ≡ s.net.books) ⊎ ((node : AnyNode) × (node_in w.nodes (place_of k (node_of event)) ≡ Some node) × BooksGo logs s.net next.net (node_of event) node (what_of event))
+      pub books : (next.net.books ≡ s.net.books)
+          ⊎ ((node : AnyNode) × (node_in w.nodes (place_of k (node_of event)) ≡ Some node) × BooksGo logs s.net next.net (node_of event) node (what_of event))
       pub falls : FallsStand (members k part) s.net w.acts → FallsStand (members k part) next.net acts
 
     pub event_turns : w.cluster ≡ k → MayHappen w event → Stands logs k part w.nodes w.sent w.acts RegistrySound s
-        → ((node : AnyNode) → node_in w.nodes (place_of k (node_of event)) ≡ Some node → TurnOwes logs (members k part) part (epoch_now k part s) s.net (node_of event) node (what_of event))
+        → ((node : AnyNode) → node_in w.nodes (place_of k (node_of event)) ≡ Some node
+        → TurnOwes logs (members k part) part (epoch_now k part s) s.net (node_of event) node (what_of event))
         → EventTurned (next_world any_step w event).nodes (next_world any_step w event).sent (next_world any_step w event).acts
     event_turns cluster may st owed = next_keeps any_step EventTurned w event (record { next = s; stands = st; books = inl refl; falls = λ falls. falls })
         (λ place node clock at is.
         let at_k : place_of k (node_of event) ≡ Some place = subst (λ c. place_of c (node_of event) ≡ Some place) cluster at in
         let there : node_in w.nodes (place_of k (node_of event)) ≡ Some node = ap (node_in w.nodes) at_k ∙ is in
-        let t = turns w.nodes w.sent w.acts s st place clock (what_of event) (node_of event) (delivered_fact w.sent s st.facts w refl event may) at_k node is (owed node there) in
+        let t = turns w.nodes w.sent w.acts s st place clock (what_of event) (node_of event) (delivered_fact w.sent s st.facts w refl event may) at_k node is
+        (owed node there) in
         record { next = t.next; stands = t.stands; books = inr (node, there, t.books); falls = t.falls })
