@@ -1,5 +1,5 @@
 -- Every run of the nodes has one owner: each event keeps a moment standing to the small world of each slot, in which a block has one owner at most.
-use Rattle.std.proofs.Common.{◌≡◌, ℕ, zero, suc, ◌<◌, true, false, List, [], ◌∷◌, Option, None, Some, take, refl, sym, ap, subst, ◌∙◌, arith}
+use Rattle.std.proofs.Common.{◌≡◌, ℕ, Bool, zero, suc, ◌<◌, true, false, List, [], ◌∷◌, Option, None, Some, take, refl, sym, ap, subst, ◌∙◌, arith}
 use Rattle.std.specs.List.{fold}
 use Rattle.client_node.specs.declared.phase.Phase.{Phase}
 use Rattle.client_node.specs.declared.phase.Phase.TheVariants.{Down, Opening, Serving as Serves}
@@ -62,10 +62,10 @@ module _ (laws : NodeLaws) (k : Cluster) (part : ℕ) (of_eight : part < 8) wher
     pub up : s.net.up c ≡ true
     pub tokens : s.net.tokens c ≡ t
 
-  pub serves_there : (nodes : List AnyNode) (sent : List Packet) (acts : List Act) (s : Scene) → Stands false k part nodes sent acts RegistrySound s → (c : ℕ) (t : TokensState) → tokens_of (node_in nodes (place_of k (Client c))) ≡ Some t → ServesThere s c t
-  serves_there nodes sent acts s st c t is = by_place (place_of k (Client c)) refl
+  pub serves_there : {logs : Bool} (nodes : List AnyNode) (sent : List Packet) (acts : List Act) (s : Scene) → Stands logs k part nodes sent acts RegistrySound s → (c : ℕ) (t : TokensState) → tokens_of (node_in nodes (place_of k (Client c))) ≡ Some t → ServesThere s c t
+  serves_there {logs = logs} nodes sent acts s st c t is = by_place (place_of k (Client c)) refl
     where
-      by_phase : (p : Phase) → ClientAgrees false part c s.net p → IsClient (members k part) c → tokens_in p ≡ Some t → ServesThere s c t
+      by_phase : (p : Phase) → ClientAgrees logs part c s.net p → IsClient (members k part) c → tokens_in p ≡ Some t → ServesThere s c t
       by_phase (Down l) agrees client none = absurd (cc)
       by_phase (Opening l o) agrees client none = absurd (cc)
       by_phase (Serves v) agrees client has = record { client = client; up = agrees.up; tokens = agrees.tokens ∙ one_node v.tokens t has }

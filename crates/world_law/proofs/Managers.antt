@@ -1,5 +1,5 @@
 -- Each slot has one manager at an epoch, whose epoch is none above the registry's and promised by who serves, and which believes what is held.
-use Rattle.std.proofs.Common.{◌≡◌, ℕ, ◌≤◌, ◌<◌, ◌==◌, true, false, List, Option, None, Some, refl, sym, ap, subst, ◌∙◌, arith}
+use Rattle.std.proofs.Common.{◌≡◌, ℕ, Bool, ◌≤◌, ◌<◌, ◌==◌, true, false, List, Option, None, Some, refl, sym, ap, subst, ◌∙◌, arith}
 use Rattle.std.proofs.lemmas.Bool.Decides.{nat_tests}
 use Rattle.std.proofs.Math.Nat.{mod-eq_of_lt}
 use Rattle.core_world.specs.AnyNode.{any_start, any_step}
@@ -46,7 +46,7 @@ use Rattle.xfs_base.specs.declared.block.BlockId.{BlockId}
 use Rattle.xfs_base.specs.declared.node.NodeId.{NodeId}
 use Rattle.xfs_base.specs.declared.node.NodeId.TheVariants.{Client, Cleaner, Manager, Registry}
 
-module _ (k : Cluster) (part : ℕ) (nodes : List AnyNode) (sent : List Packet) (acts : List Act) (s : Scene) (st : Stands false k part nodes sent acts RegistrySound s) where
+module _ {logs : Bool} (k : Cluster) (part : ℕ) (nodes : List AnyNode) (sent : List Packet) (acts : List Act) (s : Scene) (st : Stands logs k part nodes sent acts RegistrySound s) where
   -- a manager that manages the slot manages it in the small world
   pub record There (j : ℕ) (a : SlotState) : Type 0 where
     pub lord : s.lord a.epoch ≡ j

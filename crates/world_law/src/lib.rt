@@ -2,7 +2,8 @@
 //! nobody holds what a client fell with that isn't back, and falls are apart. It has no code of the product: each function below
 //! calls the laws that it stands on, and its contract is a law. The proof carries, for each slot of the map, a
 //! run of the small world of tokens (`token_law`) beside the run of the nodes; `proofs/Standing.antt` says how the
-//! two stand to each other.
+//! two stand to each other. Each event keeps them so (`proofs/Turns.antt`), also in a world whose logs keep their
+//! word, where these give the event what `specs/Owes.antt` says.
 #![tactic(auto)]
 
 ghost use Rattle.world_law.specs.Fallen.{EveryRunHasFallsApart, NobodyHoldsWhatFell};
