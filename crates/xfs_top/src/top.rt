@@ -3,7 +3,7 @@ ghost use Rattle.std.specs.Prelude.{◌≡◌, false, IfSome, map, string_bytes}
 ghost use Rattle.core_world.specs.AnyNode.{any_step, any_start};
 ghost use Rattle.top_call.specs.Claim.{writing, reading, Claim};
 ghost use Rattle.top_call.specs.Commands.{command_of, reads};
-ghost use Rattle.world_law.specs.Fallen.{NobodyHoldsThroughout};
+ghost use Rattle.world_law.specs.Fallen.{FallsApartThroughout, NobodyHoldsThroughout};
 ghost use Rattle.world_law.specs.Managers.{OneManagerThroughout};
 ghost use Rattle.world_law.specs.Owners.{OneOwnerThroughout};
 ghost use Rattle.world_logs.specs.Horizons.{HorizonsReached};
@@ -21,10 +21,11 @@ use xfs_base::Gate;
 /// The program for all words but those that start threads. `README.md` lists the statuses, and
 /// `docs/PROMISES.md` says what the claim promises. Where a run was played, no block had two owners at any of
 /// its moments, nor another holder beside an owner, whatever was lost, repeated or reordered (`one_owner`); no
-/// slot had two managers at one epoch (`one_manager`); and nobody held what a client fell with that wasn't back
-/// (`nobody_holds`). The least horizon of a client's log, or of the cleaner's, was 1, or no more than one beyond a
-/// segment that its owner filed (`horizons_filed`). What clients filed stood whole on the servers' shelves, but for
-/// what was deleted and for lost disks, and one name had one text (`logs_stand`). So did what the cleaner filed, where
+/// slot had two managers at one epoch (`one_manager`); nobody held what a client fell with that wasn't back
+/// (`nobody_holds`); and no client fell again before it was back, or fell with a block twice (`falls_apart`). The
+/// least horizon of a client's log, or of the cleaner's, was 1, or no more than one beyond a segment that its owner
+/// filed (`horizons_filed`). What clients filed stood whole on the servers' shelves, but for what was deleted and
+/// for lost disks, and one name had one text (`logs_stand`). So did what the cleaner filed, where
 /// the numbers of all packets were in the ranges of their types (`cleaners_log_stands`).
 pub fn solo<S: Source, K: Sink>(
     alloc: Global,
@@ -37,6 +38,7 @@ pub fn solo<S: Source, K: Sink>(
     ensures one_owner { IfSome result.estate OneOwnerThroughout }
     ensures one_manager { IfSome result.estate OneManagerThroughout }
     ensures nobody_holds { IfSome result.estate NobodyHoldsThroughout }
+    ensures falls_apart { IfSome result.estate FallsApartThroughout }
     ensures horizons_filed { IfSome result.estate HorizonsReached }
     ensures logs_stand { IfSome result.estate LogsStand }
     ensures cleaners_log_stands { IfSome result.estate CleanersLogStands }
@@ -63,6 +65,7 @@ pub fn xfs<R: Threads + Wait + Sync, S: Source, K: Sink, G: Gate>(
     ensures one_owner { IfSome result.estate OneOwnerThroughout }
     ensures one_manager { IfSome result.estate OneManagerThroughout }
     ensures nobody_holds { IfSome result.estate NobodyHoldsThroughout }
+    ensures falls_apart { IfSome result.estate FallsApartThroughout }
     ensures horizons_filed { IfSome result.estate HorizonsReached }
     ensures logs_stand { IfSome result.estate LogsStand }
     ensures cleaners_log_stands { IfSome result.estate CleanersLogStands }

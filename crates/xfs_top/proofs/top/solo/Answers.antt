@@ -1,4 +1,4 @@
-use Rattle.world_law.specs.Fallen.{NobodyHoldsThroughout}
+use Rattle.world_law.specs.Fallen.{FallsApartThroughout, NobodyHoldsThroughout}
 use Rattle.world_law.specs.Managers.{OneManagerThroughout}
 use Rattle.world_law.specs.Owners.{OneOwnerThroughout}
 use Rattle.world_logs.specs.Horizons.{HorizonsReached}
@@ -20,6 +20,9 @@ returns-clause-one_manager g c = played_has OneManagerThroughout c.every_run_has
 
 pub returns-clause-nobody_holds : goal.returns-clause-nobody_holds
 returns-clause-nobody_holds g c = played_has NobodyHoldsThroughout c.what_fell_is_held_by_nobody.ensures.nobody c.answer.result.estate c.answer.ensures.claim.run
+
+pub returns-clause-falls_apart : goal.returns-clause-falls_apart
+returns-clause-falls_apart g c = played_has FallsApartThroughout c.what_fell_is_held_by_nobody.ensures.apart c.answer.result.estate c.answer.ensures.claim.run
 
 pub returns-clause-horizons_filed : goal.returns-clause-horizons_filed
 returns-clause-horizons_filed g c = played_has HorizonsReached c.runs_keep_logs.ensures.horizons c.answer.result.estate c.answer.ensures.claim.run

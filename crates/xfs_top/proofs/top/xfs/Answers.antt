@@ -15,6 +15,9 @@ returns-clause-one_manager g c = c.solo.ensures.one_manager
 pub returns-clause-nobody_holds : goal.returns-clause-nobody_holds
 returns-clause-nobody_holds g c = c.solo.ensures.nobody_holds
 
+pub returns-clause-falls_apart : goal.returns-clause-falls_apart
+returns-clause-falls_apart g c = c.solo.ensures.falls_apart
+
 pub returns-clause-horizons_filed : goal.returns-clause-horizons_filed
 returns-clause-horizons_filed g c = c.solo.ensures.horizons_filed
 
