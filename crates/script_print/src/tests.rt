@@ -18,6 +18,11 @@ fn the_script_that_1_draws(rt: HostRuntime) -> Mem<()> {
 
 const SETUP: &[u8] = b"xfs 1\nclients 2\nmanagers 1\nservers 3\ngroup 1 2 3\n";
 
+const SERVERS: &[u8] = b"xfs 1\nclients 8\nmanagers 4\nservers 12\n";
+
+const EIGHT_GROUPS: &[u8] =
+    b"group 1 2 3\ngroup 1 2 3 4 5 6 7 8\ngroup2 1 2 3 4\ngroup2 5 6 7 8 9 10 11 12\ngroup 4 5 6\ngroup 7 8 9\ngroup 10 11 12\ngroup 2 1 3\n";
+
 /// How many items the input behind these lines has, or where it is refused.
 fn told(alloc: Global, front: &[u8], input: &[u8], live: bool) -> Mem<Result<usize, ScriptError>> {
     let mut bytes = Vec::from_slice(alloc, front)?;
@@ -165,6 +170,31 @@ fn each_kind_of_bad_line(rt: HostRuntime) -> Mem<()> {
     for line in setup {
         assert!(rt; told(alloc, SETUP, line, false)? == bad(6, Kind::BadSetup));
     }
+    let groups: [&[u8]; 8] = [
+        b"group 1 2\n",
+        b"group 1 2 3 4 5 6 7 8 9\n",
+        b"group 1 2 2\n",
+        b"group 1 2 13\n",
+        b"group2 1 2 3\n",
+        b"group2 1 2 3 4 5 6 7 8 9\n",
+        b"group2 1 2 3 3\n",
+        b"group2 1 2 3 13\n",
+    ];
+    for line in groups {
+        assert!(rt; told(alloc, SERVERS, line, false)? == bad(5, Kind::BadSetup));
+    }
+    assert!(rt; told(alloc, SERVERS, EIGHT_GROUPS, false)? == Ok(0));
+    let mut nine = Vec::from_slice(alloc, EIGHT_GROUPS)?;
+    nine.extend_from_slice(b"group 7 8 9\n")?;
+    assert!(rt; told(alloc, SERVERS, &nine, false)? == bad(13, Kind::BadSetup));
+    assert!(rt; told(alloc, b"xfs 1\n", b"clients 2\n", false)? == bad(3, Kind::BadSetup));
+    // the first bad line counts, and in a line the first fault
+    assert!(rt; told(alloc, SETUP, b"foo\nc1 bput 1 0 \"he\n", false)? == bad(6, Kind::BadWord));
+    assert!(rt; told(alloc, SETUP, b"c9 bput 01 0 \"he\n", false)? == bad(6, Kind::NoNode));
+    assert!(rt;
+        told(alloc, SETUP, b"c1 bput 01 0 8193*\"a\"\n", false)? == bad(6, Kind::BadNumber)
+    );
+    assert!(rt; told(alloc, SETUP, b"c1 sync", false)? == Ok(1));
     // an input has 20,000 lines and 1,048,576 bytes at most
     let empty = many(alloc, b'\n', 19_995)?;
     assert!(rt; told(alloc, SETUP, &empty, false)? == Ok(0));
