@@ -1,4 +1,5 @@
--- What is joined of fragments that are bytes is bytes, and the Blocks of the segment that these are the text of fit the format.
+-- What is joined of fragments that are bytes is bytes, the numbers of the segment that these are the text of are in the ranges of their types, and its Blocks
+-- fit the format.
 use Rattle.std.proofs.Common.{◌≡◌, ◌<◌, ℕ, zero, suc, ◌+◌, ◌-◌, ◌*◌, ◌/◌, ◌%◌, ◌^◌, List, [], ◌∷◌, ◌++◌, length, take, get_or, map, Option, Some, None, Result, Ok, Err, refl, subst, arith}
 use Rattle.std.specs.Prelude.{IfSome, unwrap_or, bit_xor}
 use Rattle.std.specs.Int.{w16, to_be_bytes}
@@ -33,7 +34,7 @@ use Rattle.stripe_code.specs.Round.{RoundSoFar, has_answered, taken, bytes_told,
 use Rattle.stripe_code.specs.Stripe.{plain, weighted}
 use Rattle.cleaner_log_tie.specs.Fitting.{ItemFits, SegmentFits, ToldFits, RoundFits}
 
-abbrev Bytes : List ℕ → Type 0
+abbrev pub Bytes : List ℕ → Type 0
 Bytes xs = AllByRecursion (λ (byte : ℕ). byte < 256) xs
 
 abbrev PartBytes : Option (List ℕ) → Type 0
@@ -68,7 +69,7 @@ each_below (x ∷ xs) all (suc i) = each_below xs all.1 i
 
 -- ---- sums and products
 
-xor_bytes : (xs ys : List ℕ) → Bytes xs → Bytes ys → Bytes (xor_of xs ys)
+pub xor_bytes : (xs ys : List ℕ) → Bytes xs → Bytes ys → Bytes (xor_of xs ys)
 xor_bytes [] ys a b = tt
 xor_bytes (x ∷ xs) [] a b = tt
 xor_bytes (x ∷ xs) (y ∷ ys) a b = (xor_of_8 x y a.0 b.0, xor_bytes xs ys a.1 b.1)
@@ -88,7 +89,7 @@ product_byte (suc bits) by x less =
     xor_of_8 (by % 2 * x) (product_of bits (by / 2) (doubled x)) (bit_times (by % 2) x (omega arith) less)
     (product_byte bits (by / 2) (doubled x) (doubled_byte x))
 
-times_bytes : (by : ℕ) (xs : List ℕ) → Bytes xs → Bytes (times by xs)
+pub times_bytes : (by : ℕ) (xs : List ℕ) → Bytes xs → Bytes (times by xs)
 unfolding product
 times_bytes by [] all = tt
 times_bytes by (x ∷ xs) all = (product_byte 8 by x all.0, times_bytes by xs all.1)
@@ -224,9 +225,9 @@ segment_fits text s bytes e =
 
 -- ---- a reading
 
--- the segment that is read, if one is, fits
+-- the segment that is read, if one is, fits, and its numbers are in the ranges of their types
 abbrev pub NextFits : Next → Type 0
-NextFits (next.Read segment) = SegmentFits segment
+NextFits (next.Read segment) = SegmentFits segment × Fits segment
 NextFits _ = Unit {0}
 
 pub record StepFits (s : Step) : Type 0 where
@@ -242,7 +243,7 @@ judged_fits r groups (Read text) h bytes = by_answer (answer_of text) refl
     by_answer (Err e) is = record { round = h; next = tt }
     by_answer (Ok s) is =
         by_test (λ (o : Option Segment). StepFits (read_as r o)) (is_target r.target groups s) (Some s) None
-        (λ t. record { round = h; next = segment_fits text s bytes is }) (λ t. record { round = h; next = tt })
+        (λ t. record { round = h; next = (segment_fits text s bytes is, (answer_takes text s (each_below text bytes) is).1) }) (λ t. record { round = h; next = tt })
 
 -- an answer that comes to a reading
 pub answered_fits : (r : ReadingState) (groups : GroupMapState) (ask server : ℕ) (t : Told) → RoundFits r.round → ToldFits t

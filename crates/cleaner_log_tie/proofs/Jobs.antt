@@ -478,7 +478,7 @@ module _ (g : Setting) (is : g.log ≡ cleaner_log) where
   told_so w e next.Wait h fits = stays g w e h
   told_so w e next.Ask h fits = stays g w e h
   told_so w e next.Again h fits = read_again w e h
-  told_so w e (next.Read segment) h fits = reading_ended w e (Some segment) h fits
+  told_so w e (next.Read segment) h fits = reading_ended w e (Some segment) h fits.0
   told_so w e next.Lost h fits = reading_ended w e None h tt
 
   hears_told : (w : Scene) (e : Emptying) (job : Option Job) (groups : Option GroupMapState) (ask server : ℕ) (t : Told) → Stands g w e

@@ -2,7 +2,7 @@ mod Starts
 pub mod Frames
 pub mod Sights
 mod Fits
-mod Bytes
+pub mod Bytes
 mod Hands
 mod Jobs
 mod Serving

@@ -2,7 +2,6 @@ mod Spelled
 mod Written
 mod Leaving
 mod Rows
-mod Bytes
 mod Slots
 mod Taking
 mod SlotPhases

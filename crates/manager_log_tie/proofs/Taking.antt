@@ -32,7 +32,7 @@ use Rattle.xfs_base.specs.Steps.{still}
 use Rattle.node_log_tie.proofs.Lists.{all_append, all_map}
 use Rattle.cleaner_log_tie.specs.Fitting.{ToldFits, RoundFits}
 use Rattle.manager_log_tie.specs.Fitting.{RowsFit, PagesFit, PresentFits, TakeFits}
-use Rattle.manager_log_tie.proofs.Bytes.{NextFits, StepFits, answered_fits, confirmed_fits}
+use Rattle.cleaner_log_tie.proofs.Bytes.{NextFits, StepFits, answered_fits, confirmed_fits}
 use Rattle.manager_log_tie.proofs.Leaving.{Leaves}
 use Rattle.manager_log_tie.proofs.Rows.{all_joined_fit, told_fit}
 
@@ -122,7 +122,7 @@ again_on s source r h round =
 
 judged_on : (s : TakeState) (source : Source) (r : ReadingState) (n : Next) → Sources s → RoundFits r.round → NextFits n → Goes (judged_as s source r n)
 judged_on s source r next.Again h round fits = again_on s source r h round
-judged_on s source r (next.Read segment) h round fits = read_on s source segment h fits
+judged_on s source r (next.Read segment) h round fits = read_on s source segment h fits.1
 judged_on s source r next.Wait h round fits = quiet (reads s source (Some r)) (reads_on s source r h round)
 judged_on s source r next.Ask h round fits = quiet (reads s source (Some r)) (reads_on s source r h round)
 judged_on s source r next.Lost h round fits = quiet (reads s source (Some r)) (reads_on s source r h round)

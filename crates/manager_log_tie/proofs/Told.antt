@@ -25,7 +25,7 @@ use Rattle.log_law.specs.Events.Runs.{Begun, On}
 use Rattle.log_law.specs.Laws.{OneText, OneNameOneText}
 use Rattle.node_log_tie.proofs.Lists.{all_append}
 use Rattle.manager_log_tie.specs.Told.{WhatIsToldIsInRange}
-use Rattle.manager_log_tie.proofs.Bytes.{Bytes, xor_bytes, times_bytes}
+use Rattle.cleaner_log_tie.proofs.Bytes.{Bytes, xor_bytes, times_bytes}
 
 -- ---- what was in flight
 
