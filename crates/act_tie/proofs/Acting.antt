@@ -47,7 +47,8 @@ get_some (x ∷ xs) (suc n) below none = get_some xs n (omega arith) none
 module _ (b : BlockId) (p : BlockHistory) (told : ℕ → List FallTold) (t : block.History) (s : BlockShown b p told t) where
   -- ---- writes
 
-  pub wrote_shown : (client : ℕ) (value : Content) → BlockShown b (append (record { content = value; writer = client }) p) told (block.after t (WroteBlock client (number value)))
+  pub wrote_shown : (client : ℕ) (value : Content)
+      → BlockShown b (append (record { content = value; writer = client }) p) told (block.after t (WroteBlock client (number value)))
   wrote_shown client value =
       let v : Version = record { content = value; writer = client } in
       record {
@@ -88,7 +89,8 @@ module _ (b : BlockId) (p : BlockHistory) (told : ℕ → List FallTold) (t : bl
 
   pub read_shown : (client ver number : ℕ) → block.LegalRead t ver number
       → BlockShown b (if is_by_other client ver p.versions then pin ver p else p) told (block.after t (ReadBlock client ver number))
-  read_shown client zero number legal = let same = s.pinned in chosen false zero (if t.writer zero == client then t.pinned else max t.pinned zero) (λ other. absurd (cc)) (λ own. grind (arith, nat_tests))
+  read_shown client zero number legal = let same =
+      s.pinned in chosen false zero (if t.writer zero == client then t.pinned else max t.pinned zero) (λ other. absurd (cc)) (λ own. grind (arith, nat_tests))
   read_shown client (suc n) number legal = at_writer client n (slice_get p.versions n) refl (let a = legal.newest in let c = s.newest in omega arith)
 
   -- ---- returns
@@ -139,47 +141,59 @@ pub synced_shown : (b : BlockId) (p : BlockHistory) (told : ℕ → List FallTol
 synced_shown b p told acts client n s = go (nat_lt 0 n) refl
   where
     go : (y : Bool) → nat_lt 0 n ≡ y → BlockShown b (pin n p) told (block.history (if y then SyncedBlock client n ∷ acts else acts))
-    go true some = pinned_shown b p told (block.history acts) s (max (block.history acts).pinned n) (max n p.pinned) (let same = s.pinned in grind (arith, nat_tests))
+    go true some =
+        pinned_shown b p told (block.history acts) s (max (block.history acts).pinned n) (max n p.pinned) (let same = s.pinned in grind (arith, nat_tests))
     go false none = pinned_shown b p told (block.history acts) s (block.history acts).pinned (max n p.pinned) (let same = s.pinned in grind (arith, nat_tests))
 
 -- a fall
-pub fell_shown : (b : BlockId) (p : BlockHistory) (told : ℕ → List FallTold) (acts : List block.Act) (client : ℕ) (flight : Option (ℕ × ℕ)) (falls : List Fall) → BlockShown b p told (block.history acts)
+pub fell_shown : (b : BlockId) (p : BlockHistory) (told : ℕ → List FallTold) (acts : List block.Act) (client : ℕ) (flight : Option (ℕ × ℕ)) (falls : List Fall)
+    → BlockShown b p told (block.history acts)
     → told client ≡ [] → NamesNoBlockTwice falls
-    → BlockShown b p (λ c. if c == client then told c ++ (record { flight = flight; falls = falls }) ∷ [] else told c) (block.history (with_fall client (fall_of b falls) acts))
+    → BlockShown b p (λ c. if c == client then told c ++ (record { flight = flight; falls = falls }) ∷ [] else told c)
+    (block.history (with_fall client (fall_of b falls) acts))
 fell_shown b p told acts client flight falls s none once = by_named (fall_of b falls) refl
   where
     empty : (c : ℕ) → (c == client) ≡ true → told c ≡ []
     empty c same = subst (λ d. told d ≡ []) (let e : client ≡ c = grind (arith, nat_tests) in e) none
 
-    one : (c fallen low high : ℕ) → told c ≡ [] → FallShown (fall_of b falls) fallen low high → FallsShown b (told c ++ (record { flight = flight; falls = falls }) ∷ []) fallen low high
+    one : (c fallen low high : ℕ) → told c ≡ [] → FallShown (fall_of b falls) fallen low high
+        → FallsShown b (told c ++ (record { flight = flight; falls = falls }) ∷ []) fallen low high
     one c fallen low high is shown = subst (λ ts. FallsShown b (ts ++ (record { flight = flight; falls = falls }) ∷ []) fallen low high) (sym is) (once, shown)
 
     by_named : (o : Option Fall) → fall_of b falls ≡ o
-        → BlockShown b p (λ c. if c == client then told c ++ (record { flight = flight; falls = falls }) ∷ [] else told c) (block.history (with_fall client o acts))
-    by_named None is = record { newest = s.newest; absent = s.absent; values = s.values; writers = s.writers; pinned = s.pinned; falls = λ c. go c (c == client) refl }
+        → BlockShown b p (λ c. if c == client then told c ++ (record { flight = flight; falls = falls }) ∷ [] else told c)
+        (block.history (with_fall client o acts))
+    by_named None is =
+        record { newest = s.newest; absent = s.absent; values = s.values; writers = s.writers; pinned = s.pinned; falls = λ c. go c (c == client) refl }
       where
         go : (c : ℕ) (y : Bool) → (c == client) ≡ y
-            → FallsShown b (if y then told c ++ (record { flight = flight; falls = falls }) ∷ [] else told c) ((block.history acts).fallen c) ((block.history acts).low c) ((block.history acts).high c)
+            → FallsShown b (if y then told c ++ (record { flight = flight; falls = falls }) ∷ [] else told c) ((block.history acts).fallen c)
+            ((block.history acts).low c) ((block.history acts).high c)
         go c true same =
             one c ((block.history acts).fallen c) ((block.history acts).low c) ((block.history acts).high c) (empty c same)
             (subst (λ o. FallShown o ((block.history acts).fallen c) ((block.history acts).low c) ((block.history acts).high c)) (sym is)
-            (subst (λ ts. FallsShown b ts ((block.history acts).fallen c) ((block.history acts).low c) ((block.history acts).high c)) (empty c same) (s.falls c)))
+            (subst (λ ts. FallsShown b ts ((block.history acts).fallen c) ((block.history acts).low c) ((block.history acts).high c)) (empty c same)
+            (s.falls c)))
         go c false apart = s.falls c
-    by_named (Some f) is = record { newest = s.newest; absent = s.absent; values = s.values; writers = s.writers; pinned = s.pinned; falls = λ c. go c (c == client) refl }
+    by_named (Some f) is =
+        record { newest = s.newest; absent = s.absent; values = s.values; writers = s.writers; pinned = s.pinned; falls = λ c. go c (c == client) refl }
       where
         go : (c : ℕ) (y : Bool) → (c == client) ≡ y
-            → FallsShown b (if y then told c ++ (record { flight = flight; falls = falls }) ∷ [] else told c) (if y then 1 else (block.history acts).fallen c) (if y then f.low else (block.history acts).low c) (if y then f.high else (block.history acts).high c)
+            → FallsShown b (if y then told c ++ (record { flight = flight; falls = falls }) ∷ [] else told c) (if y then 1 else (block.history acts).fallen c)
+            (if y then f.low else (block.history acts).low c) (if y then f.high else (block.history acts).high c)
         go c true same = one c 1 f.low f.high (empty c same) (subst (λ o. FallShown o 1 f.low f.high) (sym is) (refl, refl, refl))
         go c false apart = s.falls c
 
 -- a return
 pub back_shown : (b : BlockId) (h : History) (t : block.History) (client : ℕ) (chain : List SegName) (ts : List FallTold) → BlockShown b (h.of_block b) h.told t
     → FallsShown b ts (t.fallen client) (t.low client) (t.high client) → block.LegalBack t client
-    → BlockShown b ((settle chain ts h).of_block b) (λ c. if c == client then [] else (settle chain ts h).told c) (block.after t (BackBlock client (is_adopted chain ts)))
+    → BlockShown b ((settle chain ts h).of_block b) (λ c. if c == client then [] else (settle chain ts h).told c)
+    (block.after t (BackBlock client (is_adopted chain ts)))
 back_shown b h t client chain [] s none legal = uncut_shown b (h.of_block b) h.told t s client (t.low client) none
 back_shown b h t client chain (w ∷ []) s fell legal =
     let adopted = holds_flight chain w.flight in
-    subst (λ (told : ℕ → List FallTold). BlockShown b ((settle_falls (holds_flight chain w.flight) w.falls h).of_block b) (λ c. if c == client then [] else told c) (block.after t (BackBlock client (holds_flight chain w.flight))))
+    subst (λ (told : ℕ → List FallTold). BlockShown b ((settle_falls (holds_flight chain w.flight) w.falls h).of_block b)
+    (λ c. if c == client then [] else told c) (block.after t (BackBlock client (holds_flight chain w.flight))))
     (sym (settled_told adopted w.falls h))
     (subst (λ (p : BlockHistory). BlockShown b p (λ c. if c == client then [] else h.told c) (block.after t (BackBlock client (holds_flight chain w.flight))))
     (sym (settled_block adopted w.falls h b fell.0))

@@ -45,7 +45,8 @@ settled_told adopted (f ∷ fs) h = settled_told adopted fs (change f.block (cut
 pub settled_block : (adopted : Bool) (falls : List Fall) (h : History) (b : BlockId) → NamesNoBlockTwice falls
     → (settle_falls adopted falls h).of_block b ≡ cut_by adopted (fall_of b falls) (h.of_block b)
 settled_block adopted [] h b once = refl
-settled_block adopted (f ∷ fs) h b once = settled_block adopted fs (change f.block (cut_to (if adopted then f.high else f.low)) h) b once.1 ∙ go (same_block f.block b) refl
+settled_block adopted (f ∷ fs) h b once =
+    settled_block adopted fs (change f.block (cut_to (if adopted then f.high else f.low)) h) b once.1 ∙ go (same_block f.block b) refl
   where
     go : (t : Bool) → same_block f.block b ≡ t
         → cut_by adopted (fall_of b fs) (if t then cut_to (if adopted then f.high else f.low) (h.of_block b) else h.of_block b)

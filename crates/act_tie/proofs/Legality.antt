@@ -26,7 +26,8 @@ use Rattle.act_tie.proofs.Acting.{wrote_shown, read_shown, synced_shown, fell_sh
 -- ---- each act is legal
 
 -- the newest version's content, where the read is legal
-content_is : (b : BlockId) (p : BlockHistory) (told : ℕ → List FallTold) (t : block.History) → BlockShown b p told t → (ver : ℕ) (value : Content) → block.LegalRead t ver (number value)
+content_is : (b : BlockId) (p : BlockHistory) (told : ℕ → List FallTold) (t : block.History) → BlockShown b p told t → (ver : ℕ) (value : Content)
+    → block.LegalRead t ver (number value)
     → content_at ver p.versions ≡ Some value
 content_is b p told t s zero value legal =
     let at : 0 ≡ t.length = legal.newest in
@@ -43,12 +44,14 @@ content_is b p told t s (suc n) value legal = go (slice_get p.versions n) refl
     go (Some v) is = ap Some (number-same v.content value (sym (s.values n v is) ∙ ap t.value_at legal.newest ∙ sym legal.text))
 
 -- the newest version is by a client, if the last of them is
-newest_by : (client : ℕ) (xs : List Version) → 0 < length xs → ((k : ℕ) (x : Version) → slice_get xs k ≡ Some x → suc k ≡ length xs → x.writer ≡ client) → IsNewestBy client xs
+newest_by : (client : ℕ) (xs : List Version) → 0 < length xs → ((k : ℕ) (x : Version) → slice_get xs k ≡ Some x → suc k ≡ length xs → x.writer ≡ client)
+    → IsNewestBy client xs
 newest_by client [] some last = absurd (omega arith)
 newest_by client (v ∷ []) some last = last 0 v refl refl
 newest_by client (v ∷ w ∷ vs) some last = newest_by client (w ∷ vs) (omega arith) (λ k x is at. last (suc k) x is (ap suc at))
 
-may_fall : (b : BlockId) (p : BlockHistory) (told : ℕ → List FallTold) (t : block.History) → BlockShown b p told t → (client : ℕ) (f : Fall) → block.LegalFell t client f.low f.high → MayFall client p f
+may_fall : (b : BlockId) (p : BlockHistory) (told : ℕ → List FallTold) (t : block.History) → BlockShown b p told t → (client : ℕ) (f : Fall)
+    → block.LegalFell t client f.low f.high → MayFall client p f
 may_fall b p told t s client f legal =
     let n = s.newest in
     record {
@@ -77,7 +80,8 @@ legal_here (Fell client flight falls) h told s apart legal = (apart.1, walk fall
     walk : (gs : List Fall) → AllByRecursion (λ g. fall_of g.block falls ≡ Some g) gs → AllByRecursion (λ g. MayFall client (h.of_block g.block) g) gs
     walk [] found = tt
     walk (g ∷ gs) found =
-        let here : block.LegalActs (FellBlock client g.low g.high ∷ told g.block) = subst (λ o. block.LegalActs (with_fall client o (told g.block))) found.0 (legal g.block) in
+        let here : block.LegalActs (FellBlock client g.low g.high ∷ told g.block) =
+        subst (λ o. block.LegalActs (with_fall client o (told g.block))) found.0 (legal g.block) in
         (may_fall g.block (h.of_block g.block) h.told (block.history (told g.block)) (s g.block) client g here.1, walk gs found.1)
 legal_here (Back client chain) h told s apart legal = tt
 legal_here (Lost node seg) h told s apart legal = tt
@@ -87,7 +91,8 @@ legal_here (Answered node item answer) h told s apart legal = tt
 
 -- ---- each act keeps histories seen
 
-act_shown : (b : BlockId) (a : Act) (h : History) (told : List block.Act) → HistoryShown b h (block.history told) → IsApart a h → block.LegalActs (told_with b h a told)
+act_shown : (b : BlockId) (a : Act) (h : History) (told : List block.Act) → HistoryShown b h (block.history told) → IsApart a h
+    → block.LegalActs (told_with b h a told)
     → HistoryShown b (after_act a h) (block.history (told_with b h a told))
 act_shown b (Wrote client q value) h told s apart legal = go (same_block q b)
   where
@@ -97,20 +102,26 @@ act_shown b (Wrote client q value) h told s apart legal = go (same_block q b)
     go false = s
 act_shown b (Read client q ver value) h told s apart legal = go (same_block q b) refl legal
   where
-    pinned_or : (o y : Bool) (t : block.History) → same_block q b ≡ y → BlockShown b (if y then (if o then pin ver (h.of_block b) else h.of_block b) else h.of_block b) h.told t
+    pinned_or : (o y : Bool) (t : block.History) → same_block q b ≡ y
+        → BlockShown b (if y then (if o then pin ver (h.of_block b) else h.of_block b) else h.of_block b) h.told t
         → HistoryShown b (if o then change q (pin ver) h else h) t
-    pinned_or true true t same shown = subst (λ (p : BlockHistory). BlockShown b p h.told t) (sym (ap (λ y. if y then pin ver (h.of_block b) else h.of_block b) same)) shown
-    pinned_or true false t same shown = subst (λ (p : BlockHistory). BlockShown b p h.told t) (sym (ap (λ y. if y then pin ver (h.of_block b) else h.of_block b) same)) shown
+    pinned_or true true t same shown =
+        subst (λ (p : BlockHistory). BlockShown b p h.told t) (sym (ap (λ y. if y then pin ver (h.of_block b) else h.of_block b) same)) shown
+    pinned_or true false t same shown =
+        subst (λ (p : BlockHistory). BlockShown b p h.told t) (sym (ap (λ y. if y then pin ver (h.of_block b) else h.of_block b) same)) shown
     pinned_or false true t same shown = shown
     pinned_or false false t same shown = shown
 
     go : (y : Bool) → same_block q b ≡ y → block.LegalActs (if y then ReadBlock client ver (number value) ∷ told else told)
-        → HistoryShown b (if is_by_other client ver (h.of_block q).versions then change q (pin ver) h else h) (block.history (if y then ReadBlock client ver (number value) ∷ told else told))
+        → HistoryShown b (if is_by_other client ver (h.of_block q).versions then change q (pin ver) h else h)
+        (block.history (if y then ReadBlock client ver (number value) ∷ told else told))
     go true same here =
         let one : b ≡ q = same_block_exact q b same in
         let t = block.after (block.history told) (ReadBlock client ver (number value)) in
-        subst (λ (x : BlockId). HistoryShown b (if is_by_other client ver (h.of_block x).versions then change q (pin ver) h else h) (block.after (block.history told) (ReadBlock client ver (number value)))) one
-        (pinned_or (is_by_other client ver (h.of_block b).versions) true t same (read_shown b (h.of_block b) h.told (block.history told) s client ver (number value) here.1))
+        subst (λ (x : BlockId). HistoryShown b (if is_by_other client ver (h.of_block x).versions then change q (pin ver) h else h)
+        (block.after (block.history told) (ReadBlock client ver (number value)))) one
+        (pinned_or (is_by_other client ver (h.of_block b).versions) true t same
+        (read_shown b (h.of_block b) h.told (block.history told) s client ver (number value) here.1))
     go false same here = pinned_or (is_by_other client ver (h.of_block q).versions) false (block.history told) same s
 act_shown b (Synced client) h told s apart legal = synced_shown b (h.of_block b) h.told told client (greatest_by client 1 (h.of_block b).versions) s
 act_shown b (Fell client flight falls) h told s apart legal = fell_shown b (h.of_block b) h.told told client flight falls s apart.0 apart.1
@@ -155,7 +166,8 @@ legal_first : (b : BlockId) (h : History) (told : List block.Act) (acts : List A
 legal_first b h told [] legal = legal
 legal_first b h told (a ∷ acts) legal = legal_before b h a told (legal_first b (after_act a h) (told_with b h a told) acts legal)
 
-legal_from : (acts : List Act) (h : History) (told : BlockId → List block.Act) → AllShown h told → AreApartFrom h acts → ((b : BlockId) → block.LegalActs (told_from b h (told b) acts)) → AreLegalFrom h acts
+legal_from : (acts : List Act) (h : History) (told : BlockId → List block.Act) → AllShown h told → AreApartFrom h acts
+    → ((b : BlockId) → block.LegalActs (told_from b h (told b) acts)) → AreLegalFrom h acts
 legal_from [] h told s apart legal = tt
 legal_from (a ∷ acts) h told s apart legal =
     let now : AllLegal a h told = λ b. legal_first b (after_act a h) (told_with b h a (told b)) acts (legal b) in (
@@ -170,11 +182,14 @@ pub are_legal : (acts : List Act) → FallsApart acts → ((b : BlockId) → blo
 are_legal acts apart legal = legal_from acts nothing_yet (λ b. []) begun apart legal
 
 -- one block alone is seen where its own acts are legal
-shown_from : (b : BlockId) (acts : List Act) (h : History) (told : List block.Act) → HistoryShown b h (block.history told) → AreApartFrom h acts → block.LegalActs (told_from b h told acts)
+shown_from : (b : BlockId) (acts : List Act) (h : History) (told : List block.Act) → HistoryShown b h (block.history told) → AreApartFrom h acts
+    → block.LegalActs (told_from b h told acts)
     → HistoryShown b (history_after acts h) (block.history (told_from b h told acts))
 shown_from b [] h told s apart legal = s
 shown_from b (a ∷ acts) h told s apart legal =
-    shown_from b acts (after_act a h) (told_with b h a told) (act_shown b a h told s apart.0 (legal_first b (after_act a h) (told_with b h a told) acts legal)) apart.1 legal
+    shown_from b acts (after_act a h) (told_with b h a told)
+    (act_shown b a h told s apart.0 (legal_first b (after_act a h) (told_with b h a told) acts legal)) apart.1 legal
 
-pub are_shown : (acts : List Act) → FallsApart acts → (b : BlockId) → block.LegalActs (acts_of b acts) → HistoryShown b (history_after acts nothing_yet) (block.history (acts_of b acts))
+pub are_shown : (acts : List Act) → FallsApart acts → (b : BlockId) → block.LegalActs (acts_of b acts)
+    → HistoryShown b (history_after acts nothing_yet) (block.history (acts_of b acts))
 are_shown acts apart b legal = shown_from b acts nothing_yet [] (begun b) apart legal

@@ -8,7 +8,8 @@ use Rattle.token_protocol.specs.Acts as block
 use Rattle.act_tie.specs.BlockActs.{told_with, told_from, acts_of}
 use Rattle.act_tie.specs.Shown.{IsApart, AreApartFrom}
 
-told_on : (b : BlockId) (acts : List Act) (a : Act) (h : History) (told : List block.Act) → told_from b h told (acts ++ a ∷ []) ≡ told_with b (history_after acts h) a (told_from b h told acts)
+told_on : (b : BlockId) (acts : List Act) (a : Act) (h : History) (told : List block.Act)
+    → told_from b h told (acts ++ a ∷ []) ≡ told_with b (history_after acts h) a (told_from b h told acts)
 told_on b [] a h told = refl
 told_on b (x ∷ acts) a h told = told_on b acts a (after_act x h) (told_with b h x told)
 

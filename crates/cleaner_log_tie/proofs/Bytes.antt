@@ -159,7 +159,8 @@ joined_bytes ps parity len all =
     take_all (λ (byte : ℕ). byte < 256) len (concat (filled (take count ps) (recovered ps count)))
     (concat_bytes (filled (take count ps) (recovered ps count))
     (filled_bytes (take count ps) (recovered ps count) known
-    (recovered_bytes (missing_from 0 (take count ps)) (take count ps) (part_at ps count) (part_at ps (count + 1)) known (at_place ps count all) (at_place ps (count + 1) all))))
+    (recovered_bytes (missing_from 0 (take count ps)) (take count ps) (part_at ps count) (part_at ps (count + 1)) known (at_place ps count all)
+    (at_place ps (count + 1) all))))
 
 -- ---- a round
 
@@ -197,7 +198,8 @@ appended (x ∷ answers) a all h = (all.0, appended answers a all.1 h)
 taken_fits : (r : RoundSoFar) (server : ℕ) (t : Told) → RoundFits r → ToldFits t → RoundFits (taken r server t)
 unfolding taken
 taken_fits r server t h told =
-    by_test RoundFits (has_answered r.answers server) r (record r { answers = r.answers ++ record { server = server; told = t } ∷ [] }) (λ e. h) (λ e. appended r.answers (record { server = server; told = t }) h told)
+    by_test RoundFits (has_answered r.answers server) r (record r { answers = r.answers ++ record { server = server; told = t } ∷ [] }) (λ e. h)
+    (λ e. appended r.answers (record { server = server; told = t }) h told)
 
 -- ---- the segment
 
@@ -208,7 +210,11 @@ blocks_fit (Block block None ∷ items) fits limits bytes = absurd limits.0
 blocks_fit (Block block (Some value) ∷ items) fits limits bytes =
     let own : Bytes (item_text (Block block (Some value))) = before (item_text (Block block (Some value))) (flat_map item_text items) bytes in
     let text : Bytes (to_be_bytes w16 (length value) ++ value) = behind (block_text block) (to_be_bytes w16 (length value) ++ value) own.1 in (
-      record { block = fits.0; length = limits.0; bytes = All-from_recursion (λ (byte : ℕ). byte < 256) value (behind (to_be_bytes w16 (length value)) value text) },
+      record {
+        block = fits.0;
+        length = limits.0;
+        bytes = All-from_recursion (λ (byte : ℕ). byte < 256) value (behind (to_be_bytes w16 (length value)) value text);
+      },
       blocks_fit items fits.1 limits.1 (behind (item_text (Block block (Some value))) (flat_map item_text items) bytes),
     )
 blocks_fit (Delta block ver hop item ∷ items) fits limits bytes =
@@ -243,7 +249,8 @@ judged_fits r groups (Read text) h bytes = by_answer (answer_of text) refl
     by_answer (Err e) is = record { round = h; next = tt }
     by_answer (Ok s) is =
         by_test (λ (o : Option Segment). StepFits (read_as r o)) (is_target r.target groups s) (Some s) None
-        (λ t. record { round = h; next = (segment_fits text s bytes is, (answer_takes text s (each_below text bytes) is).1) }) (λ t. record { round = h; next = tt })
+        (λ t. record { round = h; next = (segment_fits text s bytes is, (answer_takes text s (each_below text bytes) is).1) })
+        (λ t. record { round = h; next = tt })
 
 -- an answer that comes to a reading
 pub answered_fits : (r : ReadingState) (groups : GroupMapState) (ask server : ℕ) (t : Told) → RoundFits r.round → ToldFits t
@@ -252,7 +259,8 @@ unfolding on_answer
 answered_fits r groups ask server t h told =
     let now : RoundSoFar = taken r.round server t in
     by_test StepFits (counts r ask server t) (judged (record r { round = now }) groups (state_of now)) (record { state = r; next = next.Wait })
-    (λ e. judged_fits (record r { round = now }) groups (state_of now) (taken_fits r.round server t h told) (state_bytes now (taken_fits r.round server t h told)))
+    (λ e. judged_fits (record r { round = now }) groups (state_of now) (taken_fits r.round server t h told)
+    (state_bytes now (taken_fits r.round server t h told)))
     (λ e. record { round = h; next = tt })
 
 -- what there is to ask between two rounds is answered

@@ -114,7 +114,8 @@ moves_fit (c ∷ checks) all = one_move c.block c.fate (moves checks) all.0 (mov
 asks_fit : (seg : SegRef) (checks : List Check) → AllByRecursion OutFits (questions seg checks)
 asks_fit seg [] = tt
 asks_fit seg (c ∷ checks) =
-    by_test (λ (o : Option Out). AllByRecursion OutFits (cons_option o (questions seg checks))) (is_awaited c.fate) (Some (out.Check c.block (place_in seg c.item))) None
+    by_test (λ (o : Option Out). AllByRecursion OutFits (cons_option o (questions seg checks))) (is_awaited c.fate)
+    (Some (out.Check c.block (place_in seg c.item))) None
     (λ t. (tt, asks_fit seg checks)) (λ t. asks_fit seg checks)
 
 -- ---- the emptying of the chosen
@@ -143,13 +144,16 @@ looked_fits : (j : JobState) (seg : SegRef) (was_asked : Bool) (checks : List Ch
 unfolding looked_at
 looked_fits j seg was_asked checks all =
     by_test TurnFits (all_dead checks) (deleting j seg) _ (λ t. deleting_fits j seg)
-    (λ t. by_test TurnFits (was_asked && not (any_asked checks)) (record { state = Checking j seg checks; outs = out.Move (moves checks) ∷ [] }) (still (Checking j seg checks))
+    (λ t. by_test TurnFits (was_asked && not (any_asked checks)) (record { state = Checking j seg checks; outs = out.Move (moves checks) ∷ [] })
+    (still (Checking j seg checks))
     (λ k. record { phase = all; outs = (moves_fit checks all, tt) }) (λ k. stands (Checking j seg checks) all))
 
 moved_on : (j : JobState) (seg : SegRef) (checks : List Check) → AllByRecursion CheckFits checks → TurnFits (on_moved j seg checks)
 moved_on j seg checks all =
-    by_test TurnFits (is_moving checks) (record { state = Checking j seg (map moved_at checks); outs = questions seg (map moved_at checks) }) (still (Checking j seg checks))
-    (λ t. record { phase = answers_fit moved_at (λ c h. moved_fits c.block c.fate h) checks all; outs = asks_fit seg (map moved_at checks) }) (λ t. stands (Checking j seg checks) all)
+    by_test TurnFits (is_moving checks) (record { state = Checking j seg (map moved_at checks); outs = questions seg (map moved_at checks) })
+    (still (Checking j seg checks))
+    (λ t. record { phase = answers_fit moved_at (λ c h. moved_fits c.block c.fate h) checks all; outs = asks_fit seg (map moved_at checks) })
+    (λ t. stands (Checking j seg checks) all)
 
 deleted_fits : (server : ℕ) (name : SegName) (j : JobState) (seg : SegRef) (servers : List ℕ) → TurnFits (on_deleted server name j seg servers)
 deleted_fits server name j seg servers =
@@ -165,11 +169,13 @@ asked_usages slots = all_map OutFits (λ (slot : ℕ). out.UsageAsk slot) (λ sl
 
 list_fits : (server : ℕ) (held : List FragMeta) (l : ListingState) → TurnFits (on_list server held l)
 list_fits server held l =
-    by_test TurnFits (is_among l.awaited server) (listed (heard l server held)) (still (Listing l)) (λ t. listed_fits (heard l server held)) (λ t. stands (Listing l) tt)
+    by_test TurnFits (is_among l.awaited server) (listed (heard l server held)) (still (Listing l)) (λ t. listed_fits (heard l server held))
+    (λ t. stands (Listing l) tt)
   where
     listed_fits : (l : ListingState) → TurnFits (listed l)
     listed_fits l =
-        by_test TurnFits (length l.awaited == 0) (record { state = Counting (record { groups = l.groups; candidates = l.candidates; usages = [] }); outs = usage_asks all_slots }) (still (Listing l))
+        by_test TurnFits (length l.awaited == 0)
+        (record { state = Counting (record { groups = l.groups; candidates = l.candidates; usages = [] }); outs = usage_asks all_slots }) (still (Listing l))
         (λ t. record { phase = tt; outs = asked_usages all_slots }) (λ t. stands (Listing l) tt)
 
 counts_fit : (count : ℕ) (c : CountingState) → TurnFits (cleaning.counted count c)

@@ -60,7 +60,8 @@ hears_fits hand groups ask server t h told = by_reading hand.reading h
     by_reading : (reading : Option ReadingState) → IfSome reading (λ (r : ReadingState). RoundFits r.round)
         → HeardFits (hears_by hand reading groups ask server t)
     by_reading None its = record { hand = h; next = tt }
-    by_reading (Some r) its = (let s : StepFits (on_answer r groups ask server t) = answered_fits r groups ask server t its told in record { hand = s.round; next = s.next })
+    by_reading (Some r) its =
+        (let s : StepFits (on_answer r groups ask server t) = answered_fits r groups ask server t its told in record { hand = s.round; next = s.next })
 
 pub confirms_fits : (hand : Hand) (ask : ℕ) → HandFits hand → HeardFits (hand_confirmed hand ask)
 unfolding hand_confirmed

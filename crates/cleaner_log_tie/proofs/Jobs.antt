@@ -93,7 +93,8 @@ module _ (g : Setting) (is : g.log ≡ cleaner_log) where
   -- a job with other things in hand, and with more questions drawn
   with_job_stands : (w : Scene) (e : Emptying) (q : Questions) (job : Job) → e.lasting.questions.last ≤ q.last → Stands g w e → JobStands g w job
       → Stands g w (with_job e q job)
-  with_job_stands w e q job more h its = record { lasts = asks_on w e.lasting.inc e.lasting.questions q more h.lasts; log = h.log; written = h.written; job = its }
+  with_job_stands w e q job more h its =
+      record { lasts = asks_on w e.lasting.inc e.lasting.questions q more h.lasts; log = h.log; written = h.written; job = its }
 
   -- ---- what the job asks
 
@@ -105,7 +106,9 @@ module _ (g : Setting) (is : g.log ≡ cleaner_log) where
         outs = hello e.lasting.inc (ask_of hello_is e.lasting.questions) ∷ [];
       })
   maps_asked_by w e job (Some ask) room h its asked =
-      at_once g w _ _ (with_job_stands w e e.lasting.questions (record job { hello = Some ask }) (omega arith) h (record { seen = its.seen; hello = asked; phase = its.phase; hand = its.hand }))
+      at_once g w _ _
+      (with_job_stands w e e.lasting.questions (record job { hello = Some ask }) (omega arith) h
+      (record { seen = its.seen; hello = asked; phase = its.phase; hand = its.hand }))
       (record { own = λ own. subst (AskedBy g (its_asker w) w.net e.lasting.inc) (sym asked) tt; reached = tt }, tt)
   maps_asked_by w e job None room h its asked =
       let q : Questions = e.lasting.questions in
@@ -144,13 +147,15 @@ module _ (g : Setting) (is : g.log ≡ cleaner_log) where
   list_asked w e None server h its = stays g w e h
   list_asked w e (Some job) server h its =
       at_once g w _ _
-      (with_job_stands w e (drawn_unless job.lists e.lasting.questions) _ (unless_more job.lists e.lasting.questions) h (record { seen = its.seen; hello = its.hello; phase = its.phase; hand = its.hand })) (tt, tt)
+      (with_job_stands w e (drawn_unless job.lists e.lasting.questions) _ (unless_more job.lists e.lasting.questions) h
+      (record { seen = its.seen; hello = its.hello; phase = its.phase; hand = its.hand })) (tt, tt)
 
   usage_asked : (w : Scene) (e : Emptying) (job : Option Job) (slot : ℕ) → Stands g w e → IfSome job (JobStands g w) → Goes w (asks_usage e job slot)
   usage_asked w e None slot h its = stays g w e h
   usage_asked w e (Some job) slot h its =
       at_once g w _ _
-      (with_job_stands w e (drawn_unless job.usages e.lasting.questions) _ (unless_more job.usages e.lasting.questions) h (record { seen = its.seen; hello = its.hello; phase = its.phase; hand = its.hand }))
+      (with_job_stands w e (drawn_unless job.usages e.lasting.questions) _ (unless_more job.usages e.lasting.questions) h
+      (record { seen = its.seen; hello = its.hello; phase = its.phase; hand = its.hand }))
       (tt, tt)
 
   check_asked : (w : Scene) (e : Emptying) (block : BlockId) (place : Place) → Stands g w e → Goes w (asks_check e block place)
@@ -193,13 +198,15 @@ module _ (g : Setting) (is : g.log ≡ cleaner_log) where
   takes_more : (groups : Option GroupMapState) (q : Questions) (hand : Option Hand) (seg : SegRef) → q.last ≤ (takes_in_hand groups q hand seg).questions.last
   unfolding takes_in_hand
   takes_more groups q hand seg =
-      by_test (λ (t : Taken). q.last ≤ t.questions.last) (is_in_hand hand seg) (record { hand = hand; questions = q }) (taken_over q seg (known_group groups seg.group))
+      by_test (λ (t : Taken). q.last ≤ t.questions.last) (is_in_hand hand seg) (record { hand = hand; questions = q })
+      (taken_over q seg (known_group groups seg.group))
       (λ t. omega arith) (λ t. over_more q seg (known_group groups seg.group))
 
   held : (w : Scene) (e : Emptying) (job : Option Job) (seg : SegRef) → Stands g w e → IfSome job (JobStands g w) → Stands g w (holds_in e job seg)
   held w e None seg h its = h
   held w e (Some job) seg h its =
-      with_job_stands w e (takes_in_hand e.maps.groups e.lasting.questions job.hand seg).questions _ (takes_more e.maps.groups e.lasting.questions job.hand seg) h
+      with_job_stands w e (takes_in_hand e.maps.groups e.lasting.questions job.hand seg).questions _
+      (takes_more e.maps.groups e.lasting.questions job.hand seg) h
       (record { seen = its.seen; hello = its.hello; phase = its.phase; hand = taken_fits e.maps.groups e.lasting.questions job.hand seg its.hand })
 
   read_begun : (w : Scene) (e : Emptying) (seg : SegRef) → Stands g w e → Goes w (reads e seg)
@@ -310,11 +317,19 @@ module _ (g : Setting) (is : g.log ≡ cleaner_log) where
         next = l.next;
         grown = l.grown;
         stands = stands_on w l.next (record e { job = Some (record job { hand = _ }) }) l.grown l.inc l.owner l.asked
-            (record { lasts = h.lasts; log = h.log; written = h.written; job = record { seen = its.seen; hello = its.hello; phase = its.phase; hand = dropped_fits job.hand its.hand } });
+            (record {
+              lasts = h.lasts;
+              log = h.log;
+              written = h.written;
+              job = record { seen = its.seen; hello = its.hello; phase = its.phase; hand = dropped_fits job.hand its.hand };
+            });
         does = all_append (CleanerDoes g l.next) (drops (is_whole job.hand) name) _ (drop_acted l.next (is_whole job.hand) name l.acted) (l.said, tt);
         boot = l.inc;
         only = λ x is. ⊎_elim (λ was. inl was)
-            (λ same. inr (node.Server server, in_after (drops (is_whole job.hand) name) _ _ (inl (ap (λ (z : SegName). Send (node.Server server) (body.Delete (record { name = z }))) same)))) (l.only x is);
+            (λ same. inr (
+              node.Server server,
+              in_after (drops (is_whole job.hand) name) _ _ (inl (ap (λ (z : SegName). Send (node.Server server) (body.Delete (record { name = z }))) same)),
+            )) (l.only x is);
       }
 
   job_over : (w : Scene) (e : Emptying) (count : ℕ) → Stands g w e → Goes w (finishes e count)
@@ -344,7 +359,8 @@ module _ (g : Setting) (is : g.log ≡ cleaner_log) where
   all_said : (w : Scene) (e : Emptying) (outs : List Out) → Stands g w e → AllByRecursion (OutDrops g w.net) outs → AllByRecursion OutFits outs
       → Goes w (steps says e outs)
   all_said w e outs h drop fit =
-      all_steps g says OutOwed (λ v k grown o owed. (out_later g v.net k.net (is_later g v k grown) o owed.0, owed.1)) job_says w e outs h (both w.net outs drop fit)
+      all_steps g says OutOwed (λ v k grown o owed. (out_later g v.net k.net (is_later g v k grown) o owed.0, owed.1)) job_says w e outs h
+      (both w.net outs drop fit)
 
   -- ---- the job takes an input
 
@@ -361,7 +377,12 @@ module _ (g : Setting) (is : g.log ≡ cleaner_log) where
       let on : CleanOn g w.net (transition job.cleaning given) = cleaning_takes g w.net job.cleaning given its.seen sent in
       let f : DoneFits (transition job.cleaning given) = cleaning_fits job.cleaning given its.phase fits in
       record {
-        stands = record { lasts = h.lasts; log = h.log; written = h.written; job = record { seen = on.phase; hello = its.hello; phase = f.phase; hand = its.hand } };
+        stands = record {
+          lasts = h.lasts;
+          log = h.log;
+          written = h.written;
+          job = record { seen = on.phase; hello = its.hello; phase = f.phase; hand = its.hand };
+        };
         drops = on.outs;
         fits = f.outs;
       }
@@ -377,7 +398,8 @@ module _ (g : Setting) (is : g.log ≡ cleaner_log) where
       → AllByRecursion (OutDrops g w.net) (awaits p) → Goes w (steps says e (awaits p))
   unfolding says
   awaited_said w e Greeting room h drop =
-      and_then g w (asks_maps e e.job) (still (asks_maps e e.job).state) (maps_asked w e e.job room h h.job) (stays g _ _ (maps_asked w e e.job room h h.job).stands)
+      and_then g w (asks_maps e e.job) (still (asks_maps e e.job).state) (maps_asked w e e.job room h h.job)
+      (stays g _ _ (maps_asked w e e.job room h h.job).stands)
   awaited_said w e (Listing l) room h drop = all_said w e (awaits (Listing l)) h drop (awaits_fit (Listing l) (λ x. absurd cc))
   awaited_said w e (Counting c) room h drop = all_said w e (awaits (Counting c)) h drop (awaits_fit (Counting c) (λ x. absurd cc))
   awaited_said w e (Reading j seg) room h drop = all_said w e (awaits (Reading j seg)) h drop (awaits_fit (Reading j seg) (λ x. absurd cc))
@@ -395,7 +417,12 @@ module _ (g : Setting) (is : g.log ≡ cleaner_log) where
       by_job (Some job) its =
           let on : CleanOn g w.net (transition job.cleaning input.Tick) = cleaning_takes g w.net job.cleaning input.Tick its.seen tt in
           awaited_said w (takes_in e (Some job) input.Tick).state job.cleaning.phase room
-          (record { lasts = h.lasts; log = h.log; written = h.written; job = record { seen = its.seen; hello = its.hello; phase = its.phase; hand = its.hand } }) on.outs
+          (record {
+            lasts = h.lasts;
+            log = h.log;
+            written = h.written;
+            job = record { seen = its.seen; hello = its.hello; phase = its.phase; hand = its.hand };
+          }) on.outs
 
   -- ---- what comes for it
 
@@ -410,7 +437,8 @@ module _ (g : Setting) (is : g.log ≡ cleaner_log) where
   pub usage_came : (w : Scene) (e : Emptying) (m : Usage) → Stands g w e → Goes w (on_usage e m)
   unfolding on_usage
   usage_came w e m h =
-      by_test (Goes w) (is_out (usages_of e.job) m.ask) (cleans e (input.Usage m.slot m.epoch m.counts)) (still e) (λ t. job_goes_on w e (input.Usage m.slot m.epoch m.counts) h tt tt)
+      by_test (Goes w) (is_out (usages_of e.job) m.ask) (cleans e (input.Usage m.slot m.epoch m.counts)) (still e)
+      (λ t. job_goes_on w e (input.Usage m.slot m.epoch m.counts) h tt tt)
       (λ t. stays g w e h)
 
   pub live_came : (w : Scene) (e : Emptying) (m : Live) → Stands g w e → FitsRow (m.block, m.entry) → Goes w (on_live e m)
@@ -435,7 +463,8 @@ module _ (g : Setting) (is : g.log ≡ cleaner_log) where
   reading_ended : (w : Scene) (e : Emptying) (read : Option Segment) → Stands g w e → InputFits (input.Read read) → Goes w (ends_reading e read)
   unfolding ends_reading
   reading_ended w e read h fits =
-      job_goes_on w (record e { job = job_read e.job }) (input.Read read) (record { lasts = h.lasts; log = h.log; written = h.written; job = read_kept e.job h.job }) tt fits
+      job_goes_on w (record e { job = job_read e.job }) (input.Read read)
+      (record { lasts = h.lasts; log = h.log; written = h.written; job = read_kept e.job h.job }) tt fits
     where
       read_kept : (job : Option Job) → IfSome job (JobStands g w) → IfSome (job_read job) (JobStands g w)
       read_kept None its = tt
@@ -456,7 +485,16 @@ module _ (g : Setting) (is : g.log ≡ cleaner_log) where
       by_hand None own = record { stands = record { lasts = h.lasts; log = h.log; written = h.written; job = its }; next = tt }
       by_hand (Some hand) own =
           let f : HeardFits (hand_confirmed hand ask) = confirms_fits hand ask own in
-          record { stands = record { lasts = h.lasts; log = h.log; written = h.written; job = record { seen = its.seen; hello = its.hello; phase = its.phase; hand = f.hand } }; next = f.next }
+          record {
+            stands =
+                record {
+                  lasts = h.lasts;
+                  log = h.log;
+                  written = h.written;
+                  job = record { seen = its.seen; hello = its.hello; phase = its.phase; hand = f.hand };
+                };
+            next = f.next;
+          }
 
   confirmed_so : (w : Scene) (e : Emptying) (x : Next) → Stands g w e → Goes w (after_confirmed e x)
   confirmed_so w e next.Ask h = at_once g w e _ h (fetched w (hand_of e.job))
@@ -472,7 +510,12 @@ module _ (g : Setting) (is : g.log ≡ cleaner_log) where
       let c : Heard Emptying = confirmed f (next_ask e.lasting.questions) in
       confirmed_so w c.state c.next
       (confirms w f e.job (next_ask e.lasting.questions)
-      (record { lasts = asks_on w e.lasting.inc e.lasting.questions (drawn e.lasting.questions) (ask_no_lower e.lasting.questions) h.lasts; log = h.log; written = h.written; job = h.job }) h.job).stands
+      (record {
+        lasts = asks_on w e.lasting.inc e.lasting.questions (drawn e.lasting.questions) (ask_no_lower e.lasting.questions) h.lasts;
+        log = h.log;
+        written = h.written;
+        job = h.job;
+      }) h.job).stands
 
   told_so : (w : Scene) (e : Emptying) (x : Next) → Stands g w e → NextFits x → Goes w (after_told e x)
   told_so w e next.Wait h fits = stays g w e h
@@ -490,11 +533,23 @@ module _ (g : Setting) (is : g.log ≡ cleaner_log) where
   hears_told w e (Some job) (Some groups) ask server t h its told = by_hand job.hand its.hand
     where
       by_hand : (hand : Option Hand) → InHand hand
-          → HeardSo w (record { state = record e { job = Some (hand_hears_in job hand groups ask server t).state }; next = (hand_hears_in job hand groups ask server t).next })
+          → HeardSo w (record {
+            state = record e { job = Some (hand_hears_in job hand groups ask server t).state };
+            next = (hand_hears_in job hand groups ask server t).next;
+          })
       by_hand None own = record { stands = record { lasts = h.lasts; log = h.log; written = h.written; job = its }; next = tt }
       by_hand (Some hand) own =
           let f : HeardFits (hand_hears hand groups ask server t) = hears_fits hand groups ask server t own told in
-          record { stands = record { lasts = h.lasts; log = h.log; written = h.written; job = record { seen = its.seen; hello = its.hello; phase = its.phase; hand = f.hand } }; next = f.next }
+          record {
+            stands =
+                record {
+                  lasts = h.lasts;
+                  log = h.log;
+                  written = h.written;
+                  job = record { seen = its.seen; hello = its.hello; phase = its.phase; hand = f.hand };
+                };
+            next = f.next;
+          }
 
   pub told_came : (w : Scene) (e : Emptying) (server : Option ℕ) (ask : ℕ) (t : Told) → Stands g w e → ToldFits t → Goes w (on_told e server ask t)
   unfolding on_told told_by

@@ -155,7 +155,8 @@ module _ (g : Setting) (is : g.log ≡ cleaner_log) (w : Scene) where
     next = fallen w;
     grown = fallen_grows w;
     agrees = fallen_agrees w (record l { items = answered l.items }) lasts;
-    does = all_append (CleanerDoes g (fallen w)) (answers_unanswered l.items.unanswered answer.Cut) _ (answers_do (fallen w) l.items.unanswered answer.Cut) (tt, tt);
+    does = all_append (CleanerDoes g (fallen w)) (answers_unanswered l.items.unanswered answer.Cut) _ (answers_do (fallen w) l.items.unanswered answer.Cut)
+        (tt, tt);
     flies = inr (fall_of w.net).flown;
     only = λ name is. inl (subst (In name) (fall_of w.net).dropped is);
   }
@@ -260,7 +261,8 @@ module _ (g : Setting) (is : g.log ≡ cleaner_log) (w : Scene) where
   down_wish : (servers : ℕ) (l : Lasting) (number : ℕ) (wish : Wish) → CleanerAgrees g w (Down l) → lasting_room l ≡ true
       → Goes (down_wishes servers l number wish)
   down_wish servers l number Restart sees room =
-      restarted servers l number sees.0 sees.1 (and_first (has_room l.inc) (has_room l.questions.last) room) (and_second (has_room l.inc) (has_room l.questions.last) room)
+      restarted servers l number sees.0 sees.1 (and_first (has_room l.inc) (has_room l.questions.last) room)
+      (and_second (has_room l.inc) (has_room l.questions.last) room)
   down_wish servers l number Crash sees room = at_once (Down l) _ sees (tt, tt)
   down_wish servers l number (Clean count) sees room = at_once (Down l) _ sees (tt, tt)
 
@@ -272,7 +274,8 @@ module _ (g : Setting) (is : g.log ≡ cleaner_log) (w : Scene) where
   serving_wish : (e : Emptying) (number : ℕ) (wish : Wish) → Stands g w e → has_room e.lasting.questions.last ≡ true → Goes (serving_wishes e number wish)
   serving_wish e number Crash sees room = crashed e.lasting number sees.lasts
   serving_wish e number Restart sees room = at_once (Serving e) _ sees (tt, tt)
-  serving_wish e number (Clean count) sees room = serves (on_clean e number count) (log_up g its_number w e.log sees.log) (serving.cleaning_wished g is w e number count room sees)
+  serving_wish e number (Clean count) sees room =
+      serves (on_clean e number count) (log_up g its_number w e.log sees.log) (serving.cleaning_wished g is w e number count room sees)
 
   down_item : (servers : ℕ) (l : Lasting) (item : Option ℕ) → CleanerAgrees g w (Down l) → lasting_room l ≡ true → Goes (down_at servers l item)
   down_item servers l None sees room = stays (Down l) sees
@@ -292,7 +295,8 @@ module _ (g : Setting) (is : g.log ≡ cleaner_log) (w : Scene) where
   item_begun servers (Opening l o) sees room =
       opening_item (begun_life l) o (next_item l.items) (record { lasts = sees.lasts; sees = sees.sees; written = sees.written; asks = sees.asks })
   item_begun servers (Serving e) sees room =
-      serving_item (record e { lasting = begun_life e.lasting }) (next_item e.lasting.items) (record { lasts = sees.lasts; log = sees.log; written = sees.written; job = sees.job })
+      serving_item (record e { lasting = begun_life e.lasting }) (next_item e.lasting.items)
+      (record { lasts = sees.lasts; log = sees.log; written = sees.written; job = sees.job })
       (and_second (has_room e.lasting.inc) (has_room e.lasting.questions.last) room)
 
   -- ---- packets and time
@@ -313,7 +317,8 @@ module _ (g : Setting) (is : g.log ≡ cleaner_log) (w : Scene) where
       (packet_few o l.questions packet (asks_room l room) sees.asks)
   heard (Serving e) packet sees owed room =
       serves (on_packet e packet) (log_up g its_number w e.log sees.log)
-      (serving.packet_heard g is w e packet (asks_room e.lasting room) sees (subst (λ to. BodySeen g (its_asker w) w.net packet.from to packet.body) owed.own owed.seen)
+      (serving.packet_heard g is w e packet (asks_room e.lasting room) sees
+      (subst (λ to. BodySeen g (its_asker w) w.net packet.from to packet.body) owed.own owed.seen)
       owed.fits)
 
   passed : (p : Phase) → CleanerAgrees g w p → OpeningOwed g w p → lasting_room (lasting_of p) ≡ true → Goes (on_time p)

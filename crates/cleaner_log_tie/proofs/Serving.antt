@@ -86,7 +86,8 @@ promise_is_quiet : (s : CleaningState) (slot epoch : ℕ) → s.phase ≡ Greeti
 unfolding cleaning.on_promise
 promise_is_quiet s slot epoch at =
     subst (λ (p : Phase). Quiet (cleaning.on_promise (record s { phase = p }) slot epoch)) (sym at)
-    (by_test Quiet (is_above s.promised slot epoch) (cleaning.turned (record s { promised = promised_with s.promised slot epoch; phase = Greeting }) (cleaning.forgetting slot Greeting))
+    (by_test Quiet (is_above s.promised slot epoch)
+    (cleaning.turned (record s { promised = promised_with s.promised slot epoch; phase = Greeting }) (cleaning.forgetting slot Greeting))
     (still (record s { phase = Greeting })) (λ t. record { phase = refl; outs = refl }) (λ t. record { phase = refl; outs = refl }))
 
 promised_new : (q : Questions) (e : Emptying) (slot : ℕ) → IsNew q e → IsNew q (promises_slot e slot).state
@@ -143,7 +144,8 @@ module _ (g : Setting) (is : g.log ≡ cleaner_log) where
   job_begun w e number count room h =
       let f : Emptying = with_new_job e number count in
       let d : Done = promises_all f in
-      let p : Goes w d = all_promised w f (record { lasts = h.lasts; log = h.log; written = h.written; job = record { seen = tt; hello = tt; phase = tt; hand = tt } }) in
+      let p : Goes w d =
+      all_promised w f (record { lasts = h.lasts; log = h.log; written = h.written; job = record { seen = tt; hello = tt; phase = tt; hand = tt } }) in
       and_then g w d (cleans d.state input.Tick) p (job_in_time g is p.next d.state (room_left e number count room) p.stands)
 
   pub cleaning_wished : (w : Scene) (e : Emptying) (number count : ℕ) → has_room e.lasting.questions.last ≡ true → Stands g w e
@@ -169,8 +171,10 @@ module _ (g : Setting) (is : g.log ≡ cleaner_log) where
       → AllByRecursion (LogSaid w) outs
   all_said w [] sent filed = tt
   all_said w (log_out.Send f member ∷ outs) sent filed = (sent _ (inl refl), all_said w outs (λ p among. sent p (inr among)) filed)
-  all_said w (log_out.Settled end rows ∷ outs) sent filed =
-      (subst (λ (l : LogId). In (name_of l end) w.net.filed) is (filed (name_of g.log end) (inl refl)), all_said w outs sent (λ name among. filed name (inr among)))
+  all_said w (log_out.Settled end rows ∷ outs) sent filed = (
+    subst (λ (l : LogId). In (name_of l end) w.net.filed) is (filed (name_of g.log end) (inl refl)),
+    all_said w outs sent (λ name among. filed name (inr among)),
+  )
 
   moved_kept : (w : Scene) (job : Option Job) → IfSome job (JobStands g w) → IfSome (job_moved job) (JobStands g w)
   moved_kept w None its = tt
@@ -192,7 +196,8 @@ module _ (g : Setting) (is : g.log ≡ cleaner_log) where
   all_written : (w : Scene) (e : Emptying) (r : log.Done) → LogTook g is w e r → Goes w (steps writes_one (record e { log = r.state }) r.outs)
   all_written w e r t =
       let f : Emptying = record e { log = r.state } in
-      let p : Goes t.next (steps writes_one f r.outs) = all_steps g writes_one LogSaid said_more one_written t.next f r.outs t.stands (all_said t.next r.outs t.sent t.filed) in
+      let p : Goes t.next (steps writes_one f r.outs) =
+      all_steps g writes_one LogSaid said_more one_written t.next f r.outs t.stands (all_said t.next r.outs t.sent t.filed) in
       record {
         next = p.next;
         grown = grows_on g w t.next p.next t.grown p.grown;
@@ -218,7 +223,8 @@ module _ (g : Setting) (is : g.log ≡ cleaner_log) where
   acknowledged : (w : Scene) (e : Emptying) (m : DeltaAck) → Stands g w e → Goes w (on_ack e m)
   unfolding on_ack
   acknowledged w e m h =
-      by_test (Goes w) (epoch_of e.promised m.slot == m.epoch) _ (still e) (λ t. stays g w _ (record { lasts = h.lasts; log = h.log; written = h.written; job = h.job })) (λ t. stays g w e h)
+      by_test (Goes w) (epoch_of e.promised m.slot == m.epoch) _ (still e)
+      (λ t. stays g w _ (record { lasts = h.lasts; log = h.log; written = h.written; job = h.job })) (λ t. stays g w e h)
 
   -- ---- promises
 
@@ -251,8 +257,10 @@ module _ (g : Setting) (is : g.log ≡ cleaner_log) where
   slot_heard : (w : Scene) (e : Emptying) (news : SlotNews) → Stands g w e → Unit {0} → Goes w (hears_slot e news)
   unfolding hears_slot
   slot_heard w e news h no_more =
-      by_test (Goes w) (nat_lt (epoch_of e.promised news.slot) news.epoch) (cleans (promises e news.slot news.epoch news.manager) (input.Promise news.slot news.epoch)) (still e)
-      (λ t. job_goes_on g is w (promises e news.slot news.epoch news.manager) (input.Promise news.slot news.epoch) (promised w e news.slot news.epoch news.manager h) tt tt)
+      by_test (Goes w) (nat_lt (epoch_of e.promised news.slot) news.epoch)
+      (cleans (promises e news.slot news.epoch news.manager) (input.Promise news.slot news.epoch)) (still e)
+      (λ t. job_goes_on g is w (promises e news.slot news.epoch news.manager) (input.Promise news.slot news.epoch)
+      (promised w e news.slot news.epoch news.manager h) tt tt)
       (λ t. stays g w e h)
 
   slots_heard : (w : Scene) (e : Emptying) (slots : List SlotNews) → Stands g w e → Goes w (hears_slots e slots)
@@ -297,7 +305,8 @@ module _ (g : Setting) (is : g.log ≡ cleaner_log) where
   unfolding welcomes
   job_welcomed w e m h low =
       by_test (Goes w) (is_out (hello_of e.job) m.ask) (welcomes_over (record e { job = greeted e.job }) m.news.slots e.maps.groups) (still e)
-      (λ t. welcomed_over w (record e { job = greeted e.job }) m.news.slots e.maps.groups (record { lasts = h.lasts; log = h.log; written = h.written; job = greeted_kept w e.job h.job }) low)
+      (λ t. welcomed_over w (record e { job = greeted e.job }) m.news.slots e.maps.groups
+      (record { lasts = h.lasts; log = h.log; written = h.written; job = greeted_kept w e.job h.job }) low)
       (λ t. stays g w e h)
 
   welcome_heard : (w : Scene) (e : Emptying) (m : Welcome) → Stands g w e → WelcomeSeen g (its_asker w) w.net node.Cleaner m → MapFits m.news.groups
@@ -364,7 +373,8 @@ module _ (g : Setting) (is : g.log ≡ cleaner_log) where
       → InRange p.body → Goes w (on_packet e p)
   unfolding on_packet
   packet_heard w e p room h seen fit =
-      by_test (Goes w) (names_known e.maps p.body) (on_body e p.from p.body) (asks_for_maps e) (λ t. body_heard w e p.from p.body h seen fit) (λ t. maps_wanted w e room h)
+      by_test (Goes w) (names_known e.maps p.body) (on_body e p.from p.body) (asks_for_maps e) (λ t. body_heard w e p.from p.body h seen fit)
+      (λ t. maps_wanted w e room h)
 
   pub time_passes : (w : Scene) (e : Emptying) → has_room e.lasting.questions.last ≡ true → Stands g w e → Goes w (on_tick e)
   unfolding on_tick

@@ -134,7 +134,8 @@ module _ (g : Setting) (w : Scene) where
 
   does_so : (its : Owner) (e : Effect) → MayDo its e → ClientDoes g its_number w e → CleanerDoes g w e
   does_so its (Send to said) may h =
-      said_as g (asker its_number w) (its_asker w) w.net w.net (at_once w.net) (λ k some. refl) (Client its_number) to refl said (λ m e t. absurd (no_welcome its to said may m e))
+      said_as g (asker its_number w) (its_asker w) w.net w.net (at_once w.net) (λ k some. refl) (Client its_number) to refl said
+      (λ m e t. absurd (no_welcome its to said may m e))
       (says_seen g its_number w to said h)
   does_so its (Answer item answer) may h = tt
   does_so its (Lose seg) may h = tt
@@ -168,9 +169,11 @@ module _ (g : Setting) where
     kept = t.grown.dropped;
   }
 
-  module _ (is : g.log ≡ cleaner_log) (w : Scene) (life : ℕ) (q : Questions) (lasts : Lasts g its_number w its_number life q.last) (room : has_room q.last ≡ true) (life_room : has_room life ≡ true)
+  module _ (is : g.log ≡ cleaner_log) (w : Scene) (life : ℕ) (q : Questions) (lasts : Lasts g its_number w its_number life q.last)
+      (room : has_room q.last ≡ true) (life_room : has_room life ≡ true)
       (o : openings.Opening)
-      (sees : SeesStage g its_number w o.known q.last o.stage) (written : StageWritten o.stage) (asks : StageAsks o.stage q.last) (tells : StageTells g w.net o.stage) where
+      (sees : SeesStage g its_number w o.known q.last o.stage) (written : StageWritten o.stage) (asks : StageAsks o.stage q.last)
+      (tells : StageTells g w.net o.stage) where
     small : is_log g.log.0 ≡ true
     small = ap (λ (l : LogId). is_log l.0) is
 

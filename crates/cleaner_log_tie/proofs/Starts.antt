@@ -11,7 +11,10 @@ use Rattle.cleaner_log_tie.specs.OwnerEvents.{OwnerStarts}
 pub owner_starts : OwnerStarts
 owner_starts g is setup works ids = record {
   lasts = record { number = refl; inc = refl; fresh = λ k later. refl };
-  log = record { owner = ap (λ log. owner.Serving (started log 1 no_end (groups.started setup.servers setup.groups))) is; own = record { log = sym is; flight = tt } };
+  log = record {
+    owner = ap (λ log. owner.Serving (started log 1 no_end (groups.started setup.servers setup.groups))) is;
+    own = record { log = sym is; flight = tt };
+  };
   written =
       what_fits_stays_written cleaner_log 1 no_end (groups.started setup.servers setup.groups) (omega arith, omega arith) (omega arith)
       (omega arith, (omega arith, omega arith), omega arith) ids;

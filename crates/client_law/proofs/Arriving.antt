@@ -132,12 +132,14 @@ module _ (A : BlockId → Type 0) (M : GroupMapState → Type 0) (B : Fact) (P :
     reads_over-keeps : (s : Serving) (target : Target) (r : Option ReadingState) → At (P n) s → At (P n) (reads_over s target r).state
     reads_over-keeps s target None p = begins-keeps s target p
     reads_over-keeps s target (Some r) p =
-        by_test (λ (d : client.Done). At (P n) d.state) (same_target r.target target) (confirms s r) (begins s target) (λ t. confirms-keeps s r p) (λ t. begins-keeps s target p)
+        by_test (λ (d : client.Done). At (P n) d.state) (same_target r.target target) (confirms s r) (begins s target) (λ t. confirms-keeps s r p)
+        (λ t. begins-keeps s target p)
 
     pub reads-keeps : (s : Serving) (block : BlockId) (place : Place) → At (P n) s → At (P n) (reads s block place).state
     unfolding reads
     reads-keeps s block place p =
-        by_test (λ (d : client.Done). At (P n) d.state) (is_none s.call) (still s) (reads_over (with_reading s None) (target_of block place) (reading_in s.call)) (λ t. p)
+        by_test (λ (d : client.Done). At (P n) d.state) (is_none s.call) (still s)
+        (reads_over (with_reading s None) (target_of block place) (reading_in s.call)) (λ t. p)
         (λ t. reads_over-keeps (with_reading s None) (target_of block place) (reading_in s.call) p)
 
   -- ---- what arrives
@@ -184,7 +186,8 @@ module _ (A : BlockId → Type 0) (M : GroupMapState → Type 0) (B : Fact) (P :
       supplied-keeps may ver value =
           by_test (λ (d : Done). At (P 1) (told s d).state) (accepts s.tokens block stamp inc req Copy)
           (record { state = with_held s.tokens block (copied h stamp ver value); outs = Ready block ∷ [] }) (still s.tokens)
-          (λ t. copy-arrives (copied h stamp ver value) may (record { asks = asked Copy t; unheld = unheld t; mode = refl; clean = refl; giving = refl })) (λ t. stays)
+          (λ t. copy-arrives (copied h stamp ver value) may (record { asks = asked Copy t; unheld = unheld t; mode = refl; clean = refl; giving = refl }))
+          (λ t. stays)
 
       -- ---- a grant
 
@@ -197,11 +200,13 @@ module _ (A : BlockId → Type 0) (M : GroupMapState → Type 0) (B : Fact) (P :
       granted_copy : A block → (entry : Entry) → At (P 1) (told s (on_granted s.tokens block stamp inc req Copy entry)).state
       unfolding on_granted follows follows_one
       granted_copy arrives entry =
-          by_test (λ (d : Done). At (P 1) (told s d).state) (accepts s.tokens block stamp inc req Copy) _ (still s.tokens) (λ t. placed t entry.place) (λ t. stays)
+          by_test (λ (d : Done). At (P 1) (told s d).state) (accepts s.tokens block stamp inc req Copy) _ (still s.tokens) (λ t. placed t entry.place)
+          (λ t. stays)
         where
           placed : accepts s.tokens block stamp inc req Copy ≡ true → (place : Option Place)
               → At (P 1) (told s (record { state = with_held s.tokens block (copy_granted h stamp entry.ver place); outs = copy_next block place ∷ [] })).state
-          placed t None = copy-arrives (copied h stamp entry.ver None) arrives (record { asks = asked Copy t; unheld = unheld t; mode = refl; clean = refl; giving = refl })
+          placed t None =
+              copy-arrives (copied h stamp entry.ver None) arrives (record { asks = asked Copy t; unheld = unheld t; mode = refl; clean = refl; giving = refl })
           placed t (Some place) = reads-keeps 1 (with_block (fetched_from h stamp entry.ver place)) block place (fetched-same entry.ver place (unheld t))
 
       granted_own : A block → (entry : Entry) → has_long_room entry.ver ≡ true → KeptOrFresh (told s (on_granted s.tokens block stamp inc req Own entry)).state

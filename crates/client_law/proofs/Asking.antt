@@ -37,7 +37,8 @@ where_asks (Serves s) p = p
 
 asks_always : HoldsAfterAnyEvents AsksForCall
 asks_always number setup works events =
-    where_asks (after_events (first_client number setup works) events).phase (after-asks (first_client number setup works) events (first_asks number setup works))
+    where_asks (after_events (first_client number setup works) events).phase
+    (after-asks (first_client number setup works) events (first_asks number setup works))
 
 -- ---- what a call on blocks needs
 

@@ -188,7 +188,8 @@ module _ (X : BlockId → Type 0) where
       caches = λ b clean. by_same b clean (either (same_block v b));
     }
       where
-        by_same : (b : BlockId) → may_evict (held_of t.blocks b) ≡ true → (same_block v b ≡ true) ⊎ (same_block v b ≡ false) → (is_clean c b ≡ true) ⊎ Victims vs b
+        by_same : (b : BlockId) → may_evict (held_of t.blocks b) ≡ true → (same_block v b ≡ true) ⊎ (same_block v b ≡ false)
+            → (is_clean c b ≡ true) ⊎ Victims vs b
         by_same b clean (inl same) =
             contrary (sym stays ∙ ap (λ a. may_evict (held_of t.blocks a)) (sym (same_block_exact v b same)) ∙ clean)
         by_same b clean (inr other) = but_first b other (p.caches b clean)
@@ -196,7 +197,8 @@ module _ (X : BlockId → Type 0) where
     evicted-caches : CachesBut (Victims vs) (on_evict t v).state c
     unfolding on_evict
     evicted-caches =
-        by_test (λ (d : Done). CachesBut (Victims vs) d.state c) (may_evict (held_of t.blocks v)) (still (with_held t v (let_go (held_of t.blocks v)))) (still t)
+        by_test (λ (d : Done). CachesBut (Victims vs) d.state c) (may_evict (held_of t.blocks v)) (still (with_held t v (let_go (held_of t.blocks v))))
+        (still t)
         (λ x. let_go-caches) kept-caches
 
   none_left : (t : TokensState) (c : CacheState) → CachesBut (Victims []) t c → CachesBut X t c
@@ -229,7 +231,8 @@ module _ (X : BlockId → Type 0) where
     in_order : (b : BlockId) → has b order ≡ true → may_evict (held_at s b) ≡ true
     in_order b inside = is_kept b (in_used block b s.cache.blocks inside)
 
-    placed : (b : BlockId) → (has b (drop over order) ≡ true) ⊎ (has b (take over order) ≡ true) → (has b (drop over order) ≡ true) ⊎ Victims (take over order) b
+    placed : (b : BlockId) → (has b (drop over order) ≡ true) ⊎ (has b (take over order) ≡ true)
+        → (has b (drop over order) ≡ true) ⊎ Victims (take over order) b
     placed b (inl stays) = inl stays
     placed b (inr leaves) = inr (inl leaves)
 

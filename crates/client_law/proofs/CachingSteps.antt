@@ -50,7 +50,8 @@ rows_in : (rows : List (BlockId × Entry)) → AllByRecursion (λ row. InRows ro
 rows_in [] = tt
 rows_in (row ∷ rows) = (
   contains_first row.0 (keys_of rows),
-  all_weaker (λ (r : BlockId × Entry). InRows rows r.0) (λ (r : BlockId × Entry). InRows (row ∷ rows) r.0) (λ r inside. contains_rest row.0 r.0 (keys_of rows) inside) rows (rows_in rows),
+  all_weaker (λ (r : BlockId × Entry). InRows rows r.0) (λ (r : BlockId × Entry). InRows (row ∷ rows) r.0)
+      (λ r inside. contains_rest row.0 r.0 (keys_of rows) inside) rows (rows_in rows),
 )
 
 module _ (X : BlockId → Type 0) where
@@ -188,7 +189,8 @@ copies-caches s block g is p =
     (arrived s.tokens s.cache block g clean p) (λ b same. inl same)
 
 -- what was excepted isn't held and clean any more
-unexcepted : (t : TokensState) (c : CacheState) (block : BlockId) → may_evict (held_of t.blocks block) ≡ false → CachesBut (λ b. b ≡ block) t c → CachesBut none t c
+unexcepted : (t : TokensState) (c : CacheState) (block : BlockId) → may_evict (held_of t.blocks block) ≡ false → CachesBut (λ b. b ≡ block) t c
+    → CachesBut none t c
 unexcepted t c block gone p = record { once = p.once; cached = p.cached; caches = λ b clean. less b clean (p.caches b clean) }
   where
     less : (b : BlockId) → may_evict (held_of t.blocks b) ≡ true → (is_clean c b ≡ true) ⊎ (b ≡ block) → (is_clean c b ≡ true) ⊎ ⊥
@@ -214,9 +216,11 @@ changes-caches : (s : Serving) (block : BlockId) (value : Option (List ℕ)) →
 unfolding changes
 changes-caches s block value sound may p =
     let w : Serving = wrote s block value in
-    logs-caches w (log_ins.Put block (record { ver = (held_at w block).ver; hop = 0; place = None }) value) (wrote-caches s.tokens s.cache block value sound may p)
+    logs-caches w (log_ins.Put block (record { ver = (held_at w block).ver; hop = 0; place = None }) value)
+    (wrote-caches s.tokens s.cache block value sound may p)
 
-lets_owned-caches : (s : Serving) (block : BlockId) → At (C (λ b. b ≡ block)) s → At (C none) (notes_gone (record s { tokens = (on_evict s.tokens block).state }) block)
+lets_owned-caches : (s : Serving) (block : BlockId) → At (C (λ b. b ≡ block)) s
+    → At (C none) (notes_gone (record s { tokens = (on_evict s.tokens block).state }) block)
 unfolding on_evict notes_gone
 lets_owned-caches s block p =
     let h : Held = held_at s block in

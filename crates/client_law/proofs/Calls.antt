@@ -52,7 +52,8 @@ module _ (P : Fact) (k : TakesKeep P) (s : Serving) (block : BlockId) (p : At P 
   evicted-keeps : At P (notes_gone (record s { tokens = (on_evict s.tokens block).state }) block)
   unfolding on_evict
   evicted-keeps =
-      by_test (λ (d : Done). At P (notes_gone (record s { tokens = d.state }) block)) (may_evict now) (still (with_held s.tokens block (let_go now))) (still s.tokens)
+      by_test (λ (d : Done). At P (notes_gone (record s { tokens = d.state }) block)) (may_evict now) (still (with_held s.tokens block (let_go now)))
+      (still s.tokens)
       (λ x. let_go-keeps (not_true (is_dirty now) (and_second (is_held now.mode) _ x))) (λ x. notes_gone-keeps P k s block p)
 
   lets_go-keeps : At P (lets_go s block)
@@ -66,14 +67,16 @@ module _ (s : Serving) (p : Sound s) (block : BlockId) where
 
   gets-sound : Sound (gets s block).done.state
   unfolding gets
-  gets-sound = by_test (λ (m : Made). Sound m.done.state) (is_nothing (held_at s block).mode) (needs s block Copy) (got s block (held_at s block)) (λ x. needs-sound Copy) (λ x. p)
+  gets-sound = by_test (λ (m : Made). Sound m.done.state) (is_nothing (held_at s block).mode) (needs s block Copy) (got s block (held_at s block))
+      (λ x. needs-sound Copy) (λ x. p)
 
   module _ (value : Option (List ℕ)) where
     changes-sound : Sound (changes s block value).done.state
     unfolding changes
     changes-sound =
         let w : Serving = wrote s block value in
-        writes-sound w (log_in.Put block (record { ver = (held_at w block).ver; hop = 0; place = None }) value) (transition-sound s.tokens (input.Wrote block value) p)
+        writes-sound w (log_in.Put block (record { ver = (held_at w block).ver; hop = 0; place = None }) value)
+        (transition-sound s.tokens (input.Wrote block value) p)
 
     lets_go-sound : Sound (lets_go s block)
     lets_go-sound =

@@ -89,22 +89,26 @@ module _ (l : LogState) (empty : l.dirty ≡ []) where
     restriped_empties : Empties (restriped l f)
     unfolding restriped launched all_sends
     restriped_empties =
-        let g : FlightState = log.flown (next_attempt f.segment.name) f.segment.prior f.segment.items (log.group_for l.groups l.log.0 (next_attempt f.segment.name).seq) in
+        let g : FlightState =
+        log.flown (next_attempt f.segment.name) f.segment.prior f.segment.items (log.group_for l.groups l.log.0 (next_attempt f.segment.name).seq) in
         sent_empties (restriped l f) empty (all_sent g g.group.members 0)
 
     -- behind a segment that is settled nothing is sealed, since nothing waits
     settled_empties : Empties (settled l f)
     unfolding settled if_full wrote_one
     settled_empties =
-        by_test (λ (d : log.Done). Empties (after (log_out.Settled (log.end_from f.segment) (rows_of f.segment) ∷ []) d)) (is_full (landed l f)) (sealed (landed l f)) (still (landed l f))
+        by_test (λ (d : log.Done). Empties (after (log_out.Settled (log.end_from f.segment) (rows_of f.segment) ∷ []) d)) (is_full (landed l f))
+        (sealed (landed l f)) (still (landed l f))
         (λ x. contrary (sym (ap (λ (cs : List _). nat_le segment_blocks (length cs)) empty) ∙ and_second (is_idle (landed l f)) _ x))
         (λ x. record { dirty = empty; landed = λ some. refl })
 
     followed_empties : (before : LogState) → before.dirty ≡ [] → (fate : Fate) → Empties (cond (can_follow l f fate) (followed l f fate) (still before))
     followed_empties before was Restripe =
-        by_test Empties (can_follow l f Restripe) (restriped l f) (still before) (λ x. restriped_empties) (λ x. record { dirty = was; landed = λ some. contrary some })
+        by_test Empties (can_follow l f Restripe) (restriped l f) (still before) (λ x. restriped_empties)
+        (λ x. record { dirty = was; landed = λ some. contrary some })
     followed_empties before was Settle =
-        by_test Empties (can_follow l f Settle) (settled l f) (still before) (λ x. settled_empties) (λ x. record { dirty = was; landed = λ some. contrary some })
+        by_test Empties (can_follow l f Settle) (settled l f) (still before) (λ x. settled_empties)
+        (λ x. record { dirty = was; landed = λ some. contrary some })
     followed_empties before was Wait = record { dirty = empty; landed = λ some. contrary some }
 
     looked_empties : (before : LogState) → before.dirty ≡ [] → Empties (looked_at before l f)
@@ -123,7 +127,8 @@ module _ (l : LogState) (empty : l.dirty ≡ []) where
   acked_empties : (name : SegName) (index generation : ℕ) (o : Option FlightState) → Empties (acked name index generation o)
   acked_empties name index generation None = still_empties
   acked_empties name index generation (Some f) =
-      by_test Empties (is_of f name index generation) (looked_at l l (noting f index)) (still l) (λ x. looked_empties (noting f index) l empty) (λ x. still_empties)
+      by_test Empties (is_of f name index generation) (looked_at l l (noting f index)) (still l) (λ x. looked_empties (noting f index) l empty)
+      (λ x. still_empties)
 
   abbrev ticked : Option FlightState → log.Done
   ticked None = still l

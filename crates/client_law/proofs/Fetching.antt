@@ -193,7 +193,8 @@ module _ (block : BlockId) where
     brings (Deliver packet) = answered packet.body
     brings Tick = inr tt
 
-  module _ (client : Client) (what : Do) (asks : PhaseAsks client.phase) (s t : Serving) (is : client.phase ≡ Serves s) (becomes : (takes client what).state ≡ Serves t)
+  module _ (client : Client) (what : Do) (asks : PhaseAsks client.phase) (s t : Serving) (is : client.phase ≡ Serves s)
+      (becomes : (takes client what).state ≡ Serves t)
       (unheld : is_held (held_at s block).mode ≡ false) where
     abbrev Holds : Phase → Type 0
     Holds = PhaseHolds IsOther AnyMap U (λ n. U) (λ b. U) keeps-unheld AnyOpening AnyLog any_reopens starts-unheld
@@ -215,4 +216,5 @@ by_an_answer_alone client what asks s t block is becomes wants unheld held =
 
 pub wants_end_by_an_answer : WantsEndByAnAnswer
 wants_end_by_an_answer number setup works events what =
-    by_an_answer_alone (after_events (first_client number setup works) events) what (after-asks (first_client number setup works) events (first_asks number setup works))
+    by_an_answer_alone (after_events (first_client number setup works) events) what
+    (after-asks (first_client number setup works) events (first_asks number setup works))

@@ -70,14 +70,17 @@ module _ (X : BlockId → Type 0) where
   gives_put t p block g here = put_each (λ b h. is_some h.giving ≡ true → (is_dirty h ≡ true) ⊎ X b) block g t.blocks here p
 
   -- one at the same versions, of which no recall is put off that was not
-  gives_same : (t : TokensState) → GivesBut X t → (block : BlockId) (g : Held) → g.ver ≡ (held_of t.blocks block).ver → g.settled ≡ (held_of t.blocks block).settled
+  gives_same : (t : TokensState) → GivesBut X t → (block : BlockId) (g : Held) → g.ver ≡ (held_of t.blocks block).ver
+      → g.settled ≡ (held_of t.blocks block).settled
       → (is_some g.giving ≡ true → is_some (held_of t.blocks block).giving ≡ true) → GivesBut X (with_held t block g)
   gives_same t p block g ver settled giving =
-      gives_put t p block g (λ some. still_dirty (X block) (held_of t.blocks block) g (dirty_same (held_of t.blocks block) g ver settled) (p block (giving some)))
+      gives_put t p block g
+      (λ some. still_dirty (X block) (held_of t.blocks block) g (dirty_same (held_of t.blocks block) g ver settled) (p block (giving some)))
 
   quiet-gives : (t u : TokensState) → IsQuiet t u → GivesBut X t → GivesBut X u
   quiet-gives t u q p b some =
-      still_dirty (X b) (held_of t.blocks b) (held_of u.blocks b) (dirty_same (held_of t.blocks b) (held_of u.blocks b) (q b).ver (q b).settled) (p b ((q b).giving some))
+      still_dirty (X b) (held_of t.blocks b) (held_of u.blocks b) (dirty_same (held_of t.blocks b) (held_of u.blocks b) (q b).ver (q b).settled)
+      (p b ((q b).giving some))
 
   evict-gives : (t : TokensState) (block : BlockId) → GivesBut X t → GivesBut X (on_evict t block).state
   unfolding on_evict
@@ -163,7 +166,8 @@ module _ (among : List BlockId) where
 
 -- ---- a clean block is given up
 
-module _ (s : Serving) (sound : Sound s) (block : BlockId) (g : Giving) (is : (held_at s block).giving ≡ Some g) (clean : is_dirty (held_at s block) ≡ false) where
+module _ (s : Serving) (sound : Sound s) (block : BlockId) (g : Giving) (is : (held_at s block).giving ≡ Some g)
+    (clean : is_dirty (held_at s block) ≡ false) where
   abbrev h : Held
   h = held_at s block
 
@@ -199,10 +203,12 @@ module _ (s : Serving) (sound : Sound s) (block : BlockId) (g : Giving) (is : (h
   given-ungiven : is_none (given_up now g.stamp g.keep).giving ≡ true
   given-ungiven = by_test (λ (f : Held). is_none f.giving ≡ true) (g.keep && is_held now.mode) _ _ (λ x. refl) (λ x. refl)
 
-  gave-ungiven : IsUngiven (after asked_for.outs (record { state = with_held asked_for.state block (given_up now g.stamp g.keep); outs = Gave block g.stamp ∷ [] }))
+  gave-ungiven : IsUngiven
+      (after asked_for.outs (record { state = with_held asked_for.state block (given_up now g.stamp g.keep); outs = Gave block g.stamp ∷ [] }))
   unfolding follows follows_one
   gave-ungiven =
-      subst (λ (v : Serving). is_none (held_at v block).giving ≡ true) (sym (follows-silent _ asked_for.outs (Gave block g.stamp ∷ []) (refetch-quiet s.tokens block).silent))
+      subst (λ (v : Serving). is_none (held_at v block).giving ≡ true)
+      (sym (follows-silent _ asked_for.outs (Gave block g.stamp ∷ []) (refetch-quiet s.tokens block).silent))
       (ap (λ (f : Held). is_none f.giving) (held_of-put_itself block (given_up now g.stamp g.keep) asked_for.state.blocks) ∙ given-ungiven)
 
   recalled-ungiven : IsUngiven (on_recalled s.tokens block g.stamp g.keep)
@@ -221,7 +227,8 @@ module _ (s : Serving) (sound : Sound s) (block : BlockId) (g : Giving) (is : (h
   taken_back-ungiven : is_none (held_at (takes_back s block g.stamp g.keep).state block).giving ≡ true
   unfolding takes_back hands
   taken_back-ungiven =
-      notes_gone-tokens (λ (t : TokensState). is_none (held_of t.blocks block).giving ≡ true) (told s (on_recalled s.tokens block g.stamp g.keep)).state block recalled-ungiven
+      notes_gone-tokens (λ (t : TokensState). is_none (held_of t.blocks block).giving ≡ true)
+      (told s (on_recalled s.tokens block g.stamp g.keep)).state block recalled-ungiven
 
 none_is : {A : Type 0} (o : Option A) → is_none o ≡ true → is_some o ≡ true → false ≡ true
 none_is None n s = s
@@ -320,7 +327,8 @@ changes-give : (s : Serving) (block : BlockId) (value : Option (List ℕ)) → S
 unfolding changes
 changes-give s block value sound p =
     let w : Serving = wrote s block value in
-    logs-give w (log_ins.Put block (record { ver = (held_at w block).ver; hop = 0; place = None }) value) (transition-sound s.tokens (input.Wrote block value) sound)
+    logs-give w (log_ins.Put block (record { ver = (held_at w block).ver; hop = 0; place = None }) value)
+    (transition-sound s.tokens (input.Wrote block value) sound)
     (wrote-gives s.tokens block value p)
 
 pub keeps-giving : Keeps AnyBlock AnyMap (G none) (λ n. G none) (λ b. G none)

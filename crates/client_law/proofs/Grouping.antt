@@ -146,7 +146,8 @@ module _ (Is : GroupMapState → Type 0) where
       by_test (λ (m : Moved). OpensBySuch Is m.state) (is_log k.owner.log.0) (writes k (behind k chain groups) (log_in.Parts [])) (still (at_scan k s))
       (λ t. writes_so k (behind k chain groups) (log_in.Parts []) tt known h) (λ t. scanning k s known)
 
-  settles_so : (k : Known) (s : Scanning) (chain : _) (groups : Option GroupMapState) → So k → KnowsSuch Is groups → OpensBySuch Is (settles_over k s chain groups).state
+  settles_so : (k : Known) (s : Scanning) (chain : _) (groups : Option GroupMapState) → So k → KnowsSuch Is groups
+      → OpensBySuch Is (settles_over k s chain groups).state
   settles_so k s chain None known h = scanning k s known
   settles_so k s chain (Some groups) known h = starts_so k s chain groups known h
 
@@ -184,7 +185,8 @@ module _ (Is : GroupMapState → Type 0) where
   taken_so : (k : Known) (news : News) → So k → Is news.groups → KnowsSuch Is (taken k.maps news).groups
   taken_so k news known so = by_test (λ (m : Maps). KnowsSuch Is m.groups) (is_older k.maps news) _ k.maps (λ t. so) (λ t. known)
 
-  welcomed_as_so : (k : Known) (q : Questions) (s : Scanning) (news : News) (own : Option ℕ) → So k → Is news.groups → OpensBySuch Is (welcomed_as k q s news own).progress
+  welcomed_as_so : (k : Known) (q : Questions) (s : Scanning) (news : News) (own : Option ℕ) → So k → Is news.groups
+      → OpensBySuch Is (welcomed_as k q s news own).progress
   unfolding welcomed
   welcomed_as_so k q s news None known so = scanning k s known
   welcomed_as_so k q s news (Some own) known so =
@@ -196,7 +198,8 @@ module _ (Is : GroupMapState → Type 0) where
     where
       by_stage : (at : Stage) → StripesBySuch Is at → OpensBySuch Is (on_welcome (record o { stage = at }) q w).progress
       by_stage (stage.Scanning s) log =
-          by_test (λ (x : Went). OpensBySuch Is x.progress) (is_meant o.known w) (welcomed_as o.known q s w.news (own_of s.asked w.ask)) (stays (at_scan o.known s) q)
+          by_test (λ (x : Went). OpensBySuch Is x.progress) (is_meant o.known w) (welcomed_as o.known q s w.news (own_of s.asked w.ask))
+          (stays (at_scan o.known s) q)
           (λ t. welcomed_as_so o.known q s w.news (own_of s.asked w.ask) h.known so) (λ t. scanning o.known s h.known)
       by_stage (stage.Settling s) log = record { known = h.known; log = log }
 

@@ -45,7 +45,8 @@ use Rattle.client_law.proofs.Keeping.{At, Fact, IsOuter, Keeps, TakesKeep, notes
 on_seal-groups : (l : LogState) → (on_seal l).state.groups ≡ l.groups
 unfolding on_seal
 on_seal-groups l =
-    by_test (λ (d : log.Done). d.state.groups ≡ l.groups) (is_idle l && nat_lt 0 (length l.dirty) && has_next l.end.seq) (sealed l) (still l) (λ x. sealed_groups l)
+    by_test (λ (d : log.Done). d.state.groups ≡ l.groups) (is_idle l && nat_lt 0 (length l.dirty) && has_next l.end.seq) (sealed l) (still l)
+    (λ x. sealed_groups l)
     (λ x. refl)
 
 module _ (Is : GroupMapState → Type 0) where

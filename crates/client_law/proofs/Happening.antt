@@ -165,7 +165,8 @@ module _ (A : BlockId → Type 0) (M : GroupMapState → Type 0) (B : Fact) (P :
 
   -- ---- packets and time
 
-  on_deliver-so : (capacity : ℕ) (phase : Phase) (packet : Packet) → ArrivesTo A phase (Deliver packet) → BringsMaps M packet.body → phase_room phase ≡ true → PhaseAsks phase → PhaseHolds phase
+  on_deliver-so : (capacity : ℕ) (phase : Phase) (packet : Packet) → ArrivesTo A phase (Deliver packet) → BringsMaps M packet.body → phase_room phase ≡ true
+      → PhaseAsks phase → PhaseHolds phase
       → WentSo (on_deliver capacity phase packet)
   unfolding on_deliver
   on_deliver-so capacity (Down l) packet arrives brings room asks h = tt
@@ -180,14 +181,16 @@ module _ (A : BlockId → Type 0) (M : GroupMapState → Type 0) (B : Fact) (P :
   on_time-so capacity (Opening l o) room asks h = opened_on-so l capacity (opening.on_tick o l.questions) (r.tick o l.questions h)
   on_time-so capacity (Serves s) room asks h = runs-so (on_tick s).state (on_tick-asks s asks) (inl (on_tick-keeps A M B P Q k s asks (begin s room h)))
 
-  happens-so : (client : Client) (what : Do) → ArrivesTo A client.phase what → DoBrings M what → phase_room client.phase ≡ true → PhaseAsks client.phase → PhaseHolds client.phase → WentSo (happens client what)
+  happens-so : (client : Client) (what : Do) → ArrivesTo A client.phase what → DoBrings M what → phase_room client.phase ≡ true → PhaseAsks client.phase
+      → PhaseHolds client.phase → WentSo (happens client what)
   happens-so client Begin arrives brings room asks h = on_begin-so client.peers.servers client.phase room asks h
   happens-so client (Deliver packet) arrives brings room asks h =
       by_test WentSo (is_well_formed client.peers packet) (on_deliver client.cache client.phase packet) (still client.phase)
       (λ t. on_deliver-so client.cache client.phase packet arrives brings room asks h) (λ t. h)
   happens-so client Tick arrives brings room asks h = on_time-so client.cache client.phase room asks h
 
-  pub takes-so : (client : Client) (what : Do) → ArrivesTo A client.phase what → DoBrings M what → PhaseAsks client.phase → PhaseHolds client.phase → WentSo (takes client what)
+  pub takes-so : (client : Client) (what : Do) → ArrivesTo A client.phase what → DoBrings M what → PhaseAsks client.phase → PhaseHolds client.phase
+      → WentSo (takes client what)
   takes-so client what arrives brings asks h =
       by_test WentSo (client_room client) (happens client what) (still client.phase)
       (λ t. happens-so client what arrives brings (and_second (has_room (lasting_of client.phase).questions.last) (phase_room client.phase)
@@ -249,7 +252,8 @@ all_brings [] = tt
 all_brings (what ∷ rest) = (brings_any what, all_brings rest)
 
 -- what whatever comes keeps holds after any events
-pub always : (B : Fact) (P : ℕ → Fact) (Q : BlockId → Fact) → Keeps AnyBlock AnyMap B P Q → (O : openings.Opening → Type 0) (E : LogState → Type 0) → Reopens AnyMap O E
+pub always : (B : Fact) (P : ℕ → Fact) (Q : BlockId → Fact) → Keeps AnyBlock AnyMap B P Q → (O : openings.Opening → Type 0) (E : LogState → Type 0)
+    → Reopens AnyMap O E
     → Starts B E → ((l : LogId) (map : GroupMapState) → E (logs.started l 1 empty_end map)) → HoldsAfterAnyEvents (At B)
 always B P Q k O E r starts first number setup works events =
     always_where AnyBlock AnyMap B P Q k O E r starts arrives_any number setup works events

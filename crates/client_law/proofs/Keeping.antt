@@ -115,14 +115,16 @@ pub record Keeps (A : BlockId → Type 0) (M : GroupMapState → Type 0) (B : Fa
   pub touches : (t : TokensState) (l : LogState) (c : CacheState) (block : BlockId) → P 0 t l c → P 0 t l (touched c block)
   pub copies : (s : Serving) (block : BlockId) (g : Held) → A block → Sound s → IsCopied (held_at s block) g → At (P 1) s
       → At (P 1) (notes_clean (record s { tokens = with_held s.tokens block g }) block)
-  pub owns : (t : TokensState) (l : LogState) (c : CacheState) (block : BlockId) (g : Held) → A block → IsSound t → IsOwned (held_of t.blocks block) g → P 1 t l c
+  pub owns : (t : TokensState) (l : LogState) (c : CacheState) (block : BlockId) (g : Held) → A block → IsSound t → IsOwned (held_of t.blocks block) g
+      → P 1 t l c
       → Q block (with_held t block g) l c
   pub logs : (s : Serving) (i : log_in.In) → IsOuter M i → Sound s → At (P 1) s → At (P 0) (writes s i).state
   pub puts : (s : Serving) (block : BlockId) (value : Option (List ℕ)) → Sound s → may_write (held_at s block) ≡ true → At (P 0) s
       → At (P 0) (changes s block value).done.state
   pub puts_owned : (s : Serving) (block : BlockId) (value : Option (List ℕ)) → Sound s → may_write (held_at s block) ≡ true → At (Q block) s
       → At (P 0) (changes s block value).done.state
-  pub lets_owned : (s : Serving) (block : BlockId) → Sound s → At (Q block) s → At (P 0) (notes_gone (record s { tokens = (on_evict s.tokens block).state }) block)
+  pub lets_owned : (s : Serving) (block : BlockId) → Sound s → At (Q block) s
+      → At (P 0) (notes_gone (record s { tokens = (on_evict s.tokens block).state }) block)
 
 -- ---- what the tokens say
 
@@ -196,7 +198,8 @@ module _ (P : Fact) (k : TakesKeep P) where
       put_off-same =
           by_test (IsPutOff now) _ now _ (λ t. record { mode = refl; ver = refl; settled = refl }) (λ t. record { mode = refl; ver = refl; settled = refl })
 
-      back-put_off : is_dirty now ≡ true → Back (after asked_for.outs (record { state = with_held asked_for.state block (put_off now stamp keep); outs = Flush block ∷ [] }))
+      back-put_off : is_dirty now ≡ true
+          → Back (after asked_for.outs (record { state = with_held asked_for.state block (put_off now stamp keep); outs = Flush block ∷ [] }))
       unfolding follows follows_one
       back-put_off dirty =
           let g : Held = put_off now stamp keep in
@@ -222,7 +225,8 @@ module _ (P : Fact) (k : TakesKeep P) where
           (record { held = and_second keep (is_held now.mode) t; mode = refl; ver = refl; settled = refl; giving = λ x. contrary x }) still_so))
           (λ t. gone none clean (record { mode = refl; ver = refl; settled = refl; giving = λ x. contrary x }))
 
-      back-given : is_dirty now ≡ false → Back (after asked_for.outs (record { state = with_held asked_for.state block (given_up now stamp keep); outs = Gave block stamp ∷ [] }))
+      back-given : is_dirty now ≡ false
+          → Back (after asked_for.outs (record { state = with_held asked_for.state block (given_up now stamp keep); outs = Gave block stamp ∷ [] }))
       unfolding follows follows_one
       back-given clean =
           let u : Serving = with_block (given_up now stamp keep) in
@@ -248,7 +252,8 @@ module _ (P : Fact) (k : TakesKeep P) where
       unfolding on_recalled recalled
       back-recalled =
           by_test Back (is_promised s.tokens block stamp) (recalled s.tokens block stamp keep) (still s.tokens)
-          (λ t. by_test Back (is_later stamp (held_of s.tokens.blocks block).stamp) (recalled_above s.tokens block stamp keep) (recalled_again s.tokens block stamp)
+          (λ t. by_test Back (is_later stamp (held_of s.tokens.blocks block).stamp) (recalled_above s.tokens block stamp keep)
+          (recalled_again s.tokens block stamp)
           (λ x. back-above) (λ x. back-again))
           (λ t. back-quiet (still s.tokens) (quiet_still s.tokens))
 

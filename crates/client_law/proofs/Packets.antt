@@ -97,7 +97,8 @@ module _ (A : BlockId → Type 0) (M : GroupMapState → Type 0) (B : Fact) (P :
   -- ---- promises
 
   promises-keeps : (s : Serving) (slot epoch manager : ℕ) → At (P 1) s
-      → At (P 1) (told (record (renews s slot epoch) { managers = manager_set (renews s slot epoch).managers slot manager }) (on_promise (renews s slot epoch).tokens slot epoch)).state
+      → At (P 1) (told (record (renews s slot epoch) { managers = manager_set (renews s slot epoch).managers slot manager })
+      (on_promise (renews s slot epoch).tokens slot epoch)).state
   unfolding renews
   promises-keeps s slot epoch manager p =
       by_test (λ (t : Serving). At (P 1) (told (record t { managers = manager_set t.managers slot manager }) (on_promise t.tokens slot epoch)).state)
@@ -107,7 +108,8 @@ module _ (A : BlockId → Type 0) (M : GroupMapState → Type 0) (B : Fact) (P :
       (λ x. hushed (record s { managers = manager_set s.managers slot manager }) (on_promise s.tokens slot epoch) (on_promise-quiet s.tokens slot epoch) p)
 
   promises-sound : (s : Serving) (slot epoch manager : ℕ) → Sound s
-      → Sound (told (record (renews s slot epoch) { managers = manager_set (renews s slot epoch).managers slot manager }) (on_promise (renews s slot epoch).tokens slot epoch)).state
+      → Sound (told (record (renews s slot epoch) { managers = manager_set (renews s slot epoch).managers slot manager })
+      (on_promise (renews s slot epoch).tokens slot epoch)).state
   unfolding renews
   promises-sound s slot epoch manager p =
       by_test (λ (t : Serving). Sound (told (record t { managers = manager_set t.managers slot manager }) (on_promise t.tokens slot epoch)).state)
@@ -132,7 +134,8 @@ module _ (A : BlockId → Type 0) (M : GroupMapState → Type 0) (B : Fact) (P :
   unfolding hears promises
   hears-keeps s news p =
       by_test (λ (d : client.Done). Both 1 d.state) (is_news s news) (promised_in s news) (still s)
-      (λ x. record { sound = promises-sound s news.slot news.epoch news.manager p.sound; fact = promises-keeps s news.slot news.epoch news.manager p.fact }) (λ x. p)
+      (λ x. record { sound = promises-sound s news.slot news.epoch news.manager p.sound; fact = promises-keeps s news.slot news.epoch news.manager p.fact })
+      (λ x. p)
 
   all_heard : (s : Serving) (news : List SlotNews) → Both 1 s → Both 1 (steps hears s news).state
   all_heard s [] p = p
@@ -147,7 +150,8 @@ module _ (A : BlockId → Type 0) (M : GroupMapState → Type 0) (B : Fact) (P :
   unfolding takes_news
   takes_news-keeps s news may p =
       let t : Serving = record s { maps = taken s.maps news } in
-      regroups-keeps (steps hears t news.slots).state (is_older s.maps news) news.groups may (all_heard t news.slots (record { sound = p.sound; fact = p.fact }))
+      regroups-keeps (steps hears t news.slots).state (is_older s.maps news) news.groups may
+      (all_heard t news.slots (record { sound = p.sound; fact = p.fact }))
 
   on_news-keeps : (s : Serving) (news : News) → M news.groups → Both 1 s → At (P 0) (on_news s news).state
   on_news-keeps s news may p =

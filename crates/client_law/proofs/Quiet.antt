@@ -99,7 +99,8 @@ unfolding on_quit
 on_quit-quiet s block =
     let h : Held = held_of s.blocks block in
     by_test (GoesQuietly s) (is_asking h) (still (with_held s block (unasked h))) (still s)
-    (λ t. record { quiet = quiet_put s block (unasked h) (record { mode = refl; ver = refl; settled = refl; giving = λ x. x }); silent = tt }) (λ t. quiet_still s)
+    (λ t. record { quiet = quiet_put s block (unasked h) (record { mode = refl; ver = refl; settled = refl; giving = λ x. x }); silent = tt })
+    (λ t. quiet_still s)
 
 pub on_forwarded-quiet : (s : TokensState) (block : BlockId) (stamp : Stamp) (ver : ℕ) → GoesQuietly s (on_forwarded s block stamp ver)
 unfolding on_forwarded
@@ -145,14 +146,16 @@ on_tick-quiet s =
 dropped-same : (s : TokensState) (slot : ℕ) (b : BlockId) → IsSame (held_of s.blocks b) (dropped_in slot b (held_of s.blocks b))
 dropped-same s slot b =
     let h : Held = held_of s.blocks b in
-    by_test (IsSame h) (is_in_slot slot b) (promise_dropped h) h (λ t. record { mode = refl; ver = refl; settled = refl; giving = λ x. contrary x }) (λ t. same_itself h)
+    by_test (IsSame h) (is_in_slot slot b) (promise_dropped h) h (λ t. record { mode = refl; ver = refl; settled = refl; giving = λ x. contrary x })
+    (λ t. same_itself h)
 
 pub on_promise-quiet : (s : TokensState) (slot epoch : ℕ) → GoesQuietly s (on_promise s slot epoch)
 unfolding on_promise
 on_promise-quiet s slot epoch =
     let risen : TokensState = raised s slot epoch in
     let first : IsQuiet s risen = λ b. subst (IsSame (held_of s.blocks b)) (sym (dropped-known s slot b)) (dropped-same s slot b) in
-    let second : GoesQuietly risen (steps ask_copy risen (fetched_in slot s.blocks)) = quiet_steps ask_copy (λ t b. ask-quiet t b Copy) risen (fetched_in slot s.blocks) in
+    let second : GoesQuietly risen (steps ask_copy risen (fetched_in slot s.blocks)) =
+    quiet_steps ask_copy (λ t b. ask-quiet t b Copy) risen (fetched_in slot s.blocks) in
     by_test (GoesQuietly s) (may_promise s slot epoch) (steps ask_copy risen (fetched_in slot s.blocks)) (still s)
     (λ t. record { quiet = quiet_through s risen (steps ask_copy risen (fetched_in slot s.blocks)).state first second.quiet; silent = second.silent })
     (λ t. quiet_still s)

@@ -120,7 +120,8 @@ begins-sound s target p = begins_over-sound s target (group_in s.maps.groups tar
 reads_over-sound : (s : Serving) (target : Target) (r : Option ReadingState) → Sound s → Sound (reads_over s target r).state
 reads_over-sound s target None p = begins-sound s target p
 reads_over-sound s target (Some r) p =
-    by_test (λ (d : Done). Sound d.state) (same_target r.target target) (confirms s r) (begins s target) (λ t. confirms-sound s r p) (λ t. begins-sound s target p)
+    by_test (λ (d : Done). Sound d.state) (same_target r.target target) (confirms s r) (begins s target) (λ t. confirms-sound s r p)
+    (λ t. begins-sound s target p)
 
 reads-sound : (s : Serving) (block : BlockId) (place : Place) → Sound s → Sound (reads s block place).state
 unfolding reads

@@ -58,7 +58,8 @@ caches-of s p = record {
 
 module _ (opens : OpensEmptyLogs) where
   abbrev Gives : Phase → Type 0
-  Gives = PhaseHolds AnyBlock AnyMap (G giving.none) (λ n. G giving.none) (λ b. G giving.none) giving.keeps-giving AnyOpening AnyLog any_reopens giving.starts-giving
+  Gives = PhaseHolds AnyBlock AnyMap (G giving.none) (λ n. G giving.none)
+      (λ b. G giving.none) giving.keeps-giving AnyOpening AnyLog any_reopens giving.starts-giving
 
   abbrev Caches : Phase → Type 0
   Caches =
@@ -133,7 +134,8 @@ module _ (opens : OpensEmptyLogs) where
       client what (arrives_any client.phase what) (brings_any what) asks (gives_in client.phase p))
       (takes-so AnyBlock AnyMap (C caching.none) (λ n. C caching.none) (λ block. C (λ b. b ≡ block)) caching.keeps-caching AnyOpening AnyLog any_reopens
       caching.starts-caching client what (arrives_any client.phase what) (brings_any what) asks (caches_in client.phase p))
-      (takes-so AnyBlock AnyMap B P (λ block. P 0) unsettled.keeps-unsettled WaitsNot IsEmpty (unsettled.reopens-empty opens AnyMap) unsettled.starts-empty client what
+      (takes-so AnyBlock AnyMap B P (λ block. P 0) unsettled.keeps-unsettled WaitsNot IsEmpty
+      (unsettled.reopens-empty opens AnyMap) unsettled.starts-empty client what
       (arrives_any client.phase what) (brings_any what) asks (writes_in client.phase p))
       (takes-so AnyBlock IsGroupMap (S IsGroupMap) (λ n. S IsGroupMap) (λ block. S IsGroupMap) (stripes.keeps-stripes IsGroupMap) (HasSuchMaps IsGroupMap)
       (StripesSo IsGroupMap) (stripes.reopens-stripes IsGroupMap) (λ inc epochs l capacity h. h) client what (arrives_any client.phase what) brings asks

@@ -67,7 +67,8 @@ back_says : (l : Lasting) (capacity : ℕ) (p : Progress) → SaysNone (after_op
 back_says l capacity (progress.Opening o) = tt
 back_says l capacity (progress.Opened o) = (
   tt,
-  all_append (Says IsUntold) (pushes_all o.promised.managers o.feed) _ (pushes_say IsUntold (λ m. refl) o.promised.managers o.feed) (answers_say IsUntold l.items.unanswered answer.Done),
+  all_append (Says IsUntold) (pushes_all o.promised.managers o.feed) _ (pushes_say IsUntold (λ m. refl) o.promised.managers o.feed)
+      (answers_say IsUntold l.items.unanswered answer.Done),
 )
 back_says l capacity (progress.Lost seg) = answers_say IsUntold l.items.unanswered (answer.Lost seg)
 
@@ -149,7 +150,8 @@ IsQuestion said = asks_for_maps said ≡ true
 
 -- ---- an opening drops what is about tokens
 
-drops_tokens : (o : openings.Opening) (q : Questions) (from : NodeId) (said : Body) → is_about_tokens said ≡ true → opening.on_body o q from said ≡ opening.drops o q
+drops_tokens : (o : openings.Opening) (q : Questions) (from : NodeId) (said : Body) → is_about_tokens said ≡ true
+    → opening.on_body o q from said ≡ opening.drops o q
 unfolding opening.on_body
 drops_tokens o q from (body.Grant m) about = refl
 drops_tokens o q from (body.Supply m) about = refl
@@ -169,10 +171,12 @@ abbrev asks_maps : Lasting → openings.Opening → Went
 asks_maps l o = opening.went (progress.Opening o) (drawn l.questions) (hello o.known.owner.inc (next_ask l.questions) ∷ [])
 
 module _ (client : Client) (packet : Packet) (about : is_about_tokens packet.body ≡ true) where
-  opening_unmoved : (l : Lasting) (o : openings.Opening) → client.phase ≡ Opening l o → IsUnmovedBy client (opened_on l client.cache (opening.on_packet o l.questions packet))
+  opening_unmoved : (l : Lasting) (o : openings.Opening) → client.phase ≡ Opening l o
+      → IsUnmovedBy client (opened_on l client.cache (opening.on_packet o l.questions packet))
   unfolding opening.on_packet
   opening_unmoved l o is =
-      by_test (λ (w : Went). IsUnmovedBy client (opened_on l client.cache w)) (names_known o.known.maps packet.body) (opening.on_body o l.questions packet.from packet.body) (asks_maps l o)
+      by_test (λ (w : Went). IsUnmovedBy client (opened_on l client.cache w)) (names_known o.known.maps packet.body)
+      (opening.on_body o l.questions packet.from packet.body) (asks_maps l o)
       (λ t. subst (λ (w : Went). IsUnmovedBy client (opened_on l client.cache w)) (sym (drops_tokens o l.questions packet.from packet.body about))
       (record { phase_is = inl (sym is); sends = All-nil (λ (p : Packet). IsQuestion p.body); acts = refl }))
       (λ t. record {

@@ -57,7 +57,8 @@ module _ (t : TokensState) (w d : Versions) (p : AreUnsettled t w d) where
   flown_dirty b u h = between (held_of t.blocks b) u (p.above b u h) (p.upto b u h)
 
   -- the same versions of each block
-  pub unsettled-same : (u : TokensState) → ((b : BlockId) → ((held_of u.blocks b).ver ≡ (held_of t.blocks b).ver) × ((held_of u.blocks b).settled ≡ (held_of t.blocks b).settled))
+  pub unsettled-same : (u : TokensState)
+      → ((b : BlockId) → ((held_of u.blocks b).ver ≡ (held_of t.blocks b).ver) × ((held_of u.blocks b).settled ≡ (held_of t.blocks b).settled))
       → AreUnsettled u w d
   unsettled-same u same = record {
     waits_once = p.waits_once;
@@ -95,12 +96,15 @@ module _ (t : TokensState) (w d : Versions) (p : AreUnsettled t w d) where
       flies_once = p.flies_once;
       newest = put_each (λ b f. (v : ℕ) → version_at w b ≡ Some v → v ≡ f.ver) block g t.blocks (λ v at. contrary (sym was ∙ p.unsettled block v at)) p.newest;
       unsettled =
-          put_each (λ b f. (v : ℕ) → version_at w b ≡ Some v → is_dirty f ≡ true) block g t.blocks (λ v at. contrary (sym was ∙ p.unsettled block v at)) p.unsettled;
+          put_each (λ b f. (v : ℕ) → version_at w b ≡ Some v → is_dirty f ≡ true) block g t.blocks
+          (λ v at. contrary (sym was ∙ p.unsettled block v at)) p.unsettled;
       unflown = p.unflown;
       all =
-          put_each (λ b f. is_dirty f ≡ true → (is_some (version_at w b) ≡ true) ⊎ (version_at d b ≡ Some f.ver)) block g t.blocks (λ dirty. contrary (sym now ∙ dirty))
+          put_each (λ b f. is_dirty f ≡ true → (is_some (version_at w b) ≡ true) ⊎ (version_at d b ≡ Some f.ver)) block g t.blocks
+          (λ dirty. contrary (sym now ∙ dirty))
           p.all;
-      above = put_each (λ b f. (u : ℕ) → version_at d b ≡ Some u → f.settled < u) block g t.blocks (λ u at. contrary (sym was ∙ flown_dirty block u at)) p.above;
+      above = put_each (λ b f. (u : ℕ) → version_at d b ≡ Some u → f.settled < u) block g t.blocks
+          (λ u at. contrary (sym was ∙ flown_dirty block u at)) p.above;
       upto = put_each (λ b f. (u : ℕ) → version_at d b ≡ Some u → u ≤ f.ver) block g t.blocks (λ u at. contrary (sym was ∙ flown_dirty block u at)) p.upto;
     }
 
@@ -130,7 +134,8 @@ module _ (t : TokensState) (w d : Versions) (p : AreUnsettled t w d) where
           put_cases (λ b f. (v : ℕ) → version_at next b ≡ Some v → v ≡ f.ver) block (written old value) t.blocks written_is
           (λ b other v at. p.newest b v (sym (elsewhere b other) ∙ at));
       unsettled =
-          put_cases (λ b f. (v : ℕ) → version_at next b ≡ Some v → is_dirty f ≡ true) block (written old value) t.blocks (λ v at. dirty_now old.settled old.ver below)
+          put_cases (λ b f. (v : ℕ) → version_at next b ≡ Some v → is_dirty f ≡ true) block (written old value) t.blocks
+          (λ v at. dirty_now old.settled old.ver below)
           (λ b other v at. p.unsettled b v (sym (elsewhere b other) ∙ at));
       unflown = λ b v u at flies. by_block b v u (same_block block b) refl at flies;
       all =
@@ -139,7 +144,8 @@ module _ (t : TokensState) (w d : Versions) (p : AreUnsettled t w d) where
           (λ b other dirty. waits_still b other (p.all b dirty));
       above = put_each (λ b f. (u : ℕ) → version_at d b ≡ Some u → f.settled < u) block (written old value) t.blocks (p.above block) p.above;
       upto =
-          put_each (λ b f. (u : ℕ) → version_at d b ≡ Some u → u ≤ f.ver) block (written old value) t.blocks (λ u flies. more u old.ver (p.upto block u flies)) p.upto;
+          put_each (λ b f. (u : ℕ) → version_at d b ≡ Some u → u ≤ f.ver) block (written old value) t.blocks
+          (λ u flies. more u old.ver (p.upto block u flies)) p.upto;
     }
       where
         dirty_now : (settled ver : ℕ) → settled ≤ ver → nat_lt settled (ver + 1) ≡ true
@@ -187,7 +193,8 @@ unsettled-sealed t w n p = record {
     part b v is (inl taken) = inr (taken ∙ ap (λ m. Some m) is)
     part b v is (inr left) = inl (ap is_some left)
 
-    found : (b : BlockId) → (v : ℕ) × (version_at w b ≡ Some v) → (is_some (version_at (drop n w) b) ≡ true) ⊎ (version_at (take n w) b ≡ Some (held_of t.blocks b).ver)
+    found : (b : BlockId) → (v : ℕ) × (version_at w b ≡ Some v)
+        → (is_some (version_at (drop n w) b) ≡ true) ⊎ (version_at (take n w) b ≡ Some (held_of t.blocks b).ver)
     found b e = part b e.0 (p.newest b e.0 e.1) (taken_or_dropped n w b e.0 e.1)
 
     by_case : (b : BlockId) → (is_some (version_at w b) ≡ true) ⊎ (None ≡ Some (held_of t.blocks b).ver)

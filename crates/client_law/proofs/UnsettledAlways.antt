@@ -74,15 +74,19 @@ changes-unsettled s block value sound may p =
     let h : Held = held_at s block in
     let g : Held = written h value in
     let t : TokensState = with_held s.tokens block g in
-    by_test (λ (d : Done). At (P 0) (writes (record s { tokens = d.state; cache = left s.cache block }) (log_ins.Put block (record { ver = (held_of d.state.blocks block).ver; hop = 0; place = None }) value)).state)
+    by_test (λ (d : Done). At (P 0)
+    (writes (record s { tokens = d.state; cache = left s.cache block })
+    (log_ins.Put block (record { ver = (held_of d.state.blocks block).ver; hop = 0; place = None }) value)).state)
     (may_write h) (still t) (still s.tokens)
     (λ x. wrote_now t g (held_of-put_itself block g s.tokens.blocks)
     (unsettled-written s.tokens (versions_waiting s.log) (versions_flown s.log.flight) p.log.versions block value (sound.each block).settled_below))
     (λ x. contrary (sym x ∙ may))
   where
-    wrote_now : (t : TokensState) (g : Held) → held_of t.blocks block ≡ g → AreUnsettled t (put block g.ver (versions_waiting s.log)) (versions_flown s.log.flight)
+    wrote_now : (t : TokensState) (g : Held) → held_of t.blocks block ≡ g
+        → AreUnsettled t (put block g.ver (versions_waiting s.log)) (versions_flown s.log.flight)
         → At (P 0)
-        (writes (record s { tokens = t; cache = left s.cache block }) (log_ins.Put block (record { ver = (held_of t.blocks block).ver; hop = 0; place = None }) value)).state
+        (writes (record s { tokens = t; cache = left s.cache block })
+        (log_ins.Put block (record { ver = (held_of t.blocks block).ver; hop = 0; place = None }) value)).state
     wrote_now t g now versions =
         let w : Serving = record s { tokens = t; cache = left s.cache block } in
         let entry : Entry = record { ver = (held_of t.blocks block).ver; hop = 0; place = None } in

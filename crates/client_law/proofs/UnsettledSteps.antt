@@ -92,7 +92,8 @@ on_seal-writes t l p =
 pub if_full-writes : (t : TokensState) (l : LogState) → Writes t l → Writes t (if_full l).state
 unfolding if_full
 if_full-writes t l p =
-    by_test (λ (d : log.Done). Writes t d.state) (is_full l) (sealed l) (still l) (λ x. sealed-writes t l (idle_is l.flight (and_first (is_idle l) _ x)) p) (λ x. p)
+    by_test (λ (d : log.Done). Writes t d.state) (is_full l) (sealed l) (still l) (λ x. sealed-writes t l (idle_is l.flight (and_first (is_idle l) _ x)) p)
+    (λ x. p)
 
 -- the end stays
 sealed-end : (l : LogState) → (sealed l).state.end ≡ l.end
@@ -102,7 +103,8 @@ sealed-end l = refl
 on_seal-end : (l : LogState) → (on_seal l).state.end ≡ l.end
 unfolding on_seal
 on_seal-end l =
-    by_test (λ (d : log.Done). d.state.end ≡ l.end) (is_idle l && nat_lt 0 (length l.dirty) && has_next l.end.seq) (sealed l) (still l) (λ x. sealed-end l) (λ x. refl)
+    by_test (λ (d : log.Done). d.state.end ≡ l.end) (is_idle l && nat_lt 0 (length l.dirty) && has_next l.end.seq) (sealed l) (still l) (λ x. sealed-end l)
+    (λ x. refl)
 
 pub if_full-end : (l : LogState) → (if_full l).state.end ≡ l.end
 unfolding if_full
@@ -197,7 +199,8 @@ module _ (n : ℕ) where
   keeps_clean-unsettled : (s : Serving) (row : BlockId × Entry) → At (P n) s → At (P n) (keeps_clean s row)
   unfolding keeps_clean
   keeps_clean-unsettled s row p =
-      by_test (At (P n)) (not (is_dirty (held_at s row.0)) && is_held (held_at s row.0).mode) (notes_clean s row.0) s (λ x. notes_clean-unsettled s row.0 p) (λ x. p)
+      by_test (At (P n)) (not (is_dirty (held_at s row.0)) && is_held (held_at s row.0).mode) (notes_clean s row.0) s (λ x. notes_clean-unsettled s row.0 p)
+      (λ x. p)
 
   rows_clean : (s : Serving) (rows : List (BlockId × Entry)) → At (P n) s → At (P n) (fold keeps_clean s rows)
   rows_clean s [] p = p
@@ -297,7 +300,10 @@ module _ (s : Serving) where
     restriped-so =
         sent-so (restriped l f) (all_sent anew anew.group.members 0)
         (record {
-          log = record { versions = subst (AreUnsettled s.tokens (versions_waiting l)) (told_same f.segment anew.segment f.segment.items) p.versions; next = p.next };
+          log = record {
+            versions = subst (AreUnsettled s.tokens (versions_waiting l)) (told_same f.segment anew.segment f.segment.items) p.versions;
+            next = p.next;
+          };
           room = less_room;
         })
 

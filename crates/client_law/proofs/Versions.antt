@@ -56,7 +56,8 @@ found_taken zero vs b v h = contrary (none_found v h)
 found_taken (suc n) [] b v h = h
 found_taken (suc n) (e ∷ es) b v h = cond_map (same_block b e.0) (Some e.1) (version_at (take n es) b) (version_at es b) (Some v) (found_taken n es b v) h
 
-pub taken_or_dropped : (n : ℕ) (vs : Versions) (b : BlockId) (v : ℕ) → version_at vs b ≡ Some v → (version_at (take n vs) b ≡ Some v) ⊎ (version_at (drop n vs) b ≡ Some v)
+pub taken_or_dropped : (n : ℕ) (vs : Versions) (b : BlockId) (v : ℕ) → version_at vs b ≡ Some v
+    → (version_at (take n vs) b ≡ Some v) ⊎ (version_at (drop n vs) b ≡ Some v)
 taken_or_dropped zero vs b v h = inr h
 taken_or_dropped (suc n) [] b v h = inl h
 taken_or_dropped (suc n) (e ∷ es) b v h = by_same (same_block b e.0) (taken_or_dropped n es b v) h
@@ -67,12 +68,14 @@ taken_or_dropped (suc n) (e ∷ es) b v h = by_same (same_block b e.0) (taken_or
     by_same false rest h = rest h
 
 -- a block isn't in both parts
-pub not_in_both : (n : ℕ) (vs : Versions) (b : BlockId) (u v : ℕ) → EachOnce vs → version_at (take n vs) b ≡ Some u → version_at (drop n vs) b ≡ Some v → false ≡ true
+pub not_in_both : (n : ℕ) (vs : Versions) (b : BlockId) (u v : ℕ) → EachOnce vs → version_at (take n vs) b ≡ Some u → version_at (drop n vs) b ≡ Some v
+    → false ≡ true
 not_in_both zero vs b u v once h g = none_found u h
 not_in_both (suc n) [] b u v once h g = none_found u h
 not_in_both (suc n) (e ∷ es) b u v once h g = by_same (same_block b e.0) refl (λ k. not_in_both n es b u v once.1 k g) h
   where
-    by_same : (t : Bool) → same_block b e.0 ≡ t → (version_at (take n es) b ≡ Some u → false ≡ true) → cond t (Some e.1) (version_at (take n es) b) ≡ Some u → false ≡ true
+    by_same : (t : Bool) → same_block b e.0 ≡ t → (version_at (take n es) b ≡ Some u → false ≡ true) → cond t (Some e.1) (version_at (take n es) b) ≡ Some u
+        → false ≡ true
     by_same true same rest h = sym once.0 ∙ ap (λ c. has c (keys_of es)) (same_block_exact b e.0 same) ∙ found_has es b v (found_dropped n es b v once.1 g)
     by_same false other rest h = rest h
 
@@ -86,7 +89,8 @@ absent_taken zero vs b absent = refl
 absent_taken (suc n) [] b absent = refl
 absent_taken (suc n) (e ∷ es) b absent = by_same (same_block b e.0) (absent_taken n es b) absent
   where
-    by_same : (t : Bool) → (has b (keys_of es) ≡ false → has b (keys_of (take n es)) ≡ false) → (t || has b (keys_of es)) ≡ false → (t || has b (keys_of (take n es))) ≡ false
+    by_same : (t : Bool) → (has b (keys_of es) ≡ false → has b (keys_of (take n es)) ≡ false) → (t || has b (keys_of es)) ≡ false
+        → (t || has b (keys_of (take n es))) ≡ false
     by_same true rest h = h
     by_same false rest h = rest h
 
@@ -122,7 +126,8 @@ module _ (k : BlockId) (v : ℕ) where
       hidden false false h = refl
   put-step b e es rest false other h = ap (cond (same_block b e.0) (Some e.1)) h ∙ swapped (same_block b e.0) (same_block b k) apart
     where
-      swapped : (p q : Bool) → (p ≡ true → q ≡ false) → cond p (Some e.1) (cond q (Some v) (version_at es b)) ≡ cond q (Some v) (cond p (Some e.1) (version_at es b))
+      swapped : (p q : Bool) → (p ≡ true → q ≡ false)
+          → cond p (Some e.1) (cond q (Some v) (version_at es b)) ≡ cond q (Some v) (cond p (Some e.1) (version_at es b))
       swapped true true f = contrary (sym (f refl))
       swapped true false f = refl
       swapped false q f = refl
@@ -135,7 +140,8 @@ module _ (k : BlockId) (v : ℕ) where
   found_put b [] = refl
   found_put b (e ∷ es) = put-step b e es (put es) (same_block k e.0) refl (found_put b es)
 
-  has-step : (b : BlockId) (e : BlockId × ℕ) (es rest : Versions) (t : Bool) → same_block k e.0 ≡ t → has b (keys_of rest) ≡ (has b (keys_of es) || same_block b k)
+  has-step : (b : BlockId) (e : BlockId × ℕ) (es rest : Versions) (t : Bool) → same_block k e.0 ≡ t
+      → has b (keys_of rest) ≡ (has b (keys_of es) || same_block b k)
       → has b (keys_of (cond t ((e.0, v) ∷ es) (e ∷ rest))) ≡ ((same_block b e.0 || has b (keys_of es)) || same_block b k)
   has-step b e es rest true same h = covered (same_block b e.0) (has b (keys_of es)) (same_block b k) (ap (same_block b) (sym (same_block_exact k e.0 same)))
     where
@@ -196,7 +202,8 @@ told-change s before b entry None rest = refl
 told-change s before b entry (Some bytes) rest = refl
 
 -- the items of changes tell just the versions of these
-pub versions_written : (s : Segment) (before : ℕ) (cs : List (BlockId × Change)) → map row_version (filter_map (row_of s) (items_of before cs)) ≡ map version_of cs
+pub versions_written : (s : Segment) (before : ℕ) (cs : List (BlockId × Change))
+    → map row_version (filter_map (row_of s) (items_of before cs)) ≡ map version_of cs
 versions_written s before [] = refl
 versions_written s before (c ∷ cs) =
     told-change s before c.0 c.1.entry c.1.value _ ∙ ap (λ rest. version_of c ∷ rest) (versions_written s (before + length (change_items before c.0 c.1)) cs)

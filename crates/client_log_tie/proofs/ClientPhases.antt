@@ -152,7 +152,8 @@ module _ (g : Setting) (c : ℕ) (is : g.log ≡ record { 0 = c }) (small : is_l
 
   crash_said : (l : Lasting) (number : ℕ) → frames.Plain g c (crashed l number).outs
   crash_said l number v =
-      All-append (ClientDoes g c v) (answers_unanswered l.items.unanswered answer.Cut) (Answers number answer.Done ∷ []) (tokens.plain_answers g c l.items.unanswered answer.Cut v)
+      All-append (ClientDoes g c v) (answers_unanswered l.items.unanswered answer.Cut) (Answers number answer.Done ∷ [])
+      (tokens.plain_answers g c l.items.unanswered answer.Cut v)
       (tokens.plain_one g c (Answers number answer.Done) (λ u. tt) v)
 
   crashes_so : (l : Lasting) (number : ℕ) → LastsAs g c w l → Goes (crashed l number)
@@ -213,7 +214,8 @@ module _ (g : Setting) (c : ℕ) (is : g.log ≡ record { 0 = c }) (small : is_l
         flies = inr refl;
       }
 
-  down_begins_so : (servers number : ℕ) (l : Lasting) (wanted : Option Work) → ClientAgrees g c w (Down l) → has_room l.inc ≡ true → has_room l.questions.last ≡ true
+  down_begins_so : (servers number : ℕ) (l : Lasting) (wanted : Option Work) → ClientAgrees g c w (Down l) → has_room l.inc ≡ true
+      → has_room l.questions.last ≡ true
       → Goes (down_begins servers l number (wish_of wanted))
   down_begins_so servers number l (Some (work.Restart node)) sees room asks_room = restarts_so servers number l sees.0 sees.1 room asks_room
   down_begins_so servers number l (Some _) sees room asks_room = answers_so (Down l) number answer.Down sees tt
@@ -229,13 +231,15 @@ module _ (g : Setting) (c : ℕ) (is : g.log ≡ record { 0 = c }) (small : is_l
   opening_begins_so l o number None sees written = answers_so (Opening l o) number answer.Down sees written
 
   module _ (l : Lasting) where
-    back_said : (r : Opened) → frames.Plain g c (Does (Back l.number r.chain) ∷ pushes_all r.promised.managers r.feed ++ answers_unanswered l.items.unanswered answer.Done)
+    back_said : (r : Opened)
+        → frames.Plain g c (Does (Back l.number r.chain) ∷ pushes_all r.promised.managers r.feed ++ answers_unanswered l.items.unanswered answer.Done)
     back_said r v =
         All-cons (ClientDoes g c v) (Does (Back l.number r.chain)) _ tt
         (All-append (ClientDoes g c v) (pushes_all r.promised.managers r.feed) (answers_unanswered l.items.unanswered answer.Done)
         (tokens.plain_pushes_all g c r.promised.managers r.feed v) (tokens.plain_answers g c l.items.unanswered answer.Done v))
 
-    opened_so : (capacity : ℕ) (x : Went) → LastsAs g c w l → is_down w.net.owner ≡ false → WentTo g c w l.number l.inc x → AsksOn x → Goes (opened_on l capacity x)
+    opened_so : (capacity : ℕ) (x : Went) → LastsAs g c w l → is_down w.net.owner ≡ false → WentTo g c w l.number l.inc x → AsksOn x
+        → Goes (opened_on l capacity x)
     opened_so capacity x lasts up t few = by_progress x.progress t.shows t.lost few
       where
         in_boot : is_down t.next.net.owner ≡ false → FliesInBoot w.net t.next.net
@@ -266,7 +270,8 @@ module _ (g : Setting) (c : ℕ) (is : g.log ≡ record { 0 = c }) (small : is_l
           agrees = fallen_agrees t.next (record l { questions = x.questions; items = answered l.items }) t.lasts;
           written = tt;
           does = All-append (ClientDoes g c (fallen t.next)) x.effects (answers_unanswered l.items.unanswered (answer.Lost seg))
-              (frames.all_more g c t.next (fallen t.next) (fallen_grown t.next) x.effects t.does) (tokens.plain_answers g c l.items.unanswered (answer.Lost seg) (fallen t.next));
+              (frames.all_more g c t.next (fallen t.next) (fallen_grown t.next) x.effects t.does)
+              (tokens.plain_answers g c l.items.unanswered (answer.Lost seg) (fallen t.next));
           flies = inr ((fall_of t.next.net).flown ∙ lost tt);
         }
 
@@ -331,18 +336,21 @@ module _ (g : Setting) (c : ℕ) (is : g.log ≡ record { 0 = c }) (small : is_l
   item_so servers (Serves s) (Some number) sees written room asks_room =
       serving_begins_so (record s { lasting = record s.lasting { items = begun s.lasting.items } }) number (work_at (begun s.lasting.items) number) sees written
 
-  on_begin_so : (servers : ℕ) (p : Phase) → ClientAgrees g c w p → PhaseWritten p → has_room (lasting_of p).inc ≡ true → has_room (lasting_of p).questions.last ≡ true
+  on_begin_so : (servers : ℕ) (p : Phase) → ClientAgrees g c w p → PhaseWritten p → has_room (lasting_of p).inc ≡ true
+      → has_room (lasting_of p).questions.last ≡ true
       → Goes (on_begin servers p)
   unfolding on_begin
   on_begin_so servers p sees written room asks_room = item_so servers p (next_item (lasting_of p).items) sees written room asks_room
 
   -- an opening stands on what it is told
-  owed : (l : Lasting) (o : openings.Opening) → ClientAgrees g c w (Opening l o) → StageTells g w.net o.stage → has_room l.inc ≡ true → has_room l.questions.last ≡ true
+  owed : (l : Lasting) (o : openings.Opening) → ClientAgrees g c w (Opening l o) → StageTells g w.net o.stage → has_room l.inc ≡ true
+      → has_room l.questions.last ≡ true
       → StageOwed g w.net o.stage
   owed l o sees tells life room =
       owed_so g c its_log w o.known o.stage l.questions.last (let e = sees.0.inc in let b = in_range l.inc life in omega arith) room sees.1 sees.2 tells
 
-  on_deliver_so : (capacity : ℕ) (p : Phase) (packet : wire.Packet) → ClientAgrees g c w p → PhaseWritten p → PacketOwed g c w p packet → has_room (lasting_of p).inc ≡ true
+  on_deliver_so : (capacity : ℕ) (p : Phase) (packet : wire.Packet) → ClientAgrees g c w p → PhaseWritten p → PacketOwed g c w p packet
+      → has_room (lasting_of p).inc ≡ true
       → has_room (lasting_of p).questions.last ≡ true
       → Goes (on_deliver capacity p packet)
   unfolding on_deliver
@@ -353,7 +361,8 @@ module _ (g : Setting) (c : ℕ) (is : g.log ≡ record { 0 = c }) (small : is_l
       (record { sees = sees.1; written = written; owed = owed l o sees brings.scans life room }))
       (packet_few o l.questions packet room sees.2)
   on_deliver_so capacity (Serves s) packet sees written brings life room =
-      serves_so (serving.and_runs g c is (packets.on_packet s packet)) (log_up g c w s.log sees.1) (serving.packet_so g c is w s packet brings.seen brings.fits room (stands s sees written))
+      serves_so (serving.and_runs g c is (packets.on_packet s packet)) (log_up g c w s.log sees.1)
+      (serving.packet_so g c is w s packet brings.seen brings.fits room (stands s sees written))
 
   delivers_so : (peers : Peers) (capacity : ℕ) (p : Phase) (packet : wire.Packet) → ClientAgrees g c w p → PhaseWritten p → PacketOwed g c w p packet
       → has_room (lasting_of p).inc ≡ true → has_room (lasting_of p).questions.last ≡ true → Goes (delivers peers capacity p packet)
@@ -368,12 +377,14 @@ module _ (g : Setting) (c : ℕ) (is : g.log ≡ record { 0 = c }) (small : is_l
   on_time_so capacity (Down l) sees written tells life room = still_so (Down l) sees tt
   on_time_so capacity (Opening l o) sees written tells life room =
       opened_so l capacity (opening.on_tick o l.questions) sees.0 (stage_up g c w o.known l.questions.last o.stage sees.1)
-      (events.tick_so g c its_log w l.number l.inc l.questions sees.0 room o (record { sees = sees.1; written = written; owed = owed l o sees tells life room }))
+      (events.tick_so g c its_log w l.number l.inc l.questions sees.0 room o
+      (record { sees = sees.1; written = written; owed = owed l o sees tells life room }))
       (tick_few o l.questions room sees.2)
   on_time_so capacity (Serves s) sees written tells life room =
       serves_so (serving.and_runs g c is (packets.on_tick s)) (log_up g c w s.log sees.1) (serving.time_so g c is w s (stands s sees written))
 
-  happens_so : (client : Client) (what : Do) → ClientAgrees g c w client.phase → PhaseWritten client.phase → ClientOwed g c w client.phase what → client_room client ≡ true
+  happens_so : (client : Client) (what : Do) → ClientAgrees g c w client.phase → PhaseWritten client.phase → ClientOwed g c w client.phase what
+      → client_room client ≡ true
       → Goes (happens client what)
   happens_so client Begin sees written brings room =
       on_begin_so client.peers.servers client.phase sees written (and_first (has_room (lasting_of client.phase).inc) _ room)
@@ -389,7 +400,8 @@ module _ (g : Setting) (c : ℕ) (is : g.log ≡ record { 0 = c }) (small : is_l
       (and_second (has_room (lasting_of client.phase).inc) (has_room (lasting_of client.phase).questions.last && phase_room client.phase) room))
 
 -- an event is taken where no counter is near its end, and changes nothing else
-pub client_did : (g : Setting) (c : ℕ) → g.log ≡ record { 0 = c } → is_log c ≡ true → (w : Scene) (client : Client) (what : Do) → ClientAgrees g c w client.phase
+pub client_did : (g : Setting) (c : ℕ) → g.log ≡ record { 0 = c } → is_log c ≡ true → (w : Scene) (client : Client) (what : Do)
+    → ClientAgrees g c w client.phase
     → PhaseWritten client.phase → ClientOwed g c w client.phase what → ClientDid g c w (takes client what).state (takes client what).outs
 client_did g c is small w client what sees written owed =
     by_test (λ (x : Went_to). ClientDid g c w x.state x.outs) (client_room client) (happens client what) (still client.phase)

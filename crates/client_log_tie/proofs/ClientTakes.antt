@@ -25,7 +25,8 @@ use Rattle.client_log_tie.proofs.ClientPhases.{client_did}
 module _ (g : Setting) (c number : ℕ) (is : number ≡ c) (w : Scene) where
   one_sent : (e : Effect) → ClientDoes g c w e → All (PacketSeen g (asker c w) w.net) (packet_of (AClient number) e)
   one_sent (Send to said) h =
-      All-cons (PacketSeen g (asker c w) w.net) _ [] (subst (λ k. BodySeen g (asker c w) w.net (AClient k) to said) (sym is) (frames.says_seen g c w to said h)) (All-nil (PacketSeen g (asker c w) w.net))
+      All-cons (PacketSeen g (asker c w) w.net) _ [] (subst (λ k. BodySeen g (asker c w) w.net (AClient k) to said) (sym is) (frames.says_seen g c w to said h))
+      (All-nil (PacketSeen g (asker c w) w.net))
   one_sent (Answers item a) h = All-nil (PacketSeen g (asker c w) w.net)
   one_sent (Lose seg) h = All-nil (PacketSeen g (asker c w) w.net)
   one_sent (Does act) h = All-nil (PacketSeen g (asker c w) w.net)
@@ -38,7 +39,8 @@ module _ (g : Setting) (c number : ℕ) (is : number ≡ c) (w : Scene) where
 
   all_sent : (es : List Effect) → AllByRecursion (ClientDoes g c w) es → AllSeen g (asker c w) w.net (packets_of (AClient number) es)
   all_sent [] h = All-nil (PacketSeen g (asker c w) w.net)
-  all_sent (e ∷ es) h = All-append (PacketSeen g (asker c w) w.net) (packet_of (AClient number) e) (packets_of (AClient number) es) (one_sent e h.0) (all_sent es h.1)
+  all_sent (e ∷ es) h =
+      All-append (PacketSeen g (asker c w) w.net) (packet_of (AClient number) e) (packets_of (AClient number) es) (one_sent e h.0) (all_sent es h.1)
 
   all_acted : (es : List Effect) → AllByRecursion (ClientDoes g c w) es → All (ActSeen w) (acts_of (AClient number) es)
   all_acted [] h = All-nil (ActSeen w)
@@ -46,7 +48,8 @@ module _ (g : Setting) (c number : ℕ) (is : number ≡ c) (w : Scene) where
 
   -- what it stores is of its log
   all_own : (es : List Effect) → AllByRecursion (ClientDoes g c w) es → All (λ (p : wire.Packet). OfItsLog g p.body) (packets_of (AClient number) es)
-  all_own es h = packets_all (λ (p : wire.Packet). OfItsLog g p.body) (ClientDoes g c w) (AClient number) (λ to said does. frames.says_own g c w to said does) es h
+  all_own es h =
+      packets_all (λ (p : wire.Packet). OfItsLog g p.body) (ClientDoes g c w) (AClient number) (λ to said does. frames.says_own g c w to said does) es h
 
 -- the client of the log has its number
 its_number : (g : Setting) (c : ℕ) (w : Scene) (p : Phase) → ClientAgrees g c w p → (lasting_of p).number ≡ c

@@ -233,7 +233,8 @@ module _ (g : Setting) (c : ℕ) where
       record { next = p.next; grown = grown_on g w v p.next grown p.grown; stands = p.stands; does = p.does; boot = p.boot ∙ boot }
 
   -- a change of what the small world doesn't see, with more that may be done in any world, before or after
-  pub goes_and_gives : (w : Scene) (d : Done) (s : Serving) (outs : List Effect) → Goes w d → ((v : Scene) → At v d.state → At v s) → Plain outs → Goes w (gives s (d.outs ++ outs))
+  pub goes_and_gives : (w : Scene) (d : Done) (s : Serving) (outs : List Effect) → Goes w d → ((v : Scene) → At v d.state → At v s) → Plain outs
+      → Goes w (gives s (d.outs ++ outs))
   goes_and_gives w d s outs p f plain = goes_on w d (gives s outs) p (λ v h. goes_plain v s outs (f v h) plain)
 
   pub goes_after : (w : Scene) (outs : List Effect) (d : Done) → Plain outs → Goes w d → Goes w (after outs d)
@@ -246,12 +247,14 @@ module _ (g : Setting) (c : ℕ) where
   }
 
   -- a list of steps
-  pub goes_steps : {A : Type 0} (f : Serving → A → Done) → ((w : Scene) (s : Serving) (x : A) → At w s → Goes w (f s x)) → (w : Scene) (s : Serving) (xs : List A) → At w s
+  pub goes_steps : {A : Type 0} (f : Serving → A → Done) → ((w : Scene) (s : Serving) (x : A) → At w s → Goes w (f s x))
+      → (w : Scene) (s : Serving) (xs : List A) → At w s
       → Goes w (steps f s xs)
   goes_steps f one w s [] h = goes_still w s h
   goes_steps f one w s (x ∷ xs) h = goes_on w (f s x) (steps f (f s x).state xs) (one w s x h) (λ v k. goes_steps f one v (f s x).state xs k)
 
   -- a list of changes of what the small world doesn't see
-  pub stands_fold : {A : Type 0} (w : Scene) (f : Serving → A → Serving) → ((s : Serving) (x : A) → At w s → At w (f s x)) → (s : Serving) (xs : List A) → At w s → At w (fold f s xs)
+  pub stands_fold : {A : Type 0} (w : Scene) (f : Serving → A → Serving) → ((s : Serving) (x : A) → At w s → At w (f s x)) → (s : Serving) (xs : List A)
+      → At w s → At w (fold f s xs)
   stands_fold w f one s [] h = h
   stands_fold w f one s (x ∷ xs) h = stands_fold w f one (f s x) xs (one s x h)

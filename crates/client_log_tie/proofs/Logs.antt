@@ -69,7 +69,8 @@ module _ (g : Setting) where
 
   own_seal : (s : LogState) → IsOwn g s → OwnAfter (on_seal s)
   unfolding on_seal
-  own_seal s h = by_test OwnAfter (is_idle s && nat_lt 0 (length s.dirty) && has_next s.end.seq) (sealed s) (still s) (λ e. own_sealed s h.log) (λ e. own_still s h)
+  own_seal s h =
+      by_test OwnAfter (is_idle s && nat_lt 0 (length s.dirty) && has_next s.end.seq) (sealed s) (still s) (λ e. own_sealed s h.log) (λ e. own_still s h)
 
   own_parts : (s : LogState) (items : List Item) → IsOwn g s → OwnAfter (on_parts s items)
   unfolding on_parts
@@ -92,9 +93,12 @@ module _ (g : Setting) where
   own_acked : (s : LogState) (name : SegName) (index generation : ℕ) → IsOwn g s → OwnAfter (on_acked s name index generation)
   unfolding on_acked
   own_acked s name index generation h =
-      elim s.flight as (λ o. IfSome o (λ f. f.segment.name.log ≡ g.log) → OwnAfter (elim o [ None ↦ still s | Some f ↦ cond (is_of f name index generation) (looked_at s s (noting f index)) (still s) ])) [
+      elim s.flight as
+      (λ o. IfSome o (λ f. f.segment.name.log ≡ g.log)
+      → OwnAfter (elim o [ None ↦ still s | Some f ↦ cond (is_of f name index generation) (looked_at s s (noting f index)) (still s) ])) [
         | None ↦ λ e. own_still s h
-        | Some f ↦ λ e. by_test OwnAfter (is_of f name index generation) (looked_at s s (noting f index)) (still s) (λ t. own_looked s s (noting f index) h h.log e) (λ t. own_still s h)
+        | Some f ↦ λ e. by_test OwnAfter (is_of f name index generation) (looked_at s s (noting f index)) (still s)
+            (λ t. own_looked s s (noting f index) h h.log e) (λ t. own_still s h)
       ] h.flight
 
   own_maps : (s : LogState) (groups : GroupMapState) → IsOwn g s → OwnAfter (on_maps s groups)
@@ -123,7 +127,9 @@ module _ (g : Setting) where
   pub foreign_acked : (s : LogState) (name : SegName) (index generation : ℕ) → IsOwn g s → is_of_log g name ≡ false → on_acked s name index generation ≡ still s
   unfolding on_acked
   foreign_acked s name index generation h other =
-      elim s.flight as (λ o. IfSome o (λ f. f.segment.name.log ≡ g.log) → elim o [ None ↦ still s | Some f ↦ cond (is_of f name index generation) (looked_at s s (noting f index)) (still s) ] ≡ still s) [
+      elim s.flight as
+      (λ o. IfSome o (λ f. f.segment.name.log ≡ g.log)
+      → elim o [ None ↦ still s | Some f ↦ cond (is_of f name index generation) (looked_at s s (noting f index)) (still s) ] ≡ still s) [
         | None ↦ λ e. refl
         | Some f ↦ λ e. by_test (λ d. d ≡ still s) (is_of f name index generation) (looked_at s s (noting f index)) (still s)
             (λ t. contrary (sym other ∙ subst (λ log. (name.log.0 == log.0) ≡ true) e (same_log f t))) (λ t. refl)
@@ -143,7 +149,8 @@ after_first s i [] = refl
 after_first s i (x ∷ later) = ap (λ z. (transition z x).state) (after_first s i later)
 
 pub written_after : (s : LogState) (i : Input) → StaysWritten s → InputFits i → StaysWritten (transition s i).state
-written_after s i h fits later all = subst (λ z. IfSome z.flight (λ f. IsWritten f.segment)) (sym (after_first s i later)) (h (later ++ i ∷ []) (appended later i all fits))
+written_after s i h fits later all =
+    subst (λ z. IfSome z.flight (λ f. IsWritten f.segment)) (sym (after_first s i later)) (h (later ++ i ∷ []) (appended later i all fits))
 
 pub writes_text : (s : LogState) (i : Input) → StaysWritten s → InputFits i → WritesText (transition s i)
 writes_text s i h fits = h (i ∷ []) (fits, tt)

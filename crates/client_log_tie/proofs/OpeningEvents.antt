@@ -73,7 +73,8 @@ use Rattle.client_log_tie.proofs.ScanSteps as scanning
 
 -- ---- where a chain can be gone on with, the small world can start the log
 
-starts_with : (g : Setting) (inc : ℕ) (d : scan.Done) (t : Told) (m : Option GroupMapState) → IfSome m (λ x. StaysWritten (started g.log inc t.end x)) → IfSome m (λ x. WritesText (first_write g inc t.end x))
+starts_with : (g : Setting) (inc : ℕ) (d : scan.Done) (t : Told) (m : Option GroupMapState) → IfSome m (λ x. StaysWritten (started g.log inc t.end x))
+    → IfSome m (λ x. WritesText (first_write g inc t.end x))
 starts_with g inc d t None h = tt
 starts_with g inc d t (Some m) h = writes_text (started g.log inc t.end m) (log_in.Parts []) h refl
 
@@ -113,7 +114,8 @@ pub record Awaited (table : ℕ → Question) (a : Asked) (ask : ℕ) (st : scan
   pub own : a.own ≡ ask
   pub number : table a.ask ≡ OfOpening ask
 
-module _ (g : Setting) (c : ℕ) (w : Scene) (a : Asked) (ask : ℕ) (m : Welcome) (some : a.own ≡ 0 → ⊥) (seen : AnsweredBy g (asker c w) w.net m (w.asked a.ask)) where
+module _ (g : Setting) (c : ℕ) (w : Scene) (a : Asked) (ask : ℕ) (m : Welcome) (some : a.own ≡ 0 → ⊥)
+    (seen : AnsweredBy g (asker c w) w.net m (w.asked a.ask)) where
   of_registry : (st : scan_stages.Stage) → scan.awaits_welcome st ≡ true → AsksRegistry w.asked a ask → Awaited w.asked a ask st
   of_registry st awaits h = record { awaits = awaits; own = h.own; number = h.number }
 
@@ -135,7 +137,8 @@ module _ (g : Setting) (c : ℕ) (w : Scene) (a : Asked) (ask : ℕ) (m : Welcom
   is_awaited (Reads b (Some r)) h = of_reading b r r.stage refl h.stage
   is_awaited Over h = of_servers Over h
 
-module _ (g : Setting) (c : ℕ) (small : is_log g.log.0 ≡ true) (w : Scene) (its life : ℕ) (q : Questions) (lasts : Lasts g c w its life q.last) (room : has_room q.last ≡ true) where
+module _ (g : Setting) (c : ℕ) (small : is_log g.log.0 ≡ true) (w : Scene) (its life : ℕ) (q : Questions) (lasts : Lasts g c w its life q.last)
+    (room : has_room q.last ≡ true) where
   abbrev Goes : Went → Type 0
   Goes x = WentTo g c w its life x
 
@@ -158,11 +161,13 @@ module _ (g : Setting) (c : ℕ) (small : is_log g.log.0 ≡ true) (w : Scene) (
   }
 
   -- it takes an input that came, where its client takes it so
-  scans_so : (k : Known) (s : Scanning) (i : Input) → w.net.owner ≡ owner.Opening s.scan → CameToScan g w.net i → ScanOwed g w.net s.scan → (h : Opens g c w its life k q s)
+  scans_so : (k : Known) (s : Scanning) (i : Input) → w.net.owner ≡ owner.Opening s.scan → CameToScan g w.net i → ScanOwed g w.net s.scan
+      → (h : Opens g c w its life k q s)
       → scanning.Takes g c w its life k q s h (scan.transition s.scan i) → Goes (scans_on k q s i)
   unfolding scans_on
   scans_so k s i is came owed h takes =
-      takes (owed.chain i came) (happen.Opens s.scan i is came (can_start g w.net.inc (scan.transition s.scan i) (chain_in (scan.transition s.scan i).outs) (owed.chain i came)))
+      takes (owed.chain i came)
+      (happen.Opens s.scan i is came (can_start g w.net.inc (scan.transition s.scan i) (chain_in (scan.transition s.scan i).outs) (owed.chain i came)))
 
   stood : (k : Known) (s : Scanning) (sees : SeesScan g c w k s q.last) → scanning.Stood g c w its life k q s (opens k s sees) s.scan.opening
   stood k s sees = record { groups = sees.groups; past = sees.past; some = sees.some }
@@ -178,7 +183,8 @@ module _ (g : Setting) (c : ℕ) (small : is_log g.log.0 ≡ true) (w : Scene) (
 
   -- what came is of the log, and servers say it
   told_at : (k : Known) (at : Stage) (i : Input) → Sees k at → CameToScan g w.net i
-      → ((s : Scanning) (h : Sees k (stage.Scanning s)) → scanning.Takes g c w its life k q s (opens k s h.sees) (scan.transition s.scan i)) → Goes (scans_at k q i at)
+      → ((s : Scanning) (h : Sees k (stage.Scanning s)) → scanning.Takes g c w its life k q s (opens k s h.sees) (scan.transition s.scan i))
+      → Goes (scans_at k q i at)
   told_at k (stage.Scanning s) i h came takes = scans_so k s i h.sees.owner came h.owed (opens k s h.sees) (takes s h)
   told_at k (stage.Settling s) i h came takes = rests_so k (stage.Settling s) h
 
@@ -189,12 +195,14 @@ module _ (g : Setting) (c : ℕ) (small : is_log g.log.0 ≡ true) (w : Scene) (
     got_takes : (fragment : _) (server ask generation : ℕ) (s : Scanning) (i : Sees o.known (stage.Scanning s))
         → scanning.Takes g c w its life o.known q s (opens o.known s i.sees) (scan.transition s.scan (input.Got ask server generation fragment))
     got_takes fragment server ask generation s i =
-        scanning.told_so g c w its life o.known q s (opens o.known s i.sees) s.scan.opening s.scan.stage ask server (round_told.Held fragment) (stood o.known s i.sees) i.sees.asks
+        scanning.told_so g c w its life o.known q s (opens o.known s i.sees) s.scan.opening s.scan.stage ask server (round_told.Held fragment)
+        (stood o.known s i.sees) i.sees.asks
 
     missing_takes : (server ask generation : ℕ) (s : Scanning) (i : Sees o.known (stage.Scanning s))
         → scanning.Takes g c w its life o.known q s (opens o.known s i.sees) (scan.transition s.scan (input.Missing ask server generation))
     missing_takes server ask generation s i =
-        scanning.told_so g c w its life o.known q s (opens o.known s i.sees) s.scan.opening s.scan.stage ask server (round_told.Missing generation) (stood o.known s i.sees) i.sees.asks
+        scanning.told_so g c w its life o.known q s (opens o.known s i.sees) s.scan.opening s.scan.stage ask server (round_told.Missing generation)
+        (stood o.known s i.sees) i.sees.asks
 
     found_by_so : (f : Found) (server : ℕ) (own : Option ℕ) → (is_of_log g f.fragment.meta.name ≡ true → In (FragmentSent f.fragment) w.net.sent)
         → Goes (answers o q (λ own. input.Got own server f.generation f.fragment) own)
@@ -232,14 +240,18 @@ module _ (g : Setting) (c : ℕ) (small : is_log g.log.0 ≡ true) (w : Scene) (
       (λ t.
       let log : (f.log.0 == o.known.owner.log.0) ≡ true = and_first (f.log.0 == o.known.owner.log.0) _ t in
       let inc : f.pass.inc ≡ w.net.inc = equal f.pass.inc o.known.owner.inc
-      (and_first (f.pass.inc == o.known.owner.inc) (f.pass.att == 0) (and_second (f.log.0 == o.known.owner.log.0) ((f.pass.inc == o.known.owner.inc) && (f.pass.att == 0)) t)) ∙ h.sees.inc in
+      (and_first (f.pass.inc == o.known.owner.inc) (f.pass.att == 0)
+      (and_second (f.log.0 == o.known.owner.log.0) ((f.pass.inc == o.known.owner.inc) && (f.pass.att == 0)) t)) ∙ h.sees.inc in
       scans_so o.known s i h.sees.owner
-      (subst (λ n. In (FencedSent v n f.generation f.held) w.net.sent) inc (seen (subst (λ (l : LogId). (f.log.0 == l.0) ≡ true) h.sees.log log))) h.owed (opens o.known s h.sees)
-      (scanning.fenced_so g c w its life o.known q s (opens o.known s h.sees) s.scan.opening s.scan.stage (record { server = v; generation = f.generation; held = f.held }) (stood o.known s h.sees)
+      (subst (λ n. In (FencedSent v n f.generation f.held) w.net.sent) inc (seen (subst (λ (l : LogId). (f.log.0 == l.0) ≡ true) h.sees.log log))) h.owed
+      (opens o.known s h.sees)
+      (scanning.fenced_so g c w its life o.known q s (opens o.known s h.sees) s.scan.opening s.scan.stage
+      (record { server = v; generation = f.generation; held = f.held }) (stood o.known s h.sees)
       h.sees.asks))
       (λ t. rests_so o.known (stage.Scanning s) h)
 
-  fenced_by_so : (o : Opening) (at : Stage) (f : Fenced) (v : ℕ) → Sees o.known at → FencedSeen g (asker c w) w.net (Server v) f → Goes (fenced_by (record o { stage = at }) q f v)
+  fenced_by_so : (o : Opening) (at : Stage) (f : Fenced) (v : ℕ) → Sees o.known at → FencedSeen g (asker c w) w.net (Server v) f
+      → Goes (fenced_by (record o { stage = at }) q f v)
   fenced_by_so o (stage.Scanning s) f v h seen = fenced_scan o s f v h seen
   fenced_by_so o (stage.Settling s) f v h seen =
       by_test (λ (x : Went). Goes x) (is_fenced (record o { stage = stage.Settling s }) f) (stays (at_log o.known s) q) (stays (at_log o.known s) q)
@@ -255,7 +267,8 @@ module _ (g : Setting) (c : ℕ) (small : is_log g.log.0 ≡ true) (w : Scene) (
 
   -- ---- the log of an opening
 
-  stored_so : (o : Opening) (m : Stored) → Sees o.known o.stage → (is_of_log g m.name ≡ true → In (StoredSent m.name m.index m.generation) w.net.sent) → Goes (on_stored o q m)
+  stored_so : (o : Opening) (m : Stored) → Sees o.known o.stage → (is_of_log g m.name ≡ true → In (StoredSent m.name m.index m.generation) w.net.sent)
+      → Goes (on_stored o q m)
   unfolding on_stored
   stored_so o m h seen = by_stage o.stage h
     where
@@ -292,16 +305,20 @@ module _ (g : Setting) (c : ℕ) (small : is_log g.log.0 ≡ true) (w : Scene) (
         number = h.sees.number;
       } in
       scans_so j s (input.Maps m) h.sees.owner came h.owed i
-      (scanning.maps_so g c w its life j q s i (record s.scan.opening { groups = Some m }) s.scan.stage (record { groups = is; past = h.sees.past; some = h.sees.some }) h.sees.asks)
+      (scanning.maps_so g c w its life j q s i (record s.scan.opening { groups = Some m }) s.scan.stage
+      (record { groups = is; past = h.sees.past; some = h.sees.some }) h.sees.asks)
   regrouped_so k (stage.Settling s) maps m h is came fits_so =
       writing.maps_so g c w its life (record k { maps = maps }) q s lasts
-      (record { owner = h.sees.owner; log = h.sees.log; own = h.sees.own; clear = h.sees.clear; flight = h.sees.flight; flies = h.sees.flies }) h.written m came fits_so
+      (record { owner = h.sees.owner; log = h.sees.log; own = h.sees.own; clear = h.sees.clear; flight = h.sees.flight; flies = h.sees.flies })
+      h.written m came fits_so
 
   news_so : (o : Opening) (news : News) → Sees o.known o.stage → In (MapSent news.groups) w.net.sent → MapFits news.groups → Goes (on_news o q news)
   unfolding on_news
   news_so o news h came fits_so =
-      by_test (λ (x : Went). Goes x) (fits o.known.maps news && is_older o.known.maps news) (regrouped (record o.known { maps = taken o.known.maps news }) q news.groups o.stage) (drops o q)
-      (λ t. regrouped_so o.known o.stage (taken o.known.maps news) news.groups h (newer (and_second (fits o.known.maps news) (is_older o.known.maps news) t)) came fits_so)
+      by_test (λ (x : Went). Goes x) (fits o.known.maps news && is_older o.known.maps news)
+      (regrouped (record o.known { maps = taken o.known.maps news }) q news.groups o.stage) (drops o q)
+      (λ t. regrouped_so o.known o.stage (taken o.known.maps news) news.groups h
+      (newer (and_second (fits o.known.maps news) (is_older o.known.maps news) t)) came fits_so)
       (λ t. dropped o h)
     where
       newer : is_older o.known.maps news ≡ true → (taken o.known.maps news).groups ≡ Some news.groups
@@ -311,9 +328,11 @@ module _ (g : Setting) (c : ℕ) (small : is_log g.log.0 ≡ true) (w : Scene) (
 
   module _ (k : Known) (s : Scanning) (m : Welcome) (h : Sees k (stage.Scanning s)) (seen : WelcomeSeen g (asker c w) w.net (Client c) m) where
     -- with these maps
-    hears_so : (maps : Maps) (groups : GroupMapState) → maps.groups ≡ Some groups → In (MapSent groups) w.net.sent → m.inc ≡ w.net.inc → Awaited w.asked s.asked s.scan.opening.ask s.scan.stage
+    hears_so : (maps : Maps) (groups : GroupMapState) → maps.groups ≡ Some groups → In (MapSent groups) w.net.sent → m.inc ≡ w.net.inc
+        → Awaited w.asked s.asked s.scan.opening.ask s.scan.stage
         → In (WelcomeSent m.inc s.scan.opening.ask m.news.slots m.news.groups) w.net.sent
-        → Goes (scans_on (record k { maps = maps; promised = promised_in m.news.slots }) q (record s { asked = nothing_asked }) (input.Welcome s.asked.own m.news.slots groups))
+        → Goes (scans_on (record k { maps = maps; promised = promised_in m.news.slots }) q (record s { asked = nothing_asked })
+        (input.Welcome s.asked.own m.news.slots groups))
     hears_so maps groups is came inc awaited sent =
         let j : Known = record k { maps = maps; promised = promised_in m.news.slots } in
         let r : Scanning = record s { asked = nothing_asked } in
@@ -354,7 +373,8 @@ module _ (g : Setting) (c : ℕ) (small : is_log g.log.0 ≡ true) (w : Scene) (
         let same : m.ask ≡ s.asked.ask = equal m.ask s.asked.ask (and_second (not (s.asked.own == 0)) (m.ask == s.asked.ask) t) in
         let told : AnsweredBy g (asker c w) w.net m (w.asked s.asked.ask) = subst (λ n. AnsweredBy g (asker c w) w.net m (w.asked n)) same (seen.own refl) in
         let awaited : Awaited w.asked s.asked s.scan.opening.ask s.scan.stage =
-        is_awaited g c w s.asked s.scan.opening.ask m (some s.asked.own (and_first (not (s.asked.own == 0)) (m.ask == s.asked.ask) t)) told s.scan.stage h.sees.asks in
+        is_awaited g c w s.asked s.scan.opening.ask m
+        (some s.asked.own (and_first (not (s.asked.own == 0)) (m.ask == s.asked.ask) t)) told s.scan.stage h.sees.asks in
         taken_so inc awaited (subst (AnsweredBy g (asker c w) w.net m) awaited.number told)
       where
         some : (n : ℕ) → not (n == 0) ≡ true → n ≡ 0 → ⊥
@@ -364,7 +384,8 @@ module _ (g : Setting) (c : ℕ) (small : is_log g.log.0 ≡ true) (w : Scene) (
     welcome_scan =
         by_test (λ (x : Went). Goes x) (is_meant k m) (welcomed_as k q s m.news (own_of s.asked m.ask)) (stays (at_scan k s) q)
         (λ t. by_test (λ x. Goes (welcomed_as k q s m.news x)) (not (s.asked.own == 0) && (m.ask == s.asked.ask)) (Some s.asked.own) None
-        (λ u. answered_so (equal m.inc k.owner.inc (and_first (m.inc == k.owner.inc) (fits k.maps m.news) t) ∙ h.sees.inc) u) (λ u. rests_so k (stage.Scanning s) h))
+        (λ u. answered_so (equal m.inc k.owner.inc (and_first (m.inc == k.owner.inc) (fits k.maps m.news) t) ∙ h.sees.inc) u)
+        (λ u. rests_so k (stage.Scanning s) h))
         (λ t. rests_so k (stage.Scanning s) h)
 
   welcome_so : (o : Opening) (m : Welcome) → Sees o.known o.stage → WelcomeSeen g (asker c w) w.net (Client c) m → Goes (on_welcome o q m)
@@ -377,7 +398,8 @@ module _ (g : Setting) (c : ℕ) (small : is_log g.log.0 ≡ true) (w : Scene) (
 
   -- ---- a packet
 
-  body_so : (o : Opening) (from to : NodeId) (b : Body) → to ≡ Client c → BodySeen g (asker c w) w.net from to b → BodyFits b → Sees o.known o.stage → Goes (on_body o q from b)
+  body_so : (o : Opening) (from to : NodeId) (b : Body) → to ≡ Client c → BodySeen g (asker c w) w.net from to b → BodyFits b → Sees o.known o.stage
+      → Goes (on_body o q from b)
   unfolding on_body
   body_so o from to (body.Welcome m) own seen fit h = welcome_so o m h (subst (λ to. WelcomeSeen g (asker c w) w.net to m) own seen)
   body_so o from to (body.MapNews m) own seen fit h = news_so o m h seen fit
@@ -412,14 +434,16 @@ module _ (g : Setting) (c : ℕ) (small : is_log g.log.0 ≡ true) (w : Scene) (
         lost = λ l. refl;
       }
     where
-      by_stage : (at : Stage) → SeesStage g c w o.known q.last at → SeesStage g c (record { net = w.net; asked = put w.asked (next_ask q) OfMaps }) o.known (next_ask q) at
+      by_stage : (at : Stage) → SeesStage g c w o.known q.last at
+          → SeesStage g c (record { net = w.net; asked = put w.asked (next_ask q) OfMaps }) o.known (next_ask q) at
       by_stage (stage.Scanning s) sees = record {
         owner = sees.owner;
         log = sees.log;
         inc = sees.inc;
         groups = sees.groups;
         came = still_came o.known.maps.groups sees.came;
-        asks = at_on w.asked (put w.asked (next_ask q) OfMaps) s.asked s.scan.opening.ask (put_below w.asked (next_ask q) OfMaps s.asked.ask (let a = sees.number in let b = ask_rises q room in omega arith)) s.scan.stage
+        asks = at_on w.asked (put w.asked (next_ask q) OfMaps) s.asked s.scan.opening.ask
+            (put_below w.asked (next_ask q) OfMaps s.asked.ask (let a = sees.number in let b = ask_rises q room in omega arith)) s.scan.stage
             sees.asks;
         past = sees.past;
         some = sees.some;
@@ -429,10 +453,13 @@ module _ (g : Setting) (c : ℕ) (small : is_log g.log.0 ≡ true) (w : Scene) (
           still_came : (mo : Option GroupMapState) → MapCame g c w mo → MapCame g c (record { net = w.net; asked = put w.asked (next_ask q) OfMaps }) mo
           still_came None came = tt
           still_came (Some m) came = came
-      by_stage (stage.Settling s) sees = record { owner = sees.owner; log = sees.log; own = sees.own; clear = sees.clear; flight = sees.flight; flies = sees.flies }
+      by_stage (stage.Settling s) sees =
+          record { owner = sees.owner; log = sees.log; own = sees.own; clear = sees.clear; flight = sees.flight; flies = sees.flies }
 
-  pub packet_so : (o : Opening) (p : packets.Packet) → p.to ≡ Client c → BodySeen g (asker c w) w.net p.from p.to p.body → BodyFits p.body → Sees o.known o.stage → Goes (on_packet o q p)
+  pub packet_so : (o : Opening) (p : packets.Packet) → p.to ≡ Client c → BodySeen g (asker c w) w.net p.from p.to p.body → BodyFits p.body
+      → Sees o.known o.stage → Goes (on_packet o q p)
   unfolding on_packet
   packet_so o p own seen fit h =
-      by_test (λ (x : Went). Goes x) (names_known o.known.maps p.body) (on_body o q p.from p.body) (went (progress.Opening o) (drawn q) (hello o.known.owner.inc (next_ask q) ∷ []))
+      by_test (λ (x : Went). Goes x) (names_known o.known.maps p.body) (on_body o q p.from p.body)
+      (went (progress.Opening o) (drawn q) (hello o.known.owner.inc (next_ask q) ∷ []))
       (λ t. body_so o p.from p.to p.body own seen fit h) (λ t. asks_so o h)

@@ -99,9 +99,11 @@ module _ (g : Setting) (c : ℕ) where
       (said_seen v before outs (λ p is. sent p (inr is)) mine.1)
   said_seen v before (Settled end rows ∷ outs) sent mine = said_seen v (Some end) outs sent mine.1
 
-  chain_seen : (v : Scene) (chain : List Segment) → ((name : SegName) → In name (names_of chain) → In name v.net.filed) → All (ClientDoes g c v) (map filed chain)
+  chain_seen : (v : Scene) (chain : List Segment) → ((name : SegName) → In name (names_of chain) → In name v.net.filed)
+      → All (ClientDoes g c v) (map filed chain)
   chain_seen v [] within = All-nil (ClientDoes g c v)
-  chain_seen v (s ∷ chain) within = All-cons (ClientDoes g c v) (filed s) (map filed chain) (within _ (inl refl)) (chain_seen v chain (λ name is. within name (inr is)))
+  chain_seen v (s ∷ chain) within =
+      All-cons (ClientDoes g c v) (filed s) (map filed chain) (within _ (inl refl)) (chain_seen v chain (λ name is. within name (inr is)))
 
   module _ (w : Scene) (its life : ℕ) (k : Known) (q : Questions) (s : Settling) (log_is : k.owner.log ≡ g.log) (d : log.Done) where
     abbrev then_is : Settling
@@ -143,7 +145,8 @@ module _ (g : Setting) (c : ℕ) where
 
   -- ---- the events
 
-  module _ (w : Scene) (its life : ℕ) (k : Known) (q : Questions) (s : Settling) (lasts : Lasts g c w its life q.last) (sees : SeesWriting g c w k s) (fits : StaysWritten s.log) where
+  module _ (w : Scene) (its life : ℕ) (k : Known) (q : Questions) (s : Settling) (lasts : Lasts g c w its life q.last) (sees : SeesWriting g c w k s)
+      (fits : StaysWritten s.log) where
     abbrev chain : List Segment
     chain = s.chain
 
@@ -180,7 +183,8 @@ module _ (g : Setting) (c : ℕ) where
           grown = record {
             runs = On Begun (subst (λ (o : Option FlightState). Happens g w.net (after_flight g w.net chain (log.transition s.log i) o)) down.landed happens);
             sent = λ p is. in_after (log_packets (log.transition s.log i).outs) w.net.sent p is;
-            filed = λ name is. in_after (log_filed g.log (log.transition s.log i).outs) (names_of chain ++ w.net.filed) name (in_after (names_of chain) w.net.filed name is);
+            filed = λ name is. in_after (log_filed g.log (log.transition s.log i).outs) (names_of chain ++ w.net.filed) name
+                (in_after (names_of chain) w.net.filed name is);
             shelves = refl;
             registry = refl;
             low = refl;
@@ -196,7 +200,8 @@ module _ (g : Setting) (c : ℕ) where
           shows = inr (record {
             owner = refl;
             lands = down;
-            filed = λ name is. in_after (log_filed g.log (log.transition s.log i).outs) (names_of chain ++ w.net.filed) name (in_before (names_of chain) w.net.filed name is);
+            filed = λ name is. in_after (log_filed g.log (log.transition s.log i).outs) (names_of chain ++ w.net.filed) name
+                (in_before (names_of chain) w.net.filed name is);
           });
         }
 
@@ -220,7 +225,8 @@ module _ (g : Setting) (c : ℕ) where
 
     pub maps_so : (m : GroupMapState) → In (MapSent m) w.net.sent → MapFits m → WentTo w its life (asking q (writes k s (log_in.Maps m)))
     maps_so m came small =
-        writes_so (log_in.Maps m) (flew (log_in.Maps m) (Writes chain s.log (log_in.Maps m) sees.owner came (writes_text s.log (log_in.Maps m) fits small)) small
+        writes_so (log_in.Maps m)
+        (flew (log_in.Maps m) (Writes chain s.log (log_in.Maps m) sees.owner came (writes_text s.log (log_in.Maps m) fits small)) small
         (maps_turn s.log sees.flight sees.clear sees.flies m))
 
     pub tick_so : WentTo w its life (asking q (writes k s log_in.Tick))

@@ -76,7 +76,8 @@ not_full s clear = ap (λ xs. nat_le segment_blocks (length xs)) clear
 settled_lands : (s : LogState) (f : FlightState) → s.dirty ≡ [] → Lands (settled s f)
 unfolding settled if_full wrote_one
 settled_lands s f clear =
-    subst (λ b. Lands (after (Settled (end_from f.segment) (rows_of f.segment) ∷ []) (cond b (sealed (landed s f)) (still (landed s f))))) (sym (not_full s clear))
+    subst (λ b. Lands (after (Settled (end_from f.segment) (rows_of f.segment) ∷ []) (cond b (sealed (landed s f)) (still (landed s f)))))
+    (sym (not_full s clear))
     (record { end = end_from f.segment; told = refl; rows = rows_of f.segment; outs = refl; landed = refl })
 
 module _ (s : LogState) (f : FlightState) (clear : s.dirty ≡ []) where
@@ -88,7 +89,8 @@ module _ (s : LogState) (f : FlightState) (clear : s.dirty ≡ []) where
 
   looks_on : (before : LogState) → Turns (still before) → Turns (looked_at before s f)
   unfolding looked_at
-  looks_on before h = by_test Turns (can_follow s f (fate_of s.groups f)) (followed s f (fate_of s.groups f)) (still before) (λ t. follows_on (fate_of s.groups f)) (λ t. h)
+  looks_on before h =
+      by_test Turns (can_follow s f (fate_of s.groups f)) (followed s f (fate_of s.groups f)) (still before) (λ t. follows_on (fate_of s.groups f)) (λ t. h)
 
 module _ (s : LogState) (f : FlightState) (clear : s.dirty ≡ []) (is : s.flight ≡ Some f) where
   pub rests : Turns (still s)

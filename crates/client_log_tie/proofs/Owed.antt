@@ -53,7 +53,8 @@ module _ (g : Setting) (c : ℕ) (small : is_log g.log.0 ≡ true) (w : Scene) w
   came_fits maps None came = tt
   came_fits maps (Some m) came = maps m came
 
-  module _ (k : Known) (s : Scanning) (last : ℕ) (inc : w.net.inc < 2 ^ 32) (sees : SeesScan g c w k s last) (few : ScanAsks s last) (tells : ScanTells g w.net s.scan) where
+  module _ (k : Known) (s : Scanning) (last : ℕ) (inc : w.net.inc < 2 ^ 32) (sees : SeesScan g c w k s last) (few : ScanAsks s last)
+      (tells : ScanTells g w.net s.scan) where
     had : AllFit s.scan.opening.groups
     had = subst AllFit sees.groups (came_fits tells.maps k.maps.groups sees.came)
 
@@ -76,8 +77,11 @@ module _ (g : Setting) (c : ℕ) (small : is_log g.log.0 ≡ true) (w : Scene) w
       where
         by_told : (told : Option Told) → IfSome told (λ t. GoesOn t.end) → IfSome told (StartFits g w.net.inc (scan.transition s.scan i))
         by_told None on = tt
-        by_told (Some t) on =
-            (on.0, starts_so t.end on (scan.transition s.scan i).state.opening.groups (then_fit i came (scan.transition s.scan i).state.opening.groups (groups_come s.scan i few.reads)))
+        by_told (Some t) on = (
+          on.0,
+          starts_so t.end on (scan.transition s.scan i).state.opening.groups
+              (then_fit i came (scan.transition s.scan i).state.opening.groups (groups_come s.scan i few.reads)),
+        )
 
   pub owed_so : (k : Known) (at : Stage) (last : ℕ) → w.net.inc < 2 ^ 32 → has_room last ≡ true → SeesStage g c w k last at → StageAsks at last
       → StageTells g w.net at

@@ -85,7 +85,8 @@ module _ (g : Setting) (c : ℕ) where
     abbrev on : scan.Done → (ℕ → Question) → Scene
     on d t = record { net = scans_on w.net s.scan d; asked = t }
 
-    on_grown : (d : scan.Done) (t : ℕ → Question) → ((j : ℕ) → (w.asked j ≡ Unasked → ⊥) → t j ≡ w.asked j) → Happens g w.net (scans_on w.net s.scan d) → Grown g w (on d t)
+    on_grown : (d : scan.Done) (t : ℕ → Question) → ((j : ℕ) → (w.asked j ≡ Unasked → ⊥) → t j ≡ w.asked j) → Happens g w.net (scans_on w.net s.scan d)
+        → Grown g w (on d t)
     on_grown d t keeps happens = record {
       runs = On Begun happens;
       sent = λ p among. in_after (scan_packets w.net.inc d.outs) w.net.sent p among;
@@ -102,7 +103,8 @@ module _ (g : Setting) (c : ℕ) where
 
     -- ---- nothing is said
 
-    pub quiet_goes : (o : Opening) (st : Stage) → k.maps.groups ≡ o.groups → AsksAt w.asked s.asked o.ask st → s.asked.own ≤ o.ask → 0 < o.ask → Takes (scan.goes o st [])
+    pub quiet_goes : (o : Opening) (st : Stage) → k.maps.groups ≡ o.groups → AsksAt w.asked s.asked o.ask st → s.asked.own ≤ o.ask → 0 < o.ask
+        → Takes (scan.goes o st [])
     unfolding follows
     quiet_goes o st groups asks past some fits happens = record {
       next = on (scan.goes o st []) w.asked;
@@ -177,7 +179,8 @@ module _ (g : Setting) (c : ℕ) where
     said_rests most low a p (Hello own ∷ outs) all r = absurd all.0
     said_rests most low a p (Fence server ∷ outs) all r = (let i = said_rests most low a p outs all.1 r in record { none = i.none; rests = i.rests })
     said_rests most low a p (Fetch server name own ∷ outs) all r =
-        let i = said_rests most low (asked_as a p own) (drawn_for a p own) outs all.1 (numbered_rests most a p own all.0 r) in record { none = i.none; rests = i.rests }
+        let i = said_rests most low (asked_as a p own) (drawn_for a p own) outs all.1 (numbered_rests most a p own all.0 r) in
+        record { none = i.none; rests = i.rests }
     said_rests most low a p (Chain segments end prior ∷ outs) all r = absurd all.0
     said_rests most low a p (Lost name ∷ outs) all r = absurd all.0
 
@@ -196,18 +199,22 @@ module _ (g : Setting) (c : ℕ) where
     rest_seen v most low a p (Chain segments end prior ∷ outs) all sent = absurd all.0
     rest_seen v most low a p (Lost name ∷ outs) all sent = absurd all.0
 
-    pub rest_goes : (o : Opening) (st : Stage) (outs : List Out) → AllByRecursion (IsRest o.ask) outs → k.maps.groups ≡ o.groups → AsksServers w.asked s.asked o.ask
+    pub rest_goes : (o : Opening) (st : Stage) (outs : List Out) → AllByRecursion (IsRest o.ask) outs → k.maps.groups ≡ o.groups
+        → AsksServers w.asked s.asked o.ask
         → ((a : Asked) → AsksServers w.asked a o.ask → AsksAt w.asked a o.ask st) → s.asked.own ≤ o.ask → 0 < o.ask → Takes (scan.goes o st outs)
     unfolding follows
     rest_goes o st outs rest groups asks servers past some fits happens =
         let d : scan.Done = scan.goes o st outs in
         let r = scanned k.owner o.low s.asked q outs in
-        let x : Rested o.ask o.low s.asked q outs = said_rests o.ask o.low s.asked q outs rest (record { asks = asks; past = past; number = h.number; more = omega arith }) in
+        let x : Rested o.ask o.low s.asked q outs =
+        said_rests o.ask o.low s.asked q outs rest (record { asks = asks; past = past; number = h.number; more = omega arith }) in
         let v : Scene = on d w.asked in
-        subst (λ e. WentTo g c w its life (asking r.state.questions (after r.outs (follows k (record { scan = d.state; asked = r.state.asked }) e)))) (sym x.none)
+        subst (λ e. WentTo g c w its life (asking r.state.questions (after r.outs (follows k (record { scan = d.state; asked = r.state.asked }) e))))
+        (sym x.none)
         (record {
           next = v;
-          grown = on_grown d w.asked (λ j some. refl) (subst (λ (t : Option Told). Happens g w.net (after_told g w.net s.scan d t o.groups)) (rest_tells_none o.ask outs rest) happens);
+          grown = on_grown d w.asked (λ j some. refl)
+              (subst (λ (t : Option Told). Happens g w.net (after_told g w.net s.scan d t o.groups)) (rest_tells_none o.ask outs rest) happens);
           lasts = record { number = h.lasts.number; inc = h.lasts.inc; fresh = λ j later. h.lasts.fresh j (let y = x.rests.more in omega arith) };
           shows = (
             record {
@@ -223,7 +230,9 @@ module _ (g : Setting) (c : ℕ) where
             },
             tt,
           );
-          does = All-append (ClientDoes g c v) r.outs [] (rest_seen v o.ask o.low s.asked q outs rest (λ p among. in_before (scan_packets w.net.inc outs) w.net.sent p among)) (All-nil (ClientDoes g c v));
+          does = All-append (ClientDoes g c v) r.outs []
+              (rest_seen v o.ask o.low s.asked q outs rest (λ p among. in_before (scan_packets w.net.inc outs) w.net.sent p among))
+              (All-nil (ClientDoes g c v));
           lost = λ l. refl;
         })
 
@@ -233,7 +242,9 @@ module _ (g : Setting) (c : ℕ) where
     greets : (o : Opening) (st : Stage) (number : ℕ) (next : Questions) (t : ℕ → Question) → k.maps.groups ≡ o.groups → 0 < o.ask
         → AsksAt t (record { own = o.ask; ask = number }) o.ask st → ((j : ℕ) → (w.asked j ≡ Unasked → ⊥) → t j ≡ w.asked j) → t number ≡ OfOpening o.ask
         → ((j : ℕ) → next.last < j → t j ≡ Unasked) → number ≤ next.last → Happens g w.net (scans_on w.net s.scan (scan.goes o st (Hello o.ask ∷ [])))
-        → WentTo g c w its life (asking next (after (hello k.owner.inc number ∷ []) (still (at_scan k (record { scan = record { opening = o; stage = st }; asked = record { own = o.ask; ask = number } })))))
+        → WentTo g c w its life
+        (asking next (after (hello k.owner.inc number ∷ [])
+        (still (at_scan k (record { scan = record { opening = o; stage = st }; asked = record { own = o.ask; ask = number } })))))
     greets o st number next t groups some asks keeps here fresh low happens =
         let d : scan.Done = scan.goes o st (Hello o.ask ∷ []) in
         let v : Scene = on d t in
@@ -257,7 +268,8 @@ module _ (g : Setting) (c : ℕ) where
           );
           does = All-cons (ClientDoes g c v) (hello k.owner.inc number) []
               (record {
-                own = λ e. subst (AskedBy g (asker c v) v.net k.owner.inc) (sym here) (subst (λ inc. In (HelloSent inc o.ask) v.net.sent) (sym h.inc) (inl refl));
+                own = λ e. subst (AskedBy g (asker c v) v.net k.owner.inc) (sym here)
+                    (subst (λ inc. In (HelloSent inc o.ask) v.net.sent) (sym h.inc) (inl refl));
                 reached = tt;
               })
               (All-nil (ClientDoes g c v));
@@ -269,9 +281,13 @@ module _ (g : Setting) (c : ℕ) where
     unfolding follows said
     hello_goes o st groups some again registry fits happens =
         by_outcome
-        (λ b. WentTo g c w its life (asking (cond b q (drawn q)) (after (hello k.owner.inc (cond b s.asked.ask (next_ask q)) ∷ []) (still (at_scan k (record { scan = record { opening = o; stage = st }; asked = record { own = o.ask; ask = cond b s.asked.ask (next_ask q) } }))))))
+        (λ b. WentTo g c w its life
+        (asking (cond b q (drawn q))
+        (after (hello k.owner.inc (cond b s.asked.ask (next_ask q)) ∷ [])
+        (still (at_scan k (record { scan = record { opening = o; stage = st }; asked = record { own = o.ask; ask = cond b s.asked.ask (next_ask q) } }))))))
         (o.ask == s.asked.own)
-        (λ t. greets o st s.asked.ask q w.asked groups some (registry w.asked (record { own = o.ask; ask = s.asked.ask }) (record { own = refl; number = again t })) (λ j some. refl) (again t) h.lasts.fresh
+        (λ t. greets o st s.asked.ask q w.asked groups some
+        (registry w.asked (record { own = o.ask; ask = s.asked.ask }) (record { own = refl; number = again t })) (λ j some. refl) (again t) h.lasts.fresh
         h.number happens)
         (λ t.
         let rises : q.last < next_ask q = ask_rises q h.room in
@@ -304,7 +320,8 @@ module _ (g : Setting) (c : ℕ) where
       told = record { segments = segments; end = end }
 
       -- the log starts behind it
-      module _ (m : GroupMapState) (next : log.has_next end.seq ≡ true) (written : StaysWritten (started g.log w.net.inc end m)) (happens : Happens g w.net (after_told g w.net s.scan d (Some told) (Some m))) where
+      module _ (m : GroupMapState) (next : log.has_next end.seq ≡ true) (written : StaysWritten (started g.log w.net.inc end m))
+          (happens : Happens g w.net (after_told g w.net s.scan d (Some told) (Some m))) where
         abbrev first : log.Done
         first = first_write g w.net.inc end m
 
@@ -338,13 +355,18 @@ module _ (g : Setting) (c : ℕ) where
 
         starts : WentTo g c w its life (asking q (writes k (behind k (record { segments = segments; end = end; low = o.low }) m) (log_in.Parts [])))
         unfolding writes
-        starts = subst (λ inc. Went_from k.owner.log inc) (sym h.inc) (subst (λ id. Went_from id w.net.inc) (sym h.log) (went_so g c w its life k q (begun g.log w.net.inc) h.log first flew))
+        starts = subst (λ inc. Went_from k.owner.log inc) (sym h.inc)
+            (subst (λ id. Went_from id w.net.inc) (sym h.log) (went_so g c w its life k q (begun g.log w.net.inc) h.log first flew))
 
         goes_behind : (x : Scanning) → WentTo g c w its life (asking q (starts_log k x (record { segments = segments; end = end; low = o.low }) m))
-        goes_behind x = subst (λ b. WentTo g c w its life (asking q (cond b (writes k (behind k (record { segments = segments; end = end; low = o.low }) m) (log_in.Parts [])) (still (at_scan k x))))) (sym h.small) starts
+        goes_behind x =
+            subst (λ b. WentTo g c w its life
+            (asking q (cond b (writes k (behind k (record { segments = segments; end = end; low = o.low }) m) (log_in.Parts [])) (still (at_scan k x)))))
+            (sym h.small) starts
 
       -- no groups are known: the scan stands still
-      rests_over : (x : Option GroupMapState) → k.maps.groups ≡ o.groups → AsksServers w.asked s.asked o.ask → s.asked.own ≤ o.ask → 0 < o.ask → Happens g w.net (scans_on w.net s.scan d)
+      rests_over : (x : Option GroupMapState) → k.maps.groups ≡ o.groups → AsksServers w.asked s.asked o.ask → s.asked.own ≤ o.ask → 0 < o.ask
+          → Happens g w.net (scans_on w.net s.scan d)
           → WentTo g c w its life (asking q (still (at_scan k (record { scan = d.state; asked = s.asked }))))
       rests_over x groups asks past some happens = record {
         next = on d w.asked;
@@ -372,11 +394,17 @@ module _ (g : Setting) (c : ℕ) where
       unfolding follows said
       chain_goes groups asks past some fits happens = by_groups o.groups refl fits.1 happens
         where
-          by_groups : (mo : Option GroupMapState) → o.groups ≡ mo → IfSome mo (λ m. StaysWritten (started g.log w.net.inc end m)) → Happens g w.net (after_told g w.net s.scan d (Some told) mo)
-              → WentTo g c w its life (asking q (settles_over k (record { scan = d.state; asked = s.asked }) (record { segments = segments; end = end; low = o.low }) k.maps.groups))
+          by_groups : (mo : Option GroupMapState) → o.groups ≡ mo → IfSome mo (λ m. StaysWritten (started g.log w.net.inc end m))
+              → Happens g w.net (after_told g w.net s.scan d (Some told) mo)
+              → WentTo g c w its life
+              (asking q (settles_over k (record { scan = d.state; asked = s.asked }) (record { segments = segments; end = end; low = o.low }) k.maps.groups))
           by_groups None at written happens =
-              subst (λ mo. WentTo g c w its life (asking q (settles_over k (record { scan = d.state; asked = s.asked }) (record { segments = segments; end = end; low = o.low }) mo))) (sym (groups ∙ at))
+              subst (λ mo. WentTo g c w its life
+              (asking q (settles_over k (record { scan = d.state; asked = s.asked }) (record { segments = segments; end = end; low = o.low }) mo)))
+              (sym (groups ∙ at))
               (rests_over None groups asks past some happens)
           by_groups (Some m) at written happens =
-              subst (λ mo. WentTo g c w its life (asking q (settles_over k (record { scan = d.state; asked = s.asked }) (record { segments = segments; end = end; low = o.low }) mo))) (sym (groups ∙ at))
+              subst (λ mo. WentTo g c w its life
+              (asking q (settles_over k (record { scan = d.state; asked = s.asked }) (record { segments = segments; end = end; low = o.low }) mo)))
+              (sym (groups ∙ at))
               (goes_behind m fits.0 written happens (record { scan = d.state; asked = s.asked }))

@@ -59,7 +59,8 @@ module _ (g : Setting) (c : ℕ) (w : Scene) (its life : ℕ) (k : Known) (q : Q
 
   -- ---- the registry is asked anew
 
-  anew : (o : Opening) (st : Stage) → Stood o → ((t : ℕ → Question) (a : Asked) → AsksRegistry t a (o.ask + 1) → AsksAt t a (o.ask + 1) st) → Takes (scan.asks_anew o st)
+  anew : (o : Opening) (st : Stage) → Stood o → ((t : ℕ → Question) (a : Asked) → AsksRegistry t a (o.ask + 1) → AsksAt t a (o.ask + 1) st)
+      → Takes (scan.asks_anew o st)
   anew o st at registry =
       says.hello_goes g c w its life k q s h (scan.drawn o) st at.groups (omega arith) (λ t. absurd (not_above s.asked.own o.ask t at.past)) registry
 
@@ -71,7 +72,8 @@ module _ (g : Setting) (c : ℕ) (w : Scene) (its life : ℕ) (k : Known) (q : Q
   all_fetch r most (server ∷ servers) small = (small, all_fetch r most servers small)
 
   -- a round is on
-  fetches_go : (o : Opening) (b : Backward) (r : ReadingState) → Stood o → Servers o.ask → r.stage ≡ reading.Asking → r.ask ≤ o.ask → Takes (scan.goes o (Reads b (Some r)) (scan.fetches r))
+  fetches_go : (o : Opening) (b : Backward) (r : ReadingState) → Stood o → Servers o.ask → r.stage ≡ reading.Asking → r.ask ≤ o.ask
+      → Takes (scan.goes o (Reads b (Some r)) (scan.fetches r))
   fetches_go o b r at asks asking small =
       says.rest_goes g c w its life k q s h o (Reads b (Some r)) (scan.fetches r) (all_fetch r o.ask (to_ask r) small) at.groups asks
       (λ a servers. record { stage = subst (AsksIn w.asked a o.ask) (sym asking) servers; past = small }) at.past at.some
@@ -101,12 +103,14 @@ module _ (g : Setting) (c : ℕ) (w : Scene) (its life : ℕ) (k : Known) (q : Q
   stays_so o st at asks = says.quiet_goes g c w its life k q s h o st at.groups asks at.past at.some
 
   -- a round that ended: the registry is asked
-  ends_so : (o : Opening) (b : Backward) (r : ReadingState) (pairs : List (ℕ × ℕ)) → Stood o → r.ask ≤ o.ask → Takes (scan.goes_on o b (ends r pairs).state next.Again)
+  ends_so : (o : Opening) (b : Backward) (r : ReadingState) (pairs : List (ℕ × ℕ)) → Stood o → r.ask ≤ o.ask
+      → Takes (scan.goes_on o b (ends r pairs).state next.Again)
   unfolding scan.goes_on
   ends_so o b r pairs at small =
       anew o (Reads b (Some (ends r pairs).state)) at
       (λ t a registry. record {
-        stage = by_test (λ (x : readings.Stage). AsksIn t a (o.ask + 1) x) (are_gone r.round.parity r.kept pairs) reading.Doubted reading.Between (λ e. registry) (λ e. registry);
+        stage = by_test (λ (x : readings.Stage). AsksIn t a (o.ask + 1) x) (are_gone r.round.parity r.kept pairs) reading.Doubted reading.Between
+            (λ e. registry) (λ e. registry);
         past = omega arith;
       })
 
@@ -116,7 +120,8 @@ module _ (g : Setting) (c : ℕ) (w : Scene) (its life : ℕ) (k : Known) (q : Q
   read_so o b r (Some segment) at asks small = follows_so o (scan.with_segment b segment) at asks
   read_so o b r None at asks small = ends_so o b r [] at small
 
-  judged_so : (o : Opening) (b : Backward) (r : ReadingState) (groups : GroupMapState) (x : RoundState) → Stood o → Servers o.ask → r.stage ≡ reading.Asking → r.ask ≤ o.ask
+  judged_so : (o : Opening) (b : Backward) (r : ReadingState) (groups : GroupMapState) (x : RoundState) → Stood o → Servers o.ask → r.stage ≡ reading.Asking
+      → r.ask ≤ o.ask
       → Takes (scan.goes_on o b (judged r groups x).state (judged r groups x).next)
   unfolding scan.goes_on
   judged_so o b r groups (round.Read bytes) at asks asking small = read_so o b r (segment_found r.target groups (answer_of bytes)) at asks small
@@ -136,14 +141,17 @@ module _ (g : Setting) (c : ℕ) (w : Scene) (its life : ℕ) (k : Known) (q : Q
   unfolding on_answer scan.goes_on
   answer_so o b r groups ask server t at asks =
       let now : ReadingState = record r { round = taken r.round server t } in
-      by_test (λ (x : Step). Takes (scan.goes_on o b x.state x.next)) (counts r ask server t) (judged now groups (state_of now.round)) (record { state = r; next = next.Wait })
+      by_test (λ (x : Step). Takes (scan.goes_on o b x.state x.next)) (counts r ask server t) (judged now groups (state_of now.round))
+      (record { state = r; next = next.Wait })
       (λ e.
       let on : (r.stage ≡ reading.Asking) × Servers o.ask =
-      is_on o.ask r.stage (first_of_four (is_asking r.stage) (ask == r.ask) (round_asks r.round server) (name_fits r.target t && told_fits r.round t) e) asks.stage in
+      is_on o.ask r.stage
+      (first_of_four (is_asking r.stage) (ask == r.ask) (round_asks r.round server) (name_fits r.target t && told_fits r.round t) e) asks.stage in
       judged_so o b now groups (state_of now.round) at on.1 on.0 asks.past)
       (λ e. stays_so o (Reads b (Some r)) at asks)
 
-  heard_so : (o : Opening) (b : Backward) (r : Option ReadingState) (ask server : ℕ) (t : Told) → Stood o → AsksReading w.asked s.asked o.ask r → Takes (scan.heard o b r ask server t)
+  heard_so : (o : Opening) (b : Backward) (r : Option ReadingState) (ask server : ℕ) (t : Told) → Stood o → AsksReading w.asked s.asked o.ask r
+      → Takes (scan.heard o b r ask server t)
   heard_so o b None ask server t at asks = stays_so o (Reads b None) at asks
   heard_so o b (Some r) ask server t at asks =
       by_test (λ (d : scan.Done). Takes d) (scan.can_ask o) (scan.heard_with o b r o.groups ask server t) (scan.stays o (Reads b (Some r)))
@@ -181,7 +189,8 @@ module _ (g : Setting) (c : ℕ) (w : Scene) (its life : ℕ) (k : Known) (q : Q
   unfolding scan.on_fenced
   fenced_so o Hails l at asks = stays_so o Hails at asks
   fenced_so o (Gathers lists) l at asks =
-      by_test (λ (d : scan.Done). Takes d) (scan.can_ask o && scan.awaits o.groups lists l.server) (scan.with_list o (lists ++ l ∷ [])) (scan.stays o (Gathers lists))
+      by_test (λ (d : scan.Done). Takes d) (scan.can_ask o && scan.awaits o.groups lists l.server) (scan.with_list o (lists ++ l ∷ []))
+      (scan.stays o (Gathers lists))
       (λ e. with_list_so o (lists ++ l ∷ []) at asks) (λ e. stays_so o (Gathers lists) at asks)
   fenced_so o (Asks lists) l at asks = stays_so o (Asks lists) at asks
   fenced_so o (Reads b r) l at asks = stays_so o (Reads b r) at asks
@@ -192,11 +201,13 @@ module _ (g : Setting) (c : ℕ) (w : Scene) (its life : ℕ) (k : Known) (q : Q
   pub maps_so : (o : Opening) (st : Stage) → Stood o → AsksAt w.asked s.asked o.ask st → Takes (scan.stays o st)
   maps_so o st at asks = stays_so o st at asks
 
-  hails_again : (o : Opening) (st : Stage) → Stood o → AsksRegistry w.asked s.asked o.ask → ((t : ℕ → Question) (a : Asked) → AsksRegistry t a o.ask → AsksAt t a o.ask st)
+  hails_again : (o : Opening) (st : Stage) → Stood o → AsksRegistry w.asked s.asked o.ask
+      → ((t : ℕ → Question) (a : Asked) → AsksRegistry t a o.ask → AsksAt t a o.ask st)
       → Takes (scan.goes o st (Hello o.ask ∷ []))
   hails_again o st at asks registry = says.hello_goes g c w its life k q s h o st at.groups at.some (λ t. asks.number) registry
 
-  reading_again : (o : Opening) (b : Backward) (r : ReadingState) → Stood o → r.ask ≤ o.ask → (x : readings.Stage) → r.stage ≡ x → AsksIn w.asked s.asked o.ask x
+  reading_again : (o : Opening) (b : Backward) (r : ReadingState) → Stood o → r.ask ≤ o.ask → (x : readings.Stage) → r.stage ≡ x
+      → AsksIn w.asked s.asked o.ask x
       → Takes (scan.goes o (Reads b (Some r)) (cond (is_asking x) (scan.fetches r) (Hello o.ask ∷ [])))
   reading_again o b r at small reading.Asking e asks = fetches_go o b r at asks e small
   reading_again o b r at small reading.Between e asks =
@@ -217,7 +228,8 @@ module _ (g : Setting) (c : ℕ) (w : Scene) (its life : ℕ) (k : Known) (q : Q
   -- ---- a Welcome: the question is answered, and none is out
 
   module _ (none : s.asked.own ≡ 0) where
-    confirmed_so : (o : Opening) (b : Backward) (r : ReadingState) (table : ℕ → Question) (a : Asked) → Stood o → (x : readings.Stage) → is_asking x ≡ false → AsksIn table a o.ask x
+    confirmed_so : (o : Opening) (b : Backward) (r : ReadingState) (table : ℕ → Question) (a : Asked) → Stood o → (x : readings.Stage) → is_asking x ≡ false
+        → AsksIn table a o.ask x
         → Takes (scan.goes_on o b (rounds.goes_on r (o.ask + 1) x).state (rounds.goes_on r (o.ask + 1) x).next)
     unfolding scan.goes_on
     confirmed_so o b r table a at reading.Asking t asks = contrary (sym t)
@@ -227,7 +239,8 @@ module _ (g : Setting) (c : ℕ) (w : Scene) (its life : ℕ) (k : Known) (q : Q
     confirmed_so o b r table a at reading.Doubted t asks = says.lost_goes g c w its life k q s h o r.target.seg.name
     confirmed_so o b r table a at reading.Over t asks = absurd asks
 
-    confirms_by_so : (o : Opening) (b : Backward) (r : Option ReadingState) (table : ℕ → Question) (a : Asked) → Stood o → scan.is_between r ≡ true → AsksReading table a o.ask r
+    confirms_by_so : (o : Opening) (b : Backward) (r : Option ReadingState) (table : ℕ → Question) (a : Asked) → Stood o → scan.is_between r ≡ true
+        → AsksReading table a o.ask r
         → Takes (scan.confirms_by o b r)
     unfolding rounds.on_confirmed
     confirms_by_so o b None table a at t asks = begins_round_so o b at (inl none)
@@ -256,7 +269,8 @@ module _ (g : Setting) (c : ℕ) (w : Scene) (its life : ℕ) (k : Known) (q : Q
     welcomed_so o Over least table a at t asks = contrary t
 
     -- the answer that was awaited, by a scan that can ask further
-    pub welcome_so : (o : Opening) (st : Stage) (ask : ℕ) (news : List SlotNews) (groups : GroupMapState) (table : ℕ → Question) (a : Asked) → k.maps.groups ≡ Some groups → 0 < o.ask
+    pub welcome_so : (o : Opening) (st : Stage) (ask : ℕ) (news : List SlotNews) (groups : GroupMapState) (table : ℕ → Question) (a : Asked)
+        → k.maps.groups ≡ Some groups → 0 < o.ask
         → ask ≡ o.ask → scan.can_ask o ≡ true → scan.awaits_welcome st ≡ true → AsksAt table a o.ask st → Takes (scan.on_welcome o st ask news groups)
     unfolding scan.on_welcome
     welcome_so o st ask news groups table a known some is can awaits asks =

@@ -97,7 +97,8 @@ module _ (g : Setting) (c : ℕ) (is : g.log ≡ record { 0 = c }) where
   syncs_so w s h =
       let d : Done = seals s in
       frames.goes_and_gives g c w d d.state (synced_acts d.state) (tokens.seals_so g c w s h) (λ v k. k)
-      (by_test (λ (es : List Effect). frames.Plain g c es) (is_settled d.state) (Does (Synced d.state.lasting.number) ∷ []) [] (λ t. tokens.plain_one g c _ (λ v. tt))
+      (by_test (λ (es : List Effect). frames.Plain g c es) (is_settled d.state) (Does (Synced d.state.lasting.number) ∷ []) []
+      (λ t. tokens.plain_one g c _ (λ v. tt))
       (λ t. tokens.plain_nothing g c))
 
   makes_so : (w : Scene) (s : Serving) (call : BlockCall) → At w s → Goes w (makes s call).done

@@ -73,13 +73,15 @@ module _ (g : Setting) (c : ℕ) (is : g.log ≡ record { 0 = c }) where
 
   settled_rows_so : (w : Scene) (s : Serving) (rows : List (BlockId × Entry)) → At w s → At w (settled_rows s rows)
   settled_rows_so w s rows h =
-      frames.stands_fold g c w keeps_clean (keeps_clean_so w) (fold notes_settled s rows) rows (frames.stands_fold g c w notes_settled (notes_settled_so w) s rows h)
+      frames.stands_fold g c w keeps_clean (keeps_clean_so w) (fold notes_settled s rows) rows
+      (frames.stands_fold g c w notes_settled (notes_settled_so w) s rows h)
 
   -- the name by which it is filed
   filed_name : (number : ℕ) (end : End) → number ≡ c → record { log = g.log; seq = end.seq; pass = end.pass } ≡ name_of (record { 0 = number }) end
   filed_name number end e = ap (λ (l : LogId). record { log = l; seq = end.seq; pass = end.pass }) (is ∙ ap (λ (k : ℕ). record { 0 = k }) (sym e))
 
-  settles_so : (w : Scene) (s : Serving) (end : End) (rows : List (BlockId × Entry)) → At w s → In (record { log = g.log; seq = end.seq; pass = end.pass }) w.net.filed
+  settles_so : (w : Scene) (s : Serving) (end : End) (rows : List (BlockId × Entry)) → At w s
+      → In (record { log = g.log; seq = end.seq; pass = end.pass }) w.net.filed
       → Goes w (settles s end rows)
   unfolding settles
   settles_so w s end rows h filed =
@@ -100,12 +102,14 @@ module _ (g : Setting) (c : ℕ) (is : g.log ≡ record { 0 = c }) where
   all_written w s [] h sent filed mine = tokens.still_so g c w s h
   all_written w s (Send fragment member ∷ outs) h sent filed mine =
       frames.goes_on_in g c w (gives s (store fragment member ∷ [])) (steps writes_one s outs)
-      (frames.goes_seen g c w s (store fragment member ∷ []) h (All-cons (ClientDoes g c w) (store fragment member) [] (λ own. sent _ (inl refl), mine.0) (All-nil (ClientDoes g c w))))
+      (frames.goes_seen g c w s (store fragment member ∷ []) h
+      (All-cons (ClientDoes g c w) (store fragment member) [] (λ own. sent _ (inl refl), mine.0) (All-nil (ClientDoes g c w))))
       (λ v grown k. all_written v s outs k (λ p among. grown.sent p (sent p (inr among))) (λ name among. grown.filed name (filed name among)) mine.1)
   all_written w s (Settled end rows ∷ outs) h sent filed mine =
       frames.goes_on_in g c w (settles s end rows) (steps writes_one (settles s end rows).state outs)
       (settles_so w s end rows h (filed _ (inl refl)))
-      (λ v grown k. all_written v (settles s end rows).state outs k (λ p among. grown.sent p (sent p among)) (λ name among. grown.filed name (filed name (inr among))) mine.1)
+      (λ v grown k. all_written v (settles s end rows).state outs k (λ p among. grown.sent p (sent p among))
+      (λ name among. grown.filed name (filed name (inr among))) mine.1)
 
   seals_again_so : (w : Scene) (s : Serving) (settling : Bool) → At w s → Goes w (seals_again s settling)
   seals_again_so w s settling h =
@@ -136,7 +140,8 @@ module _ (g : Setting) (c : ℕ) (is : g.log ≡ record { 0 = c }) where
   ticks_so w s h = writes_from w s log_in.Tick (logs.takes g c w s.log s.lasting.number s.lasting.inc s.lasting.questions.last log_in.Tick h tt tt)
 
   pub maps_so : (w : Scene) (s : Serving) (m : GroupMapState) → At w s → In (MapSent m) w.net.sent → MapFits m → Goes w (writes s (log_in.Maps m))
-  maps_so w s m h came fits = writes_from w s (log_in.Maps m) (logs.takes g c w s.log s.lasting.number s.lasting.inc s.lasting.questions.last (log_in.Maps m) h came fits)
+  maps_so w s m h came fits =
+      writes_from w s (log_in.Maps m) (logs.takes g c w s.log s.lasting.number s.lasting.inc s.lasting.questions.last (log_in.Maps m) h came fits)
 
   pub stored_so : (w : Scene) (s : Serving) (name : SegName) (index generation : ℕ) → At w s
       → (is_of_log g name ≡ true → In (StoredSent name index generation) w.net.sent) → Goes w (writes s (log_in.Acked name index generation))

@@ -77,7 +77,8 @@ module _ (g : Setting) (c : ℕ) (is : g.log ≡ record { 0 = c }) where
   on_grant_so : (w : Scene) (s : Serving) (m : Grant) → At w s → Goes w (on_grant s m)
   unfolding on_grant
   on_grant_so w s m h =
-      by_test (λ (d : Done). Goes w d) (is_own m.mode && not (has_long_room m.entry.ver)) (still s) (hands s (input.Granted m.block m.stamp m.inc m.req m.mode m.entry))
+      by_test (λ (d : Done). Goes w d) (is_own m.mode && not (has_long_room m.entry.ver)) (still s)
+      (hands s (input.Granted m.block m.stamp m.inc m.req m.mode m.entry))
       (λ t. still_so w s h) (λ t. tokens.hands_so g c w s (input.Granted m.block m.stamp m.inc m.req m.mode m.entry) h)
 
   on_supply_so : (w : Scene) (s : Serving) (m : Supply) → At w s → Goes w (on_supply s m)
@@ -113,7 +114,8 @@ module _ (g : Setting) (c : ℕ) (is : g.log ≡ record { 0 = c }) where
 
   on_gone_so : (w : Scene) (s : Serving) (m : Gone) → At w s → Goes w (on_gone s m)
   unfolding on_gone
-  on_gone_so w s m h = by_test (λ (d : Done). Goes w d) (is_gone s m) (loses s m.block m.seg) (still s) (λ t. tokens.loses_so g c w s m.block m.seg h) (λ t. still_so w s h)
+  on_gone_so w s m h =
+      by_test (λ (d : Done). Goes w d) (is_gone s m) (loses s m.block m.seg) (still s) (λ t. tokens.loses_so g c w s m.block m.seg h) (λ t. still_so w s h)
 
   on_ack_so : (w : Scene) (s : Serving) (a : DeltaAck) → At w s → Goes w (still (on_ack s a))
   unfolding on_ack
@@ -161,7 +163,8 @@ module _ (g : Setting) (c : ℕ) (is : g.log ≡ record { 0 = c }) where
 
   reports_so : (w : Scene) (slot epoch : ℕ) (p : Stepped Serving outputs.Out) → At w p.state → Goes w (reports slot epoch p)
   reports_so w slot epoch p h =
-      frames.goes_after g c w (report p.state slot epoch ∷ []) (follows p.state p.outs) (tokens.plain_one g c _ (λ v. tt)) (tokens.follows_so g c w p.state p.outs h)
+      frames.goes_after g c w (report p.state slot epoch ∷ []) (follows p.state p.outs) (tokens.plain_one g c _ (λ v. tt))
+      (tokens.follows_so g c w p.state p.outs h)
 
   polled_so : (w : Scene) (s : Serving) (manager : ℕ) (p : Poll) → At w s → Goes w (polled s manager p)
   unfolding polled
@@ -254,7 +257,8 @@ module _ (g : Setting) (c : ℕ) (is : g.log ≡ record { 0 = c }) where
   body_so w s from to (body.Welcome m) seen small h = on_welcome_so w s m h seen.map small
   body_so w s from to _ seen small h = still_so w s h
 
-  packet_goes : (w : Scene) (s : Serving) (p : Packet) → BodySeen g (asker c w) w.net p.from p.to p.body → BodyFits p.body → has_room s.lasting.questions.last ≡ true → At w s
+  packet_goes : (w : Scene) (s : Serving) (p : Packet) → BodySeen g (asker c w) w.net p.from p.to p.body → BodyFits p.body
+      → has_room s.lasting.questions.last ≡ true → At w s
       → Goes w (on_packet s p)
   unfolding on_packet
   packet_goes w s p seen small room h =

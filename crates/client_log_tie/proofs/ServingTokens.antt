@@ -95,10 +95,12 @@ module _ (g : Setting) (c : ℕ) where
   plain_answers (Some number) answer = plain_one _ (λ w. tt)
 
   -- what a log sends is seen where it was sent
-  pub stored_seen : (w : Scene) (outs : List LogOut) → ((p : Packet) → In p (log_packets outs) → In p w.net.sent) → AllByRecursion (SendsOwn g.log) outs → All (ClientDoes g c w) (flat_map stored outs)
+  pub stored_seen : (w : Scene) (outs : List LogOut) → ((p : Packet) → In p (log_packets outs) → In p w.net.sent) → AllByRecursion (SendsOwn g.log) outs
+      → All (ClientDoes g c w) (flat_map stored outs)
   stored_seen w [] within mine = All-nil (ClientDoes g c w)
   stored_seen w (log_out.Send fragment member ∷ outs) within mine =
-      All-cons (ClientDoes g c w) (store fragment member) (flat_map stored outs) (λ own. within _ (inl refl), mine.0) (stored_seen w outs (λ p is. within p (inr is)) mine.1)
+      All-cons (ClientDoes g c w) (store fragment member) (flat_map stored outs) (λ own. within _ (inl refl), mine.0)
+      (stored_seen w outs (λ p is. within p (inr is)) mine.1)
   stored_seen w (log_out.Settled end rows ∷ outs) within mine = stored_seen w outs within mine.1
 
   abbrev At : Scene → Serving → Type 0
@@ -122,7 +124,8 @@ module _ (g : Setting) (c : ℕ) where
 
   pub notes_gone_so : (w : Scene) (s : Serving) (block : BlockId) → At w s → At w (notes_gone s block)
   unfolding notes_gone
-  notes_gone_so w s block h = by_test (λ (t : Serving). At w t) (is_nothing (held_of s.tokens.blocks block).mode) (record s { cache = left s.cache block }) s (λ t. h) (λ t. h)
+  notes_gone_so w s block h =
+      by_test (λ (t : Serving). At w t) (is_nothing (held_of s.tokens.blocks block).mode) (record s { cache = left s.cache block }) s (λ t. h) (λ t. h)
 
   notes_copy_so : (w : Scene) (s : Serving) (block : BlockId) → At w s → At w (notes_copy s block)
   unfolding notes_copy
@@ -150,9 +153,11 @@ module _ (g : Setting) (c : ℕ) where
   pub loses_so : (w : Scene) (s : Serving) (block : BlockId) (seg : SegName) → At w s → Goes w (loses s block seg)
   unfolding loses
   loses_so w s block seg h =
-      frames.goes_plain g c w (record s { lasting = record s.lasting { items = answered s.lasting.items }; call = None; tokens = (client.on_quit s.tokens block).state })
+      frames.goes_plain g c w
+      (record s { lasting = record s.lasting { items = answered s.lasting.items }; call = None; tokens = (client.on_quit s.tokens block).state })
       (Lose seg ∷ answers_unanswered s.lasting.items.unanswered (Lost seg)) h
-      (λ v. All-cons (ClientDoes g c v) (Lose seg) (answers_unanswered s.lasting.items.unanswered (Lost seg)) tt (plain_answers s.lasting.items.unanswered (Lost seg) v))
+      (λ v. All-cons (ClientDoes g c v) (Lose seg) (answers_unanswered s.lasting.items.unanswered (Lost seg)) tt
+      (plain_answers s.lasting.items.unanswered (Lost seg) v))
 
   loses_at_so : (w : Scene) (s : Serving) (at : Option BlockAt) (seg : SegName) → At w s → Goes w (loses_at s at seg)
   loses_at_so w s None seg h = still_so w s h
@@ -201,7 +206,8 @@ module _ (g : Setting) (c : ℕ) where
   -- ---- what the tokens say
 
   plain_before : (s : Serving) (block : BlockId) (again : ℕ) → Plain (before_want s block again)
-  plain_before s block again = by_test (λ (es : List Effect). Plain es) (again == 0) (deltas s block) [] (λ t. plain_pushes s.managers s.feed _) (λ t. plain_nothing)
+  plain_before s block again =
+      by_test (λ (es : List Effect). Plain es) (again == 0) (deltas s block) [] (λ t. plain_pushes s.managers s.feed _) (λ t. plain_nothing)
 
   follows_one_so : (w : Scene) (s : Serving) (o : outputs.Out) → At w s → Goes w (follows_one s o)
   unfolding follows_one

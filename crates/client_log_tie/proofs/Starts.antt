@@ -24,7 +24,10 @@ pub client_starts : ClientStarts
 client_starts g c is small setup works = record {
   agrees = (
     record { number = refl; inc = refl; fresh = λ k later. refl },
-    record { owner = ap (λ log. owner.Serving (started log 1 no_end (groups.started setup.servers setup.groups))) is; own = record { log = sym is; flight = tt } },
+    record {
+      owner = ap (λ log. owner.Serving (started log 1 no_end (groups.started setup.servers setup.groups))) is;
+      own = record { log = sym is; flight = tt };
+    },
   );
   written = λ ids. what_fits_stays_written (record { 0 = c }) 1 empty_end (groups.started setup.servers setup.groups) (log_in_range c small) (omega arith)
       (omega arith, (omega arith, omega arith), omega arith) ids;

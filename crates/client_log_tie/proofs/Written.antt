@@ -68,7 +68,8 @@ pass_bytes p = both (to_be_bytes w32 p.inc) (to_be_bytes w32 p.att) (number w32 
 
 name_bytes : (n : SegName) → IsLog n.log.0 → IsBytes (name_text n)
 name_bytes n is =
-    one n.log.0 (to_be_bytes w32 n.seq ++ pass_text n.pass) (let e = is.1 in omega arith) (both (to_be_bytes w32 n.seq) (pass_text n.pass) (number w32 n.seq) (pass_bytes n.pass))
+    one n.log.0 (to_be_bytes w32 n.seq ++ pass_text n.pass) (let e = is.1 in omega arith)
+    (both (to_be_bytes w32 n.seq) (pass_text n.pass) (number w32 n.seq) (pass_bytes n.pass))
 
 prior_bytes : (p : Prior) → IsBytes (prior_text p)
 prior_bytes p = both (pass_text p.pass) (to_be_bytes w32 p.group) (pass_bytes p.pass) (number w32 p.group)
@@ -85,10 +86,12 @@ value_bytes (Some bytes) h = both (to_be_bytes w16 (length bytes)) bytes (number
 
 delta_bytes : (ver hop item : ℕ) → IsBytes (to_be_bytes w64 ver ++ (to_be_bytes w32 hop ++ to_be_bytes w16 item))
 delta_bytes ver hop item =
-    both (to_be_bytes w64 ver) (to_be_bytes w32 hop ++ to_be_bytes w16 item) (number w64 ver) (both (to_be_bytes w32 hop) (to_be_bytes w16 item) (number w32 hop) (number w16 item))
+    both (to_be_bytes w64 ver) (to_be_bytes w32 hop ++ to_be_bytes w16 item) (number w64 ver)
+    (both (to_be_bytes w32 hop) (to_be_bytes w16 item) (number w32 hop) (number w16 item))
 
 item_bytes : (i : Item) → ItemBytes i → IsBytes (item_text i)
-item_bytes (Block block value) h = one 1 (block_text block ++ value_text value) (omega arith) (both (block_text block) (value_text value) (block_bytes block) (value_bytes value h))
+item_bytes (Block block value) h =
+    one 1 (block_text block ++ value_text value) (omega arith) (both (block_text block) (value_text value) (block_bytes block) (value_bytes value h))
 item_bytes (Delta block ver hop item) h =
     one 2 (block_text block ++ (to_be_bytes w64 ver ++ (to_be_bytes w32 hop ++ to_be_bytes w16 item))) (omega arith)
     (both (block_text block) (to_be_bytes w64 ver ++ (to_be_bytes w32 hop ++ to_be_bytes w16 item)) (block_bytes block) (delta_bytes ver hop item))
@@ -106,13 +109,15 @@ head_bytes s is =
     let counted : List ℕ = to_be_bytes w32 s.group ++ to_be_bytes w16 (length s.items) in
     one (version_of s.items) (name_text s.name ++ (prior_text s.prior ++ counted)) (version_small s.items)
     (both (name_text s.name) (prior_text s.prior ++ counted) (name_bytes s.name is)
-    (both (prior_text s.prior) counted (prior_bytes s.prior) (both (to_be_bytes w32 s.group) (to_be_bytes w16 (length s.items)) (number w32 s.group) (number w16 (length s.items)))))
+    (both (prior_text s.prior) counted (prior_bytes s.prior)
+    (both (to_be_bytes w32 s.group) (to_be_bytes w16 (length s.items)) (number w32 s.group) (number w16 (length s.items)))))
 
 text_bytes : (s : Segment) → IsLog s.name.log.0 → AllByRecursion ItemBytes s.items → IsBytes (text_of s)
 text_bytes s is all =
     let rest : List ℕ = head_text (head_of s) ++ flat_map item_text s.items in
     one 0x78 (0x46 ∷ 0x53 ∷ rest) (omega arith)
-    (one 0x46 (0x53 ∷ rest) (omega arith) (one 0x53 rest (omega arith) (both (head_text (head_of s)) (flat_map item_text s.items) (head_bytes s is) (items_bytes s.items all))))
+    (one 0x46 (0x53 ∷ rest) (omega arith)
+    (one 0x53 rest (omega arith) (both (head_text (head_of s)) (flat_map item_text s.items) (head_bytes s is) (items_bytes s.items all))))
 
 -- ---- items
 
@@ -124,10 +129,14 @@ record ItemsFit (items : List Item) : Type 0 where
 abbrev ChangeFits : BlockId × Change → Type 0
 ChangeFits c = PutFits c.0 c.1.entry c.1.value
 
-ranges_of : (before : ℕ) (cs : List (BlockId × Change)) → before + 2 * length cs ≤ 48 → AllByRecursion ChangeFits cs → AllByRecursion FitsItem (items_of before cs)
+ranges_of : (before : ℕ) (cs : List (BlockId × Change)) → before + 2 * length cs ≤ 48 → AllByRecursion ChangeFits cs
+    → AllByRecursion FitsItem (items_of before cs)
 ranges_of before [] few all = tt
 ranges_of before (c ∷ cs) few all =
-    elim c.1.value as (λ v. AllByRecursion FitsItem (change_items before c.0 (record { entry = c.1.entry; value = v }) ++ items_of (before + length (change_items before c.0 (record { entry = c.1.entry; value = v }))) cs)) [
+    elim c.1.value as
+    (λ v. AllByRecursion FitsItem
+    (change_items before c.0 (record { entry = c.1.entry; value = v })
+    ++ items_of (before + length (change_items before c.0 (record { entry = c.1.entry; value = v }))) cs)) [
       | None ↦ ((all.0.row.0, all.0.row.1, all.0.row.2, omega arith), ranges_of (before + 1) cs (omega arith) all.1)
       | Some bytes ↦ (all.0.row.0, ((all.0.row.0, all.0.row.1, all.0.row.2, omega arith), ranges_of (before + 2) cs (omega arith) all.1))
     ]
@@ -135,7 +144,11 @@ ranges_of before (c ∷ cs) few all =
 each_of : (before : ℕ) (cs : List (BlockId × Change)) → AllByRecursion ChangeFits cs → AllByRecursion (IsItem second_version) (items_of before cs)
 each_of before [] all = tt
 each_of before (c ∷ cs) all =
-    elim c.1.value as (λ v. IfSome v (λ bytes. IsItem second_version (Block c.0 (Some bytes))) → AllByRecursion (IsItem second_version) (change_items before c.0 (record { entry = c.1.entry; value = v }) ++ items_of (before + length (change_items before c.0 (record { entry = c.1.entry; value = v }))) cs)) [
+    elim c.1.value as
+    (λ v. IfSome v (λ bytes. IsItem second_version (Block c.0 (Some bytes)))
+    → AllByRecursion (IsItem second_version)
+    (change_items before c.0 (record { entry = c.1.entry; value = v })
+    ++ items_of (before + length (change_items before c.0 (record { entry = c.1.entry; value = v }))) cs)) [
       | None ↦ λ h. (tt, each_of (before + 1) cs all.1)
       | Some bytes ↦ λ h. (h, (tt, each_of (before + 2) cs all.1))
     ] all.0.length
@@ -143,7 +156,11 @@ each_of before (c ∷ cs) all =
 bytes_of : (before : ℕ) (cs : List (BlockId × Change)) → AllByRecursion ChangeFits cs → AllByRecursion ItemBytes (items_of before cs)
 bytes_of before [] all = tt
 bytes_of before (c ∷ cs) all =
-    elim c.1.value as (λ v. IfSome v IsBytes → AllByRecursion ItemBytes (change_items before c.0 (record { entry = c.1.entry; value = v }) ++ items_of (before + length (change_items before c.0 (record { entry = c.1.entry; value = v }))) cs)) [
+    elim c.1.value as
+    (λ v. IfSome v IsBytes
+    → AllByRecursion ItemBytes
+    (change_items before c.0 (record { entry = c.1.entry; value = v })
+    ++ items_of (before + length (change_items before c.0 (record { entry = c.1.entry; value = v }))) cs)) [
       | None ↦ λ h. (tt, bytes_of (before + 1) cs all.1)
       | Some bytes ↦ λ h. (h, (tt, bytes_of (before + 2) cs all.1))
     ] all.0.bytes
@@ -214,7 +231,8 @@ inserted_fit block change (c ∷ cs) new all =
 below : (n : ℕ) → has_next n ≡ true → n + 1 < 2 ^ 32
 below n t = grind (arith, nat_tests)
 
-fit_launched : (s : LogState) (name : SegName) (prior : Prior) (items : List Item) → LogFits s → IsLog name.log.0 → FitsName name → FitsPrior prior → ItemsFit items → FitAfter (launched s name prior items)
+fit_launched : (s : LogState) (name : SegName) (prior : Prior) (items : List Item) → LogFits s → IsLog name.log.0 → FitsName name → FitsPrior prior
+    → ItemsFit items → FitAfter (launched s name prior items)
 unfolding launched FitAfter
 fit_launched s name prior items h log named before fit = record {
   log = h.log;
@@ -254,7 +272,8 @@ unfolding on_put
 fit_put s block change h new =
     let t : LogState = waits s block change in
     by_test FitAfter (can_go_on t) (if_full t) (still s)
-    (λ e. fit_if_full t (record { log = h.log; inc = h.inc; end = h.end; groups = h.groups; dirty = inserted_fit block change s.dirty new h.dirty; flight = h.flight }) e)
+    (λ e. fit_if_full t
+    (record { log = h.log; inc = h.inc; end = h.end; groups = h.groups; dirty = inserted_fit block change s.dirty new h.dirty; flight = h.flight }) e)
     (λ e. fit_still s h)
 
 third : (a b x : Bool) → (a && b && x) ≡ true → x ≡ true
@@ -282,9 +301,11 @@ fit_parts s items h none =
 fit_followed : (s : LogState) (f : FlightState) (fate : Fate) → LogFits s → FlightFits f → can_follow s f fate ≡ true → FitAfter (followed s f fate)
 unfolding restriped settled FitAfter
 fit_followed s f Restripe h fits can =
-    fit_launched s (next_attempt f.segment.name) f.segment.prior f.segment.items h fits.log (fits.name.0, (fits.name.1.0, below f.segment.name.pass.att can)) fits.prior fits.items
+    fit_launched s (next_attempt f.segment.name) f.segment.prior f.segment.items h fits.log
+    (fits.name.0, (fits.name.1.0, below f.segment.name.pass.att can)) fits.prior fits.items
 fit_followed s f Settle h fits can =
-    fit_if_full (landed s f) (record { log = h.log; inc = h.inc; end = (fits.name.0, fits.name.1, fits.group); groups = h.groups; dirty = h.dirty; flight = tt }) can
+    fit_if_full (landed s f)
+    (record { log = h.log; inc = h.inc; end = (fits.name.0, fits.name.1, fits.group); groups = h.groups; dirty = h.dirty; flight = tt }) can
 fit_followed s f Wait h fits can = record { log = h.log; inc = h.inc; end = h.end; groups = h.groups; dirty = h.dirty; flight = fits }
 
 fit_looked : (before s : LogState) (f : FlightState) → LogFits before → LogFits s → FlightFits f → FitAfter (looked_at before s f)
@@ -296,10 +317,12 @@ fit_looked before s f h now fits =
 fit_acked : (s : LogState) (name : SegName) (index generation : ℕ) → LogFits s → FitAfter (on_acked s name index generation)
 unfolding on_acked
 fit_acked s name index generation h =
-    elim s.flight as (λ o. IfSome o FlightFits → FitAfter (elim o [ None ↦ still s | Some f ↦ cond (is_of f name index generation) (looked_at s s (noting f index)) (still s) ])) [
+    elim s.flight as
+    (λ o. IfSome o FlightFits → FitAfter (elim o [ None ↦ still s | Some f ↦ cond (is_of f name index generation) (looked_at s s (noting f index)) (still s) ])) [
       | None ↦ λ e. fit_still s h
       | Some f ↦ λ e. by_test FitAfter (is_of f name index generation) (looked_at s s (noting f index)) (still s)
-          (λ t. fit_looked s s (noting f index) h h (record { log = e.log; name = e.name; prior = e.prior; group = e.group; items = e.items })) (λ t. fit_still s h)
+          (λ t. fit_looked s s (noting f index) h h (record { log = e.log; name = e.name; prior = e.prior; group = e.group; items = e.items }))
+          (λ t. fit_still s h)
     ] h.flight
 
 fit_maps : (s : LogState) (m : GroupMapState) → LogFits s → MapFits m → FitAfter (on_maps s m)

@@ -129,7 +129,8 @@ ClientTakes =
 
 -- At the start it is seen in the opening of the small world, and asked nothing; its log stays written where the ids of the setup's groups fit.
 pub record ClientBegins (g : Setting) (c : ℕ) (setup : Setup) (works : List Work) : Type 0 where
-  pub agrees : ClientAgrees g c (record { net = opening g (groups.started setup.servers setup.groups); asked = λ k. Unasked }) (first_client c setup works).phase
+  pub agrees : ClientAgrees g c (record { net = opening g (groups.started setup.servers setup.groups); asked = λ k. Unasked })
+      (first_client c setup works).phase
   pub written : MapFits (groups.started setup.servers setup.groups) → PhaseWritten (first_client c setup works).phase
 
 abbrev pub ClientStarts : Type 0

@@ -57,4 +57,5 @@ ChainFits g inc d = IfSome (chain_in d.outs) (StartFits g inc d)
 
 -- a log that starts behind an end that fits, over groups whose ids fit, stays written
 abbrev pub WhatFitsStaysWritten : Type 0
-WhatFitsStaysWritten = (log : LogId) (inc : ℕ) (end : End) (m : GroupMapState) → IsLog log.0 → inc < 2 ^ 32 → EndFits end → MapFits m → StaysWritten (started log inc end m)
+WhatFitsStaysWritten =
+    (log : LogId) (inc : ℕ) (end : End) (m : GroupMapState) → IsLog log.0 → inc < 2 ^ 32 → EndFits end → MapFits m → StaysWritten (started log inc end m)

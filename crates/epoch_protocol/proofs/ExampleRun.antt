@@ -109,10 +109,16 @@ abbrev pub step31 : Step moment30 moment31
 step31 = PromisesWelcome second_answer (record { sent = inl refl; serving = refl; higher = grind arith })
 
 abbrev pub taken_over : Steps (start 2 1) moment16
-taken_over = More (More (More (More (More (More (More (More (More (More (More (More (More (More (More (More Done step1) step2) step3) step4) step5) step6) step7) step8) step9) step10) step11) step12) step13) step14) step15) step16
+taken_over = More
+    (More (More (More
+    (More (More (More (More (More (More (More (More (More (More (More (More Done step1) step2) step3) step4) step5) step6) step7) step8) step9) step10) step11)
+    step12) step13) step14) step15) step16
 
 abbrev pub run : Steps (start 2 1) moment31
-run = More (More (More (More (More (More (More (More (More (More (More (More (More (More (More taken_over step17) step18) step19) step20) step21) step22) step23) step24) step25) step26) step27) step28) step29) step30) step31
+run = More (More
+    (More (More (More
+    (More (More (More (More (More (More (More (More (More (More taken_over step17) step18) step19) step20) step21) step22) step23) step24) step25) step26)
+    step27) step28) step29) step30) step31
 
 -- What stands after the first n kinds of a list stands in it.
 listed : (n : ℕ) (k : Kind) (ks : List Kind) → In k (drop n ks) → In k ks

@@ -84,5 +84,6 @@ quiet e v a (Reports c may) none tied = absurd none
 quiet e v a (Crashes c) none tied = absurd none
 quiet e v a (Restarts c may) none tied = absurd none
 quiet e v a (Calls c) none tied = record { epoch = tied.epoch; active = tied.active; reigning = tied.reigning; promised = tied.promised }
-quiet e v a (Takes p may) none tied = record { epoch = tied.epoch; active = tied.active; reigning = tied.reigning; promised = grind (arith, nat_tests, tied.promised) }
+quiet e v a (Takes p may) none tied =
+    record { epoch = tied.epoch; active = tied.active; reigning = tied.reigning; promised = grind (arith, nat_tests, tied.promised) }
 quiet e v a (Serves c may) none tied = absurd none

@@ -118,7 +118,13 @@ activate n first e t m steps tied h =
     ))
     (λ (above : e.reigning < (e.manager m).epoch). inr (
       grind (arith, reigning, above),
-      λ report applied entry. record { members = tied.members; reigning = grind (arith, above); promised = tied.promised; serving = tied.serving; down = tied.down },
+      λ report applied entry. record {
+        members = tied.members;
+        reigning = grind (arith, above);
+        promised = tied.promised;
+        serving = tied.serving;
+        down = tied.down;
+      },
     ))
     (activates_new e (always n first e steps) m h).apart
 
@@ -130,28 +136,41 @@ move e t m tied = record { members = tied.members; reigning = tied.reigning; pro
 
 pub quiet : QuietTied
 quiet e v t (Bumps h may) none tied = absurd none
-quiet e v t (Hears h may) none tied = record { members = tied.members; reigning = tied.reigning; promised = tied.promised; serving = tied.serving; down = tied.down }
+quiet e v t (Hears h may) none tied =
+    record { members = tied.members; reigning = tied.reigning; promised = tied.promised; serving = tied.serving; down = tied.down }
 quiet e v t (Moves m) none tied = absurd none
 quiet e v t Tells none tied = record { members = tied.members; reigning = tied.reigning; promised = tied.promised; serving = tied.serving; down = tied.down }
-quiet e v t (Welcomes h may) none tied = record { members = tied.members; reigning = tied.reigning; promised = tied.promised; serving = tied.serving; down = tied.down }
-quiet e v t (Answers h may) none tied = record { members = tied.members; reigning = tied.reigning; promised = tied.promised; serving = tied.serving; down = tied.down }
-quiet e v t (Greets m) none tied = record { members = tied.members; reigning = tied.reigning; promised = tied.promised; serving = tied.serving; down = tied.down }
-quiet e v t (EntersByNews m n may) none tied = record { members = tied.members; reigning = tied.reigning; promised = tied.promised; serving = tied.serving; down = tied.down }
-quiet e v t (EntersByWelcome p may) none tied = record { members = tied.members; reigning = tied.reigning; promised = tied.promised; serving = tied.serving; down = tied.down }
-quiet e v t (LeavesByNews m n may) none tied = record { members = tied.members; reigning = tied.reigning; promised = tied.promised; serving = tied.serving; down = tied.down }
-quiet e v t (LeavesByWelcome p may) none tied = record { members = tied.members; reigning = tied.reigning; promised = tied.promised; serving = tied.serving; down = tied.down }
-quiet e v t (Polls m may) none tied = record { members = tied.members; reigning = tied.reigning; promised = tied.promised; serving = tied.serving; down = tied.down }
+quiet e v t (Welcomes h may) none tied =
+    record { members = tied.members; reigning = tied.reigning; promised = tied.promised; serving = tied.serving; down = tied.down }
+quiet e v t (Answers h may) none tied =
+    record { members = tied.members; reigning = tied.reigning; promised = tied.promised; serving = tied.serving; down = tied.down }
+quiet e v t (Greets m) none tied =
+    record { members = tied.members; reigning = tied.reigning; promised = tied.promised; serving = tied.serving; down = tied.down }
+quiet e v t (EntersByNews m n may) none tied =
+    record { members = tied.members; reigning = tied.reigning; promised = tied.promised; serving = tied.serving; down = tied.down }
+quiet e v t (EntersByWelcome p may) none tied =
+    record { members = tied.members; reigning = tied.reigning; promised = tied.promised; serving = tied.serving; down = tied.down }
+quiet e v t (LeavesByNews m n may) none tied =
+    record { members = tied.members; reigning = tied.reigning; promised = tied.promised; serving = tied.serving; down = tied.down }
+quiet e v t (LeavesByWelcome p may) none tied =
+    record { members = tied.members; reigning = tied.reigning; promised = tied.promised; serving = tied.serving; down = tied.down }
+quiet e v t (Polls m may) none tied =
+    record { members = tied.members; reigning = tied.reigning; promised = tied.promised; serving = tied.serving; down = tied.down }
 quiet e v t (Activates m may) none tied = absurd none
-quiet e v t (Breaks m may) none tied = record { members = tied.members; reigning = tied.reigning; promised = tied.promised; serving = tied.serving; down = tied.down }
-quiet e v t (Falls m) none tied = record { members = tied.members; reigning = tied.reigning; promised = tied.promised; serving = tied.serving; down = tied.down }
-quiet e v t (Rises m may) none tied = record { members = tied.members; reigning = tied.reigning; promised = tied.promised; serving = tied.serving; down = tied.down }
+quiet e v t (Breaks m may) none tied =
+    record { members = tied.members; reigning = tied.reigning; promised = tied.promised; serving = tied.serving; down = tied.down }
+quiet e v t (Falls m) none tied =
+    record { members = tied.members; reigning = tied.reigning; promised = tied.promised; serving = tied.serving; down = tied.down }
+quiet e v t (Rises m may) none tied =
+    record { members = tied.members; reigning = tied.reigning; promised = tied.promised; serving = tied.serving; down = tied.down }
 quiet e v t (PromisesPoll c p may) none tied = absurd none
 quiet e v t (PromisesNews c n may) none tied = absurd none
 quiet e v t (PromisesWelcome p may) none tied = absurd none
 quiet e v t (Reports c may) none tied = absurd none
 quiet e v t (Crashes c) none tied = absurd none
 quiet e v t (Restarts c may) none tied = absurd none
-quiet e v t (Calls c) none tied = record { members = tied.members; reigning = tied.reigning; promised = tied.promised; serving = tied.serving; down = tied.down }
+quiet e v t (Calls c) none tied =
+    record { members = tied.members; reigning = tied.reigning; promised = tied.promised; serving = tied.serving; down = tied.down }
 quiet e v t (Takes p may) none tied = record {
   members = tied.members;
   reigning = tied.reigning;

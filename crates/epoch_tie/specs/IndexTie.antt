@@ -33,7 +33,8 @@ pub record MayBecomeActive (a : IndexState) (epoch : ℕ) : Type 0 where
 abbrev pub ActivateIndexed : Type 0
 ActivateIndexed =
     (n first : ℕ) (e : World) (a : IndexState) (m : ℕ) → Steps (start n first) e → 0 < e.members → IndexTied e a → MayActivate e m
-    → MayBecomeActive a (e.manager m).epoch × ((applied : ℕ → ℕ) (entry : Entry) → IndexTied (activates e m) (indexing.activates a (e.manager m).epoch applied entry))
+    → MayBecomeActive a (e.manager m).epoch
+    × ((applied : ℕ → ℕ) (entry : Entry) → IndexTied (activates e m) (indexing.activates a (e.manager m).epoch applied entry))
 
 -- The registry's epoch rises in both.
 abbrev pub BumpIndexed : Type 0

@@ -69,7 +69,8 @@ abbrev pub ActivateTied : Type 0
 ActivateTied = (n first : ℕ) (e : epochs.World) (t : tokens.World) (m : ℕ) → Steps (epochs.start n first) e → TokensTied e t → MayActivate e m
     → (((e.manager m).epoch < t.epoch) × TokensTied (activates e m) t)
     ⊎ ((t.epoch < (e.manager m).epoch)
-    × ((report : ℕ → token_packets.Report) (applied : ℕ → ℕ) (entry : Entry) → TokensTied (activates e m) (takeover.activates t (e.manager m).epoch report applied entry)))
+    × ((report : ℕ → token_packets.Report) (applied : ℕ → ℕ) (entry : Entry)
+    → TokensTied (activates e m) (takeover.activates t (e.manager m).epoch report applied entry)))
 
 -- Where the registry raises the slot's epoch, that is none of tokens: it doesn't reign yet.
 abbrev pub BumpTied : Type 0

@@ -77,13 +77,15 @@ module _ (reach : Reach) (c : ℕ) where
   puts_so : (s : Serving) (block : BlockId) (value : Option (List ℕ)) → At s → Goes (puts s block value).done
   unfolding puts
   puts_so s block value h =
-      by_test (λ (m : Made). Goes m.done) (may_write (held_at s block)) (changes_if_fits s block value) (needs s block Own) (λ t. changes_if_fits_so s block value h)
+      by_test (λ (m : Made). Goes m.done) (may_write (held_at s block)) (changes_if_fits s block value) (needs s block Own)
+      (λ t. changes_if_fits_so s block value h)
       (λ t. needs_so s block Own h)
 
   puts_again_so : (s : Serving) (block : BlockId) (ver : ℕ) (value : Option (List ℕ)) → At s
       → Goes (puts_again s block ver value).done
   puts_again_so s block ver value h =
-      by_test (λ (m : Made). Goes m.done) ((held_at s block).ver == ver) (changes_if_fits s block value) (changed s block) (λ t. changes_if_fits_so s block value h)
+      by_test (λ (m : Made). Goes m.done) ((held_at s block).ver == ver) (changes_if_fits s block value) (changed s block)
+      (λ t. changes_if_fits_so s block value h)
       (λ t. tokens.still_so reach c (lets_go s block) (lets_go_so s block h))
 
   puts_at_so : (s : Serving) (block : BlockId) (ver : ℕ) (value : Option (List ℕ)) → At s

@@ -21,7 +21,8 @@ use Rattle.index_tie.specs.Cleaning.{IsRow, LiveIsFiled, MovesAreCopies, DeadsAr
 use Rattle.index_tie.proofs.Rows.{row_versioned}
 
 -- an entry that lies somewhere is of some version
-placed_row : (b : BlockId) (f : Filed) (entry : Entry) (named : index.Entry) (place : Place) → Names b f entry named → is_place entry.place place ≡ true → IsRow b f entry
+placed_row : (b : BlockId) (f : Filed) (entry : Entry) (named : index.Entry) (place : Place) → Names b f entry named → is_place entry.place place ≡ true
+    → IsRow b f entry
 placed_row b f entry named place n is = by entry.ver refl
   where
     by : (v : ℕ) → entry.ver ≡ v → IsRow b f entry
@@ -37,7 +38,8 @@ first_of_outs [] = Dead
 first_of_outs (o ∷ os) = o
 
 pub live_is_filed : LiveIsFiled
-live_is_filed b f w s place entry m = by_test (λ (o : Out). (o ∷ []) ≡ (Live entry ∷ []) → IsRow b f entry) (is_place (entry_at s b).place place) (Live (entry_at s b)) Dead
+live_is_filed b f w s place entry m =
+    by_test (λ (o : Out). (o ∷ []) ≡ (Live entry ∷ []) → IsRow b f entry) (is_place (entry_at s b).place place) (Live (entry_at s b)) Dead
     (λ is says.
     let same : entry_at s b ≡ entry = ap (λ os. live_of (first_of_outs os) (entry_at s b)) says in
     subst (IsRow b f) same (placed_row b f (entry_at s b) (w.index s.epoch) place m.index is))
@@ -58,7 +60,8 @@ moves_are_copies b f entry said r version hop = record {
 same_place : (place : Place) → is_place (Some place) place ≡ true
 same_place place =
     let name = (eq_by_cmp_equiv seg_cmp_total).refl place.seg.name in
-    both (is_eq (seg_cmp place.seg.name place.seg.name)) (place.seg.group == place.seg.group) (place.item == place.item) name (grind (arith, nat_tests)) (grind (arith, nat_tests))
+    both (is_eq (seg_cmp place.seg.name place.seg.name)) (place.seg.group == place.seg.group) (place.item == place.item) name (grind (arith, nat_tests))
+    (grind (arith, nat_tests))
   where
     both : (x y z : Bool) → x ≡ true → y ≡ true → z ≡ true → (x && y && z) ≡ true
     both true true true _ _ _ = refl
@@ -85,7 +88,8 @@ deads_are_beats b f w s place d l q reached filed tells m lies kept_by below say
           let at_least = joins.newest l q (omega arith) in
           let is_version = m.index.version in
           let it : entry_at s b ≡ row_at f b l q = m.index.row (omega arith) ∙ ap (λ k. row_at f b k named.seq) same_log ∙ ap (row_at f b l) same_seq in
-          let here : is_place (entry_at s b).place place ≡ true = ap (λ (x : Entry). is_place x.place place) it ∙ ap (λ o. is_place o place) lies ∙ same_place place in
+          let here : is_place (entry_at s b).place place ≡ true =
+          ap (λ (x : Entry). is_place x.place place) it ∙ ap (λ o. is_place o place) lies ∙ same_place place in
           live_or_dead (sym (ap (λ t. (cond t (Live (entry_at s b)) Dead) ∷ []) here) ∙ says);
     }
   where

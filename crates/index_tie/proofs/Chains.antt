@@ -40,7 +40,10 @@ join_of_slot b slot (m ∷ ms) its =
     elim (is_of slot m) as (λ t. is_of slot m ≡ t → join (cond t (m ∷ filter (is_of slot) ms) (filter (is_of slot) ms)) b ≡ join (m ∷ ms) b) [
       | true ↦ λ _. join-cons m (filter (is_of slot) ms) b ∙ ap (first_greatest (join (m ∷ []) b)) (join_of_slot b slot ms its) ∙ sym (join-cons m ms b)
       | false ↦ λ other.
-          let apart : same_block b m.0 ≡ true → ⊥ = λ same. false≢true (sym other ∙ (let is : slot_of m.0.ino.0 ≡ slot = ap (λ (k : BlockId). slot_of k.ino.0) (same_block_exact b m.0 same) ∙ its in grind (arith, nat_tests))) in
+          let apart : same_block b m.0 ≡ true → ⊥ =
+          λ same. false≢true
+          (sym other ∙ (let is : slot_of m.0.ino.0 ≡ slot = ap (λ (k : BlockId). slot_of k.ino.0) (same_block_exact b m.0 same) ∙ its in
+          grind (arith, nat_tests))) in
           join_of_slot b slot ms its
           ∙ sym (join-cons m ms b ∙ ap (λ e. first_greatest e (join ms b)) (join-one m b ∙ says_nothing (same_block b m.0) apart) ∙ none-join ms b)
     ] refl
@@ -50,7 +53,8 @@ join_of_slot b slot (m ∷ ms) its =
     says_nothing false apart = refl
 
 told_is_said : (b : BlockId) (slot l q : ℕ) (s : Segment) → slot_of b.ino.0 ≡ slot → IsSegment l q s → join (told_of slot s) b ≡ join (rows_of s) b
-told_is_said b slot l q s its is = ap (λ parts. join (parts ++ filter (is_of slot) (rows_of s)) b) (no_part_rows slot s.items is.no_parts) ∙ join_of_slot b slot (rows_of s) its
+told_is_said b slot l q s its is =
+    ap (λ parts. join (parts ++ filter (is_of slot) (rows_of s)) b) (no_part_rows slot s.items is.no_parts) ∙ join_of_slot b slot (rows_of s) its
 
 -- so filed segments in a row tell what is filed from one seq up to another
 pub told_range : (b : BlockId) (f : Filed) (slot l n first : ℕ) → slot_of b.ino.0 ≡ slot → IsFiled f → 0 < first → first + n ≤ suc (f.head l)
@@ -58,9 +62,11 @@ pub told_range : (b : BlockId) (f : Filed) (slot l n first : ℕ) → slot_of b.
 told_range b f slot l zero first its filed some most = refl
 told_range b f slot l (suc n) first its filed some most =
     let rest = range_with_len (first + 1) n in
-    let says : join (rows_of (f.segment l first)) b ≡ join (rows_at f l first) b = ap (λ r. join r b) (sym (first_of (nat_lt 0 first && nat_le first (f.head l)) (rows_of (f.segment l first)) [] (grind (arith, nat_tests)))) in
+    let says : join (rows_of (f.segment l first)) b ≡ join (rows_at f l first) b =
+    ap (λ r. join r b) (sym (first_of (nat_lt 0 first && nat_le first (f.head l)) (rows_of (f.segment l first)) [] (grind (arith, nat_tests)))) in
     join-append (told_of slot (f.segment l first)) (told_along slot (map (f.segment l) rest)) b
-    ∙ ap (λ e. first_greatest e (join (told_along slot (map (f.segment l) rest)) b)) (told_is_said b slot l first (f.segment l first) its (filed.each l first some (omega arith)) ∙ says)
+    ∙ ap (λ e. first_greatest e (join (told_along slot (map (f.segment l) rest)) b))
+    (told_is_said b slot l first (f.segment l first) its (filed.each l first some (omega arith)) ∙ says)
     ∙ ap (first_greatest (join (rows_at f l first) b)) (told_range b f slot l n (first + 1) its filed (omega arith) (omega arith))
     ∙ sym (join-append (rows_at f l first) (flat_map (rows_at f l) rest) b)
 
@@ -100,9 +106,11 @@ some_prior inc u some = grind (arith, nat_tests)
 deeper : (low q seq at : ℕ) (t : Bool) → at ≡ low → seq ≡ q → (nat_lt at seq && not t) ≡ true → low < q
 deeper low q seq at t is_low is_seq back = grind (arith, nat_tests)
 
-module _ (f : Filed) (l low : ℕ) (end : End) (filed : IsFiled f) (some : 0 < low) (within : low ≤ end.seq) (is_end : IsEnd f l end) (linked : Linked f l low end.seq) where
+module _ (f : Filed) (l low : ℕ) (end : End) (filed : IsFiled f) (some : 0 < low) (within : low ≤ end.seq) (is_end : IsEnd f l end)
+    (linked : Linked f l low end.seq) where
   -- the segment that was looked for was read, and the one before it is next
-  reads_on : (at : Source) (s : Segment) (chain : List Segment) → NextIs f l low end.seq at chain → s.name ≡ at.seg.name → IsItsText f s → Stands f l low end.seq (back_from at s) (s ∷ chain)
+  reads_on : (at : Source) (s : Segment) (chain : List Segment) → NextIs f l low end.seq at chain → s.name ≡ at.seg.name → IsItsText f s
+      → Stands f l low end.seq (back_from at s) (s ∷ chain)
   reads_on at s chain n name text =
       let q = n.q in
       let from = n.from in
@@ -111,7 +119,8 @@ module _ (f : Filed) (l low : ℕ) (end : End) (filed : IsFiled f) (some : 0 < l
       let is : s ≡ f.segment l q = text l q (omega arith) (omega arith) (name ∙ n.named) in
       let its = filed.each l q (omega arith) (omega arith) in
       let seq : s.name.seq ≡ q = ap (λ (x : Segment). x.name.seq) is ∙ its.seq in
-      let read : s ∷ chain ≡ map (f.segment l) (range_with_len q (suc end.seq - q)) = ap (λ x. x ∷ chain) is ∙ ap (λ c. f.segment l q ∷ c) n.read ∙ sym (range_first (f.segment l) q (suc end.seq - q) (end.seq - q) (omega arith)) in
+      let read : s ∷ chain ≡ map (f.segment l) (range_with_len q (suc end.seq - q)) =
+      ap (λ x. x ∷ chain) is ∙ ap (λ c. f.segment l q ∷ c) n.read ∙ sym (range_first (f.segment l) q (suc end.seq - q) (end.seq - q) (omega arith)) in
       let prior : low < q → s.prior.pass ≡ (f.segment l (q - 1)).name.pass = λ less.
       let one : suc (q - 1) ≡ q = omega arith in
       ap (λ (x : Segment). x.prior.pass) is ∙ sym (ap (λ k. (f.segment l k).prior.pass) one) ∙ linked (q - 1) (omega arith) (omega arith) in
@@ -130,15 +139,18 @@ module _ (f : Filed) (l low : ℕ) (end : End) (filed : IsFiled f) (some : 0 < l
               from = omega arith;
               upto = omega arith;
               low_is = low_is;
-              named = same_name (prior_of s).name (f.segment l (q - 1)).name (ap (λ (x : Segment). x.name.log.0) is ∙ its.log ∙ sym below.log) (ap (λ k. k - 1) seq ∙ sym below.seq) (prior less);
-              read = read ∙ ap (λ k. map (f.segment l) (range_with_len k (suc end.seq - q))) one ∙ ap (λ k. map (f.segment l) (range_with_len (q - 1 + 1) k)) count;
+              named = same_name (prior_of s).name (f.segment l (q - 1)).name (ap (λ (x : Segment). x.name.log.0) is ∙ its.log ∙ sym below.log)
+                  (ap (λ k. k - 1) seq ∙ sym below.seq) (prior less);
+              read = read ∙ ap (λ k. map (f.segment l) (range_with_len k (suc end.seq - q))) one
+                  ∙ ap (λ k. map (f.segment l) (range_with_len (q - 1 + 1) k)) count;
             }
         | false ↦ λ stop.
             let least : low ≡ q = lowest low q s.name.seq at.low (is_none s.prior) low_is seq from named stop in
             read ∙ ap (λ k. map (f.segment l) (range_with_len k (suc end.seq - k))) (sym least)
       ] refl
 
-  stands : (chain : List Segment) (left : Option Source) → IsReadBack (log_source l low end) chain left → AllByRecursion (IsItsText f) chain → Stands f l low end.seq left chain
+  stands : (chain : List Segment) (left : Option Source) → IsReadBack (log_source l low end) chain left → AllByRecursion (IsItsText f) chain
+      → Stands f l low end.seq left chain
   stands [] left read texts =
       let head = is_end.filed in
       let its = filed.each l end.seq (omega arith) head in
@@ -151,10 +163,12 @@ module _ (f : Filed) (l low : ℕ) (end : End) (filed : IsFiled f) (some : 0 < l
         named = same_name (log_source l low end).seg.name (f.segment l end.seq).name (sym its.log) (sym its.seq) is_end.named;
         read = ap (λ k. map (f.segment l) (range_with_len (end.seq + 1) k)) none;
       })
-  stands (s ∷ above) left read texts = subst (λ o. Stands f l low end.seq o (s ∷ above)) (sym read.3) (reads_on read.0 s above (stands above (Some read.0) read.1 texts.1) read.2 texts.0)
+  stands (s ∷ above) left read texts =
+      subst (λ o. Stands f l low end.seq o (s ∷ above)) (sym read.3) (reads_on read.0 s above (stands above (Some read.0) read.1 texts.1) read.2 texts.0)
 
   -- a log that was read whole tells what it filed from the horizon to its end
-  pub log_tells : (b : BlockId) (slot : ℕ) (chain : List Segment) → slot_of b.ino.0 ≡ slot → IsReadBack (log_source l low end) chain None → AllByRecursion (IsItsText f) chain
+  pub log_tells : (b : BlockId) (slot : ℕ) (chain : List Segment) → slot_of b.ino.0 ≡ slot → IsReadBack (log_source l low end) chain None
+      → AllByRecursion (IsItsText f) chain
       → join (told_along slot chain) b ≡ join (rows_between f l low end.seq) b
   log_tells b slot chain its read texts =
       let head = is_end.filed in

@@ -22,11 +22,13 @@ blocks-checks n (Block block value ∷ items) = ap (λ bs. block ∷ bs) (blocks
 blocks-checks n (Delta block ver hop item ∷ items) = blocks-checks (n + 1) items
 blocks-checks n (Part slot rows ∷ items) = blocks-checks (n + 1) items
 
-pub blocks-map : (g : Check → Check) → ((c : Check) → (g c).block ≡ c.block) → (checks : List Check) → map (λ (c : Check). c.block) (map g checks) ≡ map (λ (c : Check). c.block) checks
+pub blocks-map : (g : Check → Check) → ((c : Check) → (g c).block ≡ c.block) → (checks : List Check)
+    → map (λ (c : Check). c.block) (map g checks) ≡ map (λ (c : Check). c.block) checks
 blocks-map g same [] = refl
 blocks-map g same (c ∷ cs) = λ k. same c k ∷ blocks-map g same cs k
 
-pub all-map : (P Q : Check → Type 0) (g : Check → Check) → ((c : Check) → P c → Q (g c)) → (checks : List Check) → AllByRecursion P checks → AllByRecursion Q (map g checks)
+pub all-map : (P Q : Check → Type 0) (g : Check → Check) → ((c : Check) → P c → Q (g c)) → (checks : List Check) → AllByRecursion P checks
+    → AllByRecursion Q (map g checks)
 all-map P Q g keeps [] all = tt
 all-map P Q g keeps (c ∷ cs) all = (keeps c all.0, all-map P Q g keeps cs all.1)
 
@@ -35,11 +37,13 @@ all-each P each [] = tt
 all-each P each (c ∷ cs) = (each c, all-each P each cs)
 
 -- where each check is dead and one is of the block, what holds of such holds
-pub of_dead : (b : BlockId) (X : Type 0) (checks : List Check) → all_dead checks ≡ true → list_any (same_block b) (map (λ (c : Check). c.block) checks) ≡ true → AllByRecursion (λ (c : Check). c.block ≡ b → is_dead c.fate ≡ true → X) checks → X
+pub of_dead : (b : BlockId) (X : Type 0) (checks : List Check) → all_dead checks ≡ true → list_any (same_block b) (map (λ (c : Check). c.block) checks) ≡ true
+    → AllByRecursion (λ (c : Check). c.block ≡ b → is_dead c.fate ≡ true → X) checks → X
 of_dead b X [] dead any all = absurd (false≢true any)
 of_dead b X (c ∷ cs) dead any all = by (λ rest. of_dead b X cs (and_second (is_dead c.fate) (all_dead cs) dead) rest all.1) (same_block b c.block) refl any
   where
-    by : (list_any (same_block b) (map (λ (d : Check). d.block) cs) ≡ true → X) → (t : Bool) → same_block b c.block ≡ t → (t || list_any (same_block b) (map (λ (d : Check). d.block) cs)) ≡ true → X
+    by : (list_any (same_block b) (map (λ (d : Check). d.block) cs) ≡ true → X) → (t : Bool) → same_block b c.block ≡ t
+        → (t || list_any (same_block b) (map (λ (d : Check). d.block) cs)) ≡ true → X
     by on true same _ = all.0 (same_block_exact b c.block same) (and_first (is_dead c.fate) (all_dead cs) dead)
     by on false _ rest = on rest
 
@@ -56,7 +60,8 @@ moved_stays fate.Moved h = absurd (false≢true h)
 moved_stays fate.Dead h = refl
 
 pub live_block : (block : BlockId) (entry : Entry) (c : Check) → (live_at block entry c).block ≡ c.block
-live_block block entry c = by_test (λ (d : Check). d.block ≡ c.block) (same_block c.block block) (record c { fate = after_live entry c.fate }) c (λ t. refl) (λ t. refl)
+live_block block entry c =
+    by_test (λ (d : Check). d.block ≡ c.block) (same_block c.block block) (record c { fate = after_live entry c.fate }) c (λ t. refl) (λ t. refl)
 
 pub dead_block : (block : BlockId) (c : Check) → (dead_at block c).block ≡ c.block
 dead_block block c = by_test (λ (d : Check). d.block ≡ c.block) (same_block c.block block) (record c { fate = after_dead c.fate }) c (λ t. refl) (λ t. refl)

@@ -31,7 +31,8 @@ pub parts_cover : PartsCover
 parts_cover b f w s holds events segments horizon reached filed tells m pages all laid next =
     let e = s.epoch in
     let bounds = index_in_bounds_always w reached in
-    let held : join (rows_in holds (after_event (slot_after events) (Written segments)).parts) b ≡ entry_at s b = is_the_index holds events segments b all laid ∙ ap (λ (p : PagesState). entry_of p.rows b) pages in
+    let held : join (rows_in holds (after_event (slot_after events) (Written segments)).parts) b ≡ entry_at s b =
+    is_the_index holds events segments b all laid ∙ ap (λ (p : PagesState). entry_of p.rows b) pages in
     let upto : (l : ℕ) → w.applied e l ≡ below horizon l = by_log (λ l. w.applied e l ≡ below horizon l)
     (λ l some most. let a = next l some most in m.applied l some ∙ (omega arith))
     (λ l out. let a = bounds.applied_filed e l in let h = tells.head l in let n = filed.others l out in let o = of_log_out horizon l out in omega arith) in
@@ -56,7 +57,8 @@ record IsOneRead (part : SegRef) (chain : List Segment) : Type 0 where
   alone : chain ≡ segment ∷ []
   named : segment.name ≡ part.name
 
-read_once : (part : SegRef) (chain : List Segment) (left : Option Source) → IsReadBack (part_source part) chain left → (left ≡ None → IsOneRead part chain) × ((at : Source) → left ≡ Some at → chain ≡ [])
+read_once : (part : SegRef) (chain : List Segment) (left : Option Source) → IsReadBack (part_source part) chain left
+    → (left ≡ None → IsOneRead part chain) × ((at : Source) → left ≡ Some at → chain ≡ [])
 read_once part [] left read = ((λ none. absurd (some_is (part_source part) (sym read ∙ none))), (λ at is. refl))
   where
     some_is : (at : Source) → Some at ≡ None → ⊥
@@ -64,7 +66,9 @@ read_once part [] left read = ((λ none. absurd (some_is (part_source part) (sym
 read_once part (s ∷ []) left read =
     let at : read.0 ≡ part_source part = ap (λ o. unwrap_or o (part_source part)) read.1 in
     let named : s.name ≡ part.name = read.2 ∙ ap (λ (x : Source). x.seg.name) at in
-    let none : left ≡ None = read.3 ∙ ap (λ a. back_from a s) at ∙ second_of (goes_back (part_source part) s) (Some (record { seg = prior_of s; low = part.name.seq })) None (stops part s named) in
+    let none : left ≡ None =
+    read.3 ∙ ap (λ a. back_from a s) at
+    ∙ second_of (goes_back (part_source part) s) (Some (record { seg = prior_of s; low = part.name.seq })) None (stops part s named) in
     ((λ _. record { segment = s; alone = refl; named = named }), (λ a some. absurd (none_is a (sym none ∙ some))))
   where
     none_is : (a : Source) → None ≡ Some a → ⊥
@@ -74,11 +78,13 @@ read_once part (s ∷ t ∷ more) left read = absurd (longer (((read_once part (
     longer : t ∷ more ≡ [] → ⊥
     longer h = absurd (cc)
 
-of_others : (slot : ℕ) (holds : SegRef → Rows) (part : SegRef) (parts : List SegRef) (chain : List Segment) → AllByRecursion (TellsPart slot holds (part ∷ parts)) chain → AllByRecursion (TellsPart slot holds parts) chain
+of_others : (slot : ℕ) (holds : SegRef → Rows) (part : SegRef) (parts : List SegRef) (chain : List Segment)
+    → AllByRecursion (TellsPart slot holds (part ∷ parts)) chain → AllByRecursion (TellsPart slot holds parts) chain
 of_others slot holds part parts [] all = tt
 of_others slot holds part parts (s ∷ ss) all = (all.0.1, of_others slot holds part parts ss all.1)
 
-of_all_others : (slot : ℕ) (holds : SegRef → Rows) (part : SegRef) (parts : List SegRef) (chains : List (List Segment)) → AllByRecursion (AllByRecursion (TellsPart slot holds (part ∷ parts))) chains
+of_all_others : (slot : ℕ) (holds : SegRef → Rows) (part : SegRef) (parts : List SegRef) (chains : List (List Segment))
+    → AllByRecursion (AllByRecursion (TellsPart slot holds (part ∷ parts))) chains
     → AllByRecursion (AllByRecursion (TellsPart slot holds parts)) chains
 of_all_others slot holds part parts [] all = tt
 of_all_others slot holds part parts (c ∷ cs) all = (of_others slot holds part parts c all.0, of_all_others slot holds part parts cs all.1)

@@ -52,7 +52,9 @@ polled_at w p e = by (nat_lt w.promised e) (nat_lt p e) refl
     above : (x y : ℕ) → nat_lt x y ≡ true → x < y
     above x y h = grind (arith, nat_tests)
 
-    by : (t u : Bool) → nat_lt w.promised e ≡ t → (cond t (cond u (w.polled e) (w.head w.cleaner)) (w.polled e) ≡ w.polled e) ⊎ ((w.promised < e) × (cond t (cond u (w.polled e) (w.head w.cleaner)) (w.polled e) ≡ w.head w.cleaner))
+    by : (t u : Bool) → nat_lt w.promised e ≡ t
+        → (cond t (cond u (w.polled e) (w.head w.cleaner)) (w.polled e) ≡ w.polled e)
+        ⊎ ((w.promised < e) × (cond t (cond u (w.polled e) (w.head w.cleaner)) (w.polled e) ≡ w.head w.cleaner))
     by true true is = inl refl
     by true false is = inr (above w.promised e is, refl)
     by false u is = inl refl
@@ -96,34 +98,44 @@ module _ (b : BlockId) (f : Filed) where
     deleting_fine : (j : JobState) (segment : SegRef) → IsDropped b f dropped segment.name → Fine (deleting j segment)
     deleting_fine j segment e = (e, says_deletes segment.name (servers_of j.groups segment) e)
 
-    deleted_fine : (server : ℕ) (name : SegName) (j : JobState) (segment : SegRef) (servers : List ℕ) → IsDropped b f dropped segment.name → Fine (on_deleted server name j segment servers)
+    deleted_fine : (server : ℕ) (name : SegName) (j : JobState) (segment : SegRef) (servers : List ℕ) → IsDropped b f dropped segment.name
+        → Fine (on_deleted server name j segment servers)
     deleted_fine server name j segment servers e =
-        by_test Fine (same_name name segment.name && is_among servers server) (left_to_delete j segment (without servers server)) (still (Deleting j segment servers))
-        (λ t. by_test Fine (length (without servers server) == 0) (next (counted j)) (still (Deleting j segment (without servers server))) (λ u. next_fine j.left (counted j)) (λ u. (e, tt)))
+        by_test Fine (same_name name segment.name && is_among servers server) (left_to_delete j segment (without servers server))
+        (still (Deleting j segment servers))
+        (λ t. by_test Fine (length (without servers server) == 0) (next (counted j)) (still (Deleting j segment (without servers server)))
+        (λ u. next_fine j.left (counted j)) (λ u. (e, tt)))
         (λ t. (e, tt))
 
-    checking_fine : (j : JobState) (segment : SegRef) (checks : List Check) → IsChecked b f dead_table segment.name checks → (all_dead checks ≡ true → IsDropped b f dropped segment.name) → Fine (checking j segment checks)
+    checking_fine : (j : JobState) (segment : SegRef) (checks : List Check) → IsChecked b f dead_table segment.name checks
+        → (all_dead checks ≡ true → IsDropped b f dropped segment.name) → Fine (checking j segment checks)
     unfolding checking
     checking_fine j segment checks k drops =
         by_test Fine (all_dead checks) (deleting j segment) (record { state = Checking j segment checks; outs = questions segment checks })
         (λ t. deleting_fine j segment (drops t))
         (λ t. (k, says_questions segment checks))
 
-    looked_fine : (j : JobState) (segment : SegRef) (was_asked : Bool) (checks : List Check) → IsChecked b f dead_table segment.name checks → (all_dead checks ≡ true → IsDropped b f dropped segment.name) → Fine (looked_at j segment was_asked checks)
+    looked_fine : (j : JobState) (segment : SegRef) (was_asked : Bool) (checks : List Check) → IsChecked b f dead_table segment.name checks
+        → (all_dead checks ≡ true → IsDropped b f dropped segment.name) → Fine (looked_at j segment was_asked checks)
     unfolding looked_at
     looked_fine j segment was_asked checks k drops =
-        by_test Fine (all_dead checks) (deleting j segment) (cond (was_asked && not (any_asked checks)) (record { state = Checking j segment checks; outs = out.Move (moves checks) ∷ [] }) (still (Checking j segment checks)))
+        by_test Fine (all_dead checks) (deleting j segment)
+        (cond (was_asked && not (any_asked checks)) (record { state = Checking j segment checks; outs = out.Move (moves checks) ∷ [] })
+        (still (Checking j segment checks)))
         (λ t. deleting_fine j segment (drops t))
-        (λ t. by_test Fine (was_asked && not (any_asked checks)) (record { state = Checking j segment checks; outs = out.Move (moves checks) ∷ [] }) (still (Checking j segment checks)) (λ u. (k, (tt, tt))) (λ u. (k, tt)))
+        (λ t. by_test Fine (was_asked && not (any_asked checks)) (record { state = Checking j segment checks; outs = out.Move (moves checks) ∷ [] })
+        (still (Checking j segment checks)) (λ u. (k, (tt, tt))) (λ u. (k, tt)))
 
     listed_fine : (l : ListingState) → Fine (listed l)
     listed_fine l =
-        by_test Fine (length l.awaited == 0) (record { state = Counting (record { groups = l.groups; candidates = l.candidates; usages = [] }); outs = usage_asks all_slots }) (still (Listing l))
+        by_test Fine (length l.awaited == 0)
+        (record { state = Counting (record { groups = l.groups; candidates = l.candidates; usages = [] }); outs = usage_asks all_slots }) (still (Listing l))
         (λ t. (tt, says_usage_asks all_slots))
         (λ t. (tt, tt))
 
     listed_in_fine : (server : ℕ) (held : List FragMeta) (p : Phase) → KnownIn p → Fine (listed_in server held p)
-    listed_in_fine server held (Listing l) k = by_test Fine (is_among l.awaited server) (listed (heard l server held)) (still (Listing l)) (λ t. listed_fine (heard l server held)) (λ t. (tt, tt))
+    listed_in_fine server held (Listing l) k =
+        by_test Fine (is_among l.awaited server) (listed (heard l server held)) (still (Listing l)) (λ t. listed_fine (heard l server held)) (λ t. (tt, tt))
     listed_in_fine server held p k = (k, tt)
 
     counted_fine : (count : ℕ) (c : CountingState) → Fine (step.counted count c)
@@ -134,12 +146,14 @@ module _ (b : BlockId) (f : Filed) where
 
     counted_in_fine : (count slot : ℕ) (counts : _) (p : Phase) → KnownIn p → Fine (counted_in count slot counts p)
     counted_in_fine count slot counts (Counting c) k =
-        by_test Fine (has_usage c.usages slot) (still (Counting c)) (step.counted count (usage_with slot counts c)) (λ t. (tt, tt)) (λ t. counted_fine count (usage_with slot counts c))
+        by_test Fine (has_usage c.usages slot) (still (Counting c)) (step.counted count (usage_with slot counts c)) (λ t. (tt, tt))
+        (λ t. counted_fine count (usage_with slot counts c))
     counted_in_fine count slot counts p k = (k, tt)
 
     forgetting_fine : (slot : ℕ) (p : Phase) → KnownIn p → Fine (forgetting slot p)
     forgetting_fine slot (Counting c) k =
-        by_test Fine (has_usage c.usages slot) (record { state = Counting (forgotten slot c); outs = out.UsageAsk slot ∷ [] }) (still (Counting c)) (λ t. (tt, (tt, tt))) (λ t. (tt, tt))
+        by_test Fine (has_usage c.usages slot) (record { state = Counting (forgotten slot c); outs = out.UsageAsk slot ∷ [] }) (still (Counting c))
+        (λ t. (tt, (tt, tt))) (λ t. (tt, tt))
     forgetting_fine slot p k = (k, tt)
 
     mapped_fine : (groups : GroupMapState) (p : Phase) → KnownIn p → KnownIn (mapped groups p)
@@ -160,18 +174,21 @@ module _ (b : BlockId) (f : Filed) where
     awaits_fine Over k = tt
 
     -- checks that a change leaves as dead as they were
-    checked_map : (name : SegName) (checks : List Check) (g : Check → Check) → ((c : Check) → (g c).block ≡ c.block) → ((c : Check) → is_dead (g c).fate ≡ true → is_dead c.fate ≡ true) → IsChecked b f dead_table name checks
+    checked_map : (name : SegName) (checks : List Check) (g : Check → Check) → ((c : Check) → (g c).block ≡ c.block)
+        → ((c : Check) → is_dead (g c).fate ≡ true → is_dead c.fate ≡ true) → IsChecked b f dead_table name checks
         → IsChecked b f dead_table name (map g checks)
     checked_map name checks g same dead k = record {
       within = k.within;
       blocks = λ is. blocks-map g same checks ∙ k.blocks is;
-      counted = λ is has. all-map (λ c. c.block ≡ b → is_dead c.fate ≡ true → 0 < dead_table name.log.0 name.seq) (λ c. c.block ≡ b → is_dead c.fate ≡ true → 0 < dead_table name.log.0 name.seq) g
+      counted = λ is has. all-map (λ c. c.block ≡ b → is_dead c.fate ≡ true → 0 < dead_table name.log.0 name.seq)
+          (λ c. c.block ≡ b → is_dead c.fate ≡ true → 0 < dead_table name.log.0 name.seq) g
           (λ c so at now. so (sym (same c) ∙ at) (dead c now)) checks (k.counted is has);
     }
 
     moved_fine : (p : Phase) → KnownIn p → Fine (moved_in p)
     moved_fine (Checking j segment checks) k =
-        by_test Fine (is_moving checks) (record { state = Checking j segment (map moved_at checks); outs = questions segment (map moved_at checks) }) (still (Checking j segment checks))
+        by_test Fine (is_moving checks) (record { state = Checking j segment (map moved_at checks); outs = questions segment (map moved_at checks) })
+        (still (Checking j segment checks))
         (λ t. (checked_map segment.name checks moved_at (λ c. refl) (λ c. moved_stays c.fate) k, says_questions segment (map moved_at checks)))
         (λ t. (k, tt))
     moved_fine p k = (k, tt)
@@ -210,11 +227,20 @@ module _ (b : BlockId) (f : Filed) where
       q = name.seq
 
       same : (((is_filed_name f name ≡ true) → (has_block b f name ≡ true) → all_dead checks ≡ true → ⊥)) → Ends w name checks
-      same never = record { state = w; steps = Ended; frame = refl; promised = refl; polled = λ e. refl; checked = k; drops = λ dead. record { within = k.within; is = λ is has. absurd (never is has dead) } }
+      same never = record {
+        state = w;
+        steps = Ended;
+        frame = refl;
+        promised = refl;
+        polled = λ e. refl;
+        checked = k;
+        drops = λ dead. record { within = k.within; is = λ is has. absurd (never is has dead) };
+      }
 
       by : (t u v : Bool) → is_filed_name f name ≡ t → has_block b f name ≡ u → all_dead checks ≡ v → Ends w name checks
       by true true true is has dead =
-          let some : 0 < w.dead_at name.log.0 name.seq = of_dead b (0 < w.dead_at name.log.0 name.seq) checks dead (ap (list_any (same_block b)) (k.blocks is) ∙ has) (k.counted is has) in
+          let some : 0 < w.dead_at name.log.0 name.seq =
+          of_dead b (0 < w.dead_at name.log.0 name.seq) checks dead (ap (list_any (same_block b)) (k.blocks is) ∙ has) (k.counted is has) in
           record {
             state = drops_row w name.log.0 name.seq;
             steps = More Ended (Drops_row name.log.0 name.seq (record { counted = some }));
@@ -222,16 +248,31 @@ module _ (b : BlockId) (f : Filed) where
             promised = refl;
             polled = λ e. refl;
             checked = k;
-            drops = λ _. record { within = k.within; is = λ _ _. at_same name.log.0 (cond (name.seq == name.seq) 1 (w.dropped name.log.0 name.seq)) (w.dropped name.log.0 name.seq) ∙ at_same name.seq 1 (w.dropped name.log.0 name.seq) };
+            drops = λ _. record {
+              within = k.within;
+              is = λ _ _. at_same name.log.0 (cond (name.seq == name.seq) 1 (w.dropped name.log.0 name.seq)) (w.dropped name.log.0 name.seq)
+                  ∙ at_same name.seq 1 (w.dropped name.log.0 name.seq);
+            };
           }
       by true true false is has alive = same (λ _ _ dead. false≢true (sym alive ∙ dead))
       by true false v is none alive = same (λ _ has _. false≢true (sym none ∙ has))
       by false u v twin has alive = same (λ is _ _. false≢true (sym twin ∙ is))
 
-  looked : (w : IndexState) (j : JobState) (segment : SegRef) (was_asked : Bool) (checks : List Check) → IsChecked b f w.dead_at segment.name checks → Turned w (looked_at j segment was_asked checks)
-  looked w j segment was_asked checks k = let e = ends w segment.name checks k in record { state = e.state; steps = e.steps; frame = e.frame; promised = e.promised; polled = e.polled; fine = looked_fine e.state.dead_at e.state.dropped j segment was_asked checks e.checked e.drops }
+  looked : (w : IndexState) (j : JobState) (segment : SegRef) (was_asked : Bool) (checks : List Check) → IsChecked b f w.dead_at segment.name checks
+      → Turned w (looked_at j segment was_asked checks)
+  looked w j segment was_asked checks k = let e =
+      ends w segment.name checks k in
+      record {
+        state = e.state;
+        steps = e.steps;
+        frame = e.frame;
+        promised = e.promised;
+        polled = e.polled;
+        fine = looked_fine e.state.dead_at e.state.dropped j segment was_asked checks e.checked e.drops;
+      }
 
-  checked_first : (w : IndexState) (j : JobState) (segment : SegRef) (read : Segment) → IsWithin f segment.name → (is_filed_name f segment.name ≡ true → read ≡ f.segment segment.name.log.0 segment.name.seq) → Turned w (checking j segment (checks_from 0 read.items))
+  checked_first : (w : IndexState) (j : JobState) (segment : SegRef) (read : Segment) → IsWithin f segment.name
+      → (is_filed_name f segment.name ≡ true → read ≡ f.segment segment.name.log.0 segment.name.seq) → Turned w (checking j segment (checks_from 0 read.items))
   checked_first w j segment read within text =
       let checks = checks_from 0 read.items in
       let k : IsChecked b f w.dead_at segment.name checks = record {
@@ -240,9 +281,17 @@ module _ (b : BlockId) (f : Filed) where
         counted = λ is has. weaker checks (none_dead 0 read.items);
       } in
       let e = ends w segment.name checks k in
-      record { state = e.state; steps = e.steps; frame = e.frame; promised = e.promised; polled = e.polled; fine = checking_fine e.state.dead_at e.state.dropped j segment checks e.checked e.drops }
+      record {
+        state = e.state;
+        steps = e.steps;
+        frame = e.frame;
+        promised = e.promised;
+        polled = e.polled;
+        fine = checking_fine e.state.dead_at e.state.dropped j segment checks e.checked e.drops;
+      }
     where
-      weaker : (cs : List Check) → AllByRecursion (λ (c : Check). is_dead c.fate ≡ false) cs → AllByRecursion (λ (c : Check). c.block ≡ b → is_dead c.fate ≡ true → 0 < w.dead_at segment.name.log.0 segment.name.seq) cs
+      weaker : (cs : List Check) → AllByRecursion (λ (c : Check). is_dead c.fate ≡ false) cs
+          → AllByRecursion (λ (c : Check). c.block ≡ b → is_dead c.fate ≡ true → 0 < w.dead_at segment.name.log.0 segment.name.seq) cs
       weaker [] all = tt
       weaker (c ∷ cs) all = ((λ _ dead. absurd (false≢true (sym all.0 ∙ dead))), weaker cs all.1)
 
@@ -254,32 +303,43 @@ module _ (b : BlockId) (f : Filed) where
       (λ t. by_nothing w (still (Reading j segment)) (tt, tt))
   read_turned w read p k owes = by_nothing w (still p) (k, tt)
 
-  live_turned : (w : IndexState) (block : BlockId) (entry : Entry) (p : Phase) → Known b f w.dead_at w.dropped p → Turned w (answered_in (live_at block entry) p)
+  live_turned : (w : IndexState) (block : BlockId) (entry : Entry) (p : Phase) → Known b f w.dead_at w.dropped p
+      → Turned w (answered_in (live_at block entry) p)
   live_turned w block entry (Checking j segment checks) k =
       looked w j segment (any_asked checks) (map (live_at block entry) checks)
       (checked_map w.dead_at w.dropped segment.name checks (live_at block entry) (live_block block entry)
-      (λ c. by_test (λ (d : Check). is_dead d.fate ≡ true → is_dead c.fate ≡ true) (same_block c.block block) (record c { fate = after_live entry c.fate }) c (λ _. live_stays entry c.fate) (λ _ h. h))
+      (λ c. by_test (λ (d : Check). is_dead d.fate ≡ true → is_dead c.fate ≡ true) (same_block c.block block) (record c { fate = after_live entry c.fate }) c
+      (λ _. live_stays entry c.fate) (λ _ h. h))
       k)
   live_turned w block entry p k = by_nothing w (still p) (k, tt)
 
   -- what is answered Dead of the block is counted
-  dead_turned : (w : IndexState) (block : BlockId) (epoch : ℕ) (p : Phase) → Known b f w.dead_at w.dropped p → (block ≡ b → ToldFor b f w epoch p) → (block ≡ b → 0 < epoch → epoch ≡ w.promised) → Turned w (answered_in (dead_at block) p)
-  dead_turned w block epoch (Checking j segment checks) k told latest = by (is_filed_name f segment.name) (has_block b f segment.name) (same_block b block) refl refl refl
+  dead_turned : (w : IndexState) (block : BlockId) (epoch : ℕ) (p : Phase) → Known b f w.dead_at w.dropped p → (block ≡ b → ToldFor b f w epoch p)
+      → (block ≡ b → 0 < epoch → epoch ≡ w.promised) → Turned w (answered_in (dead_at block) p)
+  dead_turned w block epoch (Checking j segment checks) k told latest =
+      by (is_filed_name f segment.name) (has_block b f segment.name) (same_block b block) refl refl refl
     where
       -- checks whose counts are as they have to be
-      dead_checks : (table : ℕ → ℕ → ℕ) → (is_filed_name f segment.name ≡ true → has_block b f segment.name ≡ true → AllByRecursion (λ (c : Check). c.block ≡ b → is_dead c.fate ≡ true → 0 < table segment.name.log.0 segment.name.seq) (map (dead_at block) checks))
+      dead_checks : (table : ℕ → ℕ → ℕ)
+          → (is_filed_name f segment.name ≡ true → has_block b f segment.name ≡ true
+          → AllByRecursion (λ (c : Check). c.block ≡ b → is_dead c.fate ≡ true → 0 < table segment.name.log.0 segment.name.seq) (map (dead_at block) checks))
           → IsChecked b f table segment.name (map (dead_at block) checks)
       dead_checks table all = record { within = k.within; blocks = λ is. blocks-map (dead_at block) (dead_block block) checks ∙ k.blocks is; counted = all }
 
       -- a check of another block is as dead as it was
-      elsewhere : same_block b block ≡ false → (c : Check) → (c.block ≡ b → is_dead c.fate ≡ true → 0 < w.dead_at segment.name.log.0 segment.name.seq) → (dead_at block c).block ≡ b → is_dead (dead_at block c).fate ≡ true
+      elsewhere : same_block b block ≡ false → (c : Check) → (c.block ≡ b → is_dead c.fate ≡ true → 0 < w.dead_at segment.name.log.0 segment.name.seq)
+          → (dead_at block c).block ≡ b → is_dead (dead_at block c).fate ≡ true
           → 0 < w.dead_at segment.name.log.0 segment.name.seq
-      elsewhere other c = by_test (λ (d : Check). (c.block ≡ b → is_dead c.fate ≡ true → 0 < w.dead_at segment.name.log.0 segment.name.seq) → d.block ≡ b → is_dead d.fate ≡ true → 0 < w.dead_at segment.name.log.0 segment.name.seq)
+      elsewhere other c =
+          by_test (λ (d : Check). (c.block ≡ b → is_dead c.fate ≡ true → 0 < w.dead_at segment.name.log.0 segment.name.seq) → d.block ≡ b
+          → is_dead d.fate ≡ true → 0 < w.dead_at segment.name.log.0 segment.name.seq)
           (same_block c.block block) (record c { fate = after_dead c.fate }) c
-          (λ t so at dead. let is : block ≡ b = same_block_exact c.block block t ∙ at in absurd (false≢true (sym other ∙ ap (same_block b) is ∙ same_block_itself b)))
+          (λ t so at dead. let is : block ≡ b = same_block_exact c.block block t ∙ at in
+          absurd (false≢true (sym other ∙ ap (same_block b) is ∙ same_block_itself b)))
           (λ t so. so)
 
-      by : (t u v : Bool) → is_filed_name f segment.name ≡ t → has_block b f segment.name ≡ u → same_block b block ≡ v → Turned w (looked_at j segment (any_asked checks) (map (dead_at block) checks))
+      by : (t u v : Bool) → is_filed_name f segment.name ≡ t → has_block b f segment.name ≡ u → same_block b block ≡ v
+          → Turned w (looked_at j segment (any_asked checks) (map (dead_at block) checks))
       by true true true is has same =
           let l = segment.name.log.0 in
           let q = segment.name.seq in
@@ -288,13 +348,26 @@ module _ (b : BlockId) (f : Filed) where
           let v = counts w epoch l q in
           let now : v.dead_at l q ≡ epoch = at_same l (cond (q == q) epoch (w.dead_at l q)) (w.dead_at l q) ∙ at_same q epoch (w.dead_at l q) in
           let some : 0 < v.dead_at l q = subst (λ n. 0 < n) (sym now) was.0 in
-          let t = looked v j segment (any_asked checks) (map (dead_at block) checks) (dead_checks v.dead_at (λ _ _. all-each (λ c. c.block ≡ b → is_dead c.fate ≡ true → 0 < v.dead_at l q) (λ c _ _. some) (map (dead_at block) checks))) in
-          record { state = t.state; steps = index_steps_on w v t.state (More Ended (Counts epoch l q (record { told = was.1; latest = latest at was.0 }))) t.steps; frame = t.frame; promised = t.promised; polled = t.polled; fine = t.fine }
+          let t = looked v j segment (any_asked checks) (map (dead_at block) checks)
+          (dead_checks v.dead_at (λ _ _. all-each (λ c. c.block ≡ b → is_dead c.fate ≡ true → 0 < v.dead_at l q) (λ c _ _. some) (map (dead_at block) checks)))
+          in
+          record {
+            state = t.state;
+            steps = index_steps_on w v t.state (More Ended (Counts epoch l q (record { told = was.1; latest = latest at was.0 }))) t.steps;
+            frame = t.frame;
+            promised = t.promised;
+            polled = t.polled;
+            fine = t.fine;
+          }
       by true true false is has other =
-          looked w j segment (any_asked checks) (map (dead_at block) checks) (dead_checks w.dead_at (λ is_ has_. all-map (λ c. c.block ≡ b → is_dead c.fate ≡ true → 0 < w.dead_at segment.name.log.0 segment.name.seq)
-          (λ c. c.block ≡ b → is_dead c.fate ≡ true → 0 < w.dead_at segment.name.log.0 segment.name.seq) (dead_at block) (elsewhere other) checks (k.counted is has)))
-      by true false v is none same = looked w j segment (any_asked checks) (map (dead_at block) checks) (dead_checks w.dead_at (λ _ has. absurd (false≢true (sym none ∙ has))))
-      by false u v twin has same = looked w j segment (any_asked checks) (map (dead_at block) checks) (dead_checks w.dead_at (λ is _. absurd (false≢true (sym twin ∙ is))))
+          looked w j segment (any_asked checks) (map (dead_at block) checks)
+          (dead_checks w.dead_at (λ is_ has_. all-map (λ c. c.block ≡ b → is_dead c.fate ≡ true → 0 < w.dead_at segment.name.log.0 segment.name.seq)
+          (λ c. c.block ≡ b → is_dead c.fate ≡ true → 0 < w.dead_at segment.name.log.0 segment.name.seq) (dead_at block) (elsewhere other) checks
+          (k.counted is has)))
+      by true false v is none same =
+          looked w j segment (any_asked checks) (map (dead_at block) checks) (dead_checks w.dead_at (λ _ has. absurd (false≢true (sym none ∙ has))))
+      by false u v twin has same =
+          looked w j segment (any_asked checks) (map (dead_at block) checks) (dead_checks w.dead_at (λ is _. absurd (false≢true (sym twin ∙ is))))
   dead_turned w block epoch p k told latest = by_nothing w (still p) (k, tt)
 
   -- ---- all inputs
@@ -322,7 +395,8 @@ module _ (b : BlockId) (f : Filed) where
       still_promised (inl none) = inl none
       still_promised (inr is) = inr (t.promised ∙ is)
 
-  stays_same : (w : IndexState) (s : CleaningState) (d : Done) → Cleans b f w s → promise_of b d.state ≡ promise_of b s → Known b f w.dead_at w.dropped d.state.phase → AllByRecursion (DeletesDropped b f w.dropped) d.outs → StaysOn w d
+  stays_same : (w : IndexState) (s : CleaningState) (d : Done) → Cleans b f w s → promise_of b d.state ≡ promise_of b s
+      → Known b f w.dead_at w.dropped d.state.phase → AllByRecursion (DeletesDropped b f w.dropped) d.outs → StaysOn w d
   stays_same w s d c same known says = record {
     cleaned = record { state = w; steps = Ended; frame = refl; shows = record { promised = as_before c.promised; known = known }; deletes = says };
     promised = refl;
@@ -342,7 +416,8 @@ module _ (b : BlockId) (f : Filed) where
     pub promised : cleaned.state.promised ≡ promise_of b d.state
     pub polled : (e : ℕ) → (cleaned.state.polled e ≡ w.polled e) ⊎ ((w.promised < e) × (cleaned.state.polled e ≡ w.head w.cleaner))
 
-  rises_to : (w : IndexState) (d : Done) → w.promised ≤ promise_of b d.state → Known b f w.dead_at w.dropped d.state.phase → AllByRecursion (DeletesDropped b f w.dropped) d.outs → RisesOn w d
+  rises_to : (w : IndexState) (d : Done) → w.promised ≤ promise_of b d.state → Known b f w.dead_at w.dropped d.state.phase
+      → AllByRecursion (DeletesDropped b f w.dropped) d.outs → RisesOn w d
   rises_to w d rises known says = record {
     cleaned = record {
       state = promises w (promise_of b d.state);
@@ -360,7 +435,8 @@ module _ (b : BlockId) (f : Filed) where
       → Known b f w.dead_at w.dropped (on_welcome s slots groups).state.phase × AllByRecursion (DeletesDropped b f w.dropped) (on_welcome s slots groups).outs
   unfolding on_welcome
   welcome_known w s slots groups c =
-      by_test (λ (d : Done). Known b f w.dead_at w.dropped d.state.phase × AllByRecursion (DeletesDropped b f w.dropped) d.outs) (is_greeting s.phase && (length slots == 8)) (welcomed s slots groups) (still s)
+      by_test (λ (d : Done). Known b f w.dead_at w.dropped d.state.phase × AllByRecursion (DeletesDropped b f w.dropped) d.outs)
+      (is_greeting s.phase && (length slots == 8)) (welcomed s slots groups) (still s)
       (λ _. (tt, says_lists w.dead_at w.dropped (begun slots groups).awaited))
       (λ _. (c.known, tt))
 
@@ -368,28 +444,34 @@ module _ (b : BlockId) (f : Filed) where
       → Known b f w.dead_at w.dropped (on_promise s slot epoch).state.phase × AllByRecursion (DeletesDropped b f w.dropped) (on_promise s slot epoch).outs
   unfolding on_promise
   promise_known w s slot epoch c =
-      by_test (λ (d : Done). Known b f w.dead_at w.dropped d.state.phase × AllByRecursion (DeletesDropped b f w.dropped) d.outs) (is_above s.promised slot epoch)
+      by_test (λ (d : Done). Known b f w.dead_at w.dropped d.state.phase × AllByRecursion (DeletesDropped b f w.dropped) d.outs)
+      (is_above s.promised slot epoch)
       (turned (record s { promised = promised_with s.promised slot epoch }) (forgetting slot s.phase)) (still s)
       (λ _. forgetting_fine w.dead_at w.dropped slot s.phase c.known)
       (λ _. (c.known, tt))
 
-  pub welcome_rises : (w : IndexState) (s : CleaningState) (slots : List SlotNews) (groups : GroupMapState) → Cleans b f w s → w.promised ≤ promise_of b (on_welcome s slots groups).state → RisesOn w (on_welcome s slots groups)
+  pub welcome_rises : (w : IndexState) (s : CleaningState) (slots : List SlotNews) (groups : GroupMapState) → Cleans b f w s
+      → w.promised ≤ promise_of b (on_welcome s slots groups).state → RisesOn w (on_welcome s slots groups)
   welcome_rises w s slots groups c rises = let k = welcome_known w s slots groups c in rises_to w (on_welcome s slots groups) rises k.0 k.1
 
-  pub promise_rises : (w : IndexState) (s : CleaningState) (slot epoch : ℕ) → Cleans b f w s → w.promised ≤ promise_of b (on_promise s slot epoch).state → RisesOn w (on_promise s slot epoch)
+  pub promise_rises : (w : IndexState) (s : CleaningState) (slot epoch : ℕ) → Cleans b f w s → w.promised ≤ promise_of b (on_promise s slot epoch).state
+      → RisesOn w (on_promise s slot epoch)
   promise_rises w s slot epoch c rises = let k = promise_known w s slot epoch c in rises_to w (on_promise s slot epoch) rises k.0 k.1
 
-  pub promise_stays : (w : IndexState) (s : CleaningState) (slot epoch : ℕ) → Cleans b f w s → promise_of b (on_promise s slot epoch).state ≡ promise_of b s → StaysOn w (on_promise s slot epoch)
+  pub promise_stays : (w : IndexState) (s : CleaningState) (slot epoch : ℕ) → Cleans b f w s → promise_of b (on_promise s slot epoch).state ≡ promise_of b s
+      → StaysOn w (on_promise s slot epoch)
   promise_stays w s slot epoch c same = let k = promise_known w s slot epoch c in stays_same w s (on_promise s slot epoch) c same k.0 k.1
 
   pub usage_stays : (w : IndexState) (s : CleaningState) (slot epoch : ℕ) (counts : _) → Cleans b f w s → StaysOn w (on_usage s slot epoch counts)
   unfolding on_usage
   usage_stays w s slot epoch counts c =
       by_test (StaysOn w) (is_promised s.promised slot epoch) (turned s (counted_in s.count slot counts s.phase)) (still s)
-      (λ _. turns w s (counted_in s.count slot counts s.phase) c (by_nothing w (counted_in s.count slot counts s.phase) (counted_in_fine w.dead_at w.dropped s.count slot counts s.phase c.known)))
+      (λ _. turns w s (counted_in s.count slot counts s.phase) c
+      (by_nothing w (counted_in s.count slot counts s.phase) (counted_in_fine w.dead_at w.dropped s.count slot counts s.phase c.known)))
       (λ _. quiet w s c)
 
-  pub live_answered : (w : IndexState) (s : CleaningState) (block : BlockId) (epoch : ℕ) (entry : Entry) → Cleans b f w s → StaysOn w (on_live s block epoch entry)
+  pub live_answered : (w : IndexState) (s : CleaningState) (block : BlockId) (epoch : ℕ) (entry : Entry) → Cleans b f w s
+      → StaysOn w (on_live s block epoch entry)
   unfolding on_live
   live_answered w s block epoch entry c =
       by_test (StaysOn w) (is_heard s.promised block epoch && may_move entry) (turned s (answered_in (live_at block entry) s.phase)) (still s)
@@ -401,42 +483,54 @@ module _ (b : BlockId) (f : Filed) where
 
   -- a Dead that is heard is of the promised epoch
   pub heard_at : (s : CleaningState) (block : BlockId) (epoch : ℕ) → block ≡ b → is_heard s.promised block epoch ≡ true → epoch ≡ promise_of b s
-  heard_at s block epoch at heard = same_number epoch (nat_lt (slot_of block.ino.0) 8) (promised_at s.promised (slot_of block.ino.0)) heard ∙ ap (λ (k : BlockId). promised_at s.promised (slot_of k.ino.0)) at
+  heard_at s block epoch at heard =
+      same_number epoch (nat_lt (slot_of block.ino.0) 8) (promised_at s.promised (slot_of block.ino.0)) heard
+      ∙ ap (λ (k : BlockId). promised_at s.promised (slot_of k.ino.0)) at
 
-  pub dead_answered : (w : IndexState) (s : CleaningState) (block : BlockId) (epoch : ℕ) → Cleans b f w s → (block ≡ b → is_heard s.promised block epoch ≡ true → ToldFor b f w epoch s.phase) → StaysOn w (on_dead s block epoch)
+  pub dead_answered : (w : IndexState) (s : CleaningState) (block : BlockId) (epoch : ℕ) → Cleans b f w s
+      → (block ≡ b → is_heard s.promised block epoch ≡ true → ToldFor b f w epoch s.phase) → StaysOn w (on_dead s block epoch)
   unfolding on_dead
   dead_answered w s block epoch c told =
       by_test (StaysOn w) (is_heard s.promised block epoch) (turned s (answered_in (dead_at block) s.phase)) (still s)
-      (λ heard. turns w s (answered_in (dead_at block) s.phase) c (dead_turned w block epoch s.phase c.known (λ at. told at heard) (λ at some. latest c.promised (heard_at s block epoch at heard) some)))
+      (λ heard. turns w s (answered_in (dead_at block) s.phase) c
+      (dead_turned w block epoch s.phase c.known (λ at. told at heard) (λ at some. latest c.promised (heard_at s block epoch at heard) some)))
       (λ _. quiet w s c)
     where
       latest : (promise_of b s ≡ 0) ⊎ (w.promised ≡ promise_of b s) → epoch ≡ promise_of b s → 0 < epoch → epoch ≡ w.promised
       latest (inl none) is some = absurd (omega arith)
       latest (inr same) is some = is ∙ sym same
 
-  pub read_stays : (w : IndexState) (s : CleaningState) (read : Option Segment) → Cleans b f w s → ReadFor f read s.phase → StaysOn w (transition s (input.Read read))
+  pub read_stays : (w : IndexState) (s : CleaningState) (read : Option Segment) → Cleans b f w s → ReadFor f read s.phase
+      → StaysOn w (transition s (input.Read read))
   read_stays w s read c owes = turns w s (read_in read s.phase) c (read_turned w read s.phase c.known owes)
 
   pub maps_stay : (w : IndexState) (s : CleaningState) (groups : GroupMapState) → Cleans b f w s → StaysOn w (transition s (input.Maps groups))
   maps_stay w s groups c = stays_same w s (transition s (input.Maps groups)) c refl (mapped_fine w.dead_at w.dropped groups s.phase c.known) tt
 
-  pub listed_stays : (w : IndexState) (s : CleaningState) (server : ℕ) (held : List FragMeta) → Cleans b f w s → StaysOn w (transition s (input.Listed server held))
-  listed_stays w s server held c = turns w s (listed_in server held s.phase) c (by_nothing w (listed_in server held s.phase) (listed_in_fine w.dead_at w.dropped server held s.phase c.known))
+  pub listed_stays : (w : IndexState) (s : CleaningState) (server : ℕ) (held : List FragMeta) → Cleans b f w s
+      → StaysOn w (transition s (input.Listed server held))
+  listed_stays w s server held c =
+      turns w s (listed_in server held s.phase) c
+      (by_nothing w (listed_in server held s.phase) (listed_in_fine w.dead_at w.dropped server held s.phase c.known))
 
   pub moved_stays_on : (w : IndexState) (s : CleaningState) → Cleans b f w s → StaysOn w (transition s input.Moved)
   moved_stays_on w s c = turns w s (moved_in s.phase) c (by_nothing w (moved_in s.phase) (moved_fine w.dead_at w.dropped s.phase c.known))
 
   pub deleted_stays : (w : IndexState) (s : CleaningState) (server : ℕ) (name : SegName) → Cleans b f w s → StaysOn w (transition s (input.Deleted server name))
-  deleted_stays w s server name c = turns w s (deleted_in server name s.phase) c (by_nothing w (deleted_in server name s.phase) (deleted_in_fine w.dead_at w.dropped server name s.phase c.known))
+  deleted_stays w s server name c =
+      turns w s (deleted_in server name s.phase) c
+      (by_nothing w (deleted_in server name s.phase) (deleted_in_fine w.dead_at w.dropped server name s.phase c.known))
 
   pub tick_stays : (w : IndexState) (s : CleaningState) → Cleans b f w s → StaysOn w (transition s input.Tick)
   tick_stays w s c = stays_same w s (transition s input.Tick) c refl c.known (awaits_fine w.dead_at w.dropped s.phase c.known)
 
-  welcome_cleans : (w : IndexState) (s : CleaningState) (slots : List SlotNews) (groups : GroupMapState) → Cleans b f w s → NoLower b w s (on_welcome s slots groups).state → Cleaned b f w (on_welcome s slots groups)
+  welcome_cleans : (w : IndexState) (s : CleaningState) (slots : List SlotNews) (groups : GroupMapState) → Cleans b f w s
+      → NoLower b w s (on_welcome s slots groups).state → Cleaned b f w (on_welcome s slots groups)
   welcome_cleans w s slots groups c (inl same) = let k = welcome_known w s slots groups c in (stays_same w s (on_welcome s slots groups) c same k.0 k.1).cleaned
   welcome_cleans w s slots groups c (inr rises) = (welcome_rises w s slots groups c rises).cleaned
 
-  promise_cleans : (w : IndexState) (s : CleaningState) (slot epoch : ℕ) → Cleans b f w s → NoLower b w s (on_promise s slot epoch).state → Cleaned b f w (on_promise s slot epoch)
+  promise_cleans : (w : IndexState) (s : CleaningState) (slot epoch : ℕ) → Cleans b f w s → NoLower b w s (on_promise s slot epoch).state
+      → Cleaned b f w (on_promise s slot epoch)
   promise_cleans w s slot epoch c (inl same) = (promise_stays w s slot epoch c same).cleaned
   promise_cleans w s slot epoch c (inr rises) = (promise_rises w s slot epoch c rises).cleaned
 

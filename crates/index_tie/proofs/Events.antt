@@ -45,14 +45,16 @@ epoch_stays s Tick = refl
 module _ (part : ℕ) (holds : SegRef → Rows) where
   -- ---- the manager of an epoch steps
 
-  by_manager : (n : Net) (b : BlockId) (i : View part holds b n) (e : ℕ) (s : SlotState) → ((d : ℕ) (t : SlotState) → n.slots d ≡ Some t → t.epoch ≡ d) → s.epoch ≡ e → Runs b n.filed i.state e s → View part holds b (with_slot n e s)
+  by_manager : (n : Net) (b : BlockId) (i : View part holds b n) (e : ℕ) (s : SlotState) → ((d : ℕ) (t : SlotState) → n.slots d ≡ Some t → t.epoch ≡ d)
+      → s.epoch ≡ e → Runs b n.filed i.state e s → View part holds b (with_slot n e s)
   by_manager n b i e s epochs is r =
       let w = i.state in
       let v = r.state in
       let f = n.filed in
       let m = with_slot n e s in
       let frame = r.frame.rest in
-      let tells = tells_same b f w v (ap (λ (x : IndexState). x.cleaner) frame) (λ l. ap (λ (x : IndexState). x.head l) frame) (λ l q. ap (λ (x : IndexState). x.version l q) frame) (λ l q. ap (λ (x : IndexState). x.hop l q) frame) i.tells in
+      let tells = tells_same b f w v (ap (λ (x : IndexState). x.cleaner) frame) (λ l. ap (λ (x : IndexState). x.head l) frame)
+      (λ l q. ap (λ (x : IndexState). x.version l q) frame) (λ l q. ap (λ (x : IndexState). x.hop l q) frame) i.tells in
       let polled : (d : ℕ) → v.polled d ≡ w.polled d = λ d. ap (λ (x : IndexState). x.polled d) frame in
       let went_on = went part holds b n m i v r.steps (same_filed f) tells (λ d _. let p = polled d in omega arith) (omega arith) (λ _. omega arith) in
       record {
@@ -61,23 +63,29 @@ module _ (part : ℕ) (holds : SegRef → Rows) where
         tells = tells;
         slots = put_each (λ d o. (t : SlotState) → o ≡ Some t → Manages b f v t) n.slots e (Some s) (λ t same. subst (Manages b f v) (some_is s t same) r.shows)
             (λ d other t at. let there : t.epoch ≡ e → ⊥ = λ same. other (sym (epochs d t at) ∙ same) in
-            slots_stay b f f w v t (same_filed f) (record { active = r.frame.active t.epoch there; applied = λ l. r.frame.applied t.epoch l there; index = r.frame.index t.epoch there }) (i.slots d t at));
-        none = put_each (λ d o. o ≡ None → v.active d ≡ 0) n.slots e (Some s) (λ h. absurd (some_none s h)) (λ d other at. r.frame.active d other ∙ i.none d at);
+            slots_stay b f f w v t (same_filed f)
+            (record { active = r.frame.active t.epoch there; applied = λ l. r.frame.applied t.epoch l there; index = r.frame.index t.epoch there })
+            (i.slots d t at));
+        none = put_each (λ d o. o ≡ None → v.active d ≡ 0) n.slots e (Some s) (λ h. absurd (some_none s h))
+            (λ d other at. r.frame.active d other ∙ i.none d at);
         epoch = ap (λ (x : IndexState). x.epoch) frame ∙ i.epoch;
         horizon = λ d l some most. i.horizon d l some most ∙ sym (ap (λ (x : IndexState). x.floor d l) frame);
         parts = λ d. parts_stay b f f w v (n.horizon d) (rows_in holds (n.parts d)) (same_filed f) i.tells tells (i.parts d);
         promised = ap (λ (x : IndexState). x.promised) frame ∙ i.promised;
         polled = λ d. let p = polled d in let h = ap (λ (x : IndexState). x.head 9) frame in let q = i.polled d in omega arith;
-        job = jobs_stay b f f w v n.job (same_filed f) (ap (λ (x : IndexState). x.promised) frame) (λ l q. let c = ap (λ (x : IndexState). x.dead_at l q) frame in omega arith) (λ l q was. ap (λ (x : IndexState). x.dropped l q) frame ∙ was) i.job;
+        job = jobs_stay b f f w v n.job (same_filed f) (ap (λ (x : IndexState). x.promised) frame)
+            (λ l q. let c = ap (λ (x : IndexState). x.dead_at l q) frame in omega arith) (λ l q was. ap (λ (x : IndexState). x.dropped l q) frame ∙ was) i.job;
         deleted = went_on.deleted;
         sent = went_on.sent;
       }
 
   -- the whole, once the slot of an epoch has stepped
-  pub with_slot_good : (n : Net) (e : ℕ) (s : SlotState) → Good part holds n → s.epoch ≡ e → (e ≡ 0 → ⊥) → ((b : BlockId) → slot_of b.ino.0 ≡ part → (i : View part holds b n) → Runs b n.filed i.state e s) → Good part holds (with_slot n e s)
+  pub with_slot_good : (n : Net) (e : ℕ) (s : SlotState) → Good part holds n → s.epoch ≡ e → (e ≡ 0 → ⊥)
+      → ((b : BlockId) → slot_of b.ino.0 ≡ part → (i : View part holds b n) → Runs b n.filed i.state e s) → Good part holds (with_slot n e s)
   with_slot_good n e s g is some runs = record {
     filed = g.filed;
-    epochs = put_each (λ d o. (t : SlotState) → o ≡ Some t → t.epoch ≡ d) n.slots e (Some s) (λ t same. subst (λ (x : SlotState). x.epoch ≡ e) (some_is s t same) is) (λ d other. g.epochs d);
+    epochs = put_each (λ d o. (t : SlotState) → o ≡ Some t → t.epoch ≡ d) n.slots e (Some s)
+        (λ t same. subst (λ (x : SlotState). x.epoch ≡ e) (some_is s t same) is) (λ d other. g.epochs d);
     begun = put_each (λ d o. d ≡ 0 → o ≡ None) n.slots e (Some s) (λ is_zero. absurd (some is_zero)) (λ d other is_zero. ap n.slots is_zero ∙ g.begun) 0 refl;
     views = λ b inside. by_manager n b (g.views b inside) e s g.epochs is (runs b inside (g.views b inside));
   }
@@ -86,17 +94,21 @@ module _ (part : ℕ) (holds : SegRef → Rows) where
   not_zero n e s g at is = some_none s (sym at ∙ ap n.slots is ∙ g.begun)
 
   -- a slot takes an input
-  takes : (n : Net) (e : ℕ) (s : SlotState) (x : slot_inputs.In) → Good part holds n → n.slots e ≡ Some s → ((b : BlockId) → slot_of b.ino.0 ≡ part → Brings b n.filed s x) → Good part holds (with_slot n e (slot.transition s x).state)
+  takes : (n : Net) (e : ℕ) (s : SlotState) (x : slot_inputs.In) → Good part holds n → n.slots e ≡ Some s
+      → ((b : BlockId) → slot_of b.ino.0 ≡ part → Brings b n.filed s x) → Good part holds (with_slot n e (slot.transition s x).state)
   takes n e s x g at brings =
       let is = g.epochs e s at in
       with_slot_good n e (slot.transition s x).state g (epoch_stays s x ∙ is) (not_zero n e s g at)
-      (λ b inside i. subst (λ d. Runs b n.filed i.state d (slot.transition s x).state) is (applies_are_merges b n.filed i.state s x i.reached g.filed i.tells (i.slots e s at) (brings b inside)))
+      (λ b inside i. subst (λ d. Runs b n.filed i.state d (slot.transition s x).state) is
+      (applies_are_merges b n.filed i.state s x i.reached g.filed i.tells (i.slots e s at) (brings b inside)))
 
-  pub gets_deltas : (n : Net) (e : ℕ) (s : SlotState) (log : LogId) (first upto : ℕ) (rows : List (BlockId × Entry)) → Good part holds n → n.slots e ≡ Some s → log.0 - 1 < length s.applied → ((b : BlockId) → slot_of b.ino.0 ≡ part → DeltasTell b n.filed log.0 first upto rows)
+  pub gets_deltas : (n : Net) (e : ℕ) (s : SlotState) (log : LogId) (first upto : ℕ) (rows : List (BlockId × Entry)) → Good part holds n → n.slots e ≡ Some s
+      → log.0 - 1 < length s.applied → ((b : BlockId) → slot_of b.ino.0 ≡ part → DeltasTell b n.filed log.0 first upto rows)
       → Good part holds (with_slot n e (slot.transition s (Deltas log first upto rows)).state)
   gets_deltas n e s log first upto rows g at known tell = takes n e s (Deltas log first upto rows) g at (λ b inside. (known, tell b inside))
 
-  pub gets_other : (n : Net) (e : ℕ) (s : SlotState) (x : slot_inputs.In) → Good part holds n → n.slots e ≡ Some s → IsOfTokens x → Good part holds (with_slot n e (slot.transition s x).state)
+  pub gets_other : (n : Net) (e : ℕ) (s : SlotState) (x : slot_inputs.In) → Good part holds n → n.slots e ≡ Some s → IsOfTokens x
+      → Good part holds (with_slot n e (slot.transition s x).state)
   gets_other n e s (Want client block inc req again mode end) g at of = takes n e s (Want client block inc req again mode end) g at (λ b inside. tt)
   gets_other n e s (Gave client block stamp end) g at of = takes n e s (Gave client block stamp end) g at (λ b inside. tt)
   gets_other n e s (Deltas log first upto rows) g at of = absurd of
@@ -105,7 +117,8 @@ module _ (part : ℕ) (holds : SegRef → Rows) where
 
   -- ---- logs file
 
-  by_files : (n : Net) (b : BlockId) (i : View part holds b n) (l : ℕ) (s : Segment) → Files b (with_segment n.filed l s) i.state → View part holds b (record n { filed = with_segment n.filed l s })
+  by_files : (n : Net) (b : BlockId) (i : View part holds b n) (l : ℕ) (s : Segment) → Files b (with_segment n.filed l s) i.state
+      → View part holds b (record n { filed = with_segment n.filed l s })
   by_files n b i l s r =
       let w = i.state in
       let v = r.state in
@@ -120,19 +133,26 @@ module _ (part : ℕ) (holds : SegRef → Rows) where
         state = v;
         reached = went_on.reached;
         tells = r.tells;
-        slots = λ d t at. slots_stay b f g w v t more (record { active = ap (λ (x : IndexState). x.active t.epoch) frame; applied = λ k. ap (λ (x : IndexState). x.applied t.epoch k) frame; index = ap (λ (x : IndexState). x.index t.epoch) frame }) (i.slots d t at);
+        slots = λ d t at. slots_stay b f g w v t more
+            (record {
+              active = ap (λ (x : IndexState). x.active t.epoch) frame;
+              applied = λ k. ap (λ (x : IndexState). x.applied t.epoch k) frame;
+              index = ap (λ (x : IndexState). x.index t.epoch) frame;
+            }) (i.slots d t at);
         none = λ d at. ap (λ (x : IndexState). x.active d) frame ∙ i.none d at;
         epoch = ap (λ (x : IndexState). x.epoch) frame ∙ i.epoch;
         horizon = λ d k some most. i.horizon d k some most ∙ sym (ap (λ (x : IndexState). x.floor d k) frame);
         parts = λ d. parts_stay b f g w v (n.horizon d) (rows_in holds (n.parts d)) more i.tells r.tells (i.parts d);
         promised = ap (λ (x : IndexState). x.promised) frame ∙ i.promised;
         polled = λ d. let p = polled d in let h = went_on.later.past.head 9 in let q = i.polled d in omega arith;
-        job = jobs_stay b f g w v n.job more (ap (λ (x : IndexState). x.promised) frame) (λ k q. let c = ap (λ (x : IndexState). x.dead_at k q) frame in omega arith) (λ k q was. ap (λ (x : IndexState). x.dropped k q) frame ∙ was) i.job;
+        job = jobs_stay b f g w v n.job more (ap (λ (x : IndexState). x.promised) frame)
+            (λ k q. let c = ap (λ (x : IndexState). x.dead_at k q) frame in omega arith) (λ k q was. ap (λ (x : IndexState). x.dropped k q) frame ∙ was) i.job;
         deleted = went_on.deleted;
         sent = went_on.sent;
       }
 
-  filing : (n : Net) (l : ℕ) (s : Segment) → Good part holds n → 0 < l → l ≤ 9 → IsSegment l (suc (n.filed.head l)) s → ((b : BlockId) → slot_of b.ino.0 ≡ part → (i : View part holds b n) → Files b (with_segment n.filed l s) i.state)
+  filing : (n : Net) (l : ℕ) (s : Segment) → Good part holds n → 0 < l → l ≤ 9 → IsSegment l (suc (n.filed.head l)) s
+      → ((b : BlockId) → slot_of b.ino.0 ≡ part → (i : View part holds b n) → Files b (with_segment n.filed l s) i.state)
       → Good part holds (record n { filed = with_segment n.filed l s })
   filing n l s g some most is files = record {
     filed = filed_more n.filed l s g.filed some most is;
@@ -142,14 +162,17 @@ module _ (part : ℕ) (holds : SegRef → Rows) where
   }
 
   -- what is above all rows is above the join
-  above_top : (b : BlockId) (f : Filed) (w : IndexState) (ver : ℕ) → IndexReached w → Tells b f w → 0 < ver → ((l q : ℕ) → (row_at f b l q).ver < ver) → w.joined.version < ver
+  above_top : (b : BlockId) (f : Filed) (w : IndexState) (ver : ℕ) → IndexReached w → Tells b f w → 0 < ver → ((l q : ℕ) → (row_at f b l q).ver < ver)
+      → w.joined.version < ver
   above_top b f w ver reached tells some above = by w.joined.version refl
     where
       by : (v : ℕ) → w.joined.version ≡ v → w.joined.version < ver
       by zero none = omega arith
-      by (suc v) is = let j = (index_is_join_always w reached).all.its_version (omega arith) in let t = tells.version w.joined.log w.joined.seq in let a = above w.joined.log w.joined.seq in omega arith
+      by (suc v) is = let j = (index_is_join_always w reached).all.its_version (omega arith) in let t = tells.version w.joined.log w.joined.seq in let a =
+          above w.joined.log w.joined.seq in omega arith
 
-  pub client_files : (n : Net) (l : ℕ) (s : Segment) → Good part holds n → 0 < l → l < 9 → IsSegment l (suc (n.filed.head l)) s → ((b : BlockId) → slot_of b.ino.0 ≡ part → IsNewer b n.filed s) → Good part holds (record n { filed = with_segment n.filed l s })
+  pub client_files : (n : Net) (l : ℕ) (s : Segment) → Good part holds n → 0 < l → l < 9 → IsSegment l (suc (n.filed.head l)) s
+      → ((b : BlockId) → slot_of b.ino.0 ≡ part → IsNewer b n.filed s) → Good part holds (record n { filed = with_segment n.filed l s })
   client_files n l s g some less is newer = filing n l s g some (omega arith) is (λ b inside i.
       clients_file b n.filed i.state l s i.reached g.filed i.tells some is (record {
         client = less;
@@ -157,7 +180,8 @@ module _ (part : ℕ) (holds : SegRef → Rows) where
         first_hand = (newer b inside).first_hand;
       }))
 
-  pub cleaner_files_one : (n : Net) (s : Segment) → Good part holds n → IsSegment 9 (suc (n.filed.head 9)) s → ((b : BlockId) → slot_of b.ino.0 ≡ part → 0 < (said_of s b).ver → IsMove b n.sent s) → Good part holds (record n { filed = with_segment n.filed 9 s })
+  pub cleaner_files_one : (n : Net) (s : Segment) → Good part holds n → IsSegment 9 (suc (n.filed.head 9)) s
+      → ((b : BlockId) → slot_of b.ino.0 ≡ part → 0 < (said_of s b).ver → IsMove b n.sent s) → Good part holds (record n { filed = with_segment n.filed 9 s })
   cleaner_files_one n s g is moves = filing n 9 s g (omega arith) (omega arith) is (λ b inside i.
       cleaner_files b n.filed i.state s i.reached g.filed i.tells is (λ more.
       let m = moves b inside more in

@@ -17,7 +17,8 @@ use Rattle.index_tie.specs.Filed.{Filed, rows_at, rows_between}
 use Rattle.index_tie.specs.Feeds.{fed_at, RangesTellWhatIsFiled}
 
 -- segments from within the range on
-all_within : (b : BlockId) (f : Filed) (l first upto n at : ℕ) → first ≤ at → at + n ≡ suc upto → join (deltas_between first upto (map (fed_at f l) (range_with_len at n))) b ≡ join (flat_map (rows_at f l) (range_with_len at n)) b
+all_within : (b : BlockId) (f : Filed) (l first upto n at : ℕ) → first ≤ at → at + n ≡ suc upto
+    → join (deltas_between first upto (map (fed_at f l) (range_with_len at n))) b ≡ join (flat_map (rows_at f l) (range_with_len at n)) b
 all_within b f l first upto zero at least ends = refl
 all_within b f l first upto (suc n) at least ends =
     let rest = range_with_len (at + 1) n in
@@ -29,9 +30,11 @@ all_within b f l first upto (suc n) at least ends =
     within first at upto least most = grind (arith, nat_tests)
 
 -- and from before it on
-from_before : (b : BlockId) (f : Filed) (l first upto n at : ℕ) → at ≤ first → first ≤ upto → at + n ≡ suc upto → join (deltas_between first upto (map (fed_at f l) (range_with_len at n))) b ≡ join (rows_between f l first upto) b
+from_before : (b : BlockId) (f : Filed) (l first upto n at : ℕ) → at ≤ first → first ≤ upto → at + n ≡ suc upto
+    → join (deltas_between first upto (map (fed_at f l) (range_with_len at n))) b ≡ join (rows_between f l first upto) b
 from_before b f l first upto zero at below some ends = absurd (omega arith)
-from_before b f l first upto (suc n) at below some ends = by (nat_lt at first) refl (λ less. from_before b f l first upto n (at + 1) (omega arith) some (omega arith))
+from_before b f l first upto (suc n) at below some ends =
+    by (nat_lt at first) refl (λ less. from_before b f l first upto n (at + 1) (omega arith) some (omega arith))
   where
     outside : (first at upto : ℕ) → at < first → (nat_le first at && nat_le at upto) ≡ false
     outside first at upto less = grind (arith, nat_tests)
@@ -42,7 +45,8 @@ from_before b f l first upto (suc n) at below some ends = by (nat_lt at first) r
     is_first : (at first : ℕ) → at ≤ first → nat_lt at first ≡ false → first ≡ at
     is_first at first most h = grind (arith, nat_tests)
 
-    by : (t : Bool) → nat_lt at first ≡ t → (at < first → join (deltas_between first upto (map (fed_at f l) (range_with_len (at + 1) n))) b ≡ join (rows_between f l first upto) b)
+    by : (t : Bool) → nat_lt at first ≡ t
+        → (at < first → join (deltas_between first upto (map (fed_at f l) (range_with_len (at + 1) n))) b ≡ join (rows_between f l first upto) b)
         → join (deltas_between first upto (map (fed_at f l) (range_with_len at (suc n)))) b ≡ join (rows_between f l first upto) b
     by true before go =
         let less = is_less at first before in
@@ -51,7 +55,8 @@ from_before b f l first upto (suc n) at below some ends = by (nat_lt at first) r
         let is = is_first at first below here in
         let count : suc n ≡ suc upto - first = omega arith in
         all_within b f l first upto (suc n) at (omega arith) ends
-        ∙ ap (λ k. join (flat_map (rows_at f l) (range_with_len k (suc n))) b) (sym is) ∙ ap (λ k. join (flat_map (rows_at f l) (range_with_len first k)) b) count
+        ∙ ap (λ k. join (flat_map (rows_at f l) (range_with_len k (suc n))) b) (sym is)
+        ∙ ap (λ k. join (flat_map (rows_at f l) (range_with_len first k)) b) count
 
 at_least : (least : ℕ) (ns : List ℕ) → least ≤ greatest least ns
 at_least least [] = omega arith
@@ -59,7 +64,9 @@ at_least least (n ∷ ns) = let rest = at_least least ns in omega arith
 
 pub ranges_tell : RangesTellWhatIsFiled
 ranges_tell b f l base inputs input slot first upto rows some known fed its given =
-    let t : TellsRange base inputs slot first upto rows = All-contains (IsTrueRange base inputs) (transition (state_after base inputs) input).outs (Range slot first upto rows) (ranges_true base inputs input) given in
+    let t : TellsRange base inputs slot first upto rows =
+    All-contains (IsTrueRange base inputs) (transition (state_after base inputs) input).outs (Range slot first upto rows)
+    (ranges_true base inputs input) given in
     let ends : upto ≡ f.head l = t.ends ∙ fed.end in
     let begins : base < first = let a = at_least base (acks_since slot inputs) in let c = t.begins in omega arith in
     let has = t.has_some in
@@ -68,5 +75,6 @@ ranges_tell b f l base inputs input slot first upto rows some known fed its give
       some = some;
       known = known;
       filed = omega arith;
-      joined = t.joins b its ∙ ap (λ fs. join (deltas_between first upto fs) b) fed.each ∙ from_before b f l first upto (f.head l - base) (suc base) (omega arith) has (omega arith);
+      joined = t.joins b its ∙ ap (λ fs. join (deltas_between first upto fs) b) fed.each
+          ∙ from_before b f l first upto (f.head l - base) (suc base) (omega arith) has (omega arith);
     }

@@ -28,7 +28,8 @@ rows_stay f g l q more most =
     let head = more.head l in
     by (nat_lt 0 q) (nat_le q (g.head l)) (nat_le q (f.head l)) (λ h. grind (arith, nat_tests, h)) (grind (arith, nat_tests)) (grind (arith, nat_tests))
   where
-    by : (some here there : Bool) → (some ≡ true → 0 < q) → here ≡ true → there ≡ true → cond (some && here) (rows_of (g.segment l q)) [] ≡ cond (some && there) (rows_of (f.segment l q)) []
+    by : (some here there : Bool) → (some ≡ true → 0 < q) → here ≡ true → there ≡ true
+        → cond (some && here) (rows_of (g.segment l q)) [] ≡ cond (some && there) (rows_of (f.segment l q)) []
     by true true true from _ _ = ap rows_of (more.segment l q (from refl) most)
     by false true true from _ _ = refl
     by some false there from h _ = absurd (cc)
@@ -60,10 +61,13 @@ slots_stay b f g w v s more kept m = record {
 }
 
 -- a join of what is filed stays one
-pub joins_stay : (b : BlockId) (f g : Filed) (w v : IndexState) (upto : ℕ → ℕ) (named : index.Entry) → IsMore f g → Tells b f w → Tells b g v → ((l : ℕ) → upto l ≤ f.head l) → Joins w.version w.hop upto named → Joins v.version v.hop upto named
+pub joins_stay : (b : BlockId) (f g : Filed) (w v : IndexState) (upto : ℕ → ℕ) (named : index.Entry) → IsMore f g → Tells b f w → Tells b g v
+    → ((l : ℕ) → upto l ≤ f.head l) → Joins w.version w.hop upto named → Joins v.version v.hop upto named
 joins_stay b f g w v upto named more old new most j =
-    let version : (l q : ℕ) → q ≤ upto l → v.version l q ≡ w.version l q = λ l q less. new.version l q ∙ ap (λ (e : Entry). e.ver) (row_stays b f g l q more (let m = most l in omega arith)) ∙ sym (old.version l q) in
-    let hop : (l q : ℕ) → q ≤ upto l → v.hop l q ≡ w.hop l q = λ l q less. new.hop l q ∙ ap (λ (e : Entry). e.hop) (row_stays b f g l q more (let m = most l in omega arith)) ∙ sym (old.hop l q) in
+    let version : (l q : ℕ) → q ≤ upto l → v.version l q ≡ w.version l q =
+    λ l q less. new.version l q ∙ ap (λ (e : Entry). e.ver) (row_stays b f g l q more (let m = most l in omega arith)) ∙ sym (old.version l q) in
+    let hop : (l q : ℕ) → q ≤ upto l → v.hop l q ≡ w.hop l q =
+    λ l q less. new.hop l q ∙ ap (λ (e : Entry). e.hop) (row_stays b f g l q more (let m = most l in omega arith)) ∙ sym (old.hop l q) in
     record {
       newest = λ l q less. let a = j.newest l q less in let c = version l q less in omega arith;
       furthest = λ l q less same. let c = version l q less in let d = hop l q less in let a = j.furthest l q less (omega arith) in omega arith;
@@ -81,7 +85,8 @@ parts_stay b f g w v horizon rows more old new c = record {
   joins = joins_stay b f g w v (below horizon) c.named more old new c.filed c.joins;
 }
 
-between_stays : (f g : Filed) (l n first : ℕ) → IsMore f g → first + n ≤ suc (f.head l) → flat_map (rows_at g l) (range_with_len first n) ≡ flat_map (rows_at f l) (range_with_len first n)
+between_stays : (f g : Filed) (l n first : ℕ) → IsMore f g → first + n ≤ suc (f.head l)
+    → flat_map (rows_at g l) (range_with_len first n) ≡ flat_map (rows_at f l) (range_with_len first n)
 between_stays f g l zero first more most = refl
 between_stays f g l (suc n) first more most =
     ap (λ r. r ++ flat_map (rows_at g l) (range_with_len (first + 1) n)) (rows_stay f g l first more (omega arith))
@@ -96,7 +101,8 @@ deltas_stay b f g l first upto rows more t = record {
 }
   where
     by_length : (u : Bool) → nat_le first upto ≡ u → rows_between g l first upto ≡ rows_between f l first upto
-    by_length true within = let a = t.filed in let less : first ≤ upto = grind (arith, nat_tests) in between_stays f g l (suc upto - first) first more (omega arith)
+    by_length true within = let a = t.filed in let less : first ≤ upto =
+        grind (arith, nat_tests) in between_stays f g l (suc upto - first) first more (omega arith)
     by_length false past =
         let above : upto < first = grind (arith, nat_tests) in
         let none : suc upto - first ≡ 0 = omega arith in
@@ -116,28 +122,37 @@ more_is_filed f l s = record {
     by m q most false u apart = refl
 
 -- what a seq says once the segment is filed
-rows_more : (f : Filed) (l m q : ℕ) (s : Segment) → rows_at (with_segment f l s) m q ≡ cond (m == l) (cond (q == suc (f.head l)) (rows_of s) (rows_at f m q)) (rows_at f m q)
+rows_more : (f : Filed) (l m q : ℕ) (s : Segment)
+    → rows_at (with_segment f l s) m q ≡ cond (m == l) (cond (q == suc (f.head l)) (rows_of s) (rows_at f m q)) (rows_at f m q)
 rows_more f l m q s = by (m == l) (q == suc (f.head l)) (λ e. grind (arith, nat_tests)) (λ e. grind (arith, nat_tests)) (λ e. grind (arith, nat_tests))
   where
-    by : (t u : Bool) → (u ≡ true → (nat_lt 0 q && nat_le q (suc (f.head l))) ≡ true) → (u ≡ false → (nat_lt 0 q && nat_le q (suc (f.head l))) ≡ (nat_lt 0 q && nat_le q (f.head l))) → (t ≡ true → f.head l ≡ f.head m)
-        → cond (nat_lt 0 q && nat_le q (cond t (suc (f.head l)) (f.head m))) (rows_of (cond t (cond u s (f.segment m q)) (f.segment m q))) [] ≡ cond t (cond u (rows_of s) (rows_at f m q)) (rows_at f m q)
+    by : (t u : Bool) → (u ≡ true → (nat_lt 0 q && nat_le q (suc (f.head l))) ≡ true)
+        → (u ≡ false → (nat_lt 0 q && nat_le q (suc (f.head l))) ≡ (nat_lt 0 q && nat_le q (f.head l))) → (t ≡ true → f.head l ≡ f.head m)
+        → cond (nat_lt 0 q && nat_le q (cond t (suc (f.head l)) (f.head m))) (rows_of (cond t (cond u s (f.segment m q)) (f.segment m q))) [] ≡ cond t
+        (cond u (rows_of s) (rows_at f m q)) (rows_at f m q)
     by true true here there same = first_of (nat_lt 0 q && nat_le q (suc (f.head l))) (rows_of s) [] (here refl)
-    by true false here there same = ap (λ t. cond t (rows_of (f.segment m q)) []) (there refl) ∙ ap (λ h. cond (nat_lt 0 q && nat_le q h) (rows_of (f.segment m q)) []) (same refl)
+    by true false here there same =
+        ap (λ t. cond t (rows_of (f.segment m q)) []) (there refl) ∙ ap (λ h. cond (nat_lt 0 q && nat_le q h) (rows_of (f.segment m q)) []) (same refl)
     by false u here there same = refl
 
 module _ (b : BlockId) (f : Filed) (w : IndexState) (l : ℕ) (s : Segment) where
-  row_more : (P : Entry → ℕ) (m q : ℕ) → cond (m == l) (cond (q == suc (f.head l)) (P (said_of s b)) (P (row_at f b m q))) (P (row_at f b m q)) ≡ P (row_at (with_segment f l s) b m q)
+  row_more : (P : Entry → ℕ) (m q : ℕ)
+      → cond (m == l) (cond (q == suc (f.head l)) (P (said_of s b)) (P (row_at f b m q))) (P (row_at f b m q)) ≡ P (row_at (with_segment f l s) b m q)
   row_more P m q = by (m == l) (q == suc (f.head l)) ∙ sym (ap (λ r. P (join r b)) (rows_more f l m q s))
     where
-      by : (t u : Bool) → cond t (cond u (P (said_of s b)) (P (row_at f b m q))) (P (row_at f b m q)) ≡ P (join (cond t (cond u (rows_of s) (rows_at f m q)) (rows_at f m q)) b)
+      by : (t u : Bool)
+          → cond t (cond u (P (said_of s b)) (P (row_at f b m q))) (P (row_at f b m q)) ≡ P
+          (join (cond t (cond u (rows_of s) (rows_at f m q)) (rows_at f m q)) b)
       by true true = refl
       by true false = refl
       by false u = refl
 
   -- a table that has this at the new seq
-  table_more : (P : Entry → ℕ) (table : ℕ → ℕ → ℕ) (n : ℕ) → w.head l ≡ f.head l → ((m q : ℕ) → table m q ≡ P (row_at f b m q)) → n ≡ P (said_of s b) → (m q : ℕ) → put_at table l (suc (w.head l)) n m q ≡ P (row_at (with_segment f l s) b m q)
+  table_more : (P : Entry → ℕ) (table : ℕ → ℕ → ℕ) (n : ℕ) → w.head l ≡ f.head l → ((m q : ℕ) → table m q ≡ P (row_at f b m q)) → n ≡ P (said_of s b)
+      → (m q : ℕ) → put_at table l (suc (w.head l)) n m q ≡ P (row_at (with_segment f l s) b m q)
   table_more P table n head same is m q =
-      ap (λ h. cond (m == l) (cond (q == suc h) n (table m q)) (table m q)) head ∙ ap (λ k. cond (m == l) (cond (q == suc (f.head l)) k (table m q)) (table m q)) is
+      ap (λ h. cond (m == l) (cond (q == suc h) n (table m q)) (table m q)) head
+      ∙ ap (λ k. cond (m == l) (cond (q == suc (f.head l)) k (table m q)) (table m q)) is
       ∙ ap (λ k. cond (m == l) (cond (q == suc (f.head l)) (P (said_of s b)) k) k) (same m q) ∙ row_more P m q
 
   -- the index once the log filed what the segment says
@@ -151,7 +166,8 @@ module _ (b : BlockId) (f : Filed) (w : IndexState) (l : ℕ) (s : Segment) wher
     version_seq = version_seq;
   }
 
-  tells_more : (version hop : ℕ) (top : index.Entry) (version_log version_seq : ℕ → ℕ) → Tells b f w → version ≡ (said_of s b).ver → hop ≡ (said_of s b).hop → Tells b (with_segment f l s) (filing version hop top version_log version_seq)
+  tells_more : (version hop : ℕ) (top : index.Entry) (version_log version_seq : ℕ → ℕ) → Tells b f w → version ≡ (said_of s b).ver → hop ≡ (said_of s b).hop
+      → Tells b (with_segment f l s) (filing version hop top version_log version_seq)
   tells_more version hop top version_log version_seq tells is_version is_hop = record {
     cleaner = tells.cleaner;
     head = λ m. ap (λ h. cond (m == l) (suc h) (w.head m)) (tells.head l) ∙ ap (λ h. cond (m == l) (suc (f.head l)) h) (tells.head m);
@@ -163,14 +179,16 @@ module _ (b : BlockId) (f : Filed) (w : IndexState) (l : ℕ) (s : Segment) wher
 pub filed_more : (f : Filed) (l : ℕ) (s : Segment) → IsFiled f → 0 < l → l ≤ 9 → IsSegment l (suc (f.head l)) s → IsFiled (with_segment f l s)
 filed_more f l s filed some most is = record {
   others = put_each (λ m n. (m ≡ 0) ⊎ (9 < m) → n ≡ 0) f.head l (suc (f.head l)) (λ out. absurd (outside out)) (λ m other out. filed.others m out);
-  each = λ m q more within. by m q more (m == l) (q == suc (f.head l)) within (λ e. grind (arith, nat_tests, e)) (λ e. grind (arith, nat_tests, e)) (λ e. grind (arith, nat_tests, e));
+  each = λ m q more within. by m q more (m == l) (q == suc (f.head l)) within (λ e. grind (arith, nat_tests, e)) (λ e. grind (arith, nat_tests, e))
+      (λ e. grind (arith, nat_tests, e));
 }
   where
     outside : (l ≡ 0) ⊎ (9 < l) → ⊥
     outside (inl none) = omega arith
     outside (inr past) = omega arith
 
-    by : (m q : ℕ) → 0 < q → (t u : Bool) → q ≤ cond t (suc (f.head l)) (f.head m) → (t ≡ true → m ≡ l) → (u ≡ true → q ≡ suc (f.head l)) → (u ≡ false → q ≡ suc (f.head l) → ⊥) → IsSegment m q (cond t (cond u s (f.segment m q)) (f.segment m q))
+    by : (m q : ℕ) → 0 < q → (t u : Bool) → q ≤ cond t (suc (f.head l)) (f.head m) → (t ≡ true → m ≡ l) → (u ≡ true → q ≡ suc (f.head l))
+        → (u ≡ false → q ≡ suc (f.head l) → ⊥) → IsSegment m q (cond t (cond u s (f.segment m q)) (f.segment m q))
     by m q more true true within same last past = subst (λ k. IsSegment k q s) (sym (same refl)) (subst (λ k. IsSegment l k s) (sym (last refl)) is)
     by m q more true false within same last past =
         let apart = past refl in
@@ -210,7 +228,8 @@ clients_file b f w l s reached filed tells some is news = by (said_of s b).ver r
           tells = tells_more b f w l s version 0 u.joined u.version_log u.version_seq tells refl (sym (news.first_hand more));
         }
 
-cleaner_files_at : (b : BlockId) (f : Filed) (w : IndexState) (s : Segment) → IsFiled f → Tells b f w → 0 < w.cleaner → w.cleaner ≤ 9 → IsSegment w.cleaner (suc (f.head w.cleaner)) s → (0 < (said_of s b).ver → IsCopy b f (said_of s b))
+cleaner_files_at : (b : BlockId) (f : Filed) (w : IndexState) (s : Segment) → IsFiled f → Tells b f w → 0 < w.cleaner → w.cleaner ≤ 9
+    → IsSegment w.cleaner (suc (f.head w.cleaner)) s → (0 < (said_of s b).ver → IsCopy b f (said_of s b))
     → Files b (with_segment f w.cleaner s) w
 cleaner_files_at b f w s filed tells some most is copy = by (said_of s b).ver refl
   where
@@ -239,7 +258,8 @@ cleaner_files_at b f w s filed tells some most is copy = by (said_of s b).ver re
           steps = More Ended (Copies l q (record { filed = omega arith; some = omega arith }));
           frame = refl;
           filed = filed_more f w.cleaner s filed some most is;
-          tells = tells_more b f w w.cleaner s (w.version l q) (suc (w.hop l q)) u.joined w.version_log w.version_seq tells (its ∙ sym version) (ap suc (tells.hop l q) ∙ sym c.hop);
+          tells = tells_more b f w w.cleaner s (w.version l q) (suc (w.hop l q)) u.joined w.version_log w.version_seq tells (its ∙ sym version)
+              (ap suc (tells.hop l q) ∙ sym c.hop);
         }
 
 pub cleaner_files : CleanerFiles

@@ -60,32 +60,42 @@ with_rises promised slot epoch k =
 
 all_rise : (slots : List SlotNews) (promised : List ℕ) (k : ℕ) → promised_at promised k ≤ promised_at (promised_of slots promised) k
 all_rise [] promised k = omega arith
-all_rise (news ∷ rest) promised k = let a = with_rises promised news.slot news.epoch k in let c = all_rise rest (promised_with promised news.slot news.epoch) k in omega arith
+all_rise (news ∷ rest) promised k = let a = with_rises promised news.slot news.epoch k in let c =
+    all_rise rest (promised_with promised news.slot news.epoch) k in omega arith
 
 abbrev NoFall : CleaningState → ℕ → job.Done → Type 0
 NoFall s k d = promised_at s.promised k ≤ promised_at d.state.promised k
 
 welcome_no_fall : (s : CleaningState) (slots : List SlotNews) (groups : GroupMapState) (k : ℕ) → NoFall s k (job.on_welcome s slots groups)
 unfolding job.on_welcome
-welcome_no_fall s slots groups k = by_test (NoFall s k) (job.is_greeting s.phase && (length slots == 8)) (job.welcomed s slots groups) (still s) (λ _. all_rise slots s.promised k) (λ _. omega arith)
+welcome_no_fall s slots groups k =
+    by_test (NoFall s k) (job.is_greeting s.phase && (length slots == 8)) (job.welcomed s slots groups) (still s) (λ _. all_rise slots s.promised k)
+    (λ _. omega arith)
 
 promise_no_fall : (s : CleaningState) (slot epoch k : ℕ) → NoFall s k (job.on_promise s slot epoch)
 unfolding job.on_promise
 promise_no_fall s slot epoch k =
-    by_test (NoFall s k) (is_above s.promised slot epoch) (job.turned (record s { promised = promised_with s.promised slot epoch }) (job.forgetting slot s.phase)) (still s) (λ _. with_rises s.promised slot epoch k) (λ _. omega arith)
+    by_test (NoFall s k) (is_above s.promised slot epoch)
+    (job.turned (record s { promised = promised_with s.promised slot epoch }) (job.forgetting slot s.phase)) (still s) (λ _. with_rises s.promised slot epoch k)
+    (λ _. omega arith)
 
 usage_no_fall : (s : CleaningState) (slot epoch : ℕ) (counts : _) (k : ℕ) → NoFall s k (job.on_usage s slot epoch counts)
 unfolding job.on_usage
-usage_no_fall s slot epoch counts k = by_test (NoFall s k) (is_promised s.promised slot epoch) (job.turned s (job.counted_in s.count slot counts s.phase)) (still s) (λ _. omega arith) (λ _. omega arith)
+usage_no_fall s slot epoch counts k =
+    by_test (NoFall s k) (is_promised s.promised slot epoch) (job.turned s (job.counted_in s.count slot counts s.phase)) (still s) (λ _. omega arith)
+    (λ _. omega arith)
 
 live_no_fall : (s : CleaningState) (block : BlockId) (epoch : ℕ) (entry : _) (k : ℕ) → NoFall s k (job.on_live s block epoch entry)
 unfolding job.on_live
 live_no_fall s block epoch entry k =
-    by_test (NoFall s k) (job.is_heard s.promised block epoch && job.may_move entry) (job.turned s (job.answered_in (live_at block entry) s.phase)) (still s) (λ _. omega arith) (λ _. omega arith)
+    by_test (NoFall s k) (job.is_heard s.promised block epoch && job.may_move entry) (job.turned s (job.answered_in (live_at block entry) s.phase)) (still s)
+    (λ _. omega arith) (λ _. omega arith)
 
 dead_no_fall : (s : CleaningState) (block : BlockId) (epoch k : ℕ) → NoFall s k (job.on_dead s block epoch)
 unfolding job.on_dead
-dead_no_fall s block epoch k = by_test (NoFall s k) (job.is_heard s.promised block epoch) (job.turned s (job.answered_in (dead_at block) s.phase)) (still s) (λ _. omega arith) (λ _. omega arith)
+dead_no_fall s block epoch k =
+    by_test (NoFall s k) (job.is_heard s.promised block epoch) (job.turned s (job.answered_in (dead_at block) s.phase)) (still s) (λ _. omega arith)
+    (λ _. omega arith)
 
 no_fall : (s : CleaningState) (i : job_inputs.In) (k : ℕ) → NoFall s k (job.transition s i)
 no_fall s (job_input.Welcome slots groups) k = welcome_no_fall s slots groups k
@@ -104,20 +114,25 @@ no_fall s job_input.Tick k = omega arith
 other_promise : (s : CleaningState) (slot epoch k : ℕ) → (slot ≡ k → ⊥) → promised_at (job.on_promise s slot epoch).state.promised k ≡ promised_at s.promised k
 unfolding job.on_promise
 other_promise s slot epoch k other =
-    by_test (λ (d : job.Done). promised_at d.state.promised k ≡ promised_at s.promised k) (is_above s.promised slot epoch) (job.turned (record s { promised = promised_with s.promised slot epoch }) (job.forgetting slot s.phase)) (still s)
-    (λ _. by_test (λ (p : List ℕ). promised_at p k ≡ promised_at s.promised k) (is_above s.promised slot epoch) (set s.promised slot epoch) s.promised (λ _. get_or-set_other s.promised slot k epoch 0 (λ same. other (sym same))) (λ _. refl))
+    by_test (λ (d : job.Done). promised_at d.state.promised k ≡ promised_at s.promised k) (is_above s.promised slot epoch)
+    (job.turned (record s { promised = promised_with s.promised slot epoch }) (job.forgetting slot s.phase)) (still s)
+    (λ _. by_test (λ (p : List ℕ). promised_at p k ≡ promised_at s.promised k) (is_above s.promised slot epoch) (set s.promised slot epoch) s.promised
+    (λ _. get_or-set_other s.promised slot k epoch 0 (λ same. other (sym same))) (λ _. refl))
     (λ _. refl)
 
 -- the names of what is to be deleted were dropped
-names_dropped : (b : BlockId) (f : Filed) (dropped : ℕ → ℕ → ℕ) (outs : List job_outputs.Out) (more : List SegName) → AllByRecursion (DeletesDropped b f dropped) outs → AllByRecursion (IsDropped b f dropped) more
+names_dropped : (b : BlockId) (f : Filed) (dropped : ℕ → ℕ → ℕ) (outs : List job_outputs.Out) (more : List SegName)
+    → AllByRecursion (DeletesDropped b f dropped) outs → AllByRecursion (IsDropped b f dropped) more
     → AllByRecursion (IsDropped b f dropped) (deletes_of outs ++ more)
 names_dropped b f dropped [] more all rest = rest
 names_dropped b f dropped (job_output.Delete server name ∷ os) more all rest = (all.0, names_dropped b f dropped os more all.1 rest)
 names_dropped b f dropped (o ∷ os) more all rest = names_dropped b f dropped os more all.1 rest
 
 module _ (part : ℕ) (holds : SegRef → Rows) where
-  job_view : (n : Net) (d : job.Done) (p : ℕ) (b : BlockId) (i : View part holds b n) (r : Cleaned b n.filed i.state d) → r.state.promised ≡ p → ((e : ℕ) → e ≤ i.state.promised → r.state.polled e ≤ i.state.polled e)
-      → ((e : ℕ) → r.state.polled e ≤ i.state.head 9) → promised_at n.job.promised part ≤ promised_at d.state.promised part → View part holds b (record (with_job n d) { promised = p })
+  job_view : (n : Net) (d : job.Done) (p : ℕ) (b : BlockId) (i : View part holds b n) (r : Cleaned b n.filed i.state d) → r.state.promised ≡ p
+      → ((e : ℕ) → e ≤ i.state.promised → r.state.polled e ≤ i.state.polled e)
+      → ((e : ℕ) → r.state.polled e ≤ i.state.head 9) → promised_at n.job.promised part ≤ promised_at d.state.promised part
+      → View part holds b (record (with_job n d) { promised = p })
   job_view n d p b i r promised polled headed rises =
       let w = i.state in
       let v = r.state in
@@ -152,33 +167,46 @@ module _ (part : ℕ) (holds : SegRef → Rows) where
       }
 
   -- an input that is no promise of the slot
-  stays_view : (n : Net) (x : job_inputs.In) (b : BlockId) (i : View part holds b n) → StaysOn b n.filed i.state (job.transition n.job x) → View part holds b (with_job n (job.transition n.job x))
+  stays_view : (n : Net) (x : job_inputs.In) (b : BlockId) (i : View part holds b n) → StaysOn b n.filed i.state (job.transition n.job x)
+      → View part holds b (with_job n (job.transition n.job x))
   stays_view n x b i r =
-      job_view n (job.transition n.job x) n.promised b i r.cleaned (r.promised ∙ i.promised) (λ e _. let p = r.polled e in omega arith) (λ e. let p = r.polled e in let q = i.polled e in omega arith) (no_fall n.job x part)
+      job_view n (job.transition n.job x) n.promised b i r.cleaned (r.promised ∙ i.promised) (λ e _. let p = r.polled e in omega arith)
+      (λ e. let p = r.polled e in let q = i.polled e in omega arith) (no_fall n.job x part)
 
-  stays_good : (n : Net) (x : job_inputs.In) → Good part holds n → ((b : BlockId) → slot_of b.ino.0 ≡ part → (i : View part holds b n) → StaysOn b n.filed i.state (job.transition n.job x)) → Good part holds (with_job n (job.transition n.job x))
-  stays_good n x g all = record { filed = g.filed; epochs = g.epochs; begun = g.begun; views = λ b inside. let i = g.views b inside in stays_view n x b i (all b inside i) }
+  stays_good : (n : Net) (x : job_inputs.In) → Good part holds n
+      → ((b : BlockId) → slot_of b.ino.0 ≡ part → (i : View part holds b n) → StaysOn b n.filed i.state (job.transition n.job x))
+      → Good part holds (with_job n (job.transition n.job x))
+  stays_good n x g all =
+      record { filed = g.filed; epochs = g.epochs; begun = g.begun; views = λ b inside. let i = g.views b inside in stays_view n x b i (all b inside i) }
 
   pub job_takes : (n : Net) (x : job_inputs.In) → Good part holds n → IsOther part x → Good part holds (with_job n (job.transition n.job x))
   job_takes n (job_input.Welcome slots groups) g other = absurd other
   job_takes n (job_input.Promise slot epoch) g other =
-      stays_good n (job_input.Promise slot epoch) g (λ b inside i. promise_stays b n.filed i.state n.job slot epoch i.job (other_promise n.job slot epoch (slot_of b.ino.0) (λ same. other (same ∙ inside))))
+      stays_good n (job_input.Promise slot epoch) g
+      (λ b inside i. promise_stays b n.filed i.state n.job slot epoch i.job (other_promise n.job slot epoch (slot_of b.ino.0) (λ same. other (same ∙ inside))))
   job_takes n (job_input.Maps groups) g other = stays_good n (job_input.Maps groups) g (λ b inside i. maps_stay b n.filed i.state n.job groups i.job)
-  job_takes n (job_input.Listed server held) g other = stays_good n (job_input.Listed server held) g (λ b inside i. listed_stays b n.filed i.state n.job server held i.job)
-  job_takes n (job_input.Usage slot epoch counts) g other = stays_good n (job_input.Usage slot epoch counts) g (λ b inside i. usage_stays b n.filed i.state n.job slot epoch counts i.job)
+  job_takes n (job_input.Listed server held) g other =
+      stays_good n (job_input.Listed server held) g (λ b inside i. listed_stays b n.filed i.state n.job server held i.job)
+  job_takes n (job_input.Usage slot epoch counts) g other =
+      stays_good n (job_input.Usage slot epoch counts) g (λ b inside i. usage_stays b n.filed i.state n.job slot epoch counts i.job)
   job_takes n (job_input.Read read) g other = absurd other
-  job_takes n (job_input.Live block epoch entry) g other = stays_good n (job_input.Live block epoch entry) g (λ b inside i. live_answered b n.filed i.state n.job block epoch entry i.job)
+  job_takes n (job_input.Live block epoch entry) g other =
+      stays_good n (job_input.Live block epoch entry) g (λ b inside i. live_answered b n.filed i.state n.job block epoch entry i.job)
   job_takes n (job_input.Dead block epoch) g other =
-      stays_good n (job_input.Dead block epoch) g (λ b inside i. dead_answered b n.filed i.state n.job block epoch i.job (λ same _. absurd (other (ap (λ (k : BlockId). slot_of k.ino.0) same ∙ inside))))
+      stays_good n (job_input.Dead block epoch) g
+      (λ b inside i. dead_answered b n.filed i.state n.job block epoch i.job (λ same _. absurd (other (ap (λ (k : BlockId). slot_of k.ino.0) same ∙ inside))))
   job_takes n job_input.Moved g other = stays_good n job_input.Moved g (λ b inside i. moved_stays_on b n.filed i.state n.job i.job)
-  job_takes n (job_input.Deleted server name) g other = stays_good n (job_input.Deleted server name) g (λ b inside i. deleted_stays b n.filed i.state n.job server name i.job)
+  job_takes n (job_input.Deleted server name) g other =
+      stays_good n (job_input.Deleted server name) g (λ b inside i. deleted_stays b n.filed i.state n.job server name i.job)
   job_takes n job_input.Tick g other = stays_good n job_input.Tick g (λ b inside i. tick_stays b n.filed i.state n.job i.job)
 
-  pub job_reads : (n : Net) (read : Option Segment) → Good part holds n → ReadFor n.filed read n.job.phase → Good part holds (with_job n (job.transition n.job (job_input.Read read)))
+  pub job_reads : (n : Net) (read : Option Segment) → Good part holds n → ReadFor n.filed read n.job.phase
+      → Good part holds (with_job n (job.transition n.job (job_input.Read read)))
   job_reads n read g owes = stays_good n (job_input.Read read) g (λ b inside i. read_stays b n.filed i.state n.job read i.job owes)
 
   -- a Dead of the segment in hand that is heard was told of its row
-  told_for : (n : Net) (b : BlockId) (i : View part holds b n) (epoch : ℕ) (name : SegName) (d : ℕ) (p : Phase) → n.slots 0 ≡ None → Sound part holds b n i.state (AnsweredDead n.number b name d epoch) → epoch ≡ promised_at n.job.promised part → IsInHand name p
+  told_for : (n : Net) (b : BlockId) (i : View part holds b n) (epoch : ℕ) (name : SegName) (d : ℕ) (p : Phase) → n.slots 0 ≡ None
+      → Sound part holds b n i.state (AnsweredDead n.number b name d epoch) → epoch ≡ promised_at n.job.promised part → IsInHand name p
       → ToldFor b n.filed i.state epoch p
   told_for n b i epoch name d (Checking j segment checks) begun known at hand = λ is has.
       let low = known.0.promised refl in
@@ -191,7 +219,8 @@ module _ (part : ℕ) (holds : SegRef → Rows) where
       some_epoch (suc e) is on = omega arith
   told_for n b i epoch name d p begun known at hand = tt
 
-  pub job_hears_dead : (n : Net) (k : BlockId) (epoch : ℕ) (name : SegName) (d : ℕ) → Good part holds n → In (AnsweredDead n.number k name d epoch) n.sent → IsInHand name n.job.phase → Good part holds (with_job n (job.transition n.job (job_input.Dead k epoch)))
+  pub job_hears_dead : (n : Net) (k : BlockId) (epoch : ℕ) (name : SegName) (d : ℕ) → Good part holds n → In (AnsweredDead n.number k name d epoch) n.sent
+      → IsInHand name n.job.phase → Good part holds (with_job n (job.transition n.job (job_input.Dead k epoch)))
   job_hears_dead n k epoch name d g answered hand =
       stays_good n (job_input.Dead k epoch) g (λ b inside i.
       dead_answered b n.filed i.state n.job k epoch i.job (λ same heard.
@@ -201,22 +230,30 @@ module _ (part : ℕ) (holds : SegRef → Rows) where
 
   -- ---- promises
 
-  rises_view : (n : Net) (x : job_inputs.In) (b : BlockId) → slot_of b.ino.0 ≡ part → (i : View part holds b n) → RisesOn b n.filed i.state (job.transition n.job x)
+  rises_view : (n : Net) (x : job_inputs.In) (b : BlockId) → slot_of b.ino.0 ≡ part → (i : View part holds b n)
+      → RisesOn b n.filed i.state (job.transition n.job x)
       → View part holds b (record (with_job n (job.transition n.job x)) { promised = promised_at (job.transition n.job x).state.promised part })
   rises_view n x b inside i r =
       let d = job.transition n.job x in
-      job_view n d (promised_at d.state.promised part) b i r.cleaned (r.promised ∙ ap (promised_at d.state.promised) inside) (λ e low. polled_low e low (r.polled e)) (λ e. polled_head e (r.polled e)) (no_fall n.job x part)
+      job_view n d (promised_at d.state.promised part) b i r.cleaned (r.promised ∙ ap (promised_at d.state.promised) inside)
+      (λ e low. polled_low e low (r.polled e)) (λ e. polled_head e (r.polled e)) (no_fall n.job x part)
     where
-      polled_low : (e : ℕ) → e ≤ i.state.promised → (r.cleaned.state.polled e ≡ i.state.polled e) ⊎ ((i.state.promised < e) × (r.cleaned.state.polled e ≡ i.state.head i.state.cleaner)) → r.cleaned.state.polled e ≤ i.state.polled e
+      polled_low : (e : ℕ) → e ≤ i.state.promised
+          → (r.cleaned.state.polled e ≡ i.state.polled e) ⊎ ((i.state.promised < e) × (r.cleaned.state.polled e ≡ i.state.head i.state.cleaner))
+          → r.cleaned.state.polled e ≤ i.state.polled e
       polled_low e low (inl same) = omega arith
       polled_low e low (inr late) = let h = late.0 in absurd (omega arith)
 
-      polled_head : (e : ℕ) → (r.cleaned.state.polled e ≡ i.state.polled e) ⊎ ((i.state.promised < e) × (r.cleaned.state.polled e ≡ i.state.head i.state.cleaner)) → r.cleaned.state.polled e ≤ i.state.head 9
+      polled_head : (e : ℕ)
+          → (r.cleaned.state.polled e ≡ i.state.polled e) ⊎ ((i.state.promised < e) × (r.cleaned.state.polled e ≡ i.state.head i.state.cleaner))
+          → r.cleaned.state.polled e ≤ i.state.head 9
       polled_head e (inl same) = let q = i.polled e in omega arith
       polled_head e (inr late) = let h = late.1 in let c = ap i.state.head i.tells.cleaner in omega arith
 
   pub job_promises : (n : Net) (e : ℕ) → Good part holds n → n.promised ≤ promised_at (job.transition n.job (job_input.Promise part e)).state.promised part
-      → Good part holds (record (with_job n (job.transition n.job (job_input.Promise part e))) { promised = promised_at (job.transition n.job (job_input.Promise part e)).state.promised part })
+      → Good part holds
+      (record (with_job n (job.transition n.job (job_input.Promise part e)))
+      { promised = promised_at (job.transition n.job (job_input.Promise part e)).state.promised part })
   job_promises n e g rises = record {
     filed = g.filed;
     epochs = g.epochs;
@@ -224,11 +261,15 @@ module _ (part : ℕ) (holds : SegRef → Rows) where
     views = λ b inside.
         let i = g.views b inside in
         rises_view n (job_input.Promise part e) b inside i
-        (promise_rises b n.filed i.state n.job part e i.job (let p = i.promised in let same = ap (promised_at (job.transition n.job (job_input.Promise part e)).state.promised) inside in omega arith));
+        (promise_rises b n.filed i.state n.job part e i.job
+        (let p = i.promised in let same = ap (promised_at (job.transition n.job (job_input.Promise part e)).state.promised) inside in omega arith));
   }
 
-  pub job_welcomed : (n : Net) (slots : List SlotNews) (groups : GroupMapState) → Good part holds n → n.promised ≤ promised_at (job.transition n.job (job_input.Welcome slots groups)).state.promised part
-      → Good part holds (record (with_job n (job.transition n.job (job_input.Welcome slots groups))) { promised = promised_at (job.transition n.job (job_input.Welcome slots groups)).state.promised part })
+  pub job_welcomed : (n : Net) (slots : List SlotNews) (groups : GroupMapState) → Good part holds n
+      → n.promised ≤ promised_at (job.transition n.job (job_input.Welcome slots groups)).state.promised part
+      → Good part holds
+      (record (with_job n (job.transition n.job (job_input.Welcome slots groups)))
+      { promised = promised_at (job.transition n.job (job_input.Welcome slots groups)).state.promised part })
   job_welcomed n slots groups g rises = record {
     filed = g.filed;
     epochs = g.epochs;
@@ -236,19 +277,24 @@ module _ (part : ℕ) (holds : SegRef → Rows) where
     views = λ b inside.
         let i = g.views b inside in
         rises_view n (job_input.Welcome slots groups) b inside i
-        (welcome_rises b n.filed i.state n.job slots groups i.job (let p = i.promised in let same = ap (promised_at (job.transition n.job (job_input.Welcome slots groups)).state.promised) inside in omega arith));
+        (welcome_rises b n.filed i.state n.job slots groups i.job
+        (let p = i.promised in let same = ap (promised_at (job.transition n.job (job_input.Welcome slots groups)).state.promised) inside in omega arith));
   }
 
-  promise_view : (n : Net) (e : ℕ) (b : BlockId) → slot_of b.ino.0 ≡ part → (i : View part holds b n) → n.promised ≤ e → promised_at n.job.promised part ≡ 0 → View part holds b (record n { promised = e })
+  promise_view : (n : Net) (e : ℕ) (b : BlockId) → slot_of b.ino.0 ≡ part → (i : View part holds b n) → n.promised ≤ e → promised_at n.job.promised part ≡ 0
+      → View part holds b (record n { promised = e })
   promise_view n e b inside i rises none =
       let w = i.state in
       let f = n.filed in
       let m = record n { promised = e } in
       let v = promises w e in
       let p = i.promised in
-      let kept : Kept w v = record { cleaner = refl; head = λ l. refl; version = λ l q. refl; hop = λ l q. refl; active = λ k. refl; applied = λ k l. refl; index = λ k. refl } in
+      let kept : Kept w v =
+      record { cleaner = refl; head = λ l. refl; version = λ l q. refl; hop = λ l q. refl; active = λ k. refl; applied = λ k l. refl; index = λ k. refl } in
       let tells = kept_tells part holds b f w v kept i.tells in
-      let went_on = went part holds b n m i v (More Ended (Promises e (record { rises = omega arith }))) (same_filed f) tells (λ d low. polled_low d low (polled_at w e d)) (omega arith) (λ _. omega arith) in
+      let went_on =
+      went part holds b n m i v (More Ended (Promises e (record { rises = omega arith }))) (same_filed f) tells (λ d low. polled_low d low (polled_at w e d))
+      (omega arith) (λ _. omega arith) in
       record {
         state = v;
         reached = went_on.reached;
@@ -265,16 +311,22 @@ module _ (part : ℕ) (holds : SegRef → Rows) where
         sent = went_on.sent;
       }
     where
-      polled_low : (d : ℕ) → d ≤ i.state.promised → ((promises i.state e).polled d ≡ i.state.polled d) ⊎ ((i.state.promised < d) × ((promises i.state e).polled d ≡ i.state.head i.state.cleaner)) → (promises i.state e).polled d ≤ i.state.polled d
+      polled_low : (d : ℕ) → d ≤ i.state.promised
+          → ((promises i.state e).polled d ≡ i.state.polled d) ⊎ ((i.state.promised < d) × ((promises i.state e).polled d ≡ i.state.head i.state.cleaner))
+          → (promises i.state e).polled d ≤ i.state.polled d
       polled_low d low (inl same) = omega arith
       polled_low d low (inr late) = let h = late.0 in absurd (omega arith)
 
-      polled_head : (d : ℕ) → ((promises i.state e).polled d ≡ i.state.polled d) ⊎ ((i.state.promised < d) × ((promises i.state e).polled d ≡ i.state.head i.state.cleaner)) → (promises i.state e).polled d ≤ (promises i.state e).head 9
+      polled_head : (d : ℕ)
+          → ((promises i.state e).polled d ≡ i.state.polled d) ⊎ ((i.state.promised < d) × ((promises i.state e).polled d ≡ i.state.head i.state.cleaner))
+          → (promises i.state e).polled d ≤ (promises i.state e).head 9
       polled_head d (inl same) = let q = i.polled d in omega arith
       polled_head d (inr late) = let h = late.1 in let c = ap i.state.head i.tells.cleaner in omega arith
 
-  pub cleaner_promises : (n : Net) (e : ℕ) → Good part holds n → n.promised ≤ e → promised_at n.job.promised part ≡ 0 → Good part holds (record n { promised = e })
-  cleaner_promises n e g rises none = record { filed = g.filed; epochs = g.epochs; begun = g.begun; views = λ b inside. promise_view n e b inside (g.views b inside) rises none }
+  pub cleaner_promises : (n : Net) (e : ℕ) → Good part holds n → n.promised ≤ e → promised_at n.job.promised part ≡ 0
+      → Good part holds (record n { promised = e })
+  cleaner_promises n e g rises none =
+      record { filed = g.filed; epochs = g.epochs; begun = g.begun; views = λ b inside. promise_view n e b inside (g.views b inside) rises none }
 
   -- ---- a job begins
 
@@ -286,7 +338,8 @@ module _ (part : ℕ) (holds : SegRef → Rows) where
     views = λ b inside.
         let i = g.views b inside in
         let m = record n { job = started count; number = suc n.number } in
-        let went_on = went part holds b n m i i.state Ended (same_filed n.filed) i.tells (λ d _. omega arith) (omega arith) (λ same. absurd (let h = same in omega arith)) in
+        let went_on =
+        went part holds b n m i i.state Ended (same_filed n.filed) i.tells (λ d _. omega arith) (omega arith) (λ same. absurd (let h = same in omega arith)) in
         record {
           state = i.state;
           reached = i.reached;

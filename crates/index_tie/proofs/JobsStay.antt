@@ -34,7 +34,8 @@ jobs_begin b f w count = record { promised = inl (none_yet (slot_of b.ino.0)); k
 -- ---- more is filed
 
 -- what was dropped stays so
-pub dropped_stays : (b : BlockId) (f g : Filed) (dropped more_dropped : ℕ → ℕ → ℕ) (name : SegName) → IsMore f g → ((l q : ℕ) → dropped l q ≡ 1 → more_dropped l q ≡ 1) → IsDropped b f dropped name → IsDropped b g more_dropped name
+pub dropped_stays : (b : BlockId) (f g : Filed) (dropped more_dropped : ℕ → ℕ → ℕ) (name : SegName) → IsMore f g
+    → ((l q : ℕ) → dropped l q ≡ 1 → more_dropped l q ≡ 1) → IsDropped b f dropped name → IsDropped b g more_dropped name
 dropped_stays b f g dropped more_dropped name more drops k =
     let l = name.log.0 in
     let q = name.seq in
@@ -45,7 +46,8 @@ dropped_stays b f g dropped more_dropped name more drops k =
     let has : has_block b g name ≡ has_block b f name = ap (λ (s : Segment). list_any (same_block b) (blocks_of s.items)) same in
     record { within = record { some = k.within.some; filed = omega arith }; is = λ is any. drops l q (k.is (sym its ∙ is) (sym has ∙ any)) }
 
-known_stays : (b : BlockId) (f g : Filed) (dead more_dead dropped more_dropped : ℕ → ℕ → ℕ) (p : Phase) → IsMore f g → ((l q : ℕ) → dead l q ≤ more_dead l q) → ((l q : ℕ) → dropped l q ≡ 1 → more_dropped l q ≡ 1) → Known b f dead dropped p
+known_stays : (b : BlockId) (f g : Filed) (dead more_dead dropped more_dropped : ℕ → ℕ → ℕ) (p : Phase) → IsMore f g → ((l q : ℕ) → dead l q ≤ more_dead l q)
+    → ((l q : ℕ) → dropped l q ≡ 1 → more_dropped l q ≡ 1) → Known b f dead dropped p
     → Known b g more_dead more_dropped p
 known_stays b f g dead more_dead dropped more_dropped (Checking j segment checks) more counted drops k =
     let name = segment.name in
@@ -62,14 +64,17 @@ known_stays b f g dead more_dead dropped more_dropped (Checking j segment checks
       counted = λ is any. all_more checks (k.counted (sym its ∙ is) (sym has ∙ any));
     }
   where
-    all_more : (cs : List Check) → AllByRecursion (λ (c : Check). c.block ≡ b → is_dead c.fate ≡ true → 0 < dead segment.name.log.0 segment.name.seq) cs → AllByRecursion (λ (c : Check). c.block ≡ b → is_dead c.fate ≡ true → 0 < more_dead segment.name.log.0 segment.name.seq) cs
+    all_more : (cs : List Check) → AllByRecursion (λ (c : Check). c.block ≡ b → is_dead c.fate ≡ true → 0 < dead segment.name.log.0 segment.name.seq) cs
+        → AllByRecursion (λ (c : Check). c.block ≡ b → is_dead c.fate ≡ true → 0 < more_dead segment.name.log.0 segment.name.seq) cs
     all_more [] all = tt
     all_more (c ∷ cs) all = ((λ at now. let x = all.0 at now in let y = counted segment.name.log.0 segment.name.seq in omega arith), all_more cs all.1)
-known_stays b f g dead more_dead dropped more_dropped (Deleting j segment servers) more counted drops k = dropped_stays b f g dropped more_dropped segment.name more drops k
+known_stays b f g dead more_dead dropped more_dropped (Deleting j segment servers) more counted drops k =
+    dropped_stays b f g dropped more_dropped segment.name more drops k
 known_stays b f g dead more_dead dropped more_dropped p more counted drops k = tt
 
 pub jobs_stay : JobsStay
-jobs_stay b f g w v s more promised counted drops c = record { promised = as_before c.promised; known = known_stays b f g w.dead_at v.dead_at w.dropped v.dropped s.phase more counted drops c.known }
+jobs_stay b f g w v s more promised counted drops c =
+    record { promised = as_before c.promised; known = known_stays b f g w.dead_at v.dead_at w.dropped v.dropped s.phase more counted drops c.known }
   where
     as_before : (promise_of b s ≡ 0) ⊎ (w.promised ≡ promise_of b s) → (promise_of b s ≡ 0) ⊎ (v.promised ≡ promise_of b s)
     as_before (inl none) = inl none

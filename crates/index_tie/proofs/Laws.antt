@@ -94,7 +94,8 @@ place_lies s item place = by (item == no_item)
     same : Some here ≡ Some place → here ≡ place
     same h = ap (λ o. unwrap_or o here) h
 
-    by : (t : Bool) → cond t None (Some (record { seg = record { name = s.name; group = s.group }; item = item })) ≡ Some place → (place.seg.name ≡ s.name) × (place.seg.group ≡ s.group)
+    by : (t : Bool) → cond t None (Some (record { seg = record { name = s.name; group = s.group }; item = item })) ≡ Some place
+        → (place.seg.name ≡ s.name) × (place.seg.group ≡ s.group)
     by true h = absurd (nowhere place h)
     by false h = (sym (ap (λ (p : Place). p.seg.name) (same h)), sym (ap (λ (p : Place). p.seg.group) (same h)))
 
@@ -118,7 +119,8 @@ places_are_exact b f entry named place filed n lies = by entry.ver refl
         let at : (row_at f b l q).place ≡ Some place = sym (ap (λ (e : Entry). e.place) row) ∙ lies in
         let in_segment : (place.seg.name ≡ (f.segment l q).name) × (place.seg.group ≡ (f.segment l q).group) =
         by_filed (λ rows. (join rows b).place ≡ Some place → (place.seg.name ≡ (f.segment l q).name) × (place.seg.group ≡ (f.segment l q).group)) f l q
-        (λ _ _. join_has (LiesIn (f.segment l q)) b (rows_of (f.segment l q)) (λ p h. absurd (nowhere p h)) (all_lie (f.segment l q) (f.segment l q).items) place)
+        (λ _ _. join_has (LiesIn (f.segment l q)) b (rows_of (f.segment l q)) (λ p h. absurd (nowhere p h))
+        (all_lie (f.segment l q) (f.segment l q).items) place)
         (λ h. absurd (nowhere place h)) at in
         record {
           log = ap (λ (n : SegName). n.log.0) in_segment.0 ∙ its.log;
@@ -143,7 +145,8 @@ dropped_is_outdated b f w s place reached filed tells m lies dropped counted =
     let top = (index_is_join_always w reached).all in
     let is : w.version w.joined.log w.joined.seq ≡ w.joined.version = top.its_version (omega arith) in
     let row : (row_at f b named.log named.seq).ver ≡ (entry_at s b).ver = row_version (entry_at s b).ver refl in
-    let here : w.version l q ≡ (row_at f b named.log named.seq).ver = tells.version l q ∙ ap (λ k. (row_at f b k q).ver) exact.log ∙ ap (λ k. (row_at f b named.log k).ver) exact.seq in
+    let here : w.version l q ≡ (row_at f b named.log named.seq).ver =
+    tells.version l q ∙ ap (λ k. (row_at f b k q).ver) exact.log ∙ ap (λ k. (row_at f b named.log k).ver) exact.seq in
     let there = tells.version w.joined.log w.joined.seq in
     record { log = w.joined.log; seq = w.joined.seq; newer = omega arith }
   where
@@ -175,7 +178,8 @@ one_log w a x l q p some version hop = by (nat_lt a w.cleaner) (nat_lt l w.clean
 
     by : (t u : Bool) → nat_lt a w.cleaner ≡ t → nat_lt l w.cleaner ≡ u → a ≡ l
     by true true c d = (p.one_place a x l q (below a w.cleaner c) (below l w.cleaner d) some version).0
-    by true false c d = let n = p.client_hop a x (below a w.cleaner c) in let k = copied l q (last l q (above l w.cleaner d) (omega arith)) (omega arith) in absurd (omega arith)
+    by true false c d = let n = p.client_hop a x (below a w.cleaner c) in let k =
+        copied l q (last l q (above l w.cleaner d) (omega arith)) (omega arith) in absurd (omega arith)
     by false true c d = let n = p.client_hop l q (below l w.cleaner d) in let k = copied a x (last a x (above a w.cleaner c) some) some in absurd (omega arith)
     by false false c d = last a x (above a w.cleaner c) some ∙ sym (last l q (above l w.cleaner d) (omega arith))
 

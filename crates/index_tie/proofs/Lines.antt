@@ -75,7 +75,8 @@ same_feed l w book i serves q above within =
     let f = (feed_whole_always w i.reached i.clean serves).filed q above within in
     sym (ap w.line (sym f.1) ∙ (is_end l w book i).filed_line (w.feed q) f.0)
 
-same_feeds : (logs : ℕ → State) (books : ℕ → ℕ → Segment) (l : ℕ) → 0 < l → l ≤ 9 → IsLog l (logs l) (books l) → (logs l).phase ≡ 4 → (n q : ℕ) → (logs l).feed_base < q → q + n ≤ suc (logs l).head
+same_feeds : (logs : ℕ → State) (books : ℕ → ℕ → Segment) (l : ℕ) → 0 < l → l ≤ 9 → IsLog l (logs l) (books l) → (logs l).phase ≡ 4 → (n q : ℕ)
+    → (logs l).feed_base < q → q + n ≤ suc (logs l).head
     → map (feed_at (logs l) (books l)) (range_with_len q n) ≡ map (fed_at (lines logs books) l) (range_with_len q n)
 same_feeds logs books l some most i serves zero q above within = refl
 same_feeds logs books l some most i serves (suc n) q above within =
@@ -83,7 +84,8 @@ same_feeds logs books l some most i serves (suc n) q above within =
     let f = lines logs books in
     let head = head_in logs books l some most in
     let rows : rows_of (books l (w.feed q)) ≡ rows_at f l q =
-    ap (λ k. rows_of (books l k)) (same_feed l w (books l) i serves q above (omega arith)) ∙ sym (first_of (nat_lt 0 q && nat_le q (f.head l)) (rows_of (books l (w.line q))) [] (filed_test q (f.head l) (omega arith) (omega arith))) in
+    ap (λ k. rows_of (books l k)) (same_feed l w (books l) i serves q above (omega arith))
+    ∙ sym (first_of (nat_lt 0 q && nat_le q (f.head l)) (rows_of (books l (w.line q))) [] (filed_test q (f.head l) (omega arith) (omega arith))) in
     let rest = same_feeds logs books l some most i serves n (q + 1) (omega arith) (omega arith) in
     ap (λ r. record { seq = q; rows = r } ∷ map (feed_at w (books l)) (range_with_len (q + 1) n)) rows ∙ ap (λ fs. fed_at f l q ∷ fs) rest
   where
@@ -107,7 +109,8 @@ feeds_are_fed logs books l inputs are some most serves ends told =
 pub lines_grow : LinesGrow
 lines_grow logs later books more old new steps same = record {
   head = by_log (λ l. (lines logs books).head l ≤ (lines later more).head l)
-      (λ l some most. let a = head_in logs books l some most in let c = head_in later more l some most in let p = (past l some most).head (new l some most).clean in omega arith)
+      (λ l some most. let a = head_in logs books l some most in let c = head_in later more l some most in
+      let p = (past l some most).head (new l some most).clean in omega arith)
       (λ l out. let a = head_out logs books l out in omega arith);
   segment = λ l q some most. by_log (λ k. q ≤ (lines logs books).head k → more k ((later k).line q) ≡ books k ((logs k).line q))
       (λ k above less within.

@@ -85,8 +85,10 @@ module _ (part : ℕ) (holds : SegRef → Rows) where
   pub kept_tells : (b : BlockId) (f : Filed) (w v : IndexState) → Kept w v → Tells b f w → Tells b f v
   kept_tells b f w v k t = tells_same b f w v k.cleaner k.head k.version k.hop t
 
-  pub kept_slots : (b : BlockId) (f : Filed) (slots : ℕ → Option SlotState) (w v : IndexState) → Kept w v → ((e : ℕ) (s : SlotState) → slots e ≡ Some s → Manages b f w s) → (e : ℕ) (s : SlotState) → slots e ≡ Some s → Manages b f v s
-  kept_slots b f slots w v k all e s at = slots_stay b f f w v s (same_filed f) (record { active = k.active s.epoch; applied = k.applied s.epoch; index = k.index s.epoch }) (all e s at)
+  pub kept_slots : (b : BlockId) (f : Filed) (slots : ℕ → Option SlotState) (w v : IndexState) → Kept w v
+      → ((e : ℕ) (s : SlotState) → slots e ≡ Some s → Manages b f w s) → (e : ℕ) (s : SlotState) → slots e ≡ Some s → Manages b f v s
+  kept_slots b f slots w v k all e s at =
+      slots_stay b f f w v s (same_filed f) (record { active = k.active s.epoch; applied = k.applied s.epoch; index = k.index s.epoch }) (all e s at)
 
   -- ---- packets are sent
 
@@ -127,7 +129,8 @@ module _ (part : ℕ) (holds : SegRef → Rows) where
         sent = all_and part holds b (Sound part holds b m v) new n.sent r.sound went_on.sent;
       }
 
-  still_sends : (b : BlockId) (n : Net) (i : View part holds b n) (new : List Packet) → AllByRecursion (Sound part holds b (record n { sent = new ++ n.sent }) i.state) new → Sends b n i new
+  still_sends : (b : BlockId) (n : Net) (i : View part holds b n) (new : List Packet)
+      → AllByRecursion (Sound part holds b (record n { sent = new ++ n.sent }) i.state) new → Sends b n i new
   still_sends b n i new sound = record {
     state = i.state;
     steps = Ended;
@@ -141,13 +144,16 @@ module _ (part : ℕ) (holds : SegRef → Rows) where
     sound = sound;
   }
 
-  sent_good : (n : Net) (new : List Packet) → Good part holds n → ((b : BlockId) → slot_of b.ino.0 ≡ part → (i : View part holds b n) → Sends b n i new) → Good part holds (record n { sent = new ++ n.sent })
-  sent_good n new g all = record { filed = g.filed; epochs = g.epochs; begun = g.begun; views = λ b inside. let i = g.views b inside in sends b n i new (all b inside i) }
+  sent_good : (n : Net) (new : List Packet) → Good part holds n → ((b : BlockId) → slot_of b.ino.0 ≡ part → (i : View part holds b n) → Sends b n i new)
+      → Good part holds (record n { sent = new ++ n.sent })
+  sent_good n new g all =
+      record { filed = g.filed; epochs = g.epochs; begun = g.begun; views = λ b inside. let i = g.views b inside in sends b n i new (all b inside i) }
 
   -- ---- a slot answers a Check
 
   -- what was asked, of a later net that has the same log, job and number
-  asked_as : (b : BlockId) (n m : Net) (w v : IndexState) (number : ℕ) (name : SegName) (d : ℕ) → m.filed ≡ n.filed → m.number ≡ n.number → m.job ≡ n.job → ((e l : ℕ) → v.floor e l ≡ w.floor e l) → IsAsked part holds b n w number name d → IsAsked part holds b m v number name d
+  asked_as : (b : BlockId) (n m : Net) (w v : IndexState) (number : ℕ) (name : SegName) (d : ℕ) → m.filed ≡ n.filed → m.number ≡ n.number → m.job ≡ n.job
+      → ((e l : ℕ) → v.floor e l ≡ w.floor e l) → IsAsked part holds b n w number name d → IsAsked part holds b m v number name d
   asked_as b n m w v number name d filed counts job floor a = record {
     within = subst (λ f. IsWithin f name) (sym filed) a.within;
     below = let x = a.below in let y = floor d name.log.0 in omega arith;
@@ -156,26 +162,40 @@ module _ (part : ℕ) (holds : SegRef → Rows) where
   }
 
   -- a Live is a filed row
-  lives : (n : Net) (s : SlotState) (k : BlockId) (place : Place) (b : BlockId) (w : IndexState) → Manages b n.filed w s → slot.is_place (slot.entry_at s k).place place ≡ true → k ≡ b → IsRow b n.filed (slot.entry_at s k)
+  lives : (n : Net) (s : SlotState) (k : BlockId) (place : Place) (b : BlockId) (w : IndexState) → Manages b n.filed w s
+      → slot.is_place (slot.entry_at s k).place place ≡ true → k ≡ b → IsRow b n.filed (slot.entry_at s k)
   lives n s k place b w m is at =
       let here : slot.is_place (slot.entry_at s b).place place ≡ true = ap (λ x. slot.is_place (slot.entry_at s x).place place) (sym at) ∙ is in
-      subst (λ x. IsRow b n.filed (slot.entry_at s x)) (sym at) (live_is_filed b n.filed w s place (slot.entry_at s b) m (ap (λ t. cond t (Live (slot.entry_at s b)) Dead ∷ []) here))
+      subst (λ x. IsRow b n.filed (slot.entry_at s x)) (sym at)
+      (live_is_filed b n.filed w s place (slot.entry_at s b) m (ap (λ t. cond t (Live (slot.entry_at s b)) Dead ∷ []) here))
 
   -- a Dead of the block, of a filed row below a horizon of an epoch up to the slot's, is told
-  tells_dead : (n : Net) (e : ℕ) (s : SlotState) (number : ℕ) (place : Place) (d : ℕ) → Good part holds n → n.slots e ≡ Some s → (b : BlockId) (i : View part holds b n) → Sound part holds b n i.state (Checked number b place d)
-      → slot.is_place (slot.entry_at s b).place place ≡ false → is_filed_name n.filed place.seg.name ≡ true → d ≤ e → Sends b n i (AnsweredDead number b place.seg.name d e ∷ [])
+  tells_dead : (n : Net) (e : ℕ) (s : SlotState) (number : ℕ) (place : Place) (d : ℕ) → Good part holds n → n.slots e ≡ Some s
+      → (b : BlockId) (i : View part holds b n) → Sound part holds b n i.state (Checked number b place d)
+      → slot.is_place (slot.entry_at s b).place place ≡ false → is_filed_name n.filed place.seg.name ≡ true → d ≤ e
+      → Sends b n i (AnsweredDead number b place.seg.name d e ∷ [])
   tells_dead n e s number place d g at b i asked elsewhere is low =
       let w = i.state in
       let l = place.seg.name.log.0 in
       let q = place.seg.name.seq in
       let same = g.epochs e s at in
-      let can : CanBeat w d s.epoch l q = deads_are_beats b n.filed w s place d l q i.reached g.filed i.tells (i.slots e s at) (asked.1 refl is) (omega arith) asked.0.below (ap (λ t. cond t (Live (slot.entry_at s b)) Dead ∷ []) elsewhere) in
+      let can : CanBeat w d s.epoch l q =
+      deads_are_beats b n.filed w s place d l q i.reached g.filed i.tells (i.slots e s at) (asked.1 refl is) (omega arith) asked.0.below
+      (ap (λ t. cond t (Live (slot.entry_at s b)) Dead ∷ []) elsewhere) in
       let v = beats w e l q in
       let m = record n { sent = AnsweredDead number b place.seg.name d e ∷ n.sent } in
       record {
         state = v;
         steps = More Ended (Beats d e l q (subst (λ x. CanBeat w d x l q) same can));
-        kept = record { cleaner = refl; head = λ k. refl; version = λ k r. refl; hop = λ k r. refl; active = λ k. refl; applied = λ k r. refl; index = λ k. refl };
+        kept = record {
+          cleaner = refl;
+          head = λ k. refl;
+          version = λ k r. refl;
+          hop = λ k r. refl;
+          active = λ k. refl;
+          applied = λ k r. refl;
+          index = λ k. refl;
+        };
         epoch = refl;
         floor = λ k r. refl;
         promised = refl;
@@ -185,44 +205,60 @@ module _ (part : ℕ) (holds : SegRef → Rows) where
         sound = (
           (
             asked_as b n m w v number place.seg.name d refl refl refl (λ k r. refl) asked.0,
-            λ _ _ _. at_same e (put_at (w.told e) l q 1 l q) (w.told e l q) ∙ at_same l (cond (q == q) 1 (w.told e l q)) (w.told e l q) ∙ at_same q 1 (w.told e l q),
+            λ _ _ _. at_same e (put_at (w.told e) l q 1 l q) (w.told e l q) ∙ at_same l (cond (q == q) 1 (w.told e l q)) (w.told e l q)
+                ∙ at_same q 1 (w.told e l q),
           ),
           tt,
         );
       }
 
-  answered : (n : Net) (e : ℕ) (s : SlotState) (number : ℕ) (k : BlockId) (place : Place) (d : ℕ) → Good part holds n → n.slots e ≡ Some s → In (Checked number k place d) n.sent → (b : BlockId) (i : View part holds b n)
+  answered : (n : Net) (e : ℕ) (s : SlotState) (number : ℕ) (k : BlockId) (place : Place) (d : ℕ) → Good part holds n → n.slots e ≡ Some s
+      → In (Checked number k place d) n.sent → (b : BlockId) (i : View part holds b n)
       → Sends b n i (answer_packets number k place.seg.name d e (slot.transition s (Check k place)).outs)
   answered n e s number k place d g at asked b i =
       let w = i.state in
       let name = place.seg.name in
       let known = found part holds b (Sound part holds b n w) (Checked number k place d) n.sent i.sent asked in
-      by_test (λ (o : Out). Sends b n i (answer_packets number k name d e (o ∷ []))) (slot.is_place (slot.entry_at s k).place place) (Live (slot.entry_at s k)) Dead
+      by_test (λ (o : Out). Sends b n i (answer_packets number k name d e (o ∷ []))) (slot.is_place (slot.entry_at s k).place place)
+      (Live (slot.entry_at s k)) Dead
       (λ is. still_sends b n i (AnsweredLive k (slot.entry_at s k) ∷ []) (lives n s k place b w (i.slots e s at) is, tt))
       (λ elsewhere. by known elsewhere (same_block k b) (is_filed_name n.filed name) (nat_le d e) refl refl refl)
     where
-      untold : Sound part holds b n i.state (Checked number k place d) → ((k ≡ b) → is_filed_name n.filed place.seg.name ≡ true → d ≤ e → ⊥) → Sends b n i (AnsweredDead number k place.seg.name d e ∷ [])
+      untold : Sound part holds b n i.state (Checked number k place d) → ((k ≡ b) → is_filed_name n.filed place.seg.name ≡ true → d ≤ e → ⊥)
+          → Sends b n i (AnsweredDead number k place.seg.name d e ∷ [])
       untold known never =
-          still_sends b n i (AnsweredDead number k place.seg.name d e ∷ [])
-          ((asked_as b n (record n { sent = AnsweredDead number k place.seg.name d e ∷ n.sent }) i.state i.state number place.seg.name d refl refl refl (λ x y. refl) known.0, λ same is low. absurd (never same is low)), tt)
+          still_sends b n i (AnsweredDead number k place.seg.name d e ∷ []) (
+            (
+              asked_as b n (record n { sent = AnsweredDead number k place.seg.name d e ∷ n.sent }) i.state i.state number place.seg.name d refl refl refl
+                  (λ x y. refl) known.0,
+              λ same is low. absurd (never same is low),
+            ),
+            tt,
+          )
 
-      by : Sound part holds b n i.state (Checked number k place d) → slot.is_place (slot.entry_at s k).place place ≡ false → (t u v : Bool) → same_block k b ≡ t → is_filed_name n.filed place.seg.name ≡ u → nat_le d e ≡ v
+      by : Sound part holds b n i.state (Checked number k place d) → slot.is_place (slot.entry_at s k).place place ≡ false → (t u v : Bool) → same_block k b ≡ t
+          → is_filed_name n.filed place.seg.name ≡ u → nat_le d e ≡ v
           → Sends b n i (AnsweredDead number k place.seg.name d e ∷ [])
       by known elsewhere true true true same is low =
           let it : b ≡ k = same_block_exact k b same in
-          subst (λ x. Sound part holds b n i.state (Checked number x place d) → slot.is_place (slot.entry_at s x).place place ≡ false → Sends b n i (AnsweredDead number x place.seg.name d e ∷ [])) it
+          subst (λ x. Sound part holds b n i.state (Checked number x place d) → slot.is_place (slot.entry_at s x).place place ≡ false
+          → Sends b n i (AnsweredDead number x place.seg.name d e ∷ [])) it
           (λ here there. tells_dead n e s number place d g at b i here there is (within_is d e low)) known elsewhere
       by known elsewhere true true false same is late = untold known (λ _ _ low. let x = past_is d e late in omega arith)
       by known elsewhere true false v same twin low = untold known (λ _ is _. false≢true (sym twin ∙ is))
       by known elsewhere false u v other is low = untold known (λ at_b _ _. false≢true (sym other ∙ ap (same_block k) (sym at_b) ∙ same_block_itself k))
 
-  pub answers : (n : Net) (e : ℕ) (s : SlotState) (number : ℕ) (k : BlockId) (place : Place) (d : ℕ) → Good part holds n → n.slots e ≡ Some s → In (Checked number k place d) n.sent
+  pub answers : (n : Net) (e : ℕ) (s : SlotState) (number : ℕ) (k : BlockId) (place : Place) (d : ℕ) → Good part holds n → n.slots e ≡ Some s
+      → In (Checked number k place d) n.sent
       → Good part holds (record n { sent = answer_packets number k place.seg.name d e (slot.transition s (Check k place)).outs ++ n.sent })
-  answers n e s number k place d g at asked = sent_good n (answer_packets number k place.seg.name d e (slot.transition s (Check k place)).outs) g (λ b inside i. answered n e s number k place d g at asked b i)
+  answers n e s number k place d g at asked =
+      sent_good n (answer_packets number k place.seg.name d e (slot.transition s (Check k place)).outs) g
+      (λ b inside i. answered n e s number k place d g at asked b i)
 
   -- ---- other packets
 
-  pub plans : (n : Net) (e : ℕ) (s : SlotState) (events : List Event) (horizon : List ℕ) → Good part holds n → n.slots e ≡ Some s → (slot_after events).pages ≡ pages_of s.index → AllMayCome holds nothing_checkpointed events
+  pub plans : (n : Net) (e : ℕ) (s : SlotState) (events : List Event) (horizon : List ℕ) → Good part holds n → n.slots e ≡ Some s
+      → (slot_after events).pages ≡ pages_of s.index → AllMayCome holds nothing_checkpointed events
       → IsNext s horizon → Good part holds (with_packet n (CheckpointPlanned e events horizon))
   plans n e s events horizon g at pages all next =
       sent_good n (CheckpointPlanned e events horizon ∷ []) g (λ b inside i.
@@ -245,12 +281,14 @@ module _ (part : ℕ) (holds : SegRef → Rows) where
       (λ b inside i. let m = i.slots e s at in
       record { state = i.state; steps = Ended; frame = itself e i.state; shows = record { active = m.active; applied = m.applied; index = m.index } })
 
-  pub checkpoints : (n : Net) (e : ℕ) (events : List Event) (horizon : List ℕ) (segments : List SegRef) → Good part holds n → In (CheckpointPlanned e events horizon) n.sent → MayCome holds (slot_after events) (Written segments)
+  pub checkpoints : (n : Net) (e : ℕ) (events : List Event) (horizon : List ℕ) (segments : List SegRef) → Good part holds n
+      → In (CheckpointPlanned e events horizon) n.sent → MayCome holds (slot_after events) (Written segments)
       → Good part holds (with_packet n (CheckpointDone e horizon (after_event (slot_after events) (Written segments)).parts))
   checkpoints n e events horizon segments g planned laid =
       sent_good n (CheckpointDone e horizon (after_event (slot_after events) (Written segments)).parts ∷ []) g (λ b inside i.
       let p = found part holds b (Sound part holds b n i.state) (CheckpointPlanned e events horizon) n.sent i.sent planned in
-      still_sends b n i (CheckpointDone e horizon (after_event (slot_after events) (Written segments)).parts ∷ []) ((p.active, p.applied, p.covers segments laid), tt))
+      still_sends b n i (CheckpointDone e horizon (after_event (slot_after events) (Written segments)).parts ∷ [])
+      ((p.active, p.applied, p.covers segments laid), tt))
 
   pub reports : (n : Net) → Good part holds n → Good part holds (with_packet n (CleanerReported n.promised (n.filed.head 9)))
   reports n g =
@@ -260,8 +298,10 @@ module _ (part : ℕ) (holds : SegRef → Rows) where
       let x = i.polled n.promised in
       still_sends b n i (CleanerReported n.promised (n.filed.head 9) ∷ []) ((omega arith, omega arith), tt))
 
-  pub asks : (n : Net) (k : BlockId) (place : Place) (d : ℕ) → Good part holds n → d ≤ promised_at n.job.promised part → IsWithin n.filed place.seg.name → place.seg.name.seq < of_log (n.horizon d) place.seg.name.log.0
-      → (is_filed_name n.filed place.seg.name ≡ true → (row_at n.filed k place.seg.name.log.0 place.seg.name.seq).place ≡ Some place) → Good part holds (with_packet n (Checked n.number k place d))
+  pub asks : (n : Net) (k : BlockId) (place : Place) (d : ℕ) → Good part holds n → d ≤ promised_at n.job.promised part → IsWithin n.filed place.seg.name
+      → place.seg.name.seq < of_log (n.horizon d) place.seg.name.log.0
+      → (is_filed_name n.filed place.seg.name ≡ true → (row_at n.filed k place.seg.name.log.0 place.seg.name.seq).place ≡ Some place)
+      → Good part holds (with_packet n (Checked n.number k place d))
   asks n k place d g promised within below lies =
       sent_good n (Checked n.number k place d ∷ []) g (λ b inside i.
       let named = log_named n.filed place.seg.name g.filed within in
@@ -276,7 +316,8 @@ module _ (part : ℕ) (holds : SegRef → Rows) where
 
   -- ---- the registry
 
-  keeps_view : (n : Net) (horizon : List ℕ) (parts : List SegRef) → Good part holds n → In (CheckpointDone n.epoch horizon parts) n.sent → ((l : ℕ) → 0 < l → l ≤ 9 → of_log (n.horizon n.epoch) l ≤ of_log horizon l) → (b : BlockId) (i : View part holds b n)
+  keeps_view : (n : Net) (horizon : List ℕ) (parts : List SegRef) → Good part holds n → In (CheckpointDone n.epoch horizon parts) n.sent
+      → ((l : ℕ) → 0 < l → l ≤ 9 → of_log (n.horizon n.epoch) l ≤ of_log horizon l) → (b : BlockId) (i : View part holds b n)
       → View part holds b (record n { horizon = λ e. cond (nat_lt e n.epoch) (n.horizon e) horizon; parts = λ e. cond (nat_lt e n.epoch) (n.parts e) parts })
   keeps_view n horizon parts g done rises b i =
       let w = i.state in
@@ -288,7 +329,8 @@ module _ (part : ℕ) (holds : SegRef → Rows) where
       (λ l some most. let h = i.horizon n.epoch l some most in let r = rises l some most in let e = ap (λ x. w.floor x l) same in omega arith)
       (λ l some most. let a = known.1 l some most in let e = ap (λ x. w.applied x l) same in omega arith) in
       let v = keeps_horizon w (horizon_seen horizon) in
-      let kept : Kept w v = record { cleaner = refl; head = λ l. refl; version = λ l q. refl; hop = λ l q. refl; active = λ e. refl; applied = λ e l. refl; index = λ e. refl } in
+      let kept : Kept w v =
+      record { cleaner = refl; head = λ l. refl; version = λ l q. refl; hop = λ l q. refl; active = λ e. refl; applied = λ e l. refl; index = λ e. refl } in
       let tells = kept_tells b f w v kept i.tells in
       let went_on = went part holds b n m i v (More Ended k.step) (same_filed f) tells (λ d _. omega arith) (omega arith) (λ _. omega arith) in
       record {
@@ -298,12 +340,15 @@ module _ (part : ℕ) (holds : SegRef → Rows) where
         slots = kept_slots b f n.slots w v kept i.slots;
         none = i.none;
         epoch = i.epoch;
-        horizon = λ e l some most. by_test (λ (hs : List ℕ). (nat_lt e n.epoch ≡ true → hs ≡ n.horizon e) → (nat_lt e n.epoch ≡ false → hs ≡ horizon) → of_log hs l ≡ v.floor e l) (nat_lt e n.epoch) (n.horizon e) horizon
+        horizon = λ e l some most. by_test
+            (λ (hs : List ℕ). (nat_lt e n.epoch ≡ true → hs ≡ n.horizon e) → (nat_lt e n.epoch ≡ false → hs ≡ horizon) → of_log hs l ≡ v.floor e l)
+            (nat_lt e n.epoch) (n.horizon e) horizon
             (λ t _ _. i.horizon e l some most ∙ sym (first_of (nat_lt e w.epoch) (w.floor e l) (horizon_seen horizon l) (ap (nat_lt e) same ∙ t)))
             (λ t _ _. k.floor e l (let x = not_below e n.epoch t in omega arith) some most)
             (λ t. first_of (nat_lt e n.epoch) (n.horizon e) horizon t)
             (λ t. second_of (nat_lt e n.epoch) (n.horizon e) horizon t);
-        parts = λ e. by_both e (nat_lt e n.epoch) (parts_stay b f f w v (n.horizon e) (rows_in holds (n.parts e)) (same_filed f) i.tells tells (i.parts e)) (parts_stay b f f w v horizon (rows_in holds parts) (same_filed f) i.tells tells known.2);
+        parts = λ e. by_both e (nat_lt e n.epoch) (parts_stay b f f w v (n.horizon e) (rows_in holds (n.parts e)) (same_filed f) i.tells tells (i.parts e))
+            (parts_stay b f f w v horizon (rows_in holds parts) (same_filed f) i.tells tells known.2);
         promised = i.promised;
         polled = i.polled;
         job = jobs_stay b f f w v n.job (same_filed f) refl (λ l q. omega arith) (λ l q was. was) i.job;
@@ -314,13 +359,16 @@ module _ (part : ℕ) (holds : SegRef → Rows) where
       not_below : (x y : ℕ) → nat_lt x y ≡ false → y ≤ x
       not_below x y h = grind (arith, nat_tests)
 
-      by_both : {v : IndexState} (e : ℕ) (t : Bool) → Covers b n.filed v (n.horizon e) (rows_in holds (n.parts e)) → Covers b n.filed v horizon (rows_in holds parts) → Covers b n.filed v (cond t (n.horizon e) horizon) (rows_in holds (cond t (n.parts e) parts))
+      by_both : {v : IndexState} (e : ℕ) (t : Bool) → Covers b n.filed v (n.horizon e) (rows_in holds (n.parts e))
+          → Covers b n.filed v horizon (rows_in holds parts) → Covers b n.filed v (cond t (n.horizon e) horizon) (rows_in holds (cond t (n.parts e) parts))
       by_both e true before now = before
       by_both e false before now = now
 
-  pub keeps : (n : Net) (horizon : List ℕ) (parts : List SegRef) → Good part holds n → In (CheckpointDone n.epoch horizon parts) n.sent → ((l : ℕ) → 0 < l → l ≤ 9 → of_log (n.horizon n.epoch) l ≤ of_log horizon l)
+  pub keeps : (n : Net) (horizon : List ℕ) (parts : List SegRef) → Good part holds n → In (CheckpointDone n.epoch horizon parts) n.sent
+      → ((l : ℕ) → 0 < l → l ≤ 9 → of_log (n.horizon n.epoch) l ≤ of_log horizon l)
       → Good part holds (record n { horizon = λ e. cond (nat_lt e n.epoch) (n.horizon e) horizon; parts = λ e. cond (nat_lt e n.epoch) (n.parts e) parts })
-  keeps n horizon parts g done rises = record { filed = g.filed; epochs = g.epochs; begun = g.begun; views = λ b inside. keeps_view n horizon parts g done rises b (g.views b inside) }
+  keeps n horizon parts g done rises =
+      record { filed = g.filed; epochs = g.epochs; begun = g.begun; views = λ b inside. keeps_view n horizon parts g done rises b (g.views b inside) }
 
   pub moves_on : (n : Net) → Good part holds n → Good part holds (record n { epoch = suc n.epoch })
   moves_on n g = record {
@@ -333,7 +381,8 @@ module _ (part : ℕ) (holds : SegRef → Rows) where
         let f = n.filed in
         let m = record n { epoch = suc n.epoch } in
         let v = moves w in
-        let kept : Kept w v = record { cleaner = refl; head = λ l. refl; version = λ l q. refl; hop = λ l q. refl; active = λ e. refl; applied = λ e l. refl; index = λ e. refl } in
+        let kept : Kept w v =
+        record { cleaner = refl; head = λ l. refl; version = λ l q. refl; hop = λ l q. refl; active = λ e. refl; applied = λ e l. refl; index = λ e. refl } in
         let tells = kept_tells b f w v kept i.tells in
         let went_on = went part holds b n m i v (More Ended Moves) (same_filed f) tells (λ d _. omega arith) (omega arith) (λ _. omega arith) in
         record {
@@ -360,24 +409,31 @@ module _ (part : ℕ) (holds : SegRef → Rows) where
   split_front (x ∷ xs) ys [] read = absurd read
   split_front (x ∷ xs) ys (c ∷ cs) read = (read.0, split_front xs ys cs read.1)
 
-  takeover_told : (n : Net) (e : ℕ) (news : SlotNews) (c : Course) (index : List (BlockId × Entry)) (beliefs : List (BlockId × ℕ × Mode)) (applied : List ℕ) → IsTakenOver news c e index beliefs applied → HasRead part holds n e news c
+  takeover_told : (n : Net) (e : ℕ) (news : SlotNews) (c : Course) (index : List (BlockId × Entry)) (beliefs : List (BlockId × ℕ × Mode)) (applied : List ℕ)
+      → IsTakenOver news c e index beliefs applied → HasRead part holds n e news c
       → (b : BlockId) (i : View part holds b n) → TakeoverTold b n.filed i.state news c
   takeover_told n e news c index beliefs applied over has b i =
       let same_length : length (map part_source news.parts) ≡ length news.parts = length-map news.parts part_source in
       let read : AreReadBack (map part_source news.parts) (take (length news.parts) c.read.whole) =
-      subst (λ k. AreReadBack (map part_source news.parts) (take k c.read.whole)) same_length (split_front (map part_source news.parts) (flat_map (log_sources news.horizon c.state.reports) (range_with_len 1 9)) c.read.whole over.sources) in
-      let told : told_by_all part (take (length news.parts) c.read.whole) ≡ rows_in holds news.parts = parts_are_read part holds news.parts (take (length news.parts) c.read.whole) read has.written in
+      subst (λ k. AreReadBack (map part_source news.parts) (take k c.read.whole)) same_length
+      (split_front (map part_source news.parts) (flat_map (log_sources news.horizon c.state.reports) (range_with_len 1 9)) c.read.whole over.sources) in
+      let told : told_by_all part (take (length news.parts) c.read.whole) ≡ rows_in holds news.parts =
+      parts_are_read part holds news.parts (take (length news.parts) c.read.whole) read has.written in
       record {
         horizon = λ l some most. ap (λ h. of_log h l) has.horizon ∙ i.horizon e l some most ∙ sym (ap (λ k. i.state.floor k l) has.epoch);
         parts = subst (λ h. Covers b n.filed i.state h (told_by_all news.slot (take (length news.parts) c.read.whole))) (sym has.horizon)
-            (subst (Covers b n.filed i.state (n.horizon e)) (sym (ap (λ k. told_by_all k (take (length news.parts) c.read.whole)) has.slot ∙ told ∙ ap (rows_in holds) has.parts)) (i.parts e));
+            (subst (Covers b n.filed i.state (n.horizon e))
+            (sym (ap (λ k. told_by_all k (take (length news.parts) c.read.whole)) has.slot ∙ told ∙ ap (rows_in holds) has.parts)) (i.parts e));
         ends = has.ends;
         linked = has.linked;
         texts = has.texts;
       }
 
-  pub takes_over : (n : Net) (e : ℕ) (news : SlotNews) (groups : GroupMapState) (clients : ℕ) (inputs : List TakeoverIn) (input : TakeoverIn) (index : List (BlockId × Entry)) (beliefs : List (BlockId × ℕ × Mode)) (applied : List ℕ) → Good part holds n
-      → n.slots e ≡ None → 0 < e → e ≤ n.epoch → Contains (takeover.transition (course_of news groups clients inputs).state input).outs (Active e index beliefs applied) → HasRead part holds n e news (after_input (course_of news groups clients inputs) input)
+  pub takes_over : (n : Net) (e : ℕ) (news : SlotNews) (groups : GroupMapState) (clients : ℕ) (inputs : List TakeoverIn) (input : TakeoverIn)
+      (index : List (BlockId × Entry)) (beliefs : List (BlockId × ℕ × Mode)) (applied : List ℕ) → Good part holds n
+      → n.slots e ≡ None → 0 < e → e ≤ n.epoch
+      → Contains (takeover.transition (course_of news groups clients inputs).state input).outs (Active e index beliefs applied)
+      → HasRead part holds n e news (after_input (course_of news groups clients inputs) input)
       → Good part holds (with_slot n e (slot.started e index beliefs applied))
   takes_over n e news groups clients inputs input index beliefs applied g none some begun hands has =
       let c = after_input (course_of news groups clients inputs) input in
@@ -388,5 +444,7 @@ module _ (part : ℕ) (holds : SegRef → Rows) where
       let known = found part holds b (Sound part holds b n w) (CleanerReported e (end_of c.state.reports 9).seq) n.sent i.sent has.reported in
       let is = has.epoch in
       let same = i.epoch in
-      let may : MayBegin w news.epoch c.state.reports = subst (λ k. MayBegin w k c.state.reports) (sym is) (record { begun = omega arith; fresh = i.none e none; heard = known.1; reported = known.0 }) in
-      takeovers_are_activations b n.filed w news groups clients inputs input e index beliefs applied i.reached g.filed i.tells (inside ∙ sym has.slot) hands (takeover_told n e news c index beliefs applied over has b i) may)
+      let may : MayBegin w news.epoch c.state.reports =
+      subst (λ k. MayBegin w k c.state.reports) (sym is) (record { begun = omega arith; fresh = i.none e none; heard = known.1; reported = known.0 }) in
+      takeovers_are_activations b n.filed w news groups clients inputs input e index beliefs applied i.reached g.filed i.tells (inside ∙ sym has.slot) hands
+      (takeover_told n e news c index beliefs applied over has b i) may)

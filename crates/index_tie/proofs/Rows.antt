@@ -44,15 +44,20 @@ by_filed P f l q here else_ =
     ] refl
 
 pub row_versioned : (b : BlockId) (f : Filed) (l q : ℕ) → IsFiled f → Versioned (row_at f b l q)
-row_versioned b f l q filed = by_filed (λ rows. Versioned (join rows b)) f l q (λ some most. join_has Versioned b (rows_of (f.segment l q)) (λ _. refl) (versioned_of (rows_of (f.segment l q)) ((filed.each l q some most).versions))) (λ _. refl)
+row_versioned b f l q filed =
+    by_filed (λ rows. Versioned (join rows b)) f l q
+    (λ some most. join_has Versioned b (rows_of (f.segment l q)) (λ _. refl) (versioned_of (rows_of (f.segment l q)) ((filed.each l q some most).versions)))
+    (λ _. refl)
 
 -- ---- what names what
 
 -- of two entries and what names them, the abstract merge names the first greatest
-pub merged_is : (o n : index.Entry) (d e : Entry) → o.version ≡ d.ver → o.hop ≡ d.hop → n.version ≡ e.ver → n.hop ≡ e.hop → merge.merged o n ≡ cond (is_newer e d) n o
+pub merged_is : (o n : index.Entry) (d e : Entry) → o.version ≡ d.ver → o.hop ≡ d.hop → n.version ≡ e.ver → n.hop ≡ e.hop
+    → merge.merged o n ≡ cond (is_newer e d) n o
 merged_is o n d e ov oh nv nh = grind (arith, nat_tests)
 
-pub names_merged : (b : BlockId) (f : Filed) (o n : index.Entry) (d e : Entry) → Names b f d o → Names b f e n → Names b f (first_greatest d e) (merge.merged o n)
+pub names_merged : (b : BlockId) (f : Filed) (o n : index.Entry) (d e : Entry) → Names b f d o → Names b f e n
+    → Names b f (first_greatest d e) (merge.merged o n)
 names_merged b f o n d e x y =
     subst (Names b f (first_greatest d e)) (sym (merged_is o n d e x.version x.hop y.version y.hop))
     (elim (is_newer e d) as (λ t. Names b f (cond t e d) (cond t n o)) [ true ↦ y | false ↦ x ])
@@ -79,7 +84,8 @@ pub record Ranged (b : BlockId) (f : Filed) (w : IndexState) (l first upto : ℕ
   pub names : Names b f (join rows b) named
 
 -- one more row in front
-before : (w : IndexState) (l first upto version hop : ℕ) (named : index.Entry) → first ≤ upto → w.version l first ≡ version → w.hop l first ≡ hop → merge.FirstGreatest w l (first + 1) upto named
+before : (w : IndexState) (l first upto version hop : ℕ) (named : index.Entry) → first ≤ upto → w.version l first ≡ version → w.hop l first ≡ hop
+    → merge.FirstGreatest w l (first + 1) upto named
     → merge.FirstGreatest w l first upto (merge.merged (record { version = version; hop = hop; log = l; seq = first }) named)
 before w l first upto version hop named most is_version is_hop g = record {
   newest = λ q from to. grind (arith, nat_tests);
@@ -109,20 +115,23 @@ range_none b f w l first upto past = record {
   names = names_nothing b f l;
 }
 
-pub ranged : (b : BlockId) (f : Filed) (w : IndexState) (l upto n first : ℕ) → IsFiled f → Tells b f w → first + n ≡ suc upto → Ranged b f w l first upto (flat_map (rows_at f l) (range_with_len first n))
+pub ranged : (b : BlockId) (f : Filed) (w : IndexState) (l upto n first : ℕ) → IsFiled f → Tells b f w → first + n ≡ suc upto
+    → Ranged b f w l first upto (flat_map (rows_at f l) (range_with_len first n))
 ranged b f w l upto zero first filed tells ends = range_none b f w l first upto (omega arith)
 ranged b f w l upto (suc n) first filed tells ends =
     let r = ranged b f w l upto n (first + 1) filed tells (omega arith) in
     let rest = flat_map (rows_at f l) (range_with_len (first + 1) n) in
     record {
       named = merge.merged (entry_at_row b f l first) r.named;
-      greatest = before w l first upto (row_at f b l first).ver (row_at f b l first).hop r.named (omega arith) (tells.version l first) (tells.hop l first) r.greatest;
+      greatest = before w l first upto (row_at f b l first).ver (row_at f b l first).hop r.named (omega arith) (tells.version l first)
+          (tells.hop l first) r.greatest;
       names = subst (λ e. Names b f e (merge.merged (entry_at_row b f l first) r.named)) (sym (join-append (rows_at f l first) rest b))
           (names_merged b f (entry_at_row b f l first) r.named (row_at f b l first) (join rest b) (names_row b f l first filed) r.names);
     }
 
 -- of what a log filed from one seq up to another
-pub ranged_between : (b : BlockId) (f : Filed) (w : IndexState) (l first upto : ℕ) → IsFiled f → Tells b f w → Ranged b f w l first upto (rows_between f l first upto)
+pub ranged_between : (b : BlockId) (f : Filed) (w : IndexState) (l first upto : ℕ) → IsFiled f → Tells b f w
+    → Ranged b f w l first upto (rows_between f l first upto)
 ranged_between b f w l first upto filed tells = by_length (nat_le first upto) refl
   where
     by_length : (t : Bool) → nat_le first upto ≡ t → Ranged b f w l first upto (rows_between f l first upto)

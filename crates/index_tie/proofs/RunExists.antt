@@ -154,7 +154,8 @@ tells b = record { some = omega arith; known = omega arith; filed = one_is; join
 runs : Runs 0 holds (opening any) told
 runs =
     On (On (On (On (On (On (On (On (On (On (Begun {n = started_net})
-    (Plans {n = started_net} 1 (started 1 [] [] zeros) [] ones refl refl tt (λ l some most. let o = of_log_in ones l some most in let i = one_at (l - 1) (omega arith) in let z = zero_at zeros all_zeros (l - 1) in omega arith)))
+    (Plans {n = started_net} 1 (started 1 [] [] zeros) [] ones refl refl tt
+    (λ l some most. let o = of_log_in ones l some most in let i = one_at (l - 1) (omega arith) in let z = zero_at zeros all_zeros (l - 1) in omega arith)))
     (Cleans {n = planned} 1 (started 1 [] [] zeros) refl))
     (Checkpoints {n = cleaned_net} 1 [] ones [] (inl refl) refl))
     (Keeps {n = checkpointed} ones [] (inl refl) (λ l some most. omega arith)))
@@ -182,5 +183,6 @@ taken_over = record {
   was = refl;
   is = refl;
   knows_nothing = refl;
-  knows = ap (λ (i : Indexed). (entry_of i.rows block).ver) applied_it ∙ ap (λ r. (entry_of r block).ver) (rows-indexed_all nothing_indexed (rows_of segment)) ∙ ap (λ (e : Entry). e.ver) (index_join (rows_of segment) block);
+  knows = ap (λ (i : Indexed). (entry_of i.rows block).ver) applied_it ∙ ap (λ r. (entry_of r block).ver) (rows-indexed_all nothing_indexed (rows_of segment))
+      ∙ ap (λ (e : Entry). e.ver) (index_join (rows_of segment) block);
 }

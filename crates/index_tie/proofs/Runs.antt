@@ -50,7 +50,8 @@ keeps_good part holds n m (Cleans e s at) g = cleans part holds n e s g at
 keeps_good part holds n m (Checkpoints e events horizon segments planned laid) g = checkpoints part holds n e events horizon segments g planned laid
 keeps_good part holds n m (Keeps horizon parts done rises) g = keeps part holds n horizon parts g done rises
 keeps_good part holds n m Moves g = moves_on part holds n g
-keeps_good part holds n m (Activates e news groups clients inputs input rows beliefs applied none some begun hands has) g = takes_over part holds n e news groups clients inputs input rows beliefs applied g none some begun hands has
+keeps_good part holds n m (Activates e news groups clients inputs input rows beliefs applied none some begun hands has) g =
+    takes_over part holds n e news groups clients inputs input rows beliefs applied g none some begun hands has
 keeps_good part holds n m (Promises e rises none) g = cleaner_promises part holds n e g rises none
 keeps_good part holds n m (JobPromises e rises) g = job_promises part holds n e g rises
 keeps_good part holds n m (JobWelcomed slots groups rises) g = job_welcomed part holds n slots groups g rises
@@ -118,7 +119,13 @@ module _ (any : ℕ → ℕ → Segment) (b : BlockId) where
   no_row l q = by_filed (λ rows. join rows b ≡ no_entry) none_filed l q (λ some most. absurd (omega arith)) refl
 
   begun_tells : Tells b none_filed begun_state
-  begun_tells = record { cleaner = refl; head = λ l. refl; version = λ l q. sym (ap (λ (e : Entry). e.ver) (no_row l q)); hop = λ l q. sym (ap (λ (e : Entry). e.hop) (no_row l q)) }
+  begun_tells =
+      record {
+        cleaner = refl;
+        head = λ l. refl;
+        version = λ l q. sym (ap (λ (e : Entry). e.ver) (no_row l q));
+        hop = λ l q. sym (ap (λ (e : Entry). e.hop) (no_row l q));
+      }
 
   begins : (part : ℕ) (holds : SegRef → Rows) → View part holds b (opening any)
   begins part holds = record {
@@ -134,14 +141,17 @@ module _ (any : ℕ → ℕ → Segment) (b : BlockId) where
     }));
     tells = begun_tells;
     slots = put_each (λ e o. (s : SlotState) → o ≡ Some s → Manages b none_filed begun_state s) (λ e. None) 1 (Some (started 1 [] [] zeros))
-        (λ s is. subst (Manages b none_filed begun_state) (some_is (started 1 [] [] zeros) s is) (record { active = refl; applied = λ l some. sym (zero_at zeros all_zeros (l - 1)); index = names_nothing b none_filed 0 }))
+        (λ s is. subst (Manages b none_filed begun_state) (some_is (started 1 [] [] zeros) s is)
+        (record { active = refl; applied = λ l some. sym (zero_at zeros all_zeros (l - 1)); index = names_nothing b none_filed 0 }))
         (λ e other s is. absurd (some_none s (sym is)));
-    none = put_each (λ e o. o ≡ None → begun_state.active e ≡ 0) (λ e. None) 1 (Some (started 1 [] [] zeros)) (λ is. absurd (some_none (started 1 [] [] zeros) is)) (λ e other is. at_other e 1 1 0 other);
+    none = put_each (λ e o. o ≡ None → begun_state.active e ≡ 0) (λ e. None) 1 (Some (started 1 [] [] zeros))
+        (λ is. absurd (some_none (started 1 [] [] zeros) is)) (λ e other is. at_other e 1 1 0 other);
     epoch = refl;
     horizon = λ e l some most. of_log_in ones l some most ∙ one_at (l - 1) (omega arith);
     parts = λ e. record {
       named = nothing;
-      filed = by_log (λ l. below ones l ≤ 0) (λ l some most. let h = of_log_in ones l some most in let o = one_at (l - 1) (omega arith) in omega arith) (λ l out. let h = of_log_out ones l out in omega arith);
+      filed = by_log (λ l. below ones l ≤ 0) (λ l some most. let h = of_log_in ones l some most in let o = one_at (l - 1) (omega arith) in omega arith)
+          (λ l out. let h = of_log_out ones l out in omega arith);
       names = names_nothing b none_filed 0;
       joins = nothing_joins (below ones);
     };
@@ -155,7 +165,8 @@ module _ (any : ℕ → ℕ → Segment) (b : BlockId) where
 opens : (part : ℕ) (holds : SegRef → Rows) (any : ℕ → ℕ → Segment) → Good part holds (opening any)
 opens part holds any = record {
   filed = record { others = λ l out. refl; each = λ l q some most. absurd (omega arith) };
-  epochs = put_each (λ e o. (s : SlotState) → o ≡ Some s → s.epoch ≡ e) (λ e. None) 1 (Some (started 1 [] [] zeros)) (λ s is. ap (λ (x : SlotState). x.epoch) (sym (some_is (started 1 [] [] zeros) s is))) (λ e other s is. absurd (some_none s (sym is)));
+  epochs = put_each (λ e o. (s : SlotState) → o ≡ Some s → s.epoch ≡ e) (λ e. None) 1 (Some (started 1 [] [] zeros))
+      (λ s is. ap (λ (x : SlotState). x.epoch) (sym (some_is (started 1 [] [] zeros) s is))) (λ e other s is. absurd (some_none s (sym is)));
   begun = refl;
   views = λ b inside. begins any b part holds;
 }
@@ -171,7 +182,8 @@ each_index_is_the_join part holds n b e s m at =
     let i = g.views b m.inside in
     indexes_are_joins b n.filed i.state s i.reached g.filed i.tells (i.slots e s at)
 
-is_dropped : (b : BlockId) (f : Filed) (dropped : ℕ → ℕ → ℕ) (name : SegName) (names : List SegName) → AllByRecursion (IsDropped b f dropped) names → In name names → IsDropped b f dropped name
+is_dropped : (b : BlockId) (f : Filed) (dropped : ℕ → ℕ → ℕ) (name : SegName) (names : List SegName) → AllByRecursion (IsDropped b f dropped) names
+    → In name names → IsDropped b f dropped name
 is_dropped b f dropped name [] all at = absurd at
 is_dropped b f dropped name (x ∷ xs) all (inl same) = subst (IsDropped b f dropped) (sym same) all.0
 is_dropped b f dropped name (x ∷ xs) all (inr rest) = is_dropped b f dropped name xs all.1 rest
@@ -200,7 +212,8 @@ reigning_is_outdated part holds n b e s place m at reigns lies deleted is has =
     let same = g.epochs e s at in
     dropped_is_outdated b n.filed w s place i.reached g.filed i.tells (i.slots e s at) lies dropped (omega arith)
   where
-    active_upto : (w : IndexState) (o : Option SlotState) → n.slots w.reigning ≡ o → ((d : ℕ) → n.slots d ≡ None → w.active d ≡ 0) → w.active w.reigning ≡ 1 → w.reigning ≤ e
+    active_upto : (w : IndexState) (o : Option SlotState) → n.slots w.reigning ≡ o → ((d : ℕ) → n.slots d ≡ None → w.active d ≡ 0) → w.active w.reigning ≡ 1
+        → w.reigning ≤ e
     active_upto w None there none on = let off = none w.reigning there in absurd (omega arith)
     active_upto w (Some t) there none on = reigns w.reigning t there
 

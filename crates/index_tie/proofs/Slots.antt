@@ -47,7 +47,8 @@ pub manages_same : (b : BlockId) (f : Filed) (w : IndexState) (s t : SlotState) 
 manages_same b f w s t same m = record {
   active = ap w.active same.epoch ∙ m.active;
   applied = λ l some. ap (λ e. w.applied e l) same.epoch ∙ m.applied l some ∙ sym (ap (λ a. applied_of a l) same.applied);
-  index = subst (λ e. Names b f (entry_at t b) (w.index e)) (sym same.epoch) (subst (λ (i : Indexed). Names b f (entry_of i.rows b) (w.index s.epoch)) (sym same.index) m.index);
+  index = subst (λ e. Names b f (entry_at t b) (w.index e)) (sym same.epoch)
+      (subst (λ (i : Indexed). Names b f (entry_of i.rows b) (w.index s.epoch)) (sym same.index) m.index);
 }
 
 pub itself : (e : ℕ) (w : IndexState) → ByManager e w w
@@ -64,7 +65,10 @@ rows-indexed_all i [] = refl
 rows-indexed_all i (m ∷ ms) = rows-indexed_all (indexed i m) ms
 
 pub answering : (s : SlotState) (blocks : List BlockId) → Same s (steps finished_at s blocks).state
-answering s blocks = steps_keep finished_at (Same s) (λ t k same. by_finished_at (λ r. Same s r.state) t k same (λ job is. record { epoch = same.epoch; applied = same.applied; index = same.index })) s blocks (same_itself s)
+answering s blocks =
+    steps_keep finished_at (Same s)
+    (λ t k same. by_finished_at (λ r. Same s r.state) t k same (λ job is. record { epoch = same.epoch; applied = same.applied; index = same.index })) s blocks
+    (same_itself s)
 
 leads_on : (applied first upto : ℕ) → joins_on applied first upto ≡ true → (first ≤ suc applied) × (applied < upto)
 leads_on applied first upto joins = (grind (arith, nat_tests), grind (arith, nat_tests))
@@ -79,7 +83,8 @@ framed w e applied entry = record {
 }
 
 -- a slot at that epoch is seen as what the record says
-pub shown : (b : BlockId) (f : Filed) (w : IndexState) (applied : ℕ → ℕ) (entry : index.Entry) (t : SlotState) → ((l : ℕ) → 0 < l → applied l ≡ applied_of t.applied l) → Names b f (entry_at t b) entry
+pub shown : (b : BlockId) (f : Filed) (w : IndexState) (applied : ℕ → ℕ) (entry : index.Entry) (t : SlotState)
+    → ((l : ℕ) → 0 < l → applied l ≡ applied_of t.applied l) → Names b f (entry_at t b) entry
     → Manages b f (indexes w t.epoch applied entry) t
 shown b f w applied entry t same names = record {
   active = at_same t.epoch 1 (w.active t.epoch);
@@ -87,7 +92,8 @@ shown b f w applied entry t same names = record {
   index = subst (Names b f (entry_at t b)) (sym (at_same t.epoch entry (w.index t.epoch))) names;
 }
 
-applies : (b : BlockId) (f : Filed) (w : IndexState) (s : SlotState) (log : LogId) (first upto : ℕ) (rows : List (BlockId × Entry)) → IndexReached w → IsFiled f → Tells b f w → Manages b f w s → log.0 - 1 < length s.applied
+applies : (b : BlockId) (f : Filed) (w : IndexState) (s : SlotState) (log : LogId) (first upto : ℕ) (rows : List (BlockId × Entry)) → IndexReached w → IsFiled f
+    → Tells b f w → Manages b f w s → log.0 - 1 < length s.applied
     → DeltasTell b f log.0 first upto rows → joins_on (applied_of s.applied log.0) first upto ≡ true → Runs b f w s.epoch (with_deltas s log upto rows)
 applies b f w s log first upto rows reached filed tells m known told joins =
     let e = s.epoch in
@@ -101,7 +107,8 @@ applies b f w s log first upto rows reached filed tells m known told joins =
     let applied : ℕ → ℕ = put (w.applied e) l upto in
     let entry = merge.merged (w.index e) r.named in
     let names : Names b f (join rows b) r.named = subst (λ x. Names b f x r.named) (sym told.joined) r.names in
-    let joined : Joins w.version w.hop applied entry = merging_joins w (w.applied e) l first upto (w.index e) r.named reached ((index_is_join_always w reached).each e m.active) r.greatest no_gap rises in
+    let joined : Joins w.version w.hop applied entry =
+    merging_joins w (w.applied e) l first upto (w.index e) r.named reached ((index_is_join_always w reached).each e m.active) r.greatest no_gap rises in
     let head : upto ≤ w.head l = subst (λ n. upto ≤ n) (sym (tells.head l)) told.filed in
     let can : CanMerge w e applied entry = record {
       on = m.active;
@@ -110,7 +117,8 @@ applies b f w s log first upto rows reached filed tells m known told joins =
       joins = joined;
     } in
     let t = with_deltas s log upto rows in
-    let has : entry_at t b ≡ first_greatest (entry_at s b) (join rows b) = ap (λ x. entry_of x b) (rows-indexed_all s.index rows) ∙ entry_of-merged_all s.index.rows rows b in
+    let has : entry_at t b ≡ first_greatest (entry_at s b) (join rows b) =
+    ap (λ x. entry_of x b) (rows-indexed_all s.index rows) ∙ entry_of-merged_all s.index.rows rows b in
     record {
       state = indexes w e applied entry;
       steps = More Ended (Merges e applied entry can);
@@ -122,20 +130,30 @@ applies b f w s log first upto rows reached filed tells m known told joins =
           (subst (λ x. Names b f x entry) (sym has) (names_merged b f (w.index e) r.named (entry_at s b) (join rows b) m.index names));
     }
 
-after_answers : (b : BlockId) (f : Filed) (w : IndexState) (e : ℕ) (s : SlotState) (blocks : List BlockId) → Runs b f w e s → Runs b f w e (steps finished_at s blocks).state
-after_answers b f w e s blocks r = record { state = r.state; steps = r.steps; frame = r.frame; shows = manages_same b f r.state s (steps finished_at s blocks).state (answering s blocks) r.shows }
+after_answers : (b : BlockId) (f : Filed) (w : IndexState) (e : ℕ) (s : SlotState) (blocks : List BlockId) → Runs b f w e s
+    → Runs b f w e (steps finished_at s blocks).state
+after_answers b f w e s blocks r =
+    record {
+      state = r.state;
+      steps = r.steps;
+      frame = r.frame;
+      shows = manages_same b f r.state s (steps finished_at s blocks).state (answering s blocks) r.shows;
+    }
 
 -- ---- every input
 
 pub applies_are_merges : AppliesAreMerges
 applies_are_merges b f w s (Want client block inc req again mode end) reached filed tells m brings =
     let stay = stays b f w s m in
-    by_want (λ d. Runs b f w s.epoch d.state) s (want_of client block inc req again mode) end (stay s (same_itself s)) (λ _ _. stay _ (record { epoch = refl; applied = refl; index = refl })) (λ _. stay _ (record { epoch = refl; applied = refl; index = refl }))
+    by_want (λ d. Runs b f w s.epoch d.state) s (want_of client block inc req again mode) end (stay s (same_itself s))
+    (λ _ _. stay _ (record { epoch = refl; applied = refl; index = refl })) (λ _. stay _ (record { epoch = refl; applied = refl; index = refl }))
 applies_are_merges b f w s (Gave client block stamp end) reached filed tells m brings =
     let stay = stays b f w s m in
-    by_gave (λ d. Runs b f w s.epoch d.state) s client block stamp end (stay s (same_itself s)) (λ _ _ _. stay _ (record { epoch = refl; applied = refl; index = refl })) (λ _ _. stay _ (record { epoch = refl; applied = refl; index = refl }))
+    by_gave (λ d. Runs b f w s.epoch d.state) s client block stamp end (stay s (same_itself s))
+    (λ _ _ _. stay _ (record { epoch = refl; applied = refl; index = refl })) (λ _ _. stay _ (record { epoch = refl; applied = refl; index = refl }))
 applies_are_merges b f w s (Deltas log first upto rows) reached filed tells m brings =
     by_deltas (λ d. Runs b f w s.epoch d.state) s log first upto rows (stays b f w s m s (same_itself s)) (stays b f w s m s (same_itself s))
-    (λ joins. after_answers b f w s.epoch (with_deltas s log upto rows) (ready_blocks s.jobs (applied_upto s.applied log upto)) (applies b f w s log first upto rows reached filed tells m brings.0 brings.1 joins))
+    (λ joins. after_answers b f w s.epoch (with_deltas s log upto rows) (ready_blocks s.jobs (applied_upto s.applied log upto))
+    (applies b f w s log first upto rows reached filed tells m brings.0 brings.1 joins))
 applies_are_merges b f w s (Check block place) reached filed tells m brings = stays b f w s m s (same_itself s)
 applies_are_merges b f w s Tick reached filed tells m brings = stays b f w s m s (same_itself s)

@@ -57,18 +57,24 @@ use Rattle.index_tie.proofs.Tables.{put_each, first_of, second_of, within_is, pa
 
 -- ---- the rows of an index say of each block what it holds
 
-none_below : (block : BlockId) (rows : List (BlockId × Entry)) → AllByRecursion (λ y. block_cmp block y ≡ Less) (keys_of rows) → lookup (is_at (block_cmp block)) rows ≡ None
+none_below : (block : BlockId) (rows : List (BlockId × Entry)) → AllByRecursion (λ y. block_cmp block y ≡ Less) (keys_of rows)
+    → lookup (is_at (block_cmp block)) rows ≡ None
 none_below block [] below = refl
 none_below block (r ∷ rs) below = ap (λ o. cond (is_eq o) (Some r.1) (lookup (is_at (block_cmp block)) rs)) below.0 ∙ none_below block rs below.1
 
-pub join_of_rows : (rows : List (BlockId × Entry)) (q : BlockId) → IsStrictlySortedBy block_cmp (keys_of rows) → join rows q ≡ first_greatest no_entry (entry_of rows q)
+pub join_of_rows : (rows : List (BlockId × Entry)) (q : BlockId) → IsStrictlySortedBy block_cmp (keys_of rows)
+    → join rows q ≡ first_greatest no_entry (entry_of rows q)
 unfolding IsStrictlySortedBy
 join_of_rows [] q sorted = sym (first_greatest-none no_entry)
 join_of_rows (r ∷ rs) q sorted =
     join-cons r rs q ∙ ap (λ e. first_greatest e (join rs q)) (join-one r q)
-    ∙ elim (same_block q r.0) as (λ t. same_block q r.0 ≡ t → first_greatest (cond t (first_greatest no_entry r.1) no_entry) (join rs q) ≡ first_greatest no_entry (unwrap_or (cond t (Some r.1) (lookup (is_at (block_cmp q)) rs)) no_entry)) [
+    ∙ elim (same_block q r.0) as
+    (λ t. same_block q r.0 ≡ t
+    → first_greatest (cond t (first_greatest no_entry r.1) no_entry) (join rs q) ≡ first_greatest no_entry
+    (unwrap_or (cond t (Some r.1) (lookup (is_at (block_cmp q)) rs)) no_entry)) [
       | true ↦ λ same.
-          let none : lookup (is_at (block_cmp q)) rs ≡ None = none_below q rs (subst (λ k. AllByRecursion (λ y. block_cmp k y ≡ Less) (keys_of rs)) (same_block_exact q r.0 same) sorted.0) in
+          let none : lookup (is_at (block_cmp q)) rs ≡ None =
+          none_below q rs (subst (λ k. AllByRecursion (λ y. block_cmp k y ≡ Less) (keys_of rs)) (same_block_exact q r.0 same) sorted.0) in
           let nothing : join rs q ≡ no_entry = join_of_rows rs q sorted.1 ∙ ap (λ o. first_greatest no_entry (unwrap_or o no_entry)) none in
           ap (first_greatest (first_greatest no_entry r.1)) nothing ∙ first_greatest-none (first_greatest no_entry r.1)
       | false ↦ λ _. none-join rs q ∙ join_of_rows rs q sorted.1
@@ -78,8 +84,11 @@ join_of_rows (r ∷ rs) q sorted =
 -- an index that starts with the rows of an index has them
 pub starts_with : (rows : List (BlockId × Entry)) (q : BlockId) → entry_of (indexed_all nothing_indexed (merged_all [] rows)).rows q ≡ join rows q
 starts_with rows q =
-    let sorted : IsStrictlySortedBy block_cmp (keys_of (merged_all [] rows)) = subst (λ r. IsStrictlySortedBy block_cmp (keys_of r)) (rows-indexed_all nothing_indexed rows) (keeps-counted-all nothing_indexed rows nothing_counted).sorted in
-    ap (λ r. entry_of r q) (rows-indexed_all nothing_indexed (merged_all [] rows)) ∙ index_join (merged_all [] rows) q ∙ join_of_rows (merged_all [] rows) q sorted
+    let sorted : IsStrictlySortedBy block_cmp (keys_of (merged_all [] rows)) =
+    subst (λ r. IsStrictlySortedBy block_cmp (keys_of r)) (rows-indexed_all nothing_indexed rows)
+    (keeps-counted-all nothing_indexed rows nothing_counted).sorted in
+    ap (λ r. entry_of r q) (rows-indexed_all nothing_indexed (merged_all [] rows)) ∙ index_join (merged_all [] rows) q
+    ∙ join_of_rows (merged_all [] rows) q sorted
     ∙ ap (first_greatest no_entry) (index_join rows q) ∙ none-join rows q
 
 -- ---- lists in two
@@ -117,7 +126,8 @@ by_log P here there (suc n) = elim (nat_le (suc n) 9) as (λ t. nat_le (suc n) 9
 
 pub applied_in : (horizon : List ℕ) (rs : List Report) (l : ℕ) → 0 < l → l ≤ 9 → of_log (reports.applied_of horizon rs) l ≡ applied_at horizon rs l
 unfolding reports.applied_of
-applied_in horizon rs l some most = of_log_in (reports.applied_of horizon rs) l some most ∙ get_or-map-range_with_len (applied_at horizon rs) 1 9 (l - 1) l 0 (omega arith) (omega arith)
+applied_in horizon rs l some most =
+    of_log_in (reports.applied_of horizon rs) l some most ∙ get_or-map-range_with_len (applied_at horizon rs) 1 9 (l - 1) l 0 (omega arith) (omega arith)
 
 pub nine : (horizon : List ℕ) (rs : List Report) → length (reports.applied_of horizon rs) ≡ 9
 unfolding reports.applied_of
@@ -144,7 +154,8 @@ record Gathered (b : BlockId) (f : Filed) (w : IndexState) (upto : ℕ → ℕ) 
   names : Names b f (join rows b) named
   joins : Joins w.version w.hop upto named
 
-module _ (b : BlockId) (f : Filed) (w : IndexState) (slot epoch : ℕ) (horizon : List ℕ) (rs : List Report) (reached : IndexReached w) (filed : IsFiled f) (tells : Tells b f w) (its : slot_of b.ino.0 ≡ slot)
+module _ (b : BlockId) (f : Filed) (w : IndexState) (slot epoch : ℕ) (horizon : List ℕ) (rs : List Report) (reached : IndexReached w) (filed : IsFiled f)
+    (tells : Tells b f w) (its : slot_of b.ino.0 ≡ slot)
     (at_floor : (l : ℕ) → 0 < l → l ≤ 9 → of_log horizon l ≡ w.floor epoch l)
     (ends : (l : ℕ) → 0 < l → l ≤ 9 → of_log horizon l ≤ (end_of rs l).seq → IsEnd f l (end_of rs l))
     (linked : (l : ℕ) → 0 < l → l ≤ 9 → Linked f l (of_log horizon l) (end_of rs l).seq)
@@ -171,8 +182,10 @@ module _ (b : BlockId) (f : Filed) (w : IndexState) (slot epoch : ℕ) (horizon 
         sym (put_each (λ d m. m ≡ upto k d) (upto k) k (horizon_at horizon k - 1) (sym (at_k k some most)) (λ d other. refl) l)
         ∙ next_is k (horizon_at horizon k - 1) some most (omega arith) l
 
-    adds : (k : ℕ) (rows : List (BlockId × Entry)) (chain : List Segment) → 0 < k → k ≤ 9 → horizon_at horizon k ≤ (end_of rs k).seq → Gathered b f w (upto k) rows
-        → IsReadBack (log_source k (horizon_at horizon k) (end_of rs k)) chain None → AllByRecursion (IsItsText f) chain → Gathered b f w (upto (suc k)) (rows ++ told_along slot chain)
+    adds : (k : ℕ) (rows : List (BlockId × Entry)) (chain : List Segment) → 0 < k → k ≤ 9 → horizon_at horizon k ≤ (end_of rs k).seq
+        → Gathered b f w (upto k) rows
+        → IsReadBack (log_source k (horizon_at horizon k) (end_of rs k)) chain None → AllByRecursion (IsItsText f) chain
+        → Gathered b f w (upto (suc k)) (rows ++ told_along slot chain)
     adds k rows chain some most within g read texts =
         let low = horizon_at horizon k in
         let end = end_of rs k in
@@ -182,59 +195,78 @@ module _ (b : BlockId) (f : Filed) (w : IndexState) (slot epoch : ℕ) (horizon 
         let least : 0 < low = omega arith in
         let is_end : IsEnd f k end = ends k some most (omega arith) in
         let r = ranged_between b f w k low end.seq filed tells in
-        let tells_it : join (told_along slot chain) b ≡ join (rows_between f k low end.seq) b = log_tells f k low end filed least within is_end (subst (λ n. Linked f k n end.seq) is_low (linked k some most)) b slot chain its read texts in
+        let tells_it : join (told_along slot chain) b ≡ join (rows_between f k low end.seq) b =
+        log_tells f k low end filed least within is_end (subst (λ n. Linked f k n end.seq) is_low (linked k some most)) b slot chain its read texts in
         let was = at_k k some most in
         record {
           named = merge.merged g.named r.named;
-          names = subst (λ e. Names b f e (merge.merged g.named r.named)) (ap (first_greatest (join rows b)) (sym tells_it) ∙ sym (join-append rows (told_along slot chain) b))
+          names = subst (λ e. Names b f e (merge.merged g.named r.named))
+              (ap (first_greatest (join rows b)) (sym tells_it) ∙ sym (join-append rows (told_along slot chain) b))
               (names_merged b f g.named r.named (join rows b) (join (rows_between f k low end.seq) b) g.names r.names);
           joins = joins_at w.version w.hop (put (upto k) k end.seq) (upto (suc k)) (merge.merged g.named r.named) (next_is k end.seq some most (omega arith))
               (merging_joins w (upto k) k low end.seq g.named r.named reached g.joins r.greatest (omega arith) (omega arith));
         }
 
-    skips : (k : ℕ) (rows : List (BlockId × Entry)) → 0 < k → k ≤ 9 → (end_of rs k).seq < horizon_at horizon k → Gathered b f w (upto k) rows → Gathered b f w (upto (suc k)) rows
-    skips k rows some most past g = record { named = g.named; names = g.names; joins = joins_at w.version w.hop (upto k) (upto (suc k)) g.named (stays_is k some most past) g.joins }
+    skips : (k : ℕ) (rows : List (BlockId × Entry)) → 0 < k → k ≤ 9 → (end_of rs k).seq < horizon_at horizon k → Gathered b f w (upto k) rows
+        → Gathered b f w (upto (suc k)) rows
+    skips k rows some most past g =
+        record { named = g.named; names = g.names; joins = joins_at w.version w.hop (upto k) (upto (suc k)) g.named (stays_is k some most past) g.joins }
 
-    gathers : (n k : ℕ) (rows : List (BlockId × Entry)) (chains : List (List Segment)) → k + n ≡ 10 → 0 < k → Gathered b f w (upto k) rows → AreReadBack (flat_map (log_sources horizon rs) (range_with_len k n)) chains
+    gathers : (n k : ℕ) (rows : List (BlockId × Entry)) (chains : List (List Segment)) → k + n ≡ 10 → 0 < k → Gathered b f w (upto k) rows
+        → AreReadBack (flat_map (log_sources horizon rs) (range_with_len k n)) chains
         → AllByRecursion (AllByRecursion (IsItsText f)) chains → Gathered b f w (upto 10) (rows ++ told_by_all slot chains)
     gathers zero k rows [] ends_ some g read texts =
         let last : k ≡ 10 = omega arith in
         subst (Gathered b f w (upto 10)) (sym (append-nil rows)) (subst (λ j. Gathered b f w (upto j) rows) last g)
     gathers zero k rows (c ∷ cs) ends_ some g read texts = absurd read
     gathers (suc n) k rows chains ends_ some g read texts =
-        by_source (λ more cs next. gathers n (k + 1) more cs (omega arith) (omega arith) next) (nat_le (horizon_at horizon k) (end_of rs k).seq) refl chains read texts
+        by_source (λ more cs next. gathers n (k + 1) more cs (omega arith) (omega arith) next)
+        (nat_le (horizon_at horizon k) (end_of rs k).seq) refl chains read texts
       where
-        by_source : ((more : List (BlockId × Entry)) (cs : List (List Segment)) → Gathered b f w (upto (k + 1)) more → AreReadBack (flat_map (log_sources horizon rs) (range_with_len (k + 1) n)) cs → AllByRecursion (AllByRecursion (IsItsText f)) cs
+        by_source : ((more : List (BlockId × Entry)) (cs : List (List Segment)) → Gathered b f w (upto (k + 1)) more
+            → AreReadBack (flat_map (log_sources horizon rs) (range_with_len (k + 1) n)) cs → AllByRecursion (AllByRecursion (IsItsText f)) cs
             → Gathered b f w (upto 10) (more ++ told_by_all slot cs))
             → (t : Bool) → nat_le (horizon_at horizon k) (end_of rs k).seq ≡ t → (chains : List (List Segment))
-            → AreReadBack (cond t (log_source k (horizon_at horizon k) (end_of rs k) ∷ []) [] ++ flat_map (log_sources horizon rs) (range_with_len (k + 1) n)) chains → AllByRecursion (AllByRecursion (IsItsText f)) chains
+            → AreReadBack
+            (cond t (log_source k (horizon_at horizon k) (end_of rs k) ∷ []) [] ++ flat_map (log_sources horizon rs) (range_with_len (k + 1) n)) chains
+            → AllByRecursion (AllByRecursion (IsItsText f)) chains
             → Gathered b f w (upto 10) (rows ++ told_by_all slot chains)
         by_source on true within [] read texts = absurd read
         by_source on true within (c ∷ cs) read texts =
             let less : horizon_at horizon k ≤ (end_of rs k).seq = within_is (horizon_at horizon k) (end_of rs k).seq within in
             let next : suc k ≡ k + 1 = omega arith in
             subst (Gathered b f w (upto 10)) (append_assoc rows (told_along slot c) (told_by_all slot cs))
-            (on (rows ++ told_along slot c) cs (subst (λ j. Gathered b f w (upto j) (rows ++ told_along slot c)) next (adds k rows c some (omega arith) less g read.0 texts.0)) read.1 texts.1)
+            (on (rows ++ told_along slot c) cs
+            (subst (λ j. Gathered b f w (upto j) (rows ++ told_along slot c)) next (adds k rows c some (omega arith) less g read.0 texts.0)) read.1 texts.1)
         by_source on false past cs read texts =
             let more : (end_of rs k).seq < horizon_at horizon k = past_is (horizon_at horizon k) (end_of rs k).seq past in
             let next : suc k ≡ k + 1 = omega arith in
             on rows cs (subst (λ j. Gathered b f w (upto j) rows) next (skips k rows some (omega arith) more g)) read texts
 
     -- from what the parts cover to what all tell
-    all_told : (parts : List Source) (chains : List (List Segment)) → Covers b f w horizon (told_by_all slot (take (length parts) chains)) → AreReadBack (parts ++ flat_map (log_sources horizon rs) (range_with_len 1 9)) chains
+    all_told : (parts : List Source) (chains : List (List Segment)) → Covers b f w horizon (told_by_all slot (take (length parts) chains))
+        → AreReadBack (parts ++ flat_map (log_sources horizon rs) (range_with_len 1 9)) chains
         → AllByRecursion (AllByRecursion (IsItsText f)) chains → Gathered b f w (of_log applied) (told_by_all slot chains)
     all_told parts chains covers read texts =
         let n = length parts in
         let start : (l : ℕ) → below horizon l ≡ upto 1 l = by_log (λ l. below horizon l ≡ upto 1 l)
         (λ l some most. sym (second_of (nat_lt l 1) (of_log applied l) (below horizon l) (not_less_is l 1 (omega arith))))
-        (λ l out. ap (λ m. m - 1) (of_log_out horizon l out) ∙ sym (either (nat_lt l 1) (of_log applied l) (below horizon l) (of_log_out applied l out) (ap (λ m. m - 1) (of_log_out horizon l out)))) in
+        (λ l out. ap (λ m. m - 1) (of_log_out horizon l out)
+        ∙ sym (either (nat_lt l 1) (of_log applied l) (below horizon l) (of_log_out applied l out) (ap (λ m. m - 1) (of_log_out horizon l out)))) in
         let end : (l : ℕ) → upto 10 l ≡ of_log applied l = by_log (λ l. upto 10 l ≡ of_log applied l)
         (λ l some most. first_of (nat_lt l 10) (of_log applied l) (below horizon l) (less_is l 10 (omega arith)))
-        (λ l out. either (nat_lt l 10) (of_log applied l) (below horizon l) (of_log_out applied l out) (ap (λ m. m - 1) (of_log_out horizon l out)) ∙ sym (of_log_out applied l out)) in
-        let g = gathers 9 1 (told_by_all slot (take n chains)) (drop n chains) refl (omega arith) (record { named = covers.named; names = covers.names; joins = joins_at w.version w.hop (below horizon) (upto 1) covers.named start covers.joins })
+        (λ l out. either (nat_lt l 10) (of_log applied l) (below horizon l) (of_log_out applied l out) (ap (λ m. m - 1) (of_log_out horizon l out))
+        ∙ sym (of_log_out applied l out)) in
+        let g = gathers 9 1 (told_by_all slot (take n chains)) (drop n chains) refl (omega arith)
+        (record { named = covers.named; names = covers.names; joins = joins_at w.version w.hop (below horizon) (upto 1) covers.named start covers.joins })
         (split_back parts (flat_map (log_sources horizon rs) (range_with_len 1 9)) chains read) (all_dropped (AllByRecursion (IsItsText f)) n chains texts) in
-        let whole : told_by_all slot (take n chains) ++ told_by_all slot (drop n chains) ≡ told_by_all slot chains = sym (flat_map-append (told_along slot) (take n chains) (drop n chains)) ∙ ap (told_by_all slot) (take-append-drop n chains) in
-        record { named = g.named; names = subst (λ r. Names b f (join r b) g.named) whole g.names; joins = joins_at w.version w.hop (upto 10) (of_log applied) g.named end g.joins }
+        let whole : told_by_all slot (take n chains) ++ told_by_all slot (drop n chains) ≡ told_by_all slot chains =
+        sym (flat_map-append (told_along slot) (take n chains) (drop n chains)) ∙ ap (told_by_all slot) (take-append-drop n chains) in
+        record {
+          named = g.named;
+          names = subst (λ r. Names b f (join r b) g.named) whole g.names;
+          joins = joins_at w.version w.hop (upto 10) (of_log applied) g.named end g.joins;
+        }
 
 -- ---- the activation
 
@@ -246,8 +278,10 @@ applied_most end low head floor filed = by (nat_le low end) refl
     by true is = let a : low ≤ end = grind (arith, nat_tests) in let b = filed a in omega arith
     by false is = let a : end < low = grind (arith, nat_tests) in omega arith
 
-activated : (b : BlockId) (f : Filed) (w : IndexState) (news : SlotNews) (c : Course) (epoch : ℕ) (rows : List (BlockId × Entry)) (beliefs : List (BlockId × ℕ × Mode)) (numbers : List ℕ)
-    → IndexReached w → IsFiled f → Tells b f w → slot_of b.ino.0 ≡ news.slot → IsTakenOver news c epoch rows beliefs numbers → TakeoverTold b f w news c → MayBegin w news.epoch c.state.reports → Runs b f w news.epoch (started news.epoch rows beliefs numbers)
+activated : (b : BlockId) (f : Filed) (w : IndexState) (news : SlotNews) (c : Course) (epoch : ℕ) (rows : List (BlockId × Entry))
+    (beliefs : List (BlockId × ℕ × Mode)) (numbers : List ℕ)
+    → IndexReached w → IsFiled f → Tells b f w → slot_of b.ino.0 ≡ news.slot → IsTakenOver news c epoch rows beliefs numbers → TakeoverTold b f w news c
+    → MayBegin w news.epoch c.state.reports → Runs b f w news.epoch (started news.epoch rows beliefs numbers)
 activated b f w news c epoch rows beliefs numbers reached filed tells its over told may =
     let rs = c.state.reports in
     let horizon = news.horizon in
@@ -255,11 +289,13 @@ activated b f w news c epoch rows beliefs numbers reached filed tells its over t
     let bounds = index_in_bounds_always w reached in
     let parts = map part_source news.parts in
     let same_length : length parts ≡ length news.parts = length-map news.parts part_source in
-    let covers : Covers b f w horizon (told_by_all news.slot (take (length parts) c.read.whole)) = subst (λ n. Covers b f w horizon (told_by_all news.slot (take n c.read.whole))) (sym same_length) told.parts in
+    let covers : Covers b f w horizon (told_by_all news.slot (take (length parts) c.read.whole)) =
+    subst (λ n. Covers b f w horizon (told_by_all news.slot (take n c.read.whole))) (sym same_length) told.parts in
     let g = all_told b f w news.slot e horizon rs reached filed tells its told.horizon told.ends told.linked parts c.read.whole covers over.sources told.texts in
     let numbers_of = reports.applied_of horizon rs in
     let names : Names b f (entry_at (started e rows beliefs numbers) b) g.named =
-    subst (λ x. Names b f x g.named) (sym (ap (λ r. entry_of (indexed_all nothing_indexed r).rows b) over.rows ∙ starts_with (told_by_all news.slot c.read.whole) b)) g.names in
+    subst (λ x. Names b f x g.named)
+    (sym (ap (λ r. entry_of (indexed_all nothing_indexed r).rows b) over.rows ∙ starts_with (told_by_all news.slot c.read.whole) b)) g.names in
     let upto : ℕ → ℕ = of_log numbers_of in
     let covered : (l : ℕ) → w.floor e l ≤ suc (upto l) = by_log (λ l. w.floor e l ≤ suc (upto l))
     (λ l some most. let a = applied_in horizon rs l some most in let h = told.horizon l some most in let i = of_log_in horizon l some most in omega arith)
@@ -271,17 +307,21 @@ activated b f w news c epoch rows beliefs numbers reached filed tells its over t
     let i = of_log_in horizon l some most in
     let floor = bounds.floor_filed e l in
     let is_head = tells.head l in
-    let m = applied_most (end_of rs l).seq (horizon_at horizon l) (w.head l) (omega arith) (λ within. let x = (told.ends l some most (omega arith)).filed in omega arith) in
+    let m = applied_most (end_of rs l).seq (horizon_at horizon l) (w.head l) (omega arith)
+    (λ within. let x = (told.ends l some most (omega arith)).filed in omega arith) in
     omega arith)
     (λ l out. let a = of_log_out numbers_of l out in omega arith) in
-    let reported : w.polled e ≤ upto w.cleaner = subst (λ l. w.polled e ≤ upto l) (sym tells.cleaner) (let a = applied_in horizon rs 9 (omega arith) (omega arith) in let r = may.reported in omega arith) in
-    let can : CanActivate w e upto g.named = record { begun = may.begun; fresh = may.fresh; heard = may.heard; reported = reported; covered = covered; filed = most_filed; joins = g.joins } in
+    let reported : w.polled e ≤ upto w.cleaner =
+    subst (λ l. w.polled e ≤ upto l) (sym tells.cleaner) (let a = applied_in horizon rs 9 (omega arith) (omega arith) in let r = may.reported in omega arith) in
+    let can : CanActivate w e upto g.named =
+    record { begun = may.begun; fresh = may.fresh; heard = may.heard; reported = reported; covered = covered; filed = most_filed; joins = g.joins } in
     let t = started e rows beliefs numbers in
     let frame = framed w e upto g.named in
     let shows = shown b f w upto g.named t
     (λ l some. by_log (λ d. 0 < d → upto d ≡ recalls.applied_of numbers d)
     (λ d more most _. of_log_in numbers_of d more most ∙ ap (λ xs. get_or xs (d - 1) 0) (sym over.applied_to))
-    (λ d out more. of_log_out numbers_of d out ∙ sym (ap (λ xs. get_or xs (d - 1) 0) over.applied_to ∙ get_or-eq_default numbers_of 0 (let n = nine horizon rs in past d out more (length numbers_of) n)))
+    (λ d out more. of_log_out numbers_of d out
+    ∙ sym (ap (λ xs. get_or xs (d - 1) 0) over.applied_to ∙ get_or-eq_default numbers_of 0 (let n = nine horizon rs in past d out more (length numbers_of) n)))
     l some) names in
     record {
       state = activates w e upto g.named;
@@ -298,4 +338,5 @@ pub takeovers_are_activations : TakeoversAreActivations
 takeovers_are_activations b f w news groups clients inputs input epoch rows beliefs numbers reached filed tells its hands told may =
     let c = after_input (course_of news groups clients inputs) input in
     let over = taken_over news groups clients inputs input epoch rows beliefs numbers hands in
-    subst (λ e. Runs b f w e (started e rows beliefs numbers)) (sym over.of_epoch) (activated b f w news c epoch rows beliefs numbers reached filed tells its over told may)
+    subst (λ e. Runs b f w e (started e rows beliefs numbers)) (sym over.of_epoch)
+    (activated b f w news c epoch rows beliefs numbers reached filed tells its over told may)

@@ -42,17 +42,21 @@ module _ (part : ℕ) (holds : SegRef → Rows) (b : BlockId) where
   pub record IsPlanned (n : Net) (w : IndexState) (e : ℕ) (events : List Event) (horizon : List ℕ) : Type 0 where
     pub active : w.active e ≡ 1
     pub applied : (l : ℕ) → 0 < l → l ≤ 9 → of_log horizon l ≤ suc (w.applied e l)
-    pub covers : (segments : List SegRef) → MayCome holds (slot_after events) (Written segments) → Covers b n.filed w horizon (rows_in holds (after_event (slot_after events) (Written segments)).parts)
+    pub covers : (segments : List SegRef) → MayCome holds (slot_after events) (Written segments)
+        → Covers b n.filed w horizon (rows_in holds (after_event (slot_after events) (Written segments)).parts)
 
   -- what is known of a packet
   abbrev pub Sound : Net → IndexState → Packet → Type 0
   Sound n w (CheckpointPlanned e events horizon) = IsPlanned n w e events horizon
-  Sound n w (CheckpointDone e horizon parts) = (w.active e ≡ 1) × ((l : ℕ) → 0 < l → l ≤ 9 → of_log horizon l ≤ suc (w.applied e l)) × Covers b n.filed w horizon (rows_in holds parts)
+  Sound n w (CheckpointDone e horizon parts) =
+      (w.active e ≡ 1) × ((l : ℕ) → 0 < l → l ≤ 9 → of_log horizon l ≤ suc (w.applied e l)) × Covers b n.filed w horizon (rows_in holds parts)
   Sound n w (CleanerReported e end) = (w.polled e ≤ end) × (e ≤ w.promised)
   Sound n w (Checked number k place d) =
-      IsAsked n w number place.seg.name d × (k ≡ b → is_filed_name n.filed place.seg.name ≡ true → (row_at n.filed b place.seg.name.log.0 place.seg.name.seq).place ≡ Some place)
+      IsAsked n w number place.seg.name d
+      × (k ≡ b → is_filed_name n.filed place.seg.name ≡ true → (row_at n.filed b place.seg.name.log.0 place.seg.name.seq).place ≡ Some place)
   Sound n w (AnsweredLive k entry) = k ≡ b → IsRow b n.filed entry
-  Sound n w (AnsweredDead number k name d e) = IsAsked n w number name d × (k ≡ b → is_filed_name n.filed name ≡ true → d ≤ e → w.told e name.log.0 name.seq ≡ 1)
+  Sound n w (AnsweredDead number k name d e) =
+      IsAsked n w number name d × (k ≡ b → is_filed_name n.filed name ≡ true → d ≤ e → w.told e name.log.0 name.seq ≡ 1)
 
   -- the small world is seen in the index of the block
   pub record View (n : Net) : Type 0 where
@@ -105,10 +109,14 @@ module _ (part : ℕ) (holds : SegRef → Rows) (b : BlockId) where
   sound_later n m w v (CheckpointPlanned e events horizon) t s = record {
     active = t.past.active e s.active;
     applied = λ l some most. let x = s.applied l some most in let y = t.past.applied e l in omega arith;
-    covers = λ segments laid. parts_stay b n.filed m.filed w v horizon (rows_in holds (after_event (slot_after events) (Written segments)).parts) t.more t.old t.new (s.covers segments laid);
+    covers = λ segments laid. parts_stay b n.filed m.filed w v horizon
+        (rows_in holds (after_event (slot_after events) (Written segments)).parts) t.more t.old t.new (s.covers segments laid);
   }
-  sound_later n m w v (CheckpointDone e horizon parts) t s =
-      (t.past.active e s.0, (λ l some most. let x = s.1 l some most in let y = t.past.applied e l in omega arith), parts_stay b n.filed m.filed w v horizon (rows_in holds parts) t.more t.old t.new s.2)
+  sound_later n m w v (CheckpointDone e horizon parts) t s = (
+    t.past.active e s.0,
+    (λ l some most. let x = s.1 l some most in let y = t.past.applied e l in omega arith),
+    parts_stay b n.filed m.filed w v horizon (rows_in holds parts) t.more t.old t.new s.2,
+  )
   sound_later n m w v (CleanerReported e end) t s =
       let x = s.0 in
       let y = s.1 in
@@ -134,10 +142,12 @@ module _ (part : ℕ) (holds : SegRef → Rows) (b : BlockId) where
   all_and P [] qs all more = more
   all_and P (p ∷ ps) qs all more = (all.0, all_and P ps qs all.1 more)
 
-  pub all_dropped_later : (f g : Filed) (dropped more_dropped : ℕ → ℕ → ℕ) (names : List SegName) → IsMore f g → ((l q : ℕ) → dropped l q ≡ 1 → more_dropped l q ≡ 1) → AllByRecursion (IsDropped b f dropped) names
+  pub all_dropped_later : (f g : Filed) (dropped more_dropped : ℕ → ℕ → ℕ) (names : List SegName) → IsMore f g
+      → ((l q : ℕ) → dropped l q ≡ 1 → more_dropped l q ≡ 1) → AllByRecursion (IsDropped b f dropped) names
       → AllByRecursion (IsDropped b g more_dropped) names
   all_dropped_later f g dropped more_dropped [] more drops all = tt
-  all_dropped_later f g dropped more_dropped (name ∷ names) more drops all = (dropped_stays b f g dropped more_dropped name more drops all.0, all_dropped_later f g dropped more_dropped names more drops all.1)
+  all_dropped_later f g dropped more_dropped (name ∷ names) more drops all =
+      (dropped_stays b f g dropped more_dropped name more drops all.0, all_dropped_later f g dropped more_dropped names more drops all.1)
 
   -- a sent packet is sound
   pub found : (P : Packet → Type 0) (p : Packet) (ps : List Packet) → AllByRecursion P ps → In p ps → P p
@@ -152,7 +162,8 @@ module _ (part : ℕ) (holds : SegRef → Rows) (b : BlockId) where
     pub sent : AllByRecursion (Sound m v) n.sent
     pub deleted : AllByRecursion (IsDropped b m.filed v.dropped) n.deleted
 
-  pub went : (n m : Net) (i : View n) (v : IndexState) → IndexSteps i.state v → IsMore n.filed m.filed → Tells b m.filed v → ((e : ℕ) → e ≤ i.state.promised → v.polled e ≤ i.state.polled e) → n.number ≤ m.number
+  pub went : (n m : Net) (i : View n) (v : IndexState) → IndexSteps i.state v → IsMore n.filed m.filed → Tells b m.filed v
+      → ((e : ℕ) → e ≤ i.state.promised → v.polled e ≤ i.state.polled e) → n.number ≤ m.number
       → (m.number ≡ n.number → promised_at n.job.promised part ≤ promised_at m.job.promised part) → Went n m i.state v
   went n m i v steps more new polled number promise =
       let past = index_past_stays_always i.state v i.reached steps in
@@ -174,7 +185,8 @@ pub record Good (part : ℕ) (holds : SegRef → Rows) (n : Net) : Type 0 where
 pub same_filed : (f : Filed) → IsMore f f
 same_filed f = record { head = λ l. omega arith; segment = λ l q some most. refl }
 
-pub tells_same : (b : BlockId) (f : Filed) (w v : IndexState) → v.cleaner ≡ w.cleaner → ((l : ℕ) → v.head l ≡ w.head l) → ((l q : ℕ) → v.version l q ≡ w.version l q) → ((l q : ℕ) → v.hop l q ≡ w.hop l q) → Tells b f w → Tells b f v
+pub tells_same : (b : BlockId) (f : Filed) (w v : IndexState) → v.cleaner ≡ w.cleaner → ((l : ℕ) → v.head l ≡ w.head l)
+    → ((l q : ℕ) → v.version l q ≡ w.version l q) → ((l q : ℕ) → v.hop l q ≡ w.hop l q) → Tells b f w → Tells b f v
 tells_same b f w v cleaner head version hop t = record {
   cleaner = cleaner ∙ t.cleaner;
   head = λ l. head l ∙ t.head l;

@@ -27,8 +27,10 @@ IsNext s horizon = (l : ℕ) → 0 < l → l ≤ 9 → of_log horizon l ≡ suc 
 -- Parts cover: where segments hold the pages that are planned of the slot's index, the parts of the checkpoint tell what the logs filed below the horizon.
 abbrev pub PartsCover : Type 0
 PartsCover =
-    (b : BlockId) (f : Filed) (w : IndexState) (s : SlotState) (holds : SegRef → Rows) (events : List Event) (segments : List SegRef) (horizon : List ℕ) → IndexReached w → IsFiled f → Tells b f w → Manages b f w s
-    → (slot_after events).pages ≡ pages_of s.index → AllMayCome holds nothing_checkpointed events → MayCome holds (slot_after events) (Written segments) → IsNext s horizon
+    (b : BlockId) (f : Filed) (w : IndexState) (s : SlotState) (holds : SegRef → Rows) (events : List Event) (segments : List SegRef) (horizon : List ℕ)
+    → IndexReached w → IsFiled f → Tells b f w → Manages b f w s
+    → (slot_after events).pages ≡ pages_of s.index → AllMayCome holds nothing_checkpointed events → MayCome holds (slot_after events) (Written segments)
+    → IsNext s horizon
     → Covers b f w horizon (rows_in holds (after_event (slot_after events) (Written segments)).parts)
 
 -- what was read under the name of a part tells of the slot what the part holds
@@ -39,7 +41,8 @@ TellsPart slot holds (part ∷ parts) s = (s.name ≡ part.name → told_of slot
 -- Parts are read as they were written: a takeover that read them whole was told what they hold, in their order.
 abbrev pub PartsAreRead : Type 0
 PartsAreRead =
-    (slot : ℕ) (holds : SegRef → Rows) (parts : List SegRef) (chains : List (List Segment)) → AreReadBack (map part_source parts) chains → AllByRecursion (AllByRecursion (TellsPart slot holds parts)) chains
+    (slot : ℕ) (holds : SegRef → Rows) (parts : List SegRef) (chains : List (List Segment)) → AreReadBack (map part_source parts) chains
+    → AllByRecursion (AllByRecursion (TellsPart slot holds parts)) chains
     → told_by_all slot chains ≡ rows_in holds parts
 
 -- and a segment that has just parts of the slot tells what its items hold
@@ -58,5 +61,6 @@ pub record Keeps (w : IndexState) (horizon : List ℕ) : Type 0 where
 -- Checkpoints are kept: a horizon that is nowhere below the kept one, of a checkpoint of the slot's epoch, whose manager has applied what it passes, is kept.
 abbrev pub CheckpointsAreKept : Type 0
 CheckpointsAreKept =
-    (b : BlockId) (f : Filed) (w : IndexState) (horizon : List ℕ) → IndexReached w → IsFiled f → Tells b f w → ((l : ℕ) → 0 < l → l ≤ 9 → w.floor w.epoch l ≤ of_log horizon l)
+    (b : BlockId) (f : Filed) (w : IndexState) (horizon : List ℕ) → IndexReached w → IsFiled f → Tells b f w
+    → ((l : ℕ) → 0 < l → l ≤ 9 → w.floor w.epoch l ≤ of_log horizon l)
     → ((l : ℕ) → 0 < l → l ≤ 9 → of_log horizon l ≤ suc (w.applied w.epoch l)) → Keeps w horizon

@@ -43,17 +43,21 @@ pub record IsRow (b : BlockId) (f : Filed) (entry : Entry) : Type 0 where
 
 -- What is answered Live is a filed row.
 abbrev pub LiveIsFiled : Type 0
-LiveIsFiled = (b : BlockId) (f : Filed) (w : IndexState) (s : SlotState) (place : Place) (entry : Entry) → Manages b f w s → (slot.transition s (told.Check b place)).outs ≡ telling.Live entry ∷ [] → IsRow b f entry
+LiveIsFiled =
+    (b : BlockId) (f : Filed) (w : IndexState) (s : SlotState) (place : Place) (entry : Entry) → Manages b f w s
+    → (slot.transition s (told.Check b place)).outs ≡ telling.Live entry ∷ [] → IsRow b f entry
 
 -- A move is a copy: what was live, moved once, is a row at the same version and one hop further.
 abbrev pub MovesAreCopies : Type 0
-MovesAreCopies = (b : BlockId) (f : Filed) (entry said : Entry) → IsRow b f entry → said.ver ≡ (moved_once entry).ver → said.hop ≡ (moved_once entry).hop → IsCopy b f said
+MovesAreCopies =
+    (b : BlockId) (f : Filed) (entry said : Entry) → IsRow b f entry → said.ver ≡ (moved_once entry).ver → said.hop ≡ (moved_once entry).hop → IsCopy b f said
 
 -- A Dead is a beat: where an active manager answers Dead for the place of a filed row, below a horizon that an epoch up to its own had kept, its entry is
 -- elsewhere.
 abbrev pub DeadsAreBeats : Type 0
 DeadsAreBeats =
-    (b : BlockId) (f : Filed) (w : IndexState) (s : SlotState) (place : Place) (d l q : ℕ) → IndexReached w → IsFiled f → Tells b f w → Manages b f w s → (row_at f b l q).place ≡ Some place → d ≤ s.epoch → q < w.floor d l
+    (b : BlockId) (f : Filed) (w : IndexState) (s : SlotState) (place : Place) (d l q : ℕ) → IndexReached w → IsFiled f → Tells b f w → Manages b f w s
+    → (row_at f b l q).place ≡ Some place → d ≤ s.epoch → q < w.floor d l
     → (slot.transition s (told.Check b place)).outs ≡ telling.Dead ∷ [] → CanBeat w d s.epoch l q
 
 -- ---- the job
@@ -75,7 +79,8 @@ pub record IsWithin (f : Filed) (name : SegName) : Type 0 where
 pub record IsChecked (b : BlockId) (f : Filed) (dead_at : ℕ → ℕ → ℕ) (name : SegName) (checks : List Check) : Type 0 where
   pub within : IsWithin f name
   pub blocks : is_filed_name f name ≡ true → map (λ c. c.block) checks ≡ blocks_of (f.segment name.log.0 name.seq).items
-  pub counted : is_filed_name f name ≡ true → has_block b f name ≡ true → AllByRecursion (λ c. c.block ≡ b → is_dead c.fate ≡ true → 0 < dead_at name.log.0 name.seq) checks
+  pub counted : is_filed_name f name ≡ true → has_block b f name ≡ true
+      → AllByRecursion (λ c. c.block ≡ b → is_dead c.fate ≡ true → 0 < dead_at name.log.0 name.seq) checks
 
 -- where a filed segment has a Block of the block, its row was dropped
 pub record IsDropped (b : BlockId) (f : Filed) (dropped : ℕ → ℕ → ℕ) (name : SegName) : Type 0 where
@@ -101,7 +106,8 @@ NoLower b w s later = (promise_of b later ≡ promise_of b s) ⊎ (w.promised �
 
 -- a segment that is read has a seq that was filed, and where its name is that of the filed segment, it is that
 abbrev pub ReadFor : Filed → Option Segment → Phase → Type 0
-ReadFor f (Some read) (Reading j segment) = IsWithin f segment.name × (is_filed_name f segment.name ≡ true → read.name ≡ segment.name → read ≡ f.segment segment.name.log.0 segment.name.seq)
+ReadFor f (Some read) (Reading j segment) =
+    IsWithin f segment.name × (is_filed_name f segment.name ≡ true → read.name ≡ segment.name → read ≡ f.segment segment.name.log.0 segment.name.seq)
 ReadFor f read phase = Unit {0}
 
 -- a Dead of a Block of the segment in hand was told of that row, at an epoch that is one
@@ -137,12 +143,15 @@ pub record Cleaned (b : BlockId) (f : Filed) (w : IndexState) (d : job.Done) : T
 
 -- Moves and drops: each input of a job is taken by steps of the cleaner.
 abbrev pub MovesAndDrops : Type 0
-MovesAndDrops = (b : BlockId) (f : Filed) (w : IndexState) (s : CleaningState) (input : inputs.In) → Cleans b f w s → Owes b f w s input → Cleaned b f w (job.transition s input)
+MovesAndDrops =
+    (b : BlockId) (f : Filed) (w : IndexState) (s : CleaningState) (input : inputs.In) → Cleans b f w s → Owes b f w s input
+    → Cleaned b f w (job.transition s input)
 
 -- A job is seen as before while more is filed, and more is counted and dropped.
 abbrev pub JobsStay : Type 0
 JobsStay =
-    (b : BlockId) (f g : Filed) (w v : IndexState) (s : CleaningState) → IsMore f g → v.promised ≡ w.promised → ((l q : ℕ) → w.dead_at l q ≤ v.dead_at l q) → ((l q : ℕ) → w.dropped l q ≡ 1 → v.dropped l q ≡ 1)
+    (b : BlockId) (f g : Filed) (w v : IndexState) (s : CleaningState) → IsMore f g → v.promised ≡ w.promised → ((l q : ℕ) → w.dead_at l q ≤ v.dead_at l q)
+    → ((l q : ℕ) → w.dropped l q ≡ 1 → v.dropped l q ≡ 1)
     → Cleans b f w s → Cleans b g v s
 
 -- A job that begins, before it is welcomed, is seen as the cleaner.

@@ -25,5 +25,6 @@ pub record IsFed (f : Filed) (l base : ℕ) (inputs : List In) : Type 0 where
 -- What is told of a range is the join of its rows: a feed's ranges, sent as Deltas, tell of each block of the slot what the log filed in them.
 abbrev pub RangesTellWhatIsFiled : Type 0
 RangesTellWhatIsFiled =
-    (b : BlockId) (f : Filed) (l base : ℕ) (inputs : List In) (input : In) (slot first upto : ℕ) (rows : List (BlockId × Entry)) → 0 < l → l ≤ 9 → IsFed f l base inputs → slot_of b.ino.0 ≡ slot
+    (b : BlockId) (f : Filed) (l base : ℕ) (inputs : List In) (input : In) (slot first upto : ℕ) (rows : List (BlockId × Entry)) → 0 < l → l ≤ 9
+    → IsFed f l base inputs → slot_of b.ino.0 ≡ slot
     → Contains (transition (state_after base inputs) input).outs (Range slot first upto rows) → DeltasTell b f l first upto rows

@@ -40,7 +40,14 @@ pub record IsCopy (b : BlockId) (f : Filed) (said : Entry) : Type 0 where
 
 -- the index, but for what logs file
 abbrev pub unfiled : IndexState → IndexState
-unfiled w = record w { version = λ l q. 0; hop = λ l q. 0; head = λ l. 0; joined = record { version = 0; hop = 0; log = 0; seq = 0 }; version_log = λ v. 0; version_seq = λ v. 0 }
+unfiled w = record w {
+  version = λ l q. 0;
+  hop = λ l q. 0;
+  head = λ l. 0;
+  joined = record { version = 0; hop = 0; log = 0; seq = 0 };
+  version_log = λ v. 0;
+  version_seq = λ v. 0;
+}
 
 -- by steps of logs the index becomes one that tells what is filed now
 pub record Files (b : BlockId) (f : Filed) (w : IndexState) : Type 0 where
@@ -53,12 +60,14 @@ pub record Files (b : BlockId) (f : Filed) (w : IndexState) : Type 0 where
 -- A segment that a client settles is filed at each block: it is news of those that it names, and says nothing of the others.
 abbrev pub ClientsFile : Type 0
 ClientsFile =
-    (b : BlockId) (f : Filed) (w : IndexState) (l : ℕ) (s : Segment) → IndexReached w → IsFiled f → Tells b f w → 0 < l → IsSegment l (suc (f.head l)) s → IsNews w l (said_of s b) → Files b (with_segment f l s) w
+    (b : BlockId) (f : Filed) (w : IndexState) (l : ℕ) (s : Segment) → IndexReached w → IsFiled f → Tells b f w → 0 < l → IsSegment l (suc (f.head l)) s
+    → IsNews w l (said_of s b) → Files b (with_segment f l s) w
 
 -- A segment that the cleaner settles is filed at each block: it has copies of those that it names.
 abbrev pub CleanerFiles : Type 0
 CleanerFiles =
-    (b : BlockId) (f : Filed) (w : IndexState) (s : Segment) → IndexReached w → IsFiled f → Tells b f w → IsSegment 9 (suc (f.head 9)) s → (0 < (said_of s b).ver → IsCopy b f (said_of s b)) → Files b (with_segment f 9 s) w
+    (b : BlockId) (f : Filed) (w : IndexState) (s : Segment) → IndexReached w → IsFiled f → Tells b f w → IsSegment 9 (suc (f.head 9)) s
+    → (0 < (said_of s b).ver → IsCopy b f (said_of s b)) → Files b (with_segment f 9 s) w
 
 -- more is filed, and what was filed is as it was
 pub record IsMore (f g : Filed) : Type 0 where
@@ -76,10 +85,12 @@ abbrev pub SlotsStay : Type 0
 SlotsStay = (b : BlockId) (f g : Filed) (w v : IndexState) (s : SlotState) → IsMore f g → IsKept s.epoch w v → Manages b f w s → Manages b g v s
 
 abbrev pub PartsStay : Type 0
-PartsStay = (b : BlockId) (f g : Filed) (w v : IndexState) (horizon : List ℕ) (rows : List (BlockId × Entry)) → IsMore f g → Tells b f w → Tells b g v → Covers b f w horizon rows → Covers b g v horizon rows
+PartsStay = (b : BlockId) (f g : Filed) (w v : IndexState) (horizon : List ℕ) (rows : List (BlockId × Entry)) → IsMore f g → Tells b f w → Tells b g v
+    → Covers b f w horizon rows → Covers b g v horizon rows
 
 abbrev pub DeltasStay : Type 0
-DeltasStay = (b : BlockId) (f g : Filed) (l first upto : ℕ) (rows : List (BlockId × Entry)) → IsMore f g → DeltasTell b f l first upto rows → DeltasTell b g l first upto rows
+DeltasStay = (b : BlockId) (f g : Filed) (l first upto : ℕ) (rows : List (BlockId × Entry)) → IsMore f g → DeltasTell b f l first upto rows
+    → DeltasTell b g l first upto rows
 
 abbrev pub MoreIsFiled : Type 0
 MoreIsFiled = (f : Filed) (l : ℕ) (s : Segment) → IsMore f (with_segment f l s)

@@ -29,7 +29,8 @@ pub record IsJoinOfApplied (b : BlockId) (f : Filed) (s : SlotState) : Type 0 wh
 
 -- The index of each active slot is the join of what it has applied.
 abbrev pub IndexesAreJoins : Type 0
-IndexesAreJoins = (b : BlockId) (f : Filed) (w : IndexState) (s : SlotState) → IndexReached w → IsFiled f → Tells b f w → Manages b f w s → IsJoinOfApplied b f s
+IndexesAreJoins =
+    (b : BlockId) (f : Filed) (w : IndexState) (s : SlotState) → IndexReached w → IsFiled f → Tells b f w → Manages b f w s → IsJoinOfApplied b f s
 
 -- the place of an entry names the log and the seq of its row, and the segment that was filed there
 pub record IsExact (f : Filed) (named : index.Entry) (place : Place) : Type 0 where
@@ -42,7 +43,9 @@ pub record IsExact (f : Filed) (named : index.Entry) (place : Place) : Type 0 wh
 
 -- Places are exact.
 abbrev pub PlacesAreExact : Type 0
-PlacesAreExact = (b : BlockId) (f : Filed) (entry : Entry) (named : index.Entry) (place : Place) → IsFiled f → Names b f entry named → entry.place ≡ Some place → IsExact f named place
+PlacesAreExact =
+    (b : BlockId) (f : Filed) (entry : Entry) (named : index.Entry) (place : Place) → IsFiled f → Names b f entry named → entry.place ≡ Some place
+    → IsExact f named place
 
 -- a newer version of the block is filed
 pub record IsOutdated (b : BlockId) (f : Filed) (entry : Entry) : Type 0 where
@@ -54,7 +57,8 @@ pub record IsOutdated (b : BlockId) (f : Filed) (entry : Entry) : Type 0 where
 -- version is filed.
 abbrev pub DroppedIsOutdated : Type 0
 DroppedIsOutdated =
-    (b : BlockId) (f : Filed) (w : IndexState) (s : SlotState) (place : Place) → IndexReached w → IsFiled f → Tells b f w → Manages b f w s → (entry_at s b).place ≡ Some place
+    (b : BlockId) (f : Filed) (w : IndexState) (s : SlotState) (place : Place) → IndexReached w → IsFiled f → Tells b f w → Manages b f w s
+    → (entry_at s b).place ≡ Some place
     → w.dropped place.seg.name.log.0 place.seg.name.seq ≡ 1 → w.dead_at place.seg.name.log.0 place.seg.name.seq ≤ s.epoch → IsOutdated b f (entry_at s b)
 
 -- a row of the block that no filed one is newer than, and the earliest of its version and hop

@@ -48,12 +48,15 @@ LinesAreFiled = (logs : ℕ → State) (books : ℕ → ℕ → Segment) → Are
 
 -- Above the least horizon, filed segments are linked.
 abbrev pub LinesAreLinked : Type 0
-LinesAreLinked = (logs : ℕ → State) (books : ℕ → ℕ → Segment) (l low high : ℕ) → AreLogs logs books → 0 < l → l ≤ 9 → (logs l).low ≤ low → high ≤ (logs l).head → Linked (lines logs books) l low high
+LinesAreLinked =
+    (logs : ℕ → State) (books : ℕ → ℕ → Segment) (l low high : ℕ) → AreLogs logs books → 0 < l → l ≤ 9 → (logs l).low ≤ low → high ≤ (logs l).head
+    → Linked (lines logs books) l low high
 
 -- The end of a filed name is one of the filed segments.
 abbrev pub FiledNamesAreEnds : Type 0
 FiledNamesAreEnds =
-    (logs : ℕ → State) (books : ℕ → ℕ → Segment) (l x : ℕ) (end : End) → AreLogs logs books → 0 < l → l ≤ 9 → (logs l).filed x ≡ 1 → end.seq ≡ (logs l).seq_of x → end.pass ≡ pass_of (logs l) x → IsEnd (lines logs books) l end
+    (logs : ℕ → State) (books : ℕ → ℕ → Segment) (l x : ℕ) (end : End) → AreLogs logs books → 0 < l → l ≤ 9 → (logs l).filed x ≡ 1 → end.seq ≡ (logs l).seq_of x
+    → end.pass ≡ pass_of (logs l) x → IsEnd (lines logs books) l end
 
 -- a segment of the feed of a serving owner
 abbrev pub feed_at : State → (ℕ → Segment) → ℕ → FiledDeltas
@@ -62,11 +65,14 @@ feed_at w book q = record { seq = q; rows = rows_of (book (w.feed q)) }
 -- A serving owner's feed was told of what is filed above its base.
 abbrev pub FeedsAreFed : Type 0
 FeedsAreFed =
-    (logs : ℕ → State) (books : ℕ → ℕ → Segment) (l : ℕ) (inputs : List In) → AreLogs logs books → 0 < l → l ≤ 9 → (logs l).phase ≡ 4 → end_of (logs l).feed_base inputs ≡ (logs l).head
-    → filed_by (logs l).feed_base inputs ≡ map (feed_at (logs l) (books l)) (range_with_len (suc (logs l).feed_base) ((logs l).head - (logs l).feed_base)) → IsFed (lines logs books) l (logs l).feed_base inputs
+    (logs : ℕ → State) (books : ℕ → ℕ → Segment) (l : ℕ) (inputs : List In) → AreLogs logs books → 0 < l → l ≤ 9 → (logs l).phase ≡ 4
+    → end_of (logs l).feed_base inputs ≡ (logs l).head
+    → filed_by (logs l).feed_base inputs ≡ map (feed_at (logs l) (books l)) (range_with_len (suc (logs l).feed_base) ((logs l).head - (logs l).feed_base))
+    → IsFed (lines logs books) l (logs l).feed_base inputs
 
 -- Lines only grow.
 abbrev pub LinesGrow : Type 0
 LinesGrow =
-    (logs later : ℕ → State) (books more : ℕ → ℕ → Segment) → AreLogs logs books → AreLogs later more → ((l : ℕ) → 0 < l → l ≤ 9 → Steps (logs l) (later l)) → ((l x : ℕ) → (logs l).filed x ≡ 1 → more l x ≡ books l x)
+    (logs later : ℕ → State) (books more : ℕ → ℕ → Segment) → AreLogs logs books → AreLogs later more → ((l : ℕ) → 0 < l → l ≤ 9 → Steps (logs l) (later l))
+    → ((l x : ℕ) → (logs l).filed x ≡ 1 → more l x ≡ books l x)
     → IsMore (lines logs books) (lines later more)

@@ -154,52 +154,73 @@ pub record HasRead (part : ℕ) (holds : SegRef → Rows) (n : Net) (e : ℕ) (n
 
 pub data Happens (part : ℕ) (holds : SegRef → Rows) : Net → Net → Type 0 where
   -- a client's log files a segment
-  ClientFiles : {n : Net} (l : ℕ) (s : Segment) → 0 < l → l < 9 → IsSegment l (suc (n.filed.head l)) s → ((b : BlockId) → slot_of b.ino.0 ≡ part → IsNewer b n.filed s) → Happens part holds n (record n { filed = with_segment n.filed l s })
+  ClientFiles : {n : Net} (l : ℕ) (s : Segment) → 0 < l → l < 9 → IsSegment l (suc (n.filed.head l)) s
+      → ((b : BlockId) → slot_of b.ino.0 ≡ part → IsNewer b n.filed s) → Happens part holds n (record n { filed = with_segment n.filed l s })
   -- the cleaner's log files one
-  CleanerFiles : {n : Net} (s : Segment) → IsSegment 9 (suc (n.filed.head 9)) s → ((b : BlockId) → slot_of b.ino.0 ≡ part → 0 < (said_of s b).ver → IsMove b n.sent s) → Happens part holds n (record n { filed = with_segment n.filed 9 s })
+  CleanerFiles : {n : Net} (s : Segment) → IsSegment 9 (suc (n.filed.head 9)) s
+      → ((b : BlockId) → slot_of b.ino.0 ≡ part → 0 < (said_of s b).ver → IsMove b n.sent s)
+      → Happens part holds n (record n { filed = with_segment n.filed 9 s })
   -- a slot gets Deltas, which tell what their log filed
-  GetsDeltas : {n : Net} (e : ℕ) (s : SlotState) (log : LogId) (first upto : ℕ) (rows : List (BlockId × Entry)) → n.slots e ≡ Some s → log.0 - 1 < length s.applied
-      → ((b : BlockId) → slot_of b.ino.0 ≡ part → DeltasTell b n.filed log.0 first upto rows) → Happens part holds n (with_slot n e (slot.transition s (Deltas log first upto rows)).state)
+  GetsDeltas : {n : Net} (e : ℕ) (s : SlotState) (log : LogId) (first upto : ℕ) (rows : List (BlockId × Entry)) → n.slots e ≡ Some s
+      → log.0 - 1 < length s.applied
+      → ((b : BlockId) → slot_of b.ino.0 ≡ part → DeltasTell b n.filed log.0 first upto rows)
+      → Happens part holds n (with_slot n e (slot.transition s (Deltas log first upto rows)).state)
   -- a slot gets what is of tokens
-  GetsOther : {n : Net} (e : ℕ) (s : SlotState) (i : slot_inputs.In) → n.slots e ≡ Some s → IsOfTokens i → Happens part holds n (with_slot n e (slot.transition s i).state)
+  GetsOther : {n : Net} (e : ℕ) (s : SlotState) (i : slot_inputs.In) → n.slots e ≡ Some s → IsOfTokens i
+      → Happens part holds n (with_slot n e (slot.transition s i).state)
   -- a slot answers a Check
   Answers : {n : Net} (e : ℕ) (s : SlotState) (number : ℕ) (b : BlockId) (place : Place) (d : ℕ) → n.slots e ≡ Some s → In (Checked number b place d) n.sent
       → Happens part holds n (record n { sent = answer_packets number b place.seg.name d e (slot.transition s (Check b place)).outs ++ n.sent })
   -- a manager plans a checkpoint, of the slot's pages and its horizon at this moment
-  Plans : {n : Net} (e : ℕ) (s : SlotState) (events : List Event) (horizon : List ℕ) → n.slots e ≡ Some s → (slot_after events).pages ≡ pages_of s.index → AllMayCome holds nothing_checkpointed events → IsNext s horizon
+  Plans : {n : Net} (e : ℕ) (s : SlotState) (events : List Event) (horizon : List ℕ) → n.slots e ≡ Some s → (slot_after events).pages ≡ pages_of s.index
+      → AllMayCome holds nothing_checkpointed events → IsNext s horizon
       → Happens part holds n (with_packet n (CheckpointPlanned e events horizon))
   -- from here on no page of the slot's index has changed
   Cleans : {n : Net} (e : ℕ) (s : SlotState) → n.slots e ≡ Some s → Happens part holds n (with_slot n e (slot.cleaned s))
   -- a manager has written what it had planned, into these segments
-  Checkpoints : {n : Net} (e : ℕ) (events : List Event) (horizon : List ℕ) (segments : List SegRef) → In (CheckpointPlanned e events horizon) n.sent → MayCome holds (slot_after events) (Written segments)
+  Checkpoints : {n : Net} (e : ℕ) (events : List Event) (horizon : List ℕ) (segments : List SegRef) → In (CheckpointPlanned e events horizon) n.sent
+      → MayCome holds (slot_after events) (Written segments)
       → Happens part holds n (with_packet n (CheckpointDone e horizon (after_event (slot_after events) (Written segments)).parts))
   -- the registry keeps a checkpoint of its epoch
-  Keeps : {n : Net} (horizon : List ℕ) (parts : List SegRef) → In (CheckpointDone n.epoch horizon parts) n.sent → ((l : ℕ) → 0 < l → l ≤ 9 → of_log (n.horizon n.epoch) l ≤ of_log horizon l)
-      → Happens part holds n (record n { horizon = λ e. if nat_lt e n.epoch then n.horizon e else horizon; parts = λ e. if nat_lt e n.epoch then n.parts e else parts })
+  Keeps : {n : Net} (horizon : List ℕ) (parts : List SegRef) → In (CheckpointDone n.epoch horizon parts) n.sent
+      → ((l : ℕ) → 0 < l → l ≤ 9 → of_log (n.horizon n.epoch) l ≤ of_log horizon l)
+      → Happens part holds n
+      (record n { horizon = λ e. if nat_lt e n.epoch then n.horizon e else horizon; parts = λ e. if nat_lt e n.epoch then n.parts e else parts })
   -- the registry gives the slot to another manager, or to another stay of it
   Moves : {n : Net} → Happens part holds n (record n { epoch = suc n.epoch })
   -- a manager becomes active at an epoch
-  Activates : {n : Net} (e : ℕ) (news : SlotNews) (groups : GroupMapState) (clients : ℕ) (inputs : List TakeoverIn) (input : TakeoverIn) (index : List (BlockId × Entry)) (beliefs : List (BlockId × ℕ × Mode)) (applied : List ℕ) → n.slots e ≡ None
+  Activates : {n : Net} (e : ℕ) (news : SlotNews) (groups : GroupMapState) (clients : ℕ) (inputs : List TakeoverIn) (input : TakeoverIn)
+      (index : List (BlockId × Entry)) (beliefs : List (BlockId × ℕ × Mode)) (applied : List ℕ) → n.slots e ≡ None
       → 0 < e → e ≤ n.epoch → Contains (takeover.transition (course_of news groups clients inputs).state input).outs (Active e index beliefs applied)
-      → HasRead part holds n e news (after_input (course_of news groups clients inputs) input) → Happens part holds n (with_slot n e (slot.started e index beliefs applied))
+      → HasRead part holds n e news (after_input (course_of news groups clients inputs) input)
+      → Happens part holds n (with_slot n e (slot.started e index beliefs applied))
   -- the cleaner promises an epoch while no job of it has promised one
   Promises : {n : Net} (e : ℕ) → n.promised ≤ e → promised_at n.job.promised part ≡ 0 → Happens part holds n (record n { promised = e })
   -- and by its job, from a Poll or news, or from the job's Welcome
   JobPromises : {n : Net} (e : ℕ) → n.promised ≤ promised_at (job.transition n.job (job_input.Promise part e)).state.promised part
-      → Happens part holds n (record (with_job n (job.transition n.job (job_input.Promise part e))) { promised = promised_at (job.transition n.job (job_input.Promise part e)).state.promised part })
-  JobWelcomed : {n : Net} (slots : List SlotNews) (groups : GroupMapState) → n.promised ≤ promised_at (job.transition n.job (job_input.Welcome slots groups)).state.promised part
-      → Happens part holds n (record (with_job n (job.transition n.job (job_input.Welcome slots groups))) { promised = promised_at (job.transition n.job (job_input.Welcome slots groups)).state.promised part })
+      → Happens part holds n
+      (record (with_job n (job.transition n.job (job_input.Promise part e)))
+      { promised = promised_at (job.transition n.job (job_input.Promise part e)).state.promised part })
+  JobWelcomed : {n : Net} (slots : List SlotNews) (groups : GroupMapState)
+      → n.promised ≤ promised_at (job.transition n.job (job_input.Welcome slots groups)).state.promised part
+      → Happens part holds n
+      (record (with_job n (job.transition n.job (job_input.Welcome slots groups)))
+      { promised = promised_at (job.transition n.job (job_input.Welcome slots groups)).state.promised part })
   -- the cleaner reports what it has promised, and the end of its log
   Reports : {n : Net} → Happens part holds n (with_packet n (CleanerReported n.promised (n.filed.head 9)))
   -- the cleaner begins a job
   JobBegins : {n : Net} (count : ℕ) → Happens part holds n (record n { job = job_state.started count; number = suc n.number })
   -- its job reads a segment
-  JobReads : {n : Net} (read : Option Segment) → ReadFor n.filed read n.job.phase → Happens part holds n (with_job n (job.transition n.job (job_input.Read read)))
+  JobReads : {n : Net} (read : Option Segment) → ReadFor n.filed read n.job.phase
+      → Happens part holds n (with_job n (job.transition n.job (job_input.Read read)))
   -- it sends a Check of a Block, whose place is that of its row, below a horizon of an epoch that is promised
-  Asks : {n : Net} (b : BlockId) (place : Place) (d : ℕ) → d ≤ promised_at n.job.promised part → IsWithin n.filed place.seg.name → place.seg.name.seq < of_log (n.horizon d) place.seg.name.log.0
-      → (is_filed_name n.filed place.seg.name ≡ true → (row_at n.filed b place.seg.name.log.0 place.seg.name.seq).place ≡ Some place) → Happens part holds n (with_packet n (Checked n.number b place d))
+  Asks : {n : Net} (b : BlockId) (place : Place) (d : ℕ) → d ≤ promised_at n.job.promised part → IsWithin n.filed place.seg.name
+      → place.seg.name.seq < of_log (n.horizon d) place.seg.name.log.0
+      → (is_filed_name n.filed place.seg.name ≡ true → (row_at n.filed b place.seg.name.log.0 place.seg.name.seq).place ≡ Some place)
+      → Happens part holds n (with_packet n (Checked n.number b place d))
   -- it hears a Dead of the segment in hand
-  JobHearsDead : {n : Net} (b : BlockId) (epoch : ℕ) (name : SegName) (d : ℕ) → In (AnsweredDead n.number b name d epoch) n.sent → IsInHand name n.job.phase → Happens part holds n (with_job n (job.transition n.job (job_input.Dead b epoch)))
+  JobHearsDead : {n : Net} (b : BlockId) (epoch : ℕ) (name : SegName) (d : ℕ) → In (AnsweredDead n.number b name d epoch) n.sent → IsInHand name n.job.phase
+      → Happens part holds n (with_job n (job.transition n.job (job_input.Dead b epoch)))
   -- it takes anything else
   JobTakes : {n : Net} (i : job_inputs.In) → IsOther part i → Happens part holds n (with_job n (job.transition n.job i))
 

@@ -23,24 +23,30 @@ pub record Moment (part : ℕ) (holds : SegRef → Rows) (n : Net) (b : BlockId)
 
 -- The index of each active slot, deposed or not, is the join of what it has applied.
 abbrev pub EachIndexIsTheJoin : Type 0
-EachIndexIsTheJoin = (part : ℕ) (holds : SegRef → Rows) (n : Net) (b : BlockId) (e : ℕ) (s : SlotState) → Moment part holds n b → n.slots e ≡ Some s → IsJoinOfApplied b n.filed s
+EachIndexIsTheJoin =
+    (part : ℕ) (holds : SegRef → Rows) (n : Net) (b : BlockId) (e : ℕ) (s : SlotState) → Moment part holds n b → n.slots e ≡ Some s
+    → IsJoinOfApplied b n.filed s
 
 -- Cleaning loses nothing: the newest row of a block isn't in a segment that was to be deleted.
 abbrev pub NewestIsNeverDeleted : Type 0
 NewestIsNeverDeleted =
-    (part : ℕ) (holds : SegRef → Rows) (n : Net) (b : BlockId) (name : SegName) → Moment part holds n b → In name n.deleted → is_filed_name n.filed name ≡ true → has_block b n.filed name ≡ true
+    (part : ℕ) (holds : SegRef → Rows) (n : Net) (b : BlockId) (name : SegName) → Moment part holds n b → In name n.deleted → is_filed_name n.filed name ≡ true
+    → has_block b n.filed name ≡ true
     → IsNewest b n.filed name.log.0 name.seq → ⊥
 
 -- And where the entry of the slot that reigns lies in such a segment, a newer version is filed: it will be told of it.
 abbrev pub ReigningIsOutdated : Type 0
 ReigningIsOutdated =
-    (part : ℕ) (holds : SegRef → Rows) (n : Net) (b : BlockId) (e : ℕ) (s : SlotState) (place : Place) → Moment part holds n b → n.slots e ≡ Some s → ((d : ℕ) (t : SlotState) → n.slots d ≡ Some t → d ≤ e) → (entry_at s b).place ≡ Some place
-    → In place.seg.name n.deleted → is_filed_name n.filed place.seg.name ≡ true → has_block b n.filed place.seg.name ≡ true → IsOutdated b n.filed (entry_at s b)
+    (part : ℕ) (holds : SegRef → Rows) (n : Net) (b : BlockId) (e : ℕ) (s : SlotState) (place : Place) → Moment part holds n b → n.slots e ≡ Some s
+    → ((d : ℕ) (t : SlotState) → n.slots d ≡ Some t → d ≤ e) → (entry_at s b).place ≡ Some place
+    → In place.seg.name n.deleted → is_filed_name n.filed place.seg.name ≡ true → has_block b n.filed place.seg.name ≡ true
+    → IsOutdated b n.filed (entry_at s b)
 
 -- A checkpoint is sent only at an epoch that has a manager.
 abbrev pub CheckpointsHaveManagers : Type 0
 CheckpointsHaveManagers =
-    (part : ℕ) (holds : SegRef → Rows) (n : Net) (b : BlockId) (e : ℕ) (horizon : List ℕ) (parts : List SegRef) → Moment part holds n b → In (CheckpointDone e horizon parts) n.sent → n.slots e ≡ None → ⊥
+    (part : ℕ) (holds : SegRef → Rows) (n : Net) (b : BlockId) (e : ℕ) (horizon : List ℕ) (parts : List SegRef) → Moment part holds n b
+    → In (CheckpointDone e horizon parts) n.sent → n.slots e ≡ None → ⊥
 
 -- A run that exists: a checkpoint of epoch 1 is kept, the slot moves, the cleaner promises and reports, a manager takes the slot over at epoch 2, a client
 -- files a version of the block, and the new manager is told of it.

@@ -55,4 +55,5 @@ Brings b f s Tick = Unit {0}
 -- Applied Deltas are merges: each input of a slot is taken by steps of its manager.
 abbrev pub AppliesAreMerges : Type 0
 AppliesAreMerges =
-    (b : BlockId) (f : Filed) (w : IndexState) (s : SlotState) (input : inputs.In) → IndexReached w → IsFiled f → Tells b f w → Manages b f w s → Brings b f s input → Runs b f w s.epoch (transition s input).state
+    (b : BlockId) (f : Filed) (w : IndexState) (s : SlotState) (input : inputs.In) → IndexReached w → IsFiled f → Tells b f w → Manages b f w s
+    → Brings b f s input → Runs b f w s.epoch (transition s input).state

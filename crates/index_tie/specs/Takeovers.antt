@@ -72,7 +72,8 @@ pub record MayBegin (w : IndexState) (epoch : ℕ) (reports : List Report) : Typ
 -- Takeovers are activations: when a takeover hands a slot out, the slot that starts with what it hands out is seen as the manager of the epoch.
 abbrev pub TakeoversAreActivations : Type 0
 TakeoversAreActivations =
-    (b : BlockId) (f : Filed) (w : IndexState) (news : SlotNews) (groups : GroupMapState) (clients : ℕ) (inputs : List In) (input : In) (epoch : ℕ) (index : List (BlockId × Entry)) (beliefs : List (BlockId × ℕ × Mode)) (applied : List ℕ)
+    (b : BlockId) (f : Filed) (w : IndexState) (news : SlotNews) (groups : GroupMapState) (clients : ℕ) (inputs : List In) (input : In) (epoch : ℕ)
+    (index : List (BlockId × Entry)) (beliefs : List (BlockId × ℕ × Mode)) (applied : List ℕ)
     → IndexReached w → IsFiled f → Tells b f w → slot_of b.ino.0 ≡ news.slot
     → Contains (transition (course_of news groups clients inputs).state input).outs (Active epoch index beliefs applied)
     → TakeoverTold b f w news (after_input (course_of news groups clients inputs) input)

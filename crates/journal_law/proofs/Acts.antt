@@ -27,20 +27,23 @@ use Rattle.journal_law.proofs.Lines.{act_line, line_is, line_lacks, wrote_words,
 
 -- ---- each of some words
 
-pub each_read : {A : Type 0} (P : A → Type 0) (text : A → List ℕ) (read : List ℕ → Result A Kind) → ((a : A) → P a → read (text a) ≡ Ok a) → (xs : List A) → AllByRecursion P xs → read_each read (map text xs) ≡ Ok xs
+pub each_read : {A : Type 0} (P : A → Type 0) (text : A → List ℕ) (read : List ℕ → Result A Kind) → ((a : A) → P a → read (text a) ≡ Ok a) → (xs : List A)
+    → AllByRecursion P xs → read_each read (map text xs) ≡ Ok xs
 each_read P text read h [] p = refl
 each_read P text read h (x ∷ xs) p =
     then_read (read (text x)) x (λ a. read_each read (map text xs) >>= λ more. Ok (a ∷ more)) (h x p.0)
     ∙ then_read (read_each read (map text xs)) xs (λ more. Ok (x ∷ more)) (each_read P text read h xs p.1)
 
-pub each_shape : {A : Type 0} (P : A → Type 0) (text : A → List ℕ) (is : List ℕ → Bool) → ((a : A) → P a → is (text a) ≡ true) → (xs : List A) → AllByRecursion P xs → list_all is (map text xs) ≡ true
+pub each_shape : {A : Type 0} (P : A → Type 0) (text : A → List ℕ) (is : List ℕ → Bool) → ((a : A) → P a → is (text a) ≡ true) → (xs : List A)
+    → AllByRecursion P xs → list_all is (map text xs) ≡ true
 each_shape P text is h [] p = refl
 each_shape P text is h (x ∷ xs) p = and_true (h x p.0) (each_shape P text is h xs p.1)
 
 -- ---- by words
 
 -- words of the form of a verb are read by it
-shaped : (verb : Verb) (ws all : List (List ℕ)) (act : Act) → shape_of all ≡ if_fits (Some verb) ws → fits verb ws ≡ true → act_by (Some verb) all ≡ Ok act → act_by (shape_of all) all ≡ Ok act
+shaped : (verb : Verb) (ws all : List (List ℕ)) (act : Act) → shape_of all ≡ if_fits (Some verb) ws → fits verb ws ≡ true → act_by (Some verb) all ≡ Ok act
+    → act_by (shape_of all) all ≡ Ok act
 shaped verb ws all act e f r = ap (λ s. act_by s all) (e ∙ fitting (fits verb ws) f) ∙ r
   where
     fitting : (t : Bool) → t ≡ true → if_fits (Some verb) ws ≡ Some verb
@@ -57,25 +60,34 @@ some_rest value = ap not (not_end 32 (value_text value))
 
 -- ---- act by act
 
-wrote_read : (client : ℕ) (block : BlockId) (value : Option (List ℕ)) → IsClient client → IsBlock block → IsContent value → read_act (act_line (acts.Wrote client block value)) ≡ Ok (acts.Wrote client block value)
+wrote_read : (client : ℕ) (block : BlockId) (value : Option (List ℕ)) → IsClient client → IsBlock block → IsContent value
+    → read_act (act_line (acts.Wrote client block value)) ≡ Ok (acts.Wrote client block value)
 wrote_read client block value c b v =
     let ws : List (List ℕ) = (99 ∷ decimal client) ∷ block_text block ∷ words (value_text value) in
     by_words (act_line (acts.Wrote client block value)) (codes "a" ∷ codes "wrote" ∷ ws) (acts.Wrote client block value) (wrote_words client block value)
     (shaped verbs.Wrote ws (codes "a" ∷ codes "wrote" ∷ ws) (acts.Wrote client block value) refl
     (and_true (numbered 99 client) (and_true (block_shape block) (some_rest value)))
-    (then_read (read_client (99 ∷ decimal client)) client (λ n. read_block (block_text block) >>= λ k. read_value (joined 32 (words (value_text value))) >>= λ x. Ok (acts.Wrote n k x)) (client_read client c)
-    ∙ then_read (read_block (block_text block)) block (λ k. read_value (joined 32 (words (value_text value))) >>= λ x. Ok (acts.Wrote client k x)) (block_read block b)
+    (then_read (read_client (99 ∷ decimal client)) client
+    (λ n. read_block (block_text block) >>= λ k. read_value (joined 32 (words (value_text value))) >>= λ x. Ok (acts.Wrote n k x)) (client_read client c)
+    ∙ then_read (read_block (block_text block)) block (λ k. read_value (joined 32 (words (value_text value))) >>= λ x. Ok (acts.Wrote client k x))
+    (block_read block b)
     ∙ then_read (read_value (joined 32 (words (value_text value)))) value (λ x. Ok (acts.Wrote client block x)) (rest_is_value value v)))
 
-read_read : (client : ℕ) (block : BlockId) (ver : ℕ) (value : Option (List ℕ)) → IsClient client → IsBlock block → IsVersion ver → IsContent value → read_act (act_line (acts.Read client block ver value)) ≡ Ok (acts.Read client block ver value)
+read_read : (client : ℕ) (block : BlockId) (ver : ℕ) (value : Option (List ℕ)) → IsClient client → IsBlock block → IsVersion ver → IsContent value
+    → read_act (act_line (acts.Read client block ver value)) ≡ Ok (acts.Read client block ver value)
 read_read client block ver value c b n v =
     let ws : List (List ℕ) = (99 ∷ decimal client) ∷ block_text block ∷ (118 ∷ decimal ver) ∷ words (value_text value) in
-    by_words (act_line (acts.Read client block ver value)) (codes "a" ∷ codes "read" ∷ ws) (acts.Read client block ver value) (read_words client block ver value)
+    by_words (act_line (acts.Read client block ver value)) (codes "a" ∷ codes "read" ∷ ws) (acts.Read client block ver value)
+    (read_words client block ver value)
     (shaped verbs.Read ws (codes "a" ∷ codes "read" ∷ ws) (acts.Read client block ver value) refl
     (and_true (numbered 99 client) (and_true (block_shape block) (and_true refl (some_rest value))))
-    (then_read (read_client (99 ∷ decimal client)) client (λ k. read_block (block_text block) >>= λ l. read_version (118 ∷ decimal ver) >>= λ m. read_value (joined 32 (words (value_text value))) >>= λ x. Ok (acts.Read k l m x)) (client_read client c)
-    ∙ then_read (read_block (block_text block)) block (λ l. read_version (118 ∷ decimal ver) >>= λ m. read_value (joined 32 (words (value_text value))) >>= λ x. Ok (acts.Read client l m x)) (block_read block b)
-    ∙ then_read (read_version (118 ∷ decimal ver)) ver (λ m. read_value (joined 32 (words (value_text value))) >>= λ x. Ok (acts.Read client block m x)) (version_read ver n)
+    (then_read (read_client (99 ∷ decimal client)) client
+    (λ k. read_block (block_text block) >>= λ l. read_version (118 ∷ decimal ver) >>= λ m. read_value (joined 32 (words (value_text value))) >>= λ x. Ok
+    (acts.Read k l m x)) (client_read client c)
+    ∙ then_read (read_block (block_text block)) block
+    (λ l. read_version (118 ∷ decimal ver) >>= λ m. read_value (joined 32 (words (value_text value))) >>= λ x. Ok (acts.Read client l m x)) (block_read block b)
+    ∙ then_read (read_version (118 ∷ decimal ver)) ver (λ m. read_value (joined 32 (words (value_text value))) >>= λ x. Ok (acts.Read client block m x))
+    (version_read ver n)
     ∙ then_read (read_value (joined 32 (words (value_text value)))) value (λ x. Ok (acts.Read client block ver x)) (rest_is_value value v)))
 
 synced_read : (client : ℕ) → IsClient client → read_act (act_line (acts.Synced client)) ≡ Ok (acts.Synced client)
@@ -85,24 +97,31 @@ synced_read client c =
     (shaped verbs.Synced ws (codes "a" ∷ codes "synced" ∷ ws) (acts.Synced client) refl (and_true (numbered 99 client) refl)
     (then_read (read_client (99 ∷ decimal client)) client (λ n. Ok (acts.Synced n)) (client_read client c)))
 
-fell_read : (client : ℕ) (flight : Option (ℕ × ℕ)) (falls : List Fall) → IsClient client → IsFlight flight → AllByRecursion IsFall falls → read_act (act_line (acts.Fell client flight falls)) ≡ Ok (acts.Fell client flight falls)
+fell_read : (client : ℕ) (flight : Option (ℕ × ℕ)) (falls : List Fall) → IsClient client → IsFlight flight → AllByRecursion IsFall falls
+    → read_act (act_line (acts.Fell client flight falls)) ≡ Ok (acts.Fell client flight falls)
 fell_read client flight falls c f a =
     let ws : List (List ℕ) = (99 ∷ decimal client) ∷ flight_text flight ∷ map fall_text falls in
     by_words (act_line (acts.Fell client flight falls)) (codes "a" ∷ codes "fell" ∷ ws) (acts.Fell client flight falls) (fell_words client flight falls)
     (shaped verbs.Fell ws (codes "a" ∷ codes "fell" ∷ ws) (acts.Fell client flight falls) refl
     (and_true (numbered 99 client) (and_true (flight_shape flight) (each_shape IsFall fall_text is_fall (λ x h. fall_shape x) falls a)))
-    (then_read (read_client (99 ∷ decimal client)) client (λ n. read_flight (flight_text flight) >>= λ l. read_each read_fall (map fall_text falls) >>= λ x. Ok (acts.Fell n l x)) (client_read client c)
-    ∙ then_read (read_flight (flight_text flight)) flight (λ l. read_each read_fall (map fall_text falls) >>= λ x. Ok (acts.Fell client l x)) (flight_read flight f)
-    ∙ then_read (read_each read_fall (map fall_text falls)) falls (λ x. Ok (acts.Fell client flight x)) (each_read IsFall fall_text read_fall fall_read falls a)))
+    (then_read (read_client (99 ∷ decimal client)) client
+    (λ n. read_flight (flight_text flight) >>= λ l. read_each read_fall (map fall_text falls) >>= λ x. Ok (acts.Fell n l x)) (client_read client c)
+    ∙ then_read (read_flight (flight_text flight)) flight (λ l. read_each read_fall (map fall_text falls) >>= λ x. Ok (acts.Fell client l x))
+    (flight_read flight f)
+    ∙ then_read (read_each read_fall (map fall_text falls)) falls (λ x. Ok (acts.Fell client flight x))
+    (each_read IsFall fall_text read_fall fall_read falls a)))
 
-back_read : (client : ℕ) (chain : List SegName) → IsClient client → AllByRecursion IsSegment chain → read_act (act_line (acts.Back client chain)) ≡ Ok (acts.Back client chain)
+back_read : (client : ℕ) (chain : List SegName) → IsClient client → AllByRecursion IsSegment chain
+    → read_act (act_line (acts.Back client chain)) ≡ Ok (acts.Back client chain)
 back_read client chain c a =
     let ws : List (List ℕ) = (99 ∷ decimal client) ∷ map segment_text chain in
     by_words (act_line (acts.Back client chain)) (codes "a" ∷ codes "back" ∷ ws) (acts.Back client chain) (back_words client chain)
     (shaped verbs.Back ws (codes "a" ∷ codes "back" ∷ ws) (acts.Back client chain) refl
     (and_true (numbered 99 client) (each_shape IsSegment segment_text is_segment segment_shape chain a))
-    (then_read (read_client (99 ∷ decimal client)) client (λ n. read_each read_segment (map segment_text chain) >>= λ x. Ok (acts.Back n x)) (client_read client c)
-    ∙ then_read (read_each read_segment (map segment_text chain)) chain (λ x. Ok (acts.Back client x)) (each_read IsSegment segment_text read_segment segment_read chain a)))
+    (then_read (read_client (99 ∷ decimal client)) client (λ n. read_each read_segment (map segment_text chain) >>= λ x. Ok (acts.Back n x))
+    (client_read client c)
+    ∙ then_read (read_each read_segment (map segment_text chain)) chain (λ x. Ok (acts.Back client x))
+    (each_read IsSegment segment_text read_segment segment_read chain a)))
 
 lost_read : (node : NodeId) (seg : SegName) → WritesLog node → IsSegment seg → read_act (act_line (acts.Lost node seg)) ≡ Ok (acts.Lost node seg)
 lost_read node seg w s =

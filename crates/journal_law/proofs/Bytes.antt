@@ -46,7 +46,8 @@ onto_digits (suc k) n acc a =
     let g : IsDigit (digit_glyph false (n % 10)) = glyph_digit (n % 10) (nat_lt (n % 10) 10) refl (omega arith) in
     at_last (n / 10 == 0) (g, a) (onto_digits k (n / 10) (digit_glyph false (n % 10) ∷ acc) (g, a))
   where
-    at_last : (t : Bool) → Digits (digit_glyph false (n % 10) ∷ acc) → Digits (digits_onto k 10 false (n / 10) (digit_glyph false (n % 10) ∷ acc)) → Digits (if t then digit_glyph false (n % 10) ∷ acc else digits_onto k 10 false (n / 10) (digit_glyph false (n % 10) ∷ acc))
+    at_last : (t : Bool) → Digits (digit_glyph false (n % 10) ∷ acc) → Digits (digits_onto k 10 false (n / 10) (digit_glyph false (n % 10) ∷ acc))
+        → Digits (if t then digit_glyph false (n % 10) ∷ acc else digits_onto k 10 false (n / 10) (digit_glyph false (n % 10) ∷ acc))
     at_last true p q = p
     at_last false p q = q
 
@@ -54,14 +55,16 @@ onto_long : (k n : ℕ) (acc : List ℕ) → length acc ≤ length (digits_onto 
 onto_long zero n acc = omega arith
 onto_long (suc k) n acc = at_last (n / 10 == 0) (onto_long k (n / 10) (digit_glyph false (n % 10) ∷ acc))
   where
-    at_last : (t : Bool) → length (digit_glyph false (n % 10) ∷ acc) ≤ length (digits_onto k 10 false (n / 10) (digit_glyph false (n % 10) ∷ acc)) → length acc ≤ length (if t then digit_glyph false (n % 10) ∷ acc else digits_onto k 10 false (n / 10) (digit_glyph false (n % 10) ∷ acc))
+    at_last : (t : Bool) → length (digit_glyph false (n % 10) ∷ acc) ≤ length (digits_onto k 10 false (n / 10) (digit_glyph false (n % 10) ∷ acc))
+        → length acc ≤ length (if t then digit_glyph false (n % 10) ∷ acc else digits_onto k 10 false (n / 10) (digit_glyph false (n % 10) ∷ acc))
     at_last true h = omega arith
     at_last false h = omega (arith, h)
 
 onto_some : (k n : ℕ) → 0 < length (digits_onto (suc k) 10 false n [])
 onto_some k n = at_last (n / 10 == 0) (onto_long k (n / 10) (digit_glyph false (n % 10) ∷ []))
   where
-    at_last : (t : Bool) → length (digit_glyph false (n % 10) ∷ []) ≤ length (digits_onto k 10 false (n / 10) (digit_glyph false (n % 10) ∷ [])) → 0 < length (if t then digit_glyph false (n % 10) ∷ [] else digits_onto k 10 false (n / 10) (digit_glyph false (n % 10) ∷ []))
+    at_last : (t : Bool) → length (digit_glyph false (n % 10) ∷ []) ≤ length (digits_onto k 10 false (n / 10) (digit_glyph false (n % 10) ∷ []))
+        → 0 < length (if t then digit_glyph false (n % 10) ∷ [] else digits_onto k 10 false (n / 10) (digit_glyph false (n % 10) ∷ []))
     at_last true h = omega arith
     at_last false h = omega (arith, h)
 
@@ -167,5 +170,6 @@ count_cut m [] r h = at_test (m == m) (same m)
     at_test t e = rw e (omega arith)
 count_cut m (b ∷ a) r h = at_test (b == m) (ne_eqb b m h.0) (count_cut m a r h.1)
   where
-    at_test : (t : Bool) → t ≡ false → count_of m (a ++ m ∷ r) ≡ count_of m r + 1 → length (cond t (b ∷ filter (λ x. x == m) (a ++ m ∷ r)) (filter (λ x. x == m) (a ++ m ∷ r))) ≡ count_of m r + 1
+    at_test : (t : Bool) → t ≡ false → count_of m (a ++ m ∷ r) ≡ count_of m r + 1
+        → length (cond t (b ∷ filter (λ x. x == m) (a ++ m ∷ r)) (filter (λ x. x == m) (a ++ m ∷ r))) ≡ count_of m r + 1
     at_test t e f = rw e f

@@ -63,11 +63,13 @@ good o = Ok o
 at_skipped : (line : List ℕ) (t : Bool) → t ≡ true → (if t then good None else read_act line >>= λ act. good (Some act)) ≡ good None
 at_skipped line t e = rw e refl
 
-at_loud : (line : List ℕ) (t : Bool) (act : Act) → t ≡ false → (read_act line >>= λ a. good (Some a)) ≡ good (Some act) → (if t then good None else read_act line >>= λ a. good (Some a)) ≡ good (Some act)
+at_loud : (line : List ℕ) (t : Bool) (act : Act) → t ≡ false → (read_act line >>= λ a. good (Some a)) ≡ good (Some act)
+    → (if t then good None else read_act line >>= λ a. good (Some a)) ≡ good (Some act)
 at_loud line t act e f = rw e f
 
 said_entry : (e : Entry) → IsEntry e → said (entry_line e) ≡ good (act_in e)
-said_entry (Tells act) h = at_loud (act_line act) (is_skipped (act_line act)) act (loud act h) (then_read (read_act (act_line act)) act (λ a. good (Some a)) (line_read act h))
+said_entry (Tells act) h =
+    at_loud (act_line act) (is_skipped (act_line act)) act (loud act h) (then_read (read_act (act_line act)) act (λ a. good (Some a)) (line_read act h))
 said_entry (Other line) h = at_skipped line (is_skipped line) h.1
 
 -- ---- line by line
@@ -98,7 +100,8 @@ with_one n j (Tells act) es =
     λ i. record { acts = append_assoc j.acts (act ∷ []) (acts_in es) i; lines = append_assoc j.lines (n ∷ []) (numbers_from (n + 1) es) i }
 with_one n j (Other line) es = refl
 
-entries_read : (total place n : ℕ) (es : List Entry) (j : Journal) → total ≤ 1048576 → AllByRecursion IsEntry es → journal_from total place n (map entry_line es) j ≡ is_read (with_entries n j es)
+entries_read : (total place n : ℕ) (es : List Entry) (j : Journal) → total ≤ 1048576 → AllByRecursion IsEntry es
+    → journal_from total place n (map entry_line es) j ≡ is_read (with_entries n j es)
 entries_read total place n [] j t a = ap is_read (with_none n j)
 entries_read total place n (e ∷ es) j t a =
     let end = place + (length (entry_line e) + 1) in
@@ -128,7 +131,8 @@ some_act a = Some a
 abbrev some_number : ℕ → Option ℕ
 some_number n = Some n
 
-stands_first : (a act : Act) (n number : ℕ) (es : List Entry) → IsTold a → some_act a ≡ Some act → some_number n ≡ Some number → Stands n number (Tells a ∷ es) act
+stands_first : (a act : Act) (n number : ℕ) (es : List Entry) → IsTold a → some_act a ≡ Some act → some_number n ≡ Some number
+    → Stands n number (Tells a ∷ es) act
 stands_first a act n number es h e f =
     let p : a ≡ act = cc in
     let q : n ≡ number = cc in
@@ -148,18 +152,21 @@ stands_behind e es n number act s =
 none_some : {A : Type 0} (x : A) → None ≡ Some x → ⊥
 none_some x e = cc
 
-stands : (es : List Entry) (n place number : ℕ) (act : Act) → AllByRecursion IsEntry es → slice_get (acts_in es) place ≡ Some act → slice_get (numbers_from n es) place ≡ Some number → Stands n number es act
+stands : (es : List Entry) (n place number : ℕ) (act : Act) → AllByRecursion IsEntry es → slice_get (acts_in es) place ≡ Some act
+    → slice_get (numbers_from n es) place ≡ Some number → Stands n number es act
 stands [] n place number act a e f = absurd (none_some act e)
 stands (Tells b ∷ es) n zero number act a e f = stands_first b act n number es a.0 e f
 stands (Tells b ∷ es) n (suc p) number act a e f = stands_behind (Tells b) es n number act (stands es (n + 1) p number act a.1 e f)
 stands (Other l ∷ es) n place number act a e f = stands_behind (Other l) es n number act (stands es (n + 1) place number act a.1 e f)
 
-on_line : (es : List Entry) (place number : ℕ) (act : Act) → AllByRecursion IsEntry es → slice_get (acts_in es) place ≡ Some act → slice_get (numbers_from 1 es) place ≡ Some number → IsOnLine (journal_text es) number act
+on_line : (es : List Entry) (place number : ℕ) (act : Act) → AllByRecursion IsEntry es → slice_get (acts_in es) place ≡ Some act
+    → slice_get (numbers_from 1 es) place ≡ Some number → IsOnLine (journal_text es) number act
 on_line es place number act a e f =
     let s = stands es 1 place number act a e f in
     (act_line act, ap (λ ls. slice_get ls (number - 1)) (lines_of es a) ∙ s.line, line_is act s.told)
 
-says_judges : (es : List Entry) (verdict : Verdict) → AllByRecursion IsEntry es → Says (journal_of es) verdict → JudgesByLine (journal_text es) (acts_in es) verdict
+says_judges : (es : List Entry) (verdict : Verdict) → AllByRecursion IsEntry es → Says (journal_of es) verdict
+    → JudgesByLine (journal_text es) (acts_in es) verdict
 says_judges es (Legal count) a s = s
 says_judges es (Illegal number) a s = (s.0, (s.0, refl, s.1), λ act e. on_line es s.0 number act a e s.2)
 

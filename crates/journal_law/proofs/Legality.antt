@@ -36,7 +36,8 @@ answer_after (acts.Lost node seg) h e = absurd (grind (arith, e))
 answer_after (acts.Filed seg) h e = absurd (grind (arith, e))
 answer_after (acts.Dropped seg) h e = absurd (grind (arith, e))
 
-one_from : (a : Act) (deeds : List Act) (h : History) (t : Bool) → is_answer a ≡ t → ((k : History) → AreLegalFrom k (told deeds) → AreLegalFrom k deeds) → AreLegalFrom h (cond (not t) (a ∷ told deeds) (told deeds)) → AreLegalFrom h (a ∷ deeds)
+one_from : (a : Act) (deeds : List Act) (h : History) (t : Bool) → is_answer a ≡ t → ((k : History) → AreLegalFrom k (told deeds) → AreLegalFrom k deeds)
+    → AreLegalFrom h (cond (not t) (a ∷ told deeds) (told deeds)) → AreLegalFrom h (a ∷ deeds)
 one_from a deeds h true e f l = (answer_legal a h e, subst (λ k. AreLegalFrom k deeds) (sym (answer_after a h e)) (f h l))
 one_from a deeds h false e f l = (l.0, f (after_act a h) l.1)
 
@@ -44,7 +45,8 @@ told_legal : (deeds : List Act) (h : History) → AreLegalFrom h (told deeds) �
 told_legal [] h l = tt
 told_legal (a ∷ deeds) h l = one_from a deeds h (is_answer a) refl (λ k m. told_legal deeds k m) l
 
-one_to : (a : Act) (deeds : List Act) (h : History) (t : Bool) → is_answer a ≡ t → ((k : History) → AreLegalFrom k deeds → AreLegalFrom k (told deeds)) → AreLegalFrom h (a ∷ deeds) → AreLegalFrom h (cond (not t) (a ∷ told deeds) (told deeds))
+one_to : (a : Act) (deeds : List Act) (h : History) (t : Bool) → is_answer a ≡ t → ((k : History) → AreLegalFrom k deeds → AreLegalFrom k (told deeds))
+    → AreLegalFrom h (a ∷ deeds) → AreLegalFrom h (cond (not t) (a ∷ told deeds) (told deeds))
 one_to a deeds h true e f l = f h (subst (λ k. AreLegalFrom k deeds) (answer_after a h e) l.1)
 one_to a deeds h false e f l = (l.0, f (after_act a h) l.1)
 
@@ -59,7 +61,8 @@ same_act : (a b : Act) → Some a ≡ Some b → a ≡ b
 same_act a b e = cc
 
 -- where all are legal the one at a place is
-legal_at : (deeds : List Act) (h : History) (place : ℕ) (act : Act) → AreLegalFrom h deeds → slice_get deeds place ≡ Some act → IsLegalIn act (history_after (take place deeds) h)
+legal_at : (deeds : List Act) (h : History) (place : ℕ) (act : Act) → AreLegalFrom h deeds → slice_get deeds place ≡ Some act
+    → IsLegalIn act (history_after (take place deeds) h)
 legal_at [] h place act l e = absurd (none_some act e)
 legal_at (a ∷ deeds) h zero act l e = subst (λ x. IsLegalIn x h) (same_act a act e) l.0
 legal_at (a ∷ deeds) h (suc place) act l e = legal_at deeds (after_act a h) place act l.1 e

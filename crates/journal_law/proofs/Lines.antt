@@ -83,7 +83,8 @@ spaced_words w (v ∷ vs) p ps = parted_cut 32 w (v ++ spaced vs) (no_space w p)
 
 abbrev pub act_line : Act → List ℕ
 act_line (acts.Wrote client block value) = codes "a wrote " ++ (99 ∷ decimal client) ++ 32 ∷ (block_text block ++ 32 ∷ value_text value)
-act_line (acts.Read client block ver value) = codes "a read " ++ (99 ∷ decimal client) ++ 32 ∷ (block_text block ++ 32 ∷ ((118 ∷ decimal ver) ++ 32 ∷ value_text value))
+act_line (acts.Read client block ver value) =
+    codes "a read " ++ (99 ∷ decimal client) ++ 32 ∷ (block_text block ++ 32 ∷ ((118 ∷ decimal ver) ++ 32 ∷ value_text value))
 act_line (acts.Synced client) = codes "a synced " ++ (99 ∷ decimal client)
 act_line (acts.Fell client flight falls) = codes "a fell " ++ (99 ∷ decimal client) ++ 32 ∷ (flight_text flight ++ falls_text falls)
 act_line (acts.Back client chain) = codes "a back " ++ (99 ∷ decimal client) ++ chain_text chain
@@ -110,13 +111,16 @@ line_is (acts.Answered node item answer) h = absurd h
 
 -- their words
 
-pub wrote_words : (client : ℕ) (block : BlockId) (value : Option (List ℕ)) → words (act_line (acts.Wrote client block value)) ≡ codes "a" ∷ codes "wrote" ∷ (99 ∷ decimal client) ∷ block_text block ∷ words (value_text value)
+pub wrote_words : (client : ℕ) (block : BlockId) (value : Option (List ℕ))
+    → words (act_line (acts.Wrote client block value)) ≡ codes "a" ∷ codes "wrote" ∷ (99 ∷ decimal client) ∷ block_text block ∷ words (value_text value)
 wrote_words client block value =
     ap (λ ws. codes "a" ∷ codes "wrote" ∷ ws)
     (parted_cut 32 (99 ∷ decimal client) (block_text block ++ 32 ∷ value_text value) (no_space (99 ∷ decimal client) (client_plain client))
     ∙ ap (λ ws. (99 ∷ decimal client) ∷ ws) (parted_cut 32 (block_text block) (value_text value) (no_space (block_text block) (block_plain block))))
 
-pub read_words : (client : ℕ) (block : BlockId) (ver : ℕ) (value : Option (List ℕ)) → words (act_line (acts.Read client block ver value)) ≡ codes "a" ∷ codes "read" ∷ (99 ∷ decimal client) ∷ block_text block ∷ (118 ∷ decimal ver) ∷ words (value_text value)
+pub read_words : (client : ℕ) (block : BlockId) (ver : ℕ) (value : Option (List ℕ))
+    → words (act_line (acts.Read client block ver value)) ≡ codes "a" ∷ codes "read" ∷ (99 ∷ decimal client) ∷ block_text block ∷ (118 ∷ decimal ver) ∷ words
+    (value_text value)
 read_words client block ver value =
     let v : List ℕ = 118 ∷ decimal ver in
     ap (λ ws. codes "a" ∷ codes "read" ∷ ws)
@@ -128,13 +132,16 @@ read_words client block ver value =
 pub synced_words : (client : ℕ) → words (act_line (acts.Synced client)) ≡ codes "a" ∷ codes "synced" ∷ (99 ∷ decimal client) ∷ []
 synced_words client = ap (λ ws. codes "a" ∷ codes "synced" ∷ ws) (parted_whole 32 (99 ∷ decimal client) (no_space (99 ∷ decimal client) (client_plain client)))
 
-pub fell_words : (client : ℕ) (flight : Option (ℕ × ℕ)) (falls : List Fall) → words (act_line (acts.Fell client flight falls)) ≡ codes "a" ∷ codes "fell" ∷ (99 ∷ decimal client) ∷ flight_text flight ∷ map fall_text falls
+pub fell_words : (client : ℕ) (flight : Option (ℕ × ℕ)) (falls : List Fall)
+    → words (act_line (acts.Fell client flight falls)) ≡ codes "a" ∷ codes "fell" ∷ (99 ∷ decimal client) ∷ flight_text flight ∷ map fall_text falls
 fell_words client flight falls =
     ap (λ ws. codes "a" ∷ codes "fell" ∷ ws)
     (ap (λ x. words ((99 ∷ decimal client) ++ 32 ∷ (flight_text flight ++ x))) (falls_spaced falls)
-    ∙ spaced_words (99 ∷ decimal client) (flight_text flight ∷ map fall_text falls) (client_plain client) (flight_plain flight, all_plain fall_text fall_plain falls))
+    ∙ spaced_words (99 ∷ decimal client) (flight_text flight ∷ map fall_text falls) (client_plain client)
+    (flight_plain flight, all_plain fall_text fall_plain falls))
 
-pub back_words : (client : ℕ) (chain : List SegName) → words (act_line (acts.Back client chain)) ≡ codes "a" ∷ codes "back" ∷ (99 ∷ decimal client) ∷ map segment_text chain
+pub back_words : (client : ℕ) (chain : List SegName)
+    → words (act_line (acts.Back client chain)) ≡ codes "a" ∷ codes "back" ∷ (99 ∷ decimal client) ∷ map segment_text chain
 back_words client chain =
     ap (λ ws. codes "a" ∷ codes "back" ∷ ws)
     (ap (λ x. words ((99 ∷ decimal client) ++ x)) (chain_spaced chain)
@@ -166,11 +173,13 @@ value_lacks (Some bytes) = text_lacks bytes
 
 falls_lack : (falls : List Fall) → Lacks 10 (falls_text falls)
 falls_lack [] = tt
-falls_lack (f ∷ fs) = behind_space (fall_text f ++ falls_text fs) (join_lacks (fall_text f) (falls_text fs) (no_feed (fall_text f) (fall_plain f)) (falls_lack fs))
+falls_lack (f ∷ fs) =
+    behind_space (fall_text f ++ falls_text fs) (join_lacks (fall_text f) (falls_text fs) (no_feed (fall_text f) (fall_plain f)) (falls_lack fs))
 
 chain_lacks : (chain : List SegName) → Lacks 10 (chain_text chain)
 chain_lacks [] = tt
-chain_lacks (s ∷ ss) = behind_space (segment_text s ++ chain_text ss) (join_lacks (segment_text s) (chain_text ss) (no_feed (segment_text s) (segment_plain s)) (chain_lacks ss))
+chain_lacks (s ∷ ss) =
+    behind_space (segment_text s ++ chain_text ss) (join_lacks (segment_text s) (chain_text ss) (no_feed (segment_text s) (segment_plain s)) (chain_lacks ss))
 
 client_lacks : (client : ℕ) → Lacks 10 (99 ∷ decimal client)
 client_lacks client = no_feed (99 ∷ decimal client) (client_plain client)
@@ -180,25 +189,31 @@ line_lacks (acts.Wrote client block value) =
     join_lacks (codes "a wrote ") ((99 ∷ decimal client) ++ 32 ∷ (block_text block ++ 32 ∷ value_text value)) (lacks_test 10 (codes "a wrote ") refl)
     (join_lacks (99 ∷ decimal client) (32 ∷ (block_text block ++ 32 ∷ value_text value)) (client_lacks client)
     (behind_space (block_text block ++ 32 ∷ value_text value)
-    (join_lacks (block_text block) (32 ∷ value_text value) (no_feed (block_text block) (block_plain block)) (behind_space (value_text value) (value_lacks value)))))
+    (join_lacks (block_text block) (32 ∷ value_text value) (no_feed (block_text block) (block_plain block))
+    (behind_space (value_text value) (value_lacks value)))))
 line_lacks (acts.Read client block ver value) =
     let v : List ℕ = 118 ∷ decimal ver in
     join_lacks (codes "a read ") ((99 ∷ decimal client) ++ 32 ∷ (block_text block ++ 32 ∷ (v ++ 32 ∷ value_text value))) (lacks_test 10 (codes "a read ") refl)
     (join_lacks (99 ∷ decimal client) (32 ∷ (block_text block ++ 32 ∷ (v ++ 32 ∷ value_text value))) (client_lacks client)
     (behind_space (block_text block ++ 32 ∷ (v ++ 32 ∷ value_text value))
     (join_lacks (block_text block) (32 ∷ (v ++ 32 ∷ value_text value)) (no_feed (block_text block) (block_plain block))
-    (behind_space (v ++ 32 ∷ value_text value) (join_lacks v (32 ∷ value_text value) (no_feed v (version_plain ver)) (behind_space (value_text value) (value_lacks value)))))))
+    (behind_space (v ++ 32 ∷ value_text value)
+    (join_lacks v (32 ∷ value_text value) (no_feed v (version_plain ver)) (behind_space (value_text value) (value_lacks value)))))))
 line_lacks (acts.Synced client) = join_lacks (codes "a synced ") (99 ∷ decimal client) (lacks_test 10 (codes "a synced ") refl) (client_lacks client)
 line_lacks (acts.Fell client flight falls) =
     join_lacks (codes "a fell ") ((99 ∷ decimal client) ++ 32 ∷ (flight_text flight ++ falls_text falls)) (lacks_test 10 (codes "a fell ") refl)
     (join_lacks (99 ∷ decimal client) (32 ∷ (flight_text flight ++ falls_text falls)) (client_lacks client)
-    (behind_space (flight_text flight ++ falls_text falls) (join_lacks (flight_text flight) (falls_text falls) (no_feed (flight_text flight) (flight_plain flight)) (falls_lack falls))))
+    (behind_space (flight_text flight ++ falls_text falls)
+    (join_lacks (flight_text flight) (falls_text falls) (no_feed (flight_text flight) (flight_plain flight)) (falls_lack falls))))
 line_lacks (acts.Back client chain) =
     join_lacks (codes "a back ") ((99 ∷ decimal client) ++ chain_text chain) (lacks_test 10 (codes "a back ") refl)
     (join_lacks (99 ∷ decimal client) (chain_text chain) (client_lacks client) (chain_lacks chain))
 line_lacks (acts.Lost node seg) =
     join_lacks (codes "a lost ") (node_text node ++ 32 ∷ segment_text seg) (lacks_test 10 (codes "a lost ") refl)
-    (join_lacks (node_text node) (32 ∷ segment_text seg) (no_feed (node_text node) (node_plain node)) (behind_space (segment_text seg) (no_feed (segment_text seg) (segment_plain seg))))
-line_lacks (acts.Filed seg) = join_lacks (codes "a filed ") (segment_text seg) (lacks_test 10 (codes "a filed ") refl) (no_feed (segment_text seg) (segment_plain seg))
-line_lacks (acts.Dropped seg) = join_lacks (codes "a dropped ") (segment_text seg) (lacks_test 10 (codes "a dropped ") refl) (no_feed (segment_text seg) (segment_plain seg))
+    (join_lacks (node_text node) (32 ∷ segment_text seg) (no_feed (node_text node) (node_plain node))
+    (behind_space (segment_text seg) (no_feed (segment_text seg) (segment_plain seg))))
+line_lacks (acts.Filed seg) =
+    join_lacks (codes "a filed ") (segment_text seg) (lacks_test 10 (codes "a filed ") refl) (no_feed (segment_text seg) (segment_plain seg))
+line_lacks (acts.Dropped seg) =
+    join_lacks (codes "a dropped ") (segment_text seg) (lacks_test 10 (codes "a dropped ") refl) (no_feed (segment_text seg) (segment_plain seg))
 line_lacks (acts.Answered node item answer) = tt

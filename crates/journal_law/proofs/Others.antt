@@ -95,7 +95,9 @@ block_is w b e =
     let s : record { ino = record { 0 = i.0 }; blk = k.0 } ≡ b = same_ok _ b k.2 in
     subst IsBlock s (record { ino = number_small (front 47 w) i.0 i.1; blk = number_small (back 47 w) k.0 k.1 })
 
-writer_at : (w : List ℕ) (node : NodeId) (t u : Bool) → (if t then good nodes.Cleaner else if u then (read_client w >>= λ n. good (nodes.Client n)) else (read_node 4 w >>= λ n. good (nodes.Manager n))) ≡ Ok node → WritesLog node
+writer_at : (w : List ℕ) (node : NodeId) (t u : Bool)
+    → (if t then good nodes.Cleaner else if u then (read_client w >>= λ n. good (nodes.Client n)) else (read_node 4 w >>= λ n. good (nodes.Manager n)))
+    ≡ Ok node → WritesLog node
 writer_at w node true u e = subst WritesLog (same_ok nodes.Cleaner node e) tt
 writer_at w node false true e =
     let r = read_first (read_client w) (λ n. good (nodes.Client n)) node e in
@@ -114,7 +116,8 @@ log_is (nodes.Server n) h = absurd h
 log_is nodes.Cleaner h = (omega arith, omega arith)
 log_is nodes.Registry h = absurd h
 
-segment_of : (node : NodeId) (seq inc att : ℕ) (seg : SegName) → WritesLog node → IsCount seq → IsCount inc → IsCount att → good (segment_at node seq inc att) ≡ good seg → IsSegment seg
+segment_of : (node : NodeId) (seq inc att : ℕ) (seg : SegName) → WritesLog node → IsCount seq → IsCount inc → IsCount att
+    → good (segment_at node seq inc att) ≡ good seg → IsSegment seg
 segment_of node seq inc att seg w s i t e =
     let l = log_is node w in
     subst IsSegment (same_ok (segment_at node seq inc att) seg e) (record { written = l.0; log = l.1; seq = s; inc = i; att = t })
@@ -124,13 +127,15 @@ segment_is w seg e =
     let a = front 46 (back 46 w) in
     let b = front 46 (back 46 (back 46 w)) in
     let c = back 46 (back 46 (back 46 w)) in
-    let n = read_first (read_writer (front 46 w)) (λ node. read_counted a >>= λ seq. read_counted b >>= λ inc. read_counted c >>= λ att. good (segment_at node seq inc att)) seg e in
+    let n = read_first (read_writer (front 46 w))
+    (λ node. read_counted a >>= λ seq. read_counted b >>= λ inc. read_counted c >>= λ att. good (segment_at node seq inc att)) seg e in
     let s = read_first (read_counted a) (λ seq. read_counted b >>= λ inc. read_counted c >>= λ att. good (segment_at n.0 seq inc att)) seg n.2 in
     let i = read_first (read_counted b) (λ inc. read_counted c >>= λ att. good (segment_at n.0 s.0 inc att)) seg s.2 in
     let t = read_first (read_counted c) (λ att. good (segment_at n.0 s.0 i.0 att)) seg i.2 in
     segment_of n.0 s.0 i.0 t.0 seg (writer_is (front 46 w) n.0 n.1) (counted_is a s.0 s.1) (counted_is b i.0 i.1) (counted_is c t.0 t.1) t.2
 
-flight_at : (w : List ℕ) (flight : Option (ℕ × ℕ)) (t : Bool) → (if t then good None else (read_counted (front 46 w) >>= λ seq. read_counted (back 46 w) >>= λ inc. good (Some (seq, inc)))) ≡ Ok flight → IsFlight flight
+flight_at : (w : List ℕ) (flight : Option (ℕ × ℕ)) (t : Bool)
+    → (if t then good None else (read_counted (front 46 w) >>= λ seq. read_counted (back 46 w) >>= λ inc. good (Some (seq, inc)))) ≡ Ok flight → IsFlight flight
 flight_at w flight true e = subst IsFlight (same_ok None flight e) tt
 flight_at w flight false e =
     let s = read_first (read_counted (front 46 w)) (λ seq. read_counted (back 46 w) >>= λ inc. good (Some (seq, inc))) flight e in
@@ -140,14 +145,16 @@ flight_at w flight false e =
 flight_is : (w : List ℕ) (flight : Option (ℕ × ℕ)) → read_flight w ≡ Ok flight → IsFlight flight
 flight_is w flight e = flight_at w flight (bytes_eq w (codes "none")) e
 
-fall_of : (block : BlockId) (low high : ℕ) (f : Fall) → IsBlock block → IsVersion low → IsVersion high → good (record { block = block; low = low; high = high }) ≡ good f → IsFall f
+fall_of : (block : BlockId) (low high : ℕ) (f : Fall) → IsBlock block → IsVersion low → IsVersion high
+    → good (record { block = block; low = low; high = high }) ≡ good f → IsFall f
 fall_of block low high f b l h e = subst IsFall (same_ok (record { block = block; low = low; high = high }) f e) (record { block = b; low = l; high = h })
 
 fall_is : (w : List ℕ) (f : Fall) → read_fall w ≡ Ok f → IsFall f
 fall_is w f e =
     let a = front 58 (back 58 w) in
     let c = back 58 (back 58 w) in
-    let b = read_first (read_block (front 58 w)) (λ block. read_long a >>= λ low. read_long c >>= λ high. good (record { block = block; low = low; high = high })) f e in
+    let b = read_first (read_block (front 58 w))
+    (λ block. read_long a >>= λ low. read_long c >>= λ high. good (record { block = block; low = low; high = high })) f e in
     let l = read_first (read_long a) (λ low. read_long c >>= λ high. good (record { block = b.0; low = low; high = high })) f b.2 in
     let h = read_first (read_long c) (λ high. good (record { block = b.0; low = l.0; high = high })) f l.2 in
     fall_of b.0 l.0 h.0 f (block_is (front 58 w) b.0 b.1) (long_small a l.0 l.1) (long_small c h.0 h.1) h.2
@@ -161,7 +168,8 @@ few (b ∷ bytes) value e = at_length (nat_le (length (b ∷ bytes)) 8192) refl 
     small : (n : ℕ) → nat_le n 8192 ≡ true → n ≤ 8192
     small n f = grind (arith, nat_tests, f)
 
-    at_length : (t : Bool) → nat_le (length (b ∷ bytes)) 8192 ≡ t → (if t then good (Some (b ∷ bytes)) else Err TooLong) ≡ Ok value → (1 ≤ length (b ∷ bytes)) × (length (b ∷ bytes) ≤ 8192) × (Some (b ∷ bytes) ≡ value)
+    at_length : (t : Bool) → nat_le (length (b ∷ bytes)) 8192 ≡ t → (if t then good (Some (b ∷ bytes)) else Err TooLong) ≡ Ok value
+        → (1 ≤ length (b ∷ bytes)) × (length (b ∷ bytes) ≤ 8192) × (Some (b ∷ bytes) ≡ value)
     at_length true f g = (omega arith, small (length (b ∷ bytes)) f, same_ok (Some (b ∷ bytes)) value g)
     at_length false f g = absurd (err_ok TooLong value g)
 
@@ -173,7 +181,8 @@ quoted_bytes (b ∷ w) text e = at_quote (b == 34) e
     at_quote true f = let r = quoted_read w text f in spelled_bytes (34 ∷ w) text (inl (r.0, r.1, r.2))
     at_quote false f = absurd (grind (arith, f))
 
-value_at : (w : List ℕ) (value : Option (List ℕ)) (t : Bool) → (if t then good None else (or_fault BadText (quoted_text w) >>= value_of)) ≡ Ok value → IsContent value
+value_at : (w : List ℕ) (value : Option (List ℕ)) (t : Bool) → (if t then good None else (or_fault BadText (quoted_text w) >>= value_of)) ≡ Ok value
+    → IsContent value
 value_at w value true e = subst IsContent (same_ok None value e) (record { fits = tt; bytes = tt })
 value_at w value false e =
     let r = read_first (or_fault BadText (quoted_text w)) value_of value e in
@@ -186,7 +195,8 @@ value_is w value e = value_at w value (bytes_eq w (codes "absent")) e
 
 -- ---- each of some words
 
-each_is : {A : Type 0} (P : A → Type 0) (read : List ℕ → Result A Kind) → ((w : List ℕ) (a : A) → read w ≡ Ok a → P a) → (ws : List (List ℕ)) (xs : List A) → read_each read ws ≡ Ok xs → AllByRecursion P xs
+each_is : {A : Type 0} (P : A → Type 0) (read : List ℕ → Result A Kind) → ((w : List ℕ) (a : A) → read w ≡ Ok a → P a) → (ws : List (List ℕ)) (xs : List A)
+    → read_each read ws ≡ Ok xs → AllByRecursion P xs
 each_is P read h [] xs e = subst (AllByRecursion P) (same_ok [] xs e) tt
 each_is P read h (w ∷ ws) xs e =
     let a = read_first (read w) (λ x. read_each read ws >>= λ more. good (x ∷ more)) xs e in
@@ -195,10 +205,12 @@ each_is P read h (w ∷ ws) xs e =
 
 -- ---- acts
 
-wrote_of : (client : ℕ) (block : BlockId) (value : Option (List ℕ)) (act : Act) → IsClient client → IsBlock block → IsContent value → good (acts.Wrote client block value) ≡ good act → IsTold act
+wrote_of : (client : ℕ) (block : BlockId) (value : Option (List ℕ)) (act : Act) → IsClient client → IsBlock block → IsContent value
+    → good (acts.Wrote client block value) ≡ good act → IsTold act
 wrote_of client block value act c b v e = subst IsTold (same_ok (acts.Wrote client block value) act e) (c, b, v)
 
-read_of : (client : ℕ) (block : BlockId) (ver : ℕ) (value : Option (List ℕ)) (act : Act) → IsClient client → IsBlock block → IsVersion ver → IsContent value → good (acts.Read client block ver value) ≡ good act → IsTold act
+read_of : (client : ℕ) (block : BlockId) (ver : ℕ) (value : Option (List ℕ)) (act : Act) → IsClient client → IsBlock block → IsVersion ver → IsContent value
+    → good (acts.Read client block ver value) ≡ good act → IsTold act
 read_of client block ver value act c b m v e = subst IsTold (same_ok (acts.Read client block ver value) act e) (c, b, m, v)
 
 by_verb : (verb : Verb) (ws : List (List ℕ)) (act : Act) → act_of verb ws ≡ Ok act → IsTold act
@@ -211,7 +223,8 @@ by_verb verbs.Wrote ws act e =
 by_verb verbs.Read ws act e =
     let w = first (behind (behind ws)) in
     let v = joined 32 (behind (behind (behind ws))) in
-    let c = read_first (read_client (first ws)) (λ n. read_block (first (behind ws)) >>= λ b. read_version w >>= λ m. read_value v >>= λ x. good (acts.Read n b m x)) act e in
+    let c = read_first (read_client (first ws))
+    (λ n. read_block (first (behind ws)) >>= λ b. read_version w >>= λ m. read_value v >>= λ x. good (acts.Read n b m x)) act e in
     let b = read_first (read_block (first (behind ws))) (λ k. read_version w >>= λ m. read_value v >>= λ x. good (acts.Read c.0 k m x)) act c.2 in
     let m = read_first (read_version w) (λ k. read_value v >>= λ x. good (acts.Read c.0 b.0 k x)) act b.2 in
     let x = read_first (read_value v) (λ y. good (acts.Read c.0 b.0 m.0 y)) act m.2 in
@@ -220,10 +233,12 @@ by_verb verbs.Synced ws act e =
     let c = read_first (read_client (first ws)) (λ n. good (acts.Synced n)) act e in
     subst IsTold (same_ok (acts.Synced c.0) act c.2) (client_is c.0 (first ws) c.1)
 by_verb verbs.Fell ws act e =
-    let c = read_first (read_client (first ws)) (λ n. read_flight (first (behind ws)) >>= λ l. read_each read_fall (behind (behind ws)) >>= λ x. good (acts.Fell n l x)) act e in
+    let c = read_first (read_client (first ws))
+    (λ n. read_flight (first (behind ws)) >>= λ l. read_each read_fall (behind (behind ws)) >>= λ x. good (acts.Fell n l x)) act e in
     let l = read_first (read_flight (first (behind ws))) (λ k. read_each read_fall (behind (behind ws)) >>= λ x. good (acts.Fell c.0 k x)) act c.2 in
     let x = read_first (read_each read_fall (behind (behind ws))) (λ y. good (acts.Fell c.0 l.0 y)) act l.2 in
-    subst IsTold (same_ok (acts.Fell c.0 l.0 x.0) act x.2) (client_is c.0 (first ws) c.1, flight_is (first (behind ws)) l.0 l.1, each_is IsFall read_fall fall_is (behind (behind ws)) x.0 x.1)
+    subst IsTold (same_ok (acts.Fell c.0 l.0 x.0) act x.2)
+    (client_is c.0 (first ws) c.1, flight_is (first (behind ws)) l.0 l.1, each_is IsFall read_fall fall_is (behind (behind ws)) x.0 x.1)
 by_verb verbs.Back ws act e =
     let c = read_first (read_client (first ws)) (λ n. read_each read_segment (behind ws) >>= λ x. good (acts.Back n x)) act e in
     let x = read_first (read_each read_segment (behind ws)) (λ y. good (acts.Back c.0 y)) act c.2 in

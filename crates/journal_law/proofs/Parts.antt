@@ -98,7 +98,9 @@ writer_read nodes.Cleaner h = refl
 writer_read nodes.Registry h = absurd h
 
 -- the node of a log writes it
-at_log : (log : ℕ) (s t : Bool) → nat_lt log 9 ≡ s → (log == 9) ≡ t → 1 ≤ log → log ≤ 13 → WritesLog (if s then nodes.Client log else if t then nodes.Cleaner else nodes.Manager (log - 9)) × (log_of (if s then nodes.Client log else if t then nodes.Cleaner else nodes.Manager (log - 9)) ≡ log)
+at_log : (log : ℕ) (s t : Bool) → nat_lt log 9 ≡ s → (log == 9) ≡ t → 1 ≤ log → log ≤ 13
+    → WritesLog (if s then nodes.Client log else if t then nodes.Cleaner else nodes.Manager (log - 9))
+    × (log_of (if s then nodes.Client log else if t then nodes.Cleaner else nodes.Manager (log - 9)) ≡ log)
 at_log log true t e f l u = ((l, grind (arith, nat_tests, e)), refl)
 at_log log false true e f l u = (tt, sym (eqb-true log 9 f))
 at_log log false false e f l u =
@@ -130,14 +132,21 @@ node_lacks_dot nodes.Cleaner h = ((λ e. omega (arith, e)), ((λ e. omega (arith
 node_lacks_dot nodes.Registry h = absurd h
 
 -- the four parts of a word, read one after the other
-four_read : (word : List ℕ) (node : NodeId) (seq inc att : ℕ) → read_writer (front 46 word) ≡ Ok node → read_counted (front 46 (back 46 word)) ≡ Ok seq → read_counted (front 46 (back 46 (back 46 word))) ≡ Ok inc → read_counted (back 46 (back 46 (back 46 word))) ≡ Ok att → read_segment word ≡ Ok (segment_at node seq inc att)
+four_read : (word : List ℕ) (node : NodeId) (seq inc att : ℕ) → read_writer (front 46 word) ≡ Ok node → read_counted (front 46 (back 46 word)) ≡ Ok seq
+    → read_counted (front 46 (back 46 (back 46 word))) ≡ Ok inc → read_counted (back 46 (back 46 (back 46 word))) ≡ Ok att
+    → read_segment word ≡ Ok (segment_at node seq inc att)
 four_read word node seq inc att a b c d =
-    then_read (read_writer (front 46 word)) node (λ n. read_counted (front 46 (back 46 word)) >>= λ s. read_counted (front 46 (back 46 (back 46 word))) >>= λ i. read_counted (back 46 (back 46 (back 46 word))) >>= λ t. Ok (segment_at n s i t)) a
-    ∙ then_read (read_counted (front 46 (back 46 word))) seq (λ s. read_counted (front 46 (back 46 (back 46 word))) >>= λ i. read_counted (back 46 (back 46 (back 46 word))) >>= λ t. Ok (segment_at node s i t)) b
-    ∙ then_read (read_counted (front 46 (back 46 (back 46 word)))) inc (λ i. read_counted (back 46 (back 46 (back 46 word))) >>= λ t. Ok (segment_at node seq i t)) c
+    then_read (read_writer (front 46 word)) node
+    (λ n. read_counted (front 46 (back 46 word)) >>= λ s. read_counted (front 46 (back 46 (back 46 word))) >>= λ i. read_counted
+    (back 46 (back 46 (back 46 word))) >>= λ t. Ok (segment_at n s i t)) a
+    ∙ then_read (read_counted (front 46 (back 46 word))) seq
+    (λ s. read_counted (front 46 (back 46 (back 46 word))) >>= λ i. read_counted (back 46 (back 46 (back 46 word))) >>= λ t. Ok (segment_at node s i t)) b
+    ∙ then_read (read_counted (front 46 (back 46 (back 46 word)))) inc
+    (λ i. read_counted (back 46 (back 46 (back 46 word))) >>= λ t. Ok (segment_at node seq i t)) c
     ∙ then_read (read_counted (back 46 (back 46 (back 46 word)))) att (λ t. Ok (segment_at node seq inc t)) d
 
-named : (seg : SegName) (log : ℕ) → log ≡ seg.log.0 → record { log = record { 0 = log }; seq = seg.seq; pass = record { inc = seg.pass.inc; att = seg.pass.att } } ≡ seg
+named : (seg : SegName) (log : ℕ) → log ≡ seg.log.0
+    → record { log = record { 0 = log }; seq = seg.seq; pass = record { inc = seg.pass.inc; att = seg.pass.att } } ≡ seg
 named seg log e = ap (λ l. record { log = record { 0 = l }; seq = seg.seq; pass = seg.pass }) e
 
 pub segment_read : (seg : SegName) → IsSegment seg → read_segment (segment_text seg) ≡ Ok seg
@@ -168,7 +177,8 @@ segment_read seg h =
 -- ---- flights and falls
 
 flight_word : (p : ℕ × ℕ) → bytes_eq (decimal p.0 ++ 46 ∷ decimal p.1) (codes "none") ≡ false
-flight_word p = no_word (decimal p.0 ++ 46 ∷ decimal p.1) 110 (codes "one") (begins_join (decimal p.0) (46 ∷ decimal p.1) (decimal_begins p.0)) (λ i. omega (arith, i.1))
+flight_word p =
+    no_word (decimal p.0 ++ 46 ∷ decimal p.1) 110 (codes "one") (begins_join (decimal p.0) (46 ∷ decimal p.1) (decimal_begins p.0)) (λ i. omega (arith, i.1))
 
 pub flight_read : (flight : Option (ℕ × ℕ)) → IsFlight flight → read_flight (flight_text flight) ≡ Ok flight
 flight_read None h = refl
@@ -177,14 +187,20 @@ flight_read (Some p) h =
     let l = decimal_lacks 46 p.0 (λ i. omega (arith, i.0)) in
     let f : read_counted (front 46 w) ≡ Ok p.0 = ap read_counted (front_of 46 (decimal p.0) (decimal p.1) l) ∙ counted_read p.0 h.0 in
     let g : read_counted (back 46 w) ≡ Ok p.1 = ap read_counted (back_of 46 (decimal p.0) (decimal p.1) l) ∙ counted_read p.1 h.1 in
-    rw (flight_word p) (then_read (read_counted (front 46 w)) p.0 (λ seq. read_counted (back 46 w) >>= λ inc. Ok (Some (seq, inc))) f ∙ then_read (read_counted (back 46 w)) p.1 (λ inc. Ok (Some (p.0, inc))) g)
+    rw (flight_word p)
+    (then_read (read_counted (front 46 w)) p.0 (λ seq. read_counted (back 46 w) >>= λ inc. Ok (Some (seq, inc))) f
+    ∙ then_read (read_counted (back 46 w)) p.1 (λ inc. Ok (Some (p.0, inc))) g)
 
 pub block_lacks_colon : (b : BlockId) → Lacks 58 (block_text b)
-block_lacks_colon b = lacks_join 58 (decimal b.ino.0) (47 ∷ decimal b.blk) (decimal_lacks 58 b.ino.0 (λ i. omega (arith, i.1))) ((λ e. omega (arith, e)), decimal_lacks 58 b.blk (λ i. omega (arith, i.1)))
+block_lacks_colon b =
+    lacks_join 58 (decimal b.ino.0) (47 ∷ decimal b.blk) (decimal_lacks 58 b.ino.0 (λ i. omega (arith, i.1)))
+    ((λ e. omega (arith, e)), decimal_lacks 58 b.blk (λ i. omega (arith, i.1)))
 
-three_read : (word : List ℕ) (block : BlockId) (low high : ℕ) → read_block (front 58 word) ≡ Ok block → read_long (front 58 (back 58 word)) ≡ Ok low → read_long (back 58 (back 58 word)) ≡ Ok high → read_fall word ≡ Ok (record { block = block; low = low; high = high })
+three_read : (word : List ℕ) (block : BlockId) (low high : ℕ) → read_block (front 58 word) ≡ Ok block → read_long (front 58 (back 58 word)) ≡ Ok low
+    → read_long (back 58 (back 58 word)) ≡ Ok high → read_fall word ≡ Ok (record { block = block; low = low; high = high })
 three_read word block low high a b c =
-    then_read (read_block (front 58 word)) block (λ k. read_long (front 58 (back 58 word)) >>= λ l. read_long (back 58 (back 58 word)) >>= λ h. Ok (record { block = k; low = l; high = h })) a
+    then_read (read_block (front 58 word)) block
+    (λ k. read_long (front 58 (back 58 word)) >>= λ l. read_long (back 58 (back 58 word)) >>= λ h. Ok (record { block = k; low = l; high = h })) a
     ∙ then_read (read_long (front 58 (back 58 word))) low (λ l. read_long (back 58 (back 58 word)) >>= λ h. Ok (record { block = block; low = l; high = h })) b
     ∙ then_read (read_long (back 58 (back 58 word))) high (λ h. Ok (record { block = block; low = low; high = h })) c
 

@@ -58,11 +58,13 @@ fault_lacks faults.BadDir = lacks_test 10 (codes "baddir") refl
 
 log_lacks : (seg : SegName) → Lacks 10 (log_seq_text seg)
 log_lacks seg =
-    join_lacks (node_text (writer_of seg.log.0)) (46 ∷ decimal seg.seq) (plain_lacks 10 (node_text (writer_of seg.log.0)) (omega arith) (node_plain (writer_of seg.log.0))) (marked_lacks 46 seg.seq (λ e. omega (arith, e)))
+    join_lacks (node_text (writer_of seg.log.0)) (46 ∷ decimal seg.seq)
+    (plain_lacks 10 (node_text (writer_of seg.log.0)) (omega arith) (node_plain (writer_of seg.log.0))) (marked_lacks 46 seg.seq (λ e. omega (arith, e)))
 
 answer_lacks : (answer : Answer) → IsOneLine answer → Lacks 10 (answer_text answer)
 answer_lacks (answers.Version ver) h = marked_lacks 118 ver (λ e. omega (arith, e))
-answer_lacks (answers.Got ver value) h = ((λ e. omega (arith, e)), join_lacks (decimal ver) (32 ∷ value_text value) (number_lacks ver) ((λ e. omega (arith, e)), value_lacks value))
+answer_lacks (answers.Got ver value) h =
+    ((λ e. omega (arith, e)), join_lacks (decimal ver) (32 ∷ value_text value) (number_lacks ver) ((λ e. omega (arith, e)), value_lacks value))
 answer_lacks answers.Done h = lacks_test 10 (codes "ok") refl
 answer_lacks (answers.Made ino) h = join_lacks (codes "ino ") (decimal ino) (lacks_test 10 (codes "ino ") refl) (number_lacks ino)
 answer_lacks (answers.Bytes bytes) h = text_lacks bytes
@@ -72,7 +74,8 @@ answer_lacks (answers.Epoch epoch) h = join_lacks (codes "ok epoch ") (decimal e
 answer_lacks (answers.Count count) h = join_lacks (codes "ok ") (decimal count) (lacks_test 10 (codes "ok ") refl) (number_lacks count)
 answer_lacks (answers.Rebuilt filled gone) h =
     join_lacks (codes "ok ") (decimal filled ++ codes " gone " ++ decimal gone) (lacks_test 10 (codes "ok ") refl)
-    (join_lacks (decimal filled ++ codes " gone ") (decimal gone) (join_lacks (decimal filled) (codes " gone ") (number_lacks filled) (lacks_test 10 (codes " gone ") refl)) (number_lacks gone))
+    (join_lacks (decimal filled ++ codes " gone ") (decimal gone)
+    (join_lacks (decimal filled) (codes " gone ") (number_lacks filled) (lacks_test 10 (codes " gone ") refl)) (number_lacks gone))
 answer_lacks answers.Busy h = lacks_test 10 (codes "busy") refl
 answer_lacks answers.Down h = lacks_test 10 (codes "down") refl
 answer_lacks answers.Up h = lacks_test 10 (codes "up") refl
@@ -101,7 +104,8 @@ act_answer (acts.Lost node seg) fallen h = tt
 act_answer (acts.Filed seg) fallen h = tt
 act_answer (acts.Dropped seg) fallen h = tt
 
-place_answer : (deeds : List Act) (place : ℕ) (fallen : List Fallen) → AllByRecursion IsPrinted deeds → Lacks 10 (answered_text (answer_by (slice_get deeds place)) fallen)
+place_answer : (deeds : List Act) (place : ℕ) (fallen : List Fallen) → AllByRecursion IsPrinted deeds
+    → Lacks 10 (answered_text (answer_by (slice_get deeds place)) fallen)
 place_answer [] place fallen h = tt
 place_answer (a ∷ deeds) zero fallen h = act_answer a fallen h.0
 place_answer (a ∷ deeds) (suc place) fallen h = place_answer deeds place fallen h.1
@@ -120,8 +124,10 @@ abbrev reply_line : ℕ → List ℕ → List ℕ
 reply_line n reply = decimal n ++ 32 ∷ reply
 
 reply_entry : (n : ℕ) (reply : List ℕ) → Lacks 10 reply → IsEntry (Other (reply_line n reply))
-reply_entry n reply l =
-    (join_lacks (decimal n) (32 ∷ reply) (number_lacks n) ((λ e. omega (arith, e)), l), digit_skipped (reply_line n reply) (begins_join (decimal n) (32 ∷ reply) (decimal_begins n)))
+reply_entry n reply l = (
+  join_lacks (decimal n) (32 ∷ reply) (number_lacks n) ((λ e. omega (arith, e)), l),
+  digit_skipped (reply_line n reply) (begins_join (decimal n) (32 ∷ reply) (decimal_begins n)),
+)
 
 module _ (deeds : List Act) (table : Table) where
   abbrev item_reply : NodeId → ℕ → List ℕ
@@ -143,7 +149,8 @@ module _ (deeds : List Act) (table : Table) where
 
   item_good : AllByRecursion IsPrinted deeds → (number : NodeId → ℕ) (line : Line) (o : Option NodeId) → AllByRecursion IsEntry (item_entries number line o)
   item_good h number line None = tt
-  item_good h number line (Some node) = (reply_entry line.number (item_reply node (number node)) (reply_lacks deeds (reply_of table (record { node = node; number = number node })) h), tt)
+  item_good h number line (Some node) =
+      (reply_entry line.number (item_reply node (number node)) (reply_lacks deeds (reply_of table (record { node = node; number = number node })) h), tt)
 
 journal_join : (xs ys : List Entry) → journal_text (xs ++ ys) ≡ journal_text xs ++ journal_text ys
 journal_join [] ys = refl
@@ -218,7 +225,8 @@ printed_told (acts.Lost node seg) e h = h
 printed_told (acts.Filed seg) e h = h
 printed_told (acts.Dropped seg) e h = h
 
-one_more : (a : Act) (deeds : List Act) (t : Bool) → is_answer a ≡ t → journal_text (tells_all (told deeds)) ≡ acts_text deeds → journal_text (tells_all (cond (not t) (a ∷ told deeds) (told deeds))) ≡ act_text a ++ acts_text deeds
+one_more : (a : Act) (deeds : List Act) (t : Bool) → is_answer a ≡ t → journal_text (tells_all (told deeds)) ≡ acts_text deeds
+    → journal_text (tells_all (cond (not t) (a ∷ told deeds) (told deeds))) ≡ act_text a ++ acts_text deeds
 one_more a deeds true e f = f ∙ ap (λ x. x ++ acts_text deeds) (sym (answer_has_none a e))
 one_more a deeds false e f = ap (λ x. act_text a ++ x) f
 
@@ -226,7 +234,8 @@ told_are : (deeds : List Act) → journal_text (tells_all (told deeds)) ≡ acts
 told_are [] = refl
 told_are (a ∷ deeds) = one_more a deeds (is_answer a) refl (told_are deeds)
 
-one_good : (a : Act) (deeds : List Act) (t : Bool) → is_answer a ≡ t → IsPrinted a → AllByRecursion IsEntry (tells_all (told deeds)) → AllByRecursion IsEntry (tells_all (cond (not t) (a ∷ told deeds) (told deeds)))
+one_good : (a : Act) (deeds : List Act) (t : Bool) → is_answer a ≡ t → IsPrinted a → AllByRecursion IsEntry (tells_all (told deeds))
+    → AllByRecursion IsEntry (tells_all (cond (not t) (a ∷ told deeds) (told deeds)))
 one_good a deeds true e h g = g
 one_good a deeds false e h g = (printed_told a e h, g)
 
@@ -285,7 +294,8 @@ module _ {N : Type 0} (e : Estate N) where
 
   run_journal : IsPrintedRun e → IsJournal run_entries
   run_journal h = record {
-    each = good_join head_entries (tells_all (told e.world.acts) ++ last_entry ∷ []) (lines_good e.world.acts (replies_of e.world.acts) h.acts [] e.script.lines)
+    each = good_join head_entries (tells_all (told e.world.acts) ++ last_entry ∷ [])
+        (lines_good e.world.acts (replies_of e.world.acts) h.acts [] e.script.lines)
         (good_join (tells_all (told e.world.acts)) (last_entry ∷ []) (told_good e.world.acts h.acts) (end_good (items_in e) (open_items e), tt));
     short = subst (λ t. length t ≤ 1048576) (sym (run_text h.asked)) h.short;
   }
@@ -293,11 +303,13 @@ module _ {N : Type 0} (e : Estate N) where
   pub run_read : IsReadAsPrinted e
   run_read h = (
     numbers_from 1 run_entries,
-    ap read_journal (sym (run_text h.asked)) ∙ journals_read run_entries (run_journal h) ∙ ap (λ deeds. Ok (record { acts = deeds; lines = numbers_from 1 run_entries })) run_acts,
+    ap read_journal (sym (run_text h.asked)) ∙ journals_read run_entries (run_journal h)
+        ∙ ap (λ deeds. Ok (record { acts = deeds; lines = numbers_from 1 run_entries })) run_acts,
   )
 
   pub run_judged : IsJudgedByItsActs e
   run_judged h verdict a =
       let t = run_text h.asked in
-      let j : JudgesByLine (journal_text run_entries) (acts_in run_entries) verdict = verdicts run_entries (run_journal h) verdict (subst (λ x. IsAudited x verdict) (sym t) a) in
+      let j : JudgesByLine (journal_text run_entries) (acts_in run_entries) verdict =
+      verdicts run_entries (run_journal h) verdict (subst (λ x. IsAudited x verdict) (sym t) a) in
       subst (λ deeds. JudgesByLine (text_of e) deeds verdict) run_acts (subst (λ x. JudgesByLine x (acts_in run_entries) verdict) t j)

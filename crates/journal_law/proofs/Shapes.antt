@@ -28,13 +28,15 @@ test_count n k e t = ap (λ x. x == k) e ∙ t
 
 pub block_shape : (b : BlockId) → is_block (block_text b) ≡ true
 block_shape b =
-    test_count (count_of 47 (block_text b)) 1 (one_mark 47 b.ino.0 b.blk (decimal_lacks 47 b.ino.0 (λ i. omega (arith, i.0))) (decimal_lacks 47 b.blk (λ i. omega (arith, i.0)))) refl
+    test_count (count_of 47 (block_text b)) 1
+    (one_mark 47 b.ino.0 b.blk (decimal_lacks 47 b.ino.0 (λ i. omega (arith, i.0))) (decimal_lacks 47 b.blk (λ i. omega (arith, i.0)))) refl
 
 pub flight_shape : (flight : Option (ℕ × ℕ)) → is_flight (flight_text flight) ≡ true
 flight_shape None = refl
 flight_shape (Some p) =
     let w : List ℕ = decimal p.0 ++ 46 ∷ decimal p.1 in
-    or_true (bytes_eq w (110 ∷ 111 ∷ 110 ∷ 101 ∷ [])) (test_count (count_of 46 w) 1 (one_mark 46 p.0 p.1 (decimal_lacks 46 p.0 (λ i. omega (arith, i.0))) (decimal_lacks 46 p.1 (λ i. omega (arith, i.0)))) refl)
+    or_true (bytes_eq w (110 ∷ 111 ∷ 110 ∷ 101 ∷ []))
+    (test_count (count_of 46 w) 1 (one_mark 46 p.0 p.1 (decimal_lacks 46 p.0 (λ i. omega (arith, i.0))) (decimal_lacks 46 p.1 (λ i. omega (arith, i.0)))) refl)
 
 pub fall_shape : (f : Fall) → is_fall (fall_text f) ≡ true
 fall_shape f =
@@ -54,7 +56,8 @@ two_marks : (seg : SegName) → count_of 46 (numbers_text seg) ≡ 2
 two_marks seg =
     let rest : List ℕ = decimal seg.pass.inc ++ 46 ∷ decimal seg.pass.att in
     let l = decimal_lacks 46 seg.seq (λ i. omega (arith, i.0)) in
-    let n = one_mark 46 seg.pass.inc seg.pass.att (decimal_lacks 46 seg.pass.inc (λ i. omega (arith, i.0))) (decimal_lacks 46 seg.pass.att (λ i. omega (arith, i.0))) in
+    let n = one_mark 46 seg.pass.inc seg.pass.att (decimal_lacks 46 seg.pass.inc (λ i. omega (arith, i.0)))
+    (decimal_lacks 46 seg.pass.att (λ i. omega (arith, i.0))) in
     count_cut 46 (decimal seg.seq) rest l ∙ ap (λ k. k + 1) n
 
 pub segment_shape : (seg : SegName) → IsSegment seg → is_segment (segment_text seg) ≡ true

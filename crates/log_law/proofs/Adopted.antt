@@ -57,7 +57,8 @@ flies = record {
   low = refl;
   registry = refl;
   is_owner = ap (λ (d : log.Done). Serving d.state) starts;
-  sent = λ p is. in_more (log_packets (log.transition first_log (log_in.Parts [])).outs) p (subst (In p) (sym (ap (λ (d : log.Done). log_packets d.outs) starts ∙ sends_all)) is);
+  sent = λ p is. in_more (log_packets (log.transition first_log (log_in.Parts [])).outs) p
+      (subst (In p) (sym (ap (λ (d : log.Done). log_packets d.outs) starts ∙ sends_all)) is);
   shelves = λ v. refl;
   filed = ap (λ (d : log.Done). log_filed setting.log d.outs ++ []) starts ∙ sends_none;
   last = ap (λ (d : log.Done). d.state.flight) starts;
@@ -109,7 +110,8 @@ abbrev fences : List Packet
 fences = FenceSent 1 2 ∷ FenceSent 2 2 ∷ FenceSent 3 2 ∷ []
 
 gathers : Stage 2 (Opening (gathering [])) (fences ++ greeted) kept_all
-gathers = scans asked (scan_in.Welcome 1 news the_map) hailing _ refl fences_all refl ((the_map, subst (λ c. In (WelcomeSent c 1 news the_map) asked.net.sent) (sym asked.boot) (asked.sent _ (inl refl))), asked.sent _ (inr (inr (inl refl))))
+gathers = scans asked (scan_in.Welcome 1 news the_map) hailing _ refl fences_all refl
+    ((the_map, subst (λ c. In (WelcomeSent c 1 news the_map) asked.net.sent) (sym asked.boot) (asked.sent _ (inl refl))), asked.sent _ (inr (inr (inl refl))))
   where
     hello : Stage 2 (Opening hailing) (HelloSent 2 1 ∷ MapSent the_map ∷ []) kept_all
     hello = scans (publishes fallen) scan_in.Tick hailing _ refl asks_first refl tt
@@ -160,7 +162,8 @@ listed = forget third all_fenced picked
     picked p (inr (inr (inr (inr is)))) = absurd is
 
 -- a list came
-came_list : {inc : ℕ} {owner : Owner} {told : List Packet} {shelf : ℕ → ShelfState} (s : Stage inc owner told shelf) (v place : ℕ) → inc ≡ 2 → In (fenced v place) told → In (FencedSent v s.net.inc 1 (meta_of segment place ∷ [])) s.net.sent
+came_list : {inc : ℕ} {owner : Owner} {told : List Packet} {shelf : ℕ → ShelfState} (s : Stage inc owner told shelf) (v place : ℕ) → inc ≡ 2
+    → In (fenced v place) told → In (FencedSent v s.net.inc 1 (meta_of segment place ∷ [])) s.net.sent
 came_list s v place two is = subst (λ c. In (FencedSent v c 1 (meta_of segment place ∷ [])) s.net.sent) (sym (s.boot ∙ two)) (s.sent (fenced v place) is)
 
 -- ---- the segment is picked, and read back
@@ -169,7 +172,10 @@ abbrev asks_again : List Packet
 asks_again = WelcomeSent 2 2 news the_map ∷ HelloSent 2 2 ∷ all_fenced
 
 reads : Stage 2 (Opening reading_back) asks_again fenced_all
-reads = scans asked (scan_in.Welcome 2 news the_map) asking _ refl picks_it refl ((the_map, subst (λ c. In (WelcomeSent c 2 news the_map) asked.net.sent) (sym asked.boot) (asked.sent _ (inl refl))), asked.sent _ (inr (inr (inr (inr (inr (inl refl)))))))
+reads = scans asked (scan_in.Welcome 2 news the_map) asking _ refl picks_it refl (
+  (the_map, subst (λ c. In (WelcomeSent c 2 news the_map) asked.net.sent) (sym asked.boot) (asked.sent _ (inl refl))),
+  asked.sent _ (inr (inr (inr (inr (inr (inl refl)))))),
+)
   where
     one : Stage 2 (Opening (gathering (list_of 1 0 ∷ []))) all_fenced fenced_all
     one = scans listed (scan_in.Fenced 1 1 (meta_of segment 0 ∷ [])) (gathering []) _ refl keeps_one refl (came_list listed 1 0 refl (inr (inr (inl refl))))
@@ -178,7 +184,8 @@ reads = scans asked (scan_in.Welcome 2 news the_map) asking _ refl picks_it refl
     two = scans one (scan_in.Fenced 2 1 (meta_of segment 1 ∷ [])) (gathering (list_of 1 0 ∷ [])) _ refl keeps_two refl (came_list one 2 1 refl (inr (inl refl)))
 
     three : Stage 2 (Opening asking) (HelloSent 2 2 ∷ all_fenced) fenced_all
-    three = scans two (scan_in.Fenced 3 1 (meta_of segment 2 ∷ [])) (gathering (list_of 1 0 ∷ list_of 2 1 ∷ [])) _ refl asks_second refl (came_list two 3 2 refl (inl refl))
+    three = scans two (scan_in.Fenced 3 1 (meta_of segment 2 ∷ [])) (gathering (list_of 1 0 ∷ list_of 2 1 ∷ [])) _ refl asks_second refl
+        (came_list two 3 2 refl (inl refl))
 
     asked : Stage 2 (Opening asking) asks_again fenced_all
     asked = welcomes three 2 (inl refl)
@@ -217,18 +224,21 @@ half_read = scans less (scan_in.Got 3 1 1 (piece segment group 0)) reading_back 
 -- ---- the opening segment is written
 
 abbrev opening_stores : List Packet
-opening_stores = StoreSent 1 (piece opening_segment group 0) 1 ∷ StoreSent 2 (piece opening_segment group 1) 1 ∷ StoreSent 3 (piece opening_segment group 2) 1 ∷ []
+opening_stores =
+    StoreSent 1 (piece opening_segment group 0) 1 ∷ StoreSent 2 (piece opening_segment group 1) 1 ∷ StoreSent 3 (piece opening_segment group 2) 1 ∷ []
 
 files_none : log_filed setting.log (log.all_sends (opening_flight none_noted)) ++ [] ≡ []
 unfolding log.all_sends
 files_none = refl
 
-module _ {told : List Packet} {shelf : ℕ → ShelfState} (s : Stage 2 (Opening one_in) told shelf) (came : In (FragmentSent (piece segment group 1)) s.net.sent) where
+module _ {told : List Packet} {shelf : ℕ → ShelfState} (s : Stage 2 (Opening one_in) told shelf)
+    (came : In (FragmentSent (piece segment group 1)) s.net.sent) where
   abbrev got : scan_ins.In
   got = scan_in.Got 3 2 1 (piece segment group 1)
 
   -- the log starts behind what was read back
-  begun : {X : Type 0} (f : log.Done → X) → f (first_write calm s.net.inc start the_map) ≡ f (record { state = opening_log none_noted; outs = log.all_sends (opening_flight none_noted) })
+  begun : {X : Type 0} (f : log.Done → X)
+      → f (first_write calm s.net.inc start the_map) ≡ f (record { state = opening_log none_noted; outs = log.all_sends (opening_flight none_noted) })
   begun f = ap (λ c. f (first_write calm c start the_map)) s.boot ∙ ap f opens_with
 
   can : CanStart calm s.net.inc (scan.transition one_in got)
@@ -240,7 +250,8 @@ module _ {told : List Packet} {shelf : ℕ → ShelfState} (s : Stage 2 (Opening
   happens : Happens calm s.net next
   happens = Opens one_in got s.is_owner (λ own. came) can
 
-  now : next ≡ after_told calm s.net one_in (record { state = over; outs = scan_out.Chain (segment ∷ []) start (scan.prior_at start) ∷ [] }) (Some (record { segments = segment ∷ []; end = start })) (Some the_map)
+  now : next ≡ after_told calm s.net one_in (record { state = over; outs = scan_out.Chain (segment ∷ []) start (scan.prior_at start) ∷ [] })
+      (Some (record { segments = segment ∷ []; end = start })) (Some the_map)
   now = ap (after_scan calm s.net one_in) hears_two
 
   pub writes : Stage 2 (Writing (segment ∷ []) (opening_log none_noted)) opening_stores shelf
@@ -252,9 +263,12 @@ module _ {told : List Packet} {shelf : ℕ → ShelfState} (s : Stage 2 (Opening
     low = ap (λ (n : Net). n.low) now ∙ s.low;
     registry = ap (λ (n : Net). n.registry) now ∙ s.registry;
     is_owner = ap (λ (n : Net). n.owner) now ∙ begun (λ d. Writing (segment ∷ []) d.state);
-    sent = λ p is. subst (In p) (sym (ap (λ (n : Net). n.sent) now ∙ begun (λ d. log_packets d.outs ++ s.net.sent))) (in_first (log_packets (log.all_sends (opening_flight none_noted))) s.net.sent p (subst (In p) (sym opening_sends) is));
+    sent = λ p is. subst (In p) (sym (ap (λ (n : Net). n.sent) now ∙ begun (λ d. log_packets d.outs ++ s.net.sent)))
+        (in_first (log_packets (log.all_sends (opening_flight none_noted))) s.net.sent p (subst (In p) (sym opening_sends) is));
     shelves = λ v. ap (λ (n : Net). n.shelves v) now ∙ s.shelves v;
-    filed = ap (λ (n : Net). n.filed) now ∙ (begun (λ d. log_filed setting.log d.outs ++ s.net.filed) ∙ (ap (λ ns. log_filed setting.log (log.all_sends (opening_flight none_noted)) ++ ns) s.filed ∙ files_none));
+    filed = ap (λ (n : Net). n.filed) now
+        ∙ (begun (λ d. log_filed setting.log d.outs ++ s.net.filed)
+        ∙ (ap (λ ns. log_filed setting.log (log.all_sends (opening_flight none_noted)) ++ ns) s.filed ∙ files_none));
     last = ap (λ (n : Net). flight_in n.owner (last_flight s.run)) now ∙ s.last;
     stays = refl;
   }
@@ -284,7 +298,8 @@ abbrev all_stored : List Packet
 all_stored = opening_stored 2 ∷ opening_stored 1 ∷ opening_stored 0 ∷ []
 
 all_noted : Stage 2 (Writing (segment ∷ []) (opening_log noted_two)) all_stored last_all
-all_noted = notes one (log_in.Acked opening_name 1 1) (segment ∷ []) (opening_log noted_one) (opening_log noted_two) (opening_flight noted_two) refl refl notes_second (opening_name, 1, 1, refl, inr (inl refl)) opening_written
+all_noted = notes one (log_in.Acked opening_name 1 1) (segment ∷ []) (opening_log noted_one) (opening_log noted_two)
+    (opening_flight noted_two) refl refl notes_second (opening_name, 1, 1, refl, inr (inl refl)) opening_written
   where
     begins : Stage 2 (Writing (segment ∷ []) (opening_log none_noted)) opening_stores fetched_two
     begins = writes half_read (half_read.sent _ (inl refl))
@@ -305,7 +320,8 @@ all_noted = notes one (log_in.Acked opening_name 1 1) (segment ∷ []) (opening_
     stored p (inr (inr (inr is))) = absurd is
 
     one : Stage 2 (Writing (segment ∷ []) (opening_log noted_one)) all_stored last_all
-    one = notes (forget third all_stored stored) (log_in.Acked opening_name 0 1) (segment ∷ []) (opening_log none_noted) (opening_log noted_one) (opening_flight noted_one) refl refl notes_first (opening_name, 0, 1, refl, inr (inr (inl refl))) opening_written
+    one = notes (forget third all_stored stored) (log_in.Acked opening_name 0 1) (segment ∷ []) (opening_log none_noted) (opening_log noted_one)
+        (opening_flight noted_one) refl refl notes_first (opening_name, 0, 1, refl, inr (inr (inl refl))) opening_written
 
 -- ---- the restart ends
 
@@ -340,7 +356,11 @@ log_renewed : ALogRenewed managers
 log_renewed = record {
   managers = omega arith;
   net = record down { inc = 2; owner = Serving (new_log managers.log 2 no_end the_map) };
-  moment = record { map = the_map; whole = whole; run = On (On (On Begun (Publishes the_map whole)) Crashes) (Renews the_map (omega arith) refl refl (inl refl)) };
+  moment = record {
+    map = the_map;
+    whole = whole;
+    run = On (On (On Begun (Publishes the_map whole)) Crashes) (Renews the_map (omega arith) refl refl (inl refl));
+  };
   groups = the_map;
   serves = refl;
 }

@@ -22,7 +22,8 @@ use Rattle.log_law.specs.Below.{Below}
 use Rattle.log_law.proofs.Views.{OwnerShown, View}
 use Rattle.log_law.proofs.Followed.{Along, along_moment}
 
-module _ (g : Setting) (w : State) (book : ℕ → Segment) (fixed : Fixed g w) (paged : Book g w book) (lowest top : ℕ) (opening_at : w.opening_seq ≡ top + 1) where
+module _ (g : Setting) (w : State) (book : ℕ → Segment) (fixed : Fixed g w) (paged : Book g w book) (lowest top : ℕ)
+    (opening_at : w.opening_seq ≡ top + 1) where
   -- a segment of the chain, on the path
   pub record OnPath (t : Segment) : Type 0 where
     pub number : ℕ
@@ -33,7 +34,8 @@ module _ (g : Setting) (w : State) (book : ℕ → Segment) (fixed : Fixed g w) 
 
   on_path : (x : ℕ) (ts : List Segment) → Chained g w book top x ts → (t : Segment) → In t ts → OnPath t
   on_path x [] h t is = absurd is
-  on_path x (s ∷ ss) h t (inl e) = record { number = h.0; booked = h.1; is = e ∙ h.2; there = ap (back w) depth ∙ sym (back_chained g w book top h.0 ss h.5); below = less }
+  on_path x (s ∷ ss) h t (inl e) =
+      record { number = h.0; booked = h.1; is = e ∙ h.2; there = ap (back w) depth ∙ sym (back_chained g w book top h.0 ss h.5); below = less }
     where
       depth : w.opening_seq - suc (w.seq_of h.0) ≡ length ss
       depth = let a = h.4 in let b : w.seq_of h.0 ≡ g.seq_of h.0 = ap (λ k. k h.0) fixed.seq_of in let c = opening_at in omega arith
@@ -42,7 +44,8 @@ module _ (g : Setting) (w : State) (book : ℕ → Segment) (fixed : Fixed g w) 
       less = let a = h.4 in let b : w.seq_of h.0 ≡ g.seq_of h.0 = ap (λ k. k h.0) fixed.seq_of in let c = opening_at in omega arith
   on_path x (s ∷ ss) h t (inr is) = on_path h.0 ss h.5 t is
 
-module _ (k : Below) (g : Setting) (none : g.doubts ≡ false) (first : Net) (serves : is_serving first.owner ≡ true) (n : Net) (run : Runs g first n) (a : Along k g none first serves n run) (chain : List Segment) (s : LogState) (e : n.owner ≡ Writing chain s) where
+module _ (k : Below) (g : Setting) (none : g.doubts ≡ false) (first : Net) (serves : is_serving first.owner ≡ true) (n : Net) (run : Runs g first n)
+    (a : Along k g none first serves n run) (chain : List Segment) (s : LogState) (e : n.owner ≡ Writing chain s) where
   abbrev h : View g n
   h = a.view
 
@@ -98,13 +101,23 @@ module _ (k : Below) (g : Setting) (none : g.doubts ≡ false) (first : Net) (se
 
       -- the flight of the last boot that served
       attempt : FlightOf g h.w (last_flight run) p.number → (f : FlightState) × (last_flight run ≡ Some f) × IsAttemptOf g f t
-      attempt f = (f.flight, f.is, record { seq = ap (λ (z : SegName). z.seq) named ∙ sym f.seq; boot = ap (λ (z : SegName). z.pass.inc) named ∙ sym f.boot; content = sym tells ∙ f.content })
+      attempt f = (
+        f.flight,
+        f.is,
+        record {
+          seq = ap (λ (z : SegName). z.seq) named ∙ sym f.seq;
+          boot = ap (λ (z : SegName). z.pass.inc) named ∙ sym f.boot;
+          content = sym tells ∙ f.content;
+        },
+      )
 
       -- beyond it
-      beyond : h.w.head < h.w.seq_of p.number → (c : ℕ) → h.w.content_of p.number ≡ c → (g.content t.items ≡ 0) ⊎ ((f : FlightState) × (last_flight run ≡ Some f) × IsAttemptOf g f t)
+      beyond : h.w.head < h.w.seq_of p.number → (c : ℕ) → h.w.content_of p.number ≡ c
+          → (g.content t.items ≡ 0) ⊎ ((f : FlightState) × (last_flight run ≡ Some f) × IsAttemptOf g f t)
       beyond more zero none_told = inl (sym tells ∙ none_told)
       beyond more (suc c) told =
-          let law = (k.protocol.adopts h.w h.reached clean) (path h.w) as_it_writes.read.lowest (h.w.seq_of p.number) as_it_writes.phase read more p.below (subst (λ y. 0 < h.w.content_of y) (sym p.there) (let c = told in omega arith)) in
+          let law = (k.protocol.adopts h.w h.reached clean) (path h.w) as_it_writes.read.lowest (h.w.seq_of p.number) as_it_writes.phase read more p.below
+          (subst (λ y. 0 < h.w.content_of y) (sym p.there) (let c = told in omega arith)) in
           let boot : h.w.incarnation_of p.number ≡ h.w.served = ap h.w.incarnation_of (sym p.there) ∙ law.boot in
           inr (attempt (a.flown p.number p.booked boot law.next))
 

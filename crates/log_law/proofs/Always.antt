@@ -40,7 +40,12 @@ begins_seen k g m whole = record {
   fixed = record { servers = refl; seq_of = refl; incarnation_of = refl; attempt_of = refl };
   reached = record { names = g.names; run = More Done (Learns (present_at m) (record { known = whole.seen.past })) };
   paged = λ x is. absurd (none_one 0 refl is);
-  spelled = record { fits = λ x is. absurd (none_one 0 refl is); text = λ x is. absurd (none_one 0 refl is); bytes = λ x is. absurd (none_one 0 refl is); grouped = λ x y is to named. absurd (none_one 0 refl is) };
+  spelled = record {
+    fits = λ x is. absurd (none_one 0 refl is);
+    text = λ x is. absurd (none_one 0 refl is);
+    bytes = λ x is. absurd (none_one 0 refl is);
+    grouped = λ x y is to named. absurd (none_one 0 refl is);
+  };
   flown = record { all = λ x is. absurd (none_one 0 refl is); booked = λ s is. absurd is };
   shelves = λ v. record { of = refl; keeps = λ x. refl; each = tt; marks = λ x. refl };
   nobody = λ x. refl;
@@ -78,13 +83,15 @@ abbrev pub IsSure : (g : Setting) (n o : Net) → View g n → Type 0
 IsSure g n o h = g.doubts ≡ false → EndsRestart n o → h.w.pick_low ≤ h.w.head → Undoubted h.w
 
 -- the opening segment is settled: the owner serves
-ends_so : (g : Setting) (n : Net) (chain : List Segment) (s : LogState) (d : log.Done) → n.owner ≡ Writing chain s → d.state.flight ≡ None → EndsRestart n (after_writing g n chain d)
+ends_so : (g : Setting) (n : Net) (chain : List Segment) (s : LogState) (d : log.Done) → n.owner ≡ Writing chain s → d.state.flight ≡ None
+    → EndsRestart n (after_writing g n chain d)
 ends_so g n chain s d is none = (ap is_writing is, ap (λ o. is_serving (after_flight g n chain d o).owner) none)
 
 -- whatever happens, it is seen
 pub keeps : (k : Below) (g : Setting) (n o : Net) (h : View g n) → Happens g n o → IsSure g n o h → Next g n h o
 keeps k g n o h (Acts s i is came texts) sure = serving_view k g n h s i is came texts
-keeps k g n o h (Writes chain s i is came texts) sure = writing_view k g n h chain s i is came texts (λ none lands. sure none (ends_so g n chain s (log.transition s i) is lands))
+keeps k g n o h (Writes chain s i is came texts) sure =
+    writing_view k g n h chain s i is came texts (λ none lands. sure none (ends_so g n chain s (log.transition s i) is lands))
 keeps k g n o h (Opens s i is came can) sure = opens_view k g n h s i is came can
 keeps k g n o h Crashes sure = crash_view k g n h
 keeps k g n o h (Restarts is) sure = restart_view k g n h is

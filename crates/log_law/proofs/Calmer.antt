@@ -92,7 +92,8 @@ module _ (g : Setting) where
   happens_so : (n o : Net) → Happens g n o → Happens any n o
   happens_so n o (Acts s i is came texts) = Acts s i is came texts
   happens_so n o (Writes chain s i is came texts) = subst (Happens any n) (writing_so n chain (log.transition s i)) (Writes chain s i is came texts)
-  happens_so n o (Opens s i is came can) = subst (Happens any n) (scan_so n s (scan.transition s i)) (Opens s i is (came_so n i came) (start_so n.inc (scan.transition s i) can))
+  happens_so n o (Opens s i is came can) =
+      subst (Happens any n) (scan_so n s (scan.transition s i)) (Opens s i is (came_so n i came) (start_so n.inc (scan.transition s i) can))
   happens_so n o Crashes = Crashes
   happens_so n o (Restarts is) = Restarts is
   happens_so n o (Renews m high doubts is came) = Renews m high refl is came

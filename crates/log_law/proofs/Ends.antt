@@ -30,10 +30,12 @@ use Rattle.log_law.proofs.Views.{OwnerShown, Behind, View}
 use Rattle.log_law.proofs.Wholeness.{seen}
 
 -- what the log files by an input is of its flight
-pub landed : (s : LogState) (i : Input) (l : LogId) (outs : List Out) → AllByRecursion (TellsWhatIsDue s i) outs → (name : SegName) → In name (log_filed l outs) → (f : FlightState) × (s.flight ≡ Some f) × (record { log = l; seq = f.segment.name.seq; pass = f.segment.name.pass } ≡ name)
+pub landed : (s : LogState) (i : Input) (l : LogId) (outs : List Out) → AllByRecursion (TellsWhatIsDue s i) outs → (name : SegName) → In name (log_filed l outs)
+    → (f : FlightState) × (s.flight ≡ Some f) × (record { log = l; seq = f.segment.name.seq; pass = f.segment.name.pass } ≡ name)
 landed s i l [] all name among = absurd among
 landed s i l (Send f m ∷ os) all name among = landed s i l os all.1 name among
-landed s i l (Settled end rows ∷ os) all name (inl e) = (all.0.flight, all.0.was, sym (e ∙ ap (λ (z : End). record { log = l; seq = z.seq; pass = z.pass }) all.0.is_end))
+landed s i l (Settled end rows ∷ os) all name (inl e) =
+    (all.0.flight, all.0.was, sym (e ∙ ap (λ (z : End). record { log = l; seq = z.seq; pass = z.pass }) all.0.is_end))
 landed s i l (Settled end rows ∷ os) all name (inr among) = landed s i l os all.1 name among
 
 module _ (g : Setting) (n : Net) (h : View g n) (s : LogState) (is : n.owner ≡ Serving s) where
@@ -44,7 +46,8 @@ module _ (g : Setting) (n : Net) (h : View g n) (s : LogState) (is : n.owner ≡
 
   module _ (k : Below) (none : g.doubts ≡ false) where
     some : (name : SegName) → In name n.filed → 0 < name.seq
-    some name among = let x = number_of k g none n h name among in let a = (k.protocol.book h.w h.reached).seq_some x.number x.booked in let b = x.seq in omega arith
+    some name among = let x = number_of k g none n h name among in let a = (k.protocol.book h.w h.reached).seq_some x.number x.booked in let b =
+        x.seq in omega arith
 
     last : (name : SegName) → In name n.filed → name.seq ≤ s.end.seq
     last name among = let a = within k g none n h name among in let b = served_head k g n h (h.calm none) s is in omega arith
@@ -56,7 +59,11 @@ module _ (g : Setting) (n : Net) (h : View g n) (s : LogState) (is : n.owner ≡
         end_some = some_number g h.w.end (let e = there.0.end_seq in omega arith)
 
         named : name_of g h.w.end ≡ record { log = s.log; seq = s.end.seq; pass = s.end.pass }
-        named = λ j. record { log = (sym there.0.writes.log) j; seq = there.0.end_seq j; pass = (sym (passes g s.end.pass s.end.seq h.w.end end_some (sym there.0.end))) j }
+        named = λ j. record {
+          log = (sym there.0.writes.log) j;
+          seq = there.0.end_seq j;
+          pass = (sym (passes g s.end.pass s.end.seq h.w.end end_some (sym there.0.end))) j;
+        }
 
         by : (h.w.end ≡ 0) ⊎ In (name_of g h.w.end) n.filed → In (record { log = s.log; seq = s.end.seq; pass = s.end.pass }) n.filed
         by (inl nothing) = absurd (let a = end_some in omega arith)
@@ -65,7 +72,8 @@ module _ (g : Setting) (n : Net) (h : View g n) (s : LogState) (is : n.owner ≡
     next : IfSome s.flight (λ f. f.segment.name.seq ≡ s.end.seq + 1)
     next = by s.flight there.0.flight
       where
-        by : (o : Option FlightState) → FlightShown g h.book o s.inc s.end.seq (h.w.booked h.w.flight) h.w.flight h.w.noted → IfSome o (λ f. f.segment.name.seq ≡ s.end.seq + 1)
+        by : (o : Option FlightState) → FlightShown g h.book o s.inc s.end.seq (h.w.booked h.w.flight) h.w.flight h.w.noted
+            → IfSome o (λ f. f.segment.name.seq ≡ s.end.seq + 1)
         by None shown = tt
         by (Some f) shown = ap (λ (z : Segment). z.name.seq) shown.segment ∙ shown.next
 
@@ -78,20 +86,25 @@ module _ (g : Setting) (n : Net) (h : View g n) (s : LogState) (is : n.owner ≡
   of_log : (f : FlightState) → s.flight ≡ Some f → f.segment.name.log ≡ g.log
   of_log f flies = by s.flight flies there.0.flight
     where
-      by : (o : Option FlightState) → o ≡ Some f → FlightShown g h.book o s.inc s.end.seq (h.w.booked h.w.flight) h.w.flight h.w.noted → f.segment.name.log ≡ g.log
+      by : (o : Option FlightState) → o ≡ Some f → FlightShown g h.book o s.inc s.end.seq (h.w.booked h.w.flight) h.w.flight h.w.noted
+          → f.segment.name.log ≡ g.log
       by None e shown = absurd cc
       by (Some z) e shown =
           let same : z ≡ f = cc in
-          ap (λ (y : FlightState). y.segment.name.log) (sym same) ∙ (ap (λ (y : Segment). y.name.log) shown.segment ∙ ap (λ (y : SegName). y.log) (h.paged h.w.flight shown.is_booked).named)
+          ap (λ (y : FlightState). y.segment.name.log) (sym same)
+          ∙ (ap (λ (y : Segment). y.name.log) shown.segment ∙ ap (λ (y : SegName). y.log) (h.paged h.w.flight shown.is_booked).named)
 
-  flown_name : (f : FlightState) (name : SegName) → s.flight ≡ Some f → record { log = g.log; seq = f.segment.name.seq; pass = f.segment.name.pass } ≡ name → f.segment.name ≡ name
+  flown_name : (f : FlightState) (name : SegName) → s.flight ≡ Some f → record { log = g.log; seq = f.segment.name.seq; pass = f.segment.name.pass } ≡ name
+      → f.segment.name ≡ name
   flown_name f name flies e = ap (λ l. record { log = l; seq = f.segment.name.seq; pass = f.segment.name.pass }) (of_log f flies) ∙ e
 
 pub ends_are_last : Below → EndsAreLast
 ends_are_last k g n none m calm s is = end_is_last g n (along_moment k g none n m calm).view s is k none
 
 pub files_its_flight : Below → FilesItsFlight
-files_its_flight k g n o m s is (Acts t i is_t came texts) name among = ⊎_elim (λ new. inr (flies (landed t i g.log (log.transition t i).outs (k.logs.due t i) name new))) inl (in_either (log_filed g.log (log.transition t i).outs) n.filed name among)
+files_its_flight k g n o m s is (Acts t i is_t came texts) name among =
+    ⊎_elim (λ new. inr (flies (landed t i g.log (log.transition t i).outs (k.logs.due t i) name new))) inl
+    (in_either (log_filed g.log (log.transition t i).outs) n.filed name among)
   where
     same : t ≡ s
     same = cc

@@ -56,7 +56,8 @@ passes g p q y some e = by (p.inc == 0) e
     by false e = sym (ap (λ (z : SegName). z.pass) (name_coded g q p.inc p.att)) ∙ ap (λ z. (name_of g z).pass) e
 
 -- an end that is told settled is filed
-pub settled_filed : (l : LogId) (end : End) (outs : List Out) → settled_ends outs ≡ end ∷ [] → In (record { log = l; seq = end.seq; pass = end.pass }) (log_filed l outs)
+pub settled_filed : (l : LogId) (end : End) (outs : List Out) → settled_ends outs ≡ end ∷ []
+    → In (record { log = l; seq = end.seq; pass = end.pass }) (log_filed l outs)
 settled_filed l end [] e = absurd cc
 settled_filed l end (Send f m ∷ os) e = settled_filed l end os e
 settled_filed l end (Settled e' rows ∷ os) e = inl (λ i. record { log = l; seq = (first_of (sym e i)).seq; pass = (first_of (sym e i)).pass })
@@ -67,8 +68,10 @@ settled_filed l end (Settled e' rows ∷ os) e = inl (λ i. record { log = l; se
 
 -- ---- a restart ends: the chain has each filed segment from the least horizon on
 
-module _ (k : Below) (g : Setting) (none : g.doubts ≡ false) (n : Net) (h : View g n) (chain : List Segment) (s : LogState) (i : Input) (is : n.owner ≡ Writing chain s) (o : Net) (t : Next g n h o)
-    (serves : o.owner ≡ Serving (log.transition s i).state) (files : o.filed ≡ log_filed g.log (log.transition s i).outs ++ (names_of chain ++ n.filed)) (low : o.low ≡ n.low) where
+module _ (k : Below) (g : Setting) (none : g.doubts ≡ false) (n : Net) (h : View g n) (chain : List Segment) (s : LogState) (i : Input)
+    (is : n.owner ≡ Writing chain s) (o : Net) (t : Next g n h o)
+    (serves : o.owner ≡ Serving (log.transition s i).state) (files : o.filed ≡ log_filed g.log (log.transition s i).outs ++ (names_of chain ++ n.filed))
+    (low : o.low ≡ n.low) where
   abbrev pub d : log.Done
   d = log.transition s i
 
@@ -140,7 +143,8 @@ module _ (k : Below) (g : Setting) (none : g.doubts ≡ false) (n : Net) (h : Vi
       nothing : before.0.read.next ≡ 0 → ⊥
       nothing e = by chain le before.0.read.chained in_files
         where
-          by : (ts : List Segment) → q + length ts ≤ s.end.seq → Chained g h.w h.book s.end.seq before.0.read.next ts → ((c : SegName) → In c (names_of ts) → In c o.filed) → ⊥
+          by : (ts : List Segment) → q + length ts ≤ s.end.seq → Chained g h.w h.book s.end.seq before.0.read.next ts
+              → ((c : SegName) → In c (names_of ts) → In c o.filed) → ⊥
           by [] l c all =
               let base : h.w.base ≡ 0 = sym c ∙ e in
               let a = (k.protocol.owner h.w h.reached).no_base (let p = before.0.phase in omega arith) (let p = before.0.phase in omega arith) base in
@@ -164,14 +168,16 @@ module _ (k : Below) (g : Setting) (none : g.doubts ≡ false) (n : Net) (h : Vi
   head_at = sym ends.end_seq ∙ (ap (λ f. f u.end) v.fixed.seq_of ∙ after.0.end_seq)
 
   pub rises : EndRisesByOne s d
-  rises = subst (λ (x : LogState). EndRisesByOne x (log.transition x i)) (sym before.1.ran.is) (k.logs.rises before.1.ran.log before.1.ran.inc before.1.ran.end before.1.ran.groups before.1.ran.history i)
+  rises = subst (λ (x : LogState). EndRisesByOne x (log.transition x i)) (sym before.1.ran.is)
+      (k.logs.rises before.1.ran.log before.1.ran.inc before.1.ran.end before.1.ran.groups before.1.ran.history i)
 
   module _ (name : SegName) (among : In name o.filed) (above : o.low ≤ name.seq) where
     z : Filed name
     z = filed_one name among
 
     -- down the chain: it is there, or below all
-    down : (top x : ℕ) (ts : List Segment) → name.seq ≤ top → Chained g h.w h.book top x ts → ((c : SegName) → In c (names_of ts) → In c o.filed) → In name (names_of ts) ⊎ (name.seq + length ts ≤ top)
+    down : (top x : ℕ) (ts : List Segment) → name.seq ≤ top → Chained g h.w h.book top x ts → ((c : SegName) → In c (names_of ts) → In c o.filed)
+        → In name (names_of ts) ⊎ (name.seq + length ts ≤ top)
     down top x [] less c all = inr (omega arith)
     down top x (b ∷ bs) less c all = ⊎_elim (λ there. inl (inr there)) here (down top c.0 bs less c.5 (λ m in_. all m (inr in_)))
       where
@@ -200,7 +206,9 @@ module _ (k : Below) (g : Setting) (none : g.doubts ≡ false) (n : Net) (h : Vi
     some_seq = let a = (k.protocol.book u v.reached).seq_some z.number z.booked in let b = z.seq in omega arith
 
     of_chain : name.seq ≤ s.end.seq → In name (log_filed g.log d.outs ++ names_of chain)
-    of_chain less = ⊎_elim (λ there. in_right (log_filed g.log d.outs) (names_of chain) name there) (λ le. absurd (not_below name.seq some_seq above le)) (down s.end.seq before.0.read.next chain less before.0.read.chained in_files)
+    of_chain less =
+        ⊎_elim (λ there. in_right (log_filed g.log d.outs) (names_of chain) name there) (λ le. absurd (not_below name.seq some_seq above le))
+        (down s.end.seq before.0.read.next chain less before.0.read.chained in_files)
 
     within : name.seq ≤ u.head
     within = let a = ends.filed_head z.number z.filed in let b = z.seq in omega arith
@@ -231,8 +239,10 @@ module _ (k : Below) (g : Setting) (none : g.doubts ≡ false) (n : Net) (h : Vi
                 let same : z.number ≡ u.end = line.no_two z.number u.end z.filed top (omega arith) in
                 let some : 0 < u.end = subst (λ y. 0 < y) same z.some in
                 let pass : d.state.end.pass ≡ (name_of g u.end).pass = passes g d.state.end.pass d.state.end.seq u.end some (sym after.0.end) in
-                let its_name : name ≡ record { log = g.log; seq = d.state.end.seq; pass = d.state.end.pass } = z.named ∙ (ap (name_of g) same ∙ (λ j. record { log = g.log; seq = after.0.end_seq j; pass = sym pass j })) in
-                in_left (log_filed g.log d.outs) (names_of chain) name (subst (λ m. In m (log_filed g.log d.outs)) (sym its_name) (settled_filed g.log d.state.end d.outs e.0))
+                let its_name : name ≡ record { log = g.log; seq = d.state.end.seq; pass = d.state.end.pass } =
+                z.named ∙ (ap (name_of g) same ∙ (λ j. record { log = g.log; seq = after.0.end_seq j; pass = sym pass j })) in
+                in_left (log_filed g.log d.outs) (names_of chain) name
+                (subst (λ m. In m (log_filed g.log d.outs)) (sym its_name) (settled_filed g.log d.state.end d.outs e.0))
               where
                 less_of : (x y : ℕ) → nat_lt x y ≡ true → x < y
                 less_of x y q = grind (arith, nat_tests)
@@ -248,17 +258,22 @@ scans_not g n s d = by (chain_in d.outs) d.state.opening.groups
     by (Some t) (Some m) = refl
 
 module _ (k : Below) (g : Setting) (none : g.doubts ≡ false) (n : Net) (h : View g n) (fed : Fed n) where
-  writes_fed : (chain : List Segment) (s : LogState) (i : Input) → n.owner ≡ Writing chain s → Next g n h (after_writing g n chain (log.transition s i)) → Fed (after_writing g n chain (log.transition s i))
+  writes_fed : (chain : List Segment) (s : LogState) (i : Input) → n.owner ≡ Writing chain s → Next g n h (after_writing g n chain (log.transition s i))
+      → Fed (after_writing g n chain (log.transition s i))
   writes_fed chain s i is t = by (log.transition s i).state.flight refl
     where
       by : (o : Option FlightState) → (log.transition s i).state.flight ≡ o → Fed (after_writing g n chain (log.transition s i))
       by (Some f) e serving name among above = contrary (sym (ap (λ o. is_serving (after_flight g n chain (log.transition s i) o).owner) e) ∙ serving)
       by None e serving name among above = subst (λ o. In name (after_flight g n chain (log.transition s i) o).feed) (sym e)
-          (fed_there k g none n h chain s i is (after_writing g n chain (log.transition s i)) t (ap (λ o. (after_flight g n chain (log.transition s i) o).owner) e) (ap (λ o. (after_flight g n chain (log.transition s i) o).filed) e) (ap (λ o. (after_flight g n chain (log.transition s i) o).low) e) name among above)
+          (fed_there k g none n h chain s i is (after_writing g n chain (log.transition s i)) t
+          (ap (λ o. (after_flight g n chain (log.transition s i) o).owner) e) (ap (λ o. (after_flight g n chain (log.transition s i) o).filed) e)
+          (ap (λ o. (after_flight g n chain (log.transition s i) o).low) e) name among above)
 
   pub now_fed : (o : Net) → Happens g n o → Next g n h o → Fed o
   now_fed o (Acts s i is came texts) t serving name among above =
-      ⊎_elim (λ new. in_left (log_filed g.log (log.transition s i).outs) n.feed name new) (λ old. in_right (log_filed g.log (log.transition s i).outs) n.feed name (fed (ap is_serving is) name old above)) (in_either (log_filed g.log (log.transition s i).outs) n.filed name among)
+      ⊎_elim (λ new. in_left (log_filed g.log (log.transition s i).outs) n.feed name new)
+      (λ old. in_right (log_filed g.log (log.transition s i).outs) n.feed name (fed (ap is_serving is) name old above))
+      (in_either (log_filed g.log (log.transition s i).outs) n.filed name among)
   now_fed o (Writes chain s i is came texts) t serving name among above = writes_fed chain s i is t serving name among above
   now_fed o (Opens s i is came can) t serving name among above = contrary (sym (scans_not g n s (scan.transition s i)) ∙ serving)
   now_fed o Crashes t serving name among above = contrary serving

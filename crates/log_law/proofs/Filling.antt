@@ -63,11 +63,13 @@ module _ (g : Setting) (n : Net) (h : View g n) (v : ℕ) (f : Fragment) (i : Is
   came : (y : Fragment) × In (FragmentSent y) n.sent × (y.meta.name ≡ i.meta.name)
   came = by (some_came n i.meta.name i.round.answers i.came)
     where
-      by : ((k : ℕ) → bytes_in k i.round.answers ≡ None) ⊎ ((y : Fragment) × In (FragmentSent y) n.sent × (y.meta.name ≡ i.meta.name)) → (y : Fragment) × In (FragmentSent y) n.sent × (y.meta.name ≡ i.meta.name)
+      by : ((k : ℕ) → bytes_in k i.round.answers ≡ None) ⊎ ((y : Fragment) × In (FragmentSent y) n.sent × (y.meta.name ≡ i.meta.name))
+          → (y : Fragment) × In (FragmentSent y) n.sent × (y.meta.name ≡ i.meta.name)
       by (inl none) = absurd (few none)
         where
           few : ((k : ℕ) → bytes_in k i.round.answers ≡ None) → ⊥
-          few none = let a = le_test (count_of i.round) (count_by is_some (parts_in i.round.n i.round.answers)) (gave i.round i.text i.read).enough in let b = none_counted (λ k. bytes_in k i.round.answers) none 0 i.round.n in let c = i.is_round.cut.least in omega arith
+          few none = let a = le_test (count_of i.round) (count_by is_some (parts_in i.round.n i.round.answers)) (gave i.round i.text i.read).enough in let b =
+              none_counted (λ k. bytes_in k i.round.answers) none 0 i.round.n in let c = i.is_round.cut.least in omega arith
       by (inr y) = y
 
   pub fill_seen : FillSeen g h.w h.book v f
@@ -88,4 +90,5 @@ module _ (g : Setting) (n : Net) (h : View g n) (v : ℕ) (f : Fragment) (i : Is
       told : FragmentSeen g h.w h.book came.0 → In (record { name = x; text = h.w.text_of x }) h.w.fragments
       told s =
           let e : s.name ≡ x = same g n h x it.booked s.name s.known (ap (λ (z : Fragment). z.meta.name) (sym s.is) ∙ (came.2 ∙ its_name)) in
-          subst (λ t. In (record { name = x; text = t }) h.w.fragments) (sym page.spelled) (subst (λ y. In (record { name = y; text = g.number (text_of (h.book y)) }) h.w.fragments) e s.sent)
+          subst (λ t. In (record { name = x; text = t }) h.w.fragments) (sym page.spelled)
+          (subst (λ y. In (record { name = y; text = g.number (text_of (h.book y)) }) h.w.fragments) e s.sent)

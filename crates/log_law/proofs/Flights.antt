@@ -61,7 +61,8 @@ module _ (g : Setting) where
           group = stripe_group g h.w h.book x (h.book x) chosen s.groups 0 0 h.fixed.servers (as_it_serves.writes.map s.log.0 (s.end.seq + 1));
         }) booked
 
-        by : (o : Option FlightState) → s.flight ≡ o → FlightShown g h.book o s.inc s.end.seq (h.w.booked h.w.flight) h.w.flight h.w.noted → FlightOf h.w s.flight x
+        by : (o : Option FlightState) → s.flight ≡ o → FlightShown g h.book o s.inc s.end.seq (h.w.booked h.w.flight) h.w.flight h.w.noted
+            → FlightOf h.w s.flight x
         by None is shown = absurd (none_booked shown)
         by (Some f) is shown =
             let page = h.paged h.w.flight shown.is_booked in
@@ -73,18 +74,23 @@ module _ (g : Setting) where
             let at = end_at in
             let inc = as_it_serves.writes.inc in
             let mine = own in
-            let flight_seq : h.w.seq_of h.w.flight ≡ f.segment.name.seq = ap (λ t. t h.w.flight) h.fixed.seq_of ∙ (sym (ap (λ (z : SegName). z.seq) page.named) ∙ ap (λ (z : Segment). z.name.seq) (sym shown.segment)) in
-            let flight_boot : h.w.incarnation_of h.w.flight ≡ f.segment.name.pass.inc = ap (λ t. t h.w.flight) h.fixed.incarnation_of ∙ (sym (ap (λ (z : SegName). z.pass.inc) page.named) ∙ ap (λ (z : Segment). z.name.pass.inc) (sym shown.segment)) in
+            let flight_seq : h.w.seq_of h.w.flight ≡ f.segment.name.seq =
+            ap (λ t. t h.w.flight) h.fixed.seq_of ∙ (sym (ap (λ (z : SegName). z.seq) page.named) ∙ ap (λ (z : Segment). z.name.seq) (sym shown.segment)) in
+            let flight_boot : h.w.incarnation_of h.w.flight ≡ f.segment.name.pass.inc =
+            ap (λ t. t h.w.flight) h.fixed.incarnation_of
+            ∙ (sym (ap (λ (z : SegName). z.pass.inc) page.named) ∙ ap (λ (z : Segment). z.name.pass.inc) (sym shown.segment)) in
             record {
               flight = f;
               is = is;
               seq = (let a = next in omega arith);
               boot = (let a = boot in omega arith);
-              content = (k.protocol.book h.w h.reached).one_content x h.w.flight booked shown.is_booked (let a = next in omega arith) (let a = boot in omega arith) ∙ (page.tells ∙ ap (λ (z : Segment). g.content z.items) (sym shown.segment));
+              content = (k.protocol.book h.w h.reached).one_content x h.w.flight booked shown.is_booked (let a = next in omega arith)
+                  (let a = boot in omega arith) ∙ (page.tells ∙ ap (λ (z : Segment). g.content z.items) (sym shown.segment));
             }
 
   -- and it stays so until another boot serves
-  pub steady_kept : (k : Below) (w u : State) → Reached w → Fixed g w → Fixed g u → Steps w u → Steady w u → (last : Option FlightState) → FlightKept w last → FlightKept u last
+  pub steady_kept : (k : Below) (w u : State) → Reached w → Fixed g w → Fixed g u → Steps w u → Steady w u → (last : Option FlightState) → FlightKept w last
+      → FlightKept u last
   steady_kept k w u reached fixed later run s last kept x booked boot next =
       let was = s.booked x booked boot in
       let names : u.incarnation_of x ≡ w.incarnation_of x = ap (λ t. t x) later.incarnation_of ∙ sym (ap (λ t. t x) fixed.incarnation_of) in
@@ -93,7 +99,8 @@ module _ (g : Setting) where
       record { flight = f.flight; is = f.is; seq = f.seq; boot = f.boot; content = (k.protocol.past w u reached run).content x was ∙ f.content }
 
   -- over one event
-  pub now_kept : (k : Below) (n : Net) (h : View g n) (o : Net) (t : Next g n h o) → t.view.w.clean ≡ 1 → (last : Option FlightState) → FlightKept h.w last → FlightKept t.view.w (flight_in o.owner last)
+  pub now_kept : (k : Below) (n : Net) (h : View g n) (o : Net) (t : Next g n h o) → t.view.w.clean ≡ 1 → (last : Option FlightState) → FlightKept h.w last
+      → FlightKept t.view.w (flight_in o.owner last)
   now_kept k n h o t clean last kept = by o.owner refl
     where
       still : is_serving o.owner ≡ false → FlightKept t.view.w last
@@ -138,9 +145,14 @@ module _ (g : Setting) where
 
       by : (o : Option FlightState) → FlightShown g h.book o s.inc s.end.seq (h.w.booked h.w.flight) h.w.flight h.w.noted → FlightAt h.w o
       by None shown = tt
-      by (Some f) shown = (ap (λ (z : Segment). z.name.seq) shown.segment ∙ (let a = shown.next in let b = head in omega arith), ap (λ (z : Segment). z.name.pass.inc) shown.segment ∙ (shown.own ∙ sym boot))
+      by (Some f) shown = (
+        ap (λ (z : Segment). z.name.seq) shown.segment
+            ∙ (let a = shown.next in let b = head in omega arith),
+        ap (λ (z : Segment). z.name.pass.inc) shown.segment ∙ (shown.own ∙ sym boot),
+      )
 
-  pub now_at : (k : Below) (n : Net) (h : View g n) (o : Net) (t : Next g n h o) → t.view.w.clean ≡ 1 → (last : Option FlightState) → FlightAt h.w last → FlightAt t.view.w (flight_in o.owner last)
+  pub now_at : (k : Below) (n : Net) (h : View g n) (o : Net) (t : Next g n h o) → t.view.w.clean ≡ 1 → (last : Option FlightState) → FlightAt h.w last
+      → FlightAt t.view.w (flight_in o.owner last)
   now_at k n h o t clean last at = by o.owner refl
     where
       still : is_serving o.owner ≡ false → FlightAt t.view.w last

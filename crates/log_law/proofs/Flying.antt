@@ -48,7 +48,8 @@ writes_next k s i ran = record { rises = by rises; next = flies (log.transition 
     by (inl same) = (let e = ap (λ z. z.seq) same.1 in omega arith)
     by (inr one) = (let e = one.1 in omega arith)
 
-    flies : (o : Option FlightState) → IfSome o (IsNext (log.transition s i).state) → IfSome o (λ f. f.segment.name.seq ≡ (log.transition s i).state.end.seq + 1)
+    flies : (o : Option FlightState) → IfSome o (IsNext (log.transition s i).state)
+        → IfSome o (λ f. f.segment.name.seq ≡ (log.transition s i).state.end.seq + 1)
     flies None line = tt
     flies (Some f) line = line.seq
 
@@ -74,7 +75,8 @@ goes_on n m o b h = record {
     by s (inr low) = inr (let r = b.rises in omega arith)
 
 -- what flies now flew, or is the flight
-flying : (o : Option FlightState) (flown : List Segment) (top : ℕ) → IfSome o (λ f. f.segment.name.seq ≡ top) → (s : Segment) → In s (flown_with o flown) → In s flown ⊎ (s.name.seq ≤ top)
+flying : (o : Option FlightState) (flown : List Segment) (top : ℕ) → IfSome o (λ f. f.segment.name.seq ≡ top) → (s : Segment) → In s (flown_with o flown)
+    → In s flown ⊎ (s.name.seq ≤ top)
 flying None flown top next s among = inl among
 flying (Some f) flown top next s (inl e) = inr (let a = ap (λ (z : Segment). z.name.seq) e in let b = next in omega arith)
 flying (Some f) flown top next s (inr was) = inl was

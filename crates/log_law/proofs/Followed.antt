@@ -85,7 +85,10 @@ module _ (g : Setting) (n : Net) (h : View g n) where
       clash a b = omega arith
 
   lacks_there : (v x : ℕ) → h.w.holds v x ≡ 0 → (h.w.dropped x ≡ 1 → ⊥) → Lacks n (name_of g x) v
-  lacks_there v x holds kept = (none_kept (h.book x) _ _ _ _ ((h.shelves v).keeps x) holds, λ is. (let d = h.gone (name_of g x) is in kept (ap h.w.dropped (one_number g x d.number d.named) ∙ d.dropped)))
+  lacks_there v x holds kept = (
+    none_kept (h.book x) _ _ _ _ ((h.shelves v).keeps x) holds,
+    λ is. (let d = h.gone (name_of g x) is in kept (ap h.w.dropped (one_number g x d.number d.named) ∙ d.dropped)),
+  )
 
 -- ---- over one event
 
@@ -96,7 +99,8 @@ module _ (k : Below) (g : Setting) (none : g.doubts ≡ false) (a : Net) (serves
   -- what is carried along a run
   pub record Followed : Type 0 where
     pub fallen : is_down n.owner ≡ true → 0 < h.w.spanning → in_span run ≡ true
-    pub hurt : (i : ℕ) → InSpan h.w → 0 < h.w.head → h.w.span_low ≤ h.w.head → i < h.w.member_count top → 0 < h.w.hurt i → LackedInSpan run (name_of g top) (h.w.member_server top i)
+    pub hurt : (i : ℕ) → InSpan h.w → 0 < h.w.head → h.w.span_low ≤ h.w.head → i < h.w.member_count top → 0 < h.w.hurt i
+        → LackedInSpan run (name_of g top) (h.w.member_server top i)
 
   clean : h.w.clean ≡ 1
   clean = h.calm none
@@ -157,10 +161,12 @@ module _ (k : Below) (g : Setting) (none : g.doubts ≡ false) (a : Net) (serves
         booked_z =
             let c = (k.protocol.past z u reached_z l.after).clean now_clean in
             let e = k.protocol.head z reached_z c in
-            subst (λ y. z.booked y ≡ 1) l.line ((k.protocol.book z reached_z).filed_booked (z.line z.head) (e.line_filed z.head (let a = l.head in omega arith) (omega arith)))
+            subst (λ y. z.booked y ≡ 1) l.line
+            ((k.protocol.book z reached_z).filed_booked (z.line z.head) (e.line_filed z.head (let a = l.head in omega arith) (omega arith)))
 
         lacks_z : z.holds v x ≡ 0
-        lacks_z = ap (λ y. z.holds y x) ((k.protocol.past z u reached_z l.after).member_server x i booked_z) ∙ subst (λ y. z.holds (z.member_server y i) y ≡ 0) l.line l.lacks.lacks
+        lacks_z = ap (λ y. z.holds y x) ((k.protocol.past z u reached_z l.after).member_server x i booked_z)
+            ∙ subst (λ y. z.holds (z.member_server y i) y ≡ 0) l.line l.lacks.lacks
 
         kept_z : z.dropped x ≡ 1 → ⊥
         kept_z e = let a = subst (λ y. z.dropped y ≡ 0) l.line l.lacks.kept in omega arith
@@ -173,7 +179,8 @@ module _ (k : Below) (g : Setting) (none : g.doubts ≡ false) (a : Net) (serves
         lacked_before same =
             let p = (k.protocol.past h.w z h.reached l.before).generation v in
             let q = (k.protocol.past z u reached_z l.after).generation v in
-            let law = (k.protocol.lacks h.w h.w z h.reached Done l.before) v x (omega arith) lacks_z (λ marked. kept_z ((k.protocol.shelves z reached_z).marked_dropped v x marked)) in
+            let law = (k.protocol.lacks h.w h.w z h.reached Done l.before) v x (omega arith) lacks_z
+            (λ marked. kept_z ((k.protocol.shelves z reached_z).marked_dropped v x marked)) in
             let flag = (k.protocol.shelves h.w h.reached).held_flag v x in
             not_one (h.w.holds v x) flag law.1
           where
@@ -187,27 +194,40 @@ module _ (k : Below) (g : Setting) (none : g.doubts ≡ false) (a : Net) (serves
             aside left = ⊎_elim kept_generation lost (left.servers v)
               where
                 kept_generation : u.generation v ≡ h.w.generation v → LackedInSpan later (name_of g x) v
-                kept_generation same = (now_spans span, inr (lacked_here g a serves n run (name_of g x) v (span_before g a serves n run o.owner left.owner (now_spans span)) (lacks_there g n h v x (lacked_before same) kept_w)))
+                kept_generation same = (
+                  now_spans span,
+                  inr (lacked_here g a serves n run (name_of g x) v (span_before g a serves n run o.owner left.owner (now_spans span))
+                      (lacks_there g n h v x (lacked_before same) kept_w)),
+                )
 
                 lost : ((y : ℕ) → u.holds v y ≡ 0) × (u.dropped ≡ h.w.dropped) → LackedInSpan later (name_of g x) v
                 lost e = (now_spans span, inl (lacks_there g o t.view v x (e.0 x) (λ gone. kept_w (ap (λ d. d x) (sym e.1) ∙ gone))))
 
             alone : Alone h.w u → LackedInSpan later (name_of g x) v
-            alone only = (now_spans span, inl (lacks_there g o t.view v x (ap (λ d. d v x) only.holds ∙ lacked_before (ap (λ d. d v) only.generation)) (λ gone. kept_w (ap (λ d. d x) (sym only.dropped) ∙ gone))))
+            alone only = (
+              now_spans span,
+              inl (lacks_there g o t.view v x (ap (λ d. d v x) only.holds ∙ lacked_before (ap (λ d. d v) only.generation))
+                  (λ gone. kept_w (ap (λ d. d x) (sym only.dropped) ∙ gone))),
+            )
 
       -- where it was hurt before
       hurt_before : u.span_low ≤ u.head → HurtBefore h.w u i → LackedInSpan later (name_of g x) v
       hurt_before low b =
-          let booked = (k.protocol.book h.w h.reached).filed_booked top ((k.protocol.head h.w h.reached clean).line_filed h.w.head (let e = b.head in omega arith) (omega arith)) in
+          let booked = (k.protocol.book h.w h.reached).filed_booked top
+          ((k.protocol.head h.w h.reached clean).line_filed h.w.head (let e = b.head in omega arith) (omega arith)) in
           let past = k.protocol.past h.w u h.reached t.steps in
           let same : x ≡ top = b.line in
           let server : u.member_server x i ≡ h.w.member_server top i = ap (λ y. u.member_server y i) same ∙ past.member_server top i booked in
           let count : u.member_count x ≡ h.w.member_count top = ap u.member_count same ∙ past.member_count top booked in
-          let was = f.hurt i b.span (let e = b.head in omega arith) (let e = b.head in let s = b.span_low in let l = low in omega arith) (let m = member in omega arith) b.hurt in
+          let was = f.hurt i b.span (let e = b.head in omega arith) (let e = b.head in let s = b.span_low in let l = low in omega arith)
+          (let m = member in omega arith) b.hurt in
           (now_spans span, inr (subst (λ y. LackedInSpan run (name_of g y) v) (sym same) (subst (λ y. LackedInSpan run (name_of g top) y) (sym server) was)))
 
-    now_hurt : (i : ℕ) → InSpan u → 0 < u.head → u.span_low ≤ u.head → i < u.member_count x → 0 < u.hurt i → LackedInSpan later (name_of g x) (u.member_server x i)
-    now_hurt i span some low member hurt = ⊎_elim (λ b. hurt_before i span some member low b) (λ l. lacked_now i span some member l) (earned_through k h.w u h.reached t.steps now_clean i span some low hurt)
+    now_hurt : (i : ℕ) → InSpan u → 0 < u.head → u.span_low ≤ u.head → i < u.member_count x → 0 < u.hurt i
+        → LackedInSpan later (name_of g x) (u.member_server x i)
+    now_hurt i span some low member hurt =
+        ⊎_elim (λ b. hurt_before i span some member low b) (λ l. lacked_now i span some member l)
+        (earned_through k h.w u h.reached t.steps now_clean i span some low hurt)
 
   -- ---- the premise on losses, where a restart ends
 
@@ -215,7 +235,8 @@ module _ (k : Below) (g : Setting) (none : g.doubts ≡ false) (a : Net) (serves
     while_writing : is_writing n.owner ≡ true → (h.w.phase ≡ 3) × (h.w.pick_low ≡ n.picked)
     while_writing t = by n.owner t h.owner h.picked
       where
-        by : (p : Owner) → is_writing p ≡ true → OwnerShown g h.w h.book h.hellos p → PickShown h.w.pick_low n.picked p → (h.w.phase ≡ 3) × (h.w.pick_low ≡ n.picked)
+        by : (p : Owner) → is_writing p ≡ true → OwnerShown g h.w h.book h.hellos p → PickShown h.w.pick_low n.picked p
+            → (h.w.phase ≡ 3) × (h.w.pick_low ≡ n.picked)
         by Down e shown picked = contrary e
         by (Opening s) e shown picked = contrary e
         by (Writing chain s) e shown picked = (shown.0.phase, picked)
@@ -224,7 +245,8 @@ module _ (k : Below) (g : Setting) (none : g.doubts ≡ false) (a : Net) (serves
     ends : EndIsHead h.w
     ends = k.protocol.head h.w h.reached clean
 
-    doubtful : is_writing n.owner ≡ true → h.w.pick_low ≤ h.w.head → 0 < h.w.head → h.w.span_low ≤ h.w.head → ((i : ℕ) → i < h.w.member_count top → 0 < h.w.hurt i) → IsDoubtful g run
+    doubtful : is_writing n.owner ≡ true → h.w.pick_low ≤ h.w.head → 0 < h.w.head → h.w.span_low ≤ h.w.head
+        → ((i : ℕ) → i < h.w.member_count top → 0 < h.w.hurt i) → IsDoubtful g run
     doubtful t low some span all = record {
       segment = h.book top;
       flown = h.flown.all top booked;
@@ -237,7 +259,8 @@ module _ (k : Below) (g : Setting) (none : g.doubts ≡ false) (a : Net) (serves
         booked : h.w.booked top ≡ 1
         booked = (k.protocol.book h.w h.reached).filed_booked top (ends.line_filed h.w.head some (omega arith))
 
-        page : Page g top (h.book top) (h.w.text_of top) (h.w.member_count top) (h.w.member_server top) (h.w.member_generation top) (h.w.prior_of top) (h.w.content_of top)
+        page : Page g top (h.book top) (h.w.text_of top) (h.w.member_count top) (h.w.member_server top) (h.w.member_generation top) (h.w.prior_of top)
+            (h.w.content_of top)
         page = h.paged top booked
 
         seq : (h.book top).name.seq ≡ h.w.head
@@ -263,10 +286,12 @@ module _ (k : Below) (g : Setting) (none : g.doubts ≡ false) (a : Net) (serves
             let inside : place < h.w.member_count top = subst (λ c. place < c) (sym page.counted) member in
             let p = (while_writing t).0 in
             subst (λ z. LackedInSpan run z (server_of (members_of g (h.book top)) place)) (sym page.named)
-            (subst (λ v. LackedInSpan run (name_of g top) v) (page.at_server place) (f.hurt place (record { not_serving = omega arith; begun = inl (omega arith) }) some span inside (all place inside)))
+            (subst (λ v. LackedInSpan run (name_of g top) v) (page.at_server place)
+            (f.hurt place (record { not_serving = omega arith; begun = inl (omega arith) }) some span inside (all place inside)))
 
     sure : (o : Net) → EndsRestart n o → (IsDoubtful g run → ⊥) → h.w.pick_low ≤ h.w.head → Undoubted h.w
-    sure o restart calm low some span = ⊎_elim (λ a. a) (λ all. absurd (calm (doubtful restart.0 low some span all))) (some_unhurt h.w.hurt (h.w.member_count top))
+    sure o restart calm low some span =
+        ⊎_elim (λ a. a) (λ all. absurd (calm (doubtful restart.0 low some span all))) (some_unhurt h.w.hurt (h.w.member_count top))
 
 -- ---- along the run
 
@@ -280,7 +305,8 @@ serving_phase g n h t = by n.owner t h.owner
     by (Writing chain s) e shown = contrary e
     by (Serving s) e shown = shown.0.phase
 
-pub record Along (k : Below) (g : Setting) (none : g.doubts ≡ false) (first : Net) (serves : is_serving first.owner ≡ true) (n : Net) (run : Runs g first n) : Type 0 where
+pub record Along (k : Below) (g : Setting) (none : g.doubts ≡ false) (first : Net) (serves : is_serving first.owner ≡ true) (n : Net)
+    (run : Runs g first n) : Type 0 where
   pub view : View g n
   pub followed : Followed k g none first serves n run view
   pub flown : FlightKept g view.w (last_flight run)
@@ -289,13 +315,19 @@ pub record Along (k : Below) (g : Setting) (none : g.doubts ≡ false) (first : 
   pub gapless : Gapless n view.w.head
 
 -- what happens next is followed
-pub followed_by : (k : Below) (g : Setting) (none : g.doubts ≡ false) (first : Net) (serves : is_serving first.owner ≡ true) (m : Net) (run : Runs g first m) (b : Along k g none first serves m run) (n : Net) → Happens g m n → (EndsRestart m n → IsDoubtful g run → ⊥) → Next g m b.view n
-followed_by k g none first serves m run b n happens calm = keeps k g m n b.view happens (λ none_too restart low. sure k g none first serves m run b.view b.followed n restart (calm restart) low)
+pub followed_by : (k : Below) (g : Setting) (none : g.doubts ≡ false) (first : Net) (serves : is_serving first.owner ≡ true) (m : Net) (run : Runs g first m)
+    (b : Along k g none first serves m run) (n : Net) → Happens g m n → (EndsRestart m n → IsDoubtful g run → ⊥) → Next g m b.view n
+followed_by k g none first serves m run b n happens calm =
+    keeps k g m n b.view happens (λ none_too restart low. sure k g none first serves m run b.view b.followed n restart (calm restart) low)
 
-pub along : (k : Below) (g : Setting) (none : g.doubts ≡ false) (first : Net) (serves : is_serving first.owner ≡ true) → (seen : View g first) → Fed first → Gapless first seen.w.head → (n : Net) (run : Runs g first n) → IsSureRun run → Along k g none first serves n run
+pub along : (k : Below) (g : Setting) (none : g.doubts ≡ false) (first : Net) (serves : is_serving first.owner ≡ true) → (seen : View g first) → Fed first
+    → Gapless first seen.w.head → (n : Net) (run : Runs g first n) → IsSureRun run → Along k g none first serves n run
 along k g none first serves seen fed gapless n Begun s = record {
   view = seen;
-  followed = record { fallen = λ down some. absurd (not_down first.owner serves down); hurt = λ i span some low member hurt. absurd (let p = serving_phase g first seen serves in let q = span.not_serving in omega arith) };
+  followed = record {
+    fallen = λ down some. absurd (not_down first.owner serves down);
+    hurt = λ i span some low member hurt. absurd (let p = serving_phase g first seen serves in let q = span.not_serving in omega arith);
+  };
   flown = first_kept g k first seen (seen.calm none) serves;
   flight_at = first_at g k first seen (seen.calm none) serves;
   fed = fed;
@@ -306,7 +338,10 @@ along k g none first serves seen fed gapless n (On {m = m} run happens) s = on (
     on : Along k g none first serves m run → Along k g none first serves n (On run happens)
     on b = let t = followed_by k g none first serves m run b n happens s.1 in record {
       view = t.view;
-      followed = record { fallen = now_fallen k g none first serves m run b.view b.followed n happens t; hurt = now_hurt k g none first serves m run b.view b.followed n happens t };
+      followed = record {
+        fallen = now_fallen k g none first serves m run b.view b.followed n happens t;
+        hurt = now_hurt k g none first serves m run b.view b.followed n happens t;
+      };
       flown = now_kept g k m b.view n t (t.view.calm none) (last_flight run) b.flown;
       flight_at = now_at g k m b.view n t (t.view.calm none) (last_flight run) b.flight_at;
       fed = now_fed k g none m b.view b.fed n happens t;
@@ -314,7 +349,8 @@ along k g none first serves seen fed gapless n (On {m = m} run happens) s = on (
     }
 
 -- along the run of a moment
-pub along_moment : (k : Below) (g : Setting) (none : g.doubts ≡ false) (n : Net) (m : Moment g n) → IsSureRun m.run → Along k g none (opening g m.map) refl n m.run
+pub along_moment : (k : Below) (g : Setting) (none : g.doubts ≡ false) (n : Net) (m : Moment g n) → IsSureRun m.run
+    → Along k g none (opening g m.map) refl n m.run
 along_moment k g none n m calm = along k g none (opening g m.map) refl first (λ serving name is above. absurd is) gapless n m.run calm
   where
     first : View g (opening g m.map)

@@ -121,7 +121,9 @@ module _ (g : Setting) (w u : State) (book : ℕ → Segment) (by : Apart w u) w
   }
 
   pub paged_apart : Book g w book → Book g u book
-  paged_apart paged = same (λ o. (x : ℕ) → o.booked x ≡ 1 → Page g x (book x) (o.text_of x) (o.member_count x) (o.member_server x) (o.member_generation x) (o.prior_of x) (o.content_of x)) paged
+  paged_apart paged =
+      same (λ o. (x : ℕ) → o.booked x ≡ 1
+      → Page g x (book x) (o.text_of x) (o.member_count x) (o.member_server x) (o.member_generation x) (o.prior_of x) (o.content_of x)) paged
 
   pub spelled_apart : IsSpelled g book w.booked → IsSpelled g book u.booked
   spelled_apart s = same (λ o. IsSpelled g book o.booked) s
@@ -135,7 +137,14 @@ module _ (g : Setting) (w u : State) (book : ℕ → Segment) (by : Apart w u) w
   -- ---- the owner
 
   writes_apart : (s : LogState) → Writes g w s → Writes g u s
-  writes_apart s h = record { log = h.log; inc = same (λ o. s.inc ≡ o.incarnation) h.inc; some = h.some; map = h.map; known = same (λ o. (v : ℕ) → o.owner_generation v ≡ present_at s.groups v) h.known }
+  writes_apart s h =
+      record {
+        log = h.log;
+        inc = same (λ o. s.inc ≡ o.incarnation) h.inc;
+        some = h.some;
+        map = h.map;
+        known = same (λ o. (v : ℕ) → o.owner_generation v ≡ present_at s.groups v) h.known;
+      }
 
   behind_apart : (s : LogState) → Behind g w book s → Behind g u book s
   behind_apart s b = record { ran = b.ran; grouped = same (λ o. IsGrouped g book o.booked s.end) b.grouped }

@@ -60,10 +60,13 @@ module _ (k : Below) (g : Setting) (n : Net) (h : View g n) (clean : h.w.clean �
 
 -- ---- a restart ends: the chain has each number from above the head on
 
-module _ (k : Below) (g : Setting) (none : g.doubts ≡ false) (n : Net) (h : View g n) (chain : List Segment) (s : LogState) (i : Input) (is : n.owner ≡ Writing chain s) (o : Net) (t : Next g n h o)
-    (serves : o.owner ≡ Serving (log.transition s i).state) (files : o.filed ≡ log_filed g.log (log.transition s i).outs ++ (names_of chain ++ n.filed)) (low : o.low ≡ n.low) (gapless : Gapless n h.w.head) where
+module _ (k : Below) (g : Setting) (none : g.doubts ≡ false) (n : Net) (h : View g n) (chain : List Segment) (s : LogState) (i : Input)
+    (is : n.owner ≡ Writing chain s) (o : Net) (t : Next g n h o)
+    (serves : o.owner ≡ Serving (log.transition s i).state) (files : o.filed ≡ log_filed g.log (log.transition s i).outs ++ (names_of chain ++ n.filed))
+    (low : o.low ≡ n.low) (gapless : Gapless n h.w.head) where
   -- down the chain
-  reaches : (q top x : ℕ) (ts : List Segment) → top < q + length ts → q ≤ top → Chained g h.w h.book top x ts → ((c : SegName) → In c (names_of ts) → In c o.filed) → Has o q
+  reaches : (q top x : ℕ) (ts : List Segment) → top < q + length ts → q ≤ top → Chained g h.w h.book top x ts
+      → ((c : SegName) → In c (names_of ts) → In c o.filed) → Has o q
   reaches q top x [] more less c all = absurd (omega arith)
   reaches q top x (b ∷ bs) more less c all = by (nat_lt top (q + length bs)) refl (λ m. reaches q top c.0 bs m less c.5 (λ z in_. all z (inr in_)))
     where
@@ -81,7 +84,8 @@ module _ (k : Below) (g : Setting) (none : g.doubts ≡ false) (n : Net) (h : Vi
   head = k.protocol.head h.w h.reached clean
 
   in_old : (c : SegName) → In c n.filed → In c o.filed
-  in_old c in_ = subst (In c) (sym files) (in_right (log_filed g.log (log.transition s i).outs) (names_of chain ++ n.filed) c (in_right (names_of chain) n.filed c in_))
+  in_old c in_ =
+      subst (In c) (sym files) (in_right (log_filed g.log (log.transition s i).outs) (names_of chain ++ n.filed) c (in_right (names_of chain) n.filed c in_))
 
   in_new : (c : SegName) → In c (log_filed g.log (log.transition s i).outs) → In c o.filed
   in_new c in_ = subst (In c) (sym files) (in_left (log_filed g.log (log.transition s i).outs) (names_of chain ++ n.filed) c in_)
@@ -98,7 +102,9 @@ module _ (k : Below) (g : Setting) (none : g.doubts ≡ false) (n : Net) (h : Vi
           above = let a = less_of h.w.head q e in let b = head.low_head in let c = h.low in let d = low in omega arith
 
           by_depth : (b : Bool) → nat_lt s.end.seq (q + length chain) ≡ b → Has o q
-          by_depth true f = reaches q s.end.seq (before k g none n h chain s i is o t serves files low).0.read.next chain (less_of s.end.seq (q + length chain) f) less (before k g none n h chain s i is o t serves files low).0.read.chained
+          by_depth true f =
+              reaches q s.end.seq (before k g none n h chain s i is o t serves files low).0.read.next chain (less_of s.end.seq (q + length chain) f) less
+              (before k g none n h chain s i is o t serves files low).0.read.chained
               (in_files k g none n h chain s i is o t serves files low)
           by_depth false f = absurd (not_below k g none n h chain s i is o t serves files low q some above (more_of s.end.seq (q + length chain) f))
 
@@ -111,7 +117,8 @@ module _ (k : Below) (g : Setting) (none : g.doubts ≡ false) (n : Net) (h : Vi
       stays : (settled_ends (log.transition s i).outs ≡ []) × ((log.transition s i).state.end ≡ s.end) → Gapless o t.view.w.head
       stays e q some less = to_top q some (let a = at in let b = ap (λ (z : End). z.seq) e.1 in omega arith)
 
-      lands : (settled_ends (log.transition s i).outs ≡ (log.transition s i).state.end ∷ []) × ((log.transition s i).state.end.seq ≡ s.end.seq + 1) → Gapless o t.view.w.head
+      lands : (settled_ends (log.transition s i).outs ≡ (log.transition s i).state.end ∷ []) × ((log.transition s i).state.end.seq ≡ s.end.seq + 1)
+          → Gapless o t.view.w.head
       lands e = one_more o s.end.seq t.view.w.head (let a = at in let b = e.1 in omega arith) to_top
           (_, in_new _ (settled_filed g.log (log.transition s i).state.end (log.transition s i).outs e.0), (let b = e.1 in omega arith))
 
@@ -137,14 +144,16 @@ module _ (k : Below) (g : Setting) (none : g.doubts ≡ false) (n : Net) (h : Vi
         by (Serving s) e = still (served_head k g o t.view (t.view.calm none) s (same ∙ e) ∙ sym (served_head k g n h (h.calm none) s e))
 
   -- the log of an owner that serves
-  acts : (s : LogState) (i : Input) → n.owner ≡ Serving s → Happens g n (after_log g n (log.transition s i)) → (t : Next g n h (after_log g n (log.transition s i))) → Gapless (after_log g n (log.transition s i)) t.view.w.head
+  acts : (s : LogState) (i : Input) → n.owner ≡ Serving s → Happens g n (after_log g n (log.transition s i))
+      → (t : Next g n h (after_log g n (log.transition s i))) → Gapless (after_log g n (log.transition s i)) t.view.w.head
   acts s i is happens t = ⊎_elim stays lands rises_here
     where
       behind : Behind g h.w h.book s
       behind = (subst (OwnerShown g h.w h.book h.hellos) is h.owner).1
 
       rises_here : EndRisesByOne s (log.transition s i)
-      rises_here = subst (λ (x : LogState). EndRisesByOne x (log.transition x i)) (sym behind.ran.is) (k.logs.rises behind.ran.log behind.ran.inc behind.ran.end behind.ran.groups behind.ran.history i)
+      rises_here = subst (λ (x : LogState). EndRisesByOne x (log.transition x i)) (sym behind.ran.is)
+          (k.logs.rises behind.ran.log behind.ran.inc behind.ran.end behind.ran.groups behind.ran.history i)
 
       was : h.w.head ≡ s.end.seq
       was = served_head k g n h (h.calm none) s is
@@ -152,22 +161,30 @@ module _ (k : Below) (g : Setting) (none : g.doubts ≡ false) (n : Net) (h : Vi
       at : t.view.w.head ≡ (log.transition s i).state.end.seq
       at = served_head k g _ t.view (t.view.calm none) (log.transition s i).state refl
 
-      stays : (settled_ends (log.transition s i).outs ≡ []) × ((log.transition s i).state.end ≡ s.end) → Gapless (after_log g n (log.transition s i)) t.view.w.head
+      stays : (settled_ends (log.transition s i).outs ≡ []) × ((log.transition s i).state.end ≡ s.end)
+          → Gapless (after_log g n (log.transition s i)) t.view.w.head
       stays e = still (after_log g n (log.transition s i)) happens t (at ∙ (ap (λ (z : End). z.seq) e.1 ∙ sym was))
 
-      lands : (settled_ends (log.transition s i).outs ≡ (log.transition s i).state.end ∷ []) × ((log.transition s i).state.end.seq ≡ s.end.seq + 1) → Gapless (after_log g n (log.transition s i)) t.view.w.head
+      lands : (settled_ends (log.transition s i).outs ≡ (log.transition s i).state.end ∷ []) × ((log.transition s i).state.end.seq ≡ s.end.seq + 1)
+          → Gapless (after_log g n (log.transition s i)) t.view.w.head
       lands e = one_more (after_log g n (log.transition s i)) h.w.head t.view.w.head (let a = at in let b = e.1 in let c = was in omega arith)
-          (λ q some less. let z = gapless q some less in (z.0, in_right (log_filed g.log (log.transition s i).outs) n.filed z.0 z.1, z.2))
-          (_, in_left (log_filed g.log (log.transition s i).outs) n.filed _ (settled_filed g.log (log.transition s i).state.end (log.transition s i).outs e.0), (let b = e.1 in let c = was in omega arith))
+          (λ q some less. let z = gapless q some less in (z.0, in_right (log_filed g.log (log.transition s i).outs) n.filed z.0 z.1, z.2)) (
+            _,
+            in_left (log_filed g.log (log.transition s i).outs) n.filed _ (settled_filed g.log (log.transition s i).state.end (log.transition s i).outs e.0),
+            (let b = e.1 in let c = was in omega arith),
+          )
 
   -- that of one that writes its opening segment
-  writes : (chain : List Segment) (s : LogState) (i : Input) → n.owner ≡ Writing chain s → Happens g n (after_writing g n chain (log.transition s i)) → (t : Next g n h (after_writing g n chain (log.transition s i)))
+  writes : (chain : List Segment) (s : LogState) (i : Input) → n.owner ≡ Writing chain s → Happens g n (after_writing g n chain (log.transition s i))
+      → (t : Next g n h (after_writing g n chain (log.transition s i)))
       → Gapless (after_writing g n chain (log.transition s i)) t.view.w.head
   writes chain s i is happens t = by (log.transition s i).state.flight refl
     where
       by : (f : Option FlightState) → (log.transition s i).state.flight ≡ f → Gapless (after_writing g n chain (log.transition s i)) t.view.w.head
-      by (Some f) e = not_serving (after_writing g n chain (log.transition s i)) happens t (ap (λ x. is_serving (after_flight g n chain (log.transition s i) x).owner) e)
-      by None e = ended k g none n h chain s i is (after_writing g n chain (log.transition s i)) t (ap (λ x. (after_flight g n chain (log.transition s i) x).owner) e) (ap (λ x. (after_flight g n chain (log.transition s i) x).filed) e)
+      by (Some f) e =
+          not_serving (after_writing g n chain (log.transition s i)) happens t (ap (λ x. is_serving (after_flight g n chain (log.transition s i) x).owner) e)
+      by None e = ended k g none n h chain s i is (after_writing g n chain (log.transition s i)) t
+          (ap (λ x. (after_flight g n chain (log.transition s i) x).owner) e) (ap (λ x. (after_flight g n chain (log.transition s i) x).filed) e)
           (ap (λ x. (after_flight g n chain (log.transition s i) x).low) e) gapless
 
   pub now_gapless : (o : Net) → Happens g n o → (t : Next g n h o) → Gapless o t.view.w.head

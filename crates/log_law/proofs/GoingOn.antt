@@ -151,7 +151,8 @@ module _ (k : Below) (g : Setting) (n : Net) (h : View g n) (low : LowIsFiled n)
     brings (scan_in.Welcome ask news groups) came =
         let seen_so : WelcomeSeen g h.w h.hellos n.inc ask news came.0.0 = h.sent (WelcomeSent n.inc ask news came.0.0) came.0.1 in
         pick_goes ask news groups s.stage shown.stage
-        (let e : least_horizon s.opening.log.0 news ≡ least_horizon g.log.0 news = ap (λ (l : LogId). least_horizon l.0 news) shown.log in let a = seen_so.known in omega arith)
+        (let e : least_horizon s.opening.log.0 news ≡ least_horizon g.log.0 news = ap (λ (l : LogId). least_horizon l.0 news) shown.log in
+        let a = seen_so.known in omega arith)
     brings (scan_in.Fenced server generation held) came = tt
     brings (scan_in.Got ask server generation f) came = tt
     brings (scan_in.Missing ask server generation) came = tt
@@ -193,10 +194,14 @@ goes_by n o same grows start h = record { low = still_filed n o same grows h.low
 module _ (k : Below) (g : Setting) (n : Net) (h : View (doubtful g) n) (goes : Goes n) where
   writes_goes : (chain : List Segment) (d : log.Done) (o : Option FlightState) → Goes (after_flight g n chain d o)
   writes_goes chain d None = goes_by n (after_flight g n chain d None) refl
-      (record { flown = λ s among. among; filed = λ name among. in_right (log_filed g.log d.outs) (names_of chain ++ n.filed) name (in_right (names_of chain) n.filed name among) })
+      (record {
+        flown = λ s among. among;
+        filed = λ name among. in_right (log_filed g.log d.outs) (names_of chain ++ n.filed) name (in_right (names_of chain) n.filed name among);
+      })
       tt goes
   writes_goes chain d (Some f) =
-      goes_by n (after_flight g n chain d (Some f)) refl (record { flown = λ s among. inr among; filed = λ name among. in_right (log_filed g.log d.outs) n.filed name among })
+      goes_by n (after_flight g n chain d (Some f)) refl
+      (record { flown = λ s among. inr among; filed = λ name among. in_right (log_filed g.log d.outs) n.filed name among })
       tt goes
 
   module _ (s : ScanState) (i : Input) (is : n.owner ≡ Opening s) (came : CameToScan g n i) where
@@ -267,7 +272,8 @@ run_goes k g n o at goes (On {m = m} run happens) =
 
 pub openings_go_on : Below → OpeningsGoOn
 openings_go_on k g n m next s is i came =
-    told_end GoesOn (scan.transition s i).outs (it_keeps k g n (seen k g n m) (run_goes k g first n began (record { low = inl (omega arith); start = λ next. tt }) m.run) s i is came next).tells
+    told_end GoesOn (scan.transition s i).outs
+    (it_keeps k g n (seen k g n m) (run_goes k g first n began (record { low = inl (omega arith); start = λ next. tt }) m.run) s i is came next).tells
   where
     first : Net
     first = opening g m.map

@@ -44,7 +44,8 @@ module _ (g : Setting) (w v : State) (book later : ℕ → Segment) (on : Later 
 
   pub metas_on : (metas : List FragMeta) → AllMetas book w.booked metas → AllMetas later v.booked metas
   metas_on [] all = tt
-  metas_on (m ∷ ms) all = ((all.0.0, all.0.1, on.booked all.0.0 all.0.2, all.0.3 ∙ ap (λ b. meta_of b all.0.1) (sym (on.segment all.0.0 all.0.2))), metas_on ms all.1)
+  metas_on (m ∷ ms) all =
+      ((all.0.0, all.0.1, on.booked all.0.0 all.0.2, all.0.3 ∙ ap (λ b. meta_of b all.0.1) (sym (on.segment all.0.0 all.0.2))), metas_on ms all.1)
 
   module _ (hellos more : List Asked) (grows : (a : Asked) → In a hellos → In a more) where
     hello_on : (inc ask : ℕ) → HelloSeen hellos inc ask → HelloSeen more inc ask
@@ -58,7 +59,8 @@ module _ (g : Setting) (w v : State) (book later : ℕ → Segment) (on : Later 
       known = on.booked s.name s.known;
       named = s.named;
       fragment = s.fragment ∙ ap (λ b. fragment_of g b s.index) (sym (on.segment s.name s.known));
-      sent = subst (λ b. In (record { to = to; name = s.name; index = s.index; generation = generation; text = g.number (text_of b) }) v.stores) (sym (on.segment s.name s.known)) (on.stores _ s.sent);
+      sent = subst (λ b. In (record { to = to; name = s.name; index = s.index; generation = generation; text = g.number (text_of b) }) v.stores)
+          (sym (on.segment s.name s.known)) (on.stores _ s.sent);
     }
     shown_on (StoredSent name index generation) s = record { number = s.number; named = s.named; sent = on.storeds _ s.sent }
     shown_on (FragmentSent f) s = record {
@@ -69,12 +71,14 @@ module _ (g : Setting) (w v : State) (book later : ℕ → Segment) (on : Later 
       sent = subst (λ b. In (record { name = s.name; text = g.number (text_of b) }) v.fragments) (sym (on.segment s.name s.known)) (on.fragments _ s.sent);
     }
     shown_on (FenceSent to inc) s = let a = on.incarnation in omega arith
-    shown_on (FencedSent from inc generation held) s = record { low = s.low; listed = s.listed; sent = on.fenceds _ s.sent; lists = s.lists; whole = metas_on held s.whole }
+    shown_on (FencedSent from inc generation held) s =
+        record { low = s.low; listed = s.listed; sent = on.fenceds _ s.sent; lists = s.lists; whole = metas_on held s.whole }
     shown_on (ListedSent metas) s = metas_on metas s
     shown_on (DeleteSent name) s = record { number = s.number; named = s.named; dropped = on.dropped s.number s.dropped }
     shown_on (MapSent m) s = map_on m s
     shown_on (HelloSent inc ask) s = hello_on inc ask s
-    shown_on (WelcomeSent inc ask news m) s = record { hello = hello_on inc ask s.hello; later = s.later; known = (let a = s.known in let b = on.low in omega arith); map = map_on m s.map }
+    shown_on (WelcomeSent inc ask news m) s =
+        record { hello = hello_on inc ask s.hello; later = s.later; known = (let a = s.known in let b = on.low in omega arith); map = map_on m s.map }
 
   -- what is booked is spelled as before, where nothing more is booked
   pub spelled_on : ((x : ℕ) → v.booked x ≡ 1 → w.booked x ≡ 1) → IsSpelled g book w.booked → IsSpelled g later v.booked
@@ -84,6 +88,7 @@ module _ (g : Setting) (w v : State) (book later : ℕ → Segment) (on : Later 
     bytes = λ x is. subst (λ b. IsBytes (text_of b)) (sym (on.segment x (back x is))) (s.bytes x (back x is));
     grouped = λ x y at to named.
         ap (λ (b : Segment). b.group) (on.segment y (back y to))
-        ∙ (s.grouped x y (back x at) (back y to) (ap (λ (b : Segment). b.name) (sym (on.segment y (back y to))) ∙ (named ∙ ap (λ (b : Segment). name_at g.log (end_below b)) (on.segment x (back x at))))
+        ∙ (s.grouped x y (back x at) (back y to)
+        (ap (λ (b : Segment). b.name) (sym (on.segment y (back y to))) ∙ (named ∙ ap (λ (b : Segment). name_at g.log (end_below b)) (on.segment x (back x at))))
         ∙ ap (λ (b : Segment). b.prior.group) (sym (on.segment x (back x at))));
   }

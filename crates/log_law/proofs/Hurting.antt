@@ -68,9 +68,13 @@ pub record Lacked (w u : State) (i : ℕ) : Type 0 where
   pub line : at.line at.head ≡ u.line u.head
   pub lacks : LacksHead at i
 
-pub earned_through : (k : Below) (w u : State) → Reached w → Steps w u → u.clean ≡ 1 → (i : ℕ) → InSpan u → 0 < u.head → u.span_low ≤ u.head → 0 < u.hurt i → HurtBefore w u i ⊎ Lacked w u i
+pub earned_through : (k : Below) (w u : State) → Reached w → Steps w u → u.clean ≡ 1 → (i : ℕ) → InSpan u → 0 < u.head → u.span_low ≤ u.head → 0 < u.hurt i
+    → HurtBefore w u i ⊎ Lacked w u i
 earned_through k w u reached Done clean i span some low hurt = inl (record { span = span; span_low = refl; head = refl; line = refl; hurt = hurt })
-earned_through k w u reached (More {v = v} run step) clean i span some low hurt = ⊎_elim (λ b. before (earned_through k w v reached run clean_v i b.span (let e = b.head in omega arith) (let e = b.head in let s = b.span_low in omega arith) b.hurt) b) now (k.protocol.earned v u reached_v step clean_v i span some low hurt)
+earned_through k w u reached (More {v = v} run step) clean i span some low hurt =
+    ⊎_elim (λ b. before
+    (earned_through k w v reached run clean_v i b.span (let e = b.head in omega arith) (let e = b.head in let s = b.span_low in omega arith) b.hurt) b) now
+    (k.protocol.earned v u reached_v step clean_v i span some low hurt)
   where
     reached_v : Reached v
     reached_v = k.protocol.goes_on w v reached run
@@ -88,7 +92,8 @@ earned_through k w u reached (More {v = v} run step) clean i span some low hurt 
         still a = inl (record { span = a.span; span_low = b.span_low ∙ a.span_low; head = b.head ∙ a.head; line = b.line ∙ a.line; hurt = a.hurt })
 
         lacked : Lacked w v i → HurtBefore w u i ⊎ Lacked w u i
-        lacked a = inr (record { at = a.at; before = a.before; after = More a.after step; head = a.head ∙ sym b.head; line = a.line ∙ sym b.line; lacks = a.lacks })
+        lacked a = inr
+            (record { at = a.at; before = a.before; after = More a.after step; head = a.head ∙ sym b.head; line = a.line ∙ sym b.line; lacks = a.lacks })
 
 -- ---- one of the members isn't hurt, or all are
 
@@ -103,7 +108,8 @@ pub some_unhurt : (hurt : ℕ → ℕ) (count : ℕ) → ((i : ℕ) × (i < coun
 some_unhurt hurt zero = inr (λ i less. absurd (omega arith))
 some_unhurt hurt (suc c) = by (hurt c) refl (some_unhurt hurt c)
   where
-    by : (n : ℕ) → hurt c ≡ n → ((i : ℕ) × (i < c) × (hurt i ≡ 0)) ⊎ ((i : ℕ) → i < c → 0 < hurt i) → ((i : ℕ) × (i < suc c) × (hurt i ≡ 0)) ⊎ ((i : ℕ) → i < suc c → 0 < hurt i)
+    by : (n : ℕ) → hurt c ≡ n → ((i : ℕ) × (i < c) × (hurt i ≡ 0)) ⊎ ((i : ℕ) → i < c → 0 < hurt i)
+        → ((i : ℕ) × (i < suc c) × (hurt i ≡ 0)) ⊎ ((i : ℕ) → i < suc c → 0 < hurt i)
     by n is (inl a) = inl (a.0, (let b = a.1 in omega arith), a.2)
     by zero is (inr all) = inl (c, omega arith, is)
     by (suc n) is (inr all) = inr each

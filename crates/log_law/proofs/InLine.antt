@@ -43,20 +43,24 @@ module _ (k : Below) (g : Setting) (none : g.doubts ≡ false) (n : Net) (h : Vi
       let y = number_of b ib in
       x.named ∙ (ap (name_of g) (law.no_two x.number y.number x.filed y.filed (x.seq ∙ (same ∙ sym y.seq))) ∙ sym y.named)
 
-  linked : (s t : Segment) → In s n.flown → In t n.flown → In s.name n.filed → In t.name n.filed → suc t.name.seq ≡ s.name.seq → n.low < s.name.seq → s.prior.pass ≡ t.name.pass
+  linked : (s t : Segment) → In s n.flown → In t n.flown → In s.name n.filed → In t.name n.filed → suc t.name.seq ≡ s.name.seq → n.low < s.name.seq
+      → s.prior.pass ≡ t.name.pass
   linked s t is it fs ft next above =
       let x = number_of s.name fs in
       let y = number_of t.name ft in
       let b = h.flown.booked s is in
       let same : b.0 ≡ x.number = one_number g b.0 x.number (sym (page k g n h b.0 b.1).named ∙ (ap (λ (z : Segment). z.name) (sym b.2) ∙ x.named)) in
-      let prior : h.w.prior_of x.number ≡ y.number = law.linked x.number y.number x.filed y.filed (let p = x.seq in let q = y.seq in omega arith) (let p = x.seq in let l = h.low in omega arith) in
+      let prior : h.w.prior_of x.number ≡ y.number =
+      law.linked x.number y.number x.filed y.filed (let p = x.seq in let q = y.seq in omega arith) (let p = x.seq in let l = h.low in omega arith) in
       let some : 0 < y.number = (k.protocol.book h.w h.reached).named y.number y.booked in
       ap (λ (z : Segment). z.prior.pass) (b.2 ∙ ap h.book same)
-      ∙ (passes g (h.book x.number).prior.pass ((h.book x.number).name.seq - 1) y.number some (sym (page k g n h x.number x.booked).after ∙ prior) ∙ sym (ap (λ (z : SegName). z.pass) y.named))
+      ∙ (passes g (h.book x.number).prior.pass ((h.book x.number).name.seq - 1) y.number some (sym (page k g n h x.number x.booked).after ∙ prior)
+      ∙ sym (ap (λ (z : SegName). z.pass) y.named))
 
   -- a filed name is no further than the head
   pub within : (name : SegName) → In name n.filed → name.seq ≤ h.w.head
-  within name is = let x = number_of name is in let a = x.seq in let b = (k.protocol.head h.w h.reached (h.calm none)).filed_head x.number x.filed in omega arith
+  within name is = let x = number_of name is in let a = x.seq in let b =
+      (k.protocol.head h.w h.reached (h.calm none)).filed_head x.number x.filed in omega arith
 
   pub one_line : Gapless n h.w.head → OneLine g n
   one_line gapless = record { no_two = no_two; no_gap = λ name is q some less. gapless q some (let a = within name is in omega arith); linked = linked }

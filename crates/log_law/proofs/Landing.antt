@@ -29,7 +29,8 @@ module _ (s : LogState) (f : FlightState) (flies : s.flight ≡ Some f) where
 
   looks : (t : LogState) (z : FlightState) → Vanishes (log.looked_at s t z) → ⊥
   unfolding log.looked_at
-  looks t z = by_test (λ (d : log.Done). Vanishes d → ⊥) (log.can_follow t z (fate_of t.groups z)) (log.followed t z (fate_of t.groups z)) (still s) (λ can. follows t z (fate_of t.groups z)) (λ not. stays)
+  looks t z = by_test (λ (d : log.Done). Vanishes d → ⊥) (log.can_follow t z (fate_of t.groups z)) (log.followed t z (fate_of t.groups z)) (still s)
+      (λ can. follows t z (fate_of t.groups z)) (λ not. stays)
 
   pub stays_or_settles : (n : Net) (i : Input) → CameToWriter n i → Vanishes (log.transition s i) → ⊥
   unfolding log.on_acked log.on_maps log.on_tick
@@ -37,12 +38,16 @@ module _ (s : LogState) (f : FlightState) (flies : s.flight ≡ Some f) where
   stays_or_settles n (log_in.Parts items) came = absurd came
   stays_or_settles n log_in.Seal came = absurd came
   stays_or_settles n (log_in.Acked name index generation) came =
-      elim s.flight as (λ o. s.flight ≡ o → Vanishes (elim o [ None ↦ still s | Some z ↦ cond (log.is_of z name index generation) (log.looked_at s s (log.noting z index)) (still s) ]) → ⊥) [
+      elim s.flight as
+      (λ o. s.flight ≡ o
+      → Vanishes (elim o [ None ↦ still s | Some z ↦ cond (log.is_of z name index generation) (log.looked_at s s (log.noting z index)) (still s) ]) → ⊥) [
         | None ↦ λ e. absurd cc
-        | Some z ↦ λ e. by_test (λ (d : log.Done). Vanishes d → ⊥) (log.is_of z name index generation) (log.looked_at s s (log.noting z index)) (still s) (λ own. looks s (log.noting z index)) (λ other. stays)
+        | Some z ↦ λ e. by_test (λ (d : log.Done). Vanishes d → ⊥) (log.is_of z name index generation) (log.looked_at s s (log.noting z index)) (still s)
+            (λ own. looks s (log.noting z index)) (λ other. stays)
       ] refl
   stays_or_settles n (log_in.Maps m) came =
-      elim s.flight as (λ o. s.flight ≡ o → Vanishes (elim o [ None ↦ still (record s { groups = m }) | Some z ↦ log.looked_at s (record s { groups = m }) z ]) → ⊥) [
+      elim s.flight as
+      (λ o. s.flight ≡ o → Vanishes (elim o [ None ↦ still (record s { groups = m }) | Some z ↦ log.looked_at s (record s { groups = m }) z ]) → ⊥) [
         | None ↦ λ e. absurd cc
         | Some z ↦ λ e. looks (record s { groups = m }) z
       ] refl

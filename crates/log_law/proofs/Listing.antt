@@ -16,7 +16,9 @@ use Rattle.log_tie.proofs.Names.{itself, one_name}
 
 -- a name passes the one test where it passes the other
 itself_parts : (a : SegName) → same_parts a a ≡ true
-itself_parts a = by (a.log.0 == a.log.0) (a.seq == a.seq) (a.pass.inc == a.pass.inc) (a.pass.att == a.pass.att) (itself a.log.0) (itself a.seq) (itself a.pass.inc) (itself a.pass.att)
+itself_parts a =
+    by (a.log.0 == a.log.0) (a.seq == a.seq) (a.pass.inc == a.pass.inc) (a.pass.att == a.pass.att) (itself a.log.0) (itself a.seq) (itself a.pass.inc)
+    (itself a.pass.att)
   where
     by : (p q r t : Bool) → p ≡ true → q ≡ true → r ≡ true → t ≡ true → (p && (q && (r && t))) ≡ true
     by true true true true e f h i = refl

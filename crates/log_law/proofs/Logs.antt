@@ -32,7 +32,8 @@ use Rattle.log_law.proofs.Views.{Ran, Behind, Flown}
 
 -- a log that took one more input
 pub ran_on : (s : LogState) (i : Input) → Ran s → Ran (transition s i).state
-ran_on s i r = record { log = r.log; inc = r.inc; end = r.end; groups = r.groups; history = i ∷ r.history; is = ap (λ (z : LogState). (transition z i).state) r.is }
+ran_on s i r =
+    record { log = r.log; inc = r.inc; end = r.end; groups = r.groups; history = i ∷ r.history; is = ap (λ (z : LogState). (transition z i).state) r.is }
 
 pub ran_first : (log : LogId) (inc : ℕ) (end : End) (groups : GroupMapState) → Ran (started log inc end groups)
 ran_first log inc end groups = record { log = log; inc = inc; end = end; groups = groups; history = []; is = refl }
@@ -52,9 +53,12 @@ landed_in s i end (Settled e' rows ∷ os) all e = record { flight = all.0.fligh
     first_of [] = end
     first_of (x ∷ xs) = x
 
-module _ (k : Below) (g : Setting) (w : State) (book : ℕ → Segment) (reached : Reached w) (paged : Book g w book) (spelled : IsSpelled g book w.booked) (s : LogState) (i : Input) where
-  module _ (P : State → (ℕ → Segment) → Type 0) (outs : List Out) (t : Goes g w book P outs) (behind : Behind g w book s) (before : FlightShown g book s.flight s.inc s.end.seq (w.booked w.flight) w.flight w.noted) (texts : WritesText (transition s i))
-      (after : FlightShown g t.later (transition s i).state.flight (transition s i).state.inc (transition s i).state.end.seq (t.world.booked t.world.flight) t.world.flight t.world.noted) where
+module _ (k : Below) (g : Setting) (w : State) (book : ℕ → Segment) (reached : Reached w) (paged : Book g w book) (spelled : IsSpelled g book w.booked)
+    (s : LogState) (i : Input) where
+  module _ (P : State → (ℕ → Segment) → Type 0) (outs : List Out) (t : Goes g w book P outs) (behind : Behind g w book s)
+      (before : FlightShown g book s.flight s.inc s.end.seq (w.booked w.flight) w.flight w.noted) (texts : WritesText (transition s i))
+      (after : FlightShown g t.later (transition s i).state.flight (transition s i).state.inc (transition s i).state.end.seq
+      (t.world.booked t.world.flight) t.world.flight t.world.noted) where
     abbrev next : LogState
     next = (transition s i).state
 
@@ -65,7 +69,8 @@ module _ (k : Below) (g : Setting) (w : State) (book : ℕ → Segment) (reached
     in_line = subst IsInLine (sym ran.is) (k.logs.next ran.log ran.inc ran.end ran.groups ran.history)
 
     rises : EndRisesByOne s (transition s i)
-    rises = subst (λ (z : LogState). EndRisesByOne z (transition z i)) (sym behind.ran.is) (k.logs.rises behind.ran.log behind.ran.inc behind.ran.end behind.ran.groups behind.ran.history i)
+    rises = subst (λ (z : LogState). EndRisesByOne z (transition z i)) (sym behind.ran.is)
+        (k.logs.rises behind.ran.log behind.ran.inc behind.ran.end behind.ran.groups behind.ran.history i)
 
     now_reached : Reached t.world
     now_reached = k.protocol.goes_on w t.world reached t.steps
@@ -81,7 +86,9 @@ module _ (k : Below) (g : Setting) (w : State) (book : ℕ → Segment) (reached
     aloft : (x : ℕ) → t.world.booked x ≡ 1 → x ≡ t.world.flight → Aloft x
     aloft x booked e = by next.flight refl after in_line texts
       where
-        by : (o : Option FlightState) → next.flight ≡ o → FlightShown g t.later o next.inc next.end.seq (t.world.booked t.world.flight) t.world.flight t.world.noted → IfSome o (IsNext next) → IfSome o (λ f. IsWritten f.segment) → Aloft x
+        by : (o : Option FlightState) → next.flight ≡ o
+            → FlightShown g t.later o next.inc next.end.seq (t.world.booked t.world.flight) t.world.flight t.world.noted → IfSome o (IsNext next)
+            → IfSome o (λ f. IsWritten f.segment) → Aloft x
         by None is shown line text = absurd (let a = (k.protocol.book t.world now_reached).named x booked in let b = shown in omega arith)
         by (Some f) is shown line text = record { flight = f; is = is; segment = shown.segment ∙ ap t.later (sym e); in_line = line; written = text }
 
@@ -89,7 +96,9 @@ module _ (k : Below) (g : Setting) (w : State) (book : ℕ → Segment) (reached
     old_or_new : (x : ℕ) → t.world.booked x ≡ 1 → (w.booked x ≡ 1) ⊎ Aloft x
     old_or_new x booked = ⊎_elim inl (λ e. inr (aloft x booked e)) (t.fresh x booked)
 
-    page : (x : ℕ) → t.world.booked x ≡ 1 → Page g x (t.later x) (t.world.text_of x) (t.world.member_count x) (t.world.member_server x) (t.world.member_generation x) (t.world.prior_of x) (t.world.content_of x)
+    page : (x : ℕ) → t.world.booked x ≡ 1
+        → Page g x (t.later x) (t.world.text_of x) (t.world.member_count x) (t.world.member_server x) (t.world.member_generation x) (t.world.prior_of x)
+        (t.world.content_of x)
     page x booked = t.paged x booked
 
     -- the number of what has the name of one that is booked
@@ -106,10 +115,12 @@ module _ (k : Below) (g : Setting) (w : State) (book : ℕ → Segment) (reached
           where
             old : w.booked y ≡ 1 → (t.later y).group ≡ next.end.group
             old was = ap (λ (b : Segment). b.group) (t.frame.segment y was)
-                ∙ (behind.grouped y was (ap (λ (b : Segment). b.name) (sym (t.frame.segment y was)) ∙ (named ∙ ap (name_at g.log) e.1)) ∙ ap (λ (z : End). z.group) (sym e.1))
+                ∙ (behind.grouped y was (ap (λ (b : Segment). b.name) (sym (t.frame.segment y was)) ∙ (named ∙ ap (name_at g.log) e.1))
+                ∙ ap (λ (z : End). z.group) (sym e.1))
 
             new : Aloft y → (t.later y).group ≡ next.end.group
-            new a = absurd (let p = a.in_line.seq in let q = ap (λ (b : Segment). b.name.seq) a.segment in let r = ap (λ (z : SegName). z.seq) named in omega arith)
+            new a = absurd
+                (let p = a.in_line.seq in let q = ap (λ (b : Segment). b.name.seq) a.segment in let r = ap (λ (z : SegName). z.seq) named in omega arith)
 
         lands : (settled_ends (transition s i).outs ≡ next.end ∷ []) × (next.end.seq ≡ s.end.seq + 1) → (t.later y).group ≡ next.end.group
         lands e = by s.flight l.was before
@@ -117,15 +128,21 @@ module _ (k : Below) (g : Setting) (w : State) (book : ℕ → Segment) (reached
             l : Landed s i next.end
             l = landed_in s i next.end (transition s i).outs (k.logs.due s i) e.0
 
-            by : (o : Option FlightState) → o ≡ Some l.flight → FlightShown g book o s.inc s.end.seq (w.booked w.flight) w.flight w.noted → (t.later y).group ≡ next.end.group
+            by : (o : Option FlightState) → o ≡ Some l.flight → FlightShown g book o s.inc s.end.seq (w.booked w.flight) w.flight w.noted
+                → (t.later y).group ≡ next.end.group
             by None is shown = absurd cc
             by (Some f) is shown =
                 let f_is : f ≡ l.flight = ap (λ o. or_this f o) is in
-                let seg : l.flight.segment ≡ t.later w.flight = ap (λ (z : FlightState). z.segment) (sym f_is) ∙ (shown.segment ∙ sym (t.frame.segment w.flight shown.is_booked)) in
+                let seg : l.flight.segment ≡ t.later w.flight =
+                ap (λ (z : FlightState). z.segment) (sym f_is) ∙ (shown.segment ∙ sym (t.frame.segment w.flight shown.is_booked)) in
                 let now = t.frame.booked w.flight shown.is_booked in
                 let log : (t.later w.flight).name.log ≡ g.log = ap (λ (z : SegName). z.log) (page w.flight now).named in
-                let name : (t.later y).name ≡ (t.later w.flight).name = named ∙ (ap (name_at g.log) l.is_end ∙ (ap (λ (b : Segment). record { log = g.log; seq = b.name.seq; pass = b.name.pass }) seg ∙ ap (λ z. record { log = z; seq = (t.later w.flight).name.seq; pass = (t.later w.flight).name.pass }) (sym log))) in
-                ap (λ z. (t.later z).group) (same w.flight y now booked name) ∙ (ap (λ (b : Segment). b.group) (sym seg) ∙ ap (λ (z : End). z.group) (sym l.is_end))
+                let name : (t.later y).name ≡ (t.later w.flight).name =
+                named ∙ (ap (name_at g.log) l.is_end
+                ∙ (ap (λ (b : Segment). record { log = g.log; seq = b.name.seq; pass = b.name.pass }) seg
+                ∙ ap (λ z. record { log = z; seq = (t.later w.flight).name.seq; pass = (t.later w.flight).name.pass }) (sym log))) in
+                ap (λ z. (t.later z).group) (same w.flight y now booked name)
+                ∙ (ap (λ (b : Segment). b.group) (sym seg) ∙ ap (λ (z : End). z.group) (sym l.is_end))
               where
                 or_this : FlightState → Option FlightState → FlightState
                 or_this d None = d
@@ -142,11 +159,14 @@ module _ (k : Below) (g : Setting) (w : State) (book : ℕ → Segment) (reached
         let q = paged x booked in
         let r = page y to in
         let some : 0 < (book x).prior.pass.inc = subst (λ (n : SegName). 0 < n.pass.inc) named r.boot in
-        let is : w.prior_of x ≡ y = q.after ∙ (point_some g ((book x).name.seq - 1) (book x).prior.pass some ∙ (ap (λ (n : SegName). g.code n.seq n.pass.inc n.pass.att) (sym named ∙ r.named) ∙ coded g y)) in
+        let is : w.prior_of x ≡ y =
+        q.after ∙ (point_some g ((book x).name.seq - 1) (book x).prior.pass some
+        ∙ (ap (λ (n : SegName). g.code n.seq n.pass.inc n.pass.att) (sym named ∙ r.named) ∙ coded g y)) in
         let positive = (k.protocol.book t.world now_reached).named y to in
         subst (λ z. w.booked z ≡ 1) is ((k.protocol.book w reached).prior_booked x booked (omega arith))
 
-    new_priors : (x y : ℕ) → t.world.booked x ≡ 1 → t.world.booked y ≡ 1 → (t.later y).name ≡ name_at g.log (end_below (t.later x)) → (t.later y).group ≡ (t.later x).prior.group
+    new_priors : (x y : ℕ) → t.world.booked x ≡ 1 → t.world.booked y ≡ 1 → (t.later y).name ≡ name_at g.log (end_below (t.later x))
+        → (t.later y).group ≡ (t.later x).prior.group
     new_priors x y booked to named = ⊎_elim old new (old_or_new x booked)
       where
         old : w.booked x ≡ 1 → (t.later y).group ≡ (t.later x).prior.group
@@ -155,16 +175,21 @@ module _ (k : Below) (g : Setting) (w : State) (book : ℕ → Segment) (reached
             let named_before : (t.later y).name ≡ name_at g.log (end_below (book x)) = named ∙ ap (λ (b : Segment). name_at g.log (end_below b)) here in
             let y_was = prior_old x y was to named_before in
             let there = t.frame.segment y y_was in
-            ap (λ (b : Segment). b.group) there ∙ (spelled.grouped x y was y_was (ap (λ (b : Segment). b.name) (sym there) ∙ named_before) ∙ ap (λ (b : Segment). b.prior.group) (sym here))
+            ap (λ (b : Segment). b.group) there
+            ∙ (spelled.grouped x y was y_was (ap (λ (b : Segment). b.name) (sym there) ∙ named_before) ∙ ap (λ (b : Segment). b.prior.group) (sym here))
 
         new : Aloft x → (t.later y).group ≡ (t.later x).prior.group
         new a =
             let prior = ap (λ (b : Segment). b.prior) (sym a.segment) ∙ a.in_line.prior in
             let seq : (t.later x).name.seq - 1 ≡ next.end.seq = (let p = a.in_line.seq in let q = ap (λ (b : Segment). b.name.seq) a.segment in omega arith) in
-            new_grouped y to (named ∙ (λ j. name_at g.log (record { seq = seq j; pass = (prior j).pass; group = next.end.group }))) ∙ ap (λ (p : Prior). p.group) (sym prior)
+            new_grouped y to (named ∙ (λ j. name_at g.log (record { seq = seq j; pass = (prior j).pass; group = next.end.group })))
+            ∙ ap (λ (p : Prior). p.group) (sym prior)
 
-    text_now : (Q : Segment → Type 0) → ((x : ℕ) → w.booked x ≡ 1 → Q (book x)) → ((b : Segment) → IsWritten b → Q b) → (x : ℕ) → t.world.booked x ≡ 1 → Q (t.later x)
-    text_now Q old new x booked = ⊎_elim (λ was. subst Q (sym (t.frame.segment x was)) (old x was)) (λ (a : Aloft x). subst Q a.segment (new a.flight.segment a.written)) (old_or_new x booked)
+    text_now : (Q : Segment → Type 0) → ((x : ℕ) → w.booked x ≡ 1 → Q (book x)) → ((b : Segment) → IsWritten b → Q b) → (x : ℕ) → t.world.booked x ≡ 1
+        → Q (t.later x)
+    text_now Q old new x booked =
+        ⊎_elim (λ was. subst Q (sym (t.frame.segment x was)) (old x was)) (λ (a : Aloft x). subst Q a.segment (new a.flight.segment a.written))
+        (old_or_new x booked)
 
     pub now_spelled : IsSpelled g t.later t.world.booked
     now_spelled = record {
@@ -187,12 +212,16 @@ module _ (k : Below) (g : Setting) (w : State) (book : ℕ → Segment) (reached
         first_one o z b is e = subst (λ p. In b (flown_with p flown)) (sym is) (inl (sym e))
 
         all : (x : ℕ) → t.world.booked x ≡ 1 → In (t.later x) (flown_with next.flight flown)
-        all x booked = ⊎_elim (λ was. with_more next.flight (t.later x) (subst (λ b. In b flown) (sym (t.frame.segment x was)) (f.all x was))) (λ (a : Aloft x). first_one next.flight a.flight (t.later x) a.is a.segment) (old_or_new x booked)
+        all x booked =
+            ⊎_elim (λ was. with_more next.flight (t.later x) (subst (λ b. In b flown) (sym (t.frame.segment x was)) (f.all x was)))
+            (λ (a : Aloft x). first_one next.flight a.flight (t.later x) a.is a.segment) (old_or_new x booked)
 
         old : (b : Segment) → In b flown → (x : ℕ) × (t.world.booked x ≡ 1) × (b ≡ t.later x)
         old b is = let z = f.booked b is in (z.0, t.frame.booked z.0 z.1, z.2 ∙ sym (t.frame.segment z.0 z.1))
 
-        by : (o : Option FlightState) → next.flight ≡ o → FlightShown g t.later o next.inc next.end.seq (t.world.booked t.world.flight) t.world.flight t.world.noted → (b : Segment) → In b (flown_with o flown) → (x : ℕ) × (t.world.booked x ≡ 1) × (b ≡ t.later x)
+        by : (o : Option FlightState) → next.flight ≡ o
+            → FlightShown g t.later o next.inc next.end.seq (t.world.booked t.world.flight) t.world.flight t.world.noted → (b : Segment)
+            → In b (flown_with o flown) → (x : ℕ) × (t.world.booked x ≡ 1) × (b ≡ t.later x)
         by None same_ shown b is = old b is
         by (Some z) same_ shown b (inl e) = (t.world.flight, shown.is_booked, e ∙ shown.segment)
         by (Some z) same_ shown b (inr is) = old b is

@@ -30,22 +30,33 @@ module _ (g : Setting) (book later : ℕ → Segment) (booked more : ℕ → ℕ
 
   pieces_on : (fs : List Fragment) → AllPieces g book booked fs → AllPieces g later more fs
   pieces_on [] all = tt
-  pieces_on (f ∷ fs) all = (λ own. (let p = all.0 own in (p.0, p.1, (grows p.0 p.2).0, p.3 ∙ ap (λ b. fragment_of g b p.1) (sym (grows p.0 p.2).1))), pieces_on fs all.1)
+  pieces_on (f ∷ fs) all =
+      (λ own. (let p = all.0 own in (p.0, p.1, (grows p.0 p.2).0, p.3 ∙ ap (λ b. fragment_of g b p.1) (sym (grows p.0 p.2).1))), pieces_on fs all.1)
 
-  pub shelf_on : (generation : ℕ) (holds index marked : ℕ → ℕ) (s : ShelfState) → Shelved g book booked generation holds index marked s → Shelved g later more generation holds index marked s
-  shelf_on generation holds index marked s h = record { of = h.of; keeps = λ x. kept_on x (held_at s.held (name_of g x)) (holds x) (index x) (h.keeps x); each = pieces_on s.held h.each; marks = h.marks }
+  pub shelf_on : (generation : ℕ) (holds index marked : ℕ → ℕ) (s : ShelfState) → Shelved g book booked generation holds index marked s
+      → Shelved g later more generation holds index marked s
+  shelf_on generation holds index marked s h =
+      record {
+        of = h.of;
+        keeps = λ x. kept_on x (held_at s.held (name_of g x)) (holds x) (index x) (h.keeps x);
+        each = pieces_on s.held h.each;
+        marks = h.marks;
+      }
 
 -- what the log sends is shown
-pub packets_shown : (g : Setting) (w : State) (book : ℕ → Segment) (hellos : List Asked) (outs : List Out) → AllSaid g w.booked book w.stores w.filed outs → AllShown g w book hellos (log_packets outs)
+pub packets_shown : (g : Setting) (w : State) (book : ℕ → Segment) (hellos : List Asked) (outs : List Out) → AllSaid g w.booked book w.stores w.filed outs
+    → AllShown g w book hellos (log_packets outs)
 packets_shown g w book hellos [] said = tt
 packets_shown g w book hellos (Send f m ∷ os) said = (said.0, packets_shown g w book hellos os said.1)
 packets_shown g w book hellos (Settled end rows ∷ os) said = packets_shown g w book hellos os said.1
 
 -- and what it files is filed
-pub filed_said : (g : Setting) (w : State) (book : ℕ → Segment) (outs : List Out) (names : List SegName) → AllSaid g w.booked book w.stores w.filed outs → ((name : SegName) → In name names → IsFiled g w name) → (name : SegName) → In name (log_filed g.log outs ++ names) → IsFiled g w name
+pub filed_said : (g : Setting) (w : State) (book : ℕ → Segment) (outs : List Out) (names : List SegName) → AllSaid g w.booked book w.stores w.filed outs
+    → ((name : SegName) → In name names → IsFiled g w name) → (name : SegName) → In name (log_filed g.log outs ++ names) → IsFiled g w name
 filed_said g w book [] names said old name is = old name is
 filed_said g w book (Send f m ∷ os) names said old name is = filed_said g w book os names said.1 old name is
-filed_said g w book (Settled end rows ∷ os) names said old name (inl e) = (said.0.0, e ∙ (λ i. record { log = g.log; seq = said.0.2 i; pass = said.0.3 i }), said.0.1)
+filed_said g w book (Settled end rows ∷ os) names said old name (inl e) =
+    (said.0.0, e ∙ (λ i. record { log = g.log; seq = said.0.2 i; pass = said.0.3 i }), said.0.1)
 filed_said g w book (Settled end rows ∷ os) names said old name (inr is) = filed_said g w book os names said.1 old name is
 
 pub in_right : (xs ys : List SegName) (x : SegName) → In x ys → In x (xs ++ ys)
@@ -117,24 +128,33 @@ module _ (k : Below) (g : Setting) (n : Net) (h : View g n) where
       flown = v.flown;
       shelves = λ u. subst (λ ss. ShelfShown g t.world t.later u (ss u)) (sym v.keeps.shelves)
           (at (λ o. Shelved g t.later t.world.booked (o.generation u) (o.holds u) (o.kept_index u) (o.marked u) (n.shelves u))
-          (shelf_on g h.book t.later h.w.booked t.world.booked (λ x is. (t.frame.booked x is, t.frame.segment x is)) (h.w.generation u) (h.w.holds u) (h.w.kept_index u) (h.w.marked u) (n.shelves u) (h.shelves u)));
+          (shelf_on g h.book t.later h.w.booked t.world.booked (λ x is. (t.frame.booked x is, t.frame.segment x is)) (h.w.generation u) (h.w.holds u)
+          (h.w.kept_index u) (h.w.marked u) (n.shelves u) (h.shelves u)));
       nobody = λ x. at (λ o. o.holds 0 x ≡ 0) (h.nobody x);
       registry = λ u. subst (λ r. t.world.registry_generation u ≡ r u) (sym v.keeps.registry) (at (λ o. o.registry_generation u ≡ n.registry u) (h.registry u));
       low = at (λ o. o.low ≡ n.low) h.low ∙ sym v.keeps.low;
       inc = at (λ o. o.incarnation ≡ n.inc) h.inc ∙ sym v.keeps.inc;
       owner = v.owner;
       picked = v.picked;
-      sent = λ p is. all_shown g t.world t.later hellos new n.sent v.shown (λ q among. shown_on g h.w t.world h.book t.later later_goes h.hellos hellos v.grows q (h.sent q among)) p (subst (In p) v.sends is);
+      sent = λ p is. all_shown g t.world t.later hellos new n.sent v.shown
+          (λ q among. shown_on g h.w t.world h.book t.later later_goes h.hellos hellos v.grows q (h.sent q among)) p (subst (In p) v.sends is);
       asked = λ a is. at (λ o. (a.inc ≤ o.incarnation) × (a.low ≤ o.low)) (v.asked a is);
       filed = v.filed;
       calm = λ none. t.frame.calm none (h.calm none);
       top = v.top;
-      gone = λ name is. (let d = h.gone name (subst (In name) v.keeps.dropped is) in record { number = d.number; named = d.named; dropped = later_goes.dropped d.number d.dropped });
-      dropped = λ x. subst (λ ds. (t.world.dropped x ≡ 0) ⊎ In (name_of g x) ds) (sym v.keeps.dropped) (at (λ o. (o.dropped x ≡ 0) ⊎ In (name_of g x) n.dropped) (h.dropped x));
+      gone = λ name is.
+          (let d = h.gone name (subst (In name) v.keeps.dropped is) in
+          record { number = d.number; named = d.named; dropped = later_goes.dropped d.number d.dropped });
+      dropped = λ x. subst (λ ds. (t.world.dropped x ≡ 0) ⊎ In (name_of g x) ds) (sym v.keeps.dropped)
+          (at (λ o. (o.dropped x ≡ 0) ⊎ In (name_of g x) n.dropped) (h.dropped x));
     }
 
     abbrev pub by_owner : Alone h.w t.world
-    by_owner = record { generation = ap (λ (o : Others). o.generation) t.frame.others; holds = ap (λ (o : Others). o.holds) t.frame.others; dropped = ap (λ (o : Others). o.dropped) t.frame.others }
+    by_owner = record {
+      generation = ap (λ (o : Others). o.generation) t.frame.others;
+      holds = ap (λ (o : Others). o.holds) t.frame.others;
+      dropped = ap (λ (o : Others). o.dropped) t.frame.others;
+    }
 
     -- the event is followed
     pub next : (m : Net) (hellos : List Asked) (new : List Packet) → Move m hellos new → Next g n h m
@@ -145,7 +165,8 @@ module _ (k : Below) (g : Setting) (n : Net) (h : View g n) where
     filed_still name is = let f = h.filed name is in (f.0, f.1, t.frame.filed f.0 f.2)
 
     -- the end is filed, where what the log files is
-    pub topped : (names : List SegName) → ((name : SegName) → In name n.filed → In name names) → ((name : SegName) → In name (log_filed g.log outs) → In name names) → (t.world.end ≡ 0) ⊎ In (name_of g t.world.end) names
+    pub topped : (names : List SegName) → ((name : SegName) → In name n.filed → In name names)
+        → ((name : SegName) → In name (log_filed g.log outs) → In name names) → (t.world.end ≡ 0) ⊎ In (name_of g t.world.end) names
     topped names old new = by t.end_follows h.top
       where
         by : EndFollows g h.w t.world outs → (h.w.end ≡ 0) ⊎ In (name_of g h.w.end) n.filed → (t.world.end ≡ 0) ⊎ In (name_of g t.world.end) names

@@ -25,10 +25,19 @@ use Rattle.log_law.proofs.ServerTurns.{nothing_apart}
 module _ (k : Below) (g : Setting) (n : Net) (h : View g n) where
   -- ---- the registry hears of a generation
 
-  pub hears_view : (v generation : ℕ) → n.registry v ≤ generation → generation ≤ (n.shelves v).generation → Next g n h (record n { registry = put n.registry v generation })
+  pub hears_view : (v generation : ℕ) → n.registry v ≤ generation → generation ≤ (n.shelves v).generation
+      → Next g n h (record n { registry = put n.registry v generation })
   hears_view v generation up reached = turned k g n h _ (hears h.w v generation) [] (record {
     steps = More Done (Hears v generation (record { rises = (let e = h.registry v in omega arith); reached = (let e = (h.shelves v).of in omega arith) }));
-    apart = record { seat = refl; storeds = λ p is. is; fragments = λ p is. is; fenceds = λ p is. is; dropped = λ x is. is; registry = λ y. rises y; low = omega arith };
+    apart = record {
+      seat = refl;
+      storeds = λ p is. is;
+      fragments = λ p is. is;
+      fenceds = λ p is. is;
+      dropped = λ x is. is;
+      registry = λ y. rises y;
+      low = omega arith;
+    };
     rests = record { inc = refl; owner = refl; filed = refl; flown = refl; picked = refl };
     shelves = λ y. record { of = (h.shelves y).of; keeps = (h.shelves y).keeps; each = (h.shelves y).each; marks = (h.shelves y).marks };
     nobody = h.nobody;
@@ -53,7 +62,15 @@ module _ (k : Below) (g : Setting) (n : Net) (h : View g n) where
   pub raises_view : (low : ℕ) (name : SegName) → n.low ≤ low → In name n.filed → low ≤ suc name.seq → Next g n h (record n { low = low })
   raises_view low name up is below = turned k g n h _ (raises h.w low) [] (record {
     steps = More Done (Raises low (record { rises = (let e = h.low in omega arith); filed = within }));
-    apart = record { seat = refl; storeds = λ p is. is; fragments = λ p is. is; fenceds = λ p is. is; dropped = λ x is. is; registry = λ y. omega arith; low = (let e = h.low in let u = up in omega arith) };
+    apart = record {
+      seat = refl;
+      storeds = λ p is. is;
+      fragments = λ p is. is;
+      fenceds = λ p is. is;
+      dropped = λ x is. is;
+      registry = λ y. omega arith;
+      low = (let e = h.low in let u = up in omega arith);
+    };
     rests = record { inc = refl; owner = refl; filed = refl; flown = refl; picked = refl };
     shelves = λ y. record { of = (h.shelves y).of; keeps = (h.shelves y).keeps; each = (h.shelves y).each; marks = (h.shelves y).marks };
     nobody = h.nobody;
@@ -77,7 +94,14 @@ module _ (k : Below) (g : Setting) (n : Net) (h : View g n) where
   -- ---- maps, and answers to questions
 
   whole_here : (m : GroupMapState) → WholeMap g n.registry m → WholeMap g h.w.registry_generation m
-  whole_here m whole = record { seen = record { whole = whole.seen.whole; past = λ v. (let a = whole.seen.past v in let b = h.registry v in omega arith) }; size = whole.size; named = whole.named; some = whole.some; cut = whole.cut }
+  whole_here m whole =
+      record {
+        seen = record { whole = whole.seen.whole; past = λ v. (let a = whole.seen.past v in let b = h.registry v in omega arith) };
+        size = whole.size;
+        named = whole.named;
+        some = whole.some;
+        cut = whole.cut;
+      }
 
   pub publishes_view : (m : GroupMapState) → WholeMap g n.registry m → Next g n h (record n { sent = MapSent m ∷ n.sent })
   publishes_view m whole = turned k g n h _ h.w (MapSent m ∷ []) (record {
@@ -95,7 +119,8 @@ module _ (k : Below) (g : Setting) (n : Net) (h : View g n) where
     servers = λ y. inl refl;
   })
 
-  pub welcomes_view : (inc ask : ℕ) (news : List SlotNews) (m : GroupMapState) → In (HelloSent inc ask) n.sent → least_horizon g.log.0 news ≡ n.low → WholeMap g n.registry m → Next g n h (record n { sent = WelcomeSent inc ask news m ∷ n.sent })
+  pub welcomes_view : (inc ask : ℕ) (news : List SlotNews) (m : GroupMapState) → In (HelloSent inc ask) n.sent → least_horizon g.log.0 news ≡ n.low
+      → WholeMap g n.registry m → Next g n h (record n { sent = WelcomeSent inc ask news m ∷ n.sent })
   welcomes_view inc ask news m is low whole = turned k g n h _ h.w (WelcomeSent inc ask news m ∷ []) (record {
     steps = Done;
     apart = nothing_apart k g n h;
@@ -124,7 +149,8 @@ module _ (k : Below) (g : Setting) (n : Net) (h : View g n) where
 
   -- ---- the cleaner drops a segment
 
-  pub drops_view : (lists : List FragMeta) (meta : FragMeta) → In (ListedSent lists) n.sent → In meta lists → meta.name.seq < n.low → Next g n h (record n { sent = DeleteSent meta.name ∷ n.sent; dropped = meta.name ∷ n.dropped })
+  pub drops_view : (lists : List FragMeta) (meta : FragMeta) → In (ListedSent lists) n.sent → In meta lists → meta.name.seq < n.low
+      → Next g n h (record n { sent = DeleteSent meta.name ∷ n.sent; dropped = meta.name ∷ n.dropped })
   drops_view lists meta is among below = dropped_one (found lists (h.sent (ListedSent lists) is) among)
     where
       Found : Type 0
@@ -138,7 +164,15 @@ module _ (k : Below) (g : Setting) (n : Net) (h : View g n) where
       dropped_one : Found → Next g n h (record n { sent = DeleteSent meta.name ∷ n.sent; dropped = meta.name ∷ n.dropped })
       dropped_one f = turned k g n h _ (drops h.w f.0) (DeleteSent meta.name ∷ []) (record {
         steps = More Done (Drops f.0 can);
-        apart = record { seat = refl; storeds = λ p in_. in_; fragments = λ p in_. in_; fenceds = λ p in_. in_; dropped = λ y e. put_one y e; registry = λ y. omega arith; low = omega arith };
+        apart = record {
+          seat = refl;
+          storeds = λ p in_. in_;
+          fragments = λ p in_. in_;
+          fenceds = λ p in_. in_;
+          dropped = λ y e. put_one y e;
+          registry = λ y. omega arith;
+          low = omega arith;
+        };
         rests = record { inc = refl; owner = refl; filed = refl; flown = refl; picked = refl };
         shelves = λ y. record { of = (h.shelves y).of; keeps = (h.shelves y).keeps; each = (h.shelves y).each; marks = (h.shelves y).marks };
         nobody = h.nobody;
@@ -152,7 +186,11 @@ module _ (k : Below) (g : Setting) (n : Net) (h : View g n) where
       })
         where
           can : CanDrop h.w f.0
-          can = record { booked = f.1; below = (let e : h.w.seq_of f.0 ≡ meta.name.seq = ap (λ t. t f.0) h.fixed.seq_of ∙ ap (λ (z : SegName). z.seq) (sym f.2) in let l = h.low in let b = below in omega arith) }
+          can = record {
+            booked = f.1;
+            below = (let e : h.w.seq_of f.0 ≡ meta.name.seq = ap (λ t. t f.0) h.fixed.seq_of ∙ ap (λ (z : SegName). z.seq) (sym f.2) in let l = h.low in
+                let b = below in omega arith);
+          }
 
           here : put h.w.dropped f.0 1 f.0 ≡ 1
           here = grind (arith, nat_tests)
@@ -167,7 +205,8 @@ module _ (k : Below) (g : Setting) (n : Net) (h : View g n) where
           gone : (y : ℕ) → (put h.w.dropped f.0 1 y ≡ 0) ⊎ In (name_of g y) (meta.name ∷ n.dropped)
           gone y = by (y == f.0) refl (h.dropped y)
             where
-              by : (t : Bool) → (y == f.0) ≡ t → (h.w.dropped y ≡ 0) ⊎ In (name_of g y) n.dropped → (cond t 1 (h.w.dropped y) ≡ 0) ⊎ In (name_of g y) (meta.name ∷ n.dropped)
+              by : (t : Bool) → (y == f.0) ≡ t → (h.w.dropped y ≡ 0) ⊎ In (name_of g y) n.dropped
+                  → (cond t 1 (h.w.dropped y) ≡ 0) ⊎ In (name_of g y) (meta.name ∷ n.dropped)
               by true e was = inr (inl (ap (name_of g) (equal y f.0 e) ∙ sym f.2))
               by false e (inl was) = inl was
               by false e (inr was) = inr (inr was)

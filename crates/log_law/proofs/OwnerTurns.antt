@@ -34,7 +34,8 @@ use Rattle.log_law.proofs.Logs.{now_behind, now_spelled, now_flown}
 use Rattle.log_law.proofs.Picking.{pick_stays}
 
 -- what the chain files, beside what was filed
-chain_said : (g : Setting) (w : State) (chain : List Segment) (names : List SegName) → AllFiled g w chain → ((name : SegName) → In name names → IsFiled g w name) → (name : SegName) → In name (names_of chain ++ names) → IsFiled g w name
+chain_said : (g : Setting) (w : State) (chain : List Segment) (names : List SegName) → AllFiled g w chain
+    → ((name : SegName) → In name names → IsFiled g w name) → (name : SegName) → In name (names_of chain ++ names) → IsFiled g w name
 chain_said g w [] names all old name is = old name is
 chain_said g w (c ∷ cs) names all old name (inl e) = (all.0.0, e ∙ all.0.1, all.0.2)
 chain_said g w (c ∷ cs) names all old name (inr is) = chain_said g w cs names all.1 old name is
@@ -73,12 +74,16 @@ module _ (k : Below) (g : Setting) (n : Net) (h : View g n) where
       flown = now_flown k g h.w h.book h.reached h.paged h.spelled s i Now served.outs goes as_it_serves.1 as_it_serves.0.flight texts goes.shows.flight n.flown h.flown;
       grows = λ a among. among;
       asked = h.asked;
-      owner = (goes.shows, now_behind k g h.w h.book h.reached h.paged h.spelled s i Now served.outs goes as_it_serves.1 as_it_serves.0.flight texts goes.shows.flight);
+      owner = (
+        goes.shows,
+        now_behind k g h.w h.book h.reached h.paged h.spelled s i Now served.outs goes as_it_serves.1 as_it_serves.0.flight texts goes.shows.flight,
+      );
       picked = tt;
       sends = refl;
       shown = packets_shown g goes.world goes.later h.hellos served.outs goes.said;
       filed = filed_said g goes.world goes.later served.outs n.filed goes.said (filed_still k g n h Now served.outs goes);
-      top = topped k g n h Now served.outs goes (log_filed g.log served.outs ++ n.filed) (λ name among. in_right (log_filed g.log served.outs) n.filed name among) (λ name among. in_left (log_filed g.log served.outs) n.filed name among);
+      top = topped k g n h Now served.outs goes (log_filed g.log served.outs ++ n.filed)
+          (λ name among. in_right (log_filed g.log served.outs) n.filed name among) (λ name among. in_left (log_filed g.log served.outs) n.filed name among);
       fallen = λ down. contrary down;
       steady = λ serving. contrary (sym serving);
     })
@@ -93,7 +98,9 @@ module _ (k : Below) (g : Setting) (n : Net) (h : View g n) where
   writing_brings (log_in.Maps m) came = (h.sent (MapSent m) came).seen
   writing_brings log_in.Tick came = tt
 
-  module _ (chain : List Segment) (s : LogState) (i : Input) (is : n.owner ≡ Writing chain s) (came : CameToWriter n i) (texts : WritesText (log.transition s i)) (premise : g.doubts ≡ false → (log.transition s i).state.flight ≡ None → h.w.pick_low ≤ h.w.head → Undoubted h.w) where
+  module _ (chain : List Segment) (s : LogState) (i : Input) (is : n.owner ≡ Writing chain s) (came : CameToWriter n i)
+      (texts : WritesText (log.transition s i))
+      (premise : g.doubts ≡ false → (log.transition s i).state.flight ≡ None → h.w.pick_low ≤ h.w.head → Undoubted h.w) where
     abbrev d : log.Done
     d = log.transition s i
 
@@ -116,24 +123,29 @@ module _ (k : Below) (g : Setting) (n : Net) (h : View g n) where
     still_writes v after = next k g n h P d.outs t (after_flight g n chain d (Some v.flight)) h.hellos (log_packets d.outs) (record {
       keeps = record { shelves = refl; registry = refl; low = refl; inc = refl; dropped = refl };
       spelled = now_spelled k g h.w h.book h.reached h.paged h.spelled s i P d.outs t there.1 before texts after;
-      flown = subst (λ o. Flown t.world t.later (flown_with o n.flown)) v.is_flight (now_flown k g h.w h.book h.reached h.paged h.spelled s i P d.outs t there.1 before texts after n.flown h.flown);
+      flown = subst (λ o. Flown t.world t.later (flown_with o n.flown)) v.is_flight
+          (now_flown k g h.w h.book h.reached h.paged h.spelled s i P d.outs t there.1 before texts after n.flown h.flown);
       grows = λ a among. among;
       asked = h.asked;
       owner = (v, now_behind k g h.w h.book h.reached h.paged h.spelled s i P d.outs t there.1 before texts after);
-      picked = pick_stays h.w t.world (let p = there.0.phase in omega arith) t.steps (ap (λ (o : Others). o.incarnation) t.frame.others) ∙ subst (PickShown h.w.pick_low n.picked) is h.picked;
+      picked = pick_stays h.w t.world (let p = there.0.phase in omega arith) t.steps (ap (λ (o : Others). o.incarnation) t.frame.others)
+          ∙ subst (PickShown h.w.pick_low n.picked) is h.picked;
       sends = refl;
       shown = packets_shown g t.world t.later h.hellos d.outs t.said;
       filed = filed_said g t.world t.later d.outs n.filed t.said (filed_still k g n h P d.outs t);
-      top = topped k g n h P d.outs t (log_filed g.log d.outs ++ n.filed) (λ name among. in_right (log_filed g.log d.outs) n.filed name among) (λ name among. in_left (log_filed g.log d.outs) n.filed name among);
+      top = topped k g n h P d.outs t (log_filed g.log d.outs ++ n.filed) (λ name among. in_right (log_filed g.log d.outs) n.filed name among)
+          (λ name among. in_left (log_filed g.log d.outs) n.filed name among);
       fallen = λ down. contrary down;
-      steady = λ serving. steady k h.w t.world h.reached t.steps (let p = there.0.phase in omega arith) (let p = there.0.phase in omega arith) (let p = v.phase in omega arith) (let p = v.phase in omega arith) (ap (λ (o : Others). o.incarnation) t.frame.others);
+      steady = λ serving. steady k h.w t.world h.reached t.steps (let p = there.0.phase in omega arith) (let p = there.0.phase in omega arith)
+          (let p = v.phase in omega arith) (let p = v.phase in omega arith) (ap (λ (o : Others). o.incarnation) t.frame.others);
     })
 
     now_serves : Serves g t.world t.later d.state × AllFiled g t.world chain × (d.state.flight ≡ None) → Next g n h (after_flight g n chain d None)
     now_serves v = next k g n h P d.outs t (after_flight g n chain d None) h.hellos (log_packets d.outs) (record {
       keeps = record { shelves = refl; registry = refl; low = refl; inc = refl; dropped = refl };
       spelled = now_spelled k g h.w h.book h.reached h.paged h.spelled s i P d.outs t there.1 before texts v.0.flight;
-      flown = subst (λ o. Flown t.world t.later (flown_with o n.flown)) v.2 (now_flown k g h.w h.book h.reached h.paged h.spelled s i P d.outs t there.1 before texts v.0.flight n.flown h.flown);
+      flown = subst (λ o. Flown t.world t.later (flown_with o n.flown)) v.2
+          (now_flown k g h.w h.book h.reached h.paged h.spelled s i P d.outs t there.1 before texts v.0.flight n.flown h.flown);
       grows = λ a among. among;
       asked = h.asked;
       owner = (v.0, now_behind k g h.w h.book h.reached h.paged h.spelled s i P d.outs t there.1 before texts v.0.flight);
@@ -141,7 +153,8 @@ module _ (k : Below) (g : Setting) (n : Net) (h : View g n) where
       sends = refl;
       shown = packets_shown g t.world t.later h.hellos d.outs t.said;
       filed = filed_said g t.world t.later d.outs (names_of chain ++ n.filed) t.said (chain_said g t.world chain n.filed v.1 (filed_still k g n h P d.outs t));
-      top = topped k g n h P d.outs t (log_filed g.log d.outs ++ (names_of chain ++ n.filed)) (λ name among. in_right (log_filed g.log d.outs) (names_of chain ++ n.filed) name (in_right (names_of chain) n.filed name among))
+      top = topped k g n h P d.outs t (log_filed g.log d.outs ++ (names_of chain ++ n.filed))
+          (λ name among. in_right (log_filed g.log d.outs) (names_of chain ++ n.filed) name (in_right (names_of chain) n.filed name among))
           (λ name among. in_left (log_filed g.log d.outs) (names_of chain ++ n.filed) name among);
       fallen = λ down. contrary down;
       steady = λ serving. contrary (sym serving);
@@ -195,7 +208,8 @@ module _ (k : Below) (g : Setting) (n : Net) (h : View g n) where
       book = h.book;
       hellos = h.hellos;
       fixed = record { servers = h.fixed.servers; seq_of = h.fixed.seq_of; incarnation_of = h.fixed.incarnation_of; attempt_of = h.fixed.attempt_of };
-      reached = k.protocol.goes_on h.w v h.reached (More (More Done (Begins (record { down = owner_there Down is }))) (Fences 0 (suc h.w.incarnation) (record { begun = omega arith })));
+      reached = k.protocol.goes_on h.w v h.reached
+          (More (More Done (Begins (record { down = owner_there Down is }))) (Fences 0 (suc h.w.incarnation) (record { begun = omega arith })));
       paged = h.paged;
       spelled = h.spelled;
       flown = record { all = h.flown.all; booked = h.flown.booked };
@@ -244,4 +258,10 @@ module _ (k : Below) (g : Setting) (n : Net) (h : View g n) where
       some = (k.protocol.horizons h.w h.reached).low_some
 
       opens : ScanShown g v h.book h.hellos (started g.log (suc n.inc))
-      opens = record { log = refl; inc = ap suc (sym h.inc); horizon = some; asked = asked; stage = (refl, record { generation = h.w.generation 0; listed = h.w.holds 0; nothing = h.nobody; sent = inl refl }) }
+      opens = record {
+        log = refl;
+        inc = ap suc (sym h.inc);
+        horizon = some;
+        asked = asked;
+        stage = (refl, record { generation = h.w.generation 0; listed = h.w.holds 0; nothing = h.nobody; sent = inl refl });
+      }

@@ -21,11 +21,15 @@ module _ (g : Setting) (n : Net) (h : View g n) (s : Segment) (r : RoundSoFar) (
   brought x = record { text = is; read = ap answer_of is ∙ answer }
     where
       is : text ≡ text_of s
-      is = brings g n h x.0 x.1 r i.is_round (i.count ∙ ap (λ (z : Segment). length (g.stripe z.group).members) x.2) (i.parity ∙ ap (λ (z : Segment). (g.stripe z.group).parity) x.2)
+      is = brings g n h x.0 x.1 r i.is_round (i.count ∙ ap (λ (z : Segment). length (g.stripe z.group).members) x.2)
+          (i.parity ∙ ap (λ (z : Segment). (g.stripe z.group).parity) x.2)
           (subst (λ (z : Segment). AllCame n z.name r.answers) x.2 i.came) text read ∙ ap text_of (sym x.2)
 
       answer : answer_of (text_of s) ≡ Ok s
-      answer = subst (λ (z : Segment). answer_of (text_of z) ≡ Ok z) (sym x.2) (answer_again (text_of (h.book x.0)) (h.book x.0) (h.spelled.fits x.0 x.1) (h.spelled.text x.0 x.1))
+      answer = subst (λ (z : Segment). answer_of (text_of z) ≡ Ok z) (sym x.2)
+          (answer_again (text_of (h.book x.0)) (h.book x.0) (h.spelled.fits x.0 x.1) (h.spelled.text x.0 x.1))
 
 pub a_place_names_one_content : Below → APlaceNamesOneContent
-a_place_names_one_content k g n m s is r i text read = brought (doubtful g) n (seen k g n m) s r (record { is_round = i.is_round; count = i.count; parity = i.parity; came = i.came }) text read ((seen k g n m).flown.booked s is)
+a_place_names_one_content k g n m s is r i text read =
+    brought (doubtful g) n (seen k g n m) s r (record { is_round = i.is_round; count = i.count; parity = i.parity; came = i.came }) text read
+    ((seen k g n m).flown.booked s is)

@@ -38,18 +38,22 @@ text_in Waiting = []
 
 pub gave : (r : RoundSoFar) (text : List ℕ) → state_of r ≡ Read text → Gave r text
 unfolding state_of text_in
-gave r text = by_test (λ (st : RoundState). st ≡ Read text → Gave r text) (is_enough r) (Read (joined (parts_in r.n r.answers) r.parity (unwrap_or (len_in r.answers) 0)))
+gave r text =
+    by_test (λ (st : RoundState). st ≡ Read text → Gave r text) (is_enough r) (Read (joined (parts_in r.n r.answers) r.parity (unwrap_or (len_in r.answers) 0)))
     (cond (have_answered r.answers r.servers) (Short (missing_in r.answers)) Waiting)
     (λ t e. record { enough = t; text_is = ap text_in e })
-    (λ t. by_test (λ (st : RoundState). st ≡ Read text → Gave r text) (have_answered r.answers r.servers) (Short (missing_in r.answers)) Waiting (λ k e. absurd cc) (λ k e. absurd cc))
+    (λ t. by_test (λ (st : RoundState). st ≡ Read text → Gave r text) (have_answered r.answers r.servers) (Short (missing_in r.answers)) Waiting
+    (λ k e. absurd cc) (λ k e. absurd cc))
 
 -- some fragment came, where a round has enough
 module _ (n : Net) (name : SegName) where
-  pub some_came : (answers : List Answer) → AllCame n name answers → ((i : ℕ) → bytes_in i answers ≡ None) ⊎ ((f : Fragment) × In (FragmentSent f) n.sent × (f.meta.name ≡ name))
+  pub some_came : (answers : List Answer) → AllCame n name answers
+      → ((i : ℕ) → bytes_in i answers ≡ None) ⊎ ((f : Fragment) × In (FragmentSent f) n.sent × (f.meta.name ≡ name))
   some_came [] all = inl (λ i. refl)
   some_came (a ∷ rest) all = by a.told refl all.0 (some_came rest all.1)
     where
-      by : (t : Told) → a.told ≡ t → ToldCame n name a.told → ((i : ℕ) → bytes_in i rest ≡ None) ⊎ ((f : Fragment) × In (FragmentSent f) n.sent × (f.meta.name ≡ name))
+      by : (t : Told) → a.told ≡ t → ToldCame n name a.told
+          → ((i : ℕ) → bytes_in i rest ≡ None) ⊎ ((f : Fragment) × In (FragmentSent f) n.sent × (f.meta.name ≡ name))
           → ((i : ℕ) → bytes_in i (a ∷ rest) ≡ None) ⊎ ((f : Fragment) × In (FragmentSent f) n.sent × (f.meta.name ≡ name))
       by (Held f) is came more = inr (let c = subst (ToldCame n name) is came in (f, c.0, c.1))
       by (Missing generation) is came (inl none) = inl (λ i. ap (λ t. bytes_in i (record { server = a.server; told = t } ∷ rest)) is ∙ none i)
@@ -85,9 +89,11 @@ module _ (g : Setting) (n : Net) (h : View g n) (x : ℕ) (booked : h.w.booked x
   grouped : IsGrouped g h.book h.w.booked end
   grouped y to e = ap (λ z. (h.book z).group) (same y to (e ∙ at_end))
 
-  module _ (r : RoundSoFar) (is_round : IsRound r) (count : r.n ≡ length (g.stripe s.group).members) (parity : r.parity ≡ (g.stripe s.group).parity) (came : AllCame n s.name r.answers) (text : List ℕ) (read : state_of r ≡ Read text) where
+  module _ (r : RoundSoFar) (is_round : IsRound r) (count : r.n ≡ length (g.stripe s.group).members) (parity : r.parity ≡ (g.stripe s.group).parity)
+      (came : AllCame n s.name r.answers) (text : List ℕ) (read : state_of r ≡ Read text) where
     reads : Reads g h.w h.book h.paged h.spelled end r
-    reads = enough_reads g h.w h.book h.paged h.spelled end r (record { is_round = is_round; count = count; parity = parity; told = all_told r.answers came }) grouped (gave r text read).enough
+    reads = enough_reads g h.w h.book h.paged h.spelled end r
+        (record { is_round = is_round; count = count; parity = parity; told = all_told r.answers came }) grouped (gave r text read).enough
 
     pub brings : text ≡ text_of s
     brings = sym (gave r text read).text_is ∙ (reads.text ∙ ap (λ z. text_of (h.book z)) (same reads.number reads.booked (reads.named ∙ at_end)))

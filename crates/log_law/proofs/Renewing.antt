@@ -22,7 +22,8 @@ use Rattle.log_law.proofs.Logs.{ran_first}
 use Rattle.log_law.proofs.Next.{Next}
 use Rattle.log_law.proofs.Views.{OwnerShown, View}
 
-module _ (k : Below) (g : Setting) (n : Net) (h : View g n) (m : GroupMapState) (doubts : g.doubts ≡ true) (is : n.owner ≡ Down) (came : In (MapSent m) n.sent) where
+module _ (k : Below) (g : Setting) (n : Net) (h : View g n) (m : GroupMapState) (doubts : g.doubts ≡ true) (is : n.owner ≡ Down)
+    (came : In (MapSent m) n.sent) where
   map : WholeMap g h.w.registry_generation m
   map = h.sent (MapSent m) came
 
@@ -30,7 +31,8 @@ module _ (k : Below) (g : Setting) (n : Net) (h : View g n) (m : GroupMapState) 
   w = learns (restarts h.w) (present_at m)
 
   steps : Steps h.w w
-  steps = More (More Done (Restarts (record { down = subst (OwnerShown g h.w h.book h.hellos) is h.owner }))) (Learns (present_at m) (record { known = map.seen.past }))
+  steps = More (More Done (Restarts (record { down = subst (OwnerShown g h.w h.book h.hellos) is h.owner })))
+      (Learns (present_at m) (record { known = map.seen.past }))
 
   later : Later h.w w h.book h.book
   later = record {
@@ -74,7 +76,10 @@ module _ (k : Below) (g : Setting) (n : Net) (h : View g n) (m : GroupMapState) 
           end_seq = g.names.none;
           flight = refl;
         },
-        record { ran = ran_first g.log (suc n.inc) no_end m; grouped = λ y booked named. absurd (none_before y booked (ap (λ (z : SegName). z.pass.inc) named)) },
+        record {
+          ran = ran_first g.log (suc n.inc) no_end m;
+          grouped = λ y booked named. absurd (none_before y booked (ap (λ (z : SegName). z.pass.inc) named));
+        },
       );
       picked = tt;
       sent = λ p among. shown_on g h.w w h.book h.book later h.hellos h.hellos (λ a in_. in_) p (h.sent p among);

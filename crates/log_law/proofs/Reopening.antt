@@ -80,7 +80,11 @@ abbrev pub reading_back : ScanState
 reading_back = record { opening = now; stage = Reads backward (Some first_round) }
 
 abbrev pub one_in : ScanState
-one_in = record { opening = now; stage = Reads backward (Some (record first_round { round = record first_round.round { answers = record { server = 1; told = told.Held (piece segment group 0) } ∷ [] } })) }
+one_in = record {
+  opening = now;
+  stage = Reads backward
+      (Some (record first_round { round = record first_round.round { answers = record { server = 1; told = told.Held (piece segment group 0) } ∷ [] } }));
+}
 
 abbrev pub over : ScanState
 over = record { opening = now; stage = Over }
@@ -91,7 +95,8 @@ pub asks_first : scan.transition hailing scan_in.Tick ≡ record { state = haili
 unfolding scan.on_tick
 asks_first = refl
 
-pub fences_all : scan.transition hailing (scan_in.Welcome 1 news the_map) ≡ record { state = gathering []; outs = scan_out.Fence 1 ∷ scan_out.Fence 2 ∷ scan_out.Fence 3 ∷ [] }
+pub fences_all : scan.transition hailing
+    (scan_in.Welcome 1 news the_map) ≡ record { state = gathering []; outs = scan_out.Fence 1 ∷ scan_out.Fence 2 ∷ scan_out.Fence 3 ∷ [] }
 unfolding scan.on_welcome
 fences_all = refl
 
@@ -99,11 +104,13 @@ pub keeps_one : scan.transition (gathering []) (scan_in.Fenced 1 1 (meta_of segm
 unfolding scan.on_fenced scan.with_list
 keeps_one = refl
 
-pub keeps_two : scan.transition (gathering (list_of 1 0 ∷ [])) (scan_in.Fenced 2 1 (meta_of segment 1 ∷ [])) ≡ record { state = gathering (list_of 1 0 ∷ list_of 2 1 ∷ []); outs = [] }
+pub keeps_two : scan.transition (gathering (list_of 1 0 ∷ []))
+    (scan_in.Fenced 2 1 (meta_of segment 1 ∷ [])) ≡ record { state = gathering (list_of 1 0 ∷ list_of 2 1 ∷ []); outs = [] }
 unfolding scan.on_fenced scan.with_list
 keeps_two = refl
 
-pub asks_second : scan.transition (gathering (list_of 1 0 ∷ list_of 2 1 ∷ [])) (scan_in.Fenced 3 1 (meta_of segment 2 ∷ [])) ≡ record { state = asking; outs = scan_out.Hello 2 ∷ [] }
+pub asks_second : scan.transition (gathering (list_of 1 0 ∷ list_of 2 1 ∷ []))
+    (scan_in.Fenced 3 1 (meta_of segment 2 ∷ [])) ≡ record { state = asking; outs = scan_out.Hello 2 ∷ [] }
 unfolding scan.on_fenced scan.with_list
 asks_second = refl
 
@@ -117,7 +124,13 @@ hears_one = refl
 
 -- with the second fragment the text is whole
 abbrev both_in : ReadingState
-both_in = record first_round { round = record first_round.round { answers = record { server = 1; told = told.Held (piece segment group 0) } ∷ record { server = 2; told = told.Held (piece segment group 1) } ∷ [] } }
+both_in = record first_round {
+  round =
+      record first_round.round {
+        answers = record { server = 1; told = told.Held (piece segment group 0) }
+            ∷ record { server = 2; told = told.Held (piece segment group 1) } ∷ [];
+      };
+}
 
 abbrev heard : reading.Step → scan.Done
 heard step = scan.goes_on now backward step.state step.next
@@ -125,7 +138,8 @@ heard step = scan.goes_on now backward step.state step.next
 found : answer_of (text_of segment) ≡ Ok segment
 found = answer_again (text_of segment) segment written.fits written.text
 
-pub hears_two : scan.transition one_in (scan_in.Got 3 2 1 (piece segment group 1)) ≡ record { state = over; outs = scan_out.Chain (segment ∷ []) start (scan.prior_at start) ∷ [] }
+pub hears_two : scan.transition one_in
+    (scan_in.Got 3 2 1 (piece segment group 1)) ≡ record { state = over; outs = scan_out.Chain (segment ∷ []) start (scan.prior_at start) ∷ [] }
 unfolding scan.on_told scan.goes_on scan.follows reading.on_answer round.taken round.state_of joined piece stripe_of
 hears_two = ap (λ (a : Result Segment SegError). heard (reading.read_as both_in (reading.segment_found both_in.target the_map a))) found
 
@@ -154,7 +168,8 @@ pub opens_with : first_write setting 2 start the_map ≡ record { state = openin
 unfolding log.on_parts log.launched log.group_for
 opens_with = refl
 
-pub opening_sends : log_packets (log.all_sends (opening_flight none_noted)) ≡ StoreSent 1 (piece opening_segment group 0) 1 ∷ StoreSent 2 (piece opening_segment group 1) 1 ∷ StoreSent 3 (piece opening_segment group 2) 1 ∷ []
+pub opening_sends : log_packets (log.all_sends (opening_flight none_noted)) ≡ StoreSent 1 (piece opening_segment group 0) 1 ∷ StoreSent 2
+    (piece opening_segment group 1) 1 ∷ StoreSent 3 (piece opening_segment group 2) 1 ∷ []
 unfolding log.all_sends
 opening_sends = refl
 
@@ -172,6 +187,11 @@ pub notes_second : log.transition (opening_log noted_one) (log_in.Acked opening_
 unfolding log.on_acked log.looked_at
 notes_second = refl
 
-pub settles : log.transition (opening_log noted_two) (log_in.Acked opening_name 2 1) ≡ record { state = new_log setting.log 2 (log.end_from opening_segment) the_map; outs = Settled (log.end_from opening_segment) (rows_of opening_segment) ∷ [] }
+pub settles : log.transition (opening_log noted_two)
+    (log_in.Acked opening_name 2 1)
+    ≡ record {
+      state = new_log setting.log 2 (log.end_from opening_segment) the_map;
+      outs = Settled (log.end_from opening_segment) (rows_of opening_segment) ∷ [];
+    }
 unfolding log.on_acked log.looked_at log.settled log.if_full
 settles = refl

@@ -35,12 +35,14 @@ in_names (t ∷ ts) name (inl e) = (t, inl refl, sym e)
 in_names (t ∷ ts) name (inr is) = let z = in_names ts name is in (z.0, inr z.1, z.2)
 
 -- what was read back is booked
-in_book : (g : Setting) (w : State) (book : ℕ → Segment) (top x : ℕ) (ts : List Segment) → Chained g w book top x ts → (t : Segment) → In t ts → (y : ℕ) × (w.booked y ≡ 1) × (t ≡ book y)
+in_book : (g : Setting) (w : State) (book : ℕ → Segment) (top x : ℕ) (ts : List Segment) → Chained g w book top x ts → (t : Segment) → In t ts
+    → (y : ℕ) × (w.booked y ≡ 1) × (t ≡ book y)
 in_book g w book top x [] c t is = absurd is
 in_book g w book top x (b ∷ bs) c t (inl e) = (c.0, c.1, e ∙ c.2)
 in_book g w book top x (b ∷ bs) c t (inr is) = in_book g w book top c.0 bs c.5 t is
 
-module _ (k : Below) (g : Setting) (n : Net) (none : g.doubts ≡ false) (m : Moment g n) (chain : List Segment) (s : LogState) (i : Input) (is : n.owner ≡ Writing chain s) where
+module _ (k : Below) (g : Setting) (n : Net) (none : g.doubts ≡ false) (m : Moment g n) (chain : List Segment) (s : LogState) (i : Input)
+    (is : n.owner ≡ Writing chain s) where
   abbrev o : Net
   o = after_writing g n chain (log.transition s i)
 
@@ -55,13 +57,21 @@ module _ (k : Below) (g : Setting) (n : Net) (none : g.doubts ≡ false) (m : Mo
     in_flown x booked = (grows g n o happens).flown (a.view.book x) (a.view.flown.all x booked)
 
     -- the opening segment tells nothing
-    opening_tells : (f : FlightState) (name : SegName) → s.flight ≡ Some f → record { log = g.log; seq = f.segment.name.seq; pass = f.segment.name.pass } ≡ name → TellsOnlyTheTail m o name
-    opening_tells f name flies named = (a.view.book a.view.w.flight, in_flown a.view.w.flight booked, its_name, inl (sym page.tells ∙ (k.protocol.owner a.view.w a.view.reached).opening_empty shown.phase))
+    opening_tells : (f : FlightState) (name : SegName) → s.flight ≡ Some f → record { log = g.log; seq = f.segment.name.seq; pass = f.segment.name.pass } ≡ name
+        → TellsOnlyTheTail m o name
+    opening_tells f name flies named = (
+      a.view.book a.view.w.flight,
+      in_flown a.view.w.flight booked,
+      its_name,
+      inl (sym page.tells ∙ (k.protocol.owner a.view.w a.view.reached).opening_empty shown.phase),
+    )
       where
         booked : a.view.w.booked a.view.w.flight ≡ 1
         booked = shown.flying.is_booked
 
-        page : Page g a.view.w.flight (a.view.book a.view.w.flight) (a.view.w.text_of a.view.w.flight) (a.view.w.member_count a.view.w.flight) (a.view.w.member_server a.view.w.flight) (a.view.w.member_generation a.view.w.flight) (a.view.w.prior_of a.view.w.flight) (a.view.w.content_of a.view.w.flight)
+        page : Page g a.view.w.flight (a.view.book a.view.w.flight) (a.view.w.text_of a.view.w.flight) (a.view.w.member_count a.view.w.flight)
+            (a.view.w.member_server a.view.w.flight) (a.view.w.member_generation a.view.w.flight) (a.view.w.prior_of a.view.w.flight)
+            (a.view.w.content_of a.view.w.flight)
         page = a.view.paged a.view.w.flight booked
 
         one : f ≡ shown.flight
@@ -75,12 +85,14 @@ module _ (k : Below) (g : Setting) (n : Net) (none : g.doubts ≡ false) (m : Mo
 
         its_name : (a.view.book a.view.w.flight).name ≡ name
         its_name =
-            ap (λ l. record { log = l; seq = (a.view.book a.view.w.flight).name.seq; pass = (a.view.book a.view.w.flight).name.pass }) (ap (λ (z : SegName). z.log) page.named)
+            ap (λ l. record { log = l; seq = (a.view.book a.view.w.flight).name.seq; pass = (a.view.book a.view.w.flight).name.pass })
+            (ap (λ (z : SegName). z.log) page.named)
             ∙ (ap (λ (z : Segment). record { log = g.log; seq = z.name.seq; pass = z.name.pass }) (sym segment) ∙ named)
 
     -- what was read back
     chain_tells : (t : Segment) → In t chain → In t.name o.filed → In t.name n.filed ⊎ TellsOnlyTheTail m o t.name
-    chain_tells t among filed = ⊎_elim (λ near. inl (old near)) (λ far. inr (t, there, refl, far)) (adopted k g none (opening g m.map) refl n m.run a chain s is t among)
+    chain_tells t among filed =
+        ⊎_elim (λ near. inl (old near)) (λ far. inr (t, there, refl, far)) (adopted k g none (opening g m.map) refl n m.run a chain s is t among)
       where
         x : (y : ℕ) × (a.view.w.booked y ≡ 1) × (t ≡ a.view.book y)
         x = in_book g a.view.w a.view.book s.end.seq shown.read.next chain shown.read.chained t among
@@ -89,7 +101,8 @@ module _ (k : Below) (g : Setting) (n : Net) (none : g.doubts ≡ false) (m : Mo
         there = subst (λ z. In z o.flown) (sym x.2) (in_flown x.0 x.1)
 
         seq : a.view.w.seq_of x.0 ≡ t.name.seq
-        seq = ap (λ z. z x.0) a.view.fixed.seq_of ∙ (ap (λ (z : SegName). z.seq) (sym (a.view.paged x.0 x.1).named) ∙ ap (λ (z : Segment). z.name.seq) (sym x.2))
+        seq = ap (λ z. z x.0) a.view.fixed.seq_of
+            ∙ (ap (λ (z : SegName). z.seq) (sym (a.view.paged x.0 x.1).named) ∙ ap (λ (z : Segment). z.name.seq) (sym x.2))
 
         old : IsNoFurther n t → In t.name n.filed
         old near =
@@ -102,7 +115,8 @@ module _ (k : Below) (g : Setting) (n : Net) (none : g.doubts ≡ false) (m : Mo
             subst (λ name. In name n.filed) (line.no_two z.0 t.name ((grows g n o happens).filed z.0 z.1) filed z.2) z.1
 
     pub tells : (log.transition s i).state.flight ≡ None → (name : SegName) → In name o.filed → In name n.filed ⊎ TellsOnlyTheTail m o name
-    tells lands name among = ⊎_elim new read (in_either (log_filed g.log (log.transition s i).outs) (names_of chain ++ n.filed) name (subst (In name) files among))
+    tells lands name among =
+        ⊎_elim new read (in_either (log_filed g.log (log.transition s i).outs) (names_of chain ++ n.filed) name (subst (In name) files among))
       where
         files : o.filed ≡ log_filed g.log (log.transition s i).outs ++ (names_of chain ++ n.filed)
         files = ap (λ f. (after_flight g n chain (log.transition s i) f).filed) lands
@@ -120,7 +134,8 @@ pub a_restart_files_the_tail : Below → ARestartFilesTheTail
 a_restart_files_the_tail k g n o none m (Acts s i is came texts) calm ends name among = contrary (sym (ap is_writing is) ∙ ends.0)
 a_restart_files_the_tail k g n o none m (Writes chain s i is came texts) calm ends name among = by (log.transition s i).state.flight refl
   where
-    by : (f : Option FlightState) → (log.transition s i).state.flight ≡ f → In name n.filed ⊎ TellsOnlyTheTail m (after_writing g n chain (log.transition s i)) name
+    by : (f : Option FlightState) → (log.transition s i).state.flight ≡ f
+        → In name n.filed ⊎ TellsOnlyTheTail m (after_writing g n chain (log.transition s i)) name
     by (Some f) e = contrary (sym (ap (λ x. is_serving (after_flight g n chain (log.transition s i) x).owner) e) ∙ ends.1)
     by None e = tells k g n none m chain s i is (Writes chain s i is came texts) calm e name among
 a_restart_files_the_tail k g n o none m (Opens s i is came can) calm ends name among = contrary (sym (ap is_writing is) ∙ ends.0)

@@ -48,7 +48,9 @@ writing noted = record first_log { flight = Some (flight noted) }
 
 pub all_bytes : (xs : List ℕ) → list_all (λ b. nat_lt b 256) xs ≡ true → IsBytes xs
 all_bytes [] t = All-nil (λ b. b < 256)
-all_bytes (x ∷ xs) t = All-cons (λ b. b < 256) x xs (less x (and_first (nat_lt x 256) (list_all (λ b. nat_lt b 256) xs) t)) (all_bytes xs (and_second (nat_lt x 256) (list_all (λ b. nat_lt b 256) xs) t))
+all_bytes (x ∷ xs) t =
+    All-cons (λ b. b < 256) x xs (less x (and_first (nat_lt x 256) (list_all (λ b. nat_lt b 256) xs) t))
+    (all_bytes xs (and_second (nat_lt x 256) (list_all (λ b. nat_lt b 256) xs) t))
   where
     less : (x : ℕ) → nat_lt x 256 ≡ true → x < 256
     less x t = grind (arith, nat_tests)
@@ -82,7 +84,8 @@ notes_second : log.transition (writing noted_one) (log_in.Acked name 1 1) ≡ re
 unfolding log.on_acked log.looked_at
 notes_second = refl
 
-settles : log.transition (writing noted_two) (log_in.Acked name 2 1) ≡ record { state = record first_log { end = log.end_from segment }; outs = Settled (log.end_from segment) (rows_of segment) ∷ [] }
+settles : log.transition (writing noted_two)
+    (log_in.Acked name 2 1) ≡ record { state = record first_log { end = log.end_from segment }; outs = Settled (log.end_from segment) (rows_of segment) ∷ [] }
 unfolding log.on_acked log.looked_at log.settled log.if_full
 settles = refl
 
@@ -114,7 +117,8 @@ first_stage = record {
   net = after_log setting (opening setting the_map) (log.transition first_log (log_in.Parts []));
   run = On Begun (Acts first_log (log_in.Parts []) refl tt (subst WritesText (sym starts) written));
   owner = ap (λ (d : log.Done). Serving d.state) starts;
-  sent = λ p is. in_more (log_packets (log.transition first_log (log_in.Parts [])).outs) p (subst (In p) (sym (ap (λ (d : log.Done). log_packets d.outs) starts ∙ sends_all)) is);
+  sent = λ p is. in_more (log_packets (log.transition first_log (log_in.Parts [])).outs) p
+      (subst (In p) (sym (ap (λ (d : log.Done). log_packets d.outs) starts ∙ sends_all)) is);
   shelves = λ v is. refl;
 }
   where
@@ -133,9 +137,13 @@ unfolding piece
 answer v place s is = subst (λ z. answers setting v z (Stores (piece segment group place) 1) ≡ stored place ∷ []) (sym is) refl
 
 -- a server keeps what a Store brings
-keeps : (noted : List Bool) (told : List Packet) (v place : ℕ) (fresh : List ℕ) → 0 < v → ((u : ℕ) → In u fresh → (u == v) ≡ false) → In (store v place) told → Stage noted told (v ∷ fresh) → Stage noted (stored place ∷ told) fresh
+keeps : (noted : List Bool) (told : List Packet) (v place : ℕ) (fresh : List ℕ) → 0 < v → ((u : ℕ) → In u fresh → (u == v) ≡ false) → In (store v place) told
+    → Stage noted told (v ∷ fresh) → Stage noted (stored place ∷ told) fresh
 keeps noted told v place fresh some others is s = record {
-  net = record s.net { shelves = put s.net.shelves v (shelf_after setting (s.net.shelves v) deed); sent = answers setting v (s.net.shelves v) deed ++ s.net.sent };
+  net = record s.net {
+    shelves = put s.net.shelves v (shelf_after setting (s.net.shelves v) deed);
+    sent = answers setting v (s.net.shelves v) deed ++ s.net.sent;
+  };
   run = On s.run (Serves v deed some (λ own. s.sent (store v place) is));
   owner = s.owner;
   sent = sent;
@@ -150,7 +158,8 @@ keeps noted told v place fresh some others is s = record {
     sent p (inr among) = in_after (answers setting v (s.net.shelves v) (Stores (piece segment group place) 1)) s.net.sent p (s.sent p among)
 
 -- a Stored is noted
-notes : (noted more : List Bool) (told : List Packet) (place : ℕ) → In (stored place) told → log.transition (writing noted) (log_in.Acked name place 1) ≡ record { state = writing more; outs = [] } → Stage noted told [] → Stage more told []
+notes : (noted more : List Bool) (told : List Packet) (place : ℕ) → In (stored place) told
+    → log.transition (writing noted) (log_in.Acked name place 1) ≡ record { state = writing more; outs = [] } → Stage noted told [] → Stage more told []
 notes noted more told place is e s = record {
   net = after_log setting s.net (log.transition (writing noted) (log_in.Acked name place 1));
   run = On s.run (Acts (writing noted) (log_in.Acked name place 1) s.owner (s.sent (stored place) is) (subst WritesText (sym e) written));
@@ -165,7 +174,8 @@ all_stored = stored 2 ∷ stored 1 ∷ stored 0 ∷ stores
 stored_stage : Stage none_noted all_stored []
 stored_stage =
     keeps none_noted (stored 1 ∷ stored 0 ∷ stores) 3 2 [] (omega arith) (λ u is. absurd is) (inr (inr (inr (inr (inl refl)))))
-    (keeps none_noted (stored 0 ∷ stores) 2 1 (3 ∷ []) (omega arith) three (inr (inr (inl refl))) (keeps none_noted stores 1 0 (2 ∷ 3 ∷ []) (omega arith) two_three (inl refl) first_stage))
+    (keeps none_noted (stored 0 ∷ stores) 2 1 (3 ∷ []) (omega arith) three (inr (inr (inl refl)))
+    (keeps none_noted stores 1 0 (2 ∷ 3 ∷ []) (omega arith) two_three (inl refl) first_stage))
   where
     three : (u : ℕ) → In u (3 ∷ []) → (u == 2) ≡ false
     three u (inl e) = ap (λ z. z == 2) e
@@ -177,7 +187,9 @@ stored_stage =
     two_three u (inr (inr is)) = absurd is
 
 noted_stage : Stage noted_two all_stored []
-noted_stage = notes noted_one noted_two all_stored 1 (inr (inl refl)) notes_second (notes none_noted noted_one all_stored 0 (inr (inr (inl refl))) notes_first stored_stage)
+noted_stage =
+    notes noted_one noted_two all_stored 1 (inr (inl refl)) notes_second
+    (notes none_noted noted_one all_stored 0 (inr (inr (inl refl))) notes_first stored_stage)
 
 pub some_segment_filed : SomeSegmentFiled
 some_segment_filed = filed noted_stage
@@ -186,6 +198,10 @@ some_segment_filed = filed noted_stage
     filed s = (
       setting,
       after_log setting s.net (log.transition (writing noted_two) (log_in.Acked name 2 1)),
-      record { map = the_map; whole = whole_map; run = On s.run (Acts (writing noted_two) (log_in.Acked name 2 1) s.owner (s.sent (stored 2) (inl refl)) (subst WritesText (sym settles) tt)) },
+      record {
+        map = the_map;
+        whole = whole_map;
+        run = On s.run (Acts (writing noted_two) (log_in.Acked name 2 1) s.owner (s.sent (stored 2) (inl refl)) (subst WritesText (sym settles) tt));
+      },
       (name, subst (λ (d : log.Done). In name (log_filed setting.log d.outs ++ s.net.filed)) (sym settles) (inl refl)),
     )

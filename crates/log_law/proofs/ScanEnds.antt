@@ -191,7 +191,8 @@ module _ (P : End → Type 0) where
   pub keeps_start : (o : Opening) (st : Stage) (i : In) → StartIs st → BringsPick o st i → Keeps (scan.takes o st i)
   unfolding scan.on_welcome
   keeps_start o st (input.Welcome ask news groups) h pick =
-      by_test Keeps ((ask == o.ask) && (can_ask o && scan.awaits_welcome st)) (scan.welcomed (record o { groups = Some groups }) st (scan.least_horizon o.log.0 news))
+      by_test Keeps ((ask == o.ask) && (can_ask o && scan.awaits_welcome st))
+      (scan.welcomed (record o { groups = Some groups }) st (scan.least_horizon o.log.0 news))
       (stays o st) (λ t. welcomed_so (record o { groups = Some groups }) st (scan.least_horizon o.log.0 news) h pick) (λ t. rests o st h)
   keeps_start o st (input.Fenced server generation held) h pick = fenced_so o st (record { server = server; generation = generation; held = held }) h
   keeps_start o st (input.Got ask server generation fragment) h pick = told_so o st ask server (told.Held fragment) h

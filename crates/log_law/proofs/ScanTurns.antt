@@ -51,9 +51,11 @@ asked_more inc low (Fetch server name ask ∷ os) hellos a is = asked_more inc l
 asked_more inc low (Chain segments end prior ∷ os) hellos a is = asked_more inc low os hellos a is
 asked_more inc low (Lost name ∷ os) hellos a is = asked_more inc low os hellos a is
 
-asked_past : (inc low top high : ℕ) (outs : List Out) (hellos : List Asked) → inc ≤ top → low ≤ high → ((a : Asked) → In a hellos → (a.inc ≤ top) × (a.low ≤ high)) → (a : Asked) → In a (asked_by inc low outs hellos) → (a.inc ≤ top) × (a.low ≤ high)
+asked_past : (inc low top high : ℕ) (outs : List Out) (hellos : List Asked) → inc ≤ top → low ≤ high
+    → ((a : Asked) → In a hellos → (a.inc ≤ top) × (a.low ≤ high)) → (a : Asked) → In a (asked_by inc low outs hellos) → (a.inc ≤ top) × (a.low ≤ high)
 asked_past inc low top high [] hellos i l old a is = old a is
-asked_past inc low top high (Hello ask ∷ os) hellos i l old a (inl e) = (let x = ap (λ (z : Asked). z.inc) e in let b = i in omega arith, let x = ap (λ (z : Asked). z.low) e in let b = l in omega arith)
+asked_past inc low top high (Hello ask ∷ os) hellos i l old a (inl e) =
+    (let x = ap (λ (z : Asked). z.inc) e in let b = i in omega arith, let x = ap (λ (z : Asked). z.low) e in let b = l in omega arith)
 asked_past inc low top high (Hello ask ∷ os) hellos i l old a (inr is) = asked_past inc low top high os hellos i l old a is
 asked_past inc low top high (Fence server ∷ os) hellos i l old a is = asked_past inc low top high os hellos i l old a is
 asked_past inc low top high (Fetch server name ask ∷ os) hellos i l old a is = asked_past inc low top high os hellos i l old a is
@@ -61,9 +63,13 @@ asked_past inc low top high (Chain segments end prior ∷ os) hellos i l old a i
 asked_past inc low top high (Lost name ∷ os) hellos i l old a is = asked_past inc low top high os hellos i l old a is
 
 -- what an opening sends is shown, with these questions and more
-scan_shown : (g : Setting) (w : State) (book : ℕ → Segment) (inc low : ℕ) (outs : List Out) (hellos all : List Asked) → inc ≤ w.incarnation → ((a : Asked) → In a (asked_by inc low outs hellos) → In a all) → AllShown g w book all (scan_packets inc outs)
+scan_shown : (g : Setting) (w : State) (book : ℕ → Segment) (inc low : ℕ) (outs : List Out) (hellos all : List Asked) → inc ≤ w.incarnation
+    → ((a : Asked) → In a (asked_by inc low outs hellos) → In a all) → AllShown g w book all (scan_packets inc outs)
 scan_shown g w book inc low [] hellos all i grows = tt
-scan_shown g w book inc low (Hello ask ∷ os) hellos all i grows = (record { question = record { inc = inc; ask = ask; low = low }; among = grows _ (inl refl); boot = refl; number = refl }, scan_shown g w book inc low os hellos all i (λ a is. grows a (inr is)))
+scan_shown g w book inc low (Hello ask ∷ os) hellos all i grows = (
+  record { question = record { inc = inc; ask = ask; low = low }; among = grows _ (inl refl); boot = refl; number = refl },
+  scan_shown g w book inc low os hellos all i (λ a is. grows a (inr is)),
+)
 scan_shown g w book inc low (Fence server ∷ os) hellos all i grows = (i, scan_shown g w book inc low os hellos all i grows)
 scan_shown g w book inc low (Fetch server name ask ∷ os) hellos all i grows = scan_shown g w book inc low os hellos all i grows
 scan_shown g w book inc low (Chain segments end prior ∷ os) hellos all i grows = scan_shown g w book inc low os hellos all i grows
@@ -77,7 +83,8 @@ pub record AllRead (g : Setting) (w : State) (book : ℕ → Segment) (o : Openi
   pub low : w.read_low ≡ o.low
   pub read : ReadShown g w book t.end t.segments map
 
-told_read : (g : Setting) (w : State) (book : ℕ → Segment) (o : OpeningState) (outs : List Out) → AllByRecursion (OutShown g w book o) outs → IfSome (chain_in outs) (AllRead g w book o)
+told_read : (g : Setting) (w : State) (book : ℕ → Segment) (o : OpeningState) (outs : List Out) → AllByRecursion (OutShown g w book o) outs
+    → IfSome (chain_in outs) (AllRead g w book o)
 told_read g w book o [] all = tt
 told_read g w book o (Hello ask ∷ os) all = told_read g w book o os all.1
 told_read g w book o (Fence server ∷ os) all = told_read g w book o os all.1
@@ -92,7 +99,9 @@ pub record Rests (d : scan.Done) : Type 0 where
 
 over_rests : (o : OpeningState) (i : Input) → Rests (scan.takes o Over i)
 unfolding scan.on_welcome scan.on_fenced scan.on_told scan.on_tick
-over_rests o (scan_in.Welcome ask news groups) = by_test Rests ((ask == o.ask) && (scan.can_ask o && scan.awaits_welcome Over)) (scan.stays (record o { groups = Some groups }) Over) (scan.stays o Over) (λ t. record { over = refl; quiet = refl }) (λ t. record { over = refl; quiet = refl })
+over_rests o (scan_in.Welcome ask news groups) =
+    by_test Rests ((ask == o.ask) && (scan.can_ask o && scan.awaits_welcome Over)) (scan.stays (record o { groups = Some groups }) Over) (scan.stays o Over)
+    (λ t. record { over = refl; quiet = refl }) (λ t. record { over = refl; quiet = refl })
 over_rests o (scan_in.Fenced server generation held) = record { over = refl; quiet = refl }
 over_rests o (scan_in.Got ask server generation fragment) = record { over = refl; quiet = refl }
 over_rests o (scan_in.Missing ask server generation) = record { over = refl; quiet = refl }
@@ -105,11 +114,20 @@ module _ (k : Below) (g : Setting) (n : Net) (h : View g n) (s : ScanState) (i :
 
   brings : (j : Input) → CameToScan g n j → BringsScan g h.w h.book h.hellos s j
   brings (scan_in.Welcome ask news groups) c = let seen : WelcomeSeen g h.w h.hellos n.inc ask news c.0.0 = h.sent (WelcomeSent n.inc ask news c.0.0) c.0.1 in (
-    record { question = seen.hello.question; sent = seen.hello.among; own = seen.hello.boot ∙ sym h.inc; answers = seen.hello.number; later = seen.later; known = seen.known },
+    record {
+      question = seen.hello.question;
+      sent = seen.hello.among;
+      own = seen.hello.boot ∙ sym h.inc;
+      answers = seen.hello.number;
+      later = seen.later;
+      known = seen.known;
+    },
     h.sent (MapSent groups) c.1,
   )
-  brings (scan_in.Fenced server generation held) c = subst (λ inc. FencedSeen g h.w h.book server inc generation held) (sym h.inc) (h.sent (FencedSent server n.inc generation held) c)
-  brings (scan_in.Got ask server generation fragment) c = λ own. (let seen : FragmentSeen g h.w h.book fragment = h.sent (FragmentSent fragment) (c own) in (seen.name, seen.index, seen.known, seen.is))
+  brings (scan_in.Fenced server generation held) c =
+      subst (λ inc. FencedSeen g h.w h.book server inc generation held) (sym h.inc) (h.sent (FencedSent server n.inc generation held) c)
+  brings (scan_in.Got ask server generation fragment) c =
+      λ own. (let seen : FragmentSeen g h.w h.book fragment = h.sent (FragmentSent fragment) (c own) in (seen.name, seen.index, seen.known, seen.is))
   brings (scan_in.Missing ask server generation) c = tt
   brings (scan_in.Maps m) c = h.sent (MapSent m) c
   brings scan_in.Tick c = tt
@@ -136,7 +154,8 @@ module _ (k : Below) (g : Setting) (n : Net) (h : View g n) (s : ScanState) (i :
       first : h.w.phase ≡ 1 → t.world.pick_low ≡ d.state.opening.low
       first before = t.shows.2.begins before phase ∙ low
 
-      by : (st : Stage) → s.stage ≡ st → StageShown g h.w h.book h.hellos s.opening st → StagePicked h.w.pick_low n.picked st → t.world.pick_low ≡ (if is_reading st then n.picked else d.state.opening.low)
+      by : (st : Stage) → s.stage ≡ st → StageShown g h.w h.book h.hellos s.opening st → StagePicked h.w.pick_low n.picked st
+          → t.world.pick_low ≡ (if is_reading st then n.picked else d.state.opening.low)
       by Hails e shown was = first shown.0
       by (Gathers lists) e shown was = first shown.phase
       by (Asks lists) e shown was = first shown.gathering.phase
@@ -160,7 +179,8 @@ module _ (k : Below) (g : Setting) (n : Net) (h : View g n) (s : ScanState) (i :
       by Over e shown = tt
 
   -- the phases of an opening
-  opening_phase : (w : State) (book : ℕ → Segment) (asked : List Asked) (o : OpeningState) (st : Stage) → StageShown g w book asked o st → (0 < w.phase) × (w.phase < 4)
+  opening_phase : (w : State) (book : ℕ → Segment) (asked : List Asked) (o : OpeningState) (st : Stage) → StageShown g w book asked o st
+      → (0 < w.phase) × (w.phase < 4)
   opening_phase w book asked o Hails shown = (let p = shown.0 in omega arith, let p = shown.0 in omega arith)
   opening_phase w book asked o (Gathers lists) shown = (let p = shown.phase in omega arith, let p = shown.phase in omega arith)
   opening_phase w book asked o (Asks lists) shown = (let p = shown.gathering.phase in omega arith, let p = shown.gathering.phase in omega arith)
@@ -189,11 +209,13 @@ module _ (k : Below) (g : Setting) (n : Net) (h : View g n) (s : ScanState) (i :
       booked = λ b among. (let f = h.flown.booked b among in (f.0, t.frame.booked f.0 f.1, f.2 ∙ sym (t.frame.segment f.0 f.1)));
     };
     grows = asked_more t.world.incarnation t.world.low d.outs h.hellos;
-    asked = asked_past t.world.incarnation t.world.low h.w.incarnation h.w.low d.outs h.hellos (let e = ap (λ (o : Others). o.incarnation) t.frame.others in omega arith) (let e = ap (λ (o : Others). o.low) t.frame.others in omega arith) h.asked;
+    asked = asked_past t.world.incarnation t.world.low h.w.incarnation h.w.low d.outs h.hellos
+        (let e = ap (λ (o : Others). o.incarnation) t.frame.others in omega arith) (let e = ap (λ (o : Others). o.low) t.frame.others in omega arith) h.asked;
     owner = t.shows.0.shown;
     picked = stage_picked;
     sends = refl;
-    shown = scan_shown g t.world t.later n.inc t.world.low d.outs h.hellos hellos (let e = incs in omega arith) (λ a among. subst (λ inc. In a (asked_by inc t.world.low d.outs h.hellos)) (sym incs) among);
+    shown = scan_shown g t.world t.later n.inc t.world.low d.outs h.hellos hellos (let e = incs in omega arith)
+        (λ a among. subst (λ inc. In a (asked_by inc t.world.low d.outs h.hellos)) (sym incs) among);
     filed = filed_still k g n h P [] t;
     top = topped k g n h P [] t n.filed (λ name among. among) (λ name among. absurd among);
     fallen = λ down. contrary down;
@@ -212,7 +234,8 @@ module _ (k : Below) (g : Setting) (n : Net) (h : View g n) (s : ScanState) (i :
     Q v later = WritingShown g v later told.segments first.state
 
     abbrev e : Goes g t.world t.later Q first.outs
-    e = subst (λ inc. Goes g t.world t.later (λ v later. WritingShown g v later told.segments (first_write g inc told.end r.map).state) (first_write g inc told.end r.map).outs) incs
+    e = subst (λ inc. Goes g t.world t.later (λ v later. WritingShown g v later told.segments (first_write g inc told.end r.map).state)
+        (first_write g inc told.end r.map).outs) incs
         (k.machines.opens g t.world t.later told.end told.segments r.map on.fixed on.reached t.paged r.read can.0)
 
     first_text : WritesText first
@@ -231,7 +254,8 @@ module _ (k : Below) (g : Setting) (n : Net) (h : View g n) (s : ScanState) (i :
         nothing f p = grind (arith, nat_tests)
 
     after : FlightShown g e.later first.state.flight first.state.inc first.state.end.seq (e.world.booked e.world.flight) e.world.flight e.world.noted
-    after = subst (λ o. FlightShown g e.later o first.state.inc first.state.end.seq (e.world.booked e.world.flight) e.world.flight e.world.noted) (sym e.shows.is_flight) e.shows.flying
+    after = subst (λ o. FlightShown g e.later o first.state.inc first.state.end.seq (e.world.booked e.world.flight) e.world.flight e.world.noted)
+        (sym e.shows.is_flight) e.shows.flying
 
     open_before : s.stage ≡ Over → ⊥
     open_before over = told_none (ap chain_in (sym (rests over).quiet) ∙ at)
@@ -243,31 +267,39 @@ module _ (k : Below) (g : Setting) (n : Net) (h : View g n) (s : ScanState) (i :
     started_view = moved k g (scans_on n s d) on Q first.outs e (after_told g n s d (Some told) (Some r.map)) hellos (log_packets first.outs) (record {
       keeps = record { shelves = refl; registry = refl; low = refl; inc = refl; dropped = refl };
       spelled = now_spelled k g t.world t.later on.reached t.paged on.spelled started (log_in.Parts []) Q first.outs e behind before first_text after;
-      flown = now_flown k g t.world t.later on.reached t.paged on.spelled started (log_in.Parts []) Q first.outs e behind before first_text after n.flown on.flown;
+      flown = now_flown k g t.world t.later on.reached t.paged on.spelled started
+          (log_in.Parts []) Q first.outs e behind before first_text after n.flown on.flown;
       grows = λ a among. among;
       asked = on.asked;
       owner = (e.shows, now_behind k g t.world t.later on.reached t.paged on.spelled started (log_in.Parts []) Q first.outs e behind before first_text after);
-      picked = pick_stays t.world e.world (let p = r.read.phase in omega arith) e.steps (ap (λ (o : Others). o.incarnation) e.frame.others) ∙ picks r.read.phase r.low open_before;
+      picked = pick_stays t.world e.world (let p = r.read.phase in omega arith) e.steps (ap (λ (o : Others). o.incarnation) e.frame.others)
+          ∙ picks r.read.phase r.low open_before;
       sends = refl;
       shown = packets_shown g e.world e.later hellos first.outs e.said;
       filed = filed_said g e.world e.later first.outs n.filed e.said (filed_still k g (scans_on n s d) on Q first.outs e);
-      top = topped k g (scans_on n s d) on Q first.outs e (log_filed g.log first.outs ++ n.filed) (λ name among. in_right (log_filed g.log first.outs) n.filed name among) (λ name among. in_left (log_filed g.log first.outs) n.filed name among);
+      top = topped k g (scans_on n s d) on Q first.outs e (log_filed g.log first.outs ++ n.filed)
+          (λ name among. in_right (log_filed g.log first.outs) n.filed name among) (λ name among. in_left (log_filed g.log first.outs) n.filed name among);
       fallen = λ down. contrary down;
-      steady = λ serving. steady k t.world e.world on.reached e.steps phase_after.0 phase_after.1 (let p = e.shows.phase in omega arith) (let p = e.shows.phase in omega arith) (ap (λ (o : Others). o.incarnation) e.frame.others);
+      steady = λ serving. steady k t.world e.world on.reached e.steps phase_after.0 phase_after.1 (let p = e.shows.phase in omega arith)
+          (let p = e.shows.phase in omega arith) (ap (λ (o : Others). o.incarnation) e.frame.others);
     })
 
     starts : Next g n h (after_told g n s d (Some told) (Some r.map))
     starts = record {
       view = started_view;
       steps = steps_through h.w t.world e.world t.steps e.steps;
-      by = (let a = by_owner k g n h P [] t in let b = by_owner k g (scans_on n s d) on Q first.outs e in inr (record { generation = b.generation ∙ a.generation; holds = b.holds ∙ a.holds; dropped = b.dropped ∙ a.dropped }));
+      by = (let a = by_owner k g n h P [] t in let b = by_owner k g (scans_on n s d) on Q first.outs e in
+          inr (record { generation = b.generation ∙ a.generation; holds = b.holds ∙ a.holds; dropped = b.dropped ∙ a.dropped }));
       fallen = λ down. contrary down;
-      steady = λ serving. steady k h.w e.world h.reached (steps_through h.w t.world e.world t.steps e.steps) phase_before.0 phase_before.1 (let p = e.shows.phase in omega arith) (let p = e.shows.phase in omega arith) (ap (λ (o : Others). o.incarnation) e.frame.others ∙ same_boot);
+      steady = λ serving. steady k h.w e.world h.reached (steps_through h.w t.world e.world t.steps e.steps) phase_before.0 phase_before.1
+          (let p = e.shows.phase in omega arith) (let p = e.shows.phase in omega arith) (ap (λ (o : Others). o.incarnation) e.frame.others ∙ same_boot);
     }
 
   pub opens_view : CanStart g n.inc d → Next g n h (after_scan g n s d)
   opens_view can = by (chain_in d.outs) refl (told_read g t.world t.later d.state.opening d.outs t.shows.0.gives) can
     where
-      by : (o : Option Told) → chain_in d.outs ≡ o → IfSome o (AllRead g t.world t.later d.state.opening) → IfSome o (StartsWith g n.inc d) → Next g n h (after_told g n s d o d.state.opening.groups)
-      by None at read starts_so = record { view = on; steps = t.steps; by = inr (by_owner k g n h P [] t); fallen = λ down. contrary down; steady = λ serving. on_steady }
+      by : (o : Option Told) → chain_in d.outs ≡ o → IfSome o (AllRead g t.world t.later d.state.opening) → IfSome o (StartsWith g n.inc d)
+          → Next g n h (after_told g n s d o d.state.opening.groups)
+      by None at read starts_so =
+          record { view = on; steps = t.steps; by = inr (by_owner k g n h P [] t); fallen = λ down. contrary down; steady = λ serving. on_steady }
       by (Some told) at read starts_so = subst (λ groups. Next g n h (after_told g n s d (Some told) groups)) (sym read.is) (starts told read at starts_so)

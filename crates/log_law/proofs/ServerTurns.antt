@@ -55,7 +55,8 @@ module _ (k : Below) (g : Setting) (n : Net) (h : View g n) where
 
   -- ---- what it answers
 
-  fragment_shown : (u : State) (v : ℕ) (name : SegName) → u.text_of ≡ h.w.text_of → Tells g u h.book v (n.shelves v) (Fetches name) → is_of_log g name ≡ true → u.booked ≡ h.w.booked → AllShown g u h.book h.hellos (fragment_told (held_at (n.shelves v).held name))
+  fragment_shown : (u : State) (v : ℕ) (name : SegName) → u.text_of ≡ h.w.text_of → Tells g u h.book v (n.shelves v) (Fetches name) → is_of_log g name ≡ true
+      → u.booked ≡ h.w.booked → AllShown g u h.book h.hellos (fragment_told (held_at (n.shelves v).held name))
   fragment_shown u v name texts tells own booked = by (held_at (n.shelves v).held name) refl
     where
       by : (o : Option Fragment) → held_at (n.shelves v).held name ≡ o → AllShown g u h.book h.hellos (fragment_told o)
@@ -66,26 +67,33 @@ module _ (k : Below) (g : Setting) (n : Net) (h : View g n) where
           index = t.1;
           known = t.2;
           is = t.4;
-          sent = subst (λ z. In (record { name = t.0; text = z }) u.fragments) (ap (λ z. z t.0) texts ∙ (h.paged t.0 (ap (λ z. z t.0) (sym booked) ∙ t.2)).spelled) t.5;
+          sent = subst (λ z. In (record { name = t.0; text = z }) u.fragments)
+              (ap (λ z. z t.0) texts ∙ (h.paged t.0 (ap (λ z. z t.0) (sym booked) ∙ t.2)).spelled) t.5;
         },
         tt,
       )
 
-  fenced_shown : (u : State) (v inc : ℕ) → u.booked ≡ h.w.booked → Tells g u h.book v (n.shelves v) (Fences inc) → FencedSeen g u h.book v inc (n.shelves v).generation (listed g (n.shelves v))
+  fenced_shown : (u : State) (v inc : ℕ) → u.booked ≡ h.w.booked → Tells g u h.book v (n.shelves v) (Fences inc)
+      → FencedSeen g u h.book v inc (n.shelves v).generation (listed g (n.shelves v))
   fenced_shown u v inc booked t = record {
     low = t.0.low;
     listed = t.0.listed;
-    sent = subst (λ (p : FencedPacket). In p u.fenceds) (λ i. record { from = t.2 i; incarnation = t.3 i; generation = t.4 i; low = t.0.low; listed = t.0.listed }) t.1;
+    sent = subst (λ (p : FencedPacket). In p u.fenceds)
+        (λ i. record { from = t.2 i; incarnation = t.3 i; generation = t.4 i; low = t.0.low; listed = t.0.listed }) t.1;
     lists = λ x. t.5 x ∙ ap flag (sym (names_listed g (n.shelves v).held (name_of g x) (itself g.log.0)));
     whole = metas_listed g h.book u.booked (n.shelves v).held (subst (λ b. AllPieces g h.book b (n.shelves v).held) (sym booked) (h.shelves v).each);
   }
 
-  told_shown : (u : State) (v : ℕ) (deed : Deed) → u.text_of ≡ h.w.text_of → u.booked ≡ h.w.booked → Tells g u h.book v (n.shelves v) deed → AllShown g u h.book h.hellos (answers g v (n.shelves v) deed)
+  told_shown : (u : State) (v : ℕ) (deed : Deed) → u.text_of ≡ h.w.text_of → u.booked ≡ h.w.booked → Tells g u h.book v (n.shelves v) deed
+      → AllShown g u h.book h.hellos (answers g v (n.shelves v) deed)
   told_shown u v (Stores f generation) texts booked tells =
-      by_test (AllShown g u h.book h.hellos) (is_of_log g f.meta.name && is_stored (n.shelves v) f generation) (StoredSent f.meta.name f.meta.index generation ∷ []) []
-      (λ t. (let s = tells (and_first (is_of_log g f.meta.name) _ t) (and_second (is_of_log g f.meta.name) _ t) in (record { number = s.0; named = s.1; sent = s.2 }, tt))) (λ t. tt)
+      by_test (AllShown g u h.book h.hellos) (is_of_log g f.meta.name && is_stored (n.shelves v) f generation)
+      (StoredSent f.meta.name f.meta.index generation ∷ []) []
+      (λ t. (let s = tells (and_first (is_of_log g f.meta.name) _ t) (and_second (is_of_log g f.meta.name) _ t) in
+      (record { number = s.0; named = s.1; sent = s.2 }, tt))) (λ t. tt)
   told_shown u v (Fetches name) texts booked tells =
-      by_test (AllShown g u h.book h.hellos) (is_of_log g name) (fragment_told (held_at (n.shelves v).held name)) [] (λ t. fragment_shown u v name texts tells t booked) (λ t. tt)
+      by_test (AllShown g u h.book h.hellos) (is_of_log g name) (fragment_told (held_at (n.shelves v).held name)) []
+      (λ t. fragment_shown u v name texts tells t booked) (λ t. tt)
   told_shown u v (Fences inc) texts booked tells = (fenced_shown u v inc booked tells, tt)
   told_shown u v (Deletes name) texts booked tells = tt
   told_shown u v (Fills f) texts booked tells = tt
@@ -128,18 +136,28 @@ module _ (k : Below) (g : Setting) (n : Net) (h : View g n) where
   Stays v y u = (u.generation y ≡ h.w.generation y) ⊎ (((x : ℕ) → u.holds y x ≡ 0) × (u.dropped ≡ h.w.dropped))
 
   same_generation : (v : ℕ) (deed : Deed) (u : State) → ShelfShown g u h.book v (shelf_after g (n.shelves v) deed) → u.dropped ≡ h.w.dropped → Stays v v u
-  same_generation v (Stores f generation) u shows same = inl (shows.of ∙ (by_test (λ (s : ShelfState). s.generation ≡ (n.shelves v).generation) (is_stored (n.shelves v) f generation) (kept (n.shelves v) f) (n.shelves v) (λ t. keeps_it f) (λ t. refl) ∙ sym (h.shelves v).of))
+  same_generation v (Stores f generation) u shows same =
+      inl (shows.of
+      ∙ (by_test (λ (s : ShelfState). s.generation ≡ (n.shelves v).generation) (is_stored (n.shelves v) f generation) (kept (n.shelves v) f) (n.shelves v)
+      (λ t. keeps_it f) (λ t. refl) ∙ sym (h.shelves v).of))
     where
       keeps_it : (f : Fragment) → (kept (n.shelves v) f).generation ≡ (n.shelves v).generation
-      keeps_it f = by_test (λ (s : ShelfState). s.generation ≡ (n.shelves v).generation) (is_held (n.shelves v) f.meta.name) (n.shelves v) (record (n.shelves v) { held = with_fragment f (n.shelves v).held }) (λ t. refl) (λ t. refl)
+      keeps_it f = by_test (λ (s : ShelfState). s.generation ≡ (n.shelves v).generation) (is_held (n.shelves v) f.meta.name) (n.shelves v)
+          (record (n.shelves v) { held = with_fragment f (n.shelves v).held }) (λ t. refl) (λ t. refl)
   same_generation v (Fetches name) u shows same = inl (shows.of ∙ sym (h.shelves v).of)
   same_generation v (Fences inc) u shows same =
-      inl (shows.of ∙ (by_test (λ (s : ShelfState). s.generation ≡ (n.shelves v).generation) (is_greater (pass_cmp (record { inc = inc; att = 0 }) (fence_of (n.shelves v).fences g.log))) (record (n.shelves v) { fences = insert_entry log_cmp (n.shelves v).fences g.log (record { inc = inc; att = 0 }) }) (n.shelves v) (λ t. refl) (λ t. refl)
+      inl (shows.of
+      ∙ (by_test (λ (s : ShelfState). s.generation ≡ (n.shelves v).generation)
+      (is_greater (pass_cmp (record { inc = inc; att = 0 }) (fence_of (n.shelves v).fences g.log)))
+      (record (n.shelves v) { fences = insert_entry log_cmp (n.shelves v).fences g.log (record { inc = inc; att = 0 }) }) (n.shelves v) (λ t. refl) (λ t. refl)
       ∙ sym (h.shelves v).of))
   same_generation v (Deletes name) u shows same = inl (shows.of ∙ sym (h.shelves v).of)
   same_generation v (Fills f) u shows same =
-      inl (shows.of ∙ (by_test (λ (s : ShelfState). s.generation ≡ (n.shelves v).generation) (is_marked (n.shelves v).marks f.meta.name) (n.shelves v) (kept (n.shelves v) f) (λ t. refl)
-      (λ t. by_test (λ (s : ShelfState). s.generation ≡ (n.shelves v).generation) (is_held (n.shelves v) f.meta.name) (n.shelves v) (record (n.shelves v) { held = with_fragment f (n.shelves v).held }) (λ t. refl) (λ t. refl))
+      inl (shows.of
+      ∙ (by_test (λ (s : ShelfState). s.generation ≡ (n.shelves v).generation) (is_marked (n.shelves v).marks f.meta.name) (n.shelves v) (kept (n.shelves v) f)
+      (λ t. refl)
+      (λ t. by_test (λ (s : ShelfState). s.generation ≡ (n.shelves v).generation) (is_held (n.shelves v) f.meta.name) (n.shelves v)
+      (record (n.shelves v) { held = with_fragment f (n.shelves v).held }) (λ t. refl) (λ t. refl))
       ∙ sym (h.shelves v).of))
   same_generation v Loses u shows same = inr (shows.keeps, same)
 
@@ -150,7 +168,8 @@ module _ (k : Below) (g : Setting) (n : Net) (h : View g n) where
       pick true e = subst (λ z. Stays v z d.world) (sym (equal y v e)) (same_generation v deed d.world d.shows (ap (λ (z : State). z.dropped) d.frame.others))
       pick false e = inl (d.frame.generation y (λ same. contrary (sym e ∙ (ap (λ z. y == z) (sym same) ∙ itself y))))
 
-  pub serves_view : (v : ℕ) (deed : Deed) → 0 < v → CameToServer g n v deed → Next g n h (record n { shelves = put n.shelves v (shelf_after g (n.shelves v) deed); sent = answers g v (n.shelves v) deed ++ n.sent })
+  pub serves_view : (v : ℕ) (deed : Deed) → 0 < v → CameToServer g n v deed
+      → Next g n h (record n { shelves = put n.shelves v (shelf_after g (n.shelves v) deed); sent = answers g v (n.shelves v) deed ++ n.sent })
   serves_view v deed some came = turned k g n h _ d.world (answers g v (n.shelves v) deed) (record {
     steps = d.steps;
     apart = server_apart v h.w d.world d.frame;
@@ -172,10 +191,20 @@ module _ (k : Below) (g : Setting) (n : Net) (h : View g n) where
   -- ---- nothing that is seen
 
   pub nothing_apart : Apart h.w h.w
-  nothing_apart = record { seat = refl; storeds = λ p is. is; fragments = λ p is. is; fenceds = λ p is. is; dropped = λ x is. is; registry = λ y. omega arith; low = omega arith }
+  nothing_apart =
+      record {
+        seat = refl;
+        storeds = λ p is. is;
+        fragments = λ p is. is;
+        fenceds = λ p is. is;
+        dropped = λ x is. is;
+        registry = λ y. omega arith;
+        low = omega arith;
+      }
 
   fence_shown : (s : ShelfState) (z : Side) (log : LogId) (pass : Pass) → Seen s z → Seen (on_fence s log pass) z
-  fence_shown s z log pass seen = by_test (λ t. Seen t z) (is_greater (pass_cmp pass (fence_of s.fences log))) (record s { fences = insert_entry log_cmp s.fences log pass }) s
+  fence_shown s z log pass seen =
+      by_test (λ t. Seen t z) (is_greater (pass_cmp pass (fence_of s.fences log))) (record s { fences = insert_entry log_cmp s.fences log pass }) s
       (λ t. record { of = seen.of; keeps = seen.keeps; each = seen.each; marks = seen.marks }) (λ t. seen)
 
   pub bars_view : (v : ℕ) (log : LogId) (pass : Pass) → Next g n h (record n { shelves = put n.shelves v (on_fence (n.shelves v) log pass) })
@@ -183,7 +212,17 @@ module _ (k : Below) (g : Setting) (n : Net) (h : View g n) where
     steps = Done;
     apart = nothing_apart;
     rests = record { inc = refl; owner = refl; filed = refl; flown = refl; picked = refl };
-    shelves = shelves_after v h.w (on_fence (n.shelves v) log pass) (record { others = refl; generation = λ y other. refl; holds = λ y x other. refl; index = λ y x other. refl; marked = λ y x other. refl; storeds = λ p is. is; fragments = λ p is. is; fenceds = λ p is. is })
+    shelves = shelves_after v h.w (on_fence (n.shelves v) log pass)
+        (record {
+          others = refl;
+          generation = λ y other. refl;
+          holds = λ y x other. refl;
+          index = λ y x other. refl;
+          marked = λ y x other. refl;
+          storeds = λ p is. is;
+          fragments = λ p is. is;
+          fenceds = λ p is. is;
+        })
         (fence_shown (n.shelves v) (side_of h.w v) log pass (h.shelves v));
     nobody = h.nobody;
     registry = h.registry;

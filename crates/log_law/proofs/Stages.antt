@@ -35,7 +35,14 @@ abbrev pub variant : LogId → Bool → Setting
 variant l doubts = record setting { log = l; doubts = doubts }
 
 pub variant_map : (l : LogId) (doubts : Bool) → WholeMap (variant l doubts) (λ v. 1) the_map
-variant_map l doubts = record { seen = record { whole = λ a b. stripe (log.group_for the_map a b) (whole_map.seen.whole a b); past = whole_map.seen.past }; size = refl; named = whole_map.named; some = whole_map.some; cut = whole_map.cut }
+variant_map l doubts =
+    record {
+      seen = record { whole = λ a b. stripe (log.group_for the_map a b) (whole_map.seen.whole a b); past = whole_map.seen.past };
+      size = refl;
+      named = whole_map.named;
+      some = whole_map.some;
+      cut = whole_map.cut;
+    }
   where
     stripe : (group : Group) → IsStripe setting the_map group → IsStripe (variant l doubts) the_map group
     stripe group s = record { some = s.some; exist = s.exist; differ = s.differ; present = s.present; named = s.named }
@@ -97,7 +104,8 @@ module _ {inc : ℕ} {owner : Owner} {told : List Packet} {shelf : ℕ → Shelf
   }
 
   -- something is done to a shelf
-  pub serves : (v : ℕ) (deed : Deed) (new : List Packet) → 0 < v → (Sees told s.net → CameToServer calm s.net v deed) → answers calm v (shelf v) deed ≡ new → Stage inc owner (new ++ told) (put shelf v (shelf_after calm (shelf v) deed))
+  pub serves : (v : ℕ) (deed : Deed) (new : List Packet) → 0 < v → (Sees told s.net → CameToServer calm s.net v deed) → answers calm v (shelf v) deed ≡ new
+      → Stage inc owner (new ++ told) (put shelf v (shelf_after calm (shelf v) deed))
   serves v deed new some came e = record {
     net = record s.net { shelves = put s.net.shelves v (shelf_after calm (s.net.shelves v) deed); sent = answers calm v (s.net.shelves v) deed ++ s.net.sent };
     run = On s.run (Serves v deed some (came s.sent));
@@ -185,7 +193,8 @@ module _ {inc : ℕ} {owner : Owner} {told : List Packet} {shelf : ℕ → Shelf
   }
 
   -- the opening goes on
-  module _ (i : scan_ins.In) (st : ScanState) (d : scan.Done) (is : owner ≡ Opening st) (e : scan.transition st i ≡ d) (none : chain_in d.outs ≡ None) (came : CameToScan calm s.net i) where
+  module _ (i : scan_ins.In) (st : ScanState) (d : scan.Done) (is : owner ≡ Opening st) (e : scan.transition st i ≡ d) (none : chain_in d.outs ≡ None)
+      (came : CameToScan calm s.net i) where
     can : CanStart calm s.net.inc (scan.transition st i)
     can = subst (λ o. IfSome o (StartsWith calm s.net.inc (scan.transition st i))) (sym (ap (λ (x : scan.Done). chain_in x.outs) e ∙ none)) tt
 
@@ -201,7 +210,8 @@ module _ {inc : ℕ} {owner : Owner} {told : List Packet} {shelf : ℕ → Shelf
       low = ap (λ (n : Net). n.low) now ∙ s.low;
       registry = ap (λ (n : Net). n.registry) now ∙ s.registry;
       is_owner = ap (λ (n : Net). n.owner) now;
-      sent = λ p is. subst (In p) (sym (ap (λ (n : Net). n.sent) now ∙ ap (λ c. scan_packets c d.outs ++ s.net.sent) s.boot)) (both (scan_packets inc d.outs) told s.net.sent s.sent p is);
+      sent = λ p is. subst (In p) (sym (ap (λ (n : Net). n.sent) now ∙ ap (λ c. scan_packets c d.outs ++ s.net.sent) s.boot))
+          (both (scan_packets inc d.outs) told s.net.sent s.sent p is);
       shelves = λ v. ap (λ (n : Net). n.shelves v) now ∙ s.shelves v;
       filed = ap (λ (n : Net). n.filed) now ∙ s.filed;
       last = ap (λ (n : Net). flight_in n.owner (last_flight s.run)) now ∙ s.last;
@@ -209,10 +219,13 @@ module _ {inc : ℕ} {owner : Owner} {told : List Packet} {shelf : ℕ → Shelf
     }
 
   -- the opening segment's Stored is noted
-  module _ (i : Input) (chain : List Segment) (l more : LogState) (f : FlightState) (is : owner ≡ Writing chain l) (flies : more.flight ≡ Some f) (e : log.transition l i ≡ record { state = more; outs = [] })
-      (came : (name : SegName) × (index : ℕ) × (generation : ℕ) × (i ≡ log_in.Acked name index generation) × In (StoredSent name index generation) told) (text : IsWritten f.segment) where
+  module _ (i : Input) (chain : List Segment) (l more : LogState) (f : FlightState) (is : owner ≡ Writing chain l) (flies : more.flight ≡ Some f)
+      (e : log.transition l i ≡ record { state = more; outs = [] })
+      (came : (name : SegName) × (index : ℕ) × (generation : ℕ) × (i ≡ log_in.Acked name index generation) × In (StoredSent name index generation) told)
+      (text : IsWritten f.segment) where
     happens : Happens calm s.net (after_writing calm s.net chain (log.transition l i))
-    happens = Writes chain l i (s.is_owner ∙ is) (subst (CameToWriter s.net) (sym came.3) (s.sent _ came.4)) (subst WritesText (sym e) (subst (λ o. IfSome o (λ (z : FlightState). IsWritten z.segment)) (sym flies) text))
+    happens = Writes chain l i (s.is_owner ∙ is) (subst (CameToWriter s.net) (sym came.3) (s.sent _ came.4))
+        (subst WritesText (sym e) (subst (λ o. IfSome o (λ (z : FlightState). IsWritten z.segment)) (sym flies) text))
 
     noted : after_writing calm s.net chain (log.transition l i) ≡ after_flight calm s.net chain (record { state = more; outs = [] }) (Some f)
     noted = ap (after_writing calm s.net chain) e ∙ ap (after_flight calm s.net chain (record { state = more; outs = [] })) flies

@@ -27,7 +27,8 @@ abbrev Course : State → State → Type 0
 Course w v = Opens_on w v ⊎ ((w.incarnation ≤ v.served) × (w.incarnation ≤ v.incarnation))
 
 carry : (w v u : State) → u.served ≡ v.served → u.head ≡ v.head → (v.phase < 4 → u.phase < 4) → v.incarnation ≤ u.incarnation → Course w v → Course w u
-carry w v u served head phase boot (inl p) = inl (record { served = served ∙ p.served; head = head ∙ p.head; phase = phase p.phase; boot = (let a = p.boot in let b = boot in omega arith) })
+carry w v u served head phase boot (inl p) =
+    inl (record { served = served ∙ p.served; head = head ∙ p.head; phase = phase p.phase; boot = (let a = p.boot in let b = boot in omega arith) })
 carry w v u served head phase boot (inr q) = inr (let a = q.0 in let b = served in omega arith, let a = q.1 in let b = boot in omega arith)
 
 -- a step of an owner that serves
@@ -92,7 +93,8 @@ keep w v u names boot booked o = record {
   fresh = λ x is. ⊎_elim inl (λ later. inr (let e = ap (λ f. f x) names in omega arith)) (o.fresh x (ap (λ f. f x) (sym booked) ∙ is));
 }
 
-books : (w v u : State) (y : ℕ) → u.incarnation_of ≡ v.incarnation_of → u.incarnation ≡ v.incarnation → ((x : ℕ) → u.booked x ≡ 1 → (v.booked x ≡ 1) ⊎ (x ≡ y)) → v.incarnation_of y ≡ v.incarnation → Own w v → Own w u
+books : (w v u : State) (y : ℕ) → u.incarnation_of ≡ v.incarnation_of → u.incarnation ≡ v.incarnation → ((x : ℕ) → u.booked x ≡ 1 → (v.booked x ≡ 1) ⊎ (x ≡ y))
+    → v.incarnation_of y ≡ v.incarnation → Own w v → Own w u
 books w v u y names boot booked own o = record {
   names = names ∙ o.names;
   boot = (let a = o.boot in let b = boot in omega arith);
@@ -133,12 +135,17 @@ own w v (More {v = u} run step) = own_step w u v step (own w u run)
 
 -- ---- an opening that goes on in its boot
 
-pub steady : (k : Below) (w u : State) → Reached w → Steps w u → 0 < w.phase → w.phase < 4 → 0 < u.phase → u.phase < 4 → u.incarnation ≡ w.incarnation → Steady w u
+pub steady : (k : Below) (w u : State) → Reached w → Steps w u → 0 < w.phase → w.phase < 4 → 0 < u.phase → u.phase < 4 → u.incarnation ≡ w.incarnation
+    → Steady w u
 steady k w u reached run some less now_some now_less same = by (course w u less run)
   where
     there : u.served < u.incarnation
     there = (k.protocol.owner u (k.protocol.goes_on w u reached run)).opening now_some now_less
 
     by : Course w u → Steady w u
-    by (inl p) = record { served = p.served; head = p.head; booked = λ x is boot. ⊎_elim (λ old. old) (λ later. absurd (let t = there in let s = same in omega arith)) ((own w u run).fresh x is) }
+    by (inl p) = record {
+      served = p.served;
+      head = p.head;
+      booked = λ x is boot. ⊎_elim (λ old. old) (λ later. absurd (let t = there in let s = same in omega arith)) ((own w u run).fresh x is);
+    }
     by (inr q) = absurd (let t = there in let s = same in let a = q.0 in omega arith)

@@ -46,12 +46,15 @@ not_both (Serving s) a b = contrary a
 -- ---- where a restart ends, a segment is filed, above all that were filed before
 
 module _ (k : Below) (g : Setting) (none : g.doubts ≡ false) (n : Net) (h : View g n) where
-  writes_some : (chain : List Segment) (s : LogState) (i : Input) → n.owner ≡ Writing chain s → CameToWriter n i → (t : Next g n h (after_writing g n chain (log.transition s i))) → is_serving (after_writing g n chain (log.transition s i)).owner ≡ true → 0 < t.view.w.head
+  writes_some : (chain : List Segment) (s : LogState) (i : Input) → n.owner ≡ Writing chain s → CameToWriter n i
+      → (t : Next g n h (after_writing g n chain (log.transition s i))) → is_serving (after_writing g n chain (log.transition s i)).owner ≡ true
+      → 0 < t.view.w.head
   writes_some chain s i is came t serving = by (log.transition s i).state.flight refl
     where
       by : (f : Option FlightState) → (log.transition s i).state.flight ≡ f → 0 < t.view.w.head
       by (Some f) e = contrary (sym (ap (λ x. is_serving (after_flight g n chain (log.transition s i) x).owner) e) ∙ serving)
-      by None e = ⊎_elim (λ r. absurd (stays_or_settles s shown.flight shown.is_flight n i came (e, r.0))) (λ r. let a = at in let b = r.1 in omega arith) (rises k g none n h chain s i is _ t serves files low)
+      by None e = ⊎_elim (λ r. absurd (stays_or_settles s shown.flight shown.is_flight n i came (e, r.0))) (λ r. let a = at in let b = r.1 in omega arith)
+          (rises k g none n h chain s i is _ t serves files low)
         where
           serves : (after_writing g n chain (log.transition s i)).owner ≡ Serving (log.transition s i).state
           serves = ap (λ x. (after_flight g n chain (log.transition s i) x).owner) e
@@ -122,7 +125,8 @@ module _ (k : Below) (g : Setting) (none : g.doubts ≡ false) (n : Net) (h : Vi
             let same : u.line u.head ≡ h.w.line u.head = past.line u.head (t.view.calm none) less in
             let boot : u.incarnation_of (u.line u.head) ≡ u.served = now.head_boot some in
             let old : h.w.incarnation_of (h.w.line u.head) ≤ h.w.served = was.line_boot (h.w.line u.head) (was.line_filed u.head some less) in
-            let names : u.incarnation_of (u.line u.head) ≡ h.w.incarnation_of (h.w.line u.head) = ap (λ f. f (u.line u.head)) (t.view.fixed.incarnation_of ∙ sym h.fixed.incarnation_of) ∙ ap h.w.incarnation_of same in
+            let names : u.incarnation_of (u.line u.head) ≡ h.w.incarnation_of (h.w.line u.head) =
+            ap (λ f. f (u.line u.head)) (t.view.fixed.incarnation_of ∙ sym h.fixed.incarnation_of) ∙ ap h.w.incarnation_of same in
             let a = opens_later ends.0 in let b = past.incarnation in let c = served in omega arith
 
         by : (b : Bool) → nat_lt h.w.head u.head ≡ b → h.w.head < u.head
@@ -141,7 +145,8 @@ module _ (k : Below) (g : Setting) (none : g.doubts ≡ false) (n : Net) (h : Vi
 
 -- ---- the tail
 
-module _ (k : Below) (g : Setting) (n o : Net) (none : g.doubts ≡ false) (m : Moment g n) (happens : Happens g n o) (calm : IsSureRun (On m.run happens)) (ends : EndsRestart n o) (f : FlightState) (is : last_flight m.run ≡ Some f) where
+module _ (k : Below) (g : Setting) (n o : Net) (none : g.doubts ≡ false) (m : Moment g n) (happens : Happens g n o) (calm : IsSureRun (On m.run happens))
+    (ends : EndsRestart n o) (f : FlightState) (is : last_flight m.run ≡ Some f) where
   a : Along k g none (opening g m.map) refl n m.run
   a = along_moment k g none n m calm.0
 
@@ -183,13 +188,15 @@ module _ (k : Below) (g : Setting) (n o : Net) (none : g.doubts ≡ false) (m : 
       x_boot = ap (λ (z : SegName). z.pass.inc) (sym number) ∙ (boot ∙ at.1)
 
       booked : w.booked x ≡ 1
-      booked = old_boot k g none n a.view o happens t ends x ((k.protocol.book t.view.w t.view.reached).filed_booked x (t.view.filed there.0 there.1).2) (ap (λ z. z x) t.view.fixed.incarnation_of ∙ x_boot)
+      booked = old_boot k g none n a.view o happens t ends x ((k.protocol.book t.view.w t.view.reached).filed_booked x (t.view.filed there.0 there.1).2)
+          (ap (λ z. z x) t.view.fixed.incarnation_of ∙ x_boot)
 
       named : (a.view.book x).name ≡ there.0
       named = (a.view.paged x booked).named ∙ sym number
 
       kept : FlightOf g w (last_flight m.run) x
-      kept = a.flown x booked (ap (λ z. z x) a.view.fixed.incarnation_of ∙ x_boot) (ap (λ z. z x) a.view.fixed.seq_of ∙ (ap (λ (z : SegName). z.seq) (sym number) ∙ there.2))
+      kept = a.flown x booked (ap (λ z. z x) a.view.fixed.incarnation_of ∙ x_boot)
+          (ap (λ z. z x) a.view.fixed.seq_of ∙ (ap (λ (z : SegName). z.seq) (sym number) ∙ there.2))
 
       same : kept.flight ≡ f
       same = some_one kept.flight f (sym kept.is ∙ is)

@@ -21,7 +21,8 @@ abbrev pub AllShown : Setting → State → (ℕ → Segment) → List Asked →
 AllShown g w book hellos [] = Unit {0}
 AllShown g w book hellos (p ∷ ps) = Shown g w book hellos p × AllShown g w book hellos ps
 
-pub all_shown : (g : Setting) (w : State) (book : ℕ → Segment) (hellos : List Asked) (ps qs : List Packet) → AllShown g w book hellos ps → ((p : Packet) → In p qs → Shown g w book hellos p) → (p : Packet) → In p (ps ++ qs) → Shown g w book hellos p
+pub all_shown : (g : Setting) (w : State) (book : ℕ → Segment) (hellos : List Asked) (ps qs : List Packet) → AllShown g w book hellos ps
+    → ((p : Packet) → In p qs → Shown g w book hellos p) → (p : Packet) → In p (ps ++ qs) → Shown g w book hellos p
 all_shown g w book hellos [] qs all old p is = old p is
 all_shown g w book hellos (r ∷ rs) qs all old p (inl e) = subst (λ z. Shown g w book hellos z) (sym e) all.0
 all_shown g w book hellos (r ∷ rs) qs all old p (inr is) = all_shown g w book hellos rs qs all.1 old p is
@@ -66,14 +67,20 @@ module _ (k : Below) (g : Setting) (n : Net) (h : View g n) where
     low = t.low;
     inc = same g h.w u h.book t.apart (λ o. o.incarnation ≡ m.inc) (h.inc ∙ sym t.rests.inc);
     owner = subst (OwnerShown g u h.book h.hellos) (sym t.rests.owner) (owner_apart g h.w u h.book t.apart k h.hellos n.owner h.owner);
-    picked = same g h.w u h.book t.apart (λ o. PickShown o.pick_low m.picked m.owner) (subst (PickShown h.w.pick_low m.picked) (sym t.rests.owner) (subst (λ z. PickShown h.w.pick_low z n.owner) (sym t.rests.picked) h.picked));
-    sent = λ p is. all_shown g u h.book h.hellos new n.sent t.shown (λ q among. shown_on g h.w u h.book h.book (later_apart g h.w u h.book t.apart) h.hellos h.hellos (λ a in_. in_) q (h.sent q among)) p (subst (In p) t.sends is);
-    asked = λ a is. (same g h.w u h.book t.apart (λ o. a.inc ≤ o.incarnation) (h.asked a is).0, (let b = (h.asked a is).1 in let up = t.apart.low in omega arith));
+    picked = same g h.w u h.book t.apart (λ o. PickShown o.pick_low m.picked m.owner)
+        (subst (PickShown h.w.pick_low m.picked) (sym t.rests.owner) (subst (λ z. PickShown h.w.pick_low z n.owner) (sym t.rests.picked) h.picked));
+    sent = λ p is. all_shown g u h.book h.hellos new n.sent t.shown
+        (λ q among. shown_on g h.w u h.book h.book (later_apart g h.w u h.book t.apart) h.hellos h.hellos (λ a in_. in_) q (h.sent q among)) p
+        (subst (In p) t.sends is);
+    asked = λ a is.
+        (same g h.w u h.book t.apart (λ o. a.inc ≤ o.incarnation) (h.asked a is).0, (let b = (h.asked a is).1 in let up = t.apart.low in omega arith));
     filed = λ name is. same g h.w u h.book t.apart (λ o. (x : ℕ) × (name ≡ name_of g x) × (o.filed x ≡ 1)) (h.filed name (subst (In name) t.rests.filed is));
     calm = λ none. same g h.w u h.book t.apart (λ o. o.clean ≡ 1) (h.calm none);
-    top = same g h.w u h.book t.apart (λ o. (o.end ≡ 0) ⊎ In (name_of g o.end) m.filed) (subst (λ names. (h.w.end ≡ 0) ⊎ In (name_of g h.w.end) names) (sym t.rests.filed) h.top);
+    top = same g h.w u h.book t.apart (λ o. (o.end ≡ 0) ⊎ In (name_of g o.end) m.filed)
+        (subst (λ names. (h.w.end ≡ 0) ⊎ In (name_of g h.w.end) names) (sym t.rests.filed) h.top);
     dropped = t.dropped;
-    gone = λ name is. ⊎_elim (λ old. (let d = h.gone name old in record { number = d.number; named = d.named; dropped = t.apart.dropped d.number d.dropped })) (λ new_one. new_one) (t.gone name is);
+    gone = λ name is. ⊎_elim (λ old. (let d = h.gone name old in record { number = d.number; named = d.named; dropped = t.apart.dropped d.number d.dropped }))
+        (λ new_one. new_one) (t.gone name is);
   }
 
   steady_apart : (m : Net) (u : State) (new : List Packet) → Turn m u new → Steady h.w u
@@ -84,4 +91,11 @@ module _ (k : Below) (g : Setting) (n : Net) (h : View g n) where
   }
 
   pub turned : (m : Net) (u : State) (new : List Packet) → Turn m u new → Next g n h m
-  turned m u new t = record { view = view_after m u new t; steps = t.steps; by = inl (record { owner = t.rests.owner; servers = t.servers }); fallen = λ down. same g h.w u h.book t.apart (λ o. o.spanning ≡ h.w.spanning) refl; steady = λ serving. steady_apart m u new t }
+  turned m u new t =
+      record {
+        view = view_after m u new t;
+        steps = t.steps;
+        by = inl (record { owner = t.rests.owner; servers = t.servers });
+        fallen = λ down. same g h.w u h.book t.apart (λ o. o.spanning ≡ h.w.spanning) refl;
+        steady = λ serving. steady_apart m u new t;
+      }

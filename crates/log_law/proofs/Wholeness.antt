@@ -17,7 +17,8 @@ use Rattle.log_law.specs.Below.{Below}
 use Rattle.log_law.proofs.Views.{FragmentSeen, IsFiled, View}
 use Rattle.log_law.proofs.Always.{begins_seen, seen_always}
 
-kept_is : (g : Setting) (s : Segment) (o : Option Fragment) (booked holds index : ℕ) → Kept g s o booked holds index → holds ≡ 1 → o ≡ Some (fragment_of g s index)
+kept_is : (g : Setting) (s : Segment) (o : Option Fragment) (booked holds index : ℕ) → Kept g s o booked holds index → holds ≡ 1
+    → o ≡ Some (fragment_of g s index)
 kept_is g s None booked holds index k one = absurd (none_one k one)
   where
     none_one : holds ≡ 0 → holds ≡ 1 → ⊥
@@ -29,7 +30,8 @@ at_its_place : (g : Setting) (s : Segment) (f : Fragment) (i : ℕ) → f ≡ fr
 at_its_place g s f i is = is ∙ ap (fragment_of g s) (sym (ap (λ (z : Fragment). z.meta.index) is))
 
 module _ (k : Below) (g : Setting) (n : Net) (h : View g n) where
-  abbrev pub page : (x : ℕ) → h.w.booked x ≡ 1 → Page g x (h.book x) (h.w.text_of x) (h.w.member_count x) (h.w.member_server x) (h.w.member_generation x) (h.w.prior_of x) (h.w.content_of x)
+  abbrev pub page : (x : ℕ) → h.w.booked x ≡ 1
+      → Page g x (h.book x) (h.w.text_of x) (h.w.member_count x) (h.w.member_server x) (h.w.member_generation x) (h.w.prior_of x) (h.w.content_of x)
   page x booked = h.paged x booked
 
   pub filed_booked : (x : ℕ) → h.w.filed x ≡ 1 → h.w.booked x ≡ 1
@@ -45,15 +47,19 @@ module _ (k : Below) (g : Setting) (n : Net) (h : View g n) where
 
   -- ---- whole
 
-  member_whole : (x : ℕ) → h.w.booked x ≡ 1 → h.w.filed x ≡ 1 → (In (h.book x).name n.dropped → ⊥) → (place : ℕ) → place < length (members_of g (h.book x)) → Holds g n (h.book x) place ⊎ IsLater g n (h.book x) place
-  member_whole x booked filed kept place member = by (k.protocol.whole h.w h.reached x place filed (undropped x booked kept) (subst (λ c. place < c) (sym (page x booked).counted) member))
+  member_whole : (x : ℕ) → h.w.booked x ≡ 1 → h.w.filed x ≡ 1 → (In (h.book x).name n.dropped → ⊥) → (place : ℕ) → place < length (members_of g (h.book x))
+      → Holds g n (h.book x) place ⊎ IsLater g n (h.book x) place
+  member_whole x booked filed kept place member =
+      by (k.protocol.whole h.w h.reached x place filed (undropped x booked kept) (subst (λ c. place < c) (sym (page x booked).counted) member))
     where
       there : h.w.member_server x place ≡ server_of (members_of g (h.book x)) place
       there = (page x booked).at_server place
 
-      by : ((h.w.holds (h.w.member_server x place) x ≡ 1) × (h.w.kept_index (h.w.member_server x place) x ≡ place)) ⊎ (h.w.member_generation x place < h.w.generation (h.w.member_server x place)) → Holds g n (h.book x) place ⊎ IsLater g n (h.book x) place
+      by : ((h.w.holds (h.w.member_server x place) x ≡ 1) × (h.w.kept_index (h.w.member_server x place) x ≡ place))
+          ⊎ (h.w.member_generation x place < h.w.generation (h.w.member_server x place)) → Holds g n (h.book x) place ⊎ IsLater g n (h.book x) place
       by (inl p) = inl (ap (held_at (n.shelves (server_of (members_of g (h.book x)) place)).held) (page x booked).named
-          ∙ (kept_is g (h.book x) _ _ _ _ ((h.shelves (server_of (members_of g (h.book x)) place)).keeps x) (ap (λ u. h.w.holds u x) (sym there) ∙ p.0) ∙ ap (λ j. Some (fragment_of g (h.book x) j)) (ap (λ u. h.w.kept_index u x) (sym there) ∙ p.1)))
+          ∙ (kept_is g (h.book x) _ _ _ _ ((h.shelves (server_of (members_of g (h.book x)) place)).keeps x) (ap (λ u. h.w.holds u x) (sym there) ∙ p.0)
+          ∙ ap (λ j. Some (fragment_of g (h.book x) j)) (ap (λ u. h.w.kept_index u x) (sym there) ∙ p.1)))
       by (inr lost) =
           let a = (page x booked).at_generation place member in
           let b = ap h.w.generation there ∙ (h.shelves (server_of (members_of g (h.book x)) place)).of in
@@ -70,10 +76,12 @@ module _ (k : Below) (g : Setting) (n : Net) (h : View g n) where
       flown : (name : SegName) → In name n.filed → (s : Segment) × In s n.flown × (s.name ≡ name)
       flown name is = let f = h.filed name is in let booked = filed_booked f.0 f.2 in (h.book f.0, h.flown.all f.0 booked, (page f.0 booked).named ∙ sym f.1)
 
-      whole : (s : Segment) → In s n.flown → In s.name n.filed → (In s.name n.dropped → ⊥) → (place : ℕ) → place < length (members_of g s) → Holds g n s place ⊎ IsLater g n s place
+      whole : (s : Segment) → In s n.flown → In s.name n.filed → (In s.name n.dropped → ⊥) → (place : ℕ) → place < length (members_of g s)
+          → Holds g n s place ⊎ IsLater g n s place
       whole s is filed kept = by (h.flown.booked s is) (h.filed s.name filed)
         where
-          by : (x : ℕ) × (h.w.booked x ≡ 1) × (s ≡ h.book x) → IsFiled g h.w s.name → (place : ℕ) → place < length (members_of g s) → Holds g n s place ⊎ IsLater g n s place
+          by : (x : ℕ) × (h.w.booked x ≡ 1) × (s ≡ h.book x) → IsFiled g h.w s.name → (place : ℕ) → place < length (members_of g s)
+              → Holds g n s place ⊎ IsLater g n s place
           by x f =
               let same : f.0 ≡ x.0 = one_number g f.0 x.0 (sym f.1 ∙ (ap (λ (z : Segment). z.name) x.2 ∙ (page x.0 x.1).named)) in
               subst (λ z. (place : ℕ) → place < length (members_of g z) → Holds g n z place ⊎ IsLater g n z place) (sym x.2)
@@ -89,16 +97,20 @@ module _ (k : Below) (g : Setting) (n : Net) (h : View g n) where
   one_text = record {
     one = λ s t is to same. one s t (h.flown.booked s is) (h.flown.booked t to) same;
     held = held;
-    stored = λ v generation f is. (let s : StoreSeen g h.w.booked h.book h.w.stores v f generation = h.sent (StoreSent v f generation) is in piece f s.name s.index s.known s.fragment);
+    stored = λ v generation f is.
+        (let s : StoreSeen g h.w.booked h.book h.w.stores v f generation = h.sent (StoreSent v f generation) is in piece f s.name s.index s.known s.fragment);
     told = λ f is. (let s : FragmentSeen g h.w h.book f = h.sent (FragmentSent f) is in piece f s.name s.index s.known s.is);
   }
     where
       one : (s t : Segment) → (x : ℕ) × (h.w.booked x ≡ 1) × (s ≡ h.book x) → (y : ℕ) × (h.w.booked y ≡ 1) × (t ≡ h.book y) → s.name ≡ t.name → s ≡ t
       one s t x y same =
-          let e : x.0 ≡ y.0 = one_number g x.0 y.0 (sym (page x.0 x.1).named ∙ (ap (λ (z : Segment). z.name) (sym x.2) ∙ (same ∙ (ap (λ (z : Segment). z.name) y.2 ∙ (page y.0 y.1).named)))) in
+          let e : x.0 ≡ y.0 =
+          one_number g x.0 y.0
+          (sym (page x.0 x.1).named ∙ (ap (λ (z : Segment). z.name) (sym x.2) ∙ (same ∙ (ap (λ (z : Segment). z.name) y.2 ∙ (page y.0 y.1).named)))) in
           x.2 ∙ (ap h.book e ∙ sym y.2)
 
-      held : (v : ℕ) (name : SegName) (f : Fragment) → name.log ≡ g.log → held_at (n.shelves v).held name ≡ Some f → (s : Segment) × In s n.flown × (s.name ≡ name) × (f ≡ fragment_of g s f.meta.index)
+      held : (v : ℕ) (name : SegName) (f : Fragment) → name.log ≡ g.log → held_at (n.shelves v).held name ≡ Some f
+          → (s : Segment) × In s n.flown × (s.name ≡ name) × (f ≡ fragment_of g s f.meta.index)
       held v name f of is = (h.book x, h.flown.all x there.1, (page x there.1).named ∙ sym named, at_its_place g (h.book x) f (h.w.kept_index v x) there.2)
         where
           x : ℕ
@@ -108,7 +120,8 @@ module _ (k : Below) (g : Setting) (n : Net) (h : View g n) where
           named = ap (λ l. record { log = l; seq = name.seq; pass = name.pass }) of ∙ sym (name_coded g name.seq name.pass.inc name.pass.att)
 
           there : (h.w.holds v x ≡ 1) × (h.w.booked x ≡ 1) × (f ≡ fragment_of g (h.book x) (h.w.kept_index v x))
-          there = subst (λ o. Kept g (h.book x) o (h.w.booked x) (h.w.holds v x) (h.w.kept_index v x)) (ap (held_at (n.shelves v).held) (sym named) ∙ is) ((h.shelves v).keeps x)
+          there = subst (λ o. Kept g (h.book x) o (h.w.booked x) (h.w.holds v x) (h.w.kept_index v x)) (ap (held_at (n.shelves v).held) (sym named) ∙ is)
+              ((h.shelves v).keeps x)
 
 module _ (k : Below) (g : Setting) (n : Net) (m : Moment g n) where
   abbrev calmer : Moment (doubtful g) n

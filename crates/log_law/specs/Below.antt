@@ -32,7 +32,8 @@ pub record Machines : Type 0 where
 -- of a log's own machine
 pub record Logs : Type 0 where
   pub next : (log : LogId) (inc : ℕ) (end : End) (groups : GroupMapState) (history : List In) → IsInLine (state_after (started log inc end groups) history)
-  pub rises : (log : LogId) (inc : ℕ) (end : End) (groups : GroupMapState) (history : List In) (input : In) → EndRisesByOne (state_after (started log inc end groups) history) (transition (state_after (started log inc end groups) history) input)
+  pub rises : (log : LogId) (inc : ℕ) (end : End) (groups : GroupMapState) (history : List In) (input : In)
+      → EndRisesByOne (state_after (started log inc end groups) history) (transition (state_after (started log inc end groups) history) input)
   pub due : (s : LogState) (input : In) → AllByRecursion (TellsWhatIsDue s input) (transition s input).outs
 
 -- of the log protocol

@@ -28,4 +28,6 @@ IsFlight s name = (f : FlightState) × (s.flight ≡ Some f) × (f.segment.name 
 
 -- What is filed while the owner serves was in flight.
 abbrev pub FilesItsFlight : Type 0
-FilesItsFlight = (g : Setting) (n o : Net) → Moment g n → (s : LogState) → n.owner ≡ Serving s → Happens g n o → (name : SegName) → In name o.filed → In name n.filed ⊎ IsFlight s name
+FilesItsFlight =
+    (g : Setting) (n o : Net) → Moment g n → (s : LogState) → n.owner ≡ Serving s → Happens g n o → (name : SegName) → In name o.filed
+    → In name n.filed ⊎ IsFlight s name

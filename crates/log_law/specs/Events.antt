@@ -125,11 +125,14 @@ CameToServer g n v Loses = (n.shelves v).generation < u32_end
 
 pub data Happens (g : Setting) : Net → Net → Type 0 where
   -- the log of an owner that serves takes an input
-  Acts : {n : Net} (s : LogState) (i : log_ins.In) → n.owner ≡ Serving s → CameToLog n i → WritesText (log.transition s i) → Happens g n (after_log g n (log.transition s i))
+  Acts : {n : Net} (s : LogState) (i : log_ins.In) → n.owner ≡ Serving s → CameToLog n i → WritesText (log.transition s i)
+      → Happens g n (after_log g n (log.transition s i))
   -- so does the log of one that writes its opening segment
-  Writes : {n : Net} (chain : List Segment) (s : LogState) (i : log_ins.In) → n.owner ≡ Writing chain s → CameToWriter n i → WritesText (log.transition s i) → Happens g n (after_writing g n chain (log.transition s i))
+  Writes : {n : Net} (chain : List Segment) (s : LogState) (i : log_ins.In) → n.owner ≡ Writing chain s → CameToWriter n i → WritesText (log.transition s i)
+      → Happens g n (after_writing g n chain (log.transition s i))
   -- an opening takes an input
-  Opens : {n : Net} (s : ScanState) (i : scan_ins.In) → n.owner ≡ Opening s → CameToScan g n i → CanStart g n.inc (scan.transition s i) → Happens g n (after_scan g n s (scan.transition s i))
+  Opens : {n : Net} (s : ScanState) (i : scan_ins.In) → n.owner ≡ Opening s → CameToScan g n i → CanStart g n.inc (scan.transition s i)
+      → Happens g n (after_scan g n s (scan.transition s i))
   -- the owner falls, and restarts in its next boot
   Crashes : {n : Net} → Happens g n (record n { owner = Down; feed = [] })
   Restarts : {n : Net} → n.owner ≡ Down → Happens g n (record n { inc = suc n.inc; owner = Opening (started g.log (suc n.inc)) })
@@ -145,12 +148,14 @@ pub data Happens (g : Setting) : Net → Net → Type 0 where
   -- a server lists what it holds
   Lists : {n : Net} (v : ℕ) → Happens g n (record n { sent = ListedSent (listed g (n.shelves v)) ∷ n.sent })
   -- the registry hears of a generation that a server reached
-  Hears : {n : Net} (v generation : ℕ) → n.registry v ≤ generation → generation ≤ (n.shelves v).generation → Happens g n (record n { registry = put n.registry v generation })
+  Hears : {n : Net} (v generation : ℕ) → n.registry v ≤ generation → generation ≤ (n.shelves v).generation
+      → Happens g n (record n { registry = put n.registry v generation })
   -- the least horizon rises, no further than what is filed
   Raises : {n : Net} (low : ℕ) (name : SegName) → n.low ≤ low → In name n.filed → low ≤ suc name.seq → Happens g n (record n { low = low })
   -- the registry sends a map, or answers a question of the owner
   Publishes : {n : Net} (m : GroupMapState) → WholeMap g n.registry m → Happens g n (record n { sent = MapSent m ∷ n.sent })
-  Welcomes : {n : Net} (inc ask : ℕ) (news : List SlotNews) (m : GroupMapState) → In (HelloSent inc ask) n.sent → least_horizon g.log.0 news ≡ n.low → WholeMap g n.registry m
+  Welcomes : {n : Net} (inc ask : ℕ) (news : List SlotNews) (m : GroupMapState) → In (HelloSent inc ask) n.sent → least_horizon g.log.0 news ≡ n.low
+      → WholeMap g n.registry m
       → Happens g n (record n { sent = WelcomeSent inc ask news m ∷ n.sent })
   -- the cleaner drops a segment that some server listed, below the least horizon
   Drops : {n : Net} (lists : List FragMeta) (meta : FragMeta) → In (ListedSent lists) n.sent → In meta lists → meta.name.seq < n.low

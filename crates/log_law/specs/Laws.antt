@@ -35,12 +35,14 @@ IsLater g n s place = generation_of (members_of g s) place < (n.shelves (server_
 pub record LogsWhole (g : Setting) (n : Net) : Type 0 where
   pub flown : (name : SegName) → In name n.filed → (s : Segment) × In s n.flown × (s.name ≡ name)
   pub striped : (s : Segment) → In s n.flown → 0 < length (members_of g s)
-  pub whole : (s : Segment) → In s n.flown → In s.name n.filed → (In s.name n.dropped → ⊥) → (place : ℕ) → place < length (members_of g s) → Holds g n s place ⊎ IsLater g n s place
+  pub whole : (s : Segment) → In s n.flown → In s.name n.filed → (In s.name n.dropped → ⊥) → (place : ℕ) → place < length (members_of g s)
+      → Holds g n s place ⊎ IsLater g n s place
 
 -- One name, one text: no two segments that were in flight have one name, and whatever is held, stored or sent of a name of the log is a fragment of the one.
 pub record OneText (g : Setting) (n : Net) : Type 0 where
   pub one : (s t : Segment) → In s n.flown → In t n.flown → s.name ≡ t.name → s ≡ t
-  pub held : (v : ℕ) (name : SegName) (f : Fragment) → name.log ≡ g.log → held_at (n.shelves v).held name ≡ Some f → (s : Segment) × In s n.flown × (s.name ≡ name) × (f ≡ fragment_of g s f.meta.index)
+  pub held : (v : ℕ) (name : SegName) (f : Fragment) → name.log ≡ g.log → held_at (n.shelves v).held name ≡ Some f
+      → (s : Segment) × In s n.flown × (s.name ≡ name) × (f ≡ fragment_of g s f.meta.index)
   pub stored : (v generation : ℕ) (f : Fragment) → In (StoreSent v f generation) n.sent → (s : Segment) × In s n.flown × (f ≡ fragment_of g s f.meta.index)
   pub told : (f : Fragment) → In (FragmentSent f) n.sent → (s : Segment) × In s n.flown × (f ≡ fragment_of g s f.meta.index)
 
@@ -56,7 +58,8 @@ OneNameOneText = (g : Setting) (n : Net) → Moment g n → OneText g n
 pub record OneLine (g : Setting) (n : Net) : Type 0 where
   pub no_two : (a b : SegName) → In a n.filed → In b n.filed → a.seq ≡ b.seq → a ≡ b
   pub no_gap : (name : SegName) → In name n.filed → (q : ℕ) → 0 < q → q ≤ name.seq → (t : SegName) × In t n.filed × (t.seq ≡ q)
-  pub linked : (s t : Segment) → In s n.flown → In t n.flown → In s.name n.filed → In t.name n.filed → suc t.name.seq ≡ s.name.seq → n.low < s.name.seq → s.prior.pass ≡ t.name.pass
+  pub linked : (s t : Segment) → In s n.flown → In t n.flown → In s.name n.filed → In t.name n.filed → suc t.name.seq ≡ s.name.seq → n.low < s.name.seq
+      → s.prior.pass ≡ t.name.pass
 
 -- while no restart that ended was doubtful
 abbrev pub LogsStayInLine : Type 0
@@ -78,12 +81,14 @@ IsAdopted g run n t = IsNoFurther n t ⊎ ((g.content t.items ≡ 0) ⊎ ((f : F
 
 abbrev pub AReopeningAdopts : Type 0
 AReopeningAdopts =
-    (g : Setting) (n : Net) → g.doubts ≡ false → (m : Moment g n) → IsSureRun m.run → (chain : List Segment) (s : LogState) → n.owner ≡ Writing chain s → (t : Segment) → In t chain → IsAdopted g m.run n t
+    (g : Setting) (n : Net) → g.doubts ≡ false → (m : Moment g n) → IsSureRun m.run → (chain : List Segment) (s : LogState) → n.owner ≡ Writing chain s
+    → (t : Segment) → In t chain → IsAdopted g m.run n t
 
 -- The feed of a serving owner has each filed segment from the least horizon on.
 abbrev pub TheFeedIsWhole : Type 0
 TheFeedIsWhole =
-    (g : Setting) (n : Net) → g.doubts ≡ false → (m : Moment g n) → IsSureRun m.run → (s : LogState) → n.owner ≡ Serving s → (name : SegName) → In name n.filed → n.low ≤ name.seq → In name n.feed
+    (g : Setting) (n : Net) → g.doubts ≡ false → (m : Moment g n) → IsSureRun m.run → (s : LogState) → n.owner ≡ Serving s → (name : SegName) → In name n.filed
+    → n.low ≤ name.seq → In name n.feed
 
 -- The laws speak of something: a run files a segment.
 abbrev pub SomeSegmentFiled : Type 0

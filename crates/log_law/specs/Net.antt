@@ -101,13 +101,32 @@ names_of (s ∷ ss) = s.name ∷ names_of ss
 
 -- the log of an owner that serves took an input
 abbrev pub after_log : Setting → Net → log.Done → Net
-after_log g n d = record n { owner = Owner.Serving d.state; sent = log_packets d.outs ++ n.sent; filed = log_filed g.log d.outs ++ n.filed; feed = log_filed g.log d.outs ++ n.feed; flown = flown_with d.state.flight n.flown }
+after_log g n d =
+    record n {
+      owner = Owner.Serving d.state;
+      sent = log_packets d.outs ++ n.sent;
+      filed = log_filed g.log d.outs ++ n.filed;
+      feed = log_filed g.log d.outs ++ n.feed;
+      flown = flown_with d.state.flight n.flown;
+    }
 
 -- the log of an owner that writes its opening segment took an input: once that is settled, it and what was read back are filed, and the owner
 -- serves with them in its feed
 abbrev pub after_flight : Setting → Net → List Segment → log.Done → Option FlightState → Net
-after_flight g n chain d None = record n { owner = Owner.Serving d.state; sent = log_packets d.outs ++ n.sent; filed = log_filed g.log d.outs ++ (names_of chain ++ n.filed); feed = log_filed g.log d.outs ++ names_of chain }
-after_flight g n chain d (Some f) = record n { owner = Owner.Writing chain d.state; sent = log_packets d.outs ++ n.sent; filed = log_filed g.log d.outs ++ n.filed; flown = f.segment ∷ n.flown }
+after_flight g n chain d None =
+    record n {
+      owner = Owner.Serving d.state;
+      sent = log_packets d.outs ++ n.sent;
+      filed = log_filed g.log d.outs ++ (names_of chain ++ n.filed);
+      feed = log_filed g.log d.outs ++ names_of chain;
+    }
+after_flight g n chain d (Some f) =
+    record n {
+      owner = Owner.Writing chain d.state;
+      sent = log_packets d.outs ++ n.sent;
+      filed = log_filed g.log d.outs ++ n.filed;
+      flown = f.segment ∷ n.flown;
+    }
 
 abbrev pub after_writing : Setting → Net → List Segment → log.Done → Net
 after_writing g n chain d = after_flight g n chain d d.state.flight
@@ -184,7 +203,8 @@ fragment_told (Some f) = Packet.FragmentSent f ∷ []
 
 -- what a server answers
 abbrev pub answers : Setting → ℕ → ShelfState → Deed → List Packet
-answers g v s (Stores f generation) = if is_of_log g f.meta.name && is_stored s f generation then Packet.StoredSent f.meta.name f.meta.index generation ∷ [] else []
+answers g v s (Stores f generation) =
+    if is_of_log g f.meta.name && is_stored s f generation then Packet.StoredSent f.meta.name f.meta.index generation ∷ [] else []
 answers g v s (Fetches name) = if is_of_log g name then fragment_told (held_at s.held name) else []
 answers g v s (Fences inc) = Packet.FencedSent v inc s.generation (listed g s) ∷ []
 answers g v s (Deletes name) = []

@@ -26,4 +26,6 @@ pub record Brings (s : Segment) (bytes : List ℕ) : Type 0 where
 
 -- A place names one content: whatever fragments of the name of a segment that was in flight are joined, they bring that segment.
 abbrev pub APlaceNamesOneContent : Type 0
-APlaceNamesOneContent = (g : Setting) (n : Net) → Moment g n → (s : Segment) → In s n.flown → (r : RoundSoFar) → IsReading g n s r → (text : List ℕ) → state_of r ≡ Read text → Brings s text
+APlaceNamesOneContent =
+    (g : Setting) (n : Net) → Moment g n → (s : Segment) → In s n.flown → (r : RoundSoFar) → IsReading g n s r → (text : List ℕ) → state_of r ≡ Read text
+    → Brings s text

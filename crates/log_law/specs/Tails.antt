@@ -22,7 +22,9 @@ IsTailAdopted g o f = (t : Segment) × In t o.flown × In t.name o.filed × IsAt
 
 -- no segment of its number and its boot is filed, at this moment or a later one
 abbrev pub IsTailDiscarded : {g : Setting} {n o : Net} → Runs g n o → FlightState → Type 0
-IsTailDiscarded {g = g} {o = o} run f = (p : Net) (later : Runs g o p) → IsSureRun (then_on run later) → (name : SegName) → In name p.filed → name.seq ≡ f.segment.name.seq → name.pass.inc ≡ f.segment.name.pass.inc → ⊥
+IsTailDiscarded {g = g} {o = o} run f =
+    (p : Net) (later : Runs g o p) → IsSureRun (then_on run later) → (name : SegName) → In name p.filed → name.seq ≡ f.segment.name.seq
+    → name.pass.inc ≡ f.segment.name.pass.inc → ⊥
 
 -- At the event that ends a restart the flight of the last boot that served is filed, or it never will be; while no restart that ended was doubtful.
 abbrev pub ATailIsFiledOrNever : Type 0
@@ -32,9 +34,11 @@ ATailIsFiledOrNever =
 
 -- This filed segment tells nothing, or is the tail: of the number and the boot of that flight, with its content.
 abbrev pub TellsOnlyTheTail : {g : Setting} {n : Net} (m : Moment g n) → Net → SegName → Type 0
-TellsOnlyTheTail {g = g} m o name = (t : Segment) × In t o.flown × (t.name ≡ name) × ((g.content t.items ≡ 0) ⊎ ((f : FlightState) × (last_flight m.run ≡ Some f) × IsAttemptOf g f t))
+TellsOnlyTheTail {g = g} m o name =
+    (t : Segment) × In t o.flown × (t.name ≡ name) × ((g.content t.items ≡ 0) ⊎ ((f : FlightState) × (last_flight m.run ≡ Some f) × IsAttemptOf g f t))
 
 -- What is filed at the event that ends a restart, and wasn't before, tells nothing, or is the tail.
 abbrev pub ARestartFilesTheTail : Type 0
 ARestartFilesTheTail =
-    (g : Setting) (n o : Net) → g.doubts ≡ false → (m : Moment g n) (happens : Happens g n o) → IsSureRun (On m.run happens) → EndsRestart n o → (name : SegName) → In name o.filed → In name n.filed ⊎ TellsOnlyTheTail m o name
+    (g : Setting) (n o : Net) → g.doubts ≡ false → (m : Moment g n) (happens : Happens g n o) → IsSureRun (On m.run happens) → EndsRestart n o
+    → (name : SegName) → In name o.filed → In name n.filed ⊎ TellsOnlyTheTail m o name

@@ -20,7 +20,8 @@ pub record Boots (w : State) : Type 0 where
   -- a serving boot with nothing in flight has given no name beyond its end
   pub written_up_to_end : (x : ℕ) → w.phase ≡ 4 → w.flight ≡ 0 → w.booked x ≡ 1 → w.incarnation_of x ≡ w.incarnation → w.seq_of x ≤ w.seq_of w.end
   -- one with a flight has given at the seq after its end no attempt later than the flight
-  pub written_attempt : (x : ℕ) → w.phase ≡ 4 → 0 < w.flight → w.booked x ≡ 1 → w.incarnation_of x ≡ w.incarnation → w.seq_of x ≡ suc (w.seq_of w.end) → w.attempt_of x ≤ w.attempt_of w.flight
+  pub written_attempt : (x : ℕ) → w.phase ≡ 4 → 0 < w.flight → w.booked x ≡ 1 → w.incarnation_of x ≡ w.incarnation → w.seq_of x ≡ suc (w.seq_of w.end)
+      → w.attempt_of x ≤ w.attempt_of w.flight
   -- and nothing beyond that seq
   pub written_next : (x : ℕ) → w.phase ≡ 4 → w.booked x ≡ 1 → w.incarnation_of x ≡ w.incarnation → w.seq_of x ≤ suc (w.seq_of w.end)
   -- a flight is of the present boot

@@ -16,17 +16,20 @@ pub record Contents (w : State) : Type 0 where
   -- an opening segment tells nothing
   pub opening_empty : w.phase ≡ 3 → w.content_of w.flight ≡ 0
 
-seals_keeps_contents : (w : State) (x text count : ℕ) (server : ℕ → ℕ) (content : ℕ) → CanSeal w x count server → Boots w → Contents w → Contents (seals w x text count server content)
+seals_keeps_contents : (w : State) (x text count : ℕ) (server : ℕ → ℕ) (content : ℕ) → CanSeal w x count server → Boots w → Contents w
+    → Contents (seals w x text count server content)
 seals_keeps_contents w x text count server content can boots contents =
     let new : w.booked x ≡ 1 → ⊥ = new_seal w x count server can boots in
     grind (arith, nat_tests)
 
-restripes_keeps_contents : (w : State) (x text count : ℕ) (server : ℕ → ℕ) → CanRestripe w x count server → Boots w → Contents w → Contents (restripes w x text count server)
+restripes_keeps_contents : (w : State) (x text count : ℕ) (server : ℕ → ℕ) → CanRestripe w x count server → Boots w → Contents w
+    → Contents (restripes w x text count server)
 restripes_keeps_contents w x text count server can boots contents =
     let new : w.booked x ≡ 1 → ⊥ = new_restripe w x count server can boots in
     grind (arith, nat_tests)
 
-opens_keeps_contents : (w : State) (x text count : ℕ) (server : ℕ → ℕ) → CanOpen w x count server → Boots w → Contents w → Contents (opens w x text count server)
+opens_keeps_contents : (w : State) (x text count : ℕ) (server : ℕ → ℕ) → CanOpen w x count server → Boots w → Contents w
+    → Contents (opens w x text count server)
 opens_keeps_contents w x text count server can boots contents =
     let new : w.booked x ≡ 1 → ⊥ = new_opening w x count server can boots in
     grind (arith, nat_tests)

@@ -46,7 +46,16 @@ abbrev w1 : State
 w1 = seals w0 1 7 1 first_server 5
 
 s1 : Steps w0 w1
-s1 = More Done (Seals 1 7 1 first_server 5 (record { serving = refl; no_flight = refl; named = lt01; next = refl; own = refl; group = record { some = lt01; known = first_of_two.known; distinct = first_of_two.distinct } }))
+s1 = More Done
+    (Seals 1 7 1 first_server 5
+    (record {
+      serving = refl;
+      no_flight = refl;
+      named = lt01;
+      next = refl;
+      own = refl;
+      group = record { some = lt01; known = first_of_two.known; distinct = first_of_two.distinct };
+    }))
 
 abbrev w2 : State
 w2 = sends w1 1 0
@@ -153,7 +162,15 @@ abbrev w14 : State
 w14 = opens w13 3 9 1 first_server
 
 s14 : Steps w0 w14
-s14 = More s13 (Opens 3 9 1 first_server (record { reading = refl; named = lt03; next = refl; own = refl; group = record { some = lt01; known = first_of_two.known; distinct = first_of_two.distinct } }))
+s14 = More s13
+    (Opens 3 9 1 first_server
+    (record {
+      reading = refl;
+      named = lt03;
+      next = refl;
+      own = refl;
+      group = record { some = lt01; known = first_of_two.known; distinct = first_of_two.distinct };
+    }))
 
 abbrev w15 : State
 w15 = sends w14 3 0

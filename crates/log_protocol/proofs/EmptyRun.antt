@@ -83,7 +83,13 @@ abbrev w9 : State
 w9 = serves w8 (λ q. 0) 1 1
 
 s9 : Steps w0 w9
-s9 = More s8 (Serves (λ q. 0) 1 1 (record { writing = refl; settled = settled_alone w8 refl refl; undoubted = λ e p a b. absurd (nothing a); read = record { picked = le11; cut = le11; last = λ q a e. refl; back = λ q a less. absurd (below q a less) } }))
+s9 = More s8 (Serves (λ q. 0) 1 1
+    (record {
+      writing = refl;
+      settled = settled_alone w8 refl refl;
+      undoubted = λ e p a b. absurd (nothing a);
+      read = record { picked = le11; cut = le11; last = λ q a e. refl; back = λ q a less. absurd (below q a less) };
+    }))
 
 steps : kinds s9 ≡ empty_steps
 unfolding s1 s2 s3 s4 s5 s6 s7 s8 s9

@@ -18,7 +18,8 @@ pub record Filed (w : State) : Type 0 where
   -- and each of its members is secured
   pub filed_secured : (x j : ℕ) → w.filed x ≡ 1 → w.secured x j ≡ 1
 
-serves_keeps_filed : (w : State) (path : ℕ → ℕ) (lowest sure : ℕ) → CanServe w path lowest sure → Boots w → Horizons w → Secured w → Priors w → Filed w → Filed (serves w path lowest sure)
+serves_keeps_filed : (w : State) (path : ℕ → ℕ) (lowest sure : ℕ) → CanServe w path lowest sure → Boots w → Horizons w → Secured w → Priors w → Filed w
+    → Filed (serves w path lowest sure)
 serves_keeps_filed w path lowest sure can boots horizons secured priors filed =
     let chain : Chain w path lowest = chain_read w path lowest can.writing horizons priors can.read in
     record {
@@ -51,7 +52,8 @@ step_keeps_filed w u (Picks_kept list_of low x can) boots horizons secured prior
 step_keeps_filed w u (Picks_prior list_of low x i can) boots horizons secured priors filed = grind (arith, nat_tests)
 step_keeps_filed w u (Cuts low can) boots horizons secured priors filed = grind (arith, nat_tests)
 step_keeps_filed w u (Opens x text count server can) boots horizons secured priors filed = grind (arith, nat_tests)
-step_keeps_filed w u (Serves path lowest sure can) boots horizons secured priors filed = serves_keeps_filed w path lowest sure can boots horizons secured priors filed
+step_keeps_filed w u (Serves path lowest sure can) boots horizons secured priors filed =
+    serves_keeps_filed w path lowest sure can boots horizons secured priors filed
 
 pub new_log_filed : (servers : ℕ) (seq_of incarnation_of attempt_of : ℕ → ℕ) → Filed (new_log servers seq_of incarnation_of attempt_of)
 new_log_filed servers seq_of incarnation_of attempt_of = grind (arith, nat_tests)

@@ -85,7 +85,8 @@ raises_grows w low can i = grind (arith, nat_tests)
 fences_grows : (w : State) (v c : ℕ) → CanFence w c → Invariant w → Grows w (fences w v c)
 fences_grows w v c can i = grind (arith, nat_tests)
 
-seals_grows : (w : State) (x text count : ℕ) (server : ℕ → ℕ) (content : ℕ) → CanSeal w x count server → Invariant w → Grows w (seals w x text count server content)
+seals_grows : (w : State) (x text count : ℕ) (server : ℕ → ℕ) (content : ℕ) → CanSeal w x count server → Invariant w
+    → Grows w (seals w x text count server content)
 seals_grows w x text count server content can i =
     let new : w.booked x ≡ 1 → ⊥ = new_seal w x count server can i.shelf.boots in
     grind (arith, nat_tests)
@@ -119,7 +120,8 @@ settles_grows w can i = record {
   holds = λ u x k k1 k2. k;
   clean = λ k. k;
   head = λ k. let e = (i.line k).its_end in let f = i.shelf.boots.flight_seq can.flying can.serving in let h = (i.line k).head_seq in grind (arith, nat_tests);
-  line = λ q k k1. let e = (i.line k).its_end in let f = i.shelf.boots.flight_seq can.flying can.serving in let h = (i.line k).head_seq in grind (arith, nat_tests);
+  line = λ q k k1. let e = (i.line k).its_end in let f = i.shelf.boots.flight_seq can.flying can.serving in let h =
+      (i.line k).head_seq in grind (arith, nat_tests);
 }
 
 crashes_grows : (w : State) → Invariant w → Grows w (crashes w)
@@ -166,8 +168,10 @@ serves_grows w path lowest sure can i = record {
   marked = λ u x k k1. k;
   holds = λ u x k k1 k2. k;
   clean = λ k. (served_clean w path lowest sure can k).0;
-  head = λ k. let was = served_clean w path lowest sure can k in let writing = can.writing in let r = opening_after w writing i.shelf (λ z. i.rising was.0 (was.1 z)) in omega arith;
-  line = λ q k k1. let was = served_clean w path lowest sure can k in let writing = can.writing in let r = opening_after w writing i.shelf (λ z. i.rising was.0 (was.1 z)) in grind (arith, nat_tests);
+  head = λ k. let was = served_clean w path lowest sure can k in let writing = can.writing in let r =
+      opening_after w writing i.shelf (λ z. i.rising was.0 (was.1 z)) in omega arith;
+  line = λ q k k1. let was = served_clean w path lowest sure can k in let writing = can.writing in let r =
+      opening_after w writing i.shelf (λ z. i.rising was.0 (was.1 z)) in grind (arith, nat_tests);
 }
 
 pub step_grows : (w u : State) → Step w u → Invariant w → Grows w u

@@ -26,7 +26,8 @@ pub record HeadListed (w : State) (list_of : ℕ → FencedPacket) : Type 0 wher
   pub listed : (list_of server).listed (w.line w.head) ≡ 1
 
 -- of an undoubted head that isn't below the horizon, some member's list names it
-pub head_seen : (w : State) (list_of : ℕ → FencedPacket) (low : ℕ) → w.phase ≡ 1 → Gathered w list_of low → ShelfInvariant w → Line w → Spans w → Undoubted w → low ≤ w.head → HeadListed w list_of
+pub head_seen : (w : State) (list_of : ℕ → FencedPacket) (low : ℕ) → w.phase ≡ 1 → Gathered w list_of low → ShelfInvariant w → Line w → Spans w → Undoubted w
+    → low ≤ w.head → HeadListed w list_of
 head_seen w list_of low gathering gathered shelf line spans sure above =
     let t = late w list_of low gathered shelf in
     let pos : 0 < w.head = (let a = t.some in omega arith) in
@@ -44,7 +45,8 @@ head_seen w list_of low gathering gathered shelf line spans sure above =
     record { server = v; known = known; listed = grind (arith, lacks, unhurt, shelf.lists.list_flag (list_of v) x sent) }
 
 -- so lists that name nothing at or above the horizon leave no head there
-pub no_head : (w : State) (list_of : ℕ → FencedPacket) (low : ℕ) → CanPickNone w list_of low → ShelfInvariant w → Line w → Spans w → Undoubted w → low ≤ w.head → ⊥
+pub no_head : (w : State) (list_of : ℕ → FencedPacket) (low : ℕ) → CanPickNone w list_of low → ShelfInvariant w → Line w → Spans w → Undoubted w → low ≤ w.head
+    → ⊥
 no_head w list_of low can shelf line spans sure above =
     let seen = head_seen w list_of low can.gathering can.gathered shelf line spans sure above in
     let a = can.nothing seen.server (w.line w.head) seen.known seen.listed in
@@ -57,7 +59,8 @@ pub record NotBefore (w : State) (low x : ℕ) : Type 0 where
   pub seq : low ≤ w.head → w.incarnation_of x ≡ w.served → w.head ≤ w.seq_of x
   pub same : low ≤ w.head → w.incarnation_of x ≡ w.served → w.seq_of x ≡ w.head → x ≡ w.line w.head
 
-pub picked_not_before : (w : State) (list_of : ℕ → FencedPacket) (low x : ℕ) → w.phase ≡ 1 → Gathered w list_of low → Picked w list_of low x → ShelfInvariant w → Line w → Spans w → Undoubted w → NotBefore w low x
+pub picked_not_before : (w : State) (list_of : ℕ → FencedPacket) (low x : ℕ) → w.phase ≡ 1 → Gathered w list_of low → Picked w list_of low x → ShelfInvariant w
+    → Line w → Spans w → Undoubted w → NotBefore w low x
 picked_not_before w list_of low x gathering gathered picked shelf line spans sure = record {
   boot = λ above.
       let s = seen above in
@@ -87,14 +90,20 @@ picked_not_before w list_of low x gathering gathered picked shelf line spans sur
     some above = let a = (late w list_of low gathered shelf).some in omega arith
 
 -- a member of the head whose list lacks it is of a later generation
-pub head_kept : (w : State) (list_of : ℕ → FencedPacket) (low j : ℕ) → w.phase ≡ 1 → Gathered w list_of low → ShelfInvariant w → Line w → Spans w → low ≤ w.head → j < w.member_count (w.line w.head) → (list_of (w.member_server (w.line w.head) j)).listed (w.line w.head) ≡ 0 → w.member_generation (w.line w.head) j < (list_of (w.member_server (w.line w.head) j)).generation
+pub head_kept : (w : State) (list_of : ℕ → FencedPacket) (low j : ℕ) → w.phase ≡ 1 → Gathered w list_of low → ShelfInvariant w → Line w → Spans w → low ≤ w.head
+    → j < w.member_count (w.line w.head) → (list_of (w.member_server (w.line w.head) j)).listed (w.line w.head) ≡ 0
+    → w.member_generation (w.line w.head) j < (list_of (w.member_server (w.line w.head) j)).generation
 head_kept w list_of low j gathering gathered shelf line spans above member lacks =
     let x = w.line w.head in
     let v = w.member_server x j in
     let pos : 0 < w.head = (let a = (late w list_of low gathered shelf).some in omega arith) in
     let known : v < w.servers = shelf.texts.server_known x j (shelf.filed.filed_booked x (line.line_filed w.head pos (omega arith))) member in
-    spans.unlisted_later (list_of v) j (gathered.sent v known) (gathered.boot v known) (shelf.boots.not_yet_served (omega arith) (omega arith)) pos (let a = gathered.after v known in omega arith) member (sym (gathered.from v known)) lacks
+    spans.unlisted_later (list_of v) j (gathered.sent v known) (gathered.boot v known) (shelf.boots.not_yet_served (omega arith) (omega arith)) pos
+    (let a = gathered.after v known in omega arith) member (sym (gathered.from v known)) lacks
 
 -- so what is discarded isn't the head
-pub not_head : (w : State) (list_of : ℕ → FencedPacket) (low x j : ℕ) → CanPickPrior w list_of low x j → ShelfInvariant w → Line w → Spans w → low ≤ w.head → x ≡ w.line w.head → ⊥
-not_head w list_of low x j can shelf line spans above e = subst (λ y. j < w.member_count y → (list_of (w.member_server y j)).listed y ≡ 0 → (list_of (w.member_server y j)).generation ≡ w.member_generation y j → ⊥) (sym e) (λ a b d. let k = head_kept w list_of low j can.gathering can.gathered shelf line spans above a b in omega arith) can.member can.lacks can.original
+pub not_head : (w : State) (list_of : ℕ → FencedPacket) (low x j : ℕ) → CanPickPrior w list_of low x j → ShelfInvariant w → Line w → Spans w → low ≤ w.head
+    → x ≡ w.line w.head → ⊥
+not_head w list_of low x j can shelf line spans above e =
+    subst (λ y. j < w.member_count y → (list_of (w.member_server y j)).listed y ≡ 0 → (list_of (w.member_server y j)).generation ≡ w.member_generation y j → ⊥)
+    (sym e) (λ a b d. let k = head_kept w list_of low j can.gathering can.gathered shelf line spans above a b in omega arith) can.member can.lacks can.original

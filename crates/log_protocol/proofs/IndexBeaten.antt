@@ -73,7 +73,8 @@ step_keeps_index_beaten w u (Activates e applied entry can) rows bounds joins be
 step_keeps_index_beaten w u (Keeps horizon can) rows bounds joins beaten = grind (arith, nat_tests)
 step_keeps_index_beaten w u Moves rows bounds joins beaten = grind (arith, nat_tests)
 step_keeps_index_beaten w u (Promises e can) rows bounds joins beaten = grind (arith, nat_tests)
-step_keeps_index_beaten w u (Beats d e l q can) rows bounds joins beaten = beats_keeps_index_beaten w d e l q (told_below w d e l q can rows bounds joins) beaten
+step_keeps_index_beaten w u (Beats d e l q can) rows bounds joins beaten =
+    beats_keeps_index_beaten w d e l q (told_below w d e l q can rows bounds joins) beaten
 step_keeps_index_beaten w u (Counts e l q can) rows bounds joins beaten = grind (arith, nat_tests)
 step_keeps_index_beaten w u (Drops_row l q can) rows bounds joins beaten = grind (arith, nat_tests)
 

@@ -59,7 +59,8 @@ step_keeps_index_bounds w u (Keeps horizon can) bounds = record {
   floor_some = λ e l. let r = can.rises l in grind (arith, nat_tests, bounds.floor_some e l, bounds.floor_some w.epoch l);
   floor_rises = λ d e l le. let r = can.rises l in grind (arith, nat_tests, bounds.floor_rises d e l, bounds.floor_rises d w.epoch l);
   floor_filed = λ e l. let a = can.applied l in grind (arith, nat_tests, bounds.floor_filed e l, bounds.applied_filed w.epoch l);
-  floor_flat = λ d e l late le past. let k = λ (z : w.reigning < w.epoch). kept_idle w horizon l can bounds z in grind (arith, nat_tests, k, bounds.floor_flat d e l, bounds.floor_flat d w.epoch l);
+  floor_flat = λ d e l late le past. let k =
+      λ (z : w.reigning < w.epoch). kept_idle w horizon l can bounds z in grind (arith, nat_tests, k, bounds.floor_flat d e l, bounds.floor_flat d w.epoch l);
   floor_ahead = λ e l ahead. grind (arith, nat_tests);
 }
 step_keeps_index_bounds w u Moves bounds = grind (arith, nat_tests)

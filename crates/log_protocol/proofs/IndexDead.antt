@@ -35,7 +35,8 @@ pub record IndexDead (w : IndexState) : Type 0 where
   pub beater_polled : (l q e : ℕ) → 0 < w.dead_at l q → w.joined.version ≤ w.version l q → w.dead_at l q < e → e ≤ w.promised → w.beater l q ≤ w.polled e
 
 -- a merge leaves what was answered Dead unnamed
-merged_same : (w : IndexState) (e : ℕ) (applied : ℕ → ℕ) (entry : Entry) → CanMerge w e applied entry → (l q : ℕ) → IndexRows w → IndexJoins w → IndexDead w → w.told e l q ≡ 1 → entry.log ≡ l → entry.seq ≡ q → ⊥
+merged_same : (w : IndexState) (e : ℕ) (applied : ℕ → ℕ) (entry : Entry) → CanMerge w e applied entry → (l q : ℕ) → IndexRows w → IndexJoins w → IndexDead w
+    → w.told e l q ≡ 1 → entry.log ≡ l → entry.seq ≡ q → ⊥
 merged_same w e applied entry can l q rows joins dead told same_l same_q =
     let j = joins.each e can.on in
     let some = dead.told_some e l q told in
@@ -48,7 +49,8 @@ merged_same w e applied entry can l q rows joins dead told same_l same_q =
     let h = j.its_hop (omega arith) in
     let p = its w applied entry l q can.joins same_l same_q (omega arith) in
     let c : w.version l q ≡ (w.index e).version = let z = p.0 in omega arith in
-    let f = not_named w applied entry l q (w.index e).log (w.index e).seq can.joins (omega arith) some (a ∙ sym c) (let z = b.hop c in omega arith) (λ k. b.seq c (k ∙ h)) same_l same_q in
+    let f = not_named w applied entry l q (w.index e).log (w.index e).seq can.joins (omega arith) some (a ∙ sym c) (let z = b.hop c in omega arith)
+    (λ k. b.seq c (k ∙ h)) same_l same_q in
     f
 
 -- what the counted Dead's manager names is a copy that beats the row, where no newer version is filed
@@ -58,7 +60,8 @@ record Beaten (w : IndexState) (l q b : ℕ) : Type 0 where
   pub hop : w.hop l q ≤ w.hop w.cleaner b
   pub seq : w.hop l q ≡ w.hop w.cleaner b → b < q
 
-counted_beaten : (w : IndexState) (e l q : ℕ) → CanCount w e l q → IndexRows w → IndexBounds w → IndexJoins w → IndexDead w → w.joined.version ≤ w.version l q → Beaten w l q (w.index e).seq
+counted_beaten : (w : IndexState) (e l q : ℕ) → CanCount w e l q → IndexRows w → IndexBounds w → IndexJoins w → IndexDead w → w.joined.version ≤ w.version l q
+    → Beaten w l q (w.index e).seq
 counted_beaten w e l q can rows bounds joins dead top =
     let on = dead.told_active e l q can.told in
     let j = joins.each e on in
@@ -96,7 +99,8 @@ copies_top w l q = grind (arith, nat_tests)
 
 -- what was counted is filed
 dead_filed : (w : IndexState) (l q : ℕ) → IndexBounds w → IndexDead w → 0 < w.dead_at l q → q ≤ w.head l
-dead_filed w l q bounds dead counted = let a = dead.told_applied (w.dead_at l q) l q (dead.dead_told l q counted) in let b = bounds.applied_filed (w.dead_at l q) l in omega arith
+dead_filed w l q bounds dead counted = let a = dead.told_applied (w.dead_at l q) l q (dead.dead_told l q counted) in let b =
+    bounds.applied_filed (w.dead_at l q) l in omega arith
 
 pub step_keeps_index_dead : (w u : IndexState) → IndexStep w u → IndexRows w → IndexBounds w → IndexJoins w → IndexDead w → IndexDead u
 step_keeps_index_dead w u (Files l version can) rows bounds joins dead = grind (arith, nat_tests)
@@ -109,11 +113,19 @@ step_keeps_index_dead w u (Copies l q can) rows bounds joins dead = record {
   told_some = λ x0 x1 x2 k0. grind (arith, nat_tests, dead.told_some x0 x1 x2);
   told_elsewhere = λ x0 x1 x2 k0 k1 k2. grind (arith, nat_tests, dead.told_elsewhere x0 x1 x2);
   dead_told = λ x0 x1 k0. grind (arith, nat_tests, dead.dead_told x0 x1);
-  beater_filed = λ x0 x1 k0 k1. let m = dead_filed w x0 x1 bounds dead k0 in let e = copies_version w l q x0 x1 m in let t = copies_top w l q in let f = dead.beater_filed x0 x1 k0 (omega arith) in let h = copies_head w l q w.cleaner in omega arith;
-  beater_version = λ x0 x1 k0 k1. let m = dead_filed w x0 x1 bounds dead k0 in let e = copies_version w l q x0 x1 m in let t = copies_top w l q in let f = dead.beater_filed x0 x1 k0 (omega arith) in let v = dead.beater_version x0 x1 k0 (omega arith) in let b = copies_version w l q w.cleaner (w.beater x0 x1) f in omega arith;
-  beater_hop = λ x0 x1 k0 k1. let m = dead_filed w x0 x1 bounds dead k0 in let e = copies_version w l q x0 x1 m in let t = copies_top w l q in let c = copies_hop w l q x0 x1 m in let f = dead.beater_filed x0 x1 k0 (omega arith) in let v = dead.beater_hop x0 x1 k0 (omega arith) in let b = copies_hop w l q w.cleaner (w.beater x0 x1) f in omega arith;
-  beater_seq = λ x0 x1 k0 k1 k2. let m = dead_filed w x0 x1 bounds dead k0 in let e = copies_version w l q x0 x1 m in let t = copies_top w l q in let c = copies_hop w l q x0 x1 m in let f = dead.beater_filed x0 x1 k0 (omega arith) in let b = copies_hop w l q w.cleaner (w.beater x0 x1) f in dead.beater_seq x0 x1 k0 (omega arith) (omega arith);
-  beater_polled = λ x0 x1 x2 k0 k1 k2 k3. let m = dead_filed w x0 x1 bounds dead k0 in let e = copies_version w l q x0 x1 m in let t = copies_top w l q in dead.beater_polled x0 x1 x2 k0 (omega arith) k2 k3;
+  beater_filed = λ x0 x1 k0 k1. let m = dead_filed w x0 x1 bounds dead k0 in let e = copies_version w l q x0 x1 m in let t = copies_top w l q in let f =
+      dead.beater_filed x0 x1 k0 (omega arith) in let h = copies_head w l q w.cleaner in omega arith;
+  beater_version = λ x0 x1 k0 k1. let m = dead_filed w x0 x1 bounds dead k0 in let e = copies_version w l q x0 x1 m in let t = copies_top w l q in let f =
+      dead.beater_filed x0 x1 k0 (omega arith) in let v = dead.beater_version x0 x1 k0 (omega arith) in let b =
+      copies_version w l q w.cleaner (w.beater x0 x1) f in omega arith;
+  beater_hop = λ x0 x1 k0 k1. let m = dead_filed w x0 x1 bounds dead k0 in let e = copies_version w l q x0 x1 m in let t = copies_top w l q in let c =
+      copies_hop w l q x0 x1 m in let f = dead.beater_filed x0 x1 k0 (omega arith) in let v = dead.beater_hop x0 x1 k0 (omega arith) in let b =
+      copies_hop w l q w.cleaner (w.beater x0 x1) f in omega arith;
+  beater_seq = λ x0 x1 k0 k1 k2. let m = dead_filed w x0 x1 bounds dead k0 in let e = copies_version w l q x0 x1 m in let t = copies_top w l q in let c =
+      copies_hop w l q x0 x1 m in let f = dead.beater_filed x0 x1 k0 (omega arith) in let b =
+      copies_hop w l q w.cleaner (w.beater x0 x1) f in dead.beater_seq x0 x1 k0 (omega arith) (omega arith);
+  beater_polled = λ x0 x1 x2 k0 k1 k2 k3. let m = dead_filed w x0 x1 bounds dead k0 in let e = copies_version w l q x0 x1 m in let t =
+      copies_top w l q in dead.beater_polled x0 x1 x2 k0 (omega arith) k2 k3;
 }
 step_keeps_index_dead w u (Merges e applied entry can) rows bounds joins dead = record {
   active_promised = λ x0 k0. grind (arith, nat_tests, dead.active_promised x0);
@@ -150,7 +162,8 @@ step_keeps_index_dead w u (Beats d e l q can) rows bounds joins dead = record {
   active_promised = λ x0 k0. grind (arith, nat_tests, dead.active_promised x0);
   active_reported = λ x0 k0. grind (arith, nat_tests, dead.active_reported x0);
   told_active = λ x0 x1 x2 k0. grind (arith, nat_tests, dead.told_active x0 x1 x2, can.on);
-  told_applied = λ x0 x1 x2 k0. let a = bounds.floor_rises d e l can.kept_by in let f = bounds.active_covered e l can.on in let b = can.below in grind (arith, nat_tests, dead.told_applied x0 x1 x2);
+  told_applied = λ x0 x1 x2 k0. let a = bounds.floor_rises d e l can.kept_by in let f = bounds.active_covered e l can.on in let b =
+      can.below in grind (arith, nat_tests, dead.told_applied x0 x1 x2);
   told_some = λ x0 x1 x2 k0. grind (arith, nat_tests, dead.told_some x0 x1 x2, can.some);
   told_elsewhere = λ x0 x1 x2 k0 k1 k2. grind (arith, nat_tests, dead.told_elsewhere x0 x1 x2, can.elsewhere);
   dead_told = λ x0 x1 k0. grind (arith, nat_tests, dead.dead_told x0 x1);
@@ -168,10 +181,16 @@ step_keeps_index_dead w u (Counts e l q can) rows bounds joins dead = record {
   told_some = λ x0 x1 x2 k0. grind (arith, nat_tests, dead.told_some x0 x1 x2);
   told_elsewhere = λ x0 x1 x2 k0 k1 k2. grind (arith, nat_tests, dead.told_elsewhere x0 x1 x2);
   dead_told = λ x0 x1 k0. grind (arith, nat_tests, dead.dead_told x0 x1);
-  beater_filed = λ x0 x1 k0 k1. grind (arith, nat_tests, dead.beater_filed x0 x1, λ (k : w.joined.version ≤ w.version l q). (counted_beaten w e l q can rows bounds joins dead k).filed);
-  beater_version = λ x0 x1 k0 k1. grind (arith, nat_tests, dead.beater_version x0 x1, λ (k : w.joined.version ≤ w.version l q). (counted_beaten w e l q can rows bounds joins dead k).version);
-  beater_hop = λ x0 x1 k0 k1. grind (arith, nat_tests, dead.beater_hop x0 x1, λ (k : w.joined.version ≤ w.version l q). (counted_beaten w e l q can rows bounds joins dead k).hop);
-  beater_seq = λ x0 x1 k0 k1 k2. grind (arith, nat_tests, dead.beater_seq x0 x1, λ (k : w.joined.version ≤ w.version l q). (counted_beaten w e l q can rows bounds joins dead k).seq);
+  beater_filed =
+      λ x0 x1 k0 k1. grind
+      (arith, nat_tests, dead.beater_filed x0 x1, λ (k : w.joined.version ≤ w.version l q). (counted_beaten w e l q can rows bounds joins dead k).filed);
+  beater_version =
+      λ x0 x1 k0 k1. grind
+      (arith, nat_tests, dead.beater_version x0 x1, λ (k : w.joined.version ≤ w.version l q). (counted_beaten w e l q can rows bounds joins dead k).version);
+  beater_hop = λ x0 x1 k0 k1. grind
+      (arith, nat_tests, dead.beater_hop x0 x1, λ (k : w.joined.version ≤ w.version l q). (counted_beaten w e l q can rows bounds joins dead k).hop);
+  beater_seq = λ x0 x1 k0 k1 k2. grind
+      (arith, nat_tests, dead.beater_seq x0 x1, λ (k : w.joined.version ≤ w.version l q). (counted_beaten w e l q can rows bounds joins dead k).seq);
   beater_polled = λ x0 x1 x2 k0 k1 k2 k3. grind (arith, nat_tests, dead.beater_polled x0 x1 x2, can.latest);
 }
 step_keeps_index_dead w u (Drops_row l q can) rows bounds joins dead = grind (arith, nat_tests)
@@ -180,7 +199,8 @@ pub new_block_index_dead : (cleaner : ℕ) → IndexDead (new_block cleaner)
 new_block_index_dead cleaner = grind (arith, nat_tests)
 
 -- who is active no earlier than the count names the row only where a newer version is filed
-stays_not : (w : IndexState) (l q e : ℕ) → IndexJoins w → IndexDead w → 0 < w.dead_at l q → w.dead_at l q ≤ e → w.active e ≡ 1 → (w.index e).log ≡ l → (w.index e).seq ≡ q → w.joined.version ≤ w.version l q → ⊥
+stays_not : (w : IndexState) (l q e : ℕ) → IndexJoins w → IndexDead w → 0 < w.dead_at l q → w.dead_at l q ≤ e → w.active e ≡ 1 → (w.index e).log ≡ l
+    → (w.index e).seq ≡ q → w.joined.version ≤ w.version l q → ⊥
 stays_not w l q e joins dead counted from on same_l same_q top = go (eq-or-lt_of_le from)
   where
     told : w.told (w.dead_at l q) l q ≡ 1
@@ -191,7 +211,9 @@ stays_not w l q e joins dead counted from on same_l same_q top = go (eq-or-lt_of
     go (inr before) =
         let a = dead.beater_polled l q e counted top before (dead.active_promised e on) in
         let b = dead.active_reported e on in
-        not_named w (w.applied e) (w.index e) l q w.cleaner (w.beater l q) (joins.each e on) (omega arith) (dead.told_some (w.dead_at l q) l q told) (dead.beater_version l q counted top) (dead.beater_hop l q counted top) (dead.beater_seq l q counted top) same_l same_q
+        not_named w (w.applied e) (w.index e) l q w.cleaner (w.beater l q) (joins.each e on) (omega arith) (dead.told_some (w.dead_at l q) l q told)
+        (dead.beater_version l q counted top) (dead.beater_hop l q counted top) (dead.beater_seq l q counted top) same_l same_q
 
-pub stays : (w : IndexState) (l q e : ℕ) → IndexJoins w → IndexDead w → 0 < w.dead_at l q → w.dead_at l q ≤ e → w.active e ≡ 1 → (w.index e).log ≡ l → (w.index e).seq ≡ q → w.version l q < w.joined.version
+pub stays : (w : IndexState) (l q e : ℕ) → IndexJoins w → IndexDead w → 0 < w.dead_at l q → w.dead_at l q ≤ e → w.active e ≡ 1 → (w.index e).log ≡ l
+    → (w.index e).seq ≡ q → w.version l q < w.joined.version
 stays w l q e joins dead counted from on same_l same_q = let n = stays_not w l q e joins dead counted from on same_l same_q in grind (arith)

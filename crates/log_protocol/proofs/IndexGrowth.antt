@@ -21,7 +21,8 @@ copies_stays w l q can = grind (arith, nat_tests)
 merges_stays : (w : IndexState) (e : ℕ) (applied : ℕ → ℕ) (entry : Entry) → CanMerge w e applied entry → IndexPastStays w (indexes w e applied entry)
 merges_stays w e applied entry can = grind (arith, nat_tests)
 
-activates_stays : (w : IndexState) (e : ℕ) (applied : ℕ → ℕ) (entry : Entry) → CanActivate w e applied entry → ((l : ℕ) → w.applied e l ≡ 0) → IndexPastStays w (activates w e applied entry)
+activates_stays : (w : IndexState) (e : ℕ) (applied : ℕ → ℕ) (entry : Entry) → CanActivate w e applied entry → ((l : ℕ) → w.applied e l ≡ 0)
+    → IndexPastStays w (activates w e applied entry)
 activates_stays w e applied entry can idle = grind (arith, nat_tests)
 
 keeps_stays : (w : IndexState) (horizon : ℕ → ℕ) → CanKeep w horizon → ((e l : ℕ) → w.floor e l ≤ horizon l) → IndexPastStays w (keeps_horizon w horizon)
@@ -95,7 +96,8 @@ run_past_stays w u Done i = (i, same w)
   where
     same : (u : IndexState) → IndexPastStays u u
     same u = grind (arith)
-run_past_stays w u (More {v = v} run step) i = let a = run_past_stays w v run i in (index_step_keeps v u step a.0, past_stays_on w v u a.1 (step_past_stays v u step a.0))
+run_past_stays w u (More {v = v} run step) i = let a =
+    run_past_stays w v run i in (index_step_keeps v u step a.0, past_stays_on w v u a.1 (step_past_stays v u step a.0))
 
 pub index_past_stays_always : (w u : IndexState) → IndexReached w → IndexSteps w u → IndexPastStays w u
 index_past_stays_always w u reached run = (run_past_stays w u run (index_always w reached)).1

@@ -33,7 +33,15 @@ index_run_keeps w u Done i = i
 index_run_keeps w u (More {v = v} run step) i = index_step_keeps v u step (index_run_keeps w v run i)
 
 pub index_always : (w : IndexState) → IndexReached w → IndexInvariant w
-index_always w run = index_run_keeps (new_block w.cleaner) w run (record { rows = new_block_index_rows w.cleaner; bounds = new_block_index_bounds w.cleaner; joins = new_block_index_joins w.cleaner; beaten = new_block_index_beaten w.cleaner; dead = new_block_index_dead w.cleaner })
+index_always w run =
+    index_run_keeps (new_block w.cleaner) w run
+    (record {
+      rows = new_block_index_rows w.cleaner;
+      bounds = new_block_index_bounds w.cleaner;
+      joins = new_block_index_joins w.cleaner;
+      beaten = new_block_index_beaten w.cleaner;
+      dead = new_block_index_dead w.cleaner;
+    })
 
 pub index_is_join_always : (w : IndexState) → IndexReached w → IndexIsJoin w
 index_is_join_always w run = let i = index_always w run in record { all = i.rows.joined; each = i.joins.each; begun = i.bounds.active_begun }
@@ -85,5 +93,9 @@ rows_in_place_always w run = let r = (index_always w run).rows in record {
   unfiled = r.unfiled;
   client_hop = r.client_hop;
   copy_hop = r.copy_hop;
-  one_place = λ a x b y ca cb some same. (sym (r.one_log a x ca some) ∙ (ap w.version_log same ∙ r.one_log b y cb (omega arith)), sym (r.one_seq a x ca some) ∙ (ap w.version_seq same ∙ r.one_seq b y cb (omega arith)));
+  one_place = λ a x b y ca cb some same. (
+    sym (r.one_log a x ca some) ∙ (ap w.version_log same ∙ r.one_log b y cb (omega arith)),
+    sym (r.one_seq a x ca some)
+        ∙ (ap w.version_seq same ∙ r.one_seq b y cb (omega arith)),
+  );
 }

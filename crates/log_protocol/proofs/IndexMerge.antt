@@ -9,7 +9,8 @@ use Rattle.log_protocol.proofs.IndexInduction.{index_always}
 use Rattle.log_protocol.proofs.IndexRows.{IndexRows}
 
 -- Deltas that begin no later than after what was applied, and end no earlier
-pub merged_joins : (w : IndexState) (applied : ℕ → ℕ) (l first upto : ℕ) (old new : Entry) → IndexRows w → Joins w.version w.hop applied old → FirstGreatest w l first upto new → first ≤ suc (applied l) → applied l ≤ upto → Joins w.version w.hop (put applied l upto) (merged old new)
+pub merged_joins : (w : IndexState) (applied : ℕ → ℕ) (l first upto : ℕ) (old new : Entry) → IndexRows w → Joins w.version w.hop applied old
+    → FirstGreatest w l first upto new → first ≤ suc (applied l) → applied l ≤ upto → Joins w.version w.hop (put applied l upto) (merged old new)
 merged_joins w applied l first upto old new rows joins greatest no_gap rises = record {
   newest = λ m q b. grind (arith, nat_tests);
   furthest = λ m q b c. grind (arith, nat_tests);
@@ -19,5 +20,6 @@ merged_joins w applied l first upto old new rows joins greatest no_gap rises = r
   its_hop = λ some. grind (arith, nat_tests);
 }
 
-pub merging_joins : (w : IndexState) (applied : ℕ → ℕ) (l first upto : ℕ) (old new : Entry) → IndexReached w → Joins w.version w.hop applied old → FirstGreatest w l first upto new → first ≤ suc (applied l) → applied l ≤ upto → Joins w.version w.hop (put applied l upto) (merged old new)
+pub merging_joins : (w : IndexState) (applied : ℕ → ℕ) (l first upto : ℕ) (old new : Entry) → IndexReached w → Joins w.version w.hop applied old
+    → FirstGreatest w l first upto new → first ≤ suc (applied l) → applied l ≤ upto → Joins w.version w.hop (put applied l upto) (merged old new)
 merging_joins w applied l first upto old new run = merged_joins w applied l first upto old new (index_always w run).rows

@@ -19,11 +19,17 @@ same_log w a x b y rows some same_version same_hop =
     grind (arith, nat_tests)
 
 -- what an entry says stands where it names
-pub its : (w : IndexState) (upto : ℕ → ℕ) (entry : Entry) (l q : ℕ) → Joins w.version w.hop upto entry → entry.log ≡ l → entry.seq ≡ q → 0 < entry.version → (w.version l q ≡ entry.version) × (w.hop l q ≡ entry.hop)
-its w upto entry l q j same_l same_q some = (sym (ap (λ z. w.version z entry.seq) same_l ∙ ap (w.version l) same_q) ∙ j.its_version some, sym (ap (λ z. w.hop z entry.seq) same_l ∙ ap (w.hop l) same_q) ∙ j.its_hop some)
+pub its : (w : IndexState) (upto : ℕ → ℕ) (entry : Entry) (l q : ℕ) → Joins w.version w.hop upto entry → entry.log ≡ l → entry.seq ≡ q → 0 < entry.version
+    → (w.version l q ≡ entry.version) × (w.hop l q ≡ entry.hop)
+its w upto entry l q j same_l same_q some = (
+  sym (ap (λ z. w.version z entry.seq) same_l ∙ ap (w.version l) same_q) ∙ j.its_version some,
+  sym (ap (λ z. w.hop z entry.seq) same_l ∙ ap (w.hop l) same_q)
+      ∙ j.its_hop some,
+)
 
 -- a row that beats another of its version and is covered keeps the index from naming that one
-pub not_named : (w : IndexState) (upto : ℕ → ℕ) (entry : Entry) (l q c b : ℕ) → Joins w.version w.hop upto entry → b ≤ upto c → 0 < w.version l q → w.version c b ≡ w.version l q → w.hop l q ≤ w.hop c b → (w.hop l q ≡ w.hop c b → b < q) → entry.log ≡ l → entry.seq ≡ q → ⊥
+pub not_named : (w : IndexState) (upto : ℕ → ℕ) (entry : Entry) (l q c b : ℕ) → Joins w.version w.hop upto entry → b ≤ upto c → 0 < w.version l q
+    → w.version c b ≡ w.version l q → w.hop l q ≤ w.hop c b → (w.hop l q ≡ w.hop c b → b < q) → entry.log ≡ l → entry.seq ≡ q → ⊥
 not_named w upto entry l q c b j within some same further earlier same_l same_q =
     let n = j.newest c b within in
     let p = its w upto entry l q j same_l same_q (omega arith) in
@@ -40,20 +46,23 @@ pub record Beats (w : IndexState) (entry : Entry) (l q : ℕ) : Type 0 where
   pub hop : w.version l q ≡ entry.version → w.hop l q ≤ entry.hop
   pub seq : w.version l q ≡ entry.version → w.hop l q ≡ entry.hop → entry.seq < q
 
-pub named_beats : (w : IndexState) (upto : ℕ → ℕ) (entry : Entry) (l q : ℕ) → IndexRows w → Joins w.version w.hop upto entry → q ≤ upto l → 0 < w.version l q → (entry.log ≡ l → entry.seq ≡ q → ⊥) → Beats w entry l q
+pub named_beats : (w : IndexState) (upto : ℕ → ℕ) (entry : Entry) (l q : ℕ) → IndexRows w → Joins w.version w.hop upto entry → q ≤ upto l → 0 < w.version l q
+    → (entry.log ≡ l → entry.seq ≡ q → ⊥) → Beats w entry l q
 named_beats w upto entry l q rows j within some elsewhere = record {
   version = j.newest l q within;
   hop = λ same. j.furthest l q within same;
   seq = λ same same_hop.
       let a = j.earliest l q within same same_hop some in
       let v : 0 < entry.version = omega arith in
-      let b : entry.log ≡ l = same_log w entry.log entry.seq l q rows (let z = j.its_version v in omega arith) (j.its_version v ∙ sym same) (j.its_hop v ∙ sym same_hop) in
+      let b : entry.log ≡ l =
+      same_log w entry.log entry.seq l q rows (let z = j.its_version v in omega arith) (j.its_version v ∙ sym same) (j.its_hop v ∙ sym same_hop) in
       let c : entry.seq ≡ q → ⊥ = elsewhere b in
       grind (arith, nat_tests);
 }
 
 -- and where that has the same version, it is a copy in the cleaner's log
-pub copied : (w : IndexState) (upto : ℕ → ℕ) (entry : Entry) (l q : ℕ) → IndexRows w → Joins w.version w.hop upto entry → 0 < w.version l q → w.version l q ≡ entry.version → Beats w entry l q → entry.log ≡ w.cleaner
+pub copied : (w : IndexState) (upto : ℕ → ℕ) (entry : Entry) (l q : ℕ) → IndexRows w → Joins w.version w.hop upto entry → 0 < w.version l q
+    → w.version l q ≡ entry.version → Beats w entry l q → entry.log ≡ w.cleaner
 copied w upto entry l q rows j some same beats =
     let v : 0 < entry.version = omega arith in
     let a = j.its_version v in

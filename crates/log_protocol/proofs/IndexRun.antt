@@ -43,7 +43,16 @@ abbrev u2 : IndexState
 u2 = activates u1 1 u1.head first
 
 s2 : IndexSteps u0 u2
-s2 = More s1 (Activates 1 u1.head first (record { begun = le11; fresh = refl; heard = le11; reported = zero_le (u1.head 2); covered = λ l. one_le u1.head l; filed = λ l. same u1.head l; joins = first_joins }))
+s2 = More s1 (Activates 1 u1.head first
+    (record {
+      begun = le11;
+      fresh = refl;
+      heard = le11;
+      reported = zero_le (u1.head 2);
+      covered = λ l. one_le u1.head l;
+      filed = λ l. same u1.head l;
+      joins = first_joins;
+    }))
 
 -- version 6 is filed and applied; a checkpoint's horizon is kept
 abbrev u3 : IndexState
@@ -109,7 +118,17 @@ abbrev u11 : IndexState
 u11 = activates u10 2 u10.head second
 
 s11 : IndexSteps u0 u11
-s11 = More s10 (Activates 2 u10.head second (record { begun = le22; fresh = refl; heard = le22; reported = same u10.head 2; covered = λ l. same (λ m. suc (u10.head m)) l; filed = λ l. same u10.head l; joins = second_joins }))
+s11 = More s10
+    (Activates 2 u10.head second
+    (record {
+      begun = le22;
+      fresh = refl;
+      heard = le22;
+      reported = same u10.head 2;
+      covered = λ l. same (λ m. suc (u10.head m)) l;
+      filed = λ l. same u10.head l;
+      joins = second_joins;
+    }))
 
 -- the cleaner copies version 6, and the client files a segment that says nothing of the block
 abbrev u12 : IndexState
@@ -129,4 +148,5 @@ unfolding s1 s2 s3 s4 s5 s6 s7 s8 s9 s10 s11 s12 s13
 steps = refl
 
 pub index_moved : IndexMoved
-index_moved = record { state = u13; reached = s13; steps = steps; both_active = (refl, refl); horizon = refl; dropped = refl; older = refl; newest = refl; copied = refl }
+index_moved =
+    record { state = u13; reached = s13; steps = steps; both_active = (refl, refl); horizon = refl; dropped = refl; older = refl; newest = refl; copied = refl }

@@ -40,7 +40,8 @@ step_keeps_line w u (Cuts low can) past clean = cuts_keeps_line w low can past.s
 step_keeps_line w u (Opens x text count server can) past clean = opens_keeps_line w x text count server can past.shelf (past.line clean)
 step_keeps_line w u (Serves path lowest sure can) past clean =
     let was = served_clean w path lowest sure can clean in
-    serves_keeps_line w path lowest sure can past.shelf (past.line was.0) (opening_after w can.writing past.shelf (λ k. past.rising was.0 (was.1 k))) (λ k. past.rising was.0 (was.1 k))
+    serves_keeps_line w path lowest sure can past.shelf (past.line was.0) (opening_after w can.writing past.shelf (λ k. past.rising was.0 (was.1 k)))
+    (λ k. past.rising was.0 (was.1 k))
 
 step_keeps_spans : (w u : State) → Step w u → Invariant w → u.clean ≡ 1 → Spans u
 step_keeps_spans w u (Loses v) past clean = loses_keeps_spans w v past.shelf (past.line clean) (past.spans clean)
@@ -55,8 +56,10 @@ step_keeps_spans w u (Drops x can) past clean = drops_keeps_spans w x can past.s
 step_keeps_spans w u (Deletes v x can) past clean = deletes_keeps_spans w v x can past.shelf (past.line clean) (past.spans clean)
 step_keeps_spans w u (Raises low can) past clean = raises_keeps_spans w low can past.shelf (past.line clean) (past.spans clean)
 step_keeps_spans w u (Fences v c can) past clean = fences_keeps_spans w v c can past.shelf (past.line clean) (past.spans clean)
-step_keeps_spans w u (Seals x text count server content can) past clean = seals_keeps_spans w x text count server content can past.shelf (past.line clean) (past.spans clean)
-step_keeps_spans w u (Restripes x text count server can) past clean = restripes_keeps_spans w x text count server can past.shelf (past.line clean) (past.spans clean)
+step_keeps_spans w u (Seals x text count server content can) past clean =
+    seals_keeps_spans w x text count server content can past.shelf (past.line clean) (past.spans clean)
+step_keeps_spans w u (Restripes x text count server can) past clean =
+    restripes_keeps_spans w x text count server can past.shelf (past.line clean) (past.spans clean)
 step_keeps_spans w u (Notes p can) past clean = notes_keeps_spans w p can past.shelf (past.line clean) (past.spans clean)
 step_keeps_spans w u (Settles can) past clean = settles_keeps_spans w can past.shelf (past.line clean) (past.spans clean)
 step_keeps_spans w u Crashes past clean = crashes_keeps_spans w past.shelf (past.line clean) (past.spans clean)
@@ -64,41 +67,56 @@ step_keeps_spans w u (Restarts can) past clean = absurd (omega arith)
 step_keeps_spans w u (Begins can) past clean = begins_keeps_spans w can past.shelf (past.line clean) (past.spans clean)
 step_keeps_spans w u (Picks_none list_of low can) past clean = picks_none_keeps_spans w list_of low can past.shelf (past.line clean) (past.spans clean)
 step_keeps_spans w u (Picks_kept list_of low x can) past clean = picks_kept_keeps_spans w list_of low x can past.shelf (past.line clean) (past.spans clean)
-step_keeps_spans w u (Picks_prior list_of low x i can) past clean = picks_prior_keeps_spans w list_of low x i can past.shelf (past.line clean) (past.spans clean)
+step_keeps_spans w u (Picks_prior list_of low x i can) past clean =
+    picks_prior_keeps_spans w list_of low x i can past.shelf (past.line clean) (past.spans clean)
 step_keeps_spans w u (Cuts low can) past clean = cuts_keeps_spans w low can past.shelf (past.line clean) (past.spans clean)
 step_keeps_spans w u (Opens x text count server can) past clean = opens_keeps_spans w x text count server can past.shelf (past.line clean) (past.spans clean)
 step_keeps_spans w u (Serves path lowest sure can) past clean =
     let was = served_clean w path lowest sure can clean in
-    serves_keeps_spans w path lowest sure can past.shelf (past.line was.0) (past.spans was.0) (opening_after w can.writing past.shelf (λ k. past.rising was.0 (was.1 k))) (λ k. past.rising was.0 (was.1 k))
+    serves_keeps_spans w path lowest sure can past.shelf (past.line was.0) (past.spans was.0)
+    (opening_after w can.writing past.shelf (λ k. past.rising was.0 (was.1 k))) (λ k. past.rising was.0 (was.1 k))
 
 step_keeps_rising : (w u : State) → Step w u → Invariant w → u.clean ≡ 1 → Undoubted u → Rising u
 step_keeps_rising w u (Loses v) past clean holds = loses_keeps_rising w v past.shelf (past.line clean) (past.spans clean) (past.rising clean) holds
 step_keeps_rising w u (Hears v g can) past clean holds = hears_keeps_rising w v g can past.shelf (past.line clean) (past.spans clean) (past.rising clean) holds
-step_keeps_rising w u (Learns map can) past clean holds = learns_keeps_rising w map can past.shelf (past.line clean) (past.spans clean) (past.rising clean) holds
+step_keeps_rising w u (Learns map can) past clean holds =
+    learns_keeps_rising w map can past.shelf (past.line clean) (past.spans clean) (past.rising clean) holds
 step_keeps_rising w u (Sends x i can) past clean holds = sends_keeps_rising w x i can past.shelf (past.line clean) (past.spans clean) (past.rising clean) holds
 step_keeps_rising w u (Accepts p can) past clean holds = accepts_keeps_rising w p can past.shelf (past.line clean) (past.spans clean) (past.rising clean) holds
-step_keeps_rising w u (Accepts_again p can) past clean holds = accepts_again_keeps_rising w p can past.shelf (past.line clean) (past.spans clean) (past.rising clean) holds
+step_keeps_rising w u (Accepts_again p can) past clean holds =
+    accepts_again_keeps_rising w p can past.shelf (past.line clean) (past.spans clean) (past.rising clean) holds
 step_keeps_rising w u (Tells v x can) past clean holds = tells_keeps_rising w v x can past.shelf (past.line clean) (past.spans clean) (past.rising clean) holds
-step_keeps_rising w u (Fills v i p can) past clean holds = fills_keeps_rising w v i p can past.shelf (past.line clean) (past.spans clean) (past.rising clean) holds
+step_keeps_rising w u (Fills v i p can) past clean holds =
+    fills_keeps_rising w v i p can past.shelf (past.line clean) (past.spans clean) (past.rising clean) holds
 step_keeps_rising w u (Drops x can) past clean holds = drops_keeps_rising w x can past.shelf (past.line clean) (past.spans clean) (past.rising clean) holds
-step_keeps_rising w u (Deletes v x can) past clean holds = deletes_keeps_rising w v x can past.shelf (past.line clean) (past.spans clean) (past.rising clean) holds
-step_keeps_rising w u (Raises low can) past clean holds = raises_keeps_rising w low can past.shelf (past.line clean) (past.spans clean) (past.rising clean) holds
-step_keeps_rising w u (Fences v c can) past clean holds = fences_keeps_rising w v c can past.shelf (past.line clean) (past.spans clean) (past.rising clean) holds
-step_keeps_rising w u (Seals x text count server content can) past clean holds = seals_keeps_rising w x text count server content can past.shelf (past.line clean) (past.spans clean) (past.rising clean) holds
-step_keeps_rising w u (Restripes x text count server can) past clean holds = restripes_keeps_rising w x text count server can past.shelf (past.line clean) (past.spans clean) (past.rising clean) holds
+step_keeps_rising w u (Deletes v x can) past clean holds =
+    deletes_keeps_rising w v x can past.shelf (past.line clean) (past.spans clean) (past.rising clean) holds
+step_keeps_rising w u (Raises low can) past clean holds =
+    raises_keeps_rising w low can past.shelf (past.line clean) (past.spans clean) (past.rising clean) holds
+step_keeps_rising w u (Fences v c can) past clean holds =
+    fences_keeps_rising w v c can past.shelf (past.line clean) (past.spans clean) (past.rising clean) holds
+step_keeps_rising w u (Seals x text count server content can) past clean holds =
+    seals_keeps_rising w x text count server content can past.shelf (past.line clean) (past.spans clean) (past.rising clean) holds
+step_keeps_rising w u (Restripes x text count server can) past clean holds =
+    restripes_keeps_rising w x text count server can past.shelf (past.line clean) (past.spans clean) (past.rising clean) holds
 step_keeps_rising w u (Notes p can) past clean holds = notes_keeps_rising w p can past.shelf (past.line clean) (past.spans clean) (past.rising clean) holds
 step_keeps_rising w u (Settles can) past clean holds = settles_keeps_rising w can past.shelf (past.line clean) (past.spans clean) (past.rising clean) holds
 step_keeps_rising w u Crashes past clean holds = crashes_keeps_rising w past.shelf (past.line clean) (past.spans clean) (past.rising clean) holds
 step_keeps_rising w u (Restarts can) past clean holds = absurd (omega arith)
 step_keeps_rising w u (Begins can) past clean holds = begins_keeps_rising w can past.shelf (past.line clean) (past.spans clean) (past.rising clean) holds
-step_keeps_rising w u (Picks_none list_of low can) past clean holds = picks_none_keeps_rising w list_of low can past.shelf (past.line clean) (past.spans clean) (past.rising clean) holds
-step_keeps_rising w u (Picks_kept list_of low x can) past clean holds = picks_kept_keeps_rising w list_of low x can past.shelf (past.line clean) (past.spans clean) (past.rising clean) holds
-step_keeps_rising w u (Picks_prior list_of low x i can) past clean holds = picks_prior_keeps_rising w list_of low x i can past.shelf (past.line clean) (past.spans clean) (past.rising clean) holds
+step_keeps_rising w u (Picks_none list_of low can) past clean holds =
+    picks_none_keeps_rising w list_of low can past.shelf (past.line clean) (past.spans clean) (past.rising clean) holds
+step_keeps_rising w u (Picks_kept list_of low x can) past clean holds =
+    picks_kept_keeps_rising w list_of low x can past.shelf (past.line clean) (past.spans clean) (past.rising clean) holds
+step_keeps_rising w u (Picks_prior list_of low x i can) past clean holds =
+    picks_prior_keeps_rising w list_of low x i can past.shelf (past.line clean) (past.spans clean) (past.rising clean) holds
 step_keeps_rising w u (Cuts low can) past clean holds = cuts_keeps_rising w low can past.shelf (past.line clean) (past.spans clean) (past.rising clean) holds
-step_keeps_rising w u (Opens x text count server can) past clean holds = opens_keeps_rising w x text count server can past.shelf (past.line clean) (past.spans clean) (past.rising clean) holds
+step_keeps_rising w u (Opens x text count server can) past clean holds =
+    opens_keeps_rising w x text count server can past.shelf (past.line clean) (past.spans clean) (past.rising clean) holds
 step_keeps_rising w u (Serves path lowest sure can) past clean holds =
     let was = served_clean w path lowest sure can clean in
-    serves_keeps_rising w path lowest sure can past.shelf (past.line was.0) (opening_after w can.writing past.shelf (λ k. past.rising was.0 (was.1 k))) (λ k. past.rising was.0 (was.1 k))
+    serves_keeps_rising w path lowest sure can past.shelf (past.line was.0) (opening_after w can.writing past.shelf (λ k. past.rising was.0 (was.1 k)))
+    (λ k. past.rising was.0 (was.1 k))
 
 pub step_keeps : (w u : State) → Step w u → Invariant w → Invariant u
 step_keeps w u step i = record {
@@ -108,7 +126,8 @@ step_keeps w u step i = record {
   rising = step_keeps_rising w u step i;
 }
 
-new_log_invariant : (servers : ℕ) (seq_of incarnation_of attempt_of : ℕ → ℕ) → Names seq_of incarnation_of attempt_of → Invariant (new_log servers seq_of incarnation_of attempt_of)
+new_log_invariant : (servers : ℕ) (seq_of incarnation_of attempt_of : ℕ → ℕ) → Names seq_of incarnation_of attempt_of
+    → Invariant (new_log servers seq_of incarnation_of attempt_of)
 new_log_invariant servers seq_of incarnation_of attempt_of names = record {
   shelf = new_log_shelf servers seq_of incarnation_of attempt_of names;
   line = λ clean. new_log_line servers seq_of incarnation_of attempt_of names;
@@ -121,4 +140,6 @@ run_keeps w u Done i = i
 run_keeps w u (More {v = v} run step) i = step_keeps v u step (run_keeps w v run i)
 
 pub always : (w : State) → Reached w → Invariant w
-always w reached = run_keeps (new_log w.servers w.seq_of w.incarnation_of w.attempt_of) w reached.run (new_log_invariant w.servers w.seq_of w.incarnation_of w.attempt_of reached.names)
+always w reached =
+    run_keeps (new_log w.servers w.seq_of w.incarnation_of w.attempt_of) w reached.run
+    (new_log_invariant w.servers w.seq_of w.incarnation_of w.attempt_of reached.names)

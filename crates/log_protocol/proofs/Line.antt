@@ -79,12 +79,14 @@ raises_keeps_line w low can clean shelf line = let filed = can.filed clean in gr
 pub fences_keeps_line : (w : State) (v c : ℕ) → CanFence w c → ShelfInvariant w → Line w → Line (fences w v c)
 fences_keeps_line w v c can shelf line = grind (arith, nat_tests)
 
-pub seals_keeps_line : (w : State) (x text count : ℕ) (server : ℕ → ℕ) (content : ℕ) → CanSeal w x count server → ShelfInvariant w → Line w → Line (seals w x text count server content)
+pub seals_keeps_line : (w : State) (x text count : ℕ) (server : ℕ → ℕ) (content : ℕ) → CanSeal w x count server → ShelfInvariant w → Line w
+    → Line (seals w x text count server content)
 seals_keeps_line w x text count server content can shelf line =
     let new : w.booked x ≡ 1 → ⊥ = new_seal w x count server can shelf.boots in
     grind (arith, nat_tests)
 
-pub restripes_keeps_line : (w : State) (x text count : ℕ) (server : ℕ → ℕ) → CanRestripe w x count server → ShelfInvariant w → Line w → Line (restripes w x text count server)
+pub restripes_keeps_line : (w : State) (x text count : ℕ) (server : ℕ → ℕ) → CanRestripe w x count server → ShelfInvariant w → Line w
+    → Line (restripes w x text count server)
 restripes_keeps_line w x text count server can shelf line =
     let new : w.booked x ≡ 1 → ⊥ = new_restripe w x count server can shelf.boots in
     grind (arith, nat_tests)
@@ -104,17 +106,21 @@ begins_keeps_line w can shelf line = grind (arith, nat_tests)
 pub picks_none_keeps_line : (w : State) (list_of : ℕ → FencedPacket) (low : ℕ) → CanPickNone w list_of low → ShelfInvariant w → Line w → Line (picks_none w low)
 picks_none_keeps_line w list_of low can shelf line = grind (arith, nat_tests)
 
-pub picks_kept_keeps_line : (w : State) (list_of : ℕ → FencedPacket) (low x : ℕ) → CanPickKept w list_of low x → ShelfInvariant w → Line w → Line (picks_kept w low x)
+pub picks_kept_keeps_line : (w : State) (list_of : ℕ → FencedPacket) (low x : ℕ) → CanPickKept w list_of low x → ShelfInvariant w → Line w
+    → Line (picks_kept w low x)
 picks_kept_keeps_line w list_of low x can shelf line = grind (arith, nat_tests)
 
-pub picks_prior_keeps_line : (w : State) (list_of : ℕ → FencedPacket) (low x i : ℕ) → CanPickPrior w list_of low x i → ShelfInvariant w → Line w → Line (picks_prior w low x)
+pub picks_prior_keeps_line : (w : State) (list_of : ℕ → FencedPacket) (low x i : ℕ) → CanPickPrior w list_of low x i → ShelfInvariant w → Line w
+    → Line (picks_prior w low x)
 picks_prior_keeps_line w list_of low x i can shelf line = grind (arith, nat_tests)
 
 pub cuts_keeps_line : (w : State) (low : ℕ) → CanCut w low → ShelfInvariant w → Line w → Line (cuts w low)
 cuts_keeps_line w low can shelf line = grind (arith, nat_tests)
 
-pub opens_keeps_line : (w : State) (x text count : ℕ) (server : ℕ → ℕ) → CanOpen w x count server → ShelfInvariant w → Line w → Line (opens w x text count server)
+pub opens_keeps_line : (w : State) (x text count : ℕ) (server : ℕ → ℕ) → CanOpen w x count server → ShelfInvariant w → Line w
+    → Line (opens w x text count server)
 opens_keeps_line w x text count server can shelf line = grind (arith, nat_tests)
 
-pub new_log_line : (servers : ℕ) (seq_of incarnation_of attempt_of : ℕ → ℕ) → Names seq_of incarnation_of attempt_of → Line (new_log servers seq_of incarnation_of attempt_of)
+pub new_log_line : (servers : ℕ) (seq_of incarnation_of attempt_of : ℕ → ℕ) → Names seq_of incarnation_of attempt_of
+    → Line (new_log servers seq_of incarnation_of attempt_of)
 new_log_line servers seq_of incarnation_of attempt_of names = grind (arith, nat_tests)

@@ -21,7 +21,8 @@ pub record Lists (w : State) : Type 0 where
   -- a listed name is booked
   pub listed_booked : (p : FencedPacket) (x : ℕ) → In p w.fenceds → p.listed x ≡ 1 → w.booked x ≡ 1
   -- a group of an earlier boot than the Fenced's names no later generation of its sender
-  pub older_known : (p : FencedPacket) (x j : ℕ) → In p w.fenceds → w.booked x ≡ 1 → w.incarnation_of x < p.incarnation → j < w.member_count x → w.member_server x j ≡ p.from → w.member_generation x j ≤ p.generation
+  pub older_known : (p : FencedPacket) (x j : ℕ) → In p w.fenceds → w.booked x ≡ 1 → w.incarnation_of x < p.incarnation → j < w.member_count x
+      → w.member_server x j ≡ p.from → w.member_generation x j ≤ p.generation
   -- a Fenced is for a boot that has begun
   pub fenced_boot : (p : FencedPacket) → In p w.fenceds → p.incarnation ≤ w.incarnation
   -- and its horizon was the least one of its moment
@@ -47,7 +48,8 @@ fences_keeps_lists w v c can generations texts lists = record {
   fenced_low = λ p k0. grind (arith, nat_tests, lists.fenced_low p);
 }
 
-seals_keeps_lists : (w : State) (x text count : ℕ) (server : ℕ → ℕ) (content : ℕ) → CanSeal w x count server → Generations w → Texts w → Lists w → Lists (seals w x text count server content)
+seals_keeps_lists : (w : State) (x text count : ℕ) (server : ℕ → ℕ) (content : ℕ) → CanSeal w x count server → Generations w → Texts w → Lists w
+    → Lists (seals w x text count server content)
 seals_keeps_lists w x text count server content can generations texts lists = record {
   list_flag = λ p x k0. grind (arith, nat_tests, lists.list_flag p x);
   listed_held = λ p x k0 k1 k2 k3. grind (arith, nat_tests, lists.listed_held p x);
@@ -57,7 +59,8 @@ seals_keeps_lists w x text count server content can generations texts lists = re
   fenced_low = λ p k0. grind (arith, nat_tests, lists.fenced_low p);
 }
 
-restripes_keeps_lists : (w : State) (x text count : ℕ) (server : ℕ → ℕ) → CanRestripe w x count server → Generations w → Texts w → Lists w → Lists (restripes w x text count server)
+restripes_keeps_lists : (w : State) (x text count : ℕ) (server : ℕ → ℕ) → CanRestripe w x count server → Generations w → Texts w → Lists w
+    → Lists (restripes w x text count server)
 restripes_keeps_lists w x text count server can generations texts lists = record {
   list_flag = λ p x k0. grind (arith, nat_tests, lists.list_flag p x);
   listed_held = λ p x k0 k1 k2 k3. grind (arith, nat_tests, lists.listed_held p x);
@@ -87,7 +90,8 @@ begins_keeps_lists w can generations texts lists = record {
   fenced_low = λ p k0. grind (arith, nat_tests, lists.fenced_low p);
 }
 
-opens_keeps_lists : (w : State) (x text count : ℕ) (server : ℕ → ℕ) → CanOpen w x count server → Generations w → Texts w → Lists w → Lists (opens w x text count server)
+opens_keeps_lists : (w : State) (x text count : ℕ) (server : ℕ → ℕ) → CanOpen w x count server → Generations w → Texts w → Lists w
+    → Lists (opens w x text count server)
 opens_keeps_lists w x text count server can generations texts lists = record {
   list_flag = λ p x k0. grind (arith, nat_tests, lists.list_flag p x);
   listed_held = λ p x k0 k1 k2 k3. grind (arith, nat_tests, lists.listed_held p x);
@@ -110,7 +114,8 @@ step_keeps_lists w u (Drops x can) generations texts lists = grind (arith, nat_t
 step_keeps_lists w u (Deletes v x can) generations texts lists = grind (arith, nat_tests)
 step_keeps_lists w u (Raises low can) generations texts lists = raises_keeps_lists w low can generations texts lists
 step_keeps_lists w u (Fences v c can) generations texts lists = fences_keeps_lists w v c can generations texts lists
-step_keeps_lists w u (Seals x text count server content can) generations texts lists = seals_keeps_lists w x text count server content can generations texts lists
+step_keeps_lists w u (Seals x text count server content can) generations texts lists =
+    seals_keeps_lists w x text count server content can generations texts lists
 step_keeps_lists w u (Restripes x text count server can) generations texts lists = restripes_keeps_lists w x text count server can generations texts lists
 step_keeps_lists w u (Notes p can) generations texts lists = grind (arith, nat_tests)
 step_keeps_lists w u (Settles can) generations texts lists = grind (arith, nat_tests)

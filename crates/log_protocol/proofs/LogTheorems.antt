@@ -11,12 +11,17 @@ logs_whole_always w reached x j filed kept member =
     let i = always w reached in
     held_or (w.holds (w.member_server x j) x) refl (i.shelf.texts.held_flag (w.member_server x j) x) i
   where
-    held_or : (h : ℕ) → w.holds (w.member_server x j) x ≡ h → w.holds (w.member_server x j) x ≤ 1 → Invariant w → ((w.holds (w.member_server x j) x ≡ 1) × (w.kept_index (w.member_server x j) x ≡ j)) ⊎ (w.member_generation x j < w.generation (w.member_server x j))
+    held_or : (h : ℕ) → w.holds (w.member_server x j) x ≡ h → w.holds (w.member_server x j) x ≤ 1 → Invariant w
+        → ((w.holds (w.member_server x j) x ≡ 1) × (w.kept_index (w.member_server x j) x ≡ j)) ⊎ (w.member_generation x j < w.generation (w.member_server x j))
     held_or zero e flag i = inr (i.shelf.secured.secured_held x j (i.shelf.filed.filed_secured x j filed) kept member e)
     held_or (suc h) e flag i =
         let one : w.holds (w.member_server x j) x ≡ 1 = omega arith in
         let t = i.shelf.texts in
-        inl (one, t.distinct x (w.kept_index (w.member_server x j) x) j (i.shelf.filed.filed_booked x filed) (t.held_index (w.member_server x j) x one) member (t.held_member (w.member_server x j) x one))
+        inl (
+          one,
+          t.distinct x (w.kept_index (w.member_server x j) x) j (i.shelf.filed.filed_booked x filed) (t.held_index (w.member_server x j) x one) member
+              (t.held_member (w.member_server x j) x one),
+        )
 
 pub one_text_always : (w : State) → Reached w → OneText w
 one_text_always w reached = let t = (always w reached).shelf.texts in record { held = t.held_text; stored = t.store_text; told = t.fragment_text }
@@ -34,7 +39,8 @@ pub adopts_one_always : (w : State) → Reached w → w.clean ≡ 1 → AdoptsOn
 adopts_one_always w reached clean path lowest q writing read beyond below some =
     let i = always w reached in
     let chain : Chain w path lowest = chain_read w path lowest writing i.shelf.horizons i.shelf.priors read in
-    let above : lowest ≤ q = (let c = read.cut in let l = (i.line clean).low_head in let m = i.shelf.horizons.read_past (omega arith) (omega arith) in omega arith) in
+    let above : lowest ≤ q =
+    (let c = read.cut in let l = (i.line clean).low_head in let m = i.shelf.horizons.read_past (omega arith) (omega arith) in omega arith) in
     let booked = chain.booked q above below in
     let e = chain.seq q above below in
     let boot = (i.spans clean).content_head (path q) booked (omega arith) some in
@@ -43,7 +49,8 @@ adopts_one_always w reached clean path lowest q writing read beyond below some =
     record {
       next = one;
       boot = boot;
-      content = i.shelf.contents.one_content (path q) booked ∙ (ap (λ z. w.content_at z (w.incarnation_of (path q))) (e ∙ one) ∙ ap (w.content_at (suc w.head)) boot);
+      content = i.shelf.contents.one_content (path q) booked
+          ∙ (ap (λ z. w.content_at z (w.incarnation_of (path q))) (e ∙ one) ∙ ap (w.content_at (suc w.head)) boot);
     }
 
 pub feed_whole_always : (w : State) → Reached w → w.clean ≡ 1 → w.phase ≡ 4 → FeedWhole w

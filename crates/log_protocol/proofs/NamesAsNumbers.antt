@@ -11,7 +11,8 @@ quotient_and_rest base x y some q r = sym (whole x) ∙ (ap (λ z. base * z + x 
     whole z = omega arith
 
 pub numbers_name : (base : ℕ) → 0 < base → Names (code_seq base) (code_incarnation base) (code_attempt base)
-numbers_name base some = record { apart = λ x y s c a. quotient_and_rest base x y some (quotient_and_rest base (x / base) (y / base) some s c) a; none = zero_div }
+numbers_name base some =
+    record { apart = λ x y s c a. quotient_and_rest base x y some (quotient_and_rest base (x / base) (y / base) some s c) a; none = zero_div }
   where
     zero_div : (0 / base) / base ≡ 0
     zero_div = omega arith

@@ -9,7 +9,18 @@ pub new_seal : (w : State) (x count : ℕ) (server : ℕ → ℕ) → CanSeal w 
 new_seal w x count server can boots b = let a = boots.written_up_to_end x can.serving can.no_flight b can.own in let e = can.next in omega arith
 
 pub new_restripe : (w : State) (x count : ℕ) (server : ℕ → ℕ) → CanRestripe w x count server → Boots w → w.booked x ≡ 1 → ⊥
-new_restripe w x count server can boots b = grind (arith, can.same_seq, can.own, can.later, boots.written_attempt x, boots.opening_attempt x, boots.flight_phase can.flying, boots.flight_seq can.flying, boots.phase_rank)
+new_restripe w x count server can boots b =
+    grind (
+      arith,
+      can.same_seq,
+      can.own,
+      can.later,
+      boots.written_attempt x,
+      boots.opening_attempt x,
+      boots.flight_phase can.flying,
+      boots.flight_seq can.flying,
+      boots.phase_rank,
+    )
 
 pub new_opening : (w : State) (x count : ℕ) (server : ℕ → ℕ) → CanOpen w x count server → Boots w → w.booked x ≡ 1 → ⊥
 new_opening w x count server can boots b =

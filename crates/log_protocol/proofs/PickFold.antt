@@ -24,8 +24,19 @@ module _ (seq_of incarnation_of attempt_of : ℕ → ℕ) where
   not_above_on x y z p q = grind (arith, nat_tests)
 
   pub best_of_all : (x : ℕ) (ys : List ℕ) (y : ℕ) → (y ≡ x) ⊎ In y ys → NotAbove y (best seq_of incarnation_of attempt_of x ys)
-  best_of_all x [] y (inl e) = record { boot = (let f = ap incarnation_of e in omega arith); seq = λ k. (let f = ap seq_of e in omega arith); attempt = λ k k1. (let f = ap attempt_of e in omega arith) }
+  best_of_all x [] y (inl e) =
+      record {
+        boot = (let f = ap incarnation_of e in omega arith);
+        seq = λ k. (let f = ap seq_of e in omega arith);
+        attempt = λ k k1. (let f = ap attempt_of e in omega arith);
+      }
   best_of_all x [] y (inr e) = absurd e
-  best_of_all x (z ∷ zs) y (inl e) = not_above_on y (better seq_of incarnation_of attempt_of x z) (best seq_of incarnation_of attempt_of (better seq_of incarnation_of attempt_of x z) zs) (subst (λ u. NotAbove u (better seq_of incarnation_of attempt_of x z)) (sym e) (not_above_left x z)) (best_of_all (better seq_of incarnation_of attempt_of x z) zs (better seq_of incarnation_of attempt_of x z) (inl refl))
-  best_of_all x (z ∷ zs) y (inr (inl e)) = not_above_on y (better seq_of incarnation_of attempt_of x z) (best seq_of incarnation_of attempt_of (better seq_of incarnation_of attempt_of x z) zs) (subst (λ u. NotAbove u (better seq_of incarnation_of attempt_of x z)) (sym e) (not_above_right x z)) (best_of_all (better seq_of incarnation_of attempt_of x z) zs (better seq_of incarnation_of attempt_of x z) (inl refl))
+  best_of_all x (z ∷ zs) y (inl e) =
+      not_above_on y (better seq_of incarnation_of attempt_of x z) (best seq_of incarnation_of attempt_of (better seq_of incarnation_of attempt_of x z) zs)
+      (subst (λ u. NotAbove u (better seq_of incarnation_of attempt_of x z)) (sym e) (not_above_left x z))
+      (best_of_all (better seq_of incarnation_of attempt_of x z) zs (better seq_of incarnation_of attempt_of x z) (inl refl))
+  best_of_all x (z ∷ zs) y (inr (inl e)) =
+      not_above_on y (better seq_of incarnation_of attempt_of x z) (best seq_of incarnation_of attempt_of (better seq_of incarnation_of attempt_of x z) zs)
+      (subst (λ u. NotAbove u (better seq_of incarnation_of attempt_of x z)) (sym e) (not_above_right x z))
+      (best_of_all (better seq_of incarnation_of attempt_of x z) zs (better seq_of incarnation_of attempt_of x z) (inl refl))
   best_of_all x (z ∷ zs) y (inr (inr e)) = best_of_all (better seq_of incarnation_of attempt_of x z) zs y (inr e)

@@ -47,7 +47,8 @@ pub record Priors (w : State) : Type 0 where
   -- an opening without one has nothing to read back
   pub no_base : 2 ≤ w.phase → w.phase ≤ 3 → w.base ≡ 0 → w.opening_seq ≤ w.pick_low
 
-picks_kept_keeps_priors : (w : State) (list_of : ℕ → FencedPacket) (low x : ℕ) → CanPickKept w list_of low x → Names w.seq_of w.incarnation_of w.attempt_of → Boots w → Lists w → Horizons w → Secured w → Priors w → Priors (picks_kept w low x)
+picks_kept_keeps_priors : (w : State) (list_of : ℕ → FencedPacket) (low x : ℕ) → CanPickKept w list_of low x → Names w.seq_of w.incarnation_of w.attempt_of
+    → Boots w → Lists w → Horizons w → Secured w → Priors w → Priors (picks_kept w low x)
 picks_kept_keeps_priors w list_of low x can names boots lists horizons secured priors =
     let booked : w.booked x ≡ 1 = picked_booked w list_of low x can.gathered can.picked lists in
     let old = boots.no_name_yet x (let h = can.gathering in omega arith) (let h = can.gathering in omega arith) booked in
@@ -71,7 +72,8 @@ picks_kept_keeps_priors w list_of low x can names boots lists horizons secured p
       no_base = λ k0 k1 k2. grind (arith, nat_tests, priors.no_base);
     }
 
-picks_prior_keeps_priors : (w : State) (list_of : ℕ → FencedPacket) (low x i : ℕ) → CanPickPrior w list_of low x i → Names w.seq_of w.incarnation_of w.attempt_of → Boots w → Lists w → Horizons w → Secured w → Priors w → Priors (picks_prior w low x)
+picks_prior_keeps_priors : (w : State) (list_of : ℕ → FencedPacket) (low x i : ℕ) → CanPickPrior w list_of low x i
+    → Names w.seq_of w.incarnation_of w.attempt_of → Boots w → Lists w → Horizons w → Secured w → Priors w → Priors (picks_prior w low x)
 picks_prior_keeps_priors w list_of low x i can names boots lists horizons secured priors =
     let booked : w.booked x ≡ 1 = picked_booked w list_of low x can.gathered can.picked lists in
     let old = boots.no_name_yet x (let h = can.gathering in omega arith) (let h = can.gathering in omega arith) booked in
@@ -95,7 +97,8 @@ picks_prior_keeps_priors w list_of low x i can names boots lists horizons secure
       no_base = λ k0 k1 k2. grind (arith, nat_tests, priors.no_base);
     }
 
-pub step_keeps_priors : (w u : State) → Step w u → Names w.seq_of w.incarnation_of w.attempt_of → Boots w → Lists w → Horizons w → Secured w → Priors w → Priors u
+pub step_keeps_priors : (w u : State) → Step w u → Names w.seq_of w.incarnation_of w.attempt_of → Boots w → Lists w → Horizons w → Secured w → Priors w
+    → Priors u
 step_keeps_priors w u (Loses v) names boots lists horizons secured priors = grind (arith, nat_tests)
 step_keeps_priors w u (Hears v g can) names boots lists horizons secured priors = grind (arith, nat_tests)
 step_keeps_priors w u (Learns map can) names boots lists horizons secured priors = grind (arith, nat_tests)
@@ -116,8 +119,10 @@ step_keeps_priors w u Crashes names boots lists horizons secured priors = grind 
 step_keeps_priors w u (Restarts can) names boots lists horizons secured priors = grind (arith, nat_tests)
 step_keeps_priors w u (Begins can) names boots lists horizons secured priors = grind (arith, nat_tests)
 step_keeps_priors w u (Picks_none list_of low can) names boots lists horizons secured priors = grind (arith, nat_tests)
-step_keeps_priors w u (Picks_kept list_of low x can) names boots lists horizons secured priors = picks_kept_keeps_priors w list_of low x can names boots lists horizons secured priors
-step_keeps_priors w u (Picks_prior list_of low x i can) names boots lists horizons secured priors = picks_prior_keeps_priors w list_of low x i can names boots lists horizons secured priors
+step_keeps_priors w u (Picks_kept list_of low x can) names boots lists horizons secured priors =
+    picks_kept_keeps_priors w list_of low x can names boots lists horizons secured priors
+step_keeps_priors w u (Picks_prior list_of low x i can) names boots lists horizons secured priors =
+    picks_prior_keeps_priors w list_of low x i can names boots lists horizons secured priors
 step_keeps_priors w u (Cuts low can) names boots lists horizons secured priors = grind (arith, nat_tests)
 step_keeps_priors w u (Opens x text count server can) names boots lists horizons secured priors = grind (arith, nat_tests)
 step_keeps_priors w u (Serves path lowest sure can) names boots lists horizons secured priors = grind (arith, nat_tests)

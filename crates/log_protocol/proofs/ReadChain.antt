@@ -24,12 +24,19 @@ base_link w q writing priors above next =
     let a : 2 ≤ w.phase = omega arith in
     let b : w.phase ≤ 3 = omega arith in
     let some : 0 < w.base = grind (arith, priors.no_base a b) in
-    record { booked = priors.base_booked a b some; seq = let s = priors.base_seq a b some in omega arith; boot = priors.base_boot a b some; secured = λ j. priors.base_secured j a b some }
+    record {
+      booked = priors.base_booked a b some;
+      seq = let s = priors.base_seq a b some in omega arith;
+      boot = priors.base_boot a b some;
+      secured = λ j. priors.base_secured j a b some;
+    }
 
 -- above the horizon a name of the chain has a prior, and was booked when the horizon was no later than now
-pub has_prior : (w : State) (x q : ℕ) → w.phase ≡ 3 → Horizons w → Priors w → w.pick_low ≤ q → Link w x (suc q) → (w.low_when_booked x ≤ w.pick_low) × (0 < w.prior_of x)
+pub has_prior : (w : State) (x q : ℕ) → w.phase ≡ 3 → Horizons w → Priors w → w.pick_low ≤ q → Link w x (suc q)
+    → (w.low_when_booked x ≤ w.pick_low) × (0 < w.prior_of x)
 has_prior w x q writing horizons priors above link =
-    let low : w.low_when_booked x ≤ w.pick_low = (let c = horizons.low_before x link.booked link.boot in let d = horizons.pick_after (omega arith) (omega arith) in omega arith) in
+    let low : w.low_when_booked x ≤ w.pick_low =
+    (let c = horizons.low_before x link.booked link.boot in let d = horizons.pick_after (omega arith) (omega arith) in omega arith) in
     (low, grind (arith, priors.no_prior x link.booked, link.seq))
 
 pub prior_link : (w : State) (x q : ℕ) → w.phase ≡ 3 → Horizons w → Priors w → w.pick_low ≤ q → Link w x (suc q) → Link w (w.prior_of x) q
@@ -47,13 +54,24 @@ pub picked_above : (w : State) (path : ℕ → ℕ) (lowest q : ℕ) → ReadBac
 picked_above w path lowest q read above = let a = read.picked in omega arith
 
 -- down the chain, by how far q is below the opening segment
-pub link_at : (w : State) (path : ℕ → ℕ) (lowest : ℕ) → w.phase ≡ 3 → Horizons w → Priors w → ReadBack w path lowest → (below q : ℕ) → lowest ≤ q → suc (q + below) ≡ w.opening_seq → Link w (path q) q
-link_at w path lowest writing horizons priors read zero q above e = subst (λ x. Link w x q) (sym (read.last q above (omega arith))) (base_link w q writing priors (picked_above w path lowest q read above) (omega arith))
-link_at w path lowest writing horizons priors read (suc below) q above e = subst (λ x. Link w x q) (sym (read.back q above (omega arith))) (prior_link w (path (suc q)) q writing horizons priors (picked_above w path lowest q read above) (link_at w path lowest writing horizons priors read below (suc q) (omega arith) (omega arith)))
+pub link_at : (w : State) (path : ℕ → ℕ) (lowest : ℕ) → w.phase ≡ 3 → Horizons w → Priors w → ReadBack w path lowest → (below q : ℕ) → lowest ≤ q
+    → suc (q + below) ≡ w.opening_seq → Link w (path q) q
+link_at w path lowest writing horizons priors read zero q above e =
+    subst (λ x. Link w x q) (sym (read.last q above (omega arith))) (base_link w q writing priors (picked_above w path lowest q read above) (omega arith))
+link_at w path lowest writing horizons priors read (suc below) q above e =
+    subst (λ x. Link w x q) (sym (read.back q above (omega arith)))
+    (prior_link w (path (suc q)) q writing horizons priors (picked_above w path lowest q read above)
+    (link_at w path lowest writing horizons priors read below (suc q) (omega arith) (omega arith)))
 
 pub chain_read : (w : State) (path : ℕ → ℕ) (lowest : ℕ) → w.phase ≡ 3 → Horizons w → Priors w → ReadBack w path lowest → Chain w path lowest
 chain_read w path lowest writing horizons priors read =
-    record { booked = λ q a b. (at q a b).booked; seq = λ q a b. (at q a b).seq; boot = λ q a b. (at q a b).boot; secured = λ q j a b. (at q a b).secured j; prior = λ q a b. sym (read.back q a b) }
+    record {
+      booked = λ q a b. (at q a b).booked;
+      seq = λ q a b. (at q a b).seq;
+      boot = λ q a b. (at q a b).boot;
+      secured = λ q j a b. (at q a b).secured j;
+      prior = λ q a b. sym (read.back q a b);
+    }
   where
     at : (q : ℕ) → lowest ≤ q → q < w.opening_seq → Link w (path q) q
     at q a b = link_at w path lowest writing horizons priors read (w.opening_seq - suc q) q a (omega arith)

@@ -24,7 +24,8 @@ reached_step w u (Drops x can) reached = record { names = reached.names; run = M
 reached_step w u (Deletes v x can) reached = record { names = reached.names; run = More reached.run (Deletes v x can) }
 reached_step w u (Raises low can) reached = record { names = reached.names; run = More reached.run (Raises low can) }
 reached_step w u (Fences v c can) reached = record { names = reached.names; run = More reached.run (Fences v c can) }
-reached_step w u (Seals x text count server content can) reached = record { names = reached.names; run = More reached.run (Seals x text count server content can) }
+reached_step w u (Seals x text count server content can) reached =
+    record { names = reached.names; run = More reached.run (Seals x text count server content can) }
 reached_step w u (Restripes x text count server can) reached = record { names = reached.names; run = More reached.run (Restripes x text count server can) }
 reached_step w u (Notes p can) reached = record { names = reached.names; run = More reached.run (Notes p can) }
 reached_step w u (Settles can) reached = record { names = reached.names; run = More reached.run (Settles can) }

@@ -20,13 +20,15 @@ pub record Secured (w : State) : Type 0 where
   -- what is secured is booked
   pub secured_booked : (x j : ℕ) → w.secured x j ≡ 1 → w.booked x ≡ 1
   -- a secured member that lacks its fragment is of a later generation
-  pub secured_held : (x j : ℕ) → w.secured x j ≡ 1 → w.dropped x ≡ 0 → j < w.member_count x → w.holds (w.member_server x j) x ≡ 0 → w.member_generation x j < w.generation (w.member_server x j)
+  pub secured_held : (x j : ℕ) → w.secured x j ≡ 1 → w.dropped x ≡ 0 → j < w.member_count x → w.holds (w.member_server x j) x ≡ 0
+      → w.member_generation x j < w.generation (w.member_server x j)
   -- a Stored secures its member
   pub stored_secured : (p : StoredPacket) → In p w.storeds → w.secured p.name p.index ≡ 1
   -- a noted member of the flight is secured
   pub noted_secured : (j : ℕ) → w.noted j ≡ 1 → 0 < w.flight → w.secured w.flight j ≡ 1
 
-picks_kept_keeps_secured : (w : State) (list_of : ℕ → FencedPacket) (low x : ℕ) → CanPickKept w list_of low x → Generations w → Boots w → Texts w → Lists w → Secured w → Secured (picks_kept w low x)
+picks_kept_keeps_secured : (w : State) (list_of : ℕ → FencedPacket) (low x : ℕ) → CanPickKept w list_of low x → Generations w → Boots w → Texts w → Lists w
+    → Secured w → Secured (picks_kept w low x)
 picks_kept_keeps_secured w list_of low x can generations boots texts lists secured =
     let booked : w.booked x ≡ 1 = picked_booked w list_of low x can.gathered can.picked lists in
     record {
@@ -58,7 +60,8 @@ step_keeps_secured w u Crashes generations boots texts lists secured = grind (ar
 step_keeps_secured w u (Restarts can) generations boots texts lists secured = grind (arith, nat_tests)
 step_keeps_secured w u (Begins can) generations boots texts lists secured = grind (arith, nat_tests)
 step_keeps_secured w u (Picks_none list_of low can) generations boots texts lists secured = grind (arith, nat_tests)
-step_keeps_secured w u (Picks_kept list_of low x can) generations boots texts lists secured = picks_kept_keeps_secured w list_of low x can generations boots texts lists secured
+step_keeps_secured w u (Picks_kept list_of low x can) generations boots texts lists secured =
+    picks_kept_keeps_secured w list_of low x can generations boots texts lists secured
 step_keeps_secured w u (Picks_prior list_of low x i can) generations boots texts lists secured = grind (arith, nat_tests)
 step_keeps_secured w u (Cuts low can) generations boots texts lists secured = grind (arith, nat_tests)
 step_keeps_secured w u (Opens x text count server can) generations boots texts lists secured = grind (arith, nat_tests)

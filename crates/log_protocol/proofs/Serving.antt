@@ -20,28 +20,52 @@ base_up w q writing rising above next =
     let a : 2 ≤ w.phase = omega arith in
     let b : w.phase ≤ 3 = omega arith in
     record {
-      on_line = λ k. let r = rising (omega arith) in let s = r.opening_above a b in let t : q ≡ w.head = omega arith in r.base_root a b (omega arith) (omega arith) ∙ ap w.line (sym t);
+      on_line = λ k. let r = rising (omega arith) in let s = r.opening_above a b in let t : q ≡ w.head =
+          omega arith in r.base_root a b (omega arith) (omega arith) ∙ ap w.line (sym t);
       beyond = λ k0 k1. (rising k1).base_up a b (omega arith) k1;
     }
 
-prior_up : (w : State) (x q : ℕ) → w.phase ≡ 3 → ShelfInvariant w → Line w → (w.pick_low ≤ w.head → Rising w) → w.pick_low ≤ q → Link w x (suc q) → Up w x (suc q) → Up w (w.prior_of x) q
+prior_up : (w : State) (x q : ℕ) → w.phase ≡ 3 → ShelfInvariant w → Line w → (w.pick_low ≤ w.head → Rising w) → w.pick_low ≤ q → Link w x (suc q)
+    → Up w x (suc q) → Up w (w.prior_of x) q
 prior_up w x q writing shelf line rising above link up =
     let low = (has_prior w x q writing shelf.horizons shelf.priors above link).0 in
     record {
-      on_line = λ k. let r = rising (omega arith) in grind (arith, line.line_prior q, line.next_prior x link.booked, r.root x link.booked, shelf.horizons.line_before (omega arith), shelf.horizons.pick_after (omega arith) (omega arith), shelf.boots.served_boot, link.seq, up.on_line, up.beyond);
+      on_line = λ k. let r =
+          rising (omega arith) in
+          grind (
+            arith,
+            line.line_prior q,
+            line.next_prior x link.booked,
+            r.root x link.booked,
+            shelf.horizons.line_before (omega arith),
+            shelf.horizons.pick_after (omega arith) (omega arith),
+            shelf.boots.served_boot,
+            link.seq,
+            up.on_line,
+            up.beyond,
+          );
       beyond = λ k0 k1. let r = rising k1 in grind (arith, r.root_up x link.booked, line.served_next x link.booked, link.seq, up.beyond);
     }
 
-up_at : (w : State) (path : ℕ → ℕ) (lowest : ℕ) → w.phase ≡ 3 → ShelfInvariant w → Line w → (w.pick_low ≤ w.head → Rising w) → ReadBack w path lowest → (below q : ℕ) → lowest ≤ q → suc (q + below) ≡ w.opening_seq → Up w (path q) q
-up_at w path lowest writing shelf line rising read zero q above e = subst (λ x. Up w x q) (sym (read.last q above (omega arith))) (base_up w q writing rising (picked_above w path lowest q read above) (omega arith))
-up_at w path lowest writing shelf line rising read (suc below) q above e = subst (λ x. Up w x q) (sym (read.back q above (omega arith))) (prior_up w (path (suc q)) q writing shelf line rising (picked_above w path lowest q read above) (link_at w path lowest writing shelf.horizons shelf.priors read below (suc q) (omega arith) (omega arith)) (up_at w path lowest writing shelf line rising read below (suc q) (omega arith) (omega arith)))
+up_at : (w : State) (path : ℕ → ℕ) (lowest : ℕ) → w.phase ≡ 3 → ShelfInvariant w → Line w → (w.pick_low ≤ w.head → Rising w) → ReadBack w path lowest
+    → (below q : ℕ) → lowest ≤ q → suc (q + below) ≡ w.opening_seq → Up w (path q) q
+up_at w path lowest writing shelf line rising read zero q above e =
+    subst (λ x. Up w x q) (sym (read.last q above (omega arith))) (base_up w q writing rising (picked_above w path lowest q read above) (omega arith))
+up_at w path lowest writing shelf line rising read (suc below) q above e =
+    subst (λ x. Up w x q) (sym (read.back q above (omega arith)))
+    (prior_up w (path (suc q)) q writing shelf line rising (picked_above w path lowest q read above)
+    (link_at w path lowest writing shelf.horizons shelf.priors read below (suc q) (omega arith) (omega arith))
+    (up_at w path lowest writing shelf line rising read below (suc q) (omega arith) (omega arith)))
 
 -- what was read back is the line as far as the head
-pub chain_on_line : (w : State) (path : ℕ → ℕ) (lowest : ℕ) → w.phase ≡ 3 → ShelfInvariant w → Line w → (w.pick_low ≤ w.head → Rising w) → ReadBack w path lowest → (q : ℕ) → lowest ≤ q → q < w.opening_seq → q ≤ w.head → path q ≡ w.line q
-chain_on_line w path lowest writing shelf line rising read q a b = (up_at w path lowest writing shelf line rising read (w.opening_seq - suc q) q a (omega arith)).on_line
+pub chain_on_line : (w : State) (path : ℕ → ℕ) (lowest : ℕ) → w.phase ≡ 3 → ShelfInvariant w → Line w → (w.pick_low ≤ w.head → Rising w)
+    → ReadBack w path lowest → (q : ℕ) → lowest ≤ q → q < w.opening_seq → q ≤ w.head → path q ≡ w.line q
+chain_on_line w path lowest writing shelf line rising read q a b =
+    (up_at w path lowest writing shelf line rising read (w.opening_seq - suc q) q a (omega arith)).on_line
 
 -- an opening that served and left the log clean was undoubted
-pub served_clean : (w : State) (path : ℕ → ℕ) (lowest sure : ℕ) → CanServe w path lowest sure → (serves w path lowest sure).clean ≡ 1 → (w.clean ≡ 1) × (w.pick_low ≤ w.head → Undoubted w)
+pub served_clean : (w : State) (path : ℕ → ℕ) (lowest sure : ℕ) → CanServe w path lowest sure → (serves w path lowest sure).clean ≡ 1
+    → (w.clean ≡ 1) × (w.pick_low ≤ w.head → Undoubted w)
 served_clean w path lowest sure can clean = go sure can.undoubted clean
   where
     go : (s : ℕ) → (s ≡ 1 → w.pick_low ≤ w.head → Undoubted w) → (serves w path lowest s).clean ≡ 1 → (w.clean ≡ 1) × (w.pick_low ≤ w.head → Undoubted w)
@@ -55,10 +79,14 @@ opening_after w writing shelf rising =
     grind (arith, seen, shelf.horizons.pick_beyond (omega arith) (omega arith))
 
 -- what is filed by then is on the new line
-filed_on_line : (w : State) (path : ℕ → ℕ) (lowest sure x : ℕ) → w.seq_of w.flight ≡ w.opening_seq → suc w.head ≤ w.opening_seq → (w.filed x ≡ 1 → w.line (w.seq_of x) ≡ x) → (w.filed x ≡ 1 → w.seq_of x ≤ w.head) → (lowest ≤ w.seq_of x → w.seq_of x < w.opening_seq → w.seq_of x ≤ w.head → path (w.seq_of x) ≡ w.line (w.seq_of x)) → (serves w path lowest sure).filed x ≡ 1 → (serves w path lowest sure).line (w.seq_of x) ≡ x
+filed_on_line : (w : State) (path : ℕ → ℕ) (lowest sure x : ℕ) → w.seq_of w.flight ≡ w.opening_seq → suc w.head ≤ w.opening_seq
+    → (w.filed x ≡ 1 → w.line (w.seq_of x) ≡ x) → (w.filed x ≡ 1 → w.seq_of x ≤ w.head)
+    → (lowest ≤ w.seq_of x → w.seq_of x < w.opening_seq → w.seq_of x ≤ w.head → path (w.seq_of x) ≡ w.line (w.seq_of x))
+    → (serves w path lowest sure).filed x ≡ 1 → (serves w path lowest sure).line (w.seq_of x) ≡ x
 filed_on_line w path lowest sure x seq above old_line old_head same filed = grind (arith, nat_tests)
 
-pub serves_keeps_line : (w : State) (path : ℕ → ℕ) (lowest sure : ℕ) → CanServe w path lowest sure → ShelfInvariant w → Line w → suc w.head ≤ w.opening_seq → (w.pick_low ≤ w.head → Rising w) → Line (serves w path lowest sure)
+pub serves_keeps_line : (w : State) (path : ℕ → ℕ) (lowest sure : ℕ) → CanServe w path lowest sure → ShelfInvariant w → Line w → suc w.head ≤ w.opening_seq
+    → (w.pick_low ≤ w.head → Rising w) → Line (serves w path lowest sure)
 serves_keeps_line w path lowest sure can shelf line after rising =
     let chain : Chain w path lowest = chain_read w path lowest can.writing shelf.horizons shelf.priors can.read in
     let lined = chain_on_line w path lowest can.writing shelf line rising can.read in
@@ -66,7 +94,10 @@ serves_keeps_line w path lowest sure can shelf line after rising =
     record {
       its_end = grind (arith, nat_tests, line.its_end);
       line_none = grind (arith, nat_tests, line.line_none);
-      filed_line = λ x k0. filed_on_line w path lowest sure x (let f = shelf.boots.opening_flight writing in shelf.boots.opening_seq_alone w.flight writing (shelf.boots.flight_booked f) (shelf.boots.flight_boot f)) after (line.filed_line x) (line.filed_head x) (lined (w.seq_of x)) k0;
+      filed_line = λ x k0. filed_on_line w path lowest sure x
+          (let f = shelf.boots.opening_flight writing in
+          shelf.boots.opening_seq_alone w.flight writing (shelf.boots.flight_booked f) (shelf.boots.flight_boot f)) after (line.filed_line x)
+          (line.filed_head x) (lined (w.seq_of x)) k0;
       filed_head = λ x k0. grind (arith, nat_tests, line.filed_head x);
       line_filed = λ q k0 k1. grind (arith, nat_tests, line.line_filed q);
       line_seq = λ q k0 k1. grind (arith, nat_tests, line.line_seq q);
@@ -81,7 +112,8 @@ serves_keeps_line w path lowest sure can shelf line after rising =
       feed_line = λ q k0 k1 k2. grind (arith, nat_tests, line.feed_line q);
     }
 
-pub serves_keeps_spans : (w : State) (path : ℕ → ℕ) (lowest sure : ℕ) → CanServe w path lowest sure → ShelfInvariant w → Line w → Spans w → suc w.head ≤ w.opening_seq → (w.pick_low ≤ w.head → Rising w) → Spans (serves w path lowest sure)
+pub serves_keeps_spans : (w : State) (path : ℕ → ℕ) (lowest sure : ℕ) → CanServe w path lowest sure → ShelfInvariant w → Line w → Spans w
+    → suc w.head ≤ w.opening_seq → (w.pick_low ≤ w.head → Rising w) → Spans (serves w path lowest sure)
 serves_keeps_spans w path lowest sure can shelf line spans after rising =
     let chain : Chain w path lowest = chain_read w path lowest can.writing shelf.horizons shelf.priors can.read in
     let lined = chain_on_line w path lowest can.writing shelf line rising can.read in
@@ -96,7 +128,8 @@ serves_keeps_spans w path lowest sure can shelf line spans after rising =
       content_head = λ x k0 k1 k2. grind (arith, nat_tests, spans.content_head x);
     }
 
-pub serves_keeps_rising : (w : State) (path : ℕ → ℕ) (lowest sure : ℕ) → CanServe w path lowest sure → ShelfInvariant w → Line w → suc w.head ≤ w.opening_seq → (w.pick_low ≤ w.head → Rising w) → Rising (serves w path lowest sure)
+pub serves_keeps_rising : (w : State) (path : ℕ → ℕ) (lowest sure : ℕ) → CanServe w path lowest sure → ShelfInvariant w → Line w → suc w.head ≤ w.opening_seq
+    → (w.pick_low ≤ w.head → Rising w) → Rising (serves w path lowest sure)
 serves_keeps_rising w path lowest sure can shelf line after rising =
     let chain : Chain w path lowest = chain_read w path lowest can.writing shelf.horizons shelf.priors can.read in
     let lined = chain_on_line w path lowest can.writing shelf line rising can.read in

@@ -40,7 +40,8 @@ step_keeps_shelf w u step shelf = record {
   filed = step_keeps_filed w u step shelf.boots shelf.horizons shelf.secured shelf.priors shelf.filed;
 }
 
-pub new_log_shelf : (servers : ℕ) (seq_of incarnation_of attempt_of : ℕ → ℕ) → Names seq_of incarnation_of attempt_of → ShelfInvariant (new_log servers seq_of incarnation_of attempt_of)
+pub new_log_shelf : (servers : ℕ) (seq_of incarnation_of attempt_of : ℕ → ℕ) → Names seq_of incarnation_of attempt_of
+    → ShelfInvariant (new_log servers seq_of incarnation_of attempt_of)
 new_log_shelf servers seq_of incarnation_of attempt_of names = record {
   names = names;
   generations = new_log_generations servers seq_of incarnation_of attempt_of;

@@ -14,13 +14,18 @@ use Rattle.log_protocol.proofs.NewNames.{new_seal, new_restripe}
 
 pub record Spans (w : State) : Type 0 where
   -- a member that lacks the head is hurt, unless the head is dropped
-  pub hurt_head : (j : ℕ) → 0 < w.head → w.dropped (w.line w.head) ≡ 0 → j < w.member_count (w.line w.head) → w.holds (w.member_server (w.line w.head) j) (w.line w.head) ≡ 0 → w.hurt j ≡ 1
+  pub hurt_head : (j : ℕ) → 0 < w.head → w.dropped (w.line w.head) ≡ 0 → j < w.member_count (w.line w.head)
+      → w.holds (w.member_server (w.line w.head) j) (w.line w.head) ≡ 0 → w.hurt j ≡ 1
   -- a member whose list for this opening lacks the head is hurt,
-  pub unlisted_hurt : (p : FencedPacket) (j : ℕ) → In p w.fenceds → p.incarnation ≡ w.incarnation → w.served < w.incarnation → 0 < w.head → p.low ≤ w.head → j < w.member_count (w.line w.head) → w.member_server (w.line w.head) j ≡ p.from → p.listed (w.line w.head) ≡ 0 → w.hurt j ≡ 1
+  pub unlisted_hurt : (p : FencedPacket) (j : ℕ) → In p w.fenceds → p.incarnation ≡ w.incarnation → w.served < w.incarnation → 0 < w.head → p.low ≤ w.head
+      → j < w.member_count (w.line w.head) → w.member_server (w.line w.head) j ≡ p.from → p.listed (w.line w.head) ≡ 0 → w.hurt j ≡ 1
   -- and says that it is of a later generation
-  pub unlisted_later : (p : FencedPacket) (j : ℕ) → In p w.fenceds → p.incarnation ≡ w.incarnation → w.served < w.incarnation → 0 < w.head → p.low ≤ w.head → j < w.member_count (w.line w.head) → w.member_server (w.line w.head) j ≡ p.from → p.listed (w.line w.head) ≡ 0 → w.member_generation (w.line w.head) j < p.generation
+  pub unlisted_later : (p : FencedPacket) (j : ℕ) → In p w.fenceds → p.incarnation ≡ w.incarnation → w.served < w.incarnation → 0 < w.head → p.low ≤ w.head
+      → j < w.member_count (w.line w.head) → w.member_server (w.line w.head) j ≡ p.from → p.listed (w.line w.head) ≡ 0
+      → w.member_generation (w.line w.head) j < p.generation
   -- a member of the head that is of the generation that its group names isn't hurt
-  pub original_unhurt : (j : ℕ) → 0 < w.head → j < w.member_count (w.line w.head) → w.member_generation (w.line w.head) j ≡ w.generation (w.member_server (w.line w.head) j) → w.hurt j ≡ 0
+  pub original_unhurt : (j : ℕ) → 0 < w.head → j < w.member_count (w.line w.head)
+      → w.member_generation (w.line w.head) j ≡ w.generation (w.member_server (w.line w.head) j) → w.hurt j ≡ 0
   -- where no opening segment was written since, no name is of a later boot than the last that served
   pub no_span : (x : ℕ) → w.spanning ≡ 0 → w.booked x ≡ 1 → w.incarnation_of x ≤ w.served
   -- a serving owner is in no span
@@ -34,8 +39,14 @@ record Lacking (w : State) (p : FencedPacket) (j : ℕ) : Type 0 where
   later : w.member_generation (w.line w.head) j < p.generation
 
 -- it holds of a list that was just sent: its sender lacks the head now
-fresh_list : (w : State) (v c : ℕ) (p : FencedPacket) (j : ℕ) → ShelfInvariant w → Line w → Spans w → In p (fences w v c).fenceds → p.incarnation ≡ w.incarnation → w.served < w.incarnation → 0 < w.head → p.low ≤ w.head → j < w.member_count (w.line w.head) → w.member_server (w.line w.head) j ≡ p.from → p.listed (w.line w.head) ≡ 0 → Lacking w p j
-fresh_list w v c p j shelf line spans (inr before) boot opening pos low member from lacks = record { hurt = spans.unlisted_hurt p j before boot opening pos low member from lacks; later = spans.unlisted_later p j before boot opening pos low member from lacks }
+fresh_list : (w : State) (v c : ℕ) (p : FencedPacket) (j : ℕ) → ShelfInvariant w → Line w → Spans w → In p (fences w v c).fenceds
+    → p.incarnation ≡ w.incarnation → w.served < w.incarnation → 0 < w.head → p.low ≤ w.head → j < w.member_count (w.line w.head)
+    → w.member_server (w.line w.head) j ≡ p.from → p.listed (w.line w.head) ≡ 0 → Lacking w p j
+fresh_list w v c p j shelf line spans (inr before) boot opening pos low member from lacks =
+    record {
+      hurt = spans.unlisted_hurt p j before boot opening pos low member from lacks;
+      later = spans.unlisted_later p j before boot opening pos low member from lacks;
+    }
 fresh_list w v c p j shelf line spans (inl e) boot opening pos low member from lacks =
     let x = w.line w.head in
     let e1 : p.from ≡ v = ap (λ (z : FencedPacket). z.from) e in
@@ -47,7 +58,8 @@ fresh_list w v c p j shelf line spans (inl e) boot opening pos low member from l
     let kept : w.dropped x ≡ 0 = grind (arith, shelf.horizons.dropped_below x) in
     record {
       hurt = spans.hurt_head j pos kept member none;
-      later = let g = shelf.secured.secured_held x j (shelf.filed.filed_secured x j (line.line_filed w.head pos (omega arith))) kept member none in let f = ap w.generation (from ∙ e1) in omega arith;
+      later = let g = shelf.secured.secured_held x j (shelf.filed.filed_secured x j (line.line_filed w.head pos (omega arith))) kept member none in let f =
+          ap w.generation (from ∙ e1) in omega arith;
     }
 
 pub loses_keeps_spans : (w : State) (v : ℕ) → ShelfInvariant w → Line w → Spans w → Spans (loses w v)
@@ -118,12 +130,14 @@ fences_keeps_spans w v c can shelf line spans = record {
   content_head = λ x k0 k1 k2. grind (arith, nat_tests, spans.content_head x);
 }
 
-pub seals_keeps_spans : (w : State) (x text count : ℕ) (server : ℕ → ℕ) (content : ℕ) → CanSeal w x count server → ShelfInvariant w → Line w → Spans w → Spans (seals w x text count server content)
+pub seals_keeps_spans : (w : State) (x text count : ℕ) (server : ℕ → ℕ) (content : ℕ) → CanSeal w x count server → ShelfInvariant w → Line w → Spans w
+    → Spans (seals w x text count server content)
 seals_keeps_spans w x text count server content can shelf line spans =
     let new : w.booked x ≡ 1 → ⊥ = new_seal w x count server can shelf.boots in
     grind (arith, nat_tests)
 
-pub restripes_keeps_spans : (w : State) (x text count : ℕ) (server : ℕ → ℕ) → CanRestripe w x count server → ShelfInvariant w → Line w → Spans w → Spans (restripes w x text count server)
+pub restripes_keeps_spans : (w : State) (x text count : ℕ) (server : ℕ → ℕ) → CanRestripe w x count server → ShelfInvariant w → Line w → Spans w
+    → Spans (restripes w x text count server)
 restripes_keeps_spans w x text count server can shelf line spans =
     let new : w.booked x ≡ 1 → ⊥ = new_restripe w x count server can shelf.boots in
     record {
@@ -131,7 +145,8 @@ restripes_keeps_spans w x text count server can shelf line spans =
       unlisted_hurt = λ p j k0 k1 k2 k3 k4 k5 k6 k7. grind (arith, nat_tests, spans.unlisted_hurt p j);
       unlisted_later = λ p j k0 k1 k2 k3 k4 k5 k6 k7. grind (arith, nat_tests, spans.unlisted_later p j);
       original_unhurt = λ j k0 k1 k2. grind (arith, nat_tests, spans.original_unhurt j);
-      no_span = λ y k0 k1. grind (arith, nat_tests, spans.no_span y, spans.no_span w.flight, shelf.boots.flight_boot can.flying, shelf.boots.flight_booked can.flying);
+      no_span = λ y k0 k1. grind
+          (arith, nat_tests, spans.no_span y, spans.no_span w.flight, shelf.boots.flight_boot can.flying, shelf.boots.flight_booked can.flying);
       no_span_serving = λ k0. grind (arith, nat_tests, spans.no_span_serving);
       content_head = λ y k0 k1 k2. grind (arith, nat_tests, spans.content_head y);
     }
@@ -156,19 +171,23 @@ begins_keeps_spans w can shelf line spans = record {
   content_head = λ x k0 k1 k2. grind (arith, nat_tests, spans.content_head x);
 }
 
-pub picks_none_keeps_spans : (w : State) (list_of : ℕ → FencedPacket) (low : ℕ) → CanPickNone w list_of low → ShelfInvariant w → Line w → Spans w → Spans (picks_none w low)
+pub picks_none_keeps_spans : (w : State) (list_of : ℕ → FencedPacket) (low : ℕ) → CanPickNone w list_of low → ShelfInvariant w → Line w → Spans w
+    → Spans (picks_none w low)
 picks_none_keeps_spans w list_of low can shelf line spans = grind (arith, nat_tests)
 
-pub picks_kept_keeps_spans : (w : State) (list_of : ℕ → FencedPacket) (low x : ℕ) → CanPickKept w list_of low x → ShelfInvariant w → Line w → Spans w → Spans (picks_kept w low x)
+pub picks_kept_keeps_spans : (w : State) (list_of : ℕ → FencedPacket) (low x : ℕ) → CanPickKept w list_of low x → ShelfInvariant w → Line w → Spans w
+    → Spans (picks_kept w low x)
 picks_kept_keeps_spans w list_of low x can shelf line spans = grind (arith, nat_tests)
 
-pub picks_prior_keeps_spans : (w : State) (list_of : ℕ → FencedPacket) (low x i : ℕ) → CanPickPrior w list_of low x i → ShelfInvariant w → Line w → Spans w → Spans (picks_prior w low x)
+pub picks_prior_keeps_spans : (w : State) (list_of : ℕ → FencedPacket) (low x i : ℕ) → CanPickPrior w list_of low x i → ShelfInvariant w → Line w → Spans w
+    → Spans (picks_prior w low x)
 picks_prior_keeps_spans w list_of low x i can shelf line spans = grind (arith, nat_tests)
 
 pub cuts_keeps_spans : (w : State) (low : ℕ) → CanCut w low → ShelfInvariant w → Line w → Spans w → Spans (cuts w low)
 cuts_keeps_spans w low can shelf line spans = grind (arith, nat_tests)
 
-pub opens_keeps_spans : (w : State) (x text count : ℕ) (server : ℕ → ℕ) → CanOpen w x count server → ShelfInvariant w → Line w → Spans w → Spans (opens w x text count server)
+pub opens_keeps_spans : (w : State) (x text count : ℕ) (server : ℕ → ℕ) → CanOpen w x count server → ShelfInvariant w → Line w → Spans w
+    → Spans (opens w x text count server)
 opens_keeps_spans w x text count server can shelf line spans = record {
   hurt_head = λ j k0 k1 k2 k3. grind (arith, nat_tests, spans.hurt_head j);
   unlisted_hurt = λ p j k0 k1 k2 k3 k4 k5 k6 k7. grind (arith, nat_tests, spans.unlisted_hurt p j);

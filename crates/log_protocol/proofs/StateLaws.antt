@@ -17,7 +17,9 @@ book_always w reached = let s = (always w reached).shelf in record {
   prior_booked = s.priors.prior_booked;
   prior_seq = s.priors.prior_seq;
   prior_boot = s.priors.prior_boot;
-  one_content = λ x y bx byy seq boot. s.contents.one_content x bx ∙ (ap (λ z. w.content_at z (w.incarnation_of x)) seq ∙ (ap (w.content_at (w.seq_of y)) boot ∙ sym (s.contents.one_content y byy)));
+  one_content =
+      λ x y bx byy seq boot. s.contents.one_content x bx
+      ∙ (ap (λ z. w.content_at z (w.incarnation_of x)) seq ∙ (ap (w.content_at (w.seq_of y)) boot ∙ sym (s.contents.one_content y byy)));
   filed_booked = s.filed.filed_booked;
   dropped_booked = λ x dropped. s.horizons.dropped_booked x (omega arith);
   dropped_below = λ x dropped. s.horizons.dropped_below x (omega arith);
@@ -56,7 +58,8 @@ owner_always w reached = let s = (always w reached).shelf in record {
   flight_prior = s.priors.flight_end;
   end_booked = s.priors.end_booked;
   opening_flight = s.boots.opening_flight;
-  opening_seq = λ writing. let flying = s.boots.opening_flight writing in s.boots.opening_seq_alone w.flight writing (s.boots.flight_booked flying) (s.boots.flight_boot flying);
+  opening_seq = λ writing. let flying =
+      s.boots.opening_flight writing in s.boots.opening_seq_alone w.flight writing (s.boots.flight_booked flying) (s.boots.flight_boot flying);
   opening_prior = s.priors.flight_base;
   opening_empty = s.contents.opening_empty;
   opening_some = s.priors.opening_some;

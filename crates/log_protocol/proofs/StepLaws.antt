@@ -21,7 +21,8 @@ names_new_always w reached = let b = (always w reached).shelf.boots in record {
 }
 
 -- a segment that was read is filed
-read_filed : (w : State) (path : ℕ → ℕ) (lowest sure q x : ℕ) → lowest ≤ q → q < w.opening_seq → w.seq_of x ≡ q → path q ≡ x → (serves w path lowest sure).filed x ≡ 1
+read_filed : (w : State) (path : ℕ → ℕ) (lowest sure q x : ℕ) → lowest ≤ q → q < w.opening_seq → w.seq_of x ≡ q → path q ≡ x
+    → (serves w path lowest sure).filed x ≡ 1
 read_filed w path lowest sure q x above below seq same = grind (arith, nat_tests)
 
 filed_before : (w : State) (path : ℕ → ℕ) (lowest sure x : ℕ) → w.filed x ≡ 1 → (serves w path lowest sure).filed x ≡ 1
@@ -30,7 +31,8 @@ filed_before w path lowest sure x filed = grind (arith, nat_tests)
 flight_filed : (w : State) (path : ℕ → ℕ) (lowest sure : ℕ) → (serves w path lowest sure).filed w.flight ≡ 1
 flight_filed w path lowest sure = grind (arith, nat_tests)
 
-no_more_filed : (w : State) (path : ℕ → ℕ) (lowest sure x : ℕ) → (serves w path lowest sure).filed x ≡ 1 → (w.filed x ≡ 1) ⊎ ((x ≡ w.flight) ⊎ ((lowest ≤ w.seq_of x) × (w.seq_of x < w.opening_seq) × (path (w.seq_of x) ≡ x)))
+no_more_filed : (w : State) (path : ℕ → ℕ) (lowest sure x : ℕ) → (serves w path lowest sure).filed x ≡ 1
+    → (w.filed x ≡ 1) ⊎ ((x ≡ w.flight) ⊎ ((lowest ≤ w.seq_of x) × (w.seq_of x < w.opening_seq) × (path (w.seq_of x) ≡ x)))
 no_more_filed w path lowest sure x filed = grind (arith, nat_tests)
 
 pub files_what_was_read_always : (w : State) (path : ℕ → ℕ) (lowest sure : ℕ) → Reached w → CanServe w path lowest sure → FilesWhatWasRead w path lowest sure
@@ -53,7 +55,8 @@ lost_hurt w v i span hurt = by (w.hurt i) refl
     by (suc h) e = inl (record { span = span; span_low = refl; head = refl; line = refl; hurt = omega arith })
 
 -- a Begin that goes on with a span leaves who was hurt; one that starts a span counts who lacks the head now
-begun_hurt : (w : State) (i : ℕ) → w.phase ≡ 0 → Invariant w → w.clean ≡ 1 → 0 < w.head → (begins w).span_low ≤ w.head → 0 < (begins w).hurt i → HurtBefore w (begins w) i ⊎ LacksHead (begins w) i
+begun_hurt : (w : State) (i : ℕ) → w.phase ≡ 0 → Invariant w → w.clean ≡ 1 → 0 < w.head → (begins w).span_low ≤ w.head → 0 < (begins w).hurt i
+    → HurtBefore w (begins w) i ⊎ LacksHead (begins w) i
 begun_hurt w i down inv clean some low hurt = by (w.spanning) refl
   where
     dropped_below : 0 < w.dropped (w.line w.head) → w.seq_of (w.line w.head) < w.low
@@ -64,11 +67,19 @@ begun_hurt w i down inv clean some low hurt = by (w.spanning) refl
 
     by : (n : ℕ) → w.spanning ≡ n → HurtBefore w (begins w) i ⊎ LacksHead (begins w) i
     by zero e = inr (record { lacks = grind (arith, nat_tests); kept = grind (arith, nat_tests) })
-    by (suc n) e = inl (record { span = record { not_serving = omega arith; begun = inr (omega arith) }; span_low = grind (arith, nat_tests); head = refl; line = refl; hurt = grind (arith, nat_tests) })
+    by (suc n) e =
+        inl (record {
+          span = record { not_serving = omega arith; begun = inr (omega arith) };
+          span_low = grind (arith, nat_tests);
+          head = refl;
+          line = refl;
+          hurt = grind (arith, nat_tests);
+        })
 
 -- an owner that falls in a span was in it before
 fell_in_span : (w : State) → Invariant w → w.clean ≡ 1 → 0 < w.spanning → InSpan w
-fell_in_span w inv clean on = record { not_serving = (let r = inv.shelf.boots.phase_rank in let s = (inv.spans clean).no_span_serving in grind (arith)); begun = inr on }
+fell_in_span w inv clean on =
+    record { not_serving = (let r = inv.shelf.boots.phase_rank in let s = (inv.spans clean).no_span_serving in grind (arith)); begun = inr on }
 
 -- so does one whose opening goes on
 opening_in_span : (w : State) → 0 < w.phase → w.phase < 4 → InSpan w
@@ -80,29 +91,68 @@ no_crash n (inr h) = h
 
 step_hurt : (w u : State) → Step w u → Invariant w → w.clean ≡ 1 → HurtEarned w u
 step_hurt w u (Loses v) inv clean = λ j span some low hurt. lost_hurt w v j (record { not_serving = span.not_serving; begun = span.begun }) hurt
-step_hurt w u (Hears v g can) inv clean = λ j span some low hurt. inl (record { span = record { not_serving = span.not_serving; begun = span.begun }; span_low = refl; head = refl; line = refl; hurt = hurt })
-step_hurt w u (Learns map can) inv clean = λ j span some low hurt. inl (record { span = record { not_serving = span.not_serving; begun = span.begun }; span_low = refl; head = refl; line = refl; hurt = hurt })
-step_hurt w u (Sends x i can) inv clean = λ j span some low hurt. inl (record { span = record { not_serving = span.not_serving; begun = span.begun }; span_low = refl; head = refl; line = refl; hurt = hurt })
-step_hurt w u (Accepts p can) inv clean = λ j span some low hurt. inl (record { span = record { not_serving = span.not_serving; begun = span.begun }; span_low = refl; head = refl; line = refl; hurt = hurt })
-step_hurt w u (Accepts_again p can) inv clean = λ j span some low hurt. inl (record { span = record { not_serving = span.not_serving; begun = span.begun }; span_low = refl; head = refl; line = refl; hurt = hurt })
-step_hurt w u (Tells v x can) inv clean = λ j span some low hurt. inl (record { span = record { not_serving = span.not_serving; begun = span.begun }; span_low = refl; head = refl; line = refl; hurt = hurt })
-step_hurt w u (Fills v i p can) inv clean = λ j span some low hurt. inl (record { span = record { not_serving = span.not_serving; begun = span.begun }; span_low = refl; head = refl; line = refl; hurt = hurt })
-step_hurt w u (Drops x can) inv clean = λ j span some low hurt. inl (record { span = record { not_serving = span.not_serving; begun = span.begun }; span_low = refl; head = refl; line = refl; hurt = hurt })
-step_hurt w u (Deletes v x can) inv clean = λ j span some low hurt. inl (record { span = record { not_serving = span.not_serving; begun = span.begun }; span_low = refl; head = refl; line = refl; hurt = hurt })
-step_hurt w u (Raises low can) inv clean = λ j span some within hurt. inl (record { span = record { not_serving = span.not_serving; begun = span.begun }; span_low = refl; head = refl; line = refl; hurt = hurt })
-step_hurt w u (Fences v c can) inv clean = λ j span some low hurt. inl (record { span = record { not_serving = span.not_serving; begun = span.begun }; span_low = refl; head = refl; line = refl; hurt = hurt })
-step_hurt w u (Seals x text count server content can) inv clean = λ j span some low hurt. absurd (let a = can.serving in let b = span.not_serving in omega arith)
-step_hurt w u (Restripes x text count server can) inv clean = λ j span some low hurt. inl (record { span = record { not_serving = span.not_serving; begun = span.begun }; span_low = refl; head = refl; line = refl; hurt = hurt })
-step_hurt w u (Notes p can) inv clean = λ j span some low hurt. inl (record { span = record { not_serving = span.not_serving; begun = span.begun }; span_low = refl; head = refl; line = refl; hurt = hurt })
+step_hurt w u (Hears v g can) inv clean =
+    λ j span some low hurt. inl
+    (record { span = record { not_serving = span.not_serving; begun = span.begun }; span_low = refl; head = refl; line = refl; hurt = hurt })
+step_hurt w u (Learns map can) inv clean =
+    λ j span some low hurt. inl
+    (record { span = record { not_serving = span.not_serving; begun = span.begun }; span_low = refl; head = refl; line = refl; hurt = hurt })
+step_hurt w u (Sends x i can) inv clean =
+    λ j span some low hurt. inl
+    (record { span = record { not_serving = span.not_serving; begun = span.begun }; span_low = refl; head = refl; line = refl; hurt = hurt })
+step_hurt w u (Accepts p can) inv clean =
+    λ j span some low hurt. inl
+    (record { span = record { not_serving = span.not_serving; begun = span.begun }; span_low = refl; head = refl; line = refl; hurt = hurt })
+step_hurt w u (Accepts_again p can) inv clean =
+    λ j span some low hurt. inl
+    (record { span = record { not_serving = span.not_serving; begun = span.begun }; span_low = refl; head = refl; line = refl; hurt = hurt })
+step_hurt w u (Tells v x can) inv clean =
+    λ j span some low hurt. inl
+    (record { span = record { not_serving = span.not_serving; begun = span.begun }; span_low = refl; head = refl; line = refl; hurt = hurt })
+step_hurt w u (Fills v i p can) inv clean =
+    λ j span some low hurt. inl
+    (record { span = record { not_serving = span.not_serving; begun = span.begun }; span_low = refl; head = refl; line = refl; hurt = hurt })
+step_hurt w u (Drops x can) inv clean =
+    λ j span some low hurt. inl
+    (record { span = record { not_serving = span.not_serving; begun = span.begun }; span_low = refl; head = refl; line = refl; hurt = hurt })
+step_hurt w u (Deletes v x can) inv clean =
+    λ j span some low hurt. inl
+    (record { span = record { not_serving = span.not_serving; begun = span.begun }; span_low = refl; head = refl; line = refl; hurt = hurt })
+step_hurt w u (Raises low can) inv clean =
+    λ j span some within hurt. inl
+    (record { span = record { not_serving = span.not_serving; begun = span.begun }; span_low = refl; head = refl; line = refl; hurt = hurt })
+step_hurt w u (Fences v c can) inv clean =
+    λ j span some low hurt. inl
+    (record { span = record { not_serving = span.not_serving; begun = span.begun }; span_low = refl; head = refl; line = refl; hurt = hurt })
+step_hurt w u (Seals x text count server content can) inv clean =
+    λ j span some low hurt. absurd (let a = can.serving in let b = span.not_serving in omega arith)
+step_hurt w u (Restripes x text count server can) inv clean =
+    λ j span some low hurt. inl
+    (record { span = record { not_serving = span.not_serving; begun = span.begun }; span_low = refl; head = refl; line = refl; hurt = hurt })
+step_hurt w u (Notes p can) inv clean =
+    λ j span some low hurt. inl
+    (record { span = record { not_serving = span.not_serving; begun = span.begun }; span_low = refl; head = refl; line = refl; hurt = hurt })
 step_hurt w u (Settles can) inv clean = λ j span some low hurt. absurd (let a = can.serving in let b = span.not_serving in omega arith)
-step_hurt w u Crashes inv clean = λ j span some low hurt. inl (record { span = fell_in_span w inv clean (no_crash w.spanning span.begun); span_low = refl; head = refl; line = refl; hurt = hurt })
+step_hurt w u Crashes inv clean =
+    λ j span some low hurt. inl
+    (record { span = fell_in_span w inv clean (no_crash w.spanning span.begun); span_low = refl; head = refl; line = refl; hurt = hurt })
 step_hurt w u (Restarts can) inv clean = λ j span some low hurt. absurd (let b = span.not_serving in omega arith)
 step_hurt w u (Begins can) inv clean = λ j span some low hurt. begun_hurt w j can.down inv clean some low hurt
-step_hurt w u (Picks_none list_of low can) inv clean = λ j span some within hurt. inl (record { span = (let g = can.gathering in opening_in_span w (omega arith) (omega arith)); span_low = refl; head = refl; line = refl; hurt = hurt })
-step_hurt w u (Picks_kept list_of low x can) inv clean = λ j span some within hurt. inl (record { span = (let g = can.gathering in opening_in_span w (omega arith) (omega arith)); span_low = refl; head = refl; line = refl; hurt = hurt })
-step_hurt w u (Picks_prior list_of low x i can) inv clean = λ j span some within hurt. inl (record { span = (let g = can.gathering in opening_in_span w (omega arith) (omega arith)); span_low = refl; head = refl; line = refl; hurt = hurt })
-step_hurt w u (Cuts low can) inv clean = λ j span some within hurt. inl (record { span = record { not_serving = span.not_serving; begun = span.begun }; span_low = refl; head = refl; line = refl; hurt = hurt })
-step_hurt w u (Opens x text count server can) inv clean = λ j span some low hurt. inl (record { span = (let g = can.reading in opening_in_span w (omega arith) (omega arith)); span_low = refl; head = refl; line = refl; hurt = hurt })
+step_hurt w u (Picks_none list_of low can) inv clean =
+    λ j span some within hurt. inl
+    (record { span = (let g = can.gathering in opening_in_span w (omega arith) (omega arith)); span_low = refl; head = refl; line = refl; hurt = hurt })
+step_hurt w u (Picks_kept list_of low x can) inv clean =
+    λ j span some within hurt. inl
+    (record { span = (let g = can.gathering in opening_in_span w (omega arith) (omega arith)); span_low = refl; head = refl; line = refl; hurt = hurt })
+step_hurt w u (Picks_prior list_of low x i can) inv clean =
+    λ j span some within hurt. inl
+    (record { span = (let g = can.gathering in opening_in_span w (omega arith) (omega arith)); span_low = refl; head = refl; line = refl; hurt = hurt })
+step_hurt w u (Cuts low can) inv clean =
+    λ j span some within hurt. inl
+    (record { span = record { not_serving = span.not_serving; begun = span.begun }; span_low = refl; head = refl; line = refl; hurt = hurt })
+step_hurt w u (Opens x text count server can) inv clean =
+    λ j span some low hurt. inl
+    (record { span = (let g = can.reading in opening_in_span w (omega arith) (omega arith)); span_low = refl; head = refl; line = refl; hurt = hurt })
 step_hurt w u (Serves path lowest sure can) inv clean = λ j span some low hurt. absurd (let b = span.not_serving in omega arith)
 
 pub hurt_earned_always : (w u : State) → Reached w → Step w u → w.clean ≡ 1 → HurtEarned w u

@@ -6,16 +6,25 @@ use Rattle.log_protocol.specs.LogRuns.{EveryStepTaken}
 use Rattle.log_protocol.specs.IndexRuns.{EveryIndexStepTaken}
 
 pub every_step_taken : EveryStepTaken
-every_step_taken Lose = inr (inr (inr (inr (inr (inr (inr (inr (inr (inr (inr (inr (inr (inr (inr (inr (inr (inr (inr (inr (inr (inr (inr (inr (inl refl))))))))))))))))))))))))
-every_step_taken Hear = inr (inr (inr (inr (inr (inr (inr (inr (inr (inr (inr (inr (inr (inr (inr (inr (inr (inr (inr (inr (inr (inr (inr (inr (inr (inl refl)))))))))))))))))))))))))
-every_step_taken Learn = inr (inr (inr (inr (inr (inr (inr (inr (inr (inr (inr (inr (inr (inr (inr (inr (inr (inr (inr (inr (inr (inr (inr (inr (inr (inr (inl refl))))))))))))))))))))))))))
+every_step_taken Lose =
+    inr (inr (inr (inr (inr (inr (inr (inr (inr (inr (inr (inr (inr (inr (inr (inr (inr (inr (inr (inr (inr (inr (inr (inr (inl refl))))))))))))))))))))))))
+every_step_taken Hear =
+    inr (inr (inr
+    (inr (inr (inr (inr (inr (inr (inr (inr (inr (inr (inr (inr (inr (inr (inr (inr (inr (inr (inr (inr (inr (inr (inl refl)))))))))))))))))))))))))
+every_step_taken Learn =
+    inr (inr (inr
+    (inr (inr (inr (inr (inr (inr (inr (inr (inr (inr (inr (inr (inr (inr (inr (inr (inr (inr (inr (inr (inr (inr (inr (inl refl))))))))))))))))))))))))))
 every_step_taken Send = inr (inl refl)
 every_step_taken Accept = inr (inr (inl refl))
 every_step_taken Accept_again = inr (inr (inr (inr (inr (inr (inr (inr (inr (inl refl)))))))))
-every_step_taken Tell = inr (inr (inr (inr (inr (inr (inr (inr (inr (inr (inr (inr (inr (inr (inr (inr (inr (inr (inr (inr (inr (inr (inr (inl refl)))))))))))))))))))))))
-every_step_taken Fill = inr (inr (inr (inr (inr (inr (inr (inr (inr (inr (inr (inr (inr (inr (inr (inr (inr (inr (inr (inr (inr (inr (inr (inr (inr (inr (inr (inl refl)))))))))))))))))))))))))))
+every_step_taken Tell =
+    inr (inr (inr (inr (inr (inr (inr (inr (inr (inr (inr (inr (inr (inr (inr (inr (inr (inr (inr (inr (inr (inr (inr (inl refl)))))))))))))))))))))))
+every_step_taken Fill =
+    inr (inr (inr
+    (inr (inr (inr (inr (inr (inr (inr (inr (inr (inr (inr (inr (inr (inr (inr (inr (inr (inr (inr (inr (inr (inr (inr (inr (inl refl)))))))))))))))))))))))))))
 every_step_taken Drop = inr (inr (inr (inr (inr (inr (inr (inr (inr (inr (inr (inr (inr (inr (inr (inr (inr (inr (inr (inr (inr (inl refl)))))))))))))))))))))
-every_step_taken Delete = inr (inr (inr (inr (inr (inr (inr (inr (inr (inr (inr (inr (inr (inr (inr (inr (inr (inr (inr (inr (inr (inr (inl refl))))))))))))))))))))))
+every_step_taken Delete =
+    inr (inr (inr (inr (inr (inr (inr (inr (inr (inr (inr (inr (inr (inr (inr (inr (inr (inr (inr (inr (inr (inr (inl refl))))))))))))))))))))))
 every_step_taken Raise = inr (inr (inr (inr (inr (inr (inr (inr (inr (inr (inr (inr (inr (inr (inl refl))))))))))))))
 every_step_taken Fence = inr (inr (inr (inr (inr (inr (inr (inr (inr (inr (inr (inr (inl refl))))))))))))
 every_step_taken Seal = inl refl
@@ -23,11 +32,41 @@ every_step_taken Restripe = inr (inr (inr (inr (inr (inr (inl refl))))))
 every_step_taken Note = inr (inr (inr (inl refl)))
 every_step_taken Settle = inr (inr (inr (inr (inl refl))))
 every_step_taken Crash = inr (inr (inr (inr (inr (inr (inr (inr (inr (inr (inl refl))))))))))
-every_step_taken Restart = inr (inr (inr (inr (inr (inr (inr (inr (inr (inr (inr (inr (inr (inr (inr (inr (inr (inr (inr (inr (inr (inr (inr (inr (inr (inr (inr (inr (inr (inr (inr (inr (inr (inr (inr (inr (inr (inr (inr (inr (inr (inr (inr (inr (inr (inr (inr (inl refl)))))))))))))))))))))))))))))))))))))))))))))))
+every_step_taken Restart =
+    inr (inr (inr
+    (inr (inr (inr
+    (inr (inr (inr
+    (inr (inr (inr
+    (inr (inr (inr
+    (inr (inr (inr
+    (inr (inr (inr
+    (inr (inr (inr
+    (inr (inr (inr
+    (inr (inr (inr (inr (inr (inr (inr (inr (inr (inr (inr (inr (inr (inr (inr (inr (inr (inr (inr (inr (inl refl)))))))))))))))))))))))))))))))))))))))))))))))
 every_step_taken Begin = inr (inr (inr (inr (inr (inr (inr (inr (inr (inr (inr (inl refl)))))))))))
-every_step_taken Pick_none = inr (inr (inr (inr (inr (inr (inr (inr (inr (inr (inr (inr (inr (inr (inr (inr (inr (inr (inr (inr (inr (inr (inr (inr (inr (inr (inr (inr (inr (inr (inr (inr (inr (inr (inr (inr (inr (inr (inr (inr (inr (inr (inr (inr (inr (inr (inr (inr (inr (inr (inr (inl refl)))))))))))))))))))))))))))))))))))))))))))))))))))
+every_step_taken Pick_none =
+    inr (inr (inr
+    (inr (inr (inr
+    (inr (inr (inr
+    (inr (inr (inr
+    (inr (inr (inr
+    (inr (inr (inr
+    (inr (inr (inr
+    (inr (inr (inr
+    (inr (inr (inr
+    (inr (inr (inr
+    (inr (inr (inr
+    (inr (inr (inr (inr (inr (inr (inr (inr (inr (inr (inr (inr (inr (inr (inr (inr (inr (inr (inl refl)))))))))))))))))))))))))))))))))))))))))))))))))))
 every_step_taken Pick_kept = inr (inr (inr (inr (inr (inr (inr (inr (inr (inr (inr (inr (inr (inl refl)))))))))))))
-every_step_taken Pick_prior = inr (inr (inr (inr (inr (inr (inr (inr (inr (inr (inr (inr (inr (inr (inr (inr (inr (inr (inr (inr (inr (inr (inr (inr (inr (inr (inr (inr (inr (inr (inr (inr (inr (inr (inr (inr (inr (inr (inr (inr (inl refl))))))))))))))))))))))))))))))))))))))))
+every_step_taken Pick_prior =
+    inr (inr (inr
+    (inr (inr (inr
+    (inr (inr (inr
+    (inr (inr (inr
+    (inr (inr (inr
+    (inr (inr (inr
+    (inr (inr (inr
+    (inr (inr (inr (inr (inr (inr (inr (inr (inr (inr (inr (inr (inr (inr (inr (inr (inr (inr (inr (inl refl))))))))))))))))))))))))))))))))))))))))
 every_step_taken Cut = inr (inr (inr (inr (inr (inr (inr (inr (inr (inr (inr (inr (inr (inr (inr (inl refl)))))))))))))))
 every_step_taken Open = inr (inr (inr (inr (inr (inr (inr (inr (inr (inr (inr (inr (inr (inr (inr (inr (inl refl))))))))))))))))
 every_step_taken Serve = inr (inr (inr (inr (inr (inr (inr (inr (inr (inr (inr (inr (inr (inr (inr (inr (inr (inr (inr (inr (inl refl))))))))))))))))))))

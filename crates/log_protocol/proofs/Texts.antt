@@ -46,12 +46,14 @@ pub record Texts (w : State) : Type 0 where
   -- holding is a flag
   pub held_flag : (v x : ℕ) → w.holds v x ≤ 1
 
-seals_keeps_texts : (w : State) (x text count : ℕ) (server : ℕ → ℕ) (content : ℕ) → CanSeal w x count server → Boots w → Texts w → Texts (seals w x text count server content)
+seals_keeps_texts : (w : State) (x text count : ℕ) (server : ℕ → ℕ) (content : ℕ) → CanSeal w x count server → Boots w → Texts w
+    → Texts (seals w x text count server content)
 seals_keeps_texts w x text count server content can boots texts =
     let new : w.booked x ≡ 1 → ⊥ = new_seal w x count server can boots in
     grind (arith, nat_tests)
 
-restripes_keeps_texts : (w : State) (x text count : ℕ) (server : ℕ → ℕ) → CanRestripe w x count server → Boots w → Texts w → Texts (restripes w x text count server)
+restripes_keeps_texts : (w : State) (x text count : ℕ) (server : ℕ → ℕ) → CanRestripe w x count server → Boots w → Texts w
+    → Texts (restripes w x text count server)
 restripes_keeps_texts w x text count server can boots texts =
     let new : w.booked x ≡ 1 → ⊥ = new_restripe w x count server can boots in
     grind (arith, nat_tests)

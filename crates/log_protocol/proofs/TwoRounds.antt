@@ -27,17 +27,21 @@ missed_between s m u v g x i one two kept =
     let b = run_grows one.at m one.ended a.0 in
     let c = run_grows m two.at two.began b.0 in
     let d = run_grows two.at u two.ended c.0 in
-    (interval one.at m two.at one.ended two.began a.0 v x (two.in_generation ∙ sym one.in_generation) two.lacks (λ z. kept (d.1.dropped x (c.0.shelf.secured.marked_dropped v x z)))).1
+    (interval one.at m two.at one.ended two.began a.0 v x (two.in_generation ∙ sym one.in_generation) two.lacks
+    (λ z. kept (d.1.dropped x (c.0.shelf.secured.marked_dropped v x z)))).1
 
 abbrev lack : State → ℕ → ℕ → ℕ
 lack m x j = if m.holds (m.member_server x j) x == 1 then 0 else 1
 
-pub torn_between_always : (s m u : State) (x spare : ℕ) → Reached s → Steps s m → Steps m u → MissedTwice s m u x spare → (u.dropped x ≡ 1 → ⊥) → TornBetween m x spare
+pub torn_between_always : (s m u : State) (x spare : ℕ) → Reached s → Steps s m → Steps m u → MissedTwice s m u x spare → (u.dropped x ≡ 1 → ⊥)
+    → TornBetween m x spare
 torn_between_always s m u x spare reached before after twice kept =
     let i = always s reached in
     let g = run_grows s m before i in
     let h = run_grows m u after g.0 in
-    let k = flagged twice.member (lack m x) (m.member_count x) (λ j member some. lacks j (missed_between s m u (m.member_server x j) (twice.generation j) x i (twice.first j member some) (twice.second j member some) kept)) in
+    let k = flagged twice.member (lack m x) (m.member_count x)
+    (λ j member some. lacks j
+    (missed_between s m u (m.member_server x j) (twice.generation j) x i (twice.first j member some) (twice.second j member some) kept)) in
     record { torn = (let z = twice.many in omega arith); kept = λ dropped. kept (h.1.dropped x dropped) }
   where
     lacks : (j : ℕ) → (m.holds (m.member_server x j) x ≡ 1 → ⊥) → lack m x j ≡ 1

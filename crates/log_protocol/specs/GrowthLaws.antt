@@ -27,4 +27,5 @@ pub record PastStays (w u : State) : Type 0 where
 -- The interval: a server that lacks a fragment at the end of an interval and isn't marked for it there, with one generation at both ends, has that
 -- generation and lacks the fragment at every moment between.
 abbrev pub LacksBetween : State → State → State → Type 0
-LacksBetween w m u = (v x : ℕ) → u.generation v ≡ w.generation v → u.holds v x ≡ 0 → (u.marked v x ≡ 1 → ⊥) → (m.generation v ≡ w.generation v) × (m.holds v x ≡ 1 → ⊥)
+LacksBetween w m u =
+    (v x : ℕ) → u.generation v ≡ w.generation v → u.holds v x ≡ 0 → (u.marked v x ≡ 1 → ⊥) → (m.generation v ≡ w.generation v) × (m.holds v x ≡ 1 → ⊥)

@@ -22,7 +22,8 @@ CleaningLosesNothing w = (l q : ℕ) → w.dropped l q ≡ 1 → 0 < w.version l
 pub record DeadStays (w : IndexState) : Type 0 where
   pub counted : (l q : ℕ) → w.dropped l q ≡ 1 → 0 < w.dead_at l q
   pub reigned : (l q : ℕ) → 0 < w.dead_at l q → w.dead_at l q ≤ w.reigning
-  pub stays : (l q e : ℕ) → 0 < w.dead_at l q → w.dead_at l q ≤ e → w.active e ≡ 1 → (w.index e).log ≡ l → (w.index e).seq ≡ q → w.version l q < w.joined.version
+  pub stays : (l q e : ℕ) → 0 < w.dead_at l q → w.dead_at l q ≤ e → w.active e ≡ 1 → (w.index e).log ≡ l → (w.index e).seq ≡ q
+      → w.version l q < w.joined.version
 
 -- Horizons stand still: since the reigning epoch none was kept, so the epochs after it have the same.
 abbrev pub HorizonStays : IndexState → Type 0

@@ -46,7 +46,12 @@ copies w l q =
       version = put_at w.version w.cleaner (suc (w.head w.cleaner)) (w.version l q);
       hop = put_at w.hop w.cleaner (suc (w.head w.cleaner)) (suc (w.hop l q));
       head = put w.head w.cleaner (suc (w.head w.cleaner));
-      joined = if newer then w.joined else if further then w.joined else record { version = w.version l q; hop = suc (w.hop l q); log = w.cleaner; seq = suc (w.head w.cleaner) };
+      joined = if newer then w.joined else if further then w.joined else record {
+        version = w.version l q;
+        hop = suc (w.hop l q);
+        log = w.cleaner;
+        seq = suc (w.head w.cleaner);
+      };
     }
 
 -- the manager of an epoch is active, with this much applied and this index

@@ -13,7 +13,9 @@ pub record Reached (w : State) : Type 0 where
 
 -- Logs whole: each member of a filed segment that isn't dropped holds its fragment, at its index, or its server is of a later generation.
 abbrev pub LogsWhole : State → Type 0
-LogsWhole w = (x i : ℕ) → w.filed x ≡ 1 → w.dropped x ≡ 0 → i < w.member_count x → ((w.holds (w.member_server x i) x ≡ 1) × (w.kept_index (w.member_server x i) x ≡ i)) ⊎ (w.member_generation x i < w.generation (w.member_server x i))
+LogsWhole w =
+    (x i : ℕ) → w.filed x ≡ 1 → w.dropped x ≡ 0 → i < w.member_count x
+    → ((w.holds (w.member_server x i) x ≡ 1) × (w.kept_index (w.member_server x i) x ≡ i)) ⊎ (w.member_generation x i < w.generation (w.member_server x i))
 
 -- One name, one text: what a server holds of a name, and what a Store or a Fragment brings of it, is of the text that was booked.
 pub record OneText (w : State) : Type 0 where
@@ -35,7 +37,9 @@ pub record InFlightThen (w : State) (x q : ℕ) : Type 0 where
 
 -- What a reopening adopts: of what it reads back beyond the head, only what the last boot that served had in flight tells anything.
 abbrev pub AdoptsOne : State → Type 0
-AdoptsOne w = (path : ℕ → ℕ) (lowest q : ℕ) → w.phase ≡ 3 → ReadBack w path lowest → w.head < q → q < w.opening_seq → 0 < w.content_of (path q) → InFlightThen w (path q) q
+AdoptsOne w =
+    (path : ℕ → ℕ) (lowest q : ℕ) → w.phase ≡ 3 → ReadBack w path lowest → w.head < q → q < w.opening_seq → 0 < w.content_of (path q)
+    → InFlightThen w (path q) q
 
 -- What the feed tells: a serving owner's feed begins no later than the least horizon, and from there to the head it has the filed segments.
 pub record FeedWhole (w : State) : Type 0 where

@@ -39,7 +39,8 @@ pub record Picked (w : State) (list_of : ℕ → FencedPacket) (low x : ℕ) : T
   pub above : low ≤ w.seq_of x
   pub newest_boot : (v y : ℕ) → v < w.servers → (list_of v).listed y ≡ 1 → low ≤ w.seq_of y → w.incarnation_of y ≤ w.incarnation_of x
   pub longest : (v y : ℕ) → v < w.servers → (list_of v).listed y ≡ 1 → low ≤ w.seq_of y → w.incarnation_of y ≡ w.incarnation_of x → w.seq_of y ≤ w.seq_of x
-  pub last_attempt : (v y : ℕ) → v < w.servers → (list_of v).listed y ≡ 1 → low ≤ w.seq_of y → w.incarnation_of y ≡ w.incarnation_of x → w.seq_of y ≡ w.seq_of x → w.attempt_of y ≤ w.attempt_of x
+  pub last_attempt : (v y : ℕ) → v < w.servers → (list_of v).listed y ≡ 1 → low ≤ w.seq_of y → w.incarnation_of y ≡ w.incarnation_of x → w.seq_of y ≡ w.seq_of x
+      → w.attempt_of y ≤ w.attempt_of x
 
 -- Pick none: no listed name is at or above the horizon; the opening segment has that seq and no prior.
 pub record CanPickNone (w : State) (list_of : ℕ → FencedPacket) (low : ℕ) : Type 0 where
@@ -60,10 +61,12 @@ pub record CanPickKept (w : State) (list_of : ℕ → FencedPacket) (low x : ℕ
   -- the pick over the kept lists
   pub picked : Picked w list_of low x
   -- each member listed it, or is no longer of the generation that the group names
-  pub whole : (j : ℕ) → j < w.member_count x → ((list_of (w.member_server x j)).listed x ≡ 1) ⊎ ((list_of (w.member_server x j)).generation ≡ w.member_generation x j → ⊥)
+  pub whole : (j : ℕ) → j < w.member_count x
+      → ((list_of (w.member_server x j)).listed x ≡ 1) ⊎ ((list_of (w.member_server x j)).generation ≡ w.member_generation x j → ⊥)
 
 abbrev pub picks_kept : State → ℕ → ℕ → State
-picks_kept w low x = record w { phase = 2; base = x; opening_seq = suc (w.seq_of x); read_low = low; pick_low = low; secured = λ y i. if y == x then 1 else w.secured y i }
+picks_kept w low x =
+    record w { phase = 2; base = x; opening_seq = suc (w.seq_of x); read_low = low; pick_low = low; secured = λ y i. if y == x then 1 else w.secured y i }
 
 -- Pick and discard: an original member of the picked name lacks it; the log is opened in its place, after its prior.
 pub record CanPickPrior (w : State) (list_of : ℕ → FencedPacket) (low x i : ℕ) : Type 0 where
@@ -131,7 +134,8 @@ serves w path lowest sure =
     record w {
       clean = if sure == 1 then w.clean else 0;
       secured = λ x i. if x == w.flight then 1 else w.secured x i;
-      filed = λ x. if x == w.flight then 1 else if nat_lt (w.seq_of x) lowest then w.filed x else if nat_lt (w.seq_of x) w.opening_seq then (if path (w.seq_of x) == x then 1 else w.filed x) else w.filed x;
+      filed = λ x. if x == w.flight then 1 else if nat_lt (w.seq_of x) lowest then w.filed x else if nat_lt (w.seq_of x) w.opening_seq then
+          (if path (w.seq_of x) == x then 1 else w.filed x) else w.filed x;
       line = λ q. if q == w.opening_seq then w.flight else if nat_lt w.head q then path q else w.line q;
       head = w.opening_seq;
       served = w.incarnation;

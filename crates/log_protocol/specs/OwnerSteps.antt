@@ -108,4 +108,13 @@ pub record CanRestart (w : State) : Type 0 where
   pub down : w.phase ≡ 0
 
 abbrev pub restarts : State → State
-restarts w = record w { phase = 4; incarnation = suc w.incarnation; begin_low = w.low; served = suc w.incarnation; end = 0; flight = 0; feed_base = 0; clean = 0 }
+restarts w = record w {
+  phase = 4;
+  incarnation = suc w.incarnation;
+  begin_low = w.low;
+  served = suc w.incarnation;
+  end = 0;
+  flight = 0;
+  feed_base = 0;
+  clean = 0;
+}

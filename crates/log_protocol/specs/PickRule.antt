@@ -23,7 +23,8 @@ module _ (seq_of incarnation_of attempt_of : ℕ → ℕ) where
   -- the better of two names, by incarnation, then seq, then attempt; of equals the first
   abbrev pub better : ℕ → ℕ → ℕ
   better x y =
-      if nat_lt (incarnation_of x) (incarnation_of y) then y else if nat_lt (incarnation_of y) (incarnation_of x) then x else if nat_lt (seq_of x) (seq_of y) then y else if nat_lt (seq_of y) (seq_of x) then x else if nat_lt (attempt_of x) (attempt_of y) then y else x
+      if nat_lt (incarnation_of x) (incarnation_of y) then y else if nat_lt (incarnation_of y) (incarnation_of x) then x else if nat_lt (seq_of x)
+      (seq_of y) then y else if nat_lt (seq_of y) (seq_of x) then x else if nat_lt (attempt_of x) (attempt_of y) then y else x
 
   -- the best of x and a list
   abbrev pub best : ℕ → List ℕ → ℕ

@@ -41,7 +41,8 @@ pub record CanSend (w : State) (x i : ℕ) : Type 0 where
   pub member : i < w.member_count x
 
 abbrev pub sends : State → ℕ → ℕ → State
-sends w x i = record w { stores = record { to = w.member_server x i; name = x; index = i; generation = w.member_generation x i; text = w.text_of x } ∷ w.stores }
+sends w x i =
+    record w { stores = record { to = w.member_server x i; name = x; index = i; generation = w.member_generation x i; text = w.text_of x } ∷ w.stores }
 
 -- Accept: a server keeps the fragment that a Store brings, and answers Stored.
 pub record CanAccept (w : State) (p : StorePacket) : Type 0 where
@@ -72,7 +73,8 @@ pub record CanAcceptAgain (w : State) (p : StorePacket) : Type 0 where
   pub held : w.holds p.to p.name ≡ 1
 
 abbrev pub accepts_again : State → StorePacket → State
-accepts_again w p = record w { storeds = record { name = p.name; index = p.index; generation = p.generation } ∷ w.storeds; secured = put_at w.secured p.name p.index 1 }
+accepts_again w p =
+    record w { storeds = record { name = p.name; index = p.index; generation = p.generation } ∷ w.storeds; secured = put_at w.secured p.name p.index 1 }
 
 -- Tell a Fragment: a server that holds a fragment answers a Fetch with it.
 pub record CanTell (w : State) (v x : ℕ) : Type 0 where

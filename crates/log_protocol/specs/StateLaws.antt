@@ -21,7 +21,8 @@ pub record BookInOrder (w : State) : Type 0 where
   pub prior_seq : (x : ℕ) → w.booked x ≡ 1 → 0 < w.prior_of x → suc (w.seq_of (w.prior_of x)) ≡ w.seq_of x
   pub prior_boot : (x : ℕ) → w.booked x ≡ 1 → 0 < w.prior_of x → w.incarnation_of (w.prior_of x) ≤ w.incarnation_of x
   -- names of one seq and one boot tell one thing
-  pub one_content : (x y : ℕ) → w.booked x ≡ 1 → w.booked y ≡ 1 → w.seq_of x ≡ w.seq_of y → w.incarnation_of x ≡ w.incarnation_of y → w.content_of x ≡ w.content_of y
+  pub one_content : (x y : ℕ) → w.booked x ≡ 1 → w.booked y ≡ 1 → w.seq_of x ≡ w.seq_of y → w.incarnation_of x ≡ w.incarnation_of y
+      → w.content_of x ≡ w.content_of y
   -- what is filed is booked, and so is what is dropped, which is below the least horizon
   pub filed_booked : (x : ℕ) → w.filed x ≡ 1 → w.booked x ≡ 1
   pub dropped_booked : (x : ℕ) → w.dropped x ≡ 1 → w.booked x ≡ 1
@@ -107,4 +108,6 @@ pub record EndIsHead (w : State) : Type 0 where
 
 -- A member of the head that is still of the generation that its group names isn't hurt.
 abbrev pub OriginalUnhurt : State → Type 0
-OriginalUnhurt w = (i : ℕ) → 0 < w.head → i < w.member_count (w.line w.head) → w.member_generation (w.line w.head) i ≡ w.generation (w.member_server (w.line w.head) i) → w.hurt i ≡ 0
+OriginalUnhurt w =
+    (i : ℕ) → 0 < w.head → i < w.member_count (w.line w.head) → w.member_generation (w.line w.head) i ≡ w.generation (w.member_server (w.line w.head) i)
+    → w.hurt i ≡ 0

@@ -16,7 +16,8 @@ pub record FilesWhatWasRead (w : State) (path : ℕ → ℕ) (lowest sure : ℕ)
   pub read : (q : ℕ) → lowest ≤ q → q < w.opening_seq → ((serves w path lowest sure).filed (path q) ≡ 1) × (w.seq_of (path q) ≡ q)
   pub opening : (serves w path lowest sure).filed w.flight ≡ 1
   pub before : (x : ℕ) → w.filed x ≡ 1 → (serves w path lowest sure).filed x ≡ 1
-  pub no_more : (x : ℕ) → (serves w path lowest sure).filed x ≡ 1 → (w.filed x ≡ 1) ⊎ ((x ≡ w.flight) ⊎ ((lowest ≤ w.seq_of x) × (w.seq_of x < w.opening_seq) × (path (w.seq_of x) ≡ x)))
+  pub no_more : (x : ℕ) → (serves w path lowest sure).filed x ≡ 1
+      → (w.filed x ≡ 1) ⊎ ((x ≡ w.flight) ⊎ ((lowest ≤ w.seq_of x) × (w.seq_of x < w.opening_seq) × (path (w.seq_of x) ≡ x)))
 
 -- A span: the owner is down or opens its log, and has begun since it last served.
 pub record InSpan (w : State) : Type 0 where

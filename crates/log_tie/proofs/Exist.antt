@@ -66,7 +66,8 @@ apart (suc n) zero e f = absurd (first (unpair n).x (unpair n).y e f)
     first : (x y : ℕ) → (along x y).x ≡ 0 → (along x y).y ≡ 0 → ⊥
     first zero y e f = omega arith
     first (suc x) y e f = omega arith
-apart (suc n) (suc m) e f = ap suc (apart n m (same (unpair n).x (unpair n).y (unpair m).x (unpair m).y e f).0 (same (unpair n).x (unpair n).y (unpair m).x (unpair m).y e f).1)
+apart (suc n) (suc m) e f =
+    ap suc (apart n m (same (unpair n).x (unpair n).y (unpair m).x (unpair m).y e f).0 (same (unpair n).x (unpair n).y (unpair m).x (unpair m).y e f).1)
   where
     same : (x y u v : ℕ) → (along x y).x ≡ (along u v).x → (along x y).y ≡ (along u v).y → (x ≡ u) × (y ≡ v)
     same zero y zero v e f = (refl, omega arith)
@@ -116,7 +117,14 @@ number (suc (suc zero)) below = refl
 number (suc (suc (suc j))) below = absurd (let b = below in omega arith)
 
 stripe_there : IsStripe setting the_map group
-stripe_there = record { some = omega arith; exist = λ j below. (let p = number j below in omega arith); differ = λ i j a b e. (let p = number i a in let q = number j b in omega arith); present = present; named = refl }
+stripe_there =
+    record {
+      some = omega arith;
+      exist = λ j below. (let p = number j below in omega arith);
+      differ = λ i j a b e. (let p = number i a in let q = number j b in omega arith);
+      present = present;
+      named = refl;
+    }
   where
     present : (j : ℕ) → j < 3 → generation_of members j ≡ present_at the_map (server_of members j)
     present zero below = refl
@@ -126,7 +134,9 @@ stripe_there = record { some = omega arith; exist = λ j below. (let p = number 
 
 whole : IsMap setting the_map
 unfolding group_for
-whole log seq = subst (λ k. IsStripe setting the_map (unwrap_or (group_of the_map (slice_index (1 ∷ []) k)) no_group)) (sym (nought ((log + seq) % 1) (mod-lt (log + seq) (omega arith)))) stripe_there
+whole log seq =
+    subst (λ k. IsStripe setting the_map (unwrap_or (group_of the_map (slice_index (1 ∷ []) k)) no_group))
+    (sym (nought ((log + seq) % 1) (mod-lt (log + seq) (omega arith)))) stripe_there
   where
     nought : (k : ℕ) → k < 1 → k ≡ 0
     nought k below = omega arith
@@ -160,7 +170,8 @@ whole_map = record {
   seen = record { whole = whole; past = past };
   size = refl;
   named = λ id g is. ap stripe_of_group (only id g is);
-  some = λ id g is. subst (λ (z : Group). (j : ℕ) → j < length z.members → 0 < server_of z.members j) (only id g is) (λ j below. (let p = number j below in omega arith));
+  some = λ id g is. subst (λ (z : Group). (j : ℕ) → j < length z.members → 0 < server_of z.members j) (only id g is)
+      (λ j below. (let p = number j below in omega arith));
   cut = λ id g is. subst (λ (z : Group). IsCut (length z.members) z.parity) (only id g is) three;
 }
 

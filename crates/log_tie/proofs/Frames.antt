@@ -34,22 +34,26 @@ by_through g w v u book later last p q = record {
 
 module _ (g : Setting) where
   -- a Store that was sent stays sent
-  pub store_on : (w v : State) (book later : ℕ → Segment) (to generation : ℕ) (f : _) → ByOwner g w v book later → StoreSeen g w.booked book w.stores to f generation → StoreSeen g v.booked later v.stores to f generation
+  pub store_on : (w v : State) (book later : ℕ → Segment) (to generation : ℕ) (f : _) → ByOwner g w v book later
+      → StoreSeen g w.booked book w.stores to f generation → StoreSeen g v.booked later v.stores to f generation
   store_on w v book later to generation f by s = record {
     name = s.name;
     index = s.index;
     known = by.booked s.name s.known;
     named = s.named;
     fragment = s.fragment ∙ ap (λ b. fragment_of g b s.index) (sym (by.segment s.name s.known));
-    sent = subst (λ b. In (record { to = to; name = s.name; index = s.index; generation = generation; text = g.number (text_of b) }) v.stores) (sym (by.segment s.name s.known)) (by.stores _ s.sent);
+    sent = subst (λ b. In (record { to = to; name = s.name; index = s.index; generation = generation; text = g.number (text_of b) }) v.stores)
+        (sym (by.segment s.name s.known)) (by.stores _ s.sent);
   }
 
-  pub said_on : (w v : State) (book later : ℕ → Segment) (outs : List Out) → ByOwner g w v book later → AllSaid g w.booked book w.stores w.filed outs → AllSaid g v.booked later v.stores v.filed outs
+  pub said_on : (w v : State) (book later : ℕ → Segment) (outs : List Out) → ByOwner g w v book later → AllSaid g w.booked book w.stores w.filed outs
+      → AllSaid g v.booked later v.stores v.filed outs
   said_on w v book later [] by h = tt
   said_on w v book later (Send f m ∷ os) by h = (store_on w v book later m.server m.generation f by h.0, said_on w v book later os by h.1)
   said_on w v book later (Settled end rows ∷ os) by h = ((h.0.0, by.filed h.0.0 h.0.1, h.0.2, h.0.3), said_on w v book later os by h.1)
 
-  pub said_both : (w : State) (book : ℕ → Segment) (outs more : List Out) → AllSaid g w.booked book w.stores w.filed outs → AllSaid g w.booked book w.stores w.filed more → AllSaid g w.booked book w.stores w.filed (outs ++ more)
+  pub said_both : (w : State) (book : ℕ → Segment) (outs more : List Out) → AllSaid g w.booked book w.stores w.filed outs
+      → AllSaid g w.booked book w.stores w.filed more → AllSaid g w.booked book w.stores w.filed (outs ++ more)
   said_both w book [] more h k = k
   said_both w book (o ∷ os) more h k = (h.0, said_both w book os more h.1 k)
 
@@ -72,10 +76,22 @@ module _ (g : Setting) where
   module _ (P : State → (ℕ → Segment) → Type 0) where
     -- nothing happens
     pub goes_nowhere : (w : State) (book : ℕ → Segment) → Book g w book → P w book → Goes g w book P []
-    goes_nowhere w book paged shows = record { world = w; later = book; steps = Done; frame = by_nothing g w book; fresh = λ x is. inl is; paged = paged; shows = shows; said = tt; end_follows = inl refl }
+    goes_nowhere w book paged shows =
+        record {
+          world = w;
+          later = book;
+          steps = Done;
+          frame = by_nothing g w book;
+          fresh = λ x is. inl is;
+          paged = paged;
+          shows = shows;
+          said = tt;
+          end_follows = inl refl;
+        }
 
     -- some steps, which book nothing, and then others
-    pub goes_through : (Q : State → (ℕ → Segment) → Type 0) (w : State) (book : ℕ → Segment) (outs more : List Out) (t : Goes g w book Q outs) → ((x : ℕ) → t.world.booked x ≡ 1 → w.booked x ≡ 1) → Goes g t.world t.later P more → Goes g w book P (outs ++ more)
+    pub goes_through : (Q : State → (ℕ → Segment) → Type 0) (w : State) (book : ℕ → Segment) (outs more : List Out) (t : Goes g w book Q outs)
+        → ((x : ℕ) → t.world.booked x ≡ 1 → w.booked x ≡ 1) → Goes g t.world t.later P more → Goes g w book P (outs ++ more)
     goes_through Q w book outs more t same u = record {
       world = u.world;
       later = u.later;

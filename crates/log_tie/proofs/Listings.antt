@@ -98,7 +98,9 @@ counted_listed low (l ∷ ls) x is = elim (in_either x (above low l.held) (count
 
 pub listed_counted : (low : ℕ) (ls : List Listing) (l : Listing) (x : FragMeta) → In l ls → In x l.held → low ≤ x.name.seq → In x (counting low ls)
 listed_counted low [] l x of is up = absurd of
-listed_counted low (k ∷ ks) l x (inl e) is up = in_front x (above low k.held) (counting low ks) (filtered_in (λ m. nat_le low m.name.seq) k.held x (subst (λ (z : Listing). In x z.held) e is) (test_le low x.name.seq up))
+listed_counted low (k ∷ ks) l x (inl e) is up =
+    in_front x (above low k.held) (counting low ks)
+    (filtered_in (λ m. nat_le low m.name.seq) k.held x (subst (λ (z : Listing). In x z.held) e is) (test_le low x.name.seq up))
 listed_counted low (k ∷ ks) l x (inr of) is up = in_back x (above low k.held) (counting low ks) (listed_counted low ks l x of is up)
 
 -- ---- names
@@ -122,7 +124,8 @@ pub its_list : (ls : List Listing) (v : ℕ) → has_list v ls ≡ true → In (
 its_list [] v h = contrary h
 its_list (l ∷ ls) v h = by (l.server == v) refl h (λ k. its_list ls v k)
   where
-    by : (t : Bool) → (l.server == v) ≡ t → (t || has_list v ls) ≡ true → (has_list v ls ≡ true → In (listing_of ls v) ls × ((listing_of ls v).server ≡ v)) → In (cond t l (listing_of ls v)) (l ∷ ls) × ((cond t l (listing_of ls v)).server ≡ v)
+    by : (t : Bool) → (l.server == v) ≡ t → (t || has_list v ls) ≡ true → (has_list v ls ≡ true → In (listing_of ls v) ls × ((listing_of ls v).server ≡ v))
+        → In (cond t l (listing_of ls v)) (l ∷ ls) × ((cond t l (listing_of ls v)).server ≡ v)
     by true e k more = (inl refl, equal l.server v e)
     by false e k more = let x = more k in (inr x.0, x.1)
 
@@ -190,7 +193,8 @@ pub torn_lacks : (ls : List Listing) (name : SegName) (ms : List Member) → is_
 torn_lacks ls name [] h = contrary h
 torn_lacks ls name (m ∷ ms) h = by (list_any (lacks name m) ls) refl h (λ k. torn_lacks ls name ms k)
   where
-    by : (t : Bool) → list_any (lacks name m) ls ≡ t → (t || is_torn ls name ms) ≡ true → (is_torn ls name ms ≡ true → Lacks ls name ms) → Lacks ls name (m ∷ ms)
+    by : (t : Bool) → list_any (lacks name m) ls ≡ t → (t || is_torn ls name ms) ≡ true → (is_torn ls name ms ≡ true → Lacks ls name ms)
+        → Lacks ls name (m ∷ ms)
     by true e k more = let l = some_passes (lacks name m) ls e in record {
       place = 0;
       member = omega arith;
@@ -200,19 +204,32 @@ torn_lacks ls name (m ∷ ms) h = by (list_any (lacks name m) ls) refl h (λ k. 
       original = equal _ _ (and_first (l.0.generation == m.generation) _ (and_second (l.0.server == m.server) _ l.2));
       lacking = not_true _ (and_second (l.0.generation == m.generation) _ (and_second (l.0.server == m.server) _ l.2));
     }
-    by false e k more = let x = more k in let b = x.member in record { place = suc x.place; member = omega arith; list = x.list; among = x.among; at_server = x.at_server; original = x.original; lacking = x.lacking }
+    by false e k more = let x = more k in let b =
+        x.member in record {
+          place = suc x.place;
+          member = omega arith;
+          list = x.list;
+          among = x.among;
+          at_server = x.at_server;
+          original = x.original;
+          lacking = x.lacking;
+        }
 
 -- no list of the member lacks it
-whole_member : (l : Listing) (name : SegName) (m : Member) → lacks name m l ≡ false → l.server ≡ m.server → (has_name name l.held ≡ true) ⊎ (l.generation ≡ m.generation → ⊥)
-whole_member l name m h same = by (l.server == m.server) (l.generation == m.generation) (has_name name l.held) (ap (λ z. z == m.server) same ∙ itself m.server) refl refl h
+whole_member : (l : Listing) (name : SegName) (m : Member) → lacks name m l ≡ false → l.server ≡ m.server
+    → (has_name name l.held ≡ true) ⊎ (l.generation ≡ m.generation → ⊥)
+whole_member l name m h same =
+    by (l.server == m.server) (l.generation == m.generation) (has_name name l.held) (ap (λ z. z == m.server) same ∙ itself m.server) refl refl h
   where
-    by : (p s t : Bool) → p ≡ true → (l.generation == m.generation) ≡ s → has_name name l.held ≡ t → (p && (s && not t)) ≡ false → (has_name name l.held ≡ true) ⊎ (l.generation ≡ m.generation → ⊥)
+    by : (p s t : Bool) → p ≡ true → (l.generation == m.generation) ≡ s → has_name name l.held ≡ t → (p && (s && not t)) ≡ false
+        → (has_name name l.held ≡ true) ⊎ (l.generation ≡ m.generation → ⊥)
     by p s true a e f k = inl f
     by p false false a e f k = inr (λ alike. contrary (sym e ∙ (ap (λ z. z == m.generation) alike ∙ itself m.generation)))
     by true true false a e f k = contrary (sym k)
     by false true false a e f k = contrary a
 
-pub whole_lists : (ls : List Listing) (name : SegName) (ms : List Member) → is_torn ls name ms ≡ false → (j : ℕ) → j < length ms → (l : Listing) → In l ls → l.server ≡ server_of ms j
+pub whole_lists : (ls : List Listing) (name : SegName) (ms : List Member) → is_torn ls name ms ≡ false → (j : ℕ) → j < length ms → (l : Listing) → In l ls
+    → l.server ≡ server_of ms j
     → (has_name name l.held ≡ true) ⊎ (l.generation ≡ generation_of ms j → ⊥)
 whole_lists ls name [] h j b l is same = absurd (let a = b in omega arith)
 whole_lists ls name (m ∷ ms) h zero b l is same = whole_member l name m (none_passes (lacks name m) ls l (first (list_any (lacks name m) ls) h) is) same

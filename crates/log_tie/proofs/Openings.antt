@@ -75,7 +75,8 @@ module _ (g : Setting) where
   Grown w v book later = (x : ℕ) → w.booked x ≡ 1 → (v.booked x ≡ 1) × (later x ≡ book x)
 
   -- a chain stands while the book grows and the base stays
-  chained_on : (w v : State) (book later : ℕ → Segment) (top x : ℕ) (ts : List Segment) → Grown w v book later → Book g w book → Book g v later → v.base ≡ w.base → Chained g w book top x ts → Chained g v later top x ts
+  chained_on : (w v : State) (book later : ℕ → Segment) (top x : ℕ) (ts : List Segment) → Grown w v book later → Book g w book → Book g v later
+      → v.base ≡ w.base → Chained g w book top x ts → Chained g v later top x ts
   chained_on w v book later top x [] by pages more base h = h ∙ sym base
   chained_on w v book later top x (t ∷ ts) by pages more base h = (
     h.0,
@@ -86,7 +87,8 @@ module _ (g : Setting) where
     chained_on w v book later top h.0 ts by pages more base h.5,
   )
 
-  shown_on : (w v : State) (book later : ℕ → Segment) (top : ℕ) (ts : List Segment) → Grown w v book later → Book g w book → Book g v later → v.base ≡ w.base → v.opening_seq ≡ w.opening_seq → v.pick_low ≡ w.pick_low → v.read_low ≡ w.read_low
+  shown_on : (w v : State) (book later : ℕ → Segment) (top : ℕ) (ts : List Segment) → Grown w v book later → Book g w book → Book g v later → v.base ≡ w.base
+      → v.opening_seq ≡ w.opening_seq → v.pick_low ≡ w.pick_low → v.read_low ≡ w.read_low
       → ChainShown g w book top ts → ChainShown g v later top ts
   shown_on w v book later top ts by pages more base opening low read c = record {
     opening = opening ∙ c.opening;
@@ -100,8 +102,11 @@ module _ (g : Setting) where
   }
 
   -- what is filed where an opening serves
-  serves_files : (w : State) (lowest sure y : ℕ) → lowest ≤ w.seq_of y → w.seq_of y < w.opening_seq → path w (w.seq_of y) ≡ y → (serves w (path w) lowest sure).filed y ≡ 1
-  serves_files w lowest sure y above below is = by (y == w.flight) (nat_lt (w.seq_of y) lowest) (nat_lt (w.seq_of y) w.opening_seq) (path w (w.seq_of y) == y) (more (w.seq_of y) lowest above) (less (w.seq_of y) w.opening_seq below) (ap (λ z. z == y) is ∙ itself y)
+  serves_files : (w : State) (lowest sure y : ℕ) → lowest ≤ w.seq_of y → w.seq_of y < w.opening_seq → path w (w.seq_of y) ≡ y
+      → (serves w (path w) lowest sure).filed y ≡ 1
+  serves_files w lowest sure y above below is =
+      by (y == w.flight) (nat_lt (w.seq_of y) lowest) (nat_lt (w.seq_of y) w.opening_seq) (path w (w.seq_of y) == y) (more (w.seq_of y) lowest above)
+      (less (w.seq_of y) w.opening_seq below) (ap (λ z. z == y) is ∙ itself y)
     where
       less : (a b : ℕ) → a < b → nat_lt a b ≡ true
       less a b h = grind (arith, nat_tests)
@@ -109,16 +114,19 @@ module _ (g : Setting) where
       more : (a b : ℕ) → b ≤ a → nat_lt a b ≡ false
       more a b h = grind (arith, nat_tests)
 
-      by : (p q r t : Bool) → q ≡ false → r ≡ true → t ≡ true → (if p then 1 else if q then w.filed y else if r then (if t then 1 else w.filed y) else w.filed y) ≡ 1
+      by : (p q r t : Bool) → q ≡ false → r ≡ true → t ≡ true
+          → (if p then 1 else if q then w.filed y else if r then (if t then 1 else w.filed y) else w.filed y) ≡ 1
       by true q r t a b c = refl
       by false false true true a b c = refl
       by false true r t a b c = contrary (sym a)
       by false false false t a b c = contrary b
       by false false true false a b c = contrary c
 
-  chain_filed : (w : State) (book : ℕ → Segment) (fixed : Fixed g w) (paged : Book g w book) (lowest sure top x : ℕ) (ts : List Segment) → w.opening_seq ≡ top + 1 → AllFrom lowest ts → Chained g w book top x ts → AllFiled g (serves w (path w) lowest sure) ts
+  chain_filed : (w : State) (book : ℕ → Segment) (fixed : Fixed g w) (paged : Book g w book) (lowest sure top x : ℕ) (ts : List Segment)
+      → w.opening_seq ≡ top + 1 → AllFrom lowest ts → Chained g w book top x ts → AllFiled g (serves w (path w) lowest sure) ts
   chain_filed w book fixed paged lowest sure top x [] opening from h = tt
-  chain_filed w book fixed paged lowest sure top x (t ∷ ts) opening from h = ((h.0, named, serves_files w lowest sure h.0 above below there), chain_filed w book fixed paged lowest sure top h.0 ts opening from.1 h.5)
+  chain_filed w book fixed paged lowest sure top x (t ∷ ts) opening from h =
+      ((h.0, named, serves_files w lowest sure h.0 above below there), chain_filed w book fixed paged lowest sure top h.0 ts opening from.1 h.5)
     where
       named : t.name ≡ name_of g h.0
       named = ap (λ (z : Segment). z.name) h.2 ∙ (paged h.0 h.1).named
@@ -141,7 +149,8 @@ module _ (g : Setting) where
 module _ (g : Setting) (w : State) (book : ℕ → Segment) (fixed : Fixed g w) (paged : Book g w book) (reached : Reached w) where
   -- the opening segment is written
   opens_goes : (start : End) (chain : List Segment) (m : GroupMapState) → ReadShown g w book start chain m
-      → Goes g w book (λ v later. WritingShown g v later chain (log.writes (started g.log w.incarnation start m) []).state) (log.writes (started g.log w.incarnation start m) []).outs
+      → Goes g w book (λ v later. WritingShown g v later chain (log.writes (started g.log w.incarnation start m) []).state)
+      (log.writes (started g.log w.incarnation start m) []).outs
   unfolding log.launched
   opens_goes start chain m shown =
       launch g w book fixed paged _ v later f x (More Done (Opens x _ _ _ can)) by (books_one w x) refl pages booked (sym here) stripe (λ stores. record {
@@ -200,7 +209,8 @@ module _ (g : Setting) (w : State) (book : ℕ → Segment) (fixed : Fixed g w) 
       new = new_opening w x _ _ can (always w reached).shelf.boots
 
       pages : Book g v later
-      pages = booked_pages g w book x f.segment group m w.base 0 (sym (name_coded g (start.seq + 1) w.incarnation 1)) some refl (shown.base ∙ ap (λ q. point g q start.pass) (omega arith)) (sym g.no_content) is shown.known paged
+      pages = booked_pages g w book x f.segment group m w.base 0 (sym (name_coded g (start.seq + 1) w.incarnation 1)) some refl
+          (shown.base ∙ ap (λ q. point g q start.pass) (omega arith)) (sym g.no_content) is shown.known paged
 
       booked : v.booked x ≡ 1
       booked = grind (arith, nat_tests)
@@ -212,19 +222,42 @@ module _ (g : Setting) (w : State) (book : ℕ → Segment) (fixed : Fixed g w) 
       stripe = sym is.named ∙ ap (λ (z : Segment). g.stripe z.group) (sym here)
 
       by : ByOwner g w v book later
-      by = record { others = refl; booked = λ y is. put_one y is; segment = λ y is. page_there w book x f.segment new y is; stores = λ p is. is; filed = λ y is. is; calm = λ none c. c }
+      by = record {
+        others = refl;
+        booked = λ y is. put_one y is;
+        segment = λ y is. page_there w book x f.segment new y is;
+        stores = λ p is. is;
+        filed = λ y is. is;
+        calm = λ none c. c;
+      }
         where
           put_one : (y : ℕ) → w.booked y ≡ 1 → v.booked y ≡ 1
           put_one y is = grind (arith, nat_tests)
 
   -- it is settled, and the owner serves
-  serves_goes : (chain : List Segment) (s : LogState) (f : FlightState) (sure : ℕ) → WritingShown g w book chain s → Flying g book f s.inc s.end.seq (w.booked w.flight) w.flight w.noted → all_done s.groups f.noted f.group.members 0 ≡ true
-      → (sure ≡ 1 → w.pick_low ≤ w.head → Undoubted w) → (g.doubts ≡ false → sure ≡ 1) → Goes g w book (λ v later. Serves g v later (log.landed s f) × AllFiled g v chain) (Settled (end_from f.segment) (rows_of f.segment) ∷ [])
+  serves_goes : (chain : List Segment) (s : LogState) (f : FlightState) (sure : ℕ) → WritingShown g w book chain s
+      → Flying g book f s.inc s.end.seq (w.booked w.flight) w.flight w.noted → all_done s.groups f.noted f.group.members 0 ≡ true
+      → (sure ≡ 1 → w.pick_low ≤ w.head → Undoubted w) → (g.doubts ≡ false → sure ≡ 1)
+      → Goes g w book (λ v later. Serves g v later (log.landed s f) × AllFiled g v chain) (Settled (end_from f.segment) (rows_of f.segment) ∷ [])
   serves_goes chain s f sure shown h all premise is_sure = let end = flight_end g w book fixed paged reached s f shown.writes.some h in record {
     world = serves w (path w) lowest sure;
     later = book;
-    steps = More Done (ServesStep (path w) lowest sure (record { writing = shown.phase; settled = settled_there g w book fixed paged reached s f shown.writes h all; undoubted = premise; read = path_read w lowest shown.read.picked shown.read.cut }));
-    frame = record { others = refl; booked = λ x is. is; segment = λ x is. refl; stores = λ p is. is; filed = λ x is. stays x is; calm = λ none c. ap (λ z. if z == 1 then w.clean else 0) (is_sure none) ∙ c };
+    steps = More Done
+        (ServesStep (path w) lowest sure
+        (record {
+          writing = shown.phase;
+          settled = settled_there g w book fixed paged reached s f shown.writes h all;
+          undoubted = premise;
+          read = path_read w lowest shown.read.picked shown.read.cut;
+        }));
+    frame = record {
+      others = refl;
+      booked = λ x is. is;
+      segment = λ x is. refl;
+      stores = λ p is. is;
+      filed = λ x is. stays x is;
+      calm = λ none c. ap (λ z. if z == 1 then w.clean else 0) (is_sure none) ∙ c;
+    };
     fresh = λ x is. inl is;
     paged = paged;
     shows = (
@@ -257,7 +290,9 @@ module _ (g : Setting) (w : State) (book : ℕ → Segment) (fixed : Fixed g w) 
       here : (serves w (path w) lowest sure).filed w.flight ≡ 1
       here = by (w.flight == w.flight) (itself w.flight)
         where
-          by : (p : Bool) → p ≡ true → (if p then 1 else if nat_lt (w.seq_of w.flight) lowest then w.filed w.flight else if nat_lt (w.seq_of w.flight) w.opening_seq then (if path w (w.seq_of w.flight) == w.flight then 1 else w.filed w.flight) else w.filed w.flight) ≡ 1
+          by : (p : Bool) → p ≡ true
+              → (if p then 1 else if nat_lt (w.seq_of w.flight) lowest then w.filed w.flight else if nat_lt (w.seq_of w.flight) w.opening_seq then
+              (if path w (w.seq_of w.flight) == w.flight then 1 else w.filed w.flight) else w.filed w.flight) ≡ 1
           by true e = refl
           by false e = contrary e
 
@@ -276,20 +311,24 @@ module _ (g : Setting) (chain : List Segment) where
 
   module _ (w : State) (book : ℕ → Segment) (fixed : Fixed g w) (paged : Book g w book) (reached : Reached w) where
     -- the flight is written again, or waits on: the rest stands
-    aloft_writes : (v : State) (later : ℕ → Segment) (s : LogState) (f : FlightState) → WritingShown g w book chain s → ((x : ℕ) → w.booked x ≡ 1 → (v.booked x ≡ 1) × (later x ≡ book x)) → Book g v later → Aloft g w book fixed paged reached s s f v later
+    aloft_writes : (v : State) (later : ℕ → Segment) (s : LogState) (f : FlightState) → WritingShown g w book chain s
+        → ((x : ℕ) → w.booked x ≡ 1 → (v.booked x ≡ 1) × (later x ≡ book x)) → Book g v later → Aloft g w book fixed paged reached s s f v later
         → WritingShown g v later chain (record s { flight = Some f })
     aloft_writes v later s f h grown pages a = record {
       writes = record { log = a.writes.log; inc = a.writes.inc; some = a.writes.some; map = a.writes.map; known = a.writes.known };
       phase = ap (λ (t : Standing). t.phase) a.standing ∙ h.phase;
       clear = h.clear;
       base = ap (λ (t : Standing). t.base) a.standing ∙ h.base;
-      read = shown_on g w v book later s.end.seq chain grown paged pages (ap (λ (t : Standing). t.base) a.standing) (ap (λ (t : Standing). t.opening_seq) a.standing) (ap (λ (t : Standing). t.pick_low) a.standing) (ap (λ (t : Standing). t.read_low) a.standing) h.read;
+      read = shown_on g w v book later s.end.seq chain grown paged pages (ap (λ (t : Standing). t.base) a.standing)
+          (ap (λ (t : Standing). t.opening_seq) a.standing) (ap (λ (t : Standing). t.pick_low) a.standing)
+          (ap (λ (t : Standing). t.read_low) a.standing) h.read;
       flight = f;
       is_flight = refl;
       flying = a.flying;
     }
 
-    aloft_goes : (s : LogState) (f : FlightState) (outs : List Out) → WritingShown g w book chain s → Goes g w book (Aloft g w book fixed paged reached s s f) outs → Goes g w book (OpeningShown g chain (record s { flight = Some f })) outs
+    aloft_goes : (s : LogState) (f : FlightState) (outs : List Out) → WritingShown g w book chain s
+        → Goes g w book (Aloft g w book fixed paged reached s s f) outs → Goes g w book (OpeningShown g chain (record s { flight = Some f })) outs
     aloft_goes s f outs h t = record {
       world = t.world;
       later = t.later;
@@ -303,18 +342,32 @@ module _ (g : Setting) (chain : List Segment) where
     }
 
     nothing : (s : LogState) → WritingShown g w book chain s → To w book (still s)
-    nothing s h = record { world = w; later = book; steps = Done; frame = record { others = refl; booked = λ x is. is; segment = λ x is. refl; stores = λ p is. is; filed = λ x is. is; calm = λ none c. c }; fresh = λ x is. inl is; paged = paged; shows = inl h; said = tt; end_follows = inl refl }
+    nothing s h =
+        record {
+          world = w;
+          later = book;
+          steps = Done;
+          frame = record { others = refl; booked = λ x is. is; segment = λ x is. refl; stores = λ p is. is; filed = λ x is. is; calm = λ none c. c };
+          fresh = λ x is. inl is;
+          paged = paged;
+          shows = inl h;
+          said = tt;
+          end_follows = inl refl;
+        }
 
     by_test : (t : Bool) (d e : log.Done) → (t ≡ true → Owed w book d) → (t ≡ false → Owed w book e) → Owed w book (cond t d e)
     by_test true d e h k = h refl
     by_test false d e h k = k refl
 
-    follows_goes : (s : LogState) (f : FlightState) → WritingShown g w book chain s → Flying g book f s.inc s.end.seq (w.booked w.flight) w.flight w.noted → Owed w book (log.followed s f (fate_of s.groups f))
+    follows_goes : (s : LogState) (f : FlightState) → WritingShown g w book chain s → Flying g book f s.inc s.end.seq (w.booked w.flight) w.flight w.noted
+        → Owed w book (log.followed s f (fate_of s.groups f))
     unfolding log.restriped log.settled log.launched log.if_full
     follows_goes s f h flying = pick Follows (nat_lt f.group.parity (lost_count s.groups f.group.members)) Restripe _
         (λ t premise. aloft_goes s _ _ h (restriped_goes g w book fixed paged reached s f h.writes flying))
         (λ t. pick Follows (all_done s.groups f.noted f.group.members 0) Settle Wait
-        (λ all premise. settling (serves_goes g w book fixed paged reached chain s f (sure_when g.doubts) h flying all (sure_premise g.doubts refl (λ none. premise none (ap (λ (d : log.Done). d.state.flight) lands))) is_sure))
+        (λ all premise. settling
+        (serves_goes g w book fixed paged reached chain s f (sure_when g.doubts) h flying all
+        (sure_premise g.doubts refl (λ none. premise none (ap (λ (d : log.Done). d.state.flight) lands))) is_sure))
         (λ all premise. aloft_goes s f [] h (waits_goes g w book fixed paged reached s f h.writes flying)))
       where
         Follows : Fate → Type 0
@@ -331,15 +384,29 @@ module _ (g : Setting) (chain : List Segment) where
         lands : log.if_full (log.landed s f) ≡ still (log.landed s f)
         lands = ap (λ ds. cond (nat_le segment_blocks (length ds)) (log.sealed (log.landed s f)) (still (log.landed s f))) h.clear
 
-        settling : Goes g w book (λ v later. Serves g v later (log.landed s f) × AllFiled g v chain) (Settled (end_from f.segment) (rows_of f.segment) ∷ []) → To w book (after (Settled (end_from f.segment) (rows_of f.segment) ∷ []) (log.if_full (log.landed s f)))
+        settling : Goes g w book (λ v later. Serves g v later (log.landed s f) × AllFiled g v chain) (Settled (end_from f.segment) (rows_of f.segment) ∷ [])
+            → To w book (after (Settled (end_from f.segment) (rows_of f.segment) ∷ []) (log.if_full (log.landed s f)))
         settling t = subst (λ (d : log.Done). To w book (after (Settled (end_from f.segment) (rows_of f.segment) ∷ []) d)) (sym lands)
-            (record { world = t.world; later = t.later; steps = t.steps; frame = t.frame; fresh = t.fresh; paged = t.paged; shows = inr (t.shows.0, t.shows.1, refl); said = t.said; end_follows = t.end_follows })
+            (record {
+              world = t.world;
+              later = t.later;
+              steps = t.steps;
+              frame = t.frame;
+              fresh = t.fresh;
+              paged = t.paged;
+              shows = inr (t.shows.0, t.shows.1, refl);
+              said = t.said;
+              end_follows = t.end_follows;
+            })
 
-    looks_goes : (before s : LogState) (f : FlightState) → WritingShown g w book chain before → WritingShown g w book chain s → Flying g book f s.inc s.end.seq (w.booked w.flight) w.flight w.noted → Owed w book (log.looked_at before s f)
+    looks_goes : (before s : LogState) (f : FlightState) → WritingShown g w book chain before → WritingShown g w book chain s
+        → Flying g book f s.inc s.end.seq (w.booked w.flight) w.flight w.noted → Owed w book (log.looked_at before s f)
     unfolding log.looked_at
-    looks_goes before s f was h flying = by_test (log.can_follow s f (fate_of s.groups f)) _ _ (λ t. follows_goes s f h flying) (λ t premise. nothing before was)
+    looks_goes before s f was h flying =
+        by_test (log.can_follow s f (fate_of s.groups f)) _ _ (λ t. follows_goes s f h flying) (λ t premise. nothing before was)
 
-    chained_same : (stores : List StorePacket) (top x : ℕ) (ts : List Segment) → Chained g w book top x ts → Chained g (record w { stores = stores }) book top x ts
+    chained_same : (stores : List StorePacket) (top x : ℕ) (ts : List Segment) → Chained g w book top x ts
+        → Chained g (record w { stores = stores }) book top x ts
     chained_same stores top x [] c = c
     chained_same stores top x (t ∷ ts) c = (c.0, c.1, c.2, c.3, c.4, chained_same stores top c.0 ts c.5)
 
@@ -360,7 +427,16 @@ module _ (g : Setting) (chain : List Segment) where
             phase = h.phase;
             clear = h.clear;
             base = h.base;
-            read = record { opening = h.read.opening; lowest = h.read.lowest; picked = h.read.picked; cut = h.read.cut; from = h.read.from; next = h.read.next; chained = chained_same t.all s.end.seq h.read.next chain h.read.chained; bottom = h.read.bottom };
+            read = record {
+              opening = h.read.opening;
+              lowest = h.read.lowest;
+              picked = h.read.picked;
+              cut = h.read.cut;
+              from = h.read.from;
+              next = h.read.next;
+              chained = chained_same t.all s.end.seq h.read.next chain h.read.chained;
+              bottom = h.read.bottom;
+            };
             flight = h.flight;
             is_flight = h.is_flight;
             flying = h.flying;
@@ -370,20 +446,26 @@ module _ (g : Setting) (chain : List Segment) where
         }
 
   module _ (w : State) (book : ℕ → Segment) (fixed : Fixed g w) (paged : Book g w book) (reached : Reached w) where
-    acked_goes : (s : LogState) (name : SegName) (index generation : ℕ) → WritingShown g w book chain s → StoredSeen g w.storeds name index generation → Owed w book (log.on_acked s name index generation)
+    acked_goes : (s : LogState) (name : SegName) (index generation : ℕ) → WritingShown g w book chain s → StoredSeen g w.storeds name index generation
+        → Owed w book (log.on_acked s name index generation)
     unfolding log.on_acked
     acked_goes s name index generation h seen =
-        subst (λ o. Owed w book (elim o [ None ↦ still s | Some f ↦ if log.is_of f name index generation then log.looked_at s s (log.noting f index) else still s ])) (sym h.is_flight)
-        (by_test w book fixed paged reached (log.is_of h.flight name index generation) _ _ (λ t. noting t) (λ t premise. nothing w book fixed paged reached s h))
+        subst (λ o. Owed w book
+        (elim o [ None ↦ still s | Some f ↦ if log.is_of f name index generation then log.looked_at s s (log.noting f index) else still s ])) (sym h.is_flight)
+        (by_test w book fixed paged reached (log.is_of h.flight name index generation) _ _ (λ t. noting t)
+        (λ t premise. nothing w book fixed paged reached s h))
       where
         v : State
         v = notes w (record { name = seen.number; index = index; generation = generation })
 
         noting : log.is_of h.flight name index generation ≡ true → Owed w book (log.looked_at s s (log.noting h.flight index))
         noting t premise =
-            let same : seen.number ≡ w.flight = one_number g seen.number w.flight (sym seen.named ∙ (one_name name h.flight.segment.name (and_first (same_name name h.flight.segment.name) _ t)
+            let same : seen.number ≡ w.flight =
+            one_number g seen.number w.flight (sym seen.named ∙ (one_name name h.flight.segment.name (and_first (same_name name h.flight.segment.name) _ t)
             ∙ (ap (λ (z : Segment). z.name) h.flying.segment ∙ (paged w.flight h.flying.is_booked).named))) in
-            let step : Steps w v = More Done (Notes (record { name = seen.number; index = index; generation = generation }) (record { sent = seen.sent; flying = h.flying.some; named = same })) in
+            let step : Steps w v =
+            More Done (Notes (record { name = seen.number; index = index; generation = generation })
+            (record { sent = seen.sent; flying = h.flying.some; named = same })) in
             let there : WritingShown g v book chain s = record {
               writes = record { log = h.writes.log; inc = h.writes.inc; some = h.writes.some; map = h.writes.map; known = h.writes.known };
               phase = h.phase;
@@ -392,19 +474,42 @@ module _ (g : Setting) (chain : List Segment) where
               read = shown_on g w v book book s.end.seq chain (λ x is. (is, refl)) paged paged refl refl refl refl h.read;
               flight = h.flight;
               is_flight = h.is_flight;
-              flying = record { some = h.flying.some; is_booked = h.flying.is_booked; segment = h.flying.segment; stripe = h.flying.stripe; own = h.flying.own; next = h.flying.next; notes = noted_still g h.flight.noted w.noted index h.flying.notes };
+              flying = record {
+                some = h.flying.some;
+                is_booked = h.flying.is_booked;
+                segment = h.flying.segment;
+                stripe = h.flying.stripe;
+                own = h.flying.own;
+                next = h.flying.next;
+                notes = noted_still g h.flight.noted w.noted index h.flying.notes;
+              };
             } in
-            goes_after g _ w v book _ step (record { others = refl; booked = λ x is. is; segment = λ x is. refl; stores = λ p is. is; filed = λ x is. is; calm = λ none c. c }) (λ x is. is) refl
-            (looks_goes v book (record { servers = fixed.servers; seq_of = fixed.seq_of; incarnation_of = fixed.incarnation_of; attempt_of = fixed.attempt_of }) paged (reached_by w v reached step refl) s s (log.noting h.flight index) there there
-            (record { some = h.flying.some; is_booked = h.flying.is_booked; segment = h.flying.segment; stripe = h.flying.stripe; own = h.flying.own; next = h.flying.next; notes = noted_more g h.flight.noted w.noted index h.flying.notes }) premise)
+            goes_after g _ w v book _ step
+            (record { others = refl; booked = λ x is. is; segment = λ x is. refl; stores = λ p is. is; filed = λ x is. is; calm = λ none c. c })
+            (λ x is. is) refl
+            (looks_goes v book
+            (record { servers = fixed.servers; seq_of = fixed.seq_of; incarnation_of = fixed.incarnation_of; attempt_of = fixed.attempt_of }) paged
+            (reached_by w v reached step refl) s s (log.noting h.flight index) there there
+            (record {
+              some = h.flying.some;
+              is_booked = h.flying.is_booked;
+              segment = h.flying.segment;
+              stripe = h.flying.stripe;
+              own = h.flying.own;
+              next = h.flying.next;
+              notes = noted_more g h.flight.noted w.noted index h.flying.notes;
+            }) premise)
 
     maps_goes : (s : LogState) (m : GroupMapState) → WritingShown g w book chain s → MapSeen g w.registry_generation m → Owed w book (log.on_maps s m)
     unfolding log.on_maps log.looked_at
     maps_goes s m h seen =
         subst (λ o. Owed w book (elim o [ None ↦ still (record s { groups = m }) | Some f ↦ log.looked_at s (record s { groups = m }) f ])) (sym h.is_flight)
         (by_test w book fixed paged reached (log.can_follow (record s { groups = m }) h.flight (fate_of m h.flight)) _ _
-        (λ t premise. goes_after g _ w v book _ step (record { others = refl; booked = λ x is. is; segment = λ x is. refl; stores = λ p is. is; filed = λ x is. is; calm = λ none c. c }) (λ x is. is) refl
-        (follows_goes v book (record { servers = fixed.servers; seq_of = fixed.seq_of; incarnation_of = fixed.incarnation_of; attempt_of = fixed.attempt_of }) paged (reached_by w v reached step refl) (record s { groups = m }) h.flight there h.flying premise))
+        (λ t premise. goes_after g _ w v book _ step
+        (record { others = refl; booked = λ x is. is; segment = λ x is. refl; stores = λ p is. is; filed = λ x is. is; calm = λ none c. c }) (λ x is. is) refl
+        (follows_goes v book
+        (record { servers = fixed.servers; seq_of = fixed.seq_of; incarnation_of = fixed.incarnation_of; attempt_of = fixed.attempt_of }) paged
+        (reached_by w v reached step refl) (record s { groups = m }) h.flight there h.flying premise))
         (λ t premise. nothing w book fixed paged reached s h))
       where
         v : State
@@ -428,7 +533,8 @@ module _ (g : Setting) (chain : List Segment) where
 pub opens_by_step : OpensByStep
 unfolding log.on_parts
 opens_by_step g w book start chain m fixed reached paged shown room =
-    subst (λ (t : Bool). Goes g w book (λ v later. WritingShown g v later chain (cond (t && true) (log.writes s []) (still s)).state) (cond (t && true) (log.writes s []) (still s)).outs) (sym room)
+    subst (λ (t : Bool). Goes g w book (λ v later. WritingShown g v later chain (cond (t && true) (log.writes s []) (still s)).state)
+    (cond (t && true) (log.writes s []) (still s)).outs) (sym room)
     (opens_goes g w book fixed paged reached start chain m shown)
   where
     s : LogState
@@ -438,6 +544,7 @@ pub opening_takes : OpeningTakes
 opening_takes g w book chain s (Put block entry value) fixed reached paged h premise brings = absurd brings
 opening_takes g w book chain s (Parts items) fixed reached paged h premise brings = absurd brings
 opening_takes g w book chain s Seal fixed reached paged h premise brings = absurd brings
-opening_takes g w book chain s (Acked name index generation) fixed reached paged h premise brings = acked_goes g chain w book fixed paged reached s name index generation h brings premise
+opening_takes g w book chain s (Acked name index generation) fixed reached paged h premise brings =
+    acked_goes g chain w book fixed paged reached s name index generation h brings premise
 opening_takes g w book chain s (Maps m) fixed reached paged h premise brings = maps_goes g chain w book fixed paged reached s m h brings premise
 opening_takes g w book chain s Tick fixed reached paged h premise brings = tick_goes g chain w book fixed paged reached s h

@@ -49,7 +49,8 @@ module _ (g : Setting) (w : State) (book : ℕ → Segment) (bound : ℕ) where
       by false e more = more
 
 -- a meta that is listed is of a booked segment
-meta_booked : (book : ℕ → Segment) (booked : ℕ → ℕ) (ms : List FragMeta) (x : FragMeta) → AllMetas book booked ms → In x ms → (y : ℕ) × (i : ℕ) × (booked y ≡ 1) × (x ≡ meta_of (book y) i)
+meta_booked : (book : ℕ → Segment) (booked : ℕ → ℕ) (ms : List FragMeta) (x : FragMeta) → AllMetas book booked ms → In x ms
+    → (y : ℕ) × (i : ℕ) × (booked y ≡ 1) × (x ≡ meta_of (book y) i)
 meta_booked book booked [] x all is = absurd is
 meta_booked book booked (k ∷ ms) x all (inl e) = (all.0.0, all.0.1, all.0.2, e ∙ all.0.3)
 meta_booked book booked (k ∷ ms) x all (inr is) = meta_booked book booked ms x all.1 is
@@ -73,14 +74,21 @@ pub nothing_newest : (ms : List FragMeta) → newest ms ≡ None → ms ≡ []
 nothing_newest [] h = refl
 nothing_newest (m ∷ ms) h = absurd (let e = search_is m ms ∙ h in cc)
 
-module _ (g : Setting) (w : State) (book : ℕ → Segment) (fixed : Fixed g w) (paged : Book g w book) (reached : Reached w) (m : GroupMapState) (whole : WholeMap g w.registry_generation m) (bound low : ℕ) (ls : List Listing) (all : AllListed g w book bound ls) (phantom : Phantom w)
+module _ (g : Setting) (w : State) (book : ℕ → Segment) (fixed : Fixed g w) (paged : Book g w book) (reached : Reached w) (m : GroupMapState)
+    (whole : WholeMap g w.registry_generation m) (bound low : ℕ) (ls : List Listing) (all : AllListed g w book bound ls) (phantom : Phantom w)
     (every : (v : ℕ) → 0 < v → v < suc g.servers → has_list v ls ≡ true) (begun : w.begin_low ≤ bound) (after : bound ≤ low) (known : low ≤ w.low) where
   pub told : (v : ℕ) → TellsList g w ls bound v
   told v = by (has_list v ls) refl
     where
       by : (t : Bool) → has_list v ls ≡ t → TellsList g w ls bound v
       by true e = let k = its_list ls v e in let s = kept_list g w book bound ls (listing_of ls v) all k.0 in record {
-        packet = record { from = (listing_of ls v).server; incarnation = w.incarnation; generation = (listing_of ls v).generation; low = s.seen.low; listed = s.seen.listed };
+        packet = record {
+          from = (listing_of ls v).server;
+          incarnation = w.incarnation;
+          generation = (listing_of ls v).generation;
+          low = s.seen.low;
+          listed = s.seen.listed;
+        };
         sent = s.seen.sent;
         from = λ b. k.1;
         boot = refl;
@@ -174,18 +182,24 @@ module _ (g : Setting) (w : State) (book : ℕ → Segment) (fixed : Fixed g w) 
 
   module _ (b : FragMeta) (is_picked : IsPicked low ls b) where
     no_newer : (v z : ℕ) → (list_of v).listed z ≡ 1 → low ≤ w.seq_of z → (y : FragMeta) × (y.name ≡ name_of g z) × IsNoNewer y.name b.name
-    no_newer v z listed up = let c = counts v z listed up in (c.meta, c.named, is_picked.first c.list c.meta (contained_in c.list ls c.among) (contained_in c.meta c.list.held c.held) c.up)
+    no_newer v z listed up = let c =
+        counts v z listed up in (c.meta, c.named, is_picked.first c.list c.meta (contained_in c.list ls c.among) (contained_in c.meta c.list.held c.held) c.up)
 
     newest_boot : (x : ℕ) → b.name ≡ name_of g x → (v z : ℕ) → (list_of v).listed z ≡ 1 → low ≤ w.seq_of z → w.incarnation_of z ≤ w.incarnation_of x
-    newest_boot x named v z listed up = let c = no_newer v z listed up in let p = c.2.incarnation in let i = name_inc z c.0.name c.1 in let j = name_inc x b.name named in omega arith
+    newest_boot x named v z listed up = let c = no_newer v z listed up in let p = c.2.incarnation in let i = name_inc z c.0.name c.1 in let j =
+        name_inc x b.name named in omega arith
 
-    longest : (x : ℕ) → b.name ≡ name_of g x → (v z : ℕ) → (list_of v).listed z ≡ 1 → low ≤ w.seq_of z → w.incarnation_of z ≡ w.incarnation_of x → w.seq_of z ≤ w.seq_of x
+    longest : (x : ℕ) → b.name ≡ name_of g x → (v z : ℕ) → (list_of v).listed z ≡ 1 → low ≤ w.seq_of z → w.incarnation_of z ≡ w.incarnation_of x
+        → w.seq_of z ≤ w.seq_of x
     longest x named v z listed up same =
-        let c = no_newer v z listed up in let i = name_inc z c.0.name c.1 in let j = name_inc x b.name named in let p = c.2.number (omega arith) in let s = name_seq z c.0.name c.1 in let t = name_seq x b.name named in omega arith
+        let c = no_newer v z listed up in let i = name_inc z c.0.name c.1 in let j = name_inc x b.name named in let p = c.2.number (omega arith) in let s =
+        name_seq z c.0.name c.1 in let t = name_seq x b.name named in omega arith
 
-    attempts : (x : ℕ) → b.name ≡ name_of g x → (v z : ℕ) → (list_of v).listed z ≡ 1 → low ≤ w.seq_of z → w.incarnation_of z ≡ w.incarnation_of x → w.seq_of z ≡ w.seq_of x → w.attempt_of z ≤ w.attempt_of x
+    attempts : (x : ℕ) → b.name ≡ name_of g x → (v z : ℕ) → (list_of v).listed z ≡ 1 → low ≤ w.seq_of z → w.incarnation_of z ≡ w.incarnation_of x
+        → w.seq_of z ≡ w.seq_of x → w.attempt_of z ≤ w.attempt_of x
     attempts x named v z listed up same seqs =
-        let c = no_newer v z listed up in let i = name_inc z c.0.name c.1 in let j = name_inc x b.name named in let s = name_seq z c.0.name c.1 in let t = name_seq x b.name named in
+        let c = no_newer v z listed up in let i = name_inc z c.0.name c.1 in let j = name_inc x b.name named in let s = name_seq z c.0.name c.1 in let t =
+        name_seq x b.name named in
         let p = c.2.attempt (omega arith) (omega arith) in let a = name_att z c.0.name c.1 in let d = name_att x b.name named in omega arith
 
     best_one : Best b
@@ -204,7 +218,8 @@ module _ (g : Setting) (w : State) (book : ℕ → Segment) (fixed : Fixed g w) 
             listed = (
               c.0.server,
               subst (λ n. c.0.server < n) (sym fixed.servers) s.exists,
-              (told c.0.server).lists y.0 ∙ ap flag (ap (λ (z : Listing). has_name (name_of g y.0) z.held) own ∙ (ap (λ n. has_name n c.0.held) (sym named) ∙ in_named c.0.held b c.2)),
+              (told c.0.server).lists y.0
+                  ∙ ap flag (ap (λ (z : Listing). has_name (name_of g y.0) z.held) own ∙ (ap (λ n. has_name n c.0.held) (sym named) ∙ in_named c.0.held b c.2)),
             );
             above = let a = c.3 in let q = name_seq y.0 b.name named in omega arith;
             newest_boot = λ v z below listed up. newest_boot y.0 named v z listed up;
@@ -228,15 +243,21 @@ module _ (g : Setting) (w : State) (book : ℕ → Segment) (fixed : Fixed g w) 
     its_server j = (paged k.number k.booked).at_server j ∙ ap (λ ms. server_of ms j) (sym its_members)
 
     its_generation : (j : ℕ) → j < length group.members → w.member_generation k.number j ≡ generation_of group.members j
-    its_generation j member = (paged k.number k.booked).at_generation j (subst (λ ms. j < length ms) its_members member) ∙ ap (λ ms. generation_of ms j) (sym its_members)
+    its_generation j member =
+        (paged k.number k.booked).at_generation j (subst (λ ms. j < length ms) its_members member) ∙ ap (λ ms. generation_of ms j) (sym its_members)
 
     its_exists : (j : ℕ) → j < length group.members → server_of group.members j < suc g.servers
-    its_exists j member = subst (λ n. n < suc g.servers) (its_server j) (subst (λ n. w.member_server k.number j < n) fixed.servers ((always w reached).shelf.texts.server_known k.number j k.booked (subst (λ n. j < n) (sym its_count) member)))
+    its_exists j member =
+        subst (λ n. n < suc g.servers) (its_server j)
+        (subst (λ n. w.member_server k.number j < n) fixed.servers
+        ((always w reached).shelf.texts.server_known k.number j k.booked (subst (λ n. j < n) (sym its_count) member)))
 
     pub keeps_it : w.phase ≡ 1 → is_torn ls b.name group.members ≡ false → CanPickKept w list_of low k.number
     keeps_it phase none = record { gathering = phase; gathered = gathered; picked = k.picked; whole = λ j member. by j (subst (λ n. j < n) its_count member) }
       where
-        by : (j : ℕ) → j < length group.members → ((list_of (w.member_server k.number j)).listed k.number ≡ 1) ⊎ ((list_of (w.member_server k.number j)).generation ≡ w.member_generation k.number j → ⊥)
+        by : (j : ℕ) → j < length group.members
+            → ((list_of (w.member_server k.number j)).listed k.number ≡ 1)
+            ⊎ ((list_of (w.member_server k.number j)).generation ≡ w.member_generation k.number j → ⊥)
         by j member = from (whole_lists ls b.name group.members none j member (listing_of ls v) there.0 there.1)
           where
             v : ℕ
@@ -248,10 +269,18 @@ module _ (g : Setting) (w : State) (book : ℕ → Segment) (fixed : Fixed g w) 
             there : In (listing_of ls (server_of group.members j)) ls × ((listing_of ls (server_of group.members j)).server ≡ server_of group.members j)
             there = its_list ls (server_of group.members j) (every (server_of group.members j) positive (its_exists j member))
 
-            from : (has_name b.name (listing_of ls (server_of group.members j)).held ≡ true) ⊎ ((listing_of ls (server_of group.members j)).generation ≡ generation_of group.members j → ⊥)
-                → ((list_of (w.member_server k.number j)).listed k.number ≡ 1) ⊎ ((list_of (w.member_server k.number j)).generation ≡ w.member_generation k.number j → ⊥)
-            from (inl t) = inl (ap (λ u. (list_of u).listed k.number) (its_server j) ∙ ((told (server_of group.members j)).lists k.number ∙ ap flag (ap (λ n. has_name n (listing_of ls (server_of group.members j)).held) (sym k.named) ∙ t)))
-            from (inr other) = inr (λ same. other (sym ((told (server_of group.members j)).generation positive (its_exists j member)) ∙ (ap (λ u. (list_of u).generation) (sym (its_server j)) ∙ (same ∙ its_generation j member))))
+            from : (has_name b.name (listing_of ls (server_of group.members j)).held ≡ true)
+                ⊎ ((listing_of ls (server_of group.members j)).generation ≡ generation_of group.members j → ⊥)
+                → ((list_of (w.member_server k.number j)).listed k.number ≡ 1)
+                ⊎ ((list_of (w.member_server k.number j)).generation ≡ w.member_generation k.number j → ⊥)
+            from (inl t) =
+                inl (ap (λ u. (list_of u).listed k.number) (its_server j)
+                ∙ ((told (server_of group.members j)).lists k.number
+                ∙ ap flag (ap (λ n. has_name n (listing_of ls (server_of group.members j)).held) (sym k.named) ∙ t)))
+            from (inr other) =
+                inr (λ same. other
+                (sym ((told (server_of group.members j)).generation positive (its_exists j member))
+                ∙ (ap (λ u. (list_of u).generation) (sym (its_server j)) ∙ (same ∙ its_generation j member))))
 
     pub discards_it : w.phase ≡ 1 → (l : Lacks ls b.name group.members) → CanPickPrior w list_of low k.number l.place
     discards_it phase l = record {
@@ -259,8 +288,12 @@ module _ (g : Setting) (w : State) (book : ℕ → Segment) (fixed : Fixed g w) 
       gathered = gathered;
       picked = k.picked;
       member = subst (λ n. l.place < n) (sym its_count) l.member;
-      lacks = ap (λ u. (list_of u).listed k.number) (its_server l.place) ∙ ((told v).lists k.number ∙ ap flag (ap (λ (z : Listing). has_name (name_of g k.number) z.held) own ∙ (ap (λ n. has_name n l.list.held) (sym k.named) ∙ l.lacking)));
-      original = ap (λ u. (list_of u).generation) (its_server l.place) ∙ ((told v).generation (whole.some b.group group of l.place l.member) (its_exists l.place l.member) ∙ (ap (λ (z : Listing). z.generation) own ∙ (l.original ∙ sym (its_generation l.place l.member))));
+      lacks = ap (λ u. (list_of u).listed k.number) (its_server l.place)
+          ∙ ((told v).lists k.number
+          ∙ ap flag (ap (λ (z : Listing). has_name (name_of g k.number) z.held) own ∙ (ap (λ n. has_name n l.list.held) (sym k.named) ∙ l.lacking)));
+      original = ap (λ u. (list_of u).generation) (its_server l.place)
+          ∙ ((told v).generation (whole.some b.group group of l.place l.member) (its_exists l.place l.member)
+          ∙ (ap (λ (z : Listing). z.generation) own ∙ (l.original ∙ sym (its_generation l.place l.member))));
     }
       where
         v : ℕ

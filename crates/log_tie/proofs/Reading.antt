@@ -68,21 +68,26 @@ read_later : (r : ReadingState) (ask : ℕ) (found : Option Segment) → AsksLat
 read_later r ask None = tt
 read_later r ask (Some s) = tt
 
-judged_later : (r : ReadingState) (groups : GroupMapState) (ask : ℕ) (st : RoundState) → AsksLater ask (reading.judged r groups st).state.ask (reading.judged r groups st).next
+judged_later : (r : ReadingState) (groups : GroupMapState) (ask : ℕ) (st : RoundState)
+    → AsksLater ask (reading.judged r groups st).state.ask (reading.judged r groups st).next
 judged_later r groups ask (round.Read bytes) = read_later r ask (reading.segment_found r.target groups (answer_of bytes))
 judged_later r groups ask (round.Short pairs) = tt
 judged_later r groups ask round.Waiting = tt
 
-answered_later : (r : ReadingState) (groups : GroupMapState) (mine ask server : ℕ) (t : Told) → AsksLater mine (reading.on_answer r groups ask server t).state.ask (reading.on_answer r groups ask server t).next
+answered_later : (r : ReadingState) (groups : GroupMapState) (mine ask server : ℕ) (t : Told)
+    → AsksLater mine (reading.on_answer r groups ask server t).state.ask (reading.on_answer r groups ask server t).next
 unfolding reading.on_answer
 answered_later r groups mine ask server t =
-    by_test (λ (step : Step). AsksLater mine step.state.ask step.next) (reading.counts r ask server t) (reading.judged (record r { round = taken r.round server t }) groups (state_of (taken r.round server t))) (record { state = r; next = next.Wait })
+    by_test (λ (step : Step). AsksLater mine step.state.ask step.next) (reading.counts r ask server t)
+    (reading.judged (record r { round = taken r.round server t }) groups (state_of (taken r.round server t))) (record { state = r; next = next.Wait })
     (λ e. judged_later (record r { round = taken r.round server t }) groups mine (state_of (taken r.round server t))) (λ e. tt)
 
 answered_fits : (r : ReadingState) (groups : GroupMapState) (mine ask server : ℕ) (t : Told) → StepFits r mine (reading.on_answer r groups ask server t)
-answered_fits r groups mine ask server t = let k = answered_keeps r groups ask server t in record { same = k.same; name = k.name; later = answered_later r groups mine ask server t }
+answered_fits r groups mine ask server t = let k =
+    answered_keeps r groups ask server t in record { same = k.same; name = k.name; later = answered_later r groups mine ask server t }
 
-confirmed_later : (r : ReadingState) (ask : ℕ) (stage : rounds.Stage) → AsksLater ask (reading.goes_on r (ask + 1) stage).state.ask (reading.goes_on r (ask + 1) stage).next
+confirmed_later : (r : ReadingState) (ask : ℕ) (stage : rounds.Stage)
+    → AsksLater ask (reading.goes_on r (ask + 1) stage).state.ask (reading.goes_on r (ask + 1) stage).next
 confirmed_later r ask Asking = tt
 confirmed_later r ask Between = omega arith
 confirmed_later r ask Doubted = tt
@@ -117,9 +122,11 @@ module _ (g : Setting) (v : State) (book : ℕ → Segment) (hellos : List Asked
   -- ---- what is said
 
   -- nothing that asks the registry or tells a chain
-  pub sees_quiet : (o : Opening) (stage : Stage) (outs : List Out) → Framed o → asked_by v.incarnation v.low outs hellos ≡ hellos → AllByRecursion (OutShown g v book o) outs → StageShown g v book hellos o stage → Sees (goes o stage outs)
+  pub sees_quiet : (o : Opening) (stage : Stage) (outs : List Out) → Framed o → asked_by v.incarnation v.low outs hellos ≡ hellos
+      → AllByRecursion (OutShown g v book o) outs → StageShown g v book hellos o stage → Sees (goes o stage outs)
   sees_quiet o stage outs f same gives h = record {
-    shown = subst (λ hs. ScanShown g v book hs (record { opening = o; stage = stage })) (sym same) (record { log = f.log; inc = f.inc; horizon = f.horizon; asked = f.asked; stage = h });
+    shown = subst (λ hs. ScanShown g v book hs (record { opening = o; stage = stage })) (sym same)
+        (record { log = f.log; inc = f.inc; horizon = f.horizon; asked = f.asked; stage = h });
     gives = gives;
   }
 
@@ -130,7 +137,8 @@ module _ (g : Setting) (v : State) (book : ℕ → Segment) (hellos : List Asked
   asked_fetches name ask [] = refl
   asked_fetches name ask (s ∷ ss) = asked_fetches name ask ss
 
-  gives_fetches : (o : Opening) (name : SegName) (ask : ℕ) (servers : List ℕ) → AllByRecursion (OutShown g v book o) (map (λ server. Fetch server name ask) servers)
+  gives_fetches : (o : Opening) (name : SegName) (ask : ℕ) (servers : List ℕ)
+      → AllByRecursion (OutShown g v book o) (map (λ server. Fetch server name ask) servers)
   gives_fetches o name ask [] = tt
   gives_fetches o name ask (s ∷ ss) = (tt, gives_fetches o name ask ss)
 
@@ -145,8 +153,10 @@ module _ (g : Setting) (v : State) (book : ℕ → Segment) (hellos : List Asked
   pub sees_fences : (o : Opening) (stage : Stage) (servers : List ℕ) → Framed o → StageShown g v book hellos o stage → Sees (goes o stage (fences servers))
   sees_fences o stage servers f h = sees_quiet o stage (fences servers) f (asked_fences servers) (gives_fences o servers) h
 
-  pub sees_fetches : (o : Opening) (b : Backward) (r : ReadingState) → Framed o → StageShown g v book hellos o (Reads b (Some r)) → Sees (goes o (Reads b (Some r)) (fetches r))
-  sees_fetches o b r f h = sees_quiet o (Reads b (Some r)) (fetches r) f (asked_fetches r.target.seg.name r.ask (to_ask r)) (gives_fetches o r.target.seg.name r.ask (to_ask r)) h
+  pub sees_fetches : (o : Opening) (b : Backward) (r : ReadingState) → Framed o → StageShown g v book hellos o (Reads b (Some r))
+      → Sees (goes o (Reads b (Some r)) (fetches r))
+  sees_fetches o b r f h =
+      sees_quiet o (Reads b (Some r)) (fetches r) f (asked_fetches r.target.seg.name r.ask (to_ask r)) (gives_fetches o r.target.seg.name r.ask (to_ask r)) h
 
   -- a question to the registry, of this number
   abbrev pub question : ℕ → Asked
@@ -171,13 +181,32 @@ module _ (g : Setting) (v : State) (book : ℕ → Segment) (hellos : List Asked
 
   -- a reading is seen alike after a question
   asked_reading : (o : Opening) (ask : ℕ) (b : Backward) → ReadingShown g v book o b → ReadingShown g v book (record o { ask = ask }) b
-  asked_reading o ask b h = record { phase = h.phase; mapped = record { map = h.mapped.map; taken = h.mapped.taken; whole = h.mapped.whole; known = h.mapped.known }; base = h.base; begun = h.begun; opening = h.opening; low = h.low; past = h.past; from = h.from; chained = h.chained; seq = h.seq; grouped = h.grouped }
+  asked_reading o ask b h =
+      record {
+        phase = h.phase;
+        mapped = record { map = h.mapped.map; taken = h.mapped.taken; whole = h.mapped.whole; known = h.mapped.known };
+        base = h.base;
+        begun = h.begun;
+        opening = h.opening;
+        low = h.low;
+        past = h.past;
+        from = h.from;
+        chained = h.chained;
+        seq = h.seq;
+        grouped = h.grouped;
+      }
 
   -- all lists are in: the registry is asked
-  pub asks_new : (o : Opening) (lists : List Listing) (bound : ℕ) → Framed o → Gathering g v book o bound lists → ((u : ℕ) → 0 < u → u < suc g.servers → has_list u lists ≡ true) → bound ≤ v.low → v.begin_low ≤ bound → Sees (asks_anew o (Asks lists))
+  pub asks_new : (o : Opening) (lists : List Listing) (bound : ℕ) → Framed o → Gathering g v book o bound lists
+      → ((u : ℕ) → 0 < u → u < suc g.servers → has_list u lists ≡ true) → bound ≤ v.low → v.begin_low ≤ bound → Sees (asks_anew o (Asks lists))
   asks_new o lists bound f k every past begun = sees_anew o (Asks lists) f (record {
     bound = bound;
-    gathering = record { phase = k.phase; phantom = k.phantom; mapped = record { map = k.mapped.map; taken = k.mapped.taken; whole = k.mapped.whole; known = k.mapped.known }; kept = k.kept };
+    gathering = record {
+      phase = k.phase;
+      phantom = k.phantom;
+      mapped = record { map = k.mapped.map; taken = k.mapped.taken; whole = k.mapped.whole; known = k.mapped.known };
+      kept = k.kept;
+    };
     every = every;
     past = past;
     begun = begun;
@@ -191,15 +220,19 @@ module _ (g : Setting) (v : State) (book : ℕ → Segment) (hellos : List Asked
   -- ---- reading back
 
   -- where the reading ends
-  bottom_told : (o : Opening) (b : Backward) → ReadingShown g v book o b → is_bottom o.low b.next ≡ true → (point g b.next.seq b.next.pass ≡ 0) ⊎ (b.start.seq < v.read_low + length (reverse b.chain))
+  bottom_told : (o : Opening) (b : Backward) → ReadingShown g v book o b → is_bottom o.low b.next ≡ true
+      → (point g b.next.seq b.next.pass ≡ 0) ⊎ (b.start.seq < v.read_low + length (reverse b.chain))
   bottom_told o b h t = by (nat_lt b.next.seq o.low) refl t
     where
       less : (x y : ℕ) → nat_lt x y ≡ true → x < y
       less x y e = grind (arith, nat_tests)
 
-      by : (p : Bool) → nat_lt b.next.seq o.low ≡ p → (p || names_none b.next) ≡ true → (point g b.next.seq b.next.pass ≡ 0) ⊎ (b.start.seq < v.read_low + length (reverse b.chain))
+      by : (p : Bool) → nat_lt b.next.seq o.low ≡ p → (p || names_none b.next) ≡ true
+          → (point g b.next.seq b.next.pass ≡ 0) ⊎ (b.start.seq < v.read_low + length (reverse b.chain))
       by true e k = inr (let a = less b.next.seq o.low e in let c = h.seq in let d = h.low in omega arith)
-      by false e k = inl (ap (λ z. cond z 0 (g.code b.next.seq b.next.pass.inc b.next.pass.att)) (and_first (b.next.pass.inc == 0) ((b.next.pass.att == 0) && (b.next.group == 0)) k))
+      by false e k =
+          inl (ap (λ z. cond z 0 (g.code b.next.seq b.next.pass.inc b.next.pass.att))
+          (and_first (b.next.pass.inc == 0) ((b.next.pass.att == 0) && (b.next.group == 0)) k))
 
   pub chain_told : (o : Opening) (b : Backward) → Framed o → ReadingShown g v book o b → is_bottom o.low b.next ≡ true → Sees (goes o Over (chain_of b ∷ []))
   chain_told o b f h t = record {
@@ -215,14 +248,24 @@ module _ (g : Setting) (v : State) (book : ℕ → Segment) (hellos : List Asked
           known = h.mapped.known;
           base = h.base;
           grouped = h.begun;
-          read = record { opening = h.opening; lowest = v.pick_low; picked = omega arith; cut = h.past; from = h.from; next = point g b.next.seq b.next.pass; chained = h.chained; bottom = bottom_told o b h t };
+          read = record {
+            opening = h.opening;
+            lowest = v.pick_low;
+            picked = omega arith;
+            cut = h.past;
+            from = h.from;
+            next = point g b.next.seq b.next.pass;
+            chained = h.chained;
+            bottom = bottom_told o b h t;
+          };
         },
       ),
       tt,
     );
   }
 
-  begins_shown : (o : Opening) (b : Backward) (group : Option Group) → known_group o.groups b.next.group ≡ group → Framed o → ReadingShown g v book o b → is_bottom o.low b.next ≡ false → Sees (begins_in o b group)
+  begins_shown : (o : Opening) (b : Backward) (group : Option Group) → known_group o.groups b.next.group ≡ group → Framed o → ReadingShown g v book o b
+      → is_bottom o.low b.next ≡ false → Sees (begins_in o b group)
   begins_shown o b None of f h more = sees_anew o (Reads b None) f (asked_reading o (o.ask + 1) b h, more, tt)
   begins_shown o b (Some group) of f h more =
       let known : group_of h.mapped.map b.next.group ≡ Some group = ap (λ (gs : Option GroupMapState). known_group gs b.next.group) (sym h.mapped.taken) ∙ of in
@@ -232,7 +275,8 @@ module _ (g : Setting) (v : State) (book : ℕ → Segment) (hellos : List Asked
         more,
         (
           ap (λ (l : LogId). name_at l b.next) f.log,
-          new_shown g book v.booked b.next (length group.members) group.parity (reading.servers_of group) (h.mapped.whole.cut b.next.group group known) (ap (λ (z : Stripe). length z.members) (sym named)) (ap (λ (z : Stripe). z.parity) (sym named)),
+          new_shown g book v.booked b.next (length group.members) group.parity (reading.servers_of group) (h.mapped.whole.cut b.next.group group known)
+              (ap (λ (z : Stripe). length z.members) (sym named)) (ap (λ (z : Stripe). z.parity) (sym named)),
         ),
       )
 
@@ -242,11 +286,13 @@ module _ (g : Setting) (v : State) (book : ℕ → Segment) (hellos : List Asked
 
   pub follows_shown : (o : Opening) (b : Backward) → Framed o → ReadingShown g v book o b → Sees (follows o b)
   unfolding follows
-  follows_shown o b f h = by_test Sees (is_bottom o.low b.next) (goes o Over (chain_of b ∷ [])) (begins_round o b) (λ t. chain_told o b f h t) (λ t. round_shown o b f h t)
+  follows_shown o b f h =
+      by_test Sees (is_bottom o.low b.next) (goes o Over (chain_of b ∷ [])) (begins_round o b) (λ t. chain_told o b f h t) (λ t. round_shown o b f h t)
 
   module _ (fixed : Fixed g v) (paged : Book g v book) (reached : Reached v) (spelled : IsSpelled g book v.booked) where
     -- one more segment is read: it is the booked one that the end names
-    segment_read : (o : Opening) (b : Backward) (s : Segment) (y : ℕ) → ReadingShown g v book o b → is_bottom o.low b.next ≡ false → s.name ≡ name_at g.log b.next → v.booked y ≡ 1 → s ≡ book y → ReadingShown g v book o (with_segment b s)
+    segment_read : (o : Opening) (b : Backward) (s : Segment) (y : ℕ) → ReadingShown g v book o b → is_bottom o.low b.next ≡ false
+        → s.name ≡ name_at g.log b.next → v.booked y ≡ 1 → s ≡ book y → ReadingShown g v book o (with_segment b s)
     segment_read o b s y h more named booked is = record {
       phase = h.phase;
       mapped = h.mapped;
@@ -256,9 +302,12 @@ module _ (g : Setting) (v : State) (book : ℕ → Segment) (hellos : List Asked
       low = h.low;
       past = h.past;
       from = subst (AllFrom v.pick_low) (sym turned) (above, h.from);
-      chained = subst (Chained g v book b.start.seq (point g (s.name.seq - 1) s.prior.pass)) (sym turned) (y, booked, is, after, there, subst (λ z. Chained g v book b.start.seq z (reverse b.chain)) at_y h.chained);
-      seq = (let a = h.seq in let c = seq in let d = some_seq in let e : length (reverse (b.chain ++ s ∷ [])) ≡ suc (length (reverse b.chain)) = ap length turned in omega arith);
-      grouped = λ z of named. (spelled.grouped y z booked of (named ∙ ap (λ (t : Segment). name_at g.log (end_below t)) is) ∙ ap (λ (t : Segment). t.prior.group) (sym is));
+      chained = subst (Chained g v book b.start.seq (point g (s.name.seq - 1) s.prior.pass)) (sym turned)
+          (y, booked, is, after, there, subst (λ z. Chained g v book b.start.seq z (reverse b.chain)) at_y h.chained);
+      seq = (let a = h.seq in let c = seq in let d = some_seq in
+          let e : length (reverse (b.chain ++ s ∷ [])) ≡ suc (length (reverse b.chain)) = ap length turned in omega arith);
+      grouped = λ z of named.
+          (spelled.grouped y z booked of (named ∙ ap (λ (t : Segment). name_at g.log (end_below t)) is) ∙ ap (λ (t : Segment). t.prior.group) (sym is));
     }
       where
         turned : reverse (b.chain ++ s ∷ []) ≡ s ∷ reverse b.chain
@@ -277,7 +326,8 @@ module _ (g : Setting) (v : State) (book : ℕ → Segment) (hellos : List Asked
         seq_there = sym (ap (λ (n : SegName). n.seq) its_name) ∙ seq
 
         some_seq : 0 < b.next.seq
-        some_seq = let a = (always v reached).shelf.priors.seq_some y booked in let c : v.seq_of y ≡ g.seq_of y = ap (λ k. k y) fixed.seq_of in let d = seq_there in omega arith
+        some_seq = let a = (always v reached).shelf.priors.seq_some y booked in let c : v.seq_of y ≡ g.seq_of y = ap (λ k. k y) fixed.seq_of in let d =
+            seq_there in omega arith
 
         some_inc : 0 < b.next.pass.inc
         some_inc = subst (λ (n : SegName). 0 < n.pass.inc) (ap (λ (z : Segment). z.name) (sym is) ∙ named) page.boot
@@ -292,45 +342,56 @@ module _ (g : Setting) (v : State) (book : ℕ → Segment) (hellos : List Asked
         there = let a = h.seq in let c = seq_there in omega arith
 
         above : v.pick_low ≤ s.name.seq
-        above = let a = h.low in let c = h.past in let d = seq in let e = not_below b.next.seq o.low (or_parts (nat_lt b.next.seq o.low) _ more).0 in omega arith
+        above = let a = h.low in let c = h.past in let d = seq in let e =
+            not_below b.next.seq o.low (or_parts (nat_lt b.next.seq o.low) _ more).0 in omega arith
           where
             not_below : (n m : ℕ) → nat_lt n m ≡ false → m ≤ n
             not_below n m e = grind (arith, nat_tests)
 
-    goes_shown : (o : Opening) (b : Backward) (r : ReadingState) (n : Next) → Framed o → ReadingShown g v book o b → is_bottom o.low b.next ≡ false → r.target.seg.name ≡ name_at g.log b.next → RoundShown g book v.booked b.next r.round → ReadsName r.target.seg.name n → AsksLater o.ask r.ask n
+    goes_shown : (o : Opening) (b : Backward) (r : ReadingState) (n : Next) → Framed o → ReadingShown g v book o b → is_bottom o.low b.next ≡ false
+        → r.target.seg.name ≡ name_at g.log b.next → RoundShown g book v.booked b.next r.round → ReadsName r.target.seg.name n → AsksLater o.ask r.ask n
         → ((t : Segment) → n ≡ next.Read t → (y : ℕ) × (v.booked y ≡ 1) × (t ≡ book y)) → Sees (goes_on o b r n)
     unfolding goes_on
     goes_shown o b r next.Wait f h more looks shown name later owed = sees_still o (Reads b (Some r)) f (h, more, (looks, shown))
-    goes_shown o b r next.Ask f h more looks shown name later owed = sees_fetches (record o { ask = r.ask }) b r (framed_drawn o r.ask later f) (asked_reading o r.ask b h, more, (looks, shown))
+    goes_shown o b r next.Ask f h more looks shown name later owed =
+        sees_fetches (record o { ask = r.ask }) b r (framed_drawn o r.ask later f) (asked_reading o r.ask b h, more, (looks, shown))
     goes_shown o b r next.Again f h more looks shown name later owed = sees_anew o (Reads b (Some r)) f (asked_reading o (o.ask + 1) b h, more, (looks, shown))
-    goes_shown o b r (next.Read s) f h more looks shown name later owed = let y = owed s refl in follows_shown o (with_segment b s) f (segment_read o b s y.0 h more (name ∙ looks) y.1 y.2)
+    goes_shown o b r (next.Read s) f h more looks shown name later owed = let y =
+        owed s refl in follows_shown o (with_segment b s) f (segment_read o b s y.0 h more (name ∙ looks) y.1 y.2)
     goes_shown o b r next.Lost f h more looks shown name later owed = sees_quiet o Over (Lost r.target.seg.name ∷ []) f refl (tt, tt) h.phase
 
     -- a step of the reading, of which what is read is booked
-    step_shown : (o : Opening) (b : Backward) (r : ReadingState) (step : Step) → StepFits r o.ask step → Framed o → ReadingShown g v book o b → is_bottom o.low b.next ≡ false → r.target.seg.name ≡ name_at g.log b.next → RoundShown g book v.booked b.next step.state.round
+    step_shown : (o : Opening) (b : Backward) (r : ReadingState) (step : Step) → StepFits r o.ask step → Framed o → ReadingShown g v book o b
+        → is_bottom o.low b.next ≡ false → r.target.seg.name ≡ name_at g.log b.next → RoundShown g book v.booked b.next step.state.round
         → ((t : Segment) → step.next ≡ next.Read t → (y : ℕ) × (v.booked y ≡ 1) × (t ≡ book y)) → Sees (goes_on o b step.state step.next)
     step_shown o b r step fits f h more looks shown owed =
-        goes_shown o b step.state step.next f h more (ap (λ (t : Target). t.seg.name) fits.same ∙ looks) shown (subst (λ (t : Target). ReadsName t.seg.name step.next) (sym fits.same) fits.name) fits.later owed
+        goes_shown o b step.state step.next f h more (ap (λ (t : Target). t.seg.name) fits.same ∙ looks) shown
+        (subst (λ (t : Target). ReadsName t.seg.name step.next) (sym fits.same) fits.name) fits.later owed
 
     -- a server answers
-    pub answer_seen : (o : Opening) (b : Backward) (r : ReadingState) (groups : GroupMapState) (ask server : ℕ) (t : Told) → Framed o → ReadingShown g v book o b → is_bottom o.low b.next ≡ false → LooksFor g book v.booked b.next (Some r) → ToldSeen g v book paged spelled b.next t
+    pub answer_seen : (o : Opening) (b : Backward) (r : ReadingState) (groups : GroupMapState) (ask server : ℕ) (t : Told) → Framed o
+        → ReadingShown g v book o b → is_bottom o.low b.next ≡ false → LooksFor g book v.booked b.next (Some r) → ToldSeen g v book paged spelled b.next t
         → Sees (goes_on o b (reading.on_answer r groups ask server t).state (reading.on_answer r groups ask server t).next)
     answer_seen o b r groups ask server t f h more looks seen =
         let a = answered_shown g v book paged spelled b.next r groups ask server t looks.1 h.grouped looks.0 seen in
         step_shown o b r (reading.on_answer r groups ask server t) (answered_fits r groups o.ask ask server t) f h more looks.0 a.shown a.reads
 
-    confirmed_round : (e : End) (r : ReadingState) (ask : ℕ) (stage : rounds.Stage) → RoundShown g book v.booked e r.round → RoundShown g book v.booked e (reading.goes_on r ask stage).state.round
+    confirmed_round : (e : End) (r : ReadingState) (ask : ℕ) (stage : rounds.Stage) → RoundShown g book v.booked e r.round
+        → RoundShown g book v.booked e (reading.goes_on r ask stage).state.round
     confirmed_round e r ask Asking shown = shown
     confirmed_round e r ask Between shown = new_shown g book v.booked e r.round.n r.round.parity r.round.servers shown.is_round.cut shown.count shown.parity
     confirmed_round e r ask Doubted shown = shown
     confirmed_round e r ask done.Over shown = shown
 
-    confirmed_shown : (e : End) (r : ReadingState) (ask : ℕ) → RoundShown g book v.booked e r.round → RoundShown g book v.booked e (reading.on_confirmed r ask).state.round
+    confirmed_shown : (e : End) (r : ReadingState) (ask : ℕ) → RoundShown g book v.booked e r.round
+        → RoundShown g book v.booked e (reading.on_confirmed r ask).state.round
     unfolding reading.on_confirmed
     confirmed_shown e r ask shown = confirmed_round e r ask r.stage shown
 
     -- the reader's own question is answered
-    pub confirm_seen : (o : Opening) (b : Backward) (r : ReadingState) → Framed o → ReadingShown g v book o b → is_bottom o.low b.next ≡ false → LooksFor g book v.booked b.next (Some r)
+    pub confirm_seen : (o : Opening) (b : Backward) (r : ReadingState) → Framed o → ReadingShown g v book o b → is_bottom o.low b.next ≡ false
+        → LooksFor g book v.booked b.next (Some r)
         → Sees (goes_on o b (reading.on_confirmed r (o.ask + 1)).state (reading.on_confirmed r (o.ask + 1)).next)
     confirm_seen o b r f h more looks =
-        step_shown o b r (reading.on_confirmed r (o.ask + 1)) (confirmed_fits r o.ask) f h more looks.0 (confirmed_shown b.next r (o.ask + 1) looks.1) (λ t e. absurd (confirmed_reads_none r (o.ask + 1) t e))
+        step_shown o b r (reading.on_confirmed r (o.ask + 1)) (confirmed_fits r o.ask) f h more looks.0 (confirmed_shown b.next r (o.ask + 1) looks.1)
+        (λ t e. absurd (confirmed_reads_none r (o.ask + 1) t e))

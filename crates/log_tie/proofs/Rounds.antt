@@ -44,12 +44,17 @@ use Rattle.log_tie.proofs.Listings.{le_test}
 length_stripe : (text : List ℕ) (n parity : ℕ) → IsCut n parity → length (stripe_of text n parity) ≡ n
 unfolding stripe_of
 length_stripe text n zero cut = absurd (let a = cut.some in omega arith)
-length_stripe text n (suc zero) cut = length-append (pieces (n - 1) (part_of (length text) (n - 1)) text) _ ∙ (let a = length-pieces (n - 1) (part_of (length text) (n - 1)) text in let b = cut.least in omega arith)
-length_stripe text n (suc (suc zero)) cut = length-append (pieces (n - 2) (part_of (length text) (n - 2)) text) _ ∙ (let a = length-pieces (n - 2) (part_of (length text) (n - 2)) text in let b = cut.least in omega arith)
+length_stripe text n (suc zero) cut =
+    length-append (pieces (n - 1) (part_of (length text) (n - 1)) text) _
+    ∙ (let a = length-pieces (n - 1) (part_of (length text) (n - 1)) text in let b = cut.least in omega arith)
+length_stripe text n (suc (suc zero)) cut =
+    length-append (pieces (n - 2) (part_of (length text) (n - 2)) text) _
+    ∙ (let a = length-pieces (n - 2) (part_of (length text) (n - 2)) text in let b = cut.least in omega arith)
 length_stripe text n (suc (suc (suc p))) cut = absurd (let a = cut.few in omega arith)
 
 -- each that is there is the stripe's at its place
-are_of : (ds : List (List ℕ)) (from : ℕ) (f : ℕ → Option (List ℕ)) → ((i k : ℕ) → k ≡ from + i → IfSome (f k) (λ bs. bs ≡ fragment_at ds i)) → AreOf (map f (range_with_len from (length ds))) ds
+are_of : (ds : List (List ℕ)) (from : ℕ) (f : ℕ → Option (List ℕ)) → ((i k : ℕ) → k ≡ from + i → IfSome (f k) (λ bs. bs ≡ fragment_at ds i))
+    → AreOf (map f (range_with_len from (length ds))) ds
 are_of [] from f all = tt
 are_of (d ∷ ds) from f all = (all 0 from (omega arith), are_of ds (from + 1) f (λ i k e. all (suc i) k (omega arith)))
 
@@ -73,13 +78,20 @@ module _ (g : Setting) (w : State) (book : ℕ → Segment) (paged : Book g w bo
   held_first [] all = inl (λ i. refl)
   held_first (a ∷ rest) all = by a.told refl all.0 (held_first rest all.1)
     where
-      by : (t : Told) → a.told ≡ t → ToldPiece g book w.booked e t → ((i : ℕ) → bytes_in i rest ≡ None) ⊎ FirstHeld rest → ((i : ℕ) → bytes_in i (a ∷ rest) ≡ None) ⊎ FirstHeld (a ∷ rest)
+      by : (t : Told) → a.told ≡ t → ToldPiece g book w.booked e t → ((i : ℕ) → bytes_in i rest ≡ None) ⊎ FirstHeld rest
+          → ((i : ℕ) → bytes_in i (a ∷ rest) ≡ None) ⊎ FirstHeld (a ∷ rest)
       by (Held f) is told more = inr (record { fragment = f; piece = told.0; named = told.1; long = ap (λ t. reading_len t) is })
         where
           reading_len : Told → Option ℕ
           reading_len t = len_in (record { server = a.server; told = t } ∷ rest)
       by (Missing generation) is told (inl none) = inl (λ i. ap (λ t. bytes_in i (record { server = a.server; told = t } ∷ rest)) is ∙ none i)
-      by (Missing generation) is told (inr h) = inr (record { fragment = h.fragment; piece = h.piece; named = h.named; long = ap (λ t. len_in (record { server = a.server; told = t } ∷ rest)) is ∙ h.long })
+      by (Missing generation) is told (inr h) =
+          inr (record {
+            fragment = h.fragment;
+            piece = h.piece;
+            named = h.named;
+            long = ap (λ t. len_in (record { server = a.server; told = t } ∷ rest)) is ∙ h.long;
+          })
 
   -- ---- the booked segment of the name
 
@@ -87,7 +99,8 @@ module _ (g : Setting) (w : State) (book : ℕ → Segment) (paged : Book g w bo
     -- a fragment of the name is its own
     piece_here : (f : Fragment) → IsPiece g book w.booked f → f.meta.name ≡ name_at g.log e → f ≡ fragment_of g (book y) f.meta.index
     piece_here f p of =
-        let same : p.0 ≡ y = one_number g p.0 y (sym (paged p.0 p.2).named ∙ (ap (λ (z : Fragment). z.meta.name) (sym p.3) ∙ (of ∙ (sym named ∙ (paged y is).named)))) in
+        let same : p.0 ≡ y =
+        one_number g p.0 y (sym (paged p.0 p.2).named ∙ (ap (λ (z : Fragment). z.meta.name) (sym p.3) ∙ (of ∙ (sym named ∙ (paged y is).named)))) in
         p.3 ∙ (ap (λ z. fragment_of g (book z) p.1) same ∙ ap (fragment_of g (book y)) (ap (λ (z : Fragment). z.meta.index) (sym p.3)))
 
     module _ (r : RoundSoFar) (shown : Shown r) where
@@ -97,18 +110,24 @@ module _ (g : Setting) (w : State) (book : ℕ → Segment) (paged : Book g w bo
       bytes_here : (f : Fragment) → IsPiece g book w.booked f → f.meta.name ≡ name_at g.log e → f.bytes ≡ fragment_at stripe f.meta.index
       bytes_here f p of =
           ap (λ (z : Fragment). z.bytes) (piece_here f p of)
-          ∙ ap (λ k. fragment_at (stripe_of (text_of (book y)) k (g.stripe (book y).group).parity) f.meta.index) (ap (λ z. length (g.stripe z).members) group ∙ sym shown.count)
+          ∙ ap (λ k. fragment_at (stripe_of (text_of (book y)) k (g.stripe (book y).group).parity) f.meta.index)
+          (ap (λ z. length (g.stripe z).members) group ∙ sym shown.count)
           ∙ ap (λ k. fragment_at (stripe_of (text_of (book y)) r.n k) f.meta.index) (ap (λ z. (g.stripe z).parity) group ∙ sym shown.parity)
 
       bytes_piece : (i : ℕ) (answers : List Answer) → AllTold g book w.booked e answers → IfSome (bytes_in i answers) (λ bs. bs ≡ fragment_at stripe i)
       bytes_piece i [] all = tt
       bytes_piece i (a ∷ rest) all = by a.told refl all.0 (bytes_piece i rest all.1)
         where
-          by : (t : Told) → a.told ≡ t → ToldPiece g book w.booked e t → IfSome (bytes_in i rest) (λ bs. bs ≡ fragment_at stripe i) → IfSome (bytes_in i (a ∷ rest)) (λ bs. bs ≡ fragment_at stripe i)
-          by t same told more = subst (λ t. IfSome (bytes_in i (record { server = a.server; told = t } ∷ rest)) (λ bs. bs ≡ fragment_at stripe i)) (sym same) (here t told)
+          by : (t : Told) → a.told ≡ t → ToldPiece g book w.booked e t → IfSome (bytes_in i rest) (λ bs. bs ≡ fragment_at stripe i)
+              → IfSome (bytes_in i (a ∷ rest)) (λ bs. bs ≡ fragment_at stripe i)
+          by t same told more =
+              subst (λ t. IfSome (bytes_in i (record { server = a.server; told = t } ∷ rest)) (λ bs. bs ≡ fragment_at stripe i)) (sym same) (here t told)
             where
-              here : (t : Told) → ToldPiece g book w.booked e t → IfSome (bytes_in i (record { server = a.server; told = t } ∷ rest)) (λ bs. bs ≡ fragment_at stripe i)
-              here (Held f) told = by_test (λ (o : Option (List ℕ)). IfSome o (λ bs. bs ≡ fragment_at stripe i)) (f.meta.index == i) (Some f.bytes) (bytes_in i rest) (λ t. bytes_here f told.0 told.1 ∙ ap (fragment_at stripe) (equal f.meta.index i t)) (λ t. more)
+              here : (t : Told) → ToldPiece g book w.booked e t
+                  → IfSome (bytes_in i (record { server = a.server; told = t } ∷ rest)) (λ bs. bs ≡ fragment_at stripe i)
+              here (Held f) told =
+                  by_test (λ (o : Option (List ℕ)). IfSome o (λ bs. bs ≡ fragment_at stripe i)) (f.meta.index == i) (Some f.bytes) (bytes_in i rest)
+                  (λ t. bytes_here f told.0 told.1 ∙ ap (fragment_at stripe) (equal f.meta.index i t)) (λ t. more)
               here (Missing generation) told = more
 
       abbrev parts : List (Option (List ℕ))
@@ -119,13 +138,18 @@ module _ (g : Setting) (w : State) (book : ℕ → Segment) (paged : Book g w bo
 
       are : AreOf parts (stripe_of (text_of (book y)) (length parts) r.parity)
       are = subst (λ k. AreOf parts (stripe_of (text_of (book y)) k r.parity)) (sym many)
-          (subst (λ k. AreOf (map (λ index. bytes_in index r.answers) (range_with_len 0 k)) stripe) (length_stripe (text_of (book y)) r.n r.parity shown.is_round.cut)
-          (are_of stripe 0 (λ index. bytes_in index r.answers) (λ i k e. subst (λ j. IfSome (bytes_in k r.answers) (λ bs. bs ≡ fragment_at stripe j)) (let a : k ≡ i = omega arith in a) (bytes_piece k r.answers shown.told))))
+          (subst (λ k. AreOf (map (λ index. bytes_in index r.answers) (range_with_len 0 k)) stripe)
+          (length_stripe (text_of (book y)) r.n r.parity shown.is_round.cut)
+          (are_of stripe 0 (λ index. bytes_in index r.answers)
+          (λ i k e. subst (λ j. IfSome (bytes_in k r.answers) (λ bs. bs ≡ fragment_at stripe j)) (let a : k ≡ i = omega arith in a)
+          (bytes_piece k r.answers shown.told))))
 
       joined_is : is_enough r ≡ true → joined parts r.parity (length (text_of (book y))) ≡ text_of (book y)
       joined_is enough =
           let cut = round_cut r parts shown.is_round refl in
-          gives_back parts (text_of (book y)) (spelled.bytes y is) r.parity cut are (few_missing r.parity cut.some cut.few (missing_from 0 parts) (enough_in r parts shown.is_round refl (le_test (count_of r) (count_by is_some parts) enough)))
+          gives_back parts (text_of (book y)) (spelled.bytes y is) r.parity cut are
+          (few_missing r.parity cut.some cut.few (missing_from 0 parts)
+          (enough_in r parts shown.is_round refl (le_test (count_of r) (count_by is_some parts) enough)))
 
   -- ---- what enough fragments say
 
@@ -139,7 +163,8 @@ module _ (g : Setting) (w : State) (book : ℕ → Segment) (paged : Book g w bo
   enough_reads r shown grouped enough = by (held_first r.answers shown.told)
     where
       few : ((i : ℕ) → bytes_in i r.answers ≡ None) → ⊥
-      few none = let a = le_test (count_of r) (count_by is_some (parts_in r.n r.answers)) enough in let b = none_counted (λ index. bytes_in index r.answers) none 0 r.n in let c = shown.is_round.cut.least in omega arith
+      few none = let a = le_test (count_of r) (count_by is_some (parts_in r.n r.answers)) enough in let b =
+          none_counted (λ index. bytes_in index r.answers) none 0 r.n in let c = shown.is_round.cut.least in omega arith
 
       by : ((i : ℕ) → bytes_in i r.answers ≡ None) ⊎ FirstHeld r.answers → Reads r
       by (inl none) = absurd (few none)
@@ -150,36 +175,49 @@ module _ (g : Setting) (w : State) (book : ℕ → Segment) (paged : Book g w bo
             number = y;
             booked = h.piece.2;
             named = named;
-            text = ap (λ o. joined (parts_in r.n r.answers) r.parity (unwrap_or o 0)) (h.long ∙ ap (λ (z : Fragment). Some z.meta.len) h.piece.3) ∙ joined_is y h.piece.2 named (grouped y h.piece.2 named) r shown enough;
+            text = ap (λ o. joined (parts_in r.n r.answers) r.parity (unwrap_or o 0)) (h.long ∙ ap (λ (z : Fragment). Some z.meta.len) h.piece.3)
+                ∙ joined_is y h.piece.2 named (grouped y h.piece.2 named) r shown enough;
           }
 
   abbrev pub IsBooked : Segment → Type 0
   IsBooked t = (y : ℕ) × (w.booked y ≡ 1) × (t ≡ book y)
 
-  text_read : (r : ReadingState) (groups : GroupMapState) (bytes : List ℕ) (y : ℕ) → w.booked y ≡ 1 → bytes ≡ text_of (book y) → (t : Segment) → (judged r groups (round.Read bytes)).next ≡ next.Read t → t ≡ book y
+  text_read : (r : ReadingState) (groups : GroupMapState) (bytes : List ℕ) (y : ℕ) → w.booked y ≡ 1 → bytes ≡ text_of (book y) → (t : Segment)
+      → (judged r groups (round.Read bytes)).next ≡ next.Read t → t ≡ book y
   text_read r groups bytes y is text t reads =
       let answer : answer_of bytes ≡ Ok (book y) = ap answer_of text ∙ answer_again (text_of (book y)) (book y) (spelled.fits y is) (spelled.text y is) in
-      by_test (λ (o : Option Segment). (read_as r o).next ≡ next.Read t → t ≡ book y) (is_target r.target groups (book y)) (Some (book y)) None (λ k same. cc) (λ k same. absurd cc)
+      by_test (λ (o : Option Segment). (read_as r o).next ≡ next.Read t → t ≡ book y) (is_target r.target groups (book y)) (Some (book y)) None (λ k same. cc)
+      (λ k same. absurd cc)
       (subst (λ (a : Result Segment SegError). (read_as r (segment_found r.target groups a)).next ≡ next.Read t) answer reads)
 
-  judged_reads : (r : ReadingState) (groups : GroupMapState) → Shown r.round → IsGrouped g book w.booked e → (t : Segment) → (judged r groups (state_of r.round)).next ≡ next.Read t → IsBooked t
+  judged_reads : (r : ReadingState) (groups : GroupMapState) → Shown r.round → IsGrouped g book w.booked e → (t : Segment)
+      → (judged r groups (state_of r.round)).next ≡ next.Read t → IsBooked t
   unfolding state_of
   judged_reads r groups shown grouped t =
-      by_test (λ (st : RoundState). (judged r groups st).next ≡ next.Read t → IsBooked t) (is_enough r.round) (round.Read (joined (parts_in r.round.n r.round.answers) r.round.parity (unwrap_or (len_in r.round.answers) 0)))
+      by_test (λ (st : RoundState). (judged r groups st).next ≡ next.Read t → IsBooked t) (is_enough r.round)
+      (round.Read (joined (parts_in r.round.n r.round.answers) r.round.parity (unwrap_or (len_in r.round.answers) 0)))
       (cond (have_answered r.round.answers r.round.servers) (round.Short (missing_in r.round.answers)) round.Waiting)
       (λ enough reads. (let y = enough_reads r.round shown grouped enough in (y.number, y.booked, text_read r groups _ y.number y.booked y.text t reads)))
-      (λ no. by_test (λ (st : RoundState). (judged r groups st).next ≡ next.Read t → IsBooked t) (have_answered r.round.answers r.round.servers) (round.Short (missing_in r.round.answers)) round.Waiting (λ k reads. absurd cc) (λ k reads. absurd cc))
+      (λ no. by_test (λ (st : RoundState). (judged r groups st).next ≡ next.Read t → IsBooked t) (have_answered r.round.answers r.round.servers)
+      (round.Short (missing_in r.round.answers)) round.Waiting (λ k reads. absurd cc) (λ k reads. absurd cc))
 
   -- ---- an answer
 
-  told_more : (answers : List Answer) (a : Answer) → AllTold g book w.booked e answers → ToldPiece g book w.booked e a.told → AllTold g book w.booked e (answers ++ a ∷ [])
+  told_more : (answers : List Answer) (a : Answer) → AllTold g book w.booked e answers → ToldPiece g book w.booked e a.told
+      → AllTold g book w.booked e (answers ++ a ∷ [])
   told_more [] a all told = (told, tt)
   told_more (b ∷ rest) a all told = (all.0, told_more rest a all.1 told)
 
   taken_shown : (r : RoundSoFar) (server : ℕ) (t : Told) → Shown r → told_fits r t ≡ true → ToldPiece g book w.booked e t → Shown (taken r server t)
   unfolding taken
-  taken_shown r server t shown fits told = by_test Shown (has_answered r.answers server) r (record r { answers = r.answers ++ record { server = server; told = t } ∷ [] }) (λ k. shown)
-      (λ k. record { is_round = pushed_is_round r server t shown.is_round fits; count = shown.count; parity = shown.parity; told = told_more r.answers (record { server = server; told = t }) shown.told told })
+  taken_shown r server t shown fits told =
+      by_test Shown (has_answered r.answers server) r (record r { answers = r.answers ++ record { server = server; told = t } ∷ [] }) (λ k. shown)
+      (λ k. record {
+        is_round = pushed_is_round r server t shown.is_round fits;
+        count = shown.count;
+        parity = shown.parity;
+        told = told_more r.answers (record { server = server; told = t }) shown.told told;
+      })
 
   judged_round : (r : ReadingState) (groups : GroupMapState) (st : RoundState) → (judged r groups st).state.round ≡ r.round
   judged_round r groups (round.Read bytes) = by (segment_found r.target groups (answer_of bytes))
@@ -212,10 +250,15 @@ module _ (g : Setting) (w : State) (book : ℕ → Segment) (paged : Book g w bo
     pub shown : Shown step.state.round
     pub reads : (t : Segment) → step.next ≡ next.Read t → IsBooked t
 
-  pub answered_shown : (r : ReadingState) (groups : GroupMapState) (ask server : ℕ) (t : Told) → Shown r.round → IsGrouped g book w.booked e → r.target.seg.name ≡ name_at g.log e → ToldSeen t → AnswerShown (on_answer r groups ask server t)
+  pub answered_shown : (r : ReadingState) (groups : GroupMapState) (ask server : ℕ) (t : Told) → Shown r.round → IsGrouped g book w.booked e
+      → r.target.seg.name ≡ name_at g.log e → ToldSeen t → AnswerShown (on_answer r groups ask server t)
   unfolding on_answer
-  answered_shown r groups ask server t shown grouped looks seen = by_test AnswerShown (counts r ask server t) (judged now groups (state_of (taken r.round server t))) (record { state = r; next = next.Wait })
-      (λ k. record { shown = subst Shown (sym (judged_round now groups (state_of (taken r.round server t)))) (now_shown k); reads = judged_reads now groups (now_shown k) grouped })
+  answered_shown r groups ask server t shown grouped looks seen =
+      by_test AnswerShown (counts r ask server t) (judged now groups (state_of (taken r.round server t))) (record { state = r; next = next.Wait })
+      (λ k. record {
+        shown = subst Shown (sym (judged_round now groups (state_of (taken r.round server t)))) (now_shown k);
+        reads = judged_reads now groups (now_shown k) grouped;
+      })
       (λ k. record { shown = shown; reads = λ t same. absurd cc })
     where
       now : ReadingState
@@ -224,8 +267,11 @@ module _ (g : Setting) (w : State) (book : ℕ → Segment) (paged : Book g w bo
       now_shown : counts r ask server t ≡ true → Shown (taken r.round server t)
       now_shown k =
           let both = last_two (reading.is_asking r.stage) (ask == r.ask) (asks r.round server) (name_fits r.target t) (told_fits r.round t) k in
-          taken_shown r.round server t shown (and_second (name_fits r.target t) (told_fits r.round t) both) (counted_piece r t looks (and_first (name_fits r.target t) (told_fits r.round t) both) seen)
+          taken_shown r.round server t shown (and_second (name_fits r.target t) (told_fits r.round t) both)
+          (counted_piece r t looks (and_first (name_fits r.target t) (told_fits r.round t) both) seen)
 
 -- a round that begins, and one that begins anew
-pub new_shown : (g : Setting) (book : ℕ → Segment) (booked : ℕ → ℕ) (e : End) (n parity : ℕ) (servers : List ℕ) → IsCut n parity → n ≡ length (g.stripe e.group).members → parity ≡ (g.stripe e.group).parity → RoundShown g book booked e (new_round n parity servers)
-new_shown g book booked e n parity servers cut count same = record { is_round = record { cut = cut; parts = All-nil (λ (a : Answer). TellsPart n (n - parity) 0 a.told) }; count = count; parity = same; told = tt }
+pub new_shown : (g : Setting) (book : ℕ → Segment) (booked : ℕ → ℕ) (e : End) (n parity : ℕ) (servers : List ℕ) → IsCut n parity
+    → n ≡ length (g.stripe e.group).members → parity ≡ (g.stripe e.group).parity → RoundShown g book booked e (new_round n parity servers)
+new_shown g book booked e n parity servers cut count same =
+    record { is_round = record { cut = cut; parts = All-nil (λ (a : Answer). TellsPart n (n - parity) 0 a.told) }; count = count; parity = same; told = tt }

@@ -37,14 +37,22 @@ nothing_noted i = none 8 i
 module _ (g : Setting) (w : State) (book : ℕ → Segment) (fixed : Fixed g w) (paged : Book g w book) where
   -- a state with a new name booked: what is shown once its Stores were sent
   -- (v is the state after the step that booked, u the same with the Stores)
-  pub launch : (P : State → (ℕ → Segment) → Type 0) (v : State) (later : ℕ → Segment) (f : FlightState) (x : ℕ) → Steps w v → ByOwner g w v book later → BooksItsFlight w v → v.end ≡ w.end → Book g v later → v.booked x ≡ 1 → f.segment ≡ later x → stripe_of_group f.group ≡ g.stripe (later x).group
+  pub launch : (P : State → (ℕ → Segment) → Type 0) (v : State) (later : ℕ → Segment) (f : FlightState) (x : ℕ) → Steps w v → ByOwner g w v book later
+      → BooksItsFlight w v → v.end ≡ w.end → Book g v later → v.booked x ≡ 1 → f.segment ≡ later x → stripe_of_group f.group ≡ g.stripe (later x).group
       → ((stores : List StorePacket) → P (record v { stores = stores }) later) → Goes g w book P (log.all_sends f)
   launch P v later f x steps by fresh same_end pages booked segment stripe shows =
       let t = sent_all g v later f x booked segment stripe pages in record {
         world = record v { stores = t.all };
         later = later;
         steps = steps_through w v _ steps t.steps;
-        frame = record { others = by.others; booked = by.booked; segment = by.segment; stores = λ p is. t.grown p (by.stores p is); filed = by.filed; calm = by.calm };
+        frame = record {
+          others = by.others;
+          booked = by.booked;
+          segment = by.segment;
+          stores = λ p is. t.grown p (by.stores p is);
+          filed = by.filed;
+          calm = by.calm;
+        };
         fresh = fresh;
         paged = pages;
         shows = shows t.all;
@@ -60,10 +68,12 @@ module _ (g : Setting) (w : State) (book : ℕ → Segment) (fixed : Fixed g w) 
     fresh_name = log.next_name s
 
     -- the log writes its next segment
-    pub writes_goes : (items : List Item) → Serves g w book s → w.flight ≡ 0 → (dirty : List _) → Goes g w book (λ v later. Serves g v later (log.writes (record s { dirty = dirty }) items).state) (log.writes (record s { dirty = dirty }) items).outs
+    pub writes_goes : (items : List Item) → Serves g w book s → w.flight ≡ 0 → (dirty : List _)
+        → Goes g w book (λ v later. Serves g v later (log.writes (record s { dirty = dirty }) items).state) (log.writes (record s { dirty = dirty }) items).outs
     unfolding log.launched
     writes_goes items shown idle dirty =
-        launch _ v later f x (More Done (Seals x _ _ _ _ can)) by (books_one w x) refl pages booked (sym here) (sym (is.named) ∙ ap (λ (z : Segment). g.stripe z.group) (sym here)) (λ stores. record {
+        launch _ v later f x (More Done (Seals x _ _ _ _ can)) by (books_one w x) refl pages booked (sym here)
+        (sym (is.named) ∙ ap (λ (z : Segment). g.stripe z.group) (sym here)) (λ stores. record {
           writes = record { log = shown.writes.log; inc = shown.writes.inc; some = shown.writes.some; map = shown.writes.map; known = shown.writes.known };
           phase = shown.phase;
           end = shown.end;
@@ -111,7 +121,9 @@ module _ (g : Setting) (w : State) (book : ℕ → Segment) (fixed : Fixed g w) 
         new = new_seal w x _ _ can (always w reached).shelf.boots
 
         pages : Book g v later
-        pages = booked_pages g w book x f.segment group s.groups w.end (g.content items) (sym (name_coded g (s.end.seq + 1) s.inc 1 ∙ ap (λ l. record { log = l; seq = s.end.seq + 1; pass = record { inc = s.inc; att = 1 } }) (sym shown.writes.log)))
+        pages = booked_pages g w book x f.segment group s.groups w.end (g.content items)
+            (sym (name_coded g (s.end.seq + 1) s.inc 1
+            ∙ ap (λ l. record { log = l; seq = s.end.seq + 1; pass = record { inc = s.inc; att = 1 } }) (sym shown.writes.log)))
             shown.writes.some refl (shown.end ∙ ap (λ q. point g q s.end.pass) (omega arith)) refl is shown.writes.known paged
 
         booked : v.booked x ≡ 1
@@ -121,7 +133,14 @@ module _ (g : Setting) (w : State) (book : ℕ → Segment) (fixed : Fixed g w) 
         here = page_here book x f.segment
 
         by : ByOwner g w v book later
-        by = record { others = refl; booked = λ y is. put_one y is; segment = λ y is. page_there w book x f.segment new y is; stores = λ p is. is; filed = λ y is. is; calm = λ none c. c }
+        by = record {
+          others = refl;
+          booked = λ y is. put_one y is;
+          segment = λ y is. page_there w book x f.segment new y is;
+          stores = λ p is. is;
+          filed = λ y is. is;
+          calm = λ none c. c;
+        }
           where
             put_one : (y : ℕ) → w.booked y ≡ 1 → v.booked y ≡ 1
             put_one y is = grind (arith, nat_tests)

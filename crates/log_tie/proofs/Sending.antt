@@ -28,8 +28,10 @@ module _ (g : Setting) (w : State) (book : ℕ → Segment) where
     pub said : AllSaid g w.booked book all w.filed outs
 
   -- the members of the flight, from a place on, are the members of its name
-  pub sent_from : (f : FlightState) (x : ℕ) (ms : List Member) (i : ℕ) (stores : List StorePacket) → w.booked x ≡ 1 → f.segment ≡ book x → stripe_of_group f.group ≡ g.stripe (book x).group → Book g w book
-      → ((j k : ℕ) → j ≡ k + i → k < length ms → (j < w.member_count x) × (w.member_server x j ≡ server_of ms k) × (w.member_generation x j ≡ generation_of ms k)) → Sent stores (sends f ms i)
+  pub sent_from : (f : FlightState) (x : ℕ) (ms : List Member) (i : ℕ) (stores : List StorePacket) → w.booked x ≡ 1 → f.segment ≡ book x
+      → stripe_of_group f.group ≡ g.stripe (book x).group → Book g w book
+      → ((j k : ℕ) → j ≡ k + i → k < length ms
+      → (j < w.member_count x) × (w.member_server x j ≡ server_of ms k) × (w.member_generation x j ≡ generation_of ms k)) → Sent stores (sends f ms i)
   unfolding piece
   sent_from f x [] i stores booked segment stripe paged at = record { all = stores; steps = Done; grown = λ p is. is; said = tt }
   sent_from f x (m ∷ ms) i stores booked segment stripe paged at =
@@ -49,9 +51,11 @@ module _ (g : Setting) (w : State) (book : ℕ → Segment) where
       after_one a b c s (More {v = d} t step) = More (after_one a b d s t) step
 
       first : (t : Sent (packet ∷ stores) (sends f ms (i + 1))) → Steps (with_stores stores) (with_stores t.all)
-      first t = after_one (with_stores stores) (with_stores (packet ∷ stores)) (with_stores t.all) (More Done (Sends x i (record { booked = booked; member = here.0 }))) t.steps
+      first t = after_one (with_stores stores) (with_stores (packet ∷ stores)) (with_stores t.all)
+          (More Done (Sends x i (record { booked = booked; member = here.0 }))) t.steps
 
-      by : (t : Bool) → ((stores : List StorePacket) → Sent stores (sends f ms (i + 1))) → Sent stores (cond t [] (Send (piece f.segment f.group i) m ∷ []) ++ sends f ms (i + 1))
+      by : (t : Bool) → ((stores : List StorePacket) → Sent stores (sends f ms (i + 1)))
+          → Sent stores (cond t [] (Send (piece f.segment f.group i) m ∷ []) ++ sends f ms (i + 1))
       by true more = more stores
       by false more = let t = more (packet ∷ stores) in record {
         all = t.all;
@@ -71,7 +75,8 @@ module _ (g : Setting) (w : State) (book : ℕ → Segment) where
       }
 
   -- all of a flight's
-  pub sent_all : (f : FlightState) (x : ℕ) → w.booked x ≡ 1 → f.segment ≡ book x → stripe_of_group f.group ≡ g.stripe (book x).group → Book g w book → Sent w.stores (all_sends f)
+  pub sent_all : (f : FlightState) (x : ℕ) → w.booked x ≡ 1 → f.segment ≡ book x → stripe_of_group f.group ≡ g.stripe (book x).group → Book g w book
+      → Sent w.stores (all_sends f)
   unfolding all_sends
   sent_all f x booked segment stripe paged = sent_from f x f.group.members 0 w.stores booked segment stripe paged at
     where
@@ -81,7 +86,8 @@ module _ (g : Setting) (w : State) (book : ℕ → Segment) where
       members : f.group.members ≡ members_of g (book x)
       members = ap (λ (s : Stripe). s.members) stripe
 
-      at : (j k : ℕ) → j ≡ k + 0 → k < length f.group.members → (j < w.member_count x) × (w.member_server x j ≡ server_of f.group.members k) × (w.member_generation x j ≡ generation_of f.group.members k)
+      at : (j k : ℕ) → j ≡ k + 0 → k < length f.group.members
+          → (j < w.member_count x) × (w.member_server x j ≡ server_of f.group.members k) × (w.member_generation x j ≡ generation_of f.group.members k)
       at j k e below =
           let same : j ≡ k = omega arith in
           let in_page : k < length (members_of g (book x)) = subst (λ ms. k < length ms) members below in

@@ -29,8 +29,20 @@ use Rattle.log_tie.proofs.Names.{coded, some_number, name_coded, point_some}
 use Rattle.log_tie.proofs.Booking.{books_one, with_page, page_here, page_there, booked_state, stripe_group, booked_pages}
 use Rattle.log_tie.proofs.Sealing.{launch, nothing_noted}
 
-pub goes_map : (g : Setting) (w : State) (book : ℕ → Segment) (P Q : State → (ℕ → Segment) → Type 0) (outs : List Out) → ((v : State) (later : ℕ → Segment) → P v later → Q v later) → Goes g w book P outs → Goes g w book Q outs
-goes_map g w book P Q outs k t = record { world = t.world; later = t.later; steps = t.steps; frame = t.frame; fresh = t.fresh; paged = t.paged; shows = k t.world t.later t.shows; said = t.said; end_follows = t.end_follows }
+pub goes_map : (g : Setting) (w : State) (book : ℕ → Segment) (P Q : State → (ℕ → Segment) → Type 0) (outs : List Out)
+    → ((v : State) (later : ℕ → Segment) → P v later → Q v later) → Goes g w book P outs → Goes g w book Q outs
+goes_map g w book P Q outs k t =
+    record {
+      world = t.world;
+      later = t.later;
+      steps = t.steps;
+      frame = t.frame;
+      fresh = t.fresh;
+      paged = t.paged;
+      shows = k t.world t.later t.shows;
+      said = t.said;
+      end_follows = t.end_follows;
+    }
 
 either : (a b : Bool) → (a || b) ≡ true → (a ≡ true) ⊎ (b ≡ true)
 either true b h = inl refl
@@ -43,12 +55,14 @@ below n m h = grind (arith, nat_tests)
 lost_below : (m : GroupMapState) (member : Member) → is_lost m member ≡ true → member.generation < present_at m member.server
 lost_below m member h = by (has_server m member.server) refl (and_second (has_server m member.server) _ h)
   where
-    by : (t : Bool) → has_server m member.server ≡ t → nat_lt member.generation (generation_at m.generations member.server) ≡ true → member.generation < cond t (generation_at m.generations member.server) 0
+    by : (t : Bool) → has_server m member.server ≡ t → nat_lt member.generation (generation_at m.generations member.server) ≡ true
+        → member.generation < cond t (generation_at m.generations member.server) 0
     by true e less = below member.generation (generation_at m.generations member.server) less
     by false e less = contrary (sym e ∙ and_first (has_server m member.server) _ h)
 
 -- each member from a place on is noted or lost
-pub done_each : (m : GroupMapState) (noted : List Bool) (ms : List Member) (i : ℕ) → all_done m noted ms i ≡ true → (j k : ℕ) → j ≡ k + i → k < length ms → (is_noted noted j ≡ true) ⊎ (generation_of ms k < present_at m (server_of ms k))
+pub done_each : (m : GroupMapState) (noted : List Bool) (ms : List Member) (i : ℕ) → all_done m noted ms i ≡ true → (j k : ℕ) → j ≡ k + i → k < length ms
+    → (is_noted noted j ≡ true) ⊎ (generation_of ms k < present_at m (server_of ms k))
 done_each m noted [] i h j k e b = absurd (let x = b in omega arith)
 done_each m noted (x ∷ xs) i h j zero e b = by (either (is_noted noted i) (is_lost m x) (and_first (is_done m noted x i) _ h))
   where
@@ -73,10 +87,13 @@ module _ (g : Setting) (w : State) (book : ℕ → Segment) (fixed : Fixed g w) 
 
   -- it is striped anew
   pub restriped_goes : (f : FlightState) → Writes g w s → FlyingHere f
-      → Goes g w book (Aloft s (log.flown (log.next_attempt f.segment.name) f.segment.prior f.segment.items (log.group_for s.groups s.log.0 f.segment.name.seq))) (log.restriped s f).outs
+      → Goes g w book
+      (Aloft s (log.flown (log.next_attempt f.segment.name) f.segment.prior f.segment.items (log.group_for s.groups s.log.0 f.segment.name.seq)))
+      (log.restriped s f).outs
   unfolding log.restriped log.launched
   restriped_goes f writes h =
-      launch g w book fixed paged _ v later f' x (More Done (Restripes x _ _ _ can)) by (books_one w x) refl pages booked (sym here) (sym is.named ∙ ap (λ (z : Segment). g.stripe z.group) (sym here)) (λ stores. record {
+      launch g w book fixed paged _ v later f' x (More Done (Restripes x _ _ _ can)) by (books_one w x) refl pages booked (sym here)
+      (sym is.named ∙ ap (λ (z : Segment). g.stripe z.group) (sym here)) (λ stores. record {
         writes = record { log = writes.log; inc = writes.inc; some = writes.some; map = writes.map; known = writes.known };
         flying = record {
           some = can.named;
@@ -108,7 +125,8 @@ module _ (g : Setting) (w : State) (book : ℕ → Segment) (fixed : Fixed g w) 
       named : f.segment.name ≡ name_of g w.flight
       named = flight_name f h
 
-      page : Page g w.flight (book w.flight) (w.text_of w.flight) (w.member_count w.flight) (w.member_server w.flight) (w.member_generation w.flight) (w.prior_of w.flight) (w.content_of w.flight)
+      page : Page g w.flight (book w.flight) (w.text_of w.flight) (w.member_count w.flight) (w.member_server w.flight) (w.member_generation w.flight)
+          (w.prior_of w.flight) (w.content_of w.flight)
       page = paged w.flight h.is_booked
 
       v : State
@@ -123,7 +141,8 @@ module _ (g : Setting) (w : State) (book : ℕ → Segment) (fixed : Fixed g w) 
       can : CanRestripe w x (length group.members) (server_of group.members)
       can = record {
         flying = h.some;
-        named = some_number g x (let e = g.its_seq f.segment.name.seq f.segment.name.pass.inc (f.segment.name.pass.att + 1) in let q = seq_above in omega arith);
+        named = some_number g x
+            (let e = g.its_seq f.segment.name.seq f.segment.name.pass.inc (f.segment.name.pass.att + 1) in let q = seq_above in omega arith);
         same_seq = ap (λ k. k x) fixed.seq_of ∙ (g.its_seq _ _ _ ∙ (ap (λ (n : SegName). n.seq) named ∙ sym (ap (λ k. k w.flight) fixed.seq_of)));
         own = ap (λ k. k x) fixed.incarnation_of ∙ (g.its_incarnation _ _ _ ∙ (ap (λ (z : Segment). z.name.pass.inc) h.segment ∙ (h.own ∙ writes.inc)));
         later = let e : w.attempt_of x ≡ f.segment.name.pass.att + 1 = ap (λ k. k x) fixed.attempt_of ∙ g.its_attempt _ _ _ in
@@ -146,37 +165,67 @@ module _ (g : Setting) (w : State) (book : ℕ → Segment) (fixed : Fixed g w) 
 
       pages : Book g v later
       pages = booked_pages g w book x f'.segment group s.groups (w.prior_of w.flight) (w.content_of w.flight)
-          (ap (λ (n : SegName). record { log = n.log; seq = f.segment.name.seq; pass = record { inc = f.segment.name.pass.inc; att = f.segment.name.pass.att + 1 } }) named ∙ sym (name_coded g f.segment.name.seq f.segment.name.pass.inc (f.segment.name.pass.att + 1)))
-          (let a = writes.some in let e = ap (λ (z : Segment). z.name.pass.inc) h.segment ∙ h.own in omega arith) refl (page.after ∙ ap (λ (z : Segment). point g (z.name.seq - 1) z.prior.pass) (sym h.segment)) content is writes.known paged
+          (ap (λ (n : SegName). record {
+            log = n.log;
+            seq = f.segment.name.seq;
+            pass = record { inc = f.segment.name.pass.inc; att = f.segment.name.pass.att + 1 };
+          }) named ∙ sym (name_coded g f.segment.name.seq f.segment.name.pass.inc (f.segment.name.pass.att + 1)))
+          (let a = writes.some in let e = ap (λ (z : Segment). z.name.pass.inc) h.segment ∙ h.own in omega arith) refl
+          (page.after ∙ ap (λ (z : Segment). point g (z.name.seq - 1) z.prior.pass) (sym h.segment)) content is writes.known paged
 
       by : ByOwner g w v book later
-      by = record { others = refl; booked = λ y is. put_one y is; segment = λ y is. page_there w book x f'.segment new y is; stores = λ p is. is; filed = λ y is. is; calm = λ none c. c }
+      by = record {
+        others = refl;
+        booked = λ y is. put_one y is;
+        segment = λ y is. page_there w book x f'.segment new y is;
+        stores = λ p is. is;
+        filed = λ y is. is;
+        calm = λ none c. c;
+      }
         where
           put_one : (y : ℕ) → w.booked y ≡ 1 → v.booked y ≡ 1
           put_one y is = grind (arith, nat_tests)
 
   -- it waits on
   pub waits_goes : (f : FlightState) → Writes g w s → FlyingHere f → Goes g w book (Aloft s f) []
-  waits_goes f writes h = record { world = w; later = book; steps = Done; frame = record { others = refl; booked = λ x is. is; segment = λ x is. refl; stores = λ p is. is; filed = λ x is. is; calm = λ none c. c }; fresh = λ x is. inl is; paged = paged; shows = record { writes = writes; flying = h; standing = refl }; said = tt; end_follows = inl refl }
+  waits_goes f writes h =
+      record {
+        world = w;
+        later = book;
+        steps = Done;
+        frame = record { others = refl; booked = λ x is. is; segment = λ x is. refl; stores = λ p is. is; filed = λ x is. is; calm = λ none c. c };
+        fresh = λ x is. inl is;
+        paged = paged;
+        shows = record { writes = writes; flying = h; standing = refl };
+        said = tt;
+        end_follows = inl refl;
+      }
 
   -- each member is noted or lost
   pub settled_there : (f : FlightState) → Writes g w s → FlyingHere f → all_done s.groups f.noted f.group.members 0 ≡ true → Settled w
   settled_there f writes h all i member =
-      by (done_each s.groups f.noted f.group.members 0 all i i (omega arith) (subst (λ n. i < n) (page.counted ∙ ap (λ (z : Stripe). length z.members) (sym h.stripe)) member))
+      by (done_each s.groups f.noted f.group.members 0 all i i (omega arith)
+      (subst (λ n. i < n) (page.counted ∙ ap (λ (z : Stripe). length z.members) (sym h.stripe)) member))
     where
-      page : Page g w.flight (book w.flight) (w.text_of w.flight) (w.member_count w.flight) (w.member_server w.flight) (w.member_generation w.flight) (w.prior_of w.flight) (w.content_of w.flight)
+      page : Page g w.flight (book w.flight) (w.text_of w.flight) (w.member_count w.flight) (w.member_server w.flight) (w.member_generation w.flight)
+          (w.prior_of w.flight) (w.content_of w.flight)
       page = paged w.flight h.is_booked
 
-      by : (is_noted f.noted i ≡ true) ⊎ (generation_of f.group.members i < present_at s.groups (server_of f.group.members i)) → (w.noted i ≡ 1) ⊎ (w.member_generation w.flight i < w.owner_generation (w.member_server w.flight i))
+      by : (is_noted f.noted i ≡ true) ⊎ (generation_of f.group.members i < present_at s.groups (server_of f.group.members i))
+          → (w.noted i ≡ 1) ⊎ (w.member_generation w.flight i < w.owner_generation (w.member_server w.flight i))
       by (inl t) = inl (h.notes i t)
       by (inr t) =
-          let e : w.member_generation w.flight i ≡ generation_of f.group.members i = page.at_generation i (subst (λ n. i < n) page.counted member) ∙ ap (λ (z : Stripe). generation_of z.members i) (sym h.stripe) in
+          let e : w.member_generation w.flight i ≡ generation_of f.group.members i =
+          page.at_generation i (subst (λ n. i < n) page.counted member) ∙ ap (λ (z : Stripe). generation_of z.members i) (sym h.stripe) in
           let d : w.member_server w.flight i ≡ server_of f.group.members i = page.at_server i ∙ ap (λ (z : Stripe). server_of z.members i) (sym h.stripe) in
-          let k : w.owner_generation (w.member_server w.flight i) ≡ present_at s.groups (server_of f.group.members i) = ap w.owner_generation d ∙ writes.known _ in
+          let k : w.owner_generation (w.member_server w.flight i) ≡ present_at s.groups (server_of f.group.members i) =
+          ap w.owner_generation d ∙ writes.known _ in
           inr (omega arith)
 
   -- the end that the flight is
-  pub flight_end : (f : FlightState) → 0 < s.inc → FlyingHere f → (w.flight ≡ point g (end_from f.segment).seq (end_from f.segment).pass) × (g.seq_of w.flight ≡ (end_from f.segment).seq) × ((end_from f.segment).pass ≡ (name_of g w.flight).pass)
+  pub flight_end : (f : FlightState) → 0 < s.inc → FlyingHere f
+      → (w.flight ≡ point g (end_from f.segment).seq (end_from f.segment).pass) × (g.seq_of w.flight ≡ (end_from f.segment).seq)
+      × ((end_from f.segment).pass ≡ (name_of g w.flight).pass)
   flight_end f some h =
       let name = flight_name f h in
       let inc : 0 < f.segment.name.pass.inc = let e = ap (λ (z : Segment). z.name.pass.inc) h.segment ∙ h.own in omega arith in (

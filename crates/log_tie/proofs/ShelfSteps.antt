@@ -50,7 +50,16 @@ module _ (g : Setting) (w : State) (book : ℕ → Segment) (v : ℕ) (s : Shelf
   rests deed shows told = record {
     world = w;
     steps = Done;
-    frame = record { others = refl; generation = λ k other. refl; holds = λ k x other. refl; index = λ k x other. refl; marked = λ k x other. refl; storeds = λ p is. is; fragments = λ p is. is; fenceds = λ p is. is };
+    frame = record {
+      others = refl;
+      generation = λ k other. refl;
+      holds = λ k x other. refl;
+      index = λ k x other. refl;
+      marked = λ k x other. refl;
+      storeds = λ p is. is;
+      fragments = λ p is. is;
+      fenceds = λ p is. is;
+    };
     shows = shows;
     tells = told;
   }
@@ -63,7 +72,9 @@ module _ (g : Setting) (w : State) (book : ℕ → Segment) (v : ℕ) (s : Shelf
       fence = is_greater (pass_cmp (fence_of s.fences f.meta.name.log) f.meta.name.pass)
 
       by : (a b : Bool) → nat_eq generation s.generation ≡ a → is_marked s.marks f.meta.name ≡ b
-          → is_none (cond (not a) (Some (WrongGeneration s.generation)) (cond b (Some Marked) (cond fence (Some (Fenced (fence_of s.fences f.meta.name.log))) None))) ≡ true → (generation ≡ s.generation) × (is_marked s.marks f.meta.name ≡ false)
+          → is_none (cond (not a) (Some (WrongGeneration s.generation))
+          (cond b (Some Marked) (cond fence (Some (Fenced (fence_of s.fences f.meta.name.log))) None))) ≡ true
+          → (generation ≡ s.generation) × (is_marked s.marks f.meta.name ≡ false)
       by true false e k t = (same generation s.generation e, k)
         where
           same : (n m : ℕ) → nat_eq n m ≡ true → n ≡ m
@@ -100,7 +111,8 @@ module _ (g : Setting) (w : State) (book : ℕ → Segment) (v : ℕ) (s : Shelf
         fenceds = λ p is. is;
       };
       shows = subst (λ (z : ShelfState). ShelfShown g (accepts w packet) book v z) (sym (taken absent))
-          (subst (λ (q : (ℕ → ℕ) × (ℕ → ℕ)). Shelved g book w.booked (w.generation v) q.0 q.1 (w.marked v) (record s { held = with_fragment f s.held })) (λ i. (sym (at_place w.holds v seen.name 1) i, sym (at_place w.kept_index v seen.name seen.index) i))
+          (subst (λ (q : (ℕ → ℕ) × (ℕ → ℕ)). Shelved g book w.booked (w.generation v) q.0 q.1 (w.marked v) (record s { held = with_fragment f s.held }))
+          (λ i. (sym (at_place w.holds v seen.name 1) i, sym (at_place w.kept_index v seen.name seen.index) i))
           (shelf_with g book w.booked _ _ _ _ s h f seen.name seen.index absent seen.named seen.known seen.fragment));
       tells = λ _ _. (seen.name, seen.named, inl (λ i. record { name = seen.name; index = place i; generation = generation }));
     }
@@ -112,34 +124,55 @@ module _ (g : Setting) (w : State) (book : ℕ → Segment) (v : ℕ) (s : Shelf
     has_it : is_held s f.meta.name ≡ true → Did g w book v s (Stores f generation)
     has_it present = record {
       world = accepts_again w packet;
-      steps = More Done (Accepts_again packet (record { sent = seen.sent; held = present_there g book w.booked _ _ _ _ s h seen.name (ap (is_held s) (sym seen.named) ∙ present) }));
-      frame = record { others = refl; generation = λ k other. refl; holds = λ k x other. refl; index = λ k x other. refl; marked = λ k x other. refl; storeds = λ p is. inr is; fragments = λ p is. is; fenceds = λ p is. is };
-      shows = subst (λ (z : ShelfState). ShelfShown g w book v z) (sym (ap (λ b. cond b (kept s f) s) t ∙ ap (λ b. cond b s (record s { held = with_fragment f s.held })) present)) h;
+      steps = More Done
+          (Accepts_again packet
+          (record { sent = seen.sent; held = present_there g book w.booked _ _ _ _ s h seen.name (ap (is_held s) (sym seen.named) ∙ present) }));
+      frame = record {
+        others = refl;
+        generation = λ k other. refl;
+        holds = λ k x other. refl;
+        index = λ k x other. refl;
+        marked = λ k x other. refl;
+        storeds = λ p is. inr is;
+        fragments = λ p is. is;
+        fenceds = λ p is. is;
+      };
+      shows = subst (λ (z : ShelfState). ShelfShown g w book v z)
+          (sym (ap (λ b. cond b (kept s f) s) t ∙ ap (λ b. cond b s (record s { held = with_fragment f s.held })) present)) h;
       tells = λ _ _. (seen.name, seen.named, inl (λ i. record { name = seen.name; index = place i; generation = generation }));
     }
 
   store_foreign : (f : Fragment) (generation : ℕ) → is_of_log g f.meta.name ≡ false → Did g w book v s (Stores f generation)
   store_foreign f generation other = rests (Stores f generation)
-      (by_test (λ z. ShelfShown g w book v z) (is_stored s f generation) (kept s f) s (λ _. kept_foreign g w book v s h f other) (λ _. h)) (λ own. contrary (sym other ∙ own))
+      (by_test (λ z. ShelfShown g w book v z) (is_stored s f generation) (kept s f) s (λ _. kept_foreign g w book v s h f other) (λ _. h))
+      (λ own. contrary (sym other ∙ own))
     where
-      kept_foreign : (g : Setting) (w : State) (book : ℕ → Segment) (v : ℕ) (s : ShelfState) → ShelfShown g w book v s → (f : Fragment) → is_of_log g f.meta.name ≡ false → ShelfShown g w book v (kept s f)
-      kept_foreign g w book v s h f other = by_test (λ z. ShelfShown g w book v z) (is_held s f.meta.name) s (record s { held = with_fragment f s.held }) (λ _. h) (λ absent. shelf_foreign g book w.booked _ _ _ _ s h f absent other)
+      kept_foreign : (g : Setting) (w : State) (book : ℕ → Segment) (v : ℕ) (s : ShelfState) → ShelfShown g w book v s → (f : Fragment)
+          → is_of_log g f.meta.name ≡ false → ShelfShown g w book v (kept s f)
+      kept_foreign g w book v s h f other =
+          by_test (λ z. ShelfShown g w book v z) (is_held s f.meta.name) s (record s { held = with_fragment f s.held }) (λ _. h)
+          (λ absent. shelf_foreign g book w.booked _ _ _ _ s h f absent other)
 
   stores_did : (f : Fragment) (generation : ℕ) → Owes g w book v s (Stores f generation) → Did g w book v s (Stores f generation)
   stores_did f generation owed = by (is_of_log g f.meta.name) refl (is_stored s f generation) refl (is_held s f.meta.name) refl
     where
-      by : (a : Bool) → is_of_log g f.meta.name ≡ a → (b : Bool) → is_stored s f generation ≡ b → (c : Bool) → is_held s f.meta.name ≡ c → Did g w book v s (Stores f generation)
+      by : (a : Bool) → is_of_log g f.meta.name ≡ a → (b : Bool) → is_stored s f generation ≡ b → (c : Bool) → is_held s f.meta.name ≡ c
+          → Did g w book v s (Stores f generation)
       by false other b e c k = store_foreign f generation other
-      by true own false e c k = rests (Stores f generation) (subst (λ (z : ShelfState). ShelfShown g w book v z) (sym (ap (λ b. cond b (kept s f) s) e)) h) (λ _ yes. contrary (sym e ∙ yes))
+      by true own false e c k =
+          rests (Stores f generation) (subst (λ (z : ShelfState). ShelfShown g w book v z) (sym (ap (λ b. cond b (kept s f) s) e)) h)
+          (λ _ yes. contrary (sym e ∙ yes))
       by true own true e false k = keeps_it f generation (owed own) e k
       by true own true e true k = has_it f generation (owed own) e k
 
   -- what is held of a name of the log is a fragment of the booked segment of that name
-  found : (fs : List Fragment) → AllPieces g book w.booked fs → (name : SegName) (f : Fragment) → is_of_log g name ≡ true → held_at fs name ≡ Some f → IsPiece g book w.booked f × (f.meta.name ≡ name)
+  found : (fs : List Fragment) → AllPieces g book w.booked fs → (name : SegName) (f : Fragment) → is_of_log g name ≡ true → held_at fs name ≡ Some f
+      → IsPiece g book w.booked f × (f.meta.name ≡ name)
   found [] all name f own is = contrary (ap is_some is)
   found (z ∷ zs) all name f own is = by (λ k. found zs all.1 name f own k) (same_name name z.meta.name) refl is
     where
-      by : (held_at zs name ≡ Some f → IsPiece g book w.booked f × (f.meta.name ≡ name)) → (t : Bool) → same_name name z.meta.name ≡ t → cond t (Some z) (held_at zs name) ≡ Some f → IsPiece g book w.booked f × (f.meta.name ≡ name)
+      by : (held_at zs name ≡ Some f → IsPiece g book w.booked f × (f.meta.name ≡ name)) → (t : Bool) → same_name name z.meta.name ≡ t
+          → cond t (Some z) (held_at zs name) ≡ Some f → IsPiece g book w.booked f × (f.meta.name ≡ name)
       by more true e k =
           let same : z ≡ f = ap (λ o. unwrap_or o z) k in
           let named : name ≡ z.meta.name = one_name name z.meta.name e in
@@ -155,9 +188,20 @@ module _ (g : Setting) (w : State) (book : ℕ → Segment) (v : ℕ) (s : Shelf
       by true own (Some f) e = record {
         world = tells w v x;
         steps = More Done (TellsStep v x (record { held = held }));
-        frame = record { others = refl; generation = λ k other. refl; holds = λ k x other. refl; index = λ k x other. refl; marked = λ k x other. refl; storeds = λ p is. is; fragments = λ p is. inr is; fenceds = λ p is. is };
+        frame = record {
+          others = refl;
+          generation = λ k other. refl;
+          holds = λ k x other. refl;
+          index = λ k x other. refl;
+          marked = λ k x other. refl;
+          storeds = λ p is. is;
+          fragments = λ p is. inr is;
+          fenceds = λ p is. is;
+        };
         shows = h;
-        tells = λ z _ is. subst (λ (y : Fragment). (k : ℕ) × (i : ℕ) × (w.booked k ≡ 1) × (name ≡ name_of g k) × (y ≡ fragment_of g (book k) i) × In (record { name = k; text = w.text_of k }) (tells w v x).fragments) (ap (λ o. unwrap_or o f) (sym e ∙ is))
+        tells = λ z _ is. subst
+            (λ (y : Fragment). (k : ℕ) × (i : ℕ) × (w.booked k ≡ 1) × (name ≡ name_of g k) × (y ≡ fragment_of g (book k) i)
+            × In (record { name = k; text = w.text_of k }) (tells w v x).fragments) (ap (λ o. unwrap_or o f) (sym e ∙ is))
             (x, there.0.1, there.0.2, named, there.0.3, inl (λ i. record { name = x; text = sym ((always w reached).shelf.texts.held_text v x held) i }));
       }
         where
@@ -175,7 +219,8 @@ module _ (g : Setting) (w : State) (book : ℕ → Segment) (v : ℕ) (s : Shelf
 
   -- a fence changes nothing that is seen
   fenced : (inc : ℕ) → ShelfShown g w book v (shelf_after g s (Fences inc))
-  fenced inc = by_test (λ z. ShelfShown g w book v z) (is_greater (pass_cmp (record { inc = inc; att = 0 }) (fence_of s.fences g.log))) (record s { fences = insert_entry log_cmp s.fences g.log (record { inc = inc; att = 0 }) }) s
+  fenced inc = by_test (λ z. ShelfShown g w book v z) (is_greater (pass_cmp (record { inc = inc; att = 0 }) (fence_of s.fences g.log)))
+      (record s { fences = insert_entry log_cmp s.fences g.log (record { inc = inc; att = 0 }) }) s
       (λ _. record { of = h.of; keeps = h.keeps; each = h.each; marks = h.marks }) (λ _. h)
 
   held_flag : (z : Segment) (o : Option Fragment) (booked holds index : ℕ) → Kept g z o booked holds index → holds ≡ flag (is_some o)
@@ -186,9 +231,25 @@ module _ (g : Setting) (w : State) (book : ℕ → Segment) (v : ℕ) (s : Shelf
   fences_did inc begun = record {
     world = fences w v inc;
     steps = More Done (FencesStep v inc (record { begun = begun }));
-    frame = record { others = refl; generation = λ k other. refl; holds = λ k x other. refl; index = λ k x other. refl; marked = λ k x other. refl; storeds = λ p is. is; fragments = λ p is. is; fenceds = λ p is. inr is };
+    frame = record {
+      others = refl;
+      generation = λ k other. refl;
+      holds = λ k x other. refl;
+      index = λ k x other. refl;
+      marked = λ k x other. refl;
+      storeds = λ p is. is;
+      fragments = λ p is. is;
+      fenceds = λ p is. inr is;
+    };
     shows = fenced inc;
-    tells = (record { from = v; incarnation = inc; generation = w.generation v; low = w.low; listed = w.holds v }, inl refl, refl, refl, h.of, λ x. held_flag (book x) (held_at s.held (name_of g x)) _ _ _ (h.keeps x));
+    tells = (
+      record { from = v; incarnation = inc; generation = w.generation v; low = w.low; listed = w.holds v },
+      inl refl,
+      refl,
+      refl,
+      h.of,
+      λ x. held_flag (book x) (held_at s.held (name_of g x)) _ _ _ (h.keeps x),
+    );
   }
 
   deletes_did : (name : SegName) → Owes g w book v s (Deletes name) → Did g w book v s (Deletes name)
@@ -209,7 +270,8 @@ module _ (g : Setting) (w : State) (book : ℕ → Segment) (v : ℕ) (s : Shelf
           fragments = λ p is. is;
           fenceds = λ p is. is;
         };
-        shows = subst (λ (q : (ℕ → ℕ) × (ℕ → ℕ)). Shelved g book w.booked (w.generation v) q.0 (w.kept_index v) q.1 (on_delete s name)) (λ i. (sym (at_place w.holds v seen.number 0) i, sym (at_place w.marked v seen.number 1) i))
+        shows = subst (λ (q : (ℕ → ℕ) × (ℕ → ℕ)). Shelved g book w.booked (w.generation v) q.0 (w.kept_index v) q.1 (on_delete s name))
+            (λ i. (sym (at_place w.holds v seen.number 0) i, sym (at_place w.marked v seen.number 1) i))
             (shelf_without g book w.booked _ _ _ _ s h name seen.number seen.named);
         tells = tt;
       }
@@ -217,13 +279,16 @@ module _ (g : Setting) (w : State) (book : ℕ → Segment) (v : ℕ) (s : Shelf
   fills_did : (f : Fragment) → Owes g w book v s (Fills f) → Did g w book v s (Fills f)
   fills_did f owed = by (is_of_log g f.meta.name) refl (is_marked s.marks f.meta.name) refl (is_held s f.meta.name) refl
     where
-      after_it : (b c : Bool) → is_marked s.marks f.meta.name ≡ b → is_held s f.meta.name ≡ c → shelf_after g s (Fills f) ≡ cond b s (cond c s (record s { held = with_fragment f s.held }))
+      after_it : (b c : Bool) → is_marked s.marks f.meta.name ≡ b → is_held s f.meta.name ≡ c
+          → shelf_after g s (Fills f) ≡ cond b s (cond c s (record s { held = with_fragment f s.held }))
       after_it b c e k = ap (λ t. cond t s (kept s f)) e ∙ ap (λ t. cond b s (cond t s (record s { held = with_fragment f s.held }))) k
 
-      by : (a : Bool) → is_of_log g f.meta.name ≡ a → (b : Bool) → is_marked s.marks f.meta.name ≡ b → (c : Bool) → is_held s f.meta.name ≡ c → Did g w book v s (Fills f)
+      by : (a : Bool) → is_of_log g f.meta.name ≡ a → (b : Bool) → is_marked s.marks f.meta.name ≡ b → (c : Bool) → is_held s f.meta.name ≡ c
+          → Did g w book v s (Fills f)
       by a own true e c k = rests (Fills f) (subst (λ z. ShelfShown g w book v z) (sym (after_it true c e k)) h) tt
       by a own false e true k = rests (Fills f) (subst (λ z. ShelfShown g w book v z) (sym (after_it false true e k)) h) tt
-      by false other false e false k = rests (Fills f) (subst (λ z. ShelfShown g w book v z) (sym (after_it false false e k)) (shelf_foreign g book w.booked _ _ _ _ s h f k other)) tt
+      by false other false e false k =
+          rests (Fills f) (subst (λ z. ShelfShown g w book v z) (sym (after_it false false e k)) (shelf_foreign g book w.booked _ _ _ _ s h f k other)) tt
       by true own false e false k = let seen = owed own in record {
         world = fills w v seen.index (record { name = seen.name; text = w.text_of seen.name });
         steps = More Done (FillsStep v seen.index (record { name = seen.name; text = w.text_of seen.name }) (record {
@@ -243,8 +308,11 @@ module _ (g : Setting) (w : State) (book : ℕ → Segment) (v : ℕ) (s : Shelf
           fragments = λ p is. is;
           fenceds = λ p is. is;
         };
-        shows = subst (λ (z : ShelfState). Shelved g book w.booked (w.generation v) (put_at w.holds v seen.name 1 v) (put_at w.kept_index v seen.name seen.index v) (w.marked v) z) (sym (after_it false false e k))
-            (subst (λ (q : (ℕ → ℕ) × (ℕ → ℕ)). Shelved g book w.booked (w.generation v) q.0 q.1 (w.marked v) (record s { held = with_fragment f s.held })) (λ i. (sym (at_place w.holds v seen.name 1) i, sym (at_place w.kept_index v seen.name seen.index) i))
+        shows = subst
+            (λ (z : ShelfState). Shelved g book w.booked (w.generation v) (put_at w.holds v seen.name 1 v) (put_at w.kept_index v seen.name seen.index v)
+            (w.marked v) z) (sym (after_it false false e k))
+            (subst (λ (q : (ℕ → ℕ) × (ℕ → ℕ)). Shelved g book w.booked (w.generation v) q.0 q.1 (w.marked v) (record s { held = with_fragment f s.held }))
+            (λ i. (sym (at_place w.holds v seen.name 1) i, sym (at_place w.kept_index v seen.name seen.index) i))
             (shelf_with g book w.booked _ _ _ _ s h f seen.name seen.index k seen.named seen.known seen.fragment));
         tells = tt;
       }
@@ -274,7 +342,9 @@ module _ (g : Setting) (w : State) (book : ℕ → Segment) (v : ℕ) (s : Shelf
           pick true e = absurd (other (equal k v e))
           pick false e = refl
 
-      by : (t : Bool) → t ≡ true → Shelved g book w.booked (cond t (suc (w.generation v)) (w.generation v)) (λ x. cond t 0 (w.holds v x)) (w.kept_index v) (λ x. cond t 0 (w.marked v x)) (on_lose s)
+      by : (t : Bool) → t ≡ true
+          → Shelved g book w.booked (cond t (suc (w.generation v)) (w.generation v)) (λ x. cond t 0 (w.holds v x)) (w.kept_index v)
+          (λ x. cond t 0 (w.marked v x)) (on_lose s)
       by true e = shelf_lost g book w.booked _ _ _ _ s h room
       by false e = contrary e
 

@@ -20,7 +20,8 @@ pub none_held : (o : Option Fragment) → is_some o ≡ false → o ≡ None
 none_held None e = refl
 none_held (Some f) e = contrary (sym e)
 
-pub pieces_with : (g : Setting) (book : ℕ → Segment) (booked : ℕ → ℕ) (f : Fragment) (fs : List Fragment) → (is_of_log g f.meta.name ≡ true → IsPiece g book booked f) → AllPieces g book booked fs → AllPieces g book booked (with_fragment f fs)
+pub pieces_with : (g : Setting) (book : ℕ → Segment) (booked : ℕ → ℕ) (f : Fragment) (fs : List Fragment)
+    → (is_of_log g f.meta.name ≡ true → IsPiece g book booked f) → AllPieces g book booked fs → AllPieces g book booked (with_fragment f fs)
 pieces_with g book booked f [] k all = (k, tt)
 pieces_with g book booked f (h ∷ hs) k all = by (is_greater (seg_cmp f.meta.name h.meta.name)) (pieces_with g book booked f hs k all.1)
   where
@@ -28,11 +29,13 @@ pieces_with g book booked f (h ∷ hs) k all = by (is_greater (seg_cmp f.meta.na
     by true more = (all.0, more)
     by false more = (k, all)
 
-pieces_without : (g : Setting) (book : ℕ → Segment) (booked : ℕ → ℕ) (name : SegName) (fs : List Fragment) → AllPieces g book booked fs → AllPieces g book booked (filter (λ f. not (same_name name f.meta.name)) fs)
+pieces_without : (g : Setting) (book : ℕ → Segment) (booked : ℕ → ℕ) (name : SegName) (fs : List Fragment) → AllPieces g book booked fs
+    → AllPieces g book booked (filter (λ f. not (same_name name f.meta.name)) fs)
 pieces_without g book booked name [] all = tt
 pieces_without g book booked name (h ∷ hs) all = by (same_name name h.meta.name) (pieces_without g book booked name hs all.1)
   where
-    by : (t : Bool) → AllPieces g book booked (filter (λ f. not (same_name name f.meta.name)) hs) → AllPieces g book booked (cond (not t) (h ∷ filter (λ f. not (same_name name f.meta.name)) hs) (filter (λ f. not (same_name name f.meta.name)) hs))
+    by : (t : Bool) → AllPieces g book booked (filter (λ f. not (same_name name f.meta.name)) hs)
+        → AllPieces g book booked (cond (not t) (h ∷ filter (λ f. not (same_name name f.meta.name)) hs) (filter (λ f. not (same_name name f.meta.name)) hs))
     by true more = more
     by false more = (all.0, more)
 
@@ -47,15 +50,20 @@ module _ (g : Setting) where
       by true false e f = contrary (sym f ∙ (ap (λ z. same_name (name_of g x) (name_of g z)) (sym (equal x y e)) ∙ same_itself (name_of g x)))
       by false true e f = contrary (sym e ∙ (ap (λ z. x == z) (sym (one_number g x y (one_name (name_of g x) (name_of g y) f))) ∙ itself x))
 
-module _ (g : Setting) (book : ℕ → Segment) (booked : ℕ → ℕ) (generation : ℕ) (holds index marked : ℕ → ℕ) (s : ShelfState) (h : Shelved g book booked generation holds index marked s) where
+module _ (g : Setting) (book : ℕ → Segment) (booked : ℕ → ℕ) (generation : ℕ) (holds index marked : ℕ → ℕ) (s : ShelfState)
+    (h : Shelved g book booked generation holds index marked s) where
   -- a fragment is kept of a name that the shelf hadn't
   pub shelf_with : (f : Fragment) (x i : ℕ) → is_held s f.meta.name ≡ false → f.meta.name ≡ name_of g x → booked x ≡ 1 → f ≡ fragment_of g (book x) i
-      → Shelved g book booked generation (λ y. if y == x then 1 else holds y) (λ y. if y == x then i else index y) marked (record s { held = with_fragment f s.held })
-  shelf_with f x i absent named known is = record { of = h.of; keeps = keeps; each = pieces_with g book booked f s.held (λ own. (x, i, known, is)) h.each; marks = h.marks }
+      → Shelved g book booked generation (λ y. if y == x then 1 else holds y) (λ y. if y == x then i else index y) marked
+      (record s { held = with_fragment f s.held })
+  shelf_with f x i absent named known is =
+      record { of = h.of; keeps = keeps; each = pieces_with g book booked f s.held (λ own. (x, i, known, is)) h.each; marks = h.marks }
     where
-      keeps : (y : ℕ) → Kept g (book y) (held_at (with_fragment f s.held) (name_of g y)) (booked y) (if y == x then 1 else holds y) (if y == x then i else index y)
+      keeps : (y : ℕ)
+          → Kept g (book y) (held_at (with_fragment f s.held) (name_of g y)) (booked y) (if y == x then 1 else holds y) (if y == x then i else index y)
       keeps y = subst (λ o. Kept g (book y) o (booked y) (if y == x then 1 else holds y) (if y == x then i else index y))
-          (sym (held-with f s.held (name_of g y) (none_held _ absent) ∙ ap (λ t. cond t (Some f) (held_at s.held (name_of g y))) (ap (same_name (name_of g y)) named ∙ number_test g y x)))
+          (sym (held-with f s.held (name_of g y) (none_held _ absent)
+          ∙ ap (λ t. cond t (Some f) (held_at s.held (name_of g y))) (ap (same_name (name_of g y)) named ∙ number_test g y x)))
           (by (y == x) refl)
         where
           by : (t : Bool) → (y == x) ≡ t → Kept g (book y) (cond t (Some f) (held_at s.held (name_of g y))) (booked y) (cond t 1 (holds y)) (cond t i (index y))
@@ -63,11 +71,13 @@ module _ (g : Setting) (book : ℕ → Segment) (booked : ℕ → ℕ) (generati
           by false a = h.keeps y
 
   -- a fragment of another log is kept
-  pub shelf_foreign : (f : Fragment) → is_held s f.meta.name ≡ false → is_of_log g f.meta.name ≡ false → Shelved g book booked generation holds index marked (record s { held = with_fragment f s.held })
+  pub shelf_foreign : (f : Fragment) → is_held s f.meta.name ≡ false → is_of_log g f.meta.name ≡ false
+      → Shelved g book booked generation holds index marked (record s { held = with_fragment f s.held })
   shelf_foreign f absent other = record {
     of = h.of;
     keeps = λ y. subst (λ o. Kept g (book y) o (booked y) (holds y) (index y))
-        (sym (held-with f s.held (name_of g y) (none_held _ absent) ∙ ap (λ t. cond t (Some f) (held_at s.held (name_of g y))) (differs y (same_name (name_of g y) f.meta.name) refl))) (h.keeps y);
+        (sym (held-with f s.held (name_of g y) (none_held _ absent)
+        ∙ ap (λ t. cond t (Some f) (held_at s.held (name_of g y))) (differs y (same_name (name_of g y) f.meta.name) refl))) (h.keeps y);
     each = pieces_with g book booked f s.held (λ own. contrary (sym other ∙ own)) h.each;
     marks = h.marks;
   }
@@ -77,22 +87,26 @@ module _ (g : Setting) (book : ℕ → Segment) (booked : ℕ → ℕ) (generati
       differs y false e = refl
 
   -- a name is deleted
-  pub shelf_without : (name : SegName) (x : ℕ) → name ≡ name_of g x → Shelved g book booked generation (λ y. if y == x then 0 else holds y) index (λ y. if y == x then 1 else marked y) (on_delete s name)
+  pub shelf_without : (name : SegName) (x : ℕ) → name ≡ name_of g x
+      → Shelved g book booked generation (λ y. if y == x then 0 else holds y) index (λ y. if y == x then 1 else marked y) (on_delete s name)
   shelf_without name x named = record { of = h.of; keeps = keeps; each = pieces_without g book booked name s.held h.each; marks = marks }
     where
       keeps : (y : ℕ) → Kept g (book y) (held_at (on_delete s name).held (name_of g y)) (booked y) (if y == x then 0 else holds y) (index y)
       keeps y = subst (λ o. Kept g (book y) o (booked y) (if y == x then 0 else holds y) (index y))
-          (sym (held-without name s.held (name_of g y) ∙ ap (λ t. cond t None (held_at s.held (name_of g y))) (ap (λ n. same_name n (name_of g y)) named ∙ number_test g x y)))
+          (sym (held-without name s.held (name_of g y)
+          ∙ ap (λ t. cond t None (held_at s.held (name_of g y))) (ap (λ n. same_name n (name_of g y)) named ∙ number_test g x y)))
           (by (x == y) (y == x) refl refl)
         where
-          by : (t u : Bool) → (x == y) ≡ t → (y == x) ≡ u → Kept g (book y) (cond t None (held_at s.held (name_of g y))) (booked y) (cond u 0 (holds y)) (index y)
+          by : (t u : Bool) → (x == y) ≡ t → (y == x) ≡ u
+              → Kept g (book y) (cond t None (held_at s.held (name_of g y))) (booked y) (cond u 0 (holds y)) (index y)
           by true true a b = refl
           by false false a b = h.keeps y
           by true false a b = contrary (sym b ∙ (ap (λ z. y == z) (equal x y a) ∙ itself y))
           by false true a b = contrary (sym a ∙ (ap (λ z. x == z) (equal y x b) ∙ itself x))
 
       marks : (y : ℕ) → (if y == x then 1 else marked y) ≡ flag (is_marked (on_delete s name).marks (name_of g y))
-      marks y = by (y == x) (h.marks y) ∙ ap (λ t. flag (t || is_marked s.marks (name_of g y))) (sym (ap (same_name (name_of g y)) named ∙ number_test g y x)) ∙ ap flag (sym (is_marked-with s.marks name (name_of g y)))
+      marks y = by (y == x) (h.marks y) ∙ ap (λ t. flag (t || is_marked s.marks (name_of g y))) (sym (ap (same_name (name_of g y)) named ∙ number_test g y x))
+          ∙ ap flag (sym (is_marked-with s.marks name (name_of g y)))
         where
           by : (t : Bool) → marked y ≡ flag (is_marked s.marks (name_of g y)) → cond t 1 (marked y) ≡ flag (t || is_marked s.marks (name_of g y))
           by true k = refl
@@ -102,9 +116,12 @@ module _ (g : Setting) (book : ℕ → Segment) (booked : ℕ → ℕ) (generati
   pub shelf_without_foreign : (name : SegName) → is_of_log g name ≡ false → Shelved g book booked generation holds index marked (on_delete s name)
   shelf_without_foreign name other = record {
     of = h.of;
-    keeps = λ y. subst (λ o. Kept g (book y) o (booked y) (holds y) (index y)) (sym (held-without name s.held (name_of g y) ∙ ap (λ t. cond t None (held_at s.held (name_of g y))) (differs y (same_name name (name_of g y)) refl))) (h.keeps y);
+    keeps = λ y. subst (λ o. Kept g (book y) o (booked y) (holds y) (index y))
+        (sym (held-without name s.held (name_of g y) ∙ ap (λ t. cond t None (held_at s.held (name_of g y))) (differs y (same_name name (name_of g y)) refl)))
+        (h.keeps y);
     each = pieces_without g book booked name s.held h.each;
-    marks = λ y. h.marks y ∙ ap (λ t. flag (t || is_marked s.marks (name_of g y))) (sym (differs_back y (same_name (name_of g y) name) refl)) ∙ ap flag (sym (is_marked-with s.marks name (name_of g y)));
+    marks = λ y. h.marks y ∙ ap (λ t. flag (t || is_marked s.marks (name_of g y))) (sym (differs_back y (same_name (name_of g y) name) refl))
+        ∙ ap flag (sym (is_marked-with s.marks name (name_of g y)));
   }
     where
       differs : (y : ℕ) (t : Bool) → same_name name (name_of g y) ≡ t → t ≡ false

@@ -27,7 +27,8 @@ module _ (g : Setting) (w u : State) (book : ℕ → Segment) (hellos : List Ask
     generation = p.generation;
     listed = p.listed;
     nothing = p.nothing;
-    sent = same (λ o. In (record { from = 0; incarnation = o.incarnation; generation = p.generation; low = o.begin_low; listed = p.listed }) u.fenceds) (by.fenceds _ p.sent);
+    sent = same (λ o. In (record { from = 0; incarnation = o.incarnation; generation = p.generation; low = o.begin_low; listed = p.listed }) u.fenceds)
+        (by.fenceds _ p.sent);
   }
 
   kept_stays : (bound more : ℕ) (ls : List Listing) → bound ≤ more → AllListed g w book bound ls → AllListed g u book more ls
@@ -37,7 +38,9 @@ module _ (g : Setting) (w u : State) (book : ℕ → Segment) (hellos : List Ask
       seen = record {
         low = all.0.seen.low;
         listed = all.0.seen.listed;
-        sent = same (λ o. In (record { from = l.server; incarnation = o.incarnation; generation = l.generation; low = all.0.seen.low; listed = all.0.seen.listed }) u.fenceds) (by.fenceds _ all.0.seen.sent);
+        sent = same (λ o. In
+            (record { from = l.server; incarnation = o.incarnation; generation = l.generation; low = all.0.seen.low; listed = all.0.seen.listed }) u.fenceds)
+            (by.fenceds _ all.0.seen.sent);
         lists = all.0.seen.lists;
         whole = same (λ o. AllMetas book o.booked l.held) all.0.seen.whole;
       };
@@ -63,7 +66,8 @@ module _ (g : Setting) (w u : State) (book : ℕ → Segment) (hellos : List Ask
   }
 
   gathering_stays : (o : Opening) (bound more : ℕ) (ls : List Listing) → bound ≤ more → Gathering g w book o bound ls → Gathering g u book o more ls
-  gathering_stays o bound more ls up k = record { phase = phase_same 1 k.phase; phantom = phantom_stays k.phantom; mapped = mapped_stays o k.mapped; kept = kept_stays bound more ls up k.kept }
+  gathering_stays o bound more ls up k =
+      record { phase = phase_same 1 k.phase; phantom = phantom_stays k.phantom; mapped = mapped_stays o k.mapped; kept = kept_stays bound more ls up k.kept }
 
   chained_stays : (top x : ℕ) (ts : List Segment) → Chained g w book top x ts → Chained g u book top x ts
   chained_stays top x [] h = same (λ o. x ≡ o.base) h

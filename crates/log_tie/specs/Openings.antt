@@ -69,8 +69,10 @@ OpeningShown g chain s v later = WritingShown g v later chain s ⊎ (Serves g v 
 -- The opening segment, which has no items, is written by a step of the opening.
 abbrev pub OpensByStep : Type 0
 OpensByStep =
-    (g : Setting) (w : State) (book : ℕ → Segment) (start : End) (chain : List Segment) (groups : GroupMapState) → Fixed g w → Reached w → Book g w book → ReadShown g w book start chain groups → has_next start.seq ≡ true
-    → Goes g w book (λ v later. WritingShown g v later chain (transition (started g.log w.incarnation start groups) (Parts [])).state) (transition (started g.log w.incarnation start groups) (Parts [])).outs
+    (g : Setting) (w : State) (book : ℕ → Segment) (start : End) (chain : List Segment) (groups : GroupMapState) → Fixed g w → Reached w → Book g w book
+    → ReadShown g w book start chain groups → has_next start.seq ≡ true
+    → Goes g w book (λ v later. WritingShown g v later chain (transition (started g.log w.incarnation start groups) (Parts [])).state)
+    (transition (started g.log w.incarnation start groups) (Parts [])).outs
 
 -- what the world owes each input of an opening's log; it takes no others
 abbrev pub BringsOpening : Setting → State → inputs.In → Type 0
@@ -85,5 +87,7 @@ BringsOpening g w Tick = Unit {0}
 -- asked for where the opening ends.
 abbrev pub OpeningTakes : Type 0
 OpeningTakes =
-    (g : Setting) (w : State) (book : ℕ → Segment) (chain : List Segment) (s : LogState) (input : inputs.In) → Fixed g w → Reached w → Book g w book → WritingShown g w book chain s
-    → (g.doubts ≡ false → (transition s input).state.flight ≡ None → w.pick_low ≤ w.head → Undoubted w) → BringsOpening g w input → Goes g w book (OpeningShown g chain (transition s input).state) (transition s input).outs
+    (g : Setting) (w : State) (book : ℕ → Segment) (chain : List Segment) (s : LogState) (input : inputs.In) → Fixed g w → Reached w → Book g w book
+    → WritingShown g w book chain s
+    → (g.doubts ≡ false → (transition s input).state.flight ≡ None → w.pick_low ≤ w.head → Undoubted w) → BringsOpening g w input
+    → Goes g w book (OpeningShown g chain (transition s input).state) (transition s input).outs

@@ -194,7 +194,8 @@ pub record PicksAtHorizon (w v : State) : Type 0 where
 -- Each input of an opening is taken by steps of the owner, where what is booked can be read back.
 abbrev pub ScanTakes : Type 0
 ScanTakes =
-    (g : Setting) (w : State) (book : ℕ → Segment) (hellos : List Asked) (s : ScanState) (input : inputs.In) → Fixed g w → Reached w → Book g w book → IsSpelled g book w.booked → ScanShown g w book hellos s → BringsScan g w book hellos s input
+    (g : Setting) (w : State) (book : ℕ → Segment) (hellos : List Asked) (s : ScanState) (input : inputs.In) → Fixed g w → Reached w → Book g w book
+    → IsSpelled g book w.booked → ScanShown g w book hellos s → BringsScan g w book hellos s input
     → Goes g w book (λ v later. Scanned g v later hellos (transition s input).state (transition s input).outs × BooksNothing w v × PicksAtHorizon w v) []
 
 -- A restart: the owner's next boot, in which server 0 is asked at once; all else is as it was.
@@ -209,7 +210,8 @@ pub record Restarted (g : Setting) (w : State) (book : ℕ → Segment) (hellos 
 -- An owner that is down begins to open its log by steps; no question of its next boot was asked, and server 0 holds nothing.
 abbrev pub ScanStarts : Type 0
 ScanStarts =
-    (g : Setting) (w : State) (book : ℕ → Segment) (hellos : List Asked) → Fixed g w → Reached w → Book g w book → w.phase ≡ 0 → ((x : ℕ) → w.holds 0 x ≡ 0) → ((a : Asked) → In a hellos → a.inc ≤ w.incarnation)
+    (g : Setting) (w : State) (book : ℕ → Segment) (hellos : List Asked) → Fixed g w → Reached w → Book g w book → w.phase ≡ 0 → ((x : ℕ) → w.holds 0 x ≡ 0)
+    → ((a : Asked) → In a hellos → a.inc ≤ w.incarnation)
     → Restarted g w book hellos
 
 -- what others leave as it was while a log is opened
@@ -248,4 +250,5 @@ pub record ByOthers (w u : State) : Type 0 where
 
 -- What others do leaves an opening as it is seen.
 abbrev pub ScanStays : Type 0
-ScanStays = (g : Setting) (w u : State) (book : ℕ → Segment) (hellos : List Asked) (s : ScanState) → ByOthers w u → ScanShown g w book hellos s → ScanShown g u book hellos s
+ScanStays = (g : Setting) (w u : State) (book : ℕ → Segment) (hellos : List Asked) (s : ScanState) → ByOthers w u → ScanShown g w book hellos s
+    → ScanShown g u book hellos s

@@ -101,7 +101,9 @@ Tells g u book v s (Stores f generation) =
 Tells g u book v s (Fetches name) =
     (f : Fragment) → is_of_log g name ≡ true → held_at s.held name ≡ Some f
     → (x : ℕ) × (i : ℕ) × (u.booked x ≡ 1) × (name ≡ name_of g x) × (f ≡ fragment_of g (book x) i) × In (record { name = x; text = u.text_of x }) u.fragments
-Tells g u book v s (Fences inc) = (packet : FencedPacket) × In packet u.fenceds × (packet.from ≡ v) × (packet.incarnation ≡ inc) × (packet.generation ≡ s.generation) × ((x : ℕ) → packet.listed x ≡ flag (is_held s (name_of g x)))
+Tells g u book v s (Fences inc) =
+    (packet : FencedPacket) × In packet u.fenceds × (packet.from ≡ v) × (packet.incarnation ≡ inc) × (packet.generation ≡ s.generation)
+    × ((x : ℕ) → packet.listed x ≡ flag (is_held s (name_of g x)))
 Tells g u book v s (Deletes name) = Unit {0}
 Tells g u book v s (Fills f) = Unit {0}
 Tells g u book v s Loses = Unit {0}

@@ -38,15 +38,18 @@ pub record RoundSo (P : ℕ → ℕ → Type 0) (servers : List ℕ) (parity : �
   pub asked : AllAsked r.servers r.answers
   pub told : AllSo P r.answers
 
-pub taken_so : (P : ℕ → ℕ → Type 0) (servers : List ℕ) (parity : ℕ) (r : RoundSoFar) (server : ℕ) (t : Told) → RoundSo P servers parity r → asks r server ≡ true → ToldSo P server t → RoundSo P servers parity (taken r server t)
+pub taken_so : (P : ℕ → ℕ → Type 0) (servers : List ℕ) (parity : ℕ) (r : RoundSoFar) (server : ℕ) (t : Told) → RoundSo P servers parity r → asks r server ≡ true
+    → ToldSo P server t → RoundSo P servers parity (taken r server t)
 unfolding taken
-taken_so P servers parity r server t so asked is = by_test (RoundSo P servers parity) (has_answered r.answers server) r (record r { answers = r.answers ++ record { server = server; told = t } ∷ [] }) (λ e. so) (λ e. record {
-  its_servers = so.its_servers;
-  its_parity = so.its_parity;
-  single = single_more r.answers (record { server = server; told = t }) so.single e;
-  asked = asked_more r.servers r.answers (record { server = server; told = t }) so.asked asked;
-  told = so_more P r.answers (record { server = server; told = t }) so.told is;
-})
+taken_so P servers parity r server t so asked is =
+    by_test (RoundSo P servers parity) (has_answered r.answers server) r (record r { answers = r.answers ++ record { server = server; told = t } ∷ [] })
+    (λ e. so) (λ e. record {
+      its_servers = so.its_servers;
+      its_parity = so.its_parity;
+      single = single_more r.answers (record { server = server; told = t }) so.single e;
+      asked = asked_more r.servers r.answers (record { server = server; told = t }) so.asked asked;
+      told = so_more P r.answers (record { server = server; told = t }) so.told is;
+    })
 
 pairs_in : RoundState → List (ℕ × ℕ)
 pairs_in (Read text) = []
@@ -56,6 +59,10 @@ pairs_in Waiting = []
 -- a round that is short has the pairs that were Missing
 pub short_pairs : (r : RoundSoFar) (pairs : List (ℕ × ℕ)) → state_of r ≡ Short pairs → pairs ≡ missing_in r.answers
 unfolding state_of pairs_in
-short_pairs r pairs = by_test (λ (st : RoundState). st ≡ Short pairs → pairs ≡ missing_in r.answers) (is_enough r) (Read (joined (parts_in r.n r.answers) r.parity (unwrap_or (len_in r.answers) 0))) (cond (have_answered r.answers r.servers) (Short (missing_in r.answers)) Waiting)
+short_pairs r pairs =
+    by_test (λ (st : RoundState). st ≡ Short pairs → pairs ≡ missing_in r.answers) (is_enough r)
+    (Read (joined (parts_in r.n r.answers) r.parity (unwrap_or (len_in r.answers) 0)))
+    (cond (have_answered r.answers r.servers) (Short (missing_in r.answers)) Waiting)
     (λ t e. absurd cc)
-    (λ t. by_test (λ (st : RoundState). st ≡ Short pairs → pairs ≡ missing_in r.answers) (have_answered r.answers r.servers) (Short (missing_in r.answers)) Waiting (λ k e. sym (ap pairs_in e)) (λ k e. absurd cc))
+    (λ t. by_test (λ (st : RoundState). st ≡ Short pairs → pairs ≡ missing_in r.answers) (have_answered r.answers r.servers)
+    (Short (missing_in r.answers)) Waiting (λ k e. sym (ap pairs_in e)) (λ k e. absurd cc))

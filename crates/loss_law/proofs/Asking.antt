@@ -62,7 +62,9 @@ asks_so o stage = record { ask = omega arith; log = refl; groups = refl; asked =
 
 begins_so : (o : Opening) (b : Backward) (group : Option Group) → Follows o (scan.begins_in o b group)
 begins_so o b None = asks_so o (Reads b None)
-begins_so o b (Some group) = (let r = reading.begun (scan.target_at o.log b.next) group (o.ask + 1) in record { ask = omega arith; log = refl; groups = refl; asked = asked_fetches (o.ask + 1) (o.ask + 1) r.target.seg.name (to_ask r) })
+begins_so o b (Some group) =
+    (let r = reading.begun (scan.target_at o.log b.next) group (o.ask + 1) in
+    record { ask = omega arith; log = refl; groups = refl; asked = asked_fetches (o.ask + 1) (o.ask + 1) r.target.seg.name (to_ask r) })
 
 round_so : (o : Opening) (b : Backward) → Follows o (scan.begins_round o b)
 unfolding scan.begins_round
@@ -73,7 +75,9 @@ over_so o out asked = record { ask = omega arith; log = refl; groups = refl; ask
 
 follows_so : (o : Opening) (b : Backward) → Follows o (scan.follows o b)
 unfolding scan.follows
-follows_so o b = by_test (Follows o) (scan.is_bottom o.low b.next) (goes o Over (scan.chain_of b ∷ [])) (scan.begins_round o b) (λ t. over_so o (scan.chain_of b) tt) (λ t. round_so o b)
+follows_so o b =
+    by_test (Follows o) (scan.is_bottom o.low b.next) (goes o Over (scan.chain_of b ∷ [])) (scan.begins_round o b) (λ t. over_so o (scan.chain_of b) tt)
+    (λ t. round_so o b)
 
 read_so : (o : Opening) (b : Backward) (r : ReadingState) (s : Segment) → Follows o (scan.goes_on o b r (next.Read s))
 unfolding scan.goes_on
@@ -109,10 +113,12 @@ judged_so o b r groups (round.Read bytes) = found_so o b r (reading.segment_foun
 judged_so o b r groups (round.Short pairs) = again_so o b (reading.ends r pairs).state
 judged_so o b r groups round.Waiting = wait_so o b r
 
-answered_so : (o : Opening) (b : Backward) (r : ReadingState) (groups : GroupMapState) (ask server : ℕ) (t : Told) → StepSo o b (reading.on_answer r groups ask server t)
+answered_so : (o : Opening) (b : Backward) (r : ReadingState) (groups : GroupMapState) (ask server : ℕ) (t : Told)
+    → StepSo o b (reading.on_answer r groups ask server t)
 unfolding reading.on_answer
 answered_so o b r groups ask server t =
-    by_test (StepSo o b) (reading.counts r ask server t) (reading.judged (record r { round = taken r.round server t }) groups (state_of (taken r.round server t))) (record { state = r; next = next.Wait })
+    by_test (StepSo o b) (reading.counts r ask server t)
+    (reading.judged (record r { round = taken r.round server t }) groups (state_of (taken r.round server t))) (record { state = r; next = next.Wait })
     (λ e. judged_so o b (record r { round = taken r.round server t }) groups (state_of (taken r.round server t))) (λ e. wait_so o b r)
 
 decided_so : (o : Opening) (b : Backward) (r : ReadingState) (stage : rounds.Stage) → StepSo o b (reading.goes_on r (o.ask + 1) stage)
@@ -133,7 +139,9 @@ confirms_by_so o b (Some r) = confirmed_so o b r
 
 confirms_so : (o : Opening) (b : Backward) (r : Option ReadingState) → Follows o (scan.confirms o b r)
 unfolding scan.confirms
-confirms_so o b r = by_test (Follows o) (scan.is_bottom o.low b.next) (goes o Over (scan.chain_of b ∷ [])) (scan.confirms_by o b r) (λ t. over_so o (scan.chain_of b) tt) (λ t. confirms_by_so o b r)
+confirms_so o b r =
+    by_test (Follows o) (scan.is_bottom o.low b.next) (goes o Over (scan.chain_of b ∷ [])) (scan.confirms_by o b r) (λ t. over_so o (scan.chain_of b) tt)
+    (λ t. confirms_by_so o b r)
 
 picks_at_so : (o : Opening) (lists : List Listing) (start : Option End) → Follows o (scan.picks_at o lists start)
 picks_at_so o lists None = asks_so o (Asks lists)
@@ -156,8 +164,10 @@ with_own o d f = record { ask = f.ask; log = f.log; groups_are = f.groups; asked
 welcomed_so : (o : Opening) (m : GroupMapState) (stage : Stage) (least : ℕ) → With o (Some m) (scan.welcomed (record o { groups = Some m }) stage least)
 welcomed_so o m Hails least = record { ask = omega arith; log = refl; groups_are = refl; asked = asked_fences o.ask (scan.awaited (Some m) []) }
 welcomed_so o m (Gathers lists) least = record { ask = omega arith; log = refl; groups_are = refl; asked = tt }
-welcomed_so o m (Asks lists) least = (let f = picks_so (scan.rises (record o { groups = Some m }) least) lists in record { ask = f.ask; log = f.log; groups_are = f.groups; asked = f.asked })
-welcomed_so o m (Reads b r) least = (let f = confirms_so (scan.rises (record o { groups = Some m }) least) b r in record { ask = f.ask; log = f.log; groups_are = f.groups; asked = f.asked })
+welcomed_so o m (Asks lists) least =
+    (let f = picks_so (scan.rises (record o { groups = Some m }) least) lists in record { ask = f.ask; log = f.log; groups_are = f.groups; asked = f.asked })
+welcomed_so o m (Reads b r) least =
+    (let f = confirms_so (scan.rises (record o { groups = Some m }) least) b r in record { ask = f.ask; log = f.log; groups_are = f.groups; asked = f.asked })
 welcomed_so o m Over least = record { ask = omega arith; log = refl; groups_are = refl; asked = tt }
 
 -- its groups are those that it had, or those that came
@@ -169,31 +179,41 @@ FollowsWith o (scan_in.Missing ask server generation) d = With o o.groups d
 FollowsWith o (scan_in.Maps m) d = With o (Some m) d
 FollowsWith o scan_in.Tick d = With o o.groups d
 
-welcome_so : (o : Opening) (stage : Stage) (ask : ℕ) (news : List SlotNews) (m : GroupMapState) → FollowsWith o (scan_in.Welcome ask news m) (scan.on_welcome o stage ask news m)
+welcome_so : (o : Opening) (stage : Stage) (ask : ℕ) (news : List SlotNews) (m : GroupMapState)
+    → FollowsWith o (scan_in.Welcome ask news m) (scan.on_welcome o stage ask news m)
 unfolding scan.on_welcome
 welcome_so o stage ask news m =
-    by_test (FollowsWith o (scan_in.Welcome ask news m)) ((ask == o.ask) && (scan.can_ask o && scan.awaits_welcome stage)) (scan.welcomed (record o { groups = Some m }) stage (scan.least_horizon o.log.0 news)) (stays o stage)
-    (λ t. (Some m, inr refl, welcomed_so o m stage (scan.least_horizon o.log.0 news))) (λ t. (o.groups, inl refl, with_own o (stays o stage) (stays_so o stage)))
+    by_test (FollowsWith o (scan_in.Welcome ask news m)) ((ask == o.ask) && (scan.can_ask o && scan.awaits_welcome stage))
+    (scan.welcomed (record o { groups = Some m }) stage (scan.least_horizon o.log.0 news)) (stays o stage)
+    (λ t. (Some m, inr refl, welcomed_so o m stage (scan.least_horizon o.log.0 news)))
+    (λ t. (o.groups, inl refl, with_own o (stays o stage) (stays_so o stage)))
 
 with_list_so : (o : Opening) (lists : List Listing) → Follows o (scan.with_list o lists)
 unfolding scan.with_list
-with_list_so o lists = by_test (Follows o) (length (scan.awaited o.groups lists) == 0) (scan.asks_anew o (Asks lists)) (stays o (Gathers lists)) (λ t. asks_so o (Asks lists)) (λ t. stays_so o (Gathers lists))
+with_list_so o lists =
+    by_test (Follows o) (length (scan.awaited o.groups lists) == 0) (scan.asks_anew o (Asks lists)) (stays o (Gathers lists)) (λ t. asks_so o (Asks lists))
+    (λ t. stays_so o (Gathers lists))
 
 fenced_so : (o : Opening) (stage : Stage) (l : Listing) → Follows o (scan.on_fenced o stage l)
 unfolding scan.on_fenced
 fenced_so o Hails l = stays_so o Hails
-fenced_so o (Gathers lists) l = by_test (Follows o) (scan.can_ask o && scan.awaits o.groups lists l.server) (scan.with_list o (lists ++ l ∷ [])) (stays o (Gathers lists)) (λ t. with_list_so o (lists ++ l ∷ [])) (λ t. stays_so o (Gathers lists))
+fenced_so o (Gathers lists) l =
+    by_test (Follows o) (scan.can_ask o && scan.awaits o.groups lists l.server) (scan.with_list o (lists ++ l ∷ [])) (stays o (Gathers lists))
+    (λ t. with_list_so o (lists ++ l ∷ [])) (λ t. stays_so o (Gathers lists))
 fenced_so o (Asks lists) l = stays_so o (Asks lists)
 fenced_so o (Reads b r) l = stays_so o (Reads b r)
 fenced_so o Over l = stays_so o Over
 
-heard_with_so : (o : Opening) (b : Backward) (r : ReadingState) (groups : Option GroupMapState) (ask server : ℕ) (t : Told) → Follows o (scan.heard_with o b r groups ask server t)
+heard_with_so : (o : Opening) (b : Backward) (r : ReadingState) (groups : Option GroupMapState) (ask server : ℕ) (t : Told)
+    → Follows o (scan.heard_with o b r groups ask server t)
 heard_with_so o b r None ask server t = stays_so o (Reads b (Some r))
 heard_with_so o b r (Some groups) ask server t = answered_so o b r groups ask server t
 
 heard_so : (o : Opening) (b : Backward) (r : Option ReadingState) (ask server : ℕ) (t : Told) → Follows o (scan.heard o b r ask server t)
 heard_so o b None ask server t = stays_so o (Reads b None)
-heard_so o b (Some r) ask server t = by_test (Follows o) (scan.can_ask o) (scan.heard_with o b r o.groups ask server t) (stays o (Reads b (Some r))) (λ e. heard_with_so o b r o.groups ask server t) (λ e. stays_so o (Reads b (Some r)))
+heard_so o b (Some r) ask server t =
+    by_test (Follows o) (scan.can_ask o) (scan.heard_with o b r o.groups ask server t) (stays o (Reads b (Some r)))
+    (λ e. heard_with_so o b r o.groups ask server t) (λ e. stays_so o (Reads b (Some r)))
 
 told_so : (o : Opening) (stage : Stage) (ask server : ℕ) (t : Told) → Follows o (scan.on_told o stage ask server t)
 unfolding scan.on_told
@@ -205,7 +225,9 @@ told_so o Over ask server t = stays_so o Over
 
 again_asked : (o : Opening) (r : Option ReadingState) → AllAskedBy o.ask (scan.asked_again o r)
 again_asked o None = (omega arith, tt)
-again_asked o (Some r) = by_test (AllAskedBy o.ask) (is_asking r.stage) (scan.fetches r) (Hello o.ask ∷ []) (λ t. asked_fetches o.ask r.ask r.target.seg.name (to_ask r)) (λ t. (omega arith, tt))
+again_asked o (Some r) =
+    by_test (AllAskedBy o.ask) (is_asking r.stage) (scan.fetches r) (Hello o.ask ∷ []) (λ t. asked_fetches o.ask r.ask r.target.seg.name (to_ask r))
+    (λ t. (omega arith, tt))
 
 tick_asked : (o : Opening) (stage : Stage) → AllAskedBy o.ask (scan.on_tick o stage)
 unfolding scan.on_tick
@@ -217,8 +239,12 @@ tick_asked o Over = tt
 
 pub takes_so : (o : Opening) (stage : Stage) (i : Input) → FollowsWith o i (scan.takes o stage i)
 takes_so o stage (scan_in.Welcome ask news m) = welcome_so o stage ask news m
-takes_so o stage (scan_in.Fenced server generation held) = with_own o (scan.on_fenced o stage (record { server = server; generation = generation; held = held })) (fenced_so o stage (record { server = server; generation = generation; held = held }))
-takes_so o stage (scan_in.Got ask server generation fragment) = with_own o (scan.on_told o stage ask server (told.Held fragment)) (told_so o stage ask server (told.Held fragment))
-takes_so o stage (scan_in.Missing ask server generation) = with_own o (scan.on_told o stage ask server (told.Missing generation)) (told_so o stage ask server (told.Missing generation))
+takes_so o stage (scan_in.Fenced server generation held) =
+    with_own o (scan.on_fenced o stage (record { server = server; generation = generation; held = held }))
+    (fenced_so o stage (record { server = server; generation = generation; held = held }))
+takes_so o stage (scan_in.Got ask server generation fragment) =
+    with_own o (scan.on_told o stage ask server (told.Held fragment)) (told_so o stage ask server (told.Held fragment))
+takes_so o stage (scan_in.Missing ask server generation) =
+    with_own o (scan.on_told o stage ask server (told.Missing generation)) (told_so o stage ask server (told.Missing generation))
 takes_so o stage (scan_in.Maps m) = record { ask = omega arith; log = refl; groups_are = refl; asked = tt }
 takes_so o stage scan_in.Tick = record { ask = omega arith; log = refl; groups_are = refl; asked = tick_asked o stage }

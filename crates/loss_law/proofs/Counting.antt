@@ -76,11 +76,13 @@ left_true true b e = refl
 left_true false b e = contrary e
 
 -- a further pair counts one more
-strict : (p : ℕ × ℕ) (ps : List (ℕ × ℕ)) (ms : List Member) → is_in p.0 ps ≡ false → Among (servers_of ms) p → suc (number (marked ps) ms) ≤ number (marked (p ∷ ps)) ms
+strict : (p : ℕ × ℕ) (ps : List (ℕ × ℕ)) (ms : List Member) → is_in p.0 ps ≡ false → Among (servers_of ms) p
+    → suc (number (marked ps) ms) ≤ number (marked (p ∷ ps)) ms
 strict p ps [] fresh among = contrary among
 strict p ps (m ∷ ms) fresh among = by (strict p ps ms fresh) (m.server == p.0) refl among
   where
-    by : (Among (servers_of ms) p → suc (number (marked ps) ms) ≤ number (marked (p ∷ ps)) ms) → (t : Bool) → (m.server == p.0) ≡ t → (t || list_any (λ s. s == p.0) (servers_of ms)) ≡ true → suc (number (marked ps) (m ∷ ms)) ≤ number (marked (p ∷ ps)) (m ∷ ms)
+    by : (Among (servers_of ms) p → suc (number (marked ps) ms) ≤ number (marked (p ∷ ps)) ms) → (t : Bool) → (m.server == p.0) ≡ t
+        → (t || list_any (λ s. s == p.0) (servers_of ms)) ≡ true → suc (number (marked ps) (m ∷ ms)) ≤ number (marked (p ∷ ps)) (m ∷ ms)
     by further true e rest = one_in (marked ps m) (marked (p ∷ ps) m) (number (marked ps) ms) (number (marked (p ∷ ps)) ms)
         (ap (λ v. is_in v ps) (same_way m.server p.0 e) ∙ fresh)
         (left_true (p.0 == m.server) (marked ps m) (turned m.server p.0 e))
@@ -101,7 +103,8 @@ marked_lacks lack (p ∷ ps) each v is = by (marked_lacks lack ps each.1 v) (p.0
     by further true e rest = ap lack (sym (same_way p.0 v e)) ∙ each.0
     by further false e rest = further rest
 
-pub counted : (lack : ℕ → Bool) (ps : List (ℕ × ℕ)) (ms : List Member) → Apart ps → Each (Among (servers_of ms)) ps → Each (λ p. lack p.0 ≡ true) ps → length ps ≤ count_by (λ (m : Member). lack m.server) ms
+pub counted : (lack : ℕ → Bool) (ps : List (ℕ × ℕ)) (ms : List Member) → Apart ps → Each (Among (servers_of ms)) ps → Each (λ p. lack p.0 ≡ true) ps
+    → length ps ≤ count_by (λ (m : Member). lack m.server) ms
 counted lack ps ms apart among each =
     let a = all_counted ps ms apart among in
     let b = all_pass (marked ps) (λ (m : Member). lack m.server) (λ m t. marked_lacks lack ps each m.server t) ms in
@@ -109,9 +112,14 @@ counted lack ps ms apart among each =
     omega arith
 
 -- whoever at a place of the list passes one test passes the other
-number_places : (f h : Member → Bool) (ms : List Member) → ((place : ℕ) → place < length ms → f (slice_index_or ms place no_member) ≡ true → h (slice_index_or ms place no_member) ≡ true) → number f ms ≤ number h ms
+number_places : (f h : Member → Bool) (ms : List Member)
+    → ((place : ℕ) → place < length ms → f (slice_index_or ms place no_member) ≡ true → h (slice_index_or ms place no_member) ≡ true)
+    → number f ms ≤ number h ms
 number_places f h [] up = omega arith
-number_places f h (m ∷ ms) up = no_less (f m) (h m) (number f ms) (number h ms) (up 0 (omega arith)) (number_places f h ms (λ place within. up (suc place) (omega arith)))
+number_places f h (m ∷ ms) up =
+    no_less (f m) (h m) (number f ms) (number h ms) (up 0 (omega arith)) (number_places f h ms (λ place within. up (suc place) (omega arith)))
 
-pub counted_places : (f h : Member → Bool) (ms : List Member) → ((place : ℕ) → place < length ms → f (slice_index_or ms place no_member) ≡ true → h (slice_index_or ms place no_member) ≡ true) → count_by f ms ≤ count_by h ms
+pub counted_places : (f h : Member → Bool) (ms : List Member)
+    → ((place : ℕ) → place < length ms → f (slice_index_or ms place no_member) ≡ true → h (slice_index_or ms place no_member) ≡ true)
+    → count_by f ms ≤ count_by h ms
 counted_places f h ms up = let a = number_places f h ms up in let b = number_is f ms in let c = number_is h ms in omega arith

@@ -29,7 +29,8 @@ lacks_none (Some h) f e none = contrary none
 is_less : (a b : ℕ) → a < b → nat_lt a b ≡ true
 is_less a b less = grind (arith, nat_tests)
 
-module _ (whole : LogsStayWhole) (g : Setting) (n : Net) (moment : Moment g n) (s : Segment) (is : In s n.flown) (filed : In s.name n.filed) (torn : IsTorn g (ref_of s) n) where
+module _ (whole : LogsStayWhole) (g : Setting) (n : Net) (moment : Moment g n) (s : Segment) (is : In s n.flown) (filed : In s.name n.filed)
+    (torn : IsTorn g (ref_of s) n) where
   abbrev lack : Member → Bool
   lack m = is_none (held_at (n.shelves m.server).held s.name)
 
@@ -57,20 +58,24 @@ module _ (whole : LogsStayWhole) (g : Setting) (segment : SegRef) where
   lost_then : (p : Net) → Moment g p → IsTorn g segment p → IsLost g segment p
   lost_then p moment torn = record {
     torn = torn;
-    disks = λ s is filed same. subst (λ z. (g.stripe z.group).parity < disks_lost g p z) same (a_torn_segment_lost_disks whole g p moment s is filed (subst (λ z. IsTorn g z p) (sym same) torn));
+    disks = λ s is filed same. subst (λ z. (g.stripe z.group).parity < disks_lost g p z) same
+        (a_torn_segment_lost_disks whole g p moment s is filed (subst (λ z. IsTorn g z p) (sym same) torn));
   }
 
-  pub once_lost : (start n : Net) (run : Runs g start n) → ((p : Net) → Runs g start p → Moment g p) → Once is_opening (IsTorn g segment) run → Once is_opening (IsLost g segment) run
+  pub once_lost : (start n : Net) (run : Runs g start n) → ((p : Net) → Runs g start p → Moment g p) → Once is_opening (IsTorn g segment) run
+      → Once is_opening (IsLost g segment) run
   once_lost start n Begun to once = (once.0, lost_then start (to start Begun) once.1)
   once_lost start n (On {m = m} run e) to once = (once.0, by (once_lost start m run to) once.1)
     where
-      by : (Once is_opening (IsTorn g segment) run → Once is_opening (IsLost g segment) run) → IsTorn g segment n ⊎ Once is_opening (IsTorn g segment) run → IsLost g segment n ⊎ Once is_opening (IsLost g segment) run
+      by : (Once is_opening (IsTorn g segment) run → Once is_opening (IsLost g segment) run) → IsTorn g segment n ⊎ Once is_opening (IsTorn g segment) run
+          → IsLost g segment n ⊎ Once is_opening (IsLost g segment) run
       by before (inl now) = inl (lost_then n (to n (On run e)) now)
       by before (inr old) = inr (before old)
 
 -- what was held and isn't went with its disk
 pub fragments_go_with_disks : FragmentsGoWithDisks
-fragments_go_with_disks g n o moment later v name own held gone kept = by ((passed g n o (passed g (opening g moment.map) n (first_base g moment.map) moment.run).base later).holds v name own held)
+fragments_go_with_disks g n o moment later v name own held gone kept =
+    by ((passed g n o (passed g (opening g moment.map) n (first_base g moment.map) moment.run).base later).holds v name own held)
   where
     unheld : (found : Option Fragment) → found ≡ None → is_some found ≡ true → ⊥
     unheld None e is = contrary is

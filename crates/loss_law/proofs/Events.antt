@@ -44,7 +44,8 @@ log_says g n o (log_out.Send f m ∷ outs) more all = (tt, log_says g n o outs m
 log_says g n o (log_out.Settled end rows ∷ outs) more all = log_says g n o outs more all
 
 -- the questions of a scan, whoever the owner is then
-scan_says : (g : Setting) (n o : Net) (inc top : ℕ) (outs : List scan_outs.Out) → inc ≤ o.inc → ((ask : ℕ) → ask ≤ top → AskedBy ask o.owner) → AllAskedBy top outs → AllSayNew g n o (scan_packets inc outs)
+scan_says : (g : Setting) (n o : Net) (inc top : ℕ) (outs : List scan_outs.Out) → inc ≤ o.inc → ((ask : ℕ) → ask ≤ top → AskedBy ask o.owner)
+    → AllAskedBy top outs → AllSayNew g n o (scan_packets inc outs)
 scan_says g n o inc top [] i by all = tt
 scan_says g n o inc top (scan_out.Hello ask ∷ outs) i by all = ((i, λ e. by ask all.0), scan_says g n o inc top outs i by all.1)
 scan_says g n o inc top (scan_out.Fence server ∷ outs) i by all = (tt, scan_says g n o inc top outs i by all)
@@ -57,8 +58,11 @@ fragment_says g n o None = tt
 fragment_says g n o (Some f) = (tt, tt)
 
 answers_say : (g : Setting) (n o : Net) (v : ℕ) (s : ShelfState) (deed : Deed) → AllSayNew g n o (answers g v s deed)
-answers_say g n o v s (Stores f generation) = by_test (AllSayNew g n o) (is_of_log g f.meta.name && is_stored s f generation) (StoredSent f.meta.name f.meta.index generation ∷ []) [] (λ t. (tt, tt)) (λ t. tt)
-answers_say g n o v s (Fetches name) = by_test (AllSayNew g n o) (is_of_log g name) (fragment_told (held_at s.held name)) [] (λ t. fragment_says g n o (held_at s.held name)) (λ t. tt)
+answers_say g n o v s (Stores f generation) =
+    by_test (AllSayNew g n o) (is_of_log g f.meta.name && is_stored s f generation) (StoredSent f.meta.name f.meta.index generation ∷ []) [] (λ t. (tt, tt))
+    (λ t. tt)
+answers_say g n o v s (Fetches name) =
+    by_test (AllSayNew g n o) (is_of_log g name) (fragment_told (held_at s.held name)) [] (λ t. fragment_says g n o (held_at s.held name)) (λ t. tt)
 answers_say g n o v s (Fences inc) = (tt, tt)
 answers_say g n o v s (Deletes name) = tt
 answers_say g n o v s (Fills f) = tt
@@ -67,7 +71,8 @@ answers_say g n o v s Loses = tt
 -- ---- events of the owner
 
 -- all but the owner, its boot and what is sent stays
-owners : (g : Setting) (n o : Net) (new : List Packet) → o.sent ≡ new ++ n.sent → AllSayNew g n o new → o.shelves ≡ n.shelves → o.low ≡ n.low → o.dropped ≡ n.dropped → BootOn n o → Grows g n o
+owners : (g : Setting) (n o : Net) (new : List Packet) → o.sent ≡ new ++ n.sent → AllSayNew g n o new → o.shelves ≡ n.shelves → o.low ≡ n.low
+    → o.dropped ≡ n.dropped → BootOn n o → Grows g n o
 owners g n o new sends fresh shelves low dropped boot = record {
   new = new;
   sends = sends;
@@ -80,30 +85,38 @@ owners g n o new sends fresh shelves low dropped boot = record {
 }
 
 writes_grows : (g : Setting) (n : Net) (chain : List Segment) (d : log.Done) (flight : Option FlightState) → Grows g n (after_flight g n chain d flight)
-writes_grows g n chain d None = owners g n (after_flight g n chain d None) (log_packets d.outs) refl (only g n (after_flight g n chain d None) d.outs) refl refl refl (inl (refl, λ ask old. tt))
-writes_grows g n chain d (Some f) = owners g n (after_flight g n chain d (Some f)) (log_packets d.outs) refl (only g n (after_flight g n chain d (Some f)) d.outs) refl refl refl (inl (refl, λ ask old. tt))
+writes_grows g n chain d None =
+    owners g n (after_flight g n chain d None) (log_packets d.outs) refl (only g n (after_flight g n chain d None) d.outs) refl refl refl
+    (inl (refl, λ ask old. tt))
+writes_grows g n chain d (Some f) =
+    owners g n (after_flight g n chain d (Some f)) (log_packets d.outs) refl (only g n (after_flight g n chain d (Some f)) d.outs) refl refl refl
+    (inl (refl, λ ask old. tt))
 
 app_assoc : (xs ys zs : List Packet) → xs ++ (ys ++ zs) ≡ (xs ++ ys) ++ zs
 app_assoc [] ys zs = refl
 app_assoc (x ∷ xs) ys zs = ap (λ l. x ∷ l) (app_assoc xs ys zs)
 
-module _ (g : Setting) (n : Net) (s : ScanState) (d : scan.Done) (is : n.owner ≡ Opening s) (up : s.opening.ask ≤ d.state.opening.ask) (asked : AllAskedBy d.state.opening.ask d.outs) where
+module _ (g : Setting) (n : Net) (s : ScanState) (d : scan.Done) (is : n.owner ≡ Opening s) (up : s.opening.ask ≤ d.state.opening.ask)
+    (asked : AllAskedBy d.state.opening.ask d.outs) where
   asked_on : (ask : ℕ) → AskedBy ask n.owner → AskedBy ask (Opening d.state)
   asked_on ask old = let a : ask ≤ s.opening.ask = subst (AskedBy ask) is old in let b = up in omega arith
 
   goes_grows : Grows g n (scans_on n s d)
-  goes_grows = owners g n (scans_on n s d) (scan_packets n.inc d.outs) refl (scan_says g n (scans_on n s d) n.inc d.state.opening.ask d.outs (omega arith) (λ ask le. le) asked) refl refl refl (inl (refl, asked_on))
+  goes_grows = owners g n (scans_on n s d) (scan_packets n.inc d.outs) refl
+      (scan_says g n (scans_on n s d) n.inc d.state.opening.ask d.outs (omega arith) (λ ask le. le) asked) refl refl refl (inl (refl, asked_on))
 
   scan_grows : (chain : Option Told) (groups : Option GroupMapState) → Grows g n (after_told g n s d chain groups)
   scan_grows None groups = goes_grows
   scan_grows (Some t) None = goes_grows
   scan_grows (Some t) (Some m) = owners g n (after_told g n s d (Some t) (Some m)) (log_packets (first_write g n.inc t.end m).outs ++ scan_packets n.inc d.outs)
       (app_assoc (log_packets (first_write g n.inc t.end m).outs) (scan_packets n.inc d.outs) n.sent)
-      (log_says g n (after_told g n s d (Some t) (Some m)) (first_write g n.inc t.end m).outs (scan_packets n.inc d.outs) (scan_says g n (after_told g n s d (Some t) (Some m)) n.inc d.state.opening.ask d.outs (omega arith) (λ ask le. tt) asked))
+      (log_says g n (after_told g n s d (Some t) (Some m)) (first_write g n.inc t.end m).outs (scan_packets n.inc d.outs)
+      (scan_says g n (after_told g n s d (Some t) (Some m)) n.inc d.state.opening.ask d.outs (omega arith) (λ ask le. tt) asked))
       refl refl refl (inl (refl, λ ask old. tt))
 
 -- the scan after it
-opens_to : (g : Setting) (n : Net) (s : ScanState) (d : scan.Done) (chain : Option Told) (groups : Option GroupMapState) (t : ScanState) → (after_told g n s d chain groups).owner ≡ Opening t → t ≡ d.state
+opens_to : (g : Setting) (n : Net) (s : ScanState) (d : scan.Done) (chain : Option Told) (groups : Option GroupMapState) (t : ScanState)
+    → (after_told g n s d chain groups).owner ≡ Opening t → t ≡ d.state
 opens_to g n s d None groups t e = cc
 opens_to g n s d (Some told) None t e = cc
 opens_to g n s d (Some told) (Some m) t e = absurd cc
@@ -111,7 +124,8 @@ opens_to g n s d (Some told) (Some m) t e = absurd cc
 pub opened_to : (g : Setting) (n : Net) (s : ScanState) (d : scan.Done) (t : ScanState) → (after_scan g n s d).owner ≡ Opening t → t ≡ d.state
 opened_to g n s d t e = opens_to g n s d (chain_in d.outs) d.state.opening.groups t e
 
-boot_told : (g : Setting) (n : Net) (s : ScanState) (d : scan.Done) (chain : Option Told) (groups : Option GroupMapState) → (after_told g n s d chain groups).inc ≡ n.inc
+boot_told : (g : Setting) (n : Net) (s : ScanState) (d : scan.Done) (chain : Option Told) (groups : Option GroupMapState)
+    → (after_told g n s d chain groups).inc ≡ n.inc
 boot_told g n s d None groups = refl
 boot_told g n s d (Some told) None = refl
 boot_told g n s d (Some told) (Some m) = refl
@@ -125,8 +139,10 @@ record Taken (g : Setting) (s : ScanState) (d : scan.Done) : Type 0 where
   asked : AllAskedBy d.state.opening.ask d.outs
   fits : Fits g d.state.opening
 
-taken_with : (g : Setting) (s : ScanState) (d : scan.Done) (groups : Option GroupMapState) → With s.opening groups d → Fits g s.opening → AreNamed g groups → Taken g s d
-taken_with g s d groups w fits named = record { up = w.ask; asked = w.asked; fits = record { log = w.log ∙ fits.log; groups = subst (AreNamed g) (sym w.groups_are) named } }
+taken_with : (g : Setting) (s : ScanState) (d : scan.Done) (groups : Option GroupMapState) → With s.opening groups d → Fits g s.opening → AreNamed g groups
+    → Taken g s d
+taken_with g s d groups w fits named =
+    record { up = w.ask; asked = w.asked; fits = record { log = w.log ∙ fits.log; groups = subst (AreNamed g) (sym w.groups_are) named } }
 
 taken : (g : Setting) (n : Net) (s : ScanState) (i : Input) → Base g n → Fits g s.opening → CameToScan g n i → Taken g s (scan.transition s i)
 taken g n s i base fits came = by i came (takes_so s.opening s.stage i)
@@ -137,16 +153,21 @@ taken g n s i base fits came = by i came (takes_so s.opening s.stage i)
         groups : (f.0 ≡ s.opening.groups) ⊎ (f.0 ≡ Some m) → AreNamed g f.0
         groups (inl e) = subst (AreNamed g) (sym e) fits.groups
         groups (inr e) = subst (AreNamed g) (sym e) (base.packets (MapSent m) c.1)
-    by (scan_in.Fenced server generation held) c f = taken_with g s (scan.transition s (scan_in.Fenced server generation held)) s.opening.groups f fits fits.groups
-    by (scan_in.Got ask server generation fragment) c f = taken_with g s (scan.transition s (scan_in.Got ask server generation fragment)) s.opening.groups f fits fits.groups
-    by (scan_in.Missing ask server generation) c f = taken_with g s (scan.transition s (scan_in.Missing ask server generation)) s.opening.groups f fits fits.groups
+    by (scan_in.Fenced server generation held) c f =
+        taken_with g s (scan.transition s (scan_in.Fenced server generation held)) s.opening.groups f fits fits.groups
+    by (scan_in.Got ask server generation fragment) c f =
+        taken_with g s (scan.transition s (scan_in.Got ask server generation fragment)) s.opening.groups f fits fits.groups
+    by (scan_in.Missing ask server generation) c f =
+        taken_with g s (scan.transition s (scan_in.Missing ask server generation)) s.opening.groups f fits fits.groups
     by (scan_in.Maps m) c f = taken_with g s (scan.transition s (scan_in.Maps m)) (Some m) f fits (base.packets (MapSent m) c)
     by scan_in.Tick c f = taken_with g s (scan.transition s scan_in.Tick) s.opening.groups f fits fits.groups
 
 -- ---- each event
 
 pub grows : (g : Setting) (n o : Net) → Base g n → Happens g n o → Grows g n o
-grows g n o base (Acts s i is came texts) = owners g n (after_log g n (log.transition s i)) (log_packets (log.transition s i).outs) refl (only g n (after_log g n (log.transition s i)) (log.transition s i).outs) refl refl refl (inl (refl, λ ask old. tt))
+grows g n o base (Acts s i is came texts) =
+    owners g n (after_log g n (log.transition s i)) (log_packets (log.transition s i).outs) refl
+    (only g n (after_log g n (log.transition s i)) (log.transition s i).outs) refl refl refl (inl (refl, λ ask old. tt))
 grows g n o base (Writes chain s i is came texts) = writes_grows g n chain (log.transition s i) (log.transition s i).state.flight
 grows g n o base (Opens s i is came can) =
     let t = taken g n s i base (base.opening s is) came in
@@ -158,7 +179,9 @@ grows g n o base (Serves v deed some came) = record {
   new = answers g v (n.shelves v) deed;
   sends = refl;
   fresh = answers_say g n o v (n.shelves v) deed;
-  shelves = λ u. by_test (ShelfOn g n (n.shelves u)) (u == v) (shelf_after g (n.shelves v) deed) (n.shelves u) (λ t. subst (λ z. ShelfOn g n (n.shelves z) (shelf_after g (n.shelves v) deed)) (sym (equal u v t)) (deed_on g n v deed came)) (λ t. shelf_same g n (n.shelves u));
+  shelves = λ u. by_test (ShelfOn g n (n.shelves u)) (u == v) (shelf_after g (n.shelves v) deed) (n.shelves u)
+      (λ t. subst (λ z. ShelfOn g n (n.shelves z) (shelf_after g (n.shelves v) deed)) (sym (equal u v t)) (deed_on g n v deed came))
+      (λ t. shelf_same g n (n.shelves u));
   low = omega arith;
   stays = λ name is. is;
   drops = λ name is. inl is;
@@ -168,7 +191,9 @@ grows g n o base (Bars v l pass) = record {
   new = [];
   sends = refl;
   fresh = tt;
-  shelves = λ u. by_test (ShelfOn g n (n.shelves u)) (u == v) (on_fence (n.shelves v) l pass) (n.shelves u) (λ t. subst (λ z. ShelfOn g n (n.shelves z) (on_fence (n.shelves v) l pass)) (sym (equal u v t)) (fence_on g n (n.shelves v) l pass)) (λ t. shelf_same g n (n.shelves u));
+  shelves = λ u. by_test (ShelfOn g n (n.shelves u)) (u == v) (on_fence (n.shelves v) l pass) (n.shelves u)
+      (λ t. subst (λ z. ShelfOn g n (n.shelves z) (on_fence (n.shelves v) l pass)) (sym (equal u v t)) (fence_on g n (n.shelves v) l pass))
+      (λ t. shelf_same g n (n.shelves u));
   low = omega arith;
   stays = λ name is. is;
   drops = λ name is. inl is;
@@ -176,9 +201,20 @@ grows g n o base (Bars v l pass) = record {
 }
 grows g n o base (Lists v) = owners g n _ (ListedSent (listed g (n.shelves v)) ∷ []) refl (tt, tt) refl refl refl (inl (refl, λ ask old. old))
 grows g n o base (Hears v generation up reached) = owners g n _ [] refl tt refl refl refl (inl (refl, λ ask old. old))
-grows g n o base (Raises low name up is below) = record { new = []; sends = refl; fresh = tt; shelves = λ v. shelf_same g n (n.shelves v); low = up; stays = λ z in_. in_; drops = λ z in_. inl in_; boot = inl (refl, λ ask old. old) }
+grows g n o base (Raises low name up is below) =
+    record {
+      new = [];
+      sends = refl;
+      fresh = tt;
+      shelves = λ v. shelf_same g n (n.shelves v);
+      low = up;
+      stays = λ z in_. in_;
+      drops = λ z in_. inl in_;
+      boot = inl (refl, λ ask old. old);
+    }
 grows g n o base (Publishes m whole) = owners g n _ (MapSent m ∷ []) refl (whole.named, tt) refl refl refl (inl (refl, λ ask old. old))
-grows g n o base (Welcomes inc ask news m is low whole) = owners g n _ (WelcomeSent inc ask news m ∷ []) refl ((is, low), tt) refl refl refl (inl (refl, λ ask old. old))
+grows g n o base (Welcomes inc ask news m is low whole) =
+    owners g n _ (WelcomeSent inc ask news m ∷ []) refl ((is, low), tt) refl refl refl (inl (refl, λ ask old. old))
 grows g n o base (Drops lists meta is among below) = record {
   new = DeleteSent meta.name ∷ [];
   sends = refl;
@@ -194,7 +230,8 @@ grows g n o base (Drops lists meta is among below) = record {
     by name (inl e) = inr (subst (λ (z : SegName). z.seq < n.low) (sym e) below)
     by name (inr in_) = inl in_
 
-pub writes_none : (g : Setting) (n : Net) (chain : List Segment) (d : log.Done) (flight : Option FlightState) (s : ScanState) → (after_flight g n chain d flight).owner ≡ Opening s → ⊥
+pub writes_none : (g : Setting) (n : Net) (chain : List Segment) (d : log.Done) (flight : Option FlightState) (s : ScanState)
+    → (after_flight g n chain d flight).owner ≡ Opening s → ⊥
 writes_none g n chain d None s e = cc
 writes_none g n chain d (Some f) s e = cc
 
@@ -202,7 +239,8 @@ writes_none g n chain d (Some f) s e = cc
 pub fits_then : (g : Setting) (n o : Net) → Base g n → Happens g n o → (t : ScanState) → o.owner ≡ Opening t → Fits g t.opening
 fits_then g n o base (Acts s i is came texts) t e = absurd cc
 fits_then g n o base (Writes chain s i is came texts) t e = absurd (writes_none g n chain (log.transition s i) (log.transition s i).state.flight t e)
-fits_then g n o base (Opens s i is came can) t e = subst (λ (z : ScanState). Fits g z.opening) (sym (opened_to g n s (scan.transition s i) t e)) (taken g n s i base (base.opening s is) came).fits
+fits_then g n o base (Opens s i is came can) t e =
+    subst (λ (z : ScanState). Fits g z.opening) (sym (opened_to g n s (scan.transition s i) t e)) (taken g n s i base (base.opening s is) came).fits
 fits_then g n o base Crashes t e = absurd cc
 fits_then g n o base (Restarts is) t e = subst (λ (z : ScanState). Fits g z.opening) (same e) (record { log = refl; groups = λ id group none. absurd cc })
   where

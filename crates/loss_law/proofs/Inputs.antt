@@ -36,7 +36,8 @@ use Rattle.loss_law.proofs.Readings.{Loses, fetches_lose, fences_lose, same_ask,
 at_least : (a b : ℕ) → b ≤ max a b
 at_least a b = omega arith
 
-module _ (g : Setting) (start n o : Net) (run : Runs g start n) (e : Happens g n o) (grows : Grows g n o) (boot : o.inc ≡ n.inc) (base : Base g n) (s : ScanState) (is : n.owner ≡ Opening s) where
+module _ (g : Setting) (start n o : Net) (run : Runs g start n) (e : Happens g n o) (grows : Grows g n o) (boot : o.inc ≡ n.inc) (base : Base g n)
+    (s : ScanState) (is : n.owner ≡ Opening s) where
   abbrev To : Done → Type 0
   To d = Goes g start n o run e grows boot base s is d
 
@@ -47,12 +48,19 @@ module _ (g : Setting) (start n o : Net) (run : Runs g start n) (e : Happens g n
   own = record { ask = refl; log = (base.opening s is).log; groups = (base.opening s is).groups }
 
   -- the opening stays where it stands, with the same question
-  still : (p : OpeningState) (stage : Stage) (outs : List Out) → p.ask ≡ s.opening.ask → StageKept g run s.opening.ask stage → Loses (WasTorn g run s) outs → To (goes p stage outs)
-  still p stage outs same known quiet = record { kept = λ opens. subst (λ ask. StageKept g (On run e) ask stage) (sym same) (stage_on g start n o run e grows boot opens s.opening.ask stage known); lost = quiet }
+  still : (p : OpeningState) (stage : Stage) (outs : List Out) → p.ask ≡ s.opening.ask → StageKept g run s.opening.ask stage → Loses (WasTorn g run s) outs
+      → To (goes p stage outs)
+  still p stage outs same known quiet =
+      record {
+        kept = λ opens. subst (λ ask. StageKept g (On run e) ask stage) (sym same)
+            (stage_on g start n o run e grows boot opens s.opening.ask stage known);
+        lost = quiet;
+      }
 
   -- ---- a Welcome
 
-  module _ (news : List SlotNews) (m : GroupMapState) (named : AreNamed g (Some m)) (heard : (k : GroupMapState) × In (WelcomeSent n.inc s.opening.ask news k) n.sent) where
+  module _ (news : List SlotNews) (m : GroupMapState) (named : AreNamed g (Some m))
+      (heard : (k : GroupMapState) × In (WelcomeSent n.inc s.opening.ask news k) n.sent) where
     abbrev least : ℕ
     least = least_horizon s.opening.log.0 news
 
@@ -64,7 +72,9 @@ module _ (g : Setting) (start n o : Net) (run : Runs g start n) (e : Happens g n
 
     confirms_goes : (b : Backward) (r : Option ReadingState) → s.stage ≡ Reads b r → ReadKept g run s.opening.ask b r → To (scan.confirms risen b r)
     unfolding scan.confirms
-    confirms_goes b None at k = by_test To (scan.is_bottom risen.low b.next) (goes risen Over (scan.chain_of b ∷ [])) (scan.begins_round risen b) (λ t. over_goes g start n o run e grows boot base s is risen b) (λ t. round_goes g start n o run e grows boot base s is risen b risen_alike)
+    confirms_goes b None at k =
+        by_test To (scan.is_bottom risen.low b.next) (goes risen Over (scan.chain_of b ∷ [])) (scan.begins_round risen b)
+        (λ t. over_goes g start n o run e grows boot base s is risen b) (λ t. round_goes g start n o run e grows boot base s is risen b risen_alike)
     confirms_goes b (Some r) at k = confirmed g start n o run e grows boot base s is b r at k risen risen_alike reached
       where
         reached : (d : Doubts g run s.opening.ask r.target.seg) → d.bound ≤ risen.low
@@ -74,29 +84,41 @@ module _ (g : Setting) (start n o : Net) (run : Runs g start n) (e : Happens g n
             let z : least ≤ max s.opening.low least = at_least s.opening.low least in
             omega arith
 
-    welcomed_goes : (stage : Stage) → s.stage ≡ stage → StageKept g run s.opening.ask stage → To (scan.welcomed (record s.opening { groups = Some m }) stage least)
+    welcomed_goes : (stage : Stage) → s.stage ≡ stage → StageKept g run s.opening.ask stage
+        → To (scan.welcomed (record s.opening { groups = Some m }) stage least)
     welcomed_goes Hails at k = record { kept = λ opens. tt; lost = fences_lose (WasTorn g run s) (scan.awaited (Some m) []) }
     welcomed_goes (Gathers lists) at k = record { kept = λ opens. tt; lost = tt }
     welcomed_goes (Asks lists) at k = picks_goes g start n o run e grows boot base s is risen lists risen_alike
     welcomed_goes (Reads b r) at k = confirms_goes b r at k
     welcomed_goes Over at k = record { kept = λ opens. tt; lost = tt }
 
-  welcome_goes : (ask : ℕ) (news : List SlotNews) (m : GroupMapState) → CameToScan g n (scan_in.Welcome ask news m) → StageKept g run s.opening.ask s.stage → To (scan.on_welcome s.opening s.stage ask news m)
+  welcome_goes : (ask : ℕ) (news : List SlotNews) (m : GroupMapState) → CameToScan g n (scan_in.Welcome ask news m) → StageKept g run s.opening.ask s.stage
+      → To (scan.on_welcome s.opening s.stage ask news m)
   unfolding scan.on_welcome
-  welcome_goes ask news m came k = by_test To ((ask == s.opening.ask) && (scan.can_ask s.opening && scan.awaits_welcome s.stage)) (scan.welcomed (record s.opening { groups = Some m }) s.stage (least_horizon s.opening.log.0 news)) (stays s.opening s.stage)
-      (λ t. welcomed_goes news m (base.packets (MapSent m) came.1) (came.0.0, subst (λ z. In (WelcomeSent n.inc z news came.0.0) n.sent) (same_ask ask s.opening.ask (and_first (ask == s.opening.ask) (scan.can_ask s.opening && scan.awaits_welcome s.stage) t)) came.0.1) s.stage refl k)
+  welcome_goes ask news m came k =
+      by_test To ((ask == s.opening.ask) && (scan.can_ask s.opening && scan.awaits_welcome s.stage))
+      (scan.welcomed (record s.opening { groups = Some m }) s.stage (least_horizon s.opening.log.0 news)) (stays s.opening s.stage)
+      (λ t. welcomed_goes news m (base.packets (MapSent m) came.1) (
+        came.0.0,
+        subst (λ z. In (WelcomeSent n.inc z news came.0.0) n.sent)
+            (same_ask ask s.opening.ask (and_first (ask == s.opening.ask) (scan.can_ask s.opening && scan.awaits_welcome s.stage) t)) came.0.1,
+      ) s.stage refl k)
       (λ t. still s.opening s.stage [] refl k tt)
 
   -- ---- a list
 
   with_list_goes : (lists : List Listing) → To (scan.with_list s.opening lists)
   unfolding scan.with_list
-  with_list_goes lists = by_test To (length (scan.awaited s.opening.groups lists) == 0) (scan.asks_anew s.opening (Asks lists)) (stays s.opening (Gathers lists)) (λ t. record { kept = λ opens. tt; lost = tt }) (λ t. record { kept = λ opens. tt; lost = tt })
+  with_list_goes lists =
+      by_test To (length (scan.awaited s.opening.groups lists) == 0) (scan.asks_anew s.opening (Asks lists)) (stays s.opening (Gathers lists))
+      (λ t. record { kept = λ opens. tt; lost = tt }) (λ t. record { kept = λ opens. tt; lost = tt })
 
   fenced_goes : (stage : Stage) (l : Listing) → StageKept g run s.opening.ask stage → To (scan.on_fenced s.opening stage l)
   unfolding scan.on_fenced
   fenced_goes Hails l k = still s.opening Hails [] refl k tt
-  fenced_goes (Gathers lists) l k = by_test To (scan.can_ask s.opening && scan.awaits s.opening.groups lists l.server) (scan.with_list s.opening (lists ++ l ∷ [])) (stays s.opening (Gathers lists)) (λ t. with_list_goes (lists ++ l ∷ [])) (λ t. still s.opening (Gathers lists) [] refl k tt)
+  fenced_goes (Gathers lists) l k =
+      by_test To (scan.can_ask s.opening && scan.awaits s.opening.groups lists l.server) (scan.with_list s.opening (lists ++ l ∷ []))
+      (stays s.opening (Gathers lists)) (λ t. with_list_goes (lists ++ l ∷ [])) (λ t. still s.opening (Gathers lists) [] refl k tt)
   fenced_goes (Asks lists) l k = still s.opening (Asks lists) [] refl k tt
   fenced_goes (Reads b r) l k = still s.opening (Reads b r) [] refl k tt
   fenced_goes Over l k = still s.opening Over [] refl k tt
@@ -105,16 +127,21 @@ module _ (g : Setting) (start n o : Net) (run : Runs g start n) (e : Happens g n
 
   -- what is told is true, where it answers the question of the round that is on
   abbrev TellsTrue : ℕ → ℕ → Told → Type 0
-  TellsTrue ask server t = (b : Backward) (r : ReadingState) → s.stage ≡ Reads b (Some r) → (a : Asks_on g run r) → ask ≡ r.ask → ToldSo (Between g r.target.seg.name a.middle.net n) server t
+  TellsTrue ask server t =
+      (b : Backward) (r : ReadingState) → s.stage ≡ Reads b (Some r) → (a : Asks_on g run r) → ask ≡ r.ask
+      → ToldSo (Between g r.target.seg.name a.middle.net n) server t
 
   module _ (ask server : ℕ) (t : Told) (true_then : TellsTrue ask server t) where
-    heard_with_goes : (b : Backward) (r : ReadingState) (groups : Option GroupMapState) → s.stage ≡ Reads b (Some r) → ReadingKept g run s.opening.ask b r → To (scan.heard_with s.opening b r groups ask server t)
+    heard_with_goes : (b : Backward) (r : ReadingState) (groups : Option GroupMapState) → s.stage ≡ Reads b (Some r) → ReadingKept g run s.opening.ask b r
+        → To (scan.heard_with s.opening b r groups ask server t)
     heard_with_goes b r None at k = still s.opening (Reads b (Some r)) [] refl k tt
     heard_with_goes b r (Some groups) at k = answered g start n o run e grows boot base s is b r at k groups ask server t own (true_then b r at)
 
     heard_goes : (b : Backward) (r : Option ReadingState) → s.stage ≡ Reads b r → ReadKept g run s.opening.ask b r → To (scan.heard s.opening b r ask server t)
     heard_goes b None at k = still s.opening (Reads b None) [] refl k tt
-    heard_goes b (Some r) at k = by_test To (scan.can_ask s.opening) (scan.heard_with s.opening b r s.opening.groups ask server t) (stays s.opening (Reads b (Some r))) (λ can. heard_with_goes b r s.opening.groups at k) (λ can. still s.opening (Reads b (Some r)) [] refl k tt)
+    heard_goes b (Some r) at k =
+        by_test To (scan.can_ask s.opening) (scan.heard_with s.opening b r s.opening.groups ask server t) (stays s.opening (Reads b (Some r)))
+        (λ can. heard_with_goes b r s.opening.groups at k) (λ can. still s.opening (Reads b (Some r)) [] refl k tt)
 
     told_goes : (stage : Stage) → s.stage ≡ stage → StageKept g run s.opening.ask stage → To (scan.on_told s.opening stage ask server t)
     unfolding scan.on_told
@@ -128,7 +155,9 @@ module _ (g : Setting) (start n o : Net) (run : Runs g start n) (e : Happens g n
 
   asked_quiet : (r : Option ReadingState) → Loses (WasTorn g run s) (scan.asked_again s.opening r)
   asked_quiet None = tt
-  asked_quiet (Some r) = by_test (Loses (WasTorn g run s)) (is_asking r.stage) (scan.fetches r) (Hello s.opening.ask ∷ []) (λ t. fetches_lose (WasTorn g run s) r.target.seg.name r.ask (to_ask r)) (λ t. tt)
+  asked_quiet (Some r) =
+      by_test (Loses (WasTorn g run s)) (is_asking r.stage) (scan.fetches r) (Hello s.opening.ask ∷ [])
+      (λ t. fetches_lose (WasTorn g run s) r.target.seg.name r.ask (to_ask r)) (λ t. tt)
 
   tick_quiet : (stage : Stage) → Loses (WasTorn g run s) (scan.on_tick s.opening stage)
   unfolding scan.on_tick
@@ -144,12 +173,14 @@ module _ (g : Setting) (start n o : Net) (run : Runs g start n) (e : Happens g n
   held_true ask server f b r at a same = tt
 
   missing_true : (ask server generation : ℕ) → IsTrue run s (scan_in.Missing ask server generation) → TellsTrue ask server (told.Missing generation)
-  missing_true ask server generation truth b r at a same = a.drawn server generation (truth b r server generation at (ap (λ z. scan_in.Missing z server generation) same))
+  missing_true ask server generation truth b r at a same =
+      a.drawn server generation (truth b r server generation at (ap (λ z. scan_in.Missing z server generation) same))
 
   pub takes_goes : (i : Input) → CameToScan g n i → IsTrue run s i → StageKept g run s.opening.ask s.stage → To (scan.transition s i)
   takes_goes (scan_in.Welcome ask news m) came truth k = welcome_goes ask news m came k
   takes_goes (scan_in.Fenced server generation held) came truth k = fenced_goes s.stage (record { server = server; generation = generation; held = held }) k
   takes_goes (scan_in.Got ask server generation f) came truth k = told_goes ask server (told.Held f) (held_true ask server f) s.stage refl k
-  takes_goes (scan_in.Missing ask server generation) came truth k = told_goes ask server (told.Missing generation) (missing_true ask server generation truth) s.stage refl k
+  takes_goes (scan_in.Missing ask server generation) came truth k =
+      told_goes ask server (told.Missing generation) (missing_true ask server generation truth) s.stage refl k
   takes_goes (scan_in.Maps m) came truth k = still (record s.opening { groups = Some m }) s.stage [] refl k tt
   takes_goes scan_in.Tick came truth k = still s.opening s.stage (scan.on_tick s.opening s.stage) refl k (tick_quiet s.stage)

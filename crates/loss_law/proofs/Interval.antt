@@ -25,7 +25,8 @@ pub record Passed (g : Setting) (n o : Net) : Type 0 where
   pub holds : (v : ℕ) (name : SegName) → name.log ≡ g.log → is_held (n.shelves v) name ≡ true → HeldOn n o v name
 
 module _ (g : Setting) where
-  held_further : (n m o : Net) (v : ℕ) (name : SegName) → name.log ≡ g.log → Base g m → Grows g m o → (n.shelves v).generation ≤ (m.shelves v).generation → HeldOn n m v name → HeldOn n o v name
+  held_further : (n m o : Net) (v : ℕ) (name : SegName) → name.log ≡ g.log → Base g m → Grows g m o → (n.shelves v).generation ≤ (m.shelves v).generation
+      → HeldOn n m v name → HeldOn n o v name
   held_further n m o v name own base grown up (inl held) = by ((grown.shelves v).holds name own held)
     where
       by : (is_held (o.shelves v) name ≡ true) ⊎ (((m.shelves v).generation < (o.shelves v).generation) ⊎ In (DeleteSent name) m.sent) → HeldOn n o v name
@@ -69,7 +70,8 @@ module _ (g : Setting) where
   not_held None e is = contrary is
   not_held (Some f) e is = absurd cc
 
-  pub lacks_between : (name : SegName) (m n : Net) (v generation : ℕ) → name.log ≡ g.log → Base g m → Before name m v generation → Between name m n v generation → (In name n.dropped → ⊥) → is_none (held_at (m.shelves v).held name) ≡ true
+  pub lacks_between : (name : SegName) (m n : Net) (v generation : ℕ) → name.log ≡ g.log → Base g m → Before name m v generation → Between name m n v generation
+      → (In name n.dropped → ⊥) → is_none (held_at (m.shelves v).held name) ≡ true
   lacks_between name m n v generation own base one two kept = none_left (held_at (m.shelves v).held name) unheld
     where
       to : Passed g one.at m

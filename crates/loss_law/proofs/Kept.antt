@@ -89,7 +89,8 @@ once_now keeps P (On run e) is now = (is, inl now)
 
 -- ---- an event goes by
 
-module _ (g : Setting) (start n o : Net) (run : Runs g start n) (e : Happens g n o) (grows : Grows g n o) (boot : o.inc ≡ n.inc) (opens : is_opening o.owner ≡ true) where
+module _ (g : Setting) (start n o : Net) (run : Runs g start n) (e : Happens g n o) (grows : Grows g n o) (boot : o.inc ≡ n.inc)
+    (opens : is_opening o.owner ≡ true) where
   pub between_on : (name : SegName) (m : Net) (v generation : ℕ) → Between g name m n v generation → Between g name m o v generation
   between_on name m v generation b = record { at = b.at; first = b.first; later = On b.later e; lacks = b.lacks }
 
@@ -98,22 +99,31 @@ module _ (g : Setting) (start n o : Net) (run : Runs g start n) (e : Happens g n
 
   asks_on : (r : ReadingState) → Asks_on g run r → Asks_on g (On run e) r
   unfolding middle_on
-  asks_on r a = record { middle = middle_on r.target.seg r.kept a.middle; drawn = drawn; told = so_on _ _ (between_on r.target.seg.name a.middle.net) r.round.answers a.told }
+  asks_on r a =
+      record {
+        middle = middle_on r.target.seg r.kept a.middle;
+        drawn = drawn;
+        told = so_on _ _ (between_on r.target.seg.name a.middle.net) r.round.answers a.told;
+      }
     where
-      drawn : (v generation : ℕ) → Once (has_drawn r.ask) (LacksIn r.target.seg.name v generation) (On run e) → Between g r.target.seg.name a.middle.net o v generation
+      drawn : (v generation : ℕ) → Once (has_drawn r.ask) (LacksIn r.target.seg.name v generation) (On run e)
+          → Between g r.target.seg.name a.middle.net o v generation
       drawn v generation once = by once.1
         where
-          by : LacksIn r.target.seg.name v generation o ⊎ Once (has_drawn r.ask) (LacksIn r.target.seg.name v generation) run → Between g r.target.seg.name a.middle.net o v generation
+          by : LacksIn r.target.seg.name v generation o ⊎ Once (has_drawn r.ask) (LacksIn r.target.seg.name v generation) run
+              → Between g r.target.seg.name a.middle.net o v generation
           by (inl now) = record { at = o; first = On a.middle.later e; later = Begun; lacks = now }
           by (inr old) = between_on r.target.seg.name a.middle.net v generation (a.drawn v generation old)
 
   doubts_on : (ask : ℕ) (seg : SegRef) → Doubts g run ask seg → Doubts g (On run e) ask seg
-  doubts_on ask seg d = record { bound = d.bound; torn = λ above. (opens, inr (d.torn above)); past = (let a = d.past in let b = grows.low in omega arith); heard = heard }
+  doubts_on ask seg d =
+      record { bound = d.bound; torn = λ above. (opens, inr (d.torn above)); past = (let a = d.past in let b = grows.low in omega arith); heard = heard }
     where
       heard : (news : List SlotNews) (m : GroupMapState) → In (WelcomeSent o.inc ask news m) o.sent → d.bound ≤ least_horizon g.log.0 news
       heard news m is = by (sent_then g n o grows (WelcomeSent o.inc ask news m) is)
         where
-          by : (In (HelloSent o.inc ask) n.sent × (least_horizon g.log.0 news ≡ n.low)) ⊎ In (WelcomeSent o.inc ask news m) n.sent → d.bound ≤ least_horizon g.log.0 news
+          by : (In (HelloSent o.inc ask) n.sent × (least_horizon g.log.0 news ≡ n.low)) ⊎ In (WelcomeSent o.inc ask news m) n.sent
+              → d.bound ≤ least_horizon g.log.0 news
           by (inl new) = let a = d.past in let b = new.1 in omega arith
           by (inr old) = d.heard news m (subst (λ inc. In (WelcomeSent inc ask news m) n.sent) boot old)
 
@@ -124,7 +134,16 @@ module _ (g : Setting) (start n o : Net) (run : Runs g start n) (e : Happens g n
   round_on ask r stand.Over k = tt
 
   pub reading_on : (ask : ℕ) (b : Backward) (r : ReadingState) → ReadingKept g run ask b r → ReadingKept g (On run e) ask b r
-  reading_on ask b r k = record { of_log = k.of_log; next = k.next; servers = k.servers; parity = k.parity; single = k.single; asked = k.asked; stage = round_on ask r r.stage k.stage }
+  reading_on ask b r k =
+      record {
+        of_log = k.of_log;
+        next = k.next;
+        servers = k.servers;
+        parity = k.parity;
+        single = k.single;
+        asked = k.asked;
+        stage = round_on ask r r.stage k.stage;
+      }
 
   read_on : (ask : ℕ) (b : Backward) (r : Option ReadingState) → ReadKept g run ask b r → ReadKept g (On run e) ask b r
   read_on ask b None k = tt

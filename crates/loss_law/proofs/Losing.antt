@@ -31,13 +31,18 @@ module _ (g : Setting) (start n o : Net) (run : Runs g start n) (base : Base g n
       sym_owner : o.owner ≡ n.owner → o.owner ≡ Opening s → n.owner ≡ Opening s
       sym_owner a b = cc
 
-goes_of : (g : Setting) (start n : Net) (run : Runs g start n) (base : Base g n) (s : ScanState) (i : Input) (is : n.owner ≡ Opening s) (came : CameToScan g n i) (e : Happens g n (after_scan g n s (scan.transition s i))) → IsTrue run s i → Kept g run
+goes_of : (g : Setting) (start n : Net) (run : Runs g start n) (base : Base g n) (s : ScanState) (i : Input) (is : n.owner ≡ Opening s)
+    (came : CameToScan g n i) (e : Happens g n (after_scan g n s (scan.transition s i))) → IsTrue run s i → Kept g run
     → Goes g start n (after_scan g n s (scan.transition s i)) run e (grows g n _ base e) (same_boot g n s (scan.transition s i)) base s is (scan.transition s i)
-goes_of g start n run base s i is came e truth kept = takes_goes g start n (after_scan g n s (scan.transition s i)) run e (grows g n _ base e) (same_boot g n s (scan.transition s i)) base s is i came truth (kept s is)
+goes_of g start n run base s i is came e truth kept =
+    takes_goes g start n (after_scan g n s (scan.transition s i)) run e (grows g n _ base e) (same_boot g n s (scan.transition s i)) base s is i came truth
+    (kept s is)
 
-kept_then : (g : Setting) (start n o : Net) (run : Runs g start n) (base : Base g n) (e : Happens g n o) → ((s : ScanState) (i : Input) → Takes e s i → IsTrue run s i) → Kept g run → Kept g (On run e)
+kept_then : (g : Setting) (start n o : Net) (run : Runs g start n) (base : Base g n) (e : Happens g n o)
+    → ((s : ScanState) (i : Input) → Takes e s i → IsTrue run s i) → Kept g run → Kept g (On run e)
 kept_then g start n o run base (Acts s i is came texts) truth kept t at = absurd cc
-kept_then g start n o run base (Writes chain s i is came texts) truth kept t at = absurd (writes_none g n chain (log.transition s i) (log.transition s i).state.flight t at)
+kept_then g start n o run base (Writes chain s i is came texts) truth kept t at =
+    absurd (writes_none g n chain (log.transition s i) (log.transition s i).state.flight t at)
 kept_then g start n o run base (Opens s i is came can) truth kept t at =
     let d = scan.transition s i in
     let goes = goes_of g start n run base s i is came (Opens s i is came can) (truth s i (refl, refl)) kept in
@@ -54,8 +59,10 @@ kept_then g start n o run base (Lists v) truth kept t at = aside g start n o run
 kept_then g start n o run base (Hears v generation up reached) truth kept t at = aside g start n o run base (Hears v generation up reached) kept refl refl t at
 kept_then g start n o run base (Raises low name up is below) truth kept t at = aside g start n o run base (Raises low name up is below) kept refl refl t at
 kept_then g start n o run base (Publishes m whole) truth kept t at = aside g start n o run base (Publishes m whole) kept refl refl t at
-kept_then g start n o run base (Welcomes inc ask news m is low whole) truth kept t at = aside g start n o run base (Welcomes inc ask news m is low whole) kept refl refl t at
-kept_then g start n o run base (Drops lists meta is among below) truth kept t at = aside g start n o run base (Drops lists meta is among below) kept refl refl t at
+kept_then g start n o run base (Welcomes inc ask news m is low whole) truth kept t at =
+    aside g start n o run base (Welcomes inc ask news m is low whole) kept refl refl t at
+kept_then g start n o run base (Drops lists meta is among below) truth kept t at =
+    aside g start n o run base (Drops lists meta is among below) kept refl refl t at
 
 -- ---- every run
 
@@ -86,12 +93,15 @@ lost_in P (Lost other ∷ outs) all name (inl e) = subst P (same e) all.0
     same e = cc
 lost_in P (Lost other ∷ outs) all name (inr is) = lost_in P outs all.1 name is
 
-torn : (g : Setting) (start n o : Net) (run : Runs g start n) (k : Known g run) (e : Happens g n o) → ((s : ScanState) (i : Input) → Takes e s i → IsTrue run s i) → (s : ScanState) (i : Input) → Takes e s i → (name : SegName) → In (Lost name) (scan.transition s i).outs → WasTorn g run s name
+torn : (g : Setting) (start n o : Net) (run : Runs g start n) (k : Known g run) (e : Happens g n o)
+    → ((s : ScanState) (i : Input) → Takes e s i → IsTrue run s i) → (s : ScanState) (i : Input) → Takes e s i → (name : SegName)
+    → In (Lost name) (scan.transition s i).outs → WasTorn g run s name
 torn g start n o run k (Acts s i is came texts) truth t j takes name lost = absurd takes
 torn g start n o run k (Writes chain s i is came texts) truth t j takes name lost = absurd takes
 torn g start n o run k (Opens s i is came can) truth t j takes name lost =
     let goes = goes_of g start n run k.base s i is came (Opens s i is came can) (truth s i (refl, refl)) k.kept in
-    let said : In (Lost name) (scan.transition s i).outs = subst (λ z. In (Lost name) (scan.transition s z).outs) (sym takes.1) (subst (λ z. In (Lost name) (scan.transition z j).outs) (sym takes.0) lost) in
+    let said : In (Lost name) (scan.transition s i).outs =
+    subst (λ z. In (Lost name) (scan.transition s z).outs) (sym takes.1) (subst (λ z. In (Lost name) (scan.transition z j).outs) (sym takes.0) lost) in
     subst (λ z. WasTorn g run z name) takes.0 (lost_in (WasTorn g run s) (scan.transition s i).outs goes.lost name said)
 torn g start n o run k Crashes truth t j takes name lost = absurd takes
 torn g start n o run k (Restarts is) truth t j takes name lost = absurd takes
@@ -107,5 +117,11 @@ torn g start n o run k (Drops lists meta is among below) truth t j takes name lo
 
 pub a_reopening_loses_what_is_torn : LogsStayWhole → AReopeningLosesWhatIsTorn
 a_reopening_loses_what_is_torn whole g n o m happens truth s i takes name lost =
-    let t = torn g (opening g m.map) n o m.run (known g (opening g m.map) n m.run (first_base g m.map) (λ t at. absurd cc) truth.0) happens truth.1 s i takes name lost in
-    record { segment = t.segment; named = t.named; is_read = t.is_read; once = once_lost whole g t.segment (opening g m.map) n m.run (λ p run. record { map = m.map; whole = m.whole; run = run }) t.once }
+    let t = torn g (opening g m.map) n o m.run
+    (known g (opening g m.map) n m.run (first_base g m.map) (λ t at. absurd cc) truth.0) happens truth.1 s i takes name lost in
+    record {
+      segment = t.segment;
+      named = t.named;
+      is_read = t.is_read;
+      once = once_lost whole g t.segment (opening g m.map) n m.run (λ p run. record { map = m.map; whole = m.whole; run = run }) t.once;
+    }

@@ -40,16 +40,20 @@ both_false true b e f = contrary (sym e)
 
 none_more : (xs : List Answer) (a : Answer) (v : ℕ) → has_answered xs v ≡ false → (a.server == v) ≡ false → has_answered (xs ++ a ∷ []) v ≡ false
 none_more [] a v none other = both_false (a.server == v) false other refl
-none_more (x ∷ xs) a v none other = let p = or_parts (x.server == v) (has_answered xs v) none in both_false (x.server == v) (has_answered (xs ++ a ∷ []) v) p.0 (none_more xs a v p.1 other)
+none_more (x ∷ xs) a v none other = let p =
+    or_parts (x.server == v) (has_answered xs v) none in both_false (x.server == v) (has_answered (xs ++ a ∷ []) v) p.0 (none_more xs a v p.1 other)
 
 other_way : (a b : ℕ) → (a == b) ≡ false → (b == a) ≡ false
 other_way a b e = grind (arith, nat_tests)
 
 pub single_more : (xs : List Answer) (a : Answer) → Single xs → has_answered xs a.server ≡ false → Single (xs ++ a ∷ [])
 single_more [] a single none = (refl, tt)
-single_more (x ∷ xs) a single none = let p = or_parts (x.server == a.server) (has_answered xs a.server) none in (none_more xs a x.server single.0 (other_way x.server a.server p.0), single_more xs a single.1 p.1)
+single_more (x ∷ xs) a single none = let p =
+    or_parts (x.server == a.server) (has_answered xs a.server) none in
+    (none_more xs a x.server single.0 (other_way x.server a.server p.0), single_more xs a single.1 p.1)
 
-pub asked_more : (servers : List ℕ) (xs : List Answer) (a : Answer) → AllAsked servers xs → list_any (λ s. s == a.server) servers ≡ true → AllAsked servers (xs ++ a ∷ [])
+pub asked_more : (servers : List ℕ) (xs : List Answer) (a : Answer) → AllAsked servers xs → list_any (λ s. s == a.server) servers ≡ true
+    → AllAsked servers (xs ++ a ∷ [])
 asked_more servers [] a all is = (is, tt)
 asked_more servers (x ∷ xs) a all is = (all.0, asked_more servers xs a all.1 is)
 
@@ -150,5 +154,7 @@ found_before P p [] all is = contrary is
 found_before P p (q ∷ qs) all is = by (found_before P p qs all.1) (same_pair p q) refl is
   where
     by : (list_any (same_pair p) qs ≡ true → P p.0 p.1) → (t : Bool) → same_pair p q ≡ t → (t || list_any (same_pair p) qs) ≡ true → P p.0 p.1
-    by further true e rest = subst (λ v. P v p.1) (same_number p.0 q.0 (and_first (p.0 == q.0) (p.1 == q.1) e)) (subst (P q.0) (same_number p.1 q.1 (and_second (p.0 == q.0) (p.1 == q.1) e)) all.0)
+    by further true e rest =
+        subst (λ v. P v p.1) (same_number p.0 q.0 (and_first (p.0 == q.0) (p.1 == q.1) e))
+        (subst (P q.0) (same_number p.1 q.1 (and_second (p.0 == q.0) (p.1 == q.1) e)) all.0)
     by further false e rest = further rest

@@ -77,7 +77,8 @@ more_than a b e = grind (arith, nat_tests)
 pub same_ask : (a b : ℕ) → (a == b) ≡ true → a ≡ b
 same_ask a b e = grind (arith, nat_tests)
 
-module _ (g : Setting) (start n o : Net) (run : Runs g start n) (e : Happens g n o) (grows : Grows g n o) (boot : o.inc ≡ n.inc) (base : Base g n) (s : ScanState) (is : n.owner ≡ Opening s) where
+module _ (g : Setting) (start n o : Net) (run : Runs g start n) (e : Happens g n o) (grows : Grows g n o) (boot : o.inc ≡ n.inc) (base : Base g n)
+    (s : ScanState) (is : n.owner ≡ Opening s) where
   -- what is to be shown of what it does: what is known of it stays so while it is an opening, and what it says is lost is earned
   pub record Goes (d : Done) : Type 0 where
     pub kept : is_opening o.owner ≡ true → StageKept g (On run e) d.state.opening.ask d.state.stage
@@ -99,7 +100,8 @@ module _ (g : Setting) (start n o : Net) (run : Runs g start n) (e : Happens g n
 
   -- this moment
   now_middle : (seg : SegRef) (kept : List (ℕ × ℕ)) → Each (λ p. Before g seg.name n p.0 p.1) kept → is_opening o.owner ≡ true → Middle g (On run e) seg kept
-  now_middle seg kept all opens = record { net = n; base = base; later = On Begun e; pairs = all; known = λ t. (opens, inr (once_now is_opening (IsTorn g seg) run (ap is_opening is) t)) }
+  now_middle seg kept all opens =
+      record { net = n; base = base; later = On Begun e; pairs = all; known = λ t. (opens, inr (once_now is_opening (IsTorn g seg) run (ap is_opening is) t)) }
 
   -- a round begins
   first_asked : (r : ReadingState) → Middle g (On run e) r.target.seg r.kept → s.opening.ask < r.ask → r.round.answers ≡ [] → Asks_on g (On run e) r
@@ -128,7 +130,11 @@ module _ (g : Setting) (start n o : Net) (run : Runs g start n) (e : Happens g n
 
   begins_goes : (p : OpeningState) (b : Backward) (group : Option Group) → known_group p.groups b.next.group ≡ group → Like p → Goes (scan.begins_in p b group)
   begins_goes p b None of like = record { kept = λ opens. tt; lost = tt }
-  begins_goes p b (Some group) of like = record { kept = begun_kept p b group of like; lost = fetches_lose (WasTorn g run s) (scan.name_at p.log b.next) (p.ask + 1) (to_ask (begun p b group of like)) }
+  begins_goes p b (Some group) of like =
+      record {
+        kept = begun_kept p b group of like;
+        lost = fetches_lose (WasTorn g run s) (scan.name_at p.log b.next) (p.ask + 1) (to_ask (begun p b group of like));
+      }
 
   pub round_goes : (p : OpeningState) (b : Backward) → Like p → Goes (scan.begins_round p b)
   unfolding scan.begins_round
@@ -139,7 +145,8 @@ module _ (g : Setting) (start n o : Net) (run : Runs g start n) (e : Happens g n
 
   follows_goes : (p : OpeningState) (b : Backward) → Like p → Goes (scan.follows p b)
   unfolding scan.follows
-  follows_goes p b like = by_test Goes (scan.is_bottom p.low b.next) (goes p Over (scan.chain_of b ∷ [])) (scan.begins_round p b) (λ t. over_goes p b) (λ t. round_goes p b like)
+  follows_goes p b like =
+      by_test Goes (scan.is_bottom p.low b.next) (goes p Over (scan.chain_of b ∷ [])) (scan.begins_round p b) (λ t. over_goes p b) (λ t. round_goes p b like)
 
   picks_at_goes : (p : OpeningState) (lists : List Listing) (at : Option End) → Like p → Goes (scan.picks_at p lists at)
   picks_at_goes p lists None like = record { kept = λ opens. tt; lost = tt }
@@ -155,7 +162,12 @@ module _ (g : Setting) (start n o : Net) (run : Runs g start n) (e : Happens g n
     -- the same reading, with what else is known of it, waits
     waits : (p : OpeningState) (q : ReadingState) → p.ask ≡ s.opening.ask → ReadingKept g run s.opening.ask b q → Goes (scan.goes_on p b q next.Wait)
     unfolding scan.goes_on
-    waits p q same known = record { kept = λ opens. subst (λ ask. ReadingKept g (On run e) ask b q) (sym same) (reading_on g start n o run e grows boot opens s.opening.ask b q known); lost = tt }
+    waits p q same known =
+        record {
+          kept = λ opens. subst (λ ask. ReadingKept g (On run e) ask b q) (sym same)
+              (reading_on g start n o run e grows boot opens s.opening.ask b q known);
+          lost = tt;
+        }
 
     -- the next round
     module _ (p : OpeningState) (like : Like p) (m : Middle g run r.target.seg r.kept) where
@@ -182,7 +194,8 @@ module _ (g : Setting) (start n o : Net) (run : Runs g start n) (e : Happens g n
     loses p q same earned = record { kept = λ opens. tt; lost = (subst (λ (t : Target). WasTorn g run s t.seg.name) (sym same) earned, tt) }
 
     -- the question of the reader is answered, by a horizon that doesn't pass the segment
-    decided : (p : OpeningState) (stage : rounds.Stage) → Like p → ((d : Doubts g run s.opening.ask r.target.seg) → d.bound ≤ p.low) → p.low ≤ b.next.seq → RoundKept g run s.opening.ask r stage → Goes (scan.goes_on p b (reading.goes_on r (p.ask + 1) stage).state (reading.goes_on r (p.ask + 1) stage).next)
+    decided : (p : OpeningState) (stage : rounds.Stage) → Like p → ((d : Doubts g run s.opening.ask r.target.seg) → d.bound ≤ p.low) → p.low ≤ b.next.seq
+        → RoundKept g run s.opening.ask r stage → Goes (scan.goes_on p b (reading.goes_on r (p.ask + 1) stage).state (reading.goes_on r (p.ask + 1) stage).next)
     decided p stand.Asking like reached above known = waits p r like.ask k
     decided p stand.Between like reached above known = again p like known
     decided p stand.Doubted like reached above known = loses p (record r { stage = stand.Over }) refl (record {
@@ -195,12 +208,14 @@ module _ (g : Setting) (start n o : Net) (run : Runs g start n) (e : Happens g n
 
     pub confirmed : (p : OpeningState) → Like p → ((d : Doubts g run s.opening.ask r.target.seg) → d.bound ≤ p.low) → Goes (scan.confirms p b (Some r))
     unfolding scan.confirms reading.on_confirmed
-    confirmed p like reached = by_test Goes (scan.is_bottom p.low b.next) (goes p Over (scan.chain_of b ∷ [])) (scan.confirms_by p b (Some r)) (λ t. over_goes p b)
+    confirmed p like reached =
+        by_test Goes (scan.is_bottom p.low b.next) (goes p Over (scan.chain_of b ∷ [])) (scan.confirms_by p b (Some r)) (λ t. over_goes p b)
         (λ t. decided p r.stage like reached (no_lower p.low b.next.seq (or_parts (nat_lt b.next.seq p.low) (scan.names_none b.next) t).0) k.stage)
 
     -- ---- an answer
 
-    module _ (like : Like s.opening) (a : Asks_on g run r) (asking : r.stage ≡ stand.Asking) (now : RoundSoFar) (so : RoundSo (Between g r.target.seg.name a.middle.net n) r.round.servers r.round.parity now) where
+    module _ (like : Like s.opening) (a : Asks_on g run r) (asking : r.stage ≡ stand.Asking) (now : RoundSoFar)
+        (so : RoundSo (Between g r.target.seg.name a.middle.net n) r.round.servers r.round.parity now) where
       abbrev seg : SegRef
       seg = r.target.seg
 
@@ -222,7 +237,8 @@ module _ (g : Setting) (start n o : Net) (run : Runs g start n) (e : Happens g n
       before_now : (p : ℕ × ℕ) → Between g seg.name a.middle.net n p.0 p.1 → Before g seg.name n p.0 p.1
       before_now p x = record { at = x.at; base = (passed g a.middle.net x.at a.middle.base x.first).base; later = x.later; lacks = x.lacks }
 
-      module _ (pairs : List (ℕ × ℕ)) (each : Each (λ p. Between g seg.name a.middle.net n p.0 p.1) pairs) (apart : Apart pairs) (among : Each (Among now.servers) pairs) where
+      module _ (pairs : List (ℕ × ℕ)) (each : Each (λ p. Between g seg.name a.middle.net n p.0 p.1) pairs) (apart : Apart pairs)
+          (among : Each (Among now.servers) pairs) where
         abbrev ended : ReadingState
         ended = (reading.ends q pairs).state
 
@@ -236,7 +252,8 @@ module _ (g : Setting) (start n o : Net) (run : Runs g start n) (e : Happens g n
                 let late : s.opening.ask + 1 ≤ s.opening.ask = subst (AskedBy (s.opening.ask + 1)) is (hello.1 same) in
                 omega arith
 
-            by : (In (HelloSent o.inc (s.opening.ask + 1)) n.sent × (least_horizon g.log.0 news ≡ n.low)) ⊎ In (WelcomeSent o.inc (s.opening.ask + 1) news m) n.sent → n.low ≤ least_horizon g.log.0 news
+            by : (In (HelloSent o.inc (s.opening.ask + 1)) n.sent × (least_horizon g.log.0 news ≡ n.low))
+                ⊎ In (WelcomeSent o.inc (s.opening.ask + 1) news m) n.sent → n.low ≤ least_horizon g.log.0 news
             by (inl new) = let z = new.1 in omega arith
             by (inr old) = absurd (none_before o.inc boot old)
 
@@ -245,8 +262,11 @@ module _ (g : Setting) (start n o : Net) (run : Runs g start n) (e : Happens g n
           bound = n.low;
           torn = λ above. (
             opens,
-            inr (a.middle.known (is_torn g seg k.of_log a.middle.net n a.middle.base a.middle.later (λ dropped. (let z = base.below seg.name dropped in let y = above in absurd (omega arith))) r.kept pairs now.servers now.parity
-                (so.its_servers ∙ k.servers) (so.its_parity ∙ k.parity) a.middle.pairs each apart among (more_than now.parity (length (missing_twice r.kept pairs)) t))),
+            inr (a.middle.known
+                (is_torn g seg k.of_log a.middle.net n a.middle.base a.middle.later
+                (λ dropped. (let z = base.below seg.name dropped in let y = above in absurd (omega arith))) r.kept pairs now.servers now.parity
+                (so.its_servers ∙ k.servers) (so.its_parity ∙ k.parity) a.middle.pairs each apart among
+                (more_than now.parity (length (missing_twice r.kept pairs)) t))),
           );
           past = grows.low;
           heard = heard;
@@ -264,7 +284,8 @@ module _ (g : Setting) (start n o : Net) (run : Runs g start n) (e : Happens g n
               parity = so.its_parity ∙ k.parity;
               single = so.single;
               asked = so.asked;
-              stage = by_test (RoundKept g (On run e) (s.opening.ask + 1) ended) (are_gone now.parity r.kept pairs) stand.Doubted stand.Between (λ t. doubted t opens) (λ t. now_middle seg pairs (each_on _ _ before_now pairs each) opens);
+              stage = by_test (RoundKept g (On run e) (s.opening.ask + 1) ended) (are_gone now.parity r.kept pairs) stand.Doubted stand.Between
+                  (λ t. doubted t opens) (λ t. now_middle seg pairs (each_on _ _ before_now pairs each) opens);
             }
 
       found : (found_segment : Option Segment) → Goes (scan.goes_on s.opening b (reading.read_as q found_segment).state (reading.read_as q found_segment).next)
@@ -272,7 +293,8 @@ module _ (g : Setting) (start n o : Net) (run : Runs g start n) (e : Happens g n
       found (Some t) = follows_goes s.opening (scan.with_segment b t) like
       found None = round_ends [] tt tt tt
 
-      judged : (groups : GroupMapState) (st : RoundState) → state_of now ≡ st → Goes (scan.goes_on s.opening b (reading.judged q groups st).state (reading.judged q groups st).next)
+      judged : (groups : GroupMapState) (st : RoundState) → state_of now ≡ st
+          → Goes (scan.goes_on s.opening b (reading.judged q groups st).state (reading.judged q groups st).next)
       judged groups (round.Read bytes) of = found (reading.segment_found q.target groups (answer_of bytes))
       judged groups (round.Short pairs) of = let same = short_pairs now pairs of in round_ends pairs
           (subst (Each (λ p. Between g seg.name a.middle.net n p.0 p.1)) (sym same) (each_missing (Between g seg.name a.middle.net n) now.answers so.told))
@@ -281,17 +303,23 @@ module _ (g : Setting) (start n o : Net) (run : Runs g start n) (e : Happens g n
       judged groups round.Waiting of = waits s.opening q refl goes_further
 
     -- what is told, where it counts, was so
-    pub answered : (groups : GroupMapState) (ask server : ℕ) (t : Told) → Like s.opening → ((a : Asks_on g run r) → ask ≡ r.ask → ToldSo (Between g r.target.seg.name a.middle.net n) server t)
+    pub answered : (groups : GroupMapState) (ask server : ℕ) (t : Told) → Like s.opening
+        → ((a : Asks_on g run r) → ask ≡ r.ask → ToldSo (Between g r.target.seg.name a.middle.net n) server t)
         → Goes (scan.goes_on s.opening b (reading.on_answer r groups ask server t).state (reading.on_answer r groups ask server t).next)
     unfolding reading.on_answer
     answered groups ask server t like true_then = by_test (λ (step : Step). Goes (scan.goes_on s.opening b step.state step.next)) (counts r ask server t)
-        (reading.judged (record r { round = taken r.round server t }) groups (state_of (taken r.round server t))) (record { state = r; next = next.Wait }) takes (λ other. waits s.opening r refl k)
+        (reading.judged (record r { round = taken r.round server t }) groups (state_of (taken r.round server t))) (record { state = r; next = next.Wait }) takes
+        (λ other. waits s.opening r refl k)
       where
-        takes : counts r ask server t ≡ true → Goes (scan.goes_on s.opening b (reading.judged (record r { round = taken r.round server t }) groups (state_of (taken r.round server t))).state (reading.judged (record r { round = taken r.round server t }) groups (state_of (taken r.round server t))).next)
+        takes : counts r ask server t ≡ true
+            → Goes (scan.goes_on s.opening b (reading.judged (record r { round = taken r.round server t }) groups (state_of (taken r.round server t))).state
+            (reading.judged (record r { round = taken r.round server t }) groups (state_of (taken r.round server t))).next)
         takes test =
             let c = counted_parts (is_asking r.stage) (ask == r.ask) (asks r.round server) (name_fits r.target t && told_fits r.round t) test in
             let asking : r.stage ≡ stand.Asking = asks_still r.stage c.first in
             let a : Asks_on g run r = subst (RoundKept g run s.opening.ask r) asking k.stage in
             judged like a asking (taken r.round server t)
-            (taken_so (Between g r.target.seg.name a.middle.net n) r.round.servers r.round.parity r.round server t (record { its_servers = refl; its_parity = refl; single = k.single; asked = k.asked; told = a.told }) c.third (true_then a (same_ask ask r.ask c.second)))
+            (taken_so (Between g r.target.seg.name a.middle.net n) r.round.servers r.round.parity r.round server t
+            (record { its_servers = refl; its_parity = refl; single = k.single; asked = k.asked; told = a.told }) c.third
+            (true_then a (same_ask ask r.ask c.second)))
             groups (state_of (taken r.round server t)) refl

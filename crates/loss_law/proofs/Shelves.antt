@@ -25,7 +25,8 @@ use Rattle.log_law.specs.Events.{CameToServer}
 -- the shelf went on: its generation doesn't fall, and within one what it holds of the log stays unless a Delete of it was sent
 pub record ShelfOn (g : Setting) (n : Net) (s t : ShelfState) : Type 0 where
   pub up : s.generation ≤ t.generation
-  pub holds : (name : SegName) → name.log ≡ g.log → is_held s name ≡ true → (is_held t name ≡ true) ⊎ ((s.generation < t.generation) ⊎ In (DeleteSent name) n.sent)
+  pub holds : (name : SegName) → name.log ≡ g.log → is_held s name ≡ true
+      → (is_held t name ≡ true) ⊎ ((s.generation < t.generation) ⊎ In (DeleteSent name) n.sent)
 
 pub shelf_same : (g : Setting) (n : Net) (s : ShelfState) → ShelfOn g n s s
 shelf_same g n s = record { up = omega arith; holds = λ name own is. inl is }
@@ -47,16 +48,21 @@ at_most a b less = omega arith
 kept_on : (g : Setting) (n : Net) (s : ShelfState) (f : Fragment) → ShelfOn g n s (kept s f)
 kept_on g n s f = by_test (ShelfOn g n s) (is_held s f.meta.name) s (record s { held = with_fragment f s.held }) (λ e. shelf_same g n s) (λ e. record {
   up = omega arith;
-  holds = λ name own is. inl (ap is_some (held-with f s.held name (none_found (held_at s.held f.meta.name) e)) ∙ found_too (same_name name f.meta.name) f (held_at s.held name) is);
+  holds = λ name own is. inl
+      (ap is_some (held-with f s.held name (none_found (held_at s.held f.meta.name) e)) ∙ found_too (same_name name f.meta.name) f (held_at s.held name) is);
 })
 
 pub fence_on : (g : Setting) (n : Net) (s : ShelfState) (log : LogId) (pass : Pass) → ShelfOn g n s (on_fence s log pass)
-fence_on g n s log pass = by_test (ShelfOn g n s) (is_greater (pass_cmp pass (fence_of s.fences log))) (record s { fences = insert_entry log_cmp s.fences log pass }) s (λ e. record { up = omega arith; holds = λ name own is. inl is }) (λ e. shelf_same g n s)
+fence_on g n s log pass =
+    by_test (ShelfOn g n s) (is_greater (pass_cmp pass (fence_of s.fences log))) (record s { fences = insert_entry log_cmp s.fences log pass }) s
+    (λ e. record { up = omega arith; holds = λ name own is. inl is }) (λ e. shelf_same g n s)
 
-delete_on : (g : Setting) (n : Net) (s : ShelfState) (name : SegName) → (is_of_log g name ≡ true → In (DeleteSent name) n.sent) → ShelfOn g n s (on_delete s name)
+delete_on : (g : Setting) (n : Net) (s : ShelfState) (name : SegName) → (is_of_log g name ≡ true → In (DeleteSent name) n.sent)
+    → ShelfOn g n s (on_delete s name)
 delete_on g n s name came = record { up = omega arith; holds = holds }
   where
-    holds : (q : SegName) → q.log ≡ g.log → is_held s q ≡ true → (is_held (on_delete s name) q ≡ true) ⊎ ((s.generation < s.generation) ⊎ In (DeleteSent q) n.sent)
+    holds : (q : SegName) → q.log ≡ g.log → is_held s q ≡ true
+        → (is_held (on_delete s name) q ≡ true) ⊎ ((s.generation < s.generation) ⊎ In (DeleteSent q) n.sent)
     holds q own is = by (same_name name q) refl
       where
         by : (t : Bool) → same_name name q ≡ t → (is_held (on_delete s name) q ≡ true) ⊎ ((s.generation < s.generation) ⊎ In (DeleteSent q) n.sent)
@@ -67,11 +73,15 @@ delete_on g n s name came = record { up = omega arith; holds = holds }
         by false e = inl (ap is_some (held-without name s.held q ∙ ap (λ t. cond t None (held_at s.held q)) e) ∙ is)
 
 pub deed_on : (g : Setting) (n : Net) (v : ℕ) (deed : Deed) → CameToServer g n v deed → ShelfOn g n (n.shelves v) (shelf_after g (n.shelves v) deed)
-deed_on g n v (Stores f generation) came = by_test (ShelfOn g n (n.shelves v)) (is_stored (n.shelves v) f generation) (kept (n.shelves v) f) (n.shelves v) (λ e. kept_on g n (n.shelves v) f) (λ e. shelf_same g n (n.shelves v))
+deed_on g n v (Stores f generation) came =
+    by_test (ShelfOn g n (n.shelves v)) (is_stored (n.shelves v) f generation) (kept (n.shelves v) f) (n.shelves v) (λ e. kept_on g n (n.shelves v) f)
+    (λ e. shelf_same g n (n.shelves v))
 deed_on g n v (Fetches name) came = shelf_same g n (n.shelves v)
 deed_on g n v (Fences inc) came = fence_on g n (n.shelves v) g.log (record { inc = inc; att = 0 })
 deed_on g n v (Deletes name) came = delete_on g n (n.shelves v) name came
-deed_on g n v (Fills f) came = by_test (ShelfOn g n (n.shelves v)) (is_marked (n.shelves v).marks f.meta.name) (n.shelves v) (kept (n.shelves v) f) (λ e. shelf_same g n (n.shelves v)) (λ e. kept_on g n (n.shelves v) f)
+deed_on g n v (Fills f) came =
+    by_test (ShelfOn g n (n.shelves v)) (is_marked (n.shelves v).marks f.meta.name) (n.shelves v) (kept (n.shelves v) f) (λ e. shelf_same g n (n.shelves v))
+    (λ e. kept_on g n (n.shelves v) f)
 deed_on g n v Loses came =
     let less : (n.shelves v).generation < min ((n.shelves v).generation + 1) u32_end = less_min (n.shelves v).generation u32_end came in
     record { up = at_most _ _ less; holds = λ name own is. inr (inl less) }

@@ -16,7 +16,8 @@ use Rattle.loss_law.proofs.Pairs.{each_on, each_both, each_filter, each_passes, 
 use Rattle.loss_law.proofs.Growing.{Base}
 use Rattle.loss_law.proofs.Interval.{Before, Between, passed, lacks_between}
 
-module _ (g : Setting) (seg : SegRef) (own : seg.name.log ≡ g.log) (m n : Net) (base : Base g m) (later : Runs g m n) (kept : In seg.name n.dropped → ⊥) (before now : List (ℕ × ℕ)) where
+module _ (g : Setting) (seg : SegRef) (own : seg.name.log ≡ g.log) (m n : Net) (base : Base g m) (later : Runs g m n) (kept : In seg.name n.dropped → ⊥)
+    (before now : List (ℕ × ℕ)) where
   abbrev members : List Member
   members = (g.stripe seg.group).members
 
@@ -31,10 +32,13 @@ module _ (g : Setting) (seg : SegRef) (own : seg.name.log ≡ g.log) (m n : Net)
   all_lack first second = each_both (λ p. Before g seg.name m p.0 p.1) (λ p. Between g seg.name m n p.0 p.1) (λ p. lack p.0 ≡ true)
       (λ p one two. lacks_between g seg.name m n p.0 p.1 own base one two kept)
       both
-      (each_on (λ p. list_any (same_pair p) before ≡ true) (λ p. Before g seg.name m p.0 p.1) (λ p is. found_before (Before g seg.name m) p before first is) both (each_passes (λ p. list_any (same_pair p) before) now))
+      (each_on (λ p. list_any (same_pair p) before ≡ true) (λ p. Before g seg.name m p.0 p.1)
+      (λ p is. found_before (Before g seg.name m) p before first is) both (each_passes (λ p. list_any (same_pair p) before) now))
       (each_filter (λ p. Between g seg.name m n p.0 p.1) (λ p. list_any (same_pair p) before) now second)
 
-  pub is_torn : (servers : List ℕ) (parity : ℕ) → servers ≡ servers_of members → parity ≡ (g.stripe seg.group).parity → Each (λ p. Before g seg.name m p.0 p.1) before → Each (λ p. Between g seg.name m n p.0 p.1) now → Apart now → Each (Among servers) now → parity < length both → IsTorn g seg m
+  pub is_torn : (servers : List ℕ) (parity : ℕ) → servers ≡ servers_of members → parity ≡ (g.stripe seg.group).parity
+      → Each (λ p. Before g seg.name m p.0 p.1) before → Each (λ p. Between g seg.name m n p.0 p.1) now → Apart now → Each (Among servers) now
+      → parity < length both → IsTorn g seg m
   is_torn servers parity of same first second apart among many = record { torn = torn; kept = λ is. kept ((passed g m n base later).stays seg.name is) }
     where
       all : length both ≤ count_by (λ (k : Member). lack k.server) members

@@ -59,7 +59,9 @@ pub record LacksIn (name : SegName) (v generation : ℕ) (n : Net) : Type 0 wher
 -- What comes is true: where it is a Missing in answer to the question of the round that is on, the server was as it says at some moment since the question
 -- was drawn.
 abbrev pub IsTrue : {g : Setting} {n m : Net} → Runs g n m → ScanState → Input → Type 0
-IsTrue run s i = (b : Backward) (r : ReadingState) (v generation : ℕ) → s.stage ≡ Reads b (Some r) → i ≡ Missing r.ask v generation → Once (has_drawn r.ask) (LacksIn r.target.seg.name v generation) run
+IsTrue run s i =
+    (b : Backward) (r : ReadingState) (v generation : ℕ) → s.stage ≡ Reads b (Some r) → i ≡ Missing r.ask v generation
+    → Once (has_drawn r.ask) (LacksIn r.target.seg.name v generation) run
 
 -- so was each Missing that an opening took
 abbrev pub MissingsTrue : {g : Setting} {n m : Net} → Runs g n m → Type 0
@@ -106,15 +108,19 @@ pub record IsEarned (g : Setting) {n m : Net} (run : Runs g n m) (s : ScanState)
 -- A reopening loses what is torn: where each Missing was true, and an opening takes an input by which it says that a segment is lost, that is earned.
 abbrev pub AReopeningLosesWhatIsTorn : Type 0
 AReopeningLosesWhatIsTorn =
-    (g : Setting) (n o : Net) (m : Moment g n) (happens : Happens g n o) → MissingsTrue (On m.run happens) → (s : ScanState) (i : Input) → Takes happens s i → (name : SegName) → In (Lost name) (transition s i).outs → IsEarned g m.run s name
+    (g : Setting) (n o : Net) (m : Moment g n) (happens : Happens g n o) → MissingsTrue (On m.run happens) → (s : ScanState) (i : Input) → Takes happens s i
+    → (name : SegName) → In (Lost name) (transition s i).outs → IsEarned g m.run s name
 
 -- A torn segment lost disks: at every moment of every run, of a filed segment that is torn over its group more members have lost their disk than the parity
 -- makes good.
 abbrev pub ATornSegmentLostDisks : Type 0
-ATornSegmentLostDisks = (g : Setting) (n : Net) → Moment g n → (s : Segment) → In s n.flown → In s.name n.filed → IsTorn g (ref_of s) n → (g.stripe s.group).parity < disks_lost g n (ref_of s)
+ATornSegmentLostDisks =
+    (g : Setting) (n : Net) → Moment g n → (s : Segment) → In s n.flown → In s.name n.filed → IsTorn g (ref_of s) n
+    → (g.stripe s.group).parity < disks_lost g n (ref_of s)
 
 -- A fragment goes only with its disk: a server that held a fragment of the log and holds none of that name later, while no Delete of it was sent, has lost its
 -- disk in between.
 abbrev pub FragmentsGoWithDisks : Type 0
 FragmentsGoWithDisks =
-    (g : Setting) (n o : Net) → Moment g n → Runs g n o → (v : ℕ) (name : SegName) → name.log ≡ g.log → is_held (n.shelves v) name ≡ true → held_at (o.shelves v).held name ≡ None → (In name o.dropped → ⊥) → (n.shelves v).generation < (o.shelves v).generation
+    (g : Setting) (n o : Net) → Moment g n → Runs g n o → (v : ℕ) (name : SegName) → name.log ≡ g.log → is_held (n.shelves v) name ≡ true
+    → held_at (o.shelves v).held name ≡ None → (In name o.dropped → ⊥) → (n.shelves v).generation < (o.shelves v).generation

@@ -105,7 +105,8 @@ writer_hears s epoch number before = by s.asked
     by : (awaited : Option ℕ) → Writes (writer.acked s awaited epoch number)
     by None = record { state = before; outs = tt }
     by (Some own) =
-        by_test Writes (not (number == s.number) || nat_lt epoch own) (still s) (record { state = record s { asked = None }; outs = writer.answer own epoch ∷ [] })
+        by_test Writes (not (number == s.number) || nat_lt epoch own) (still s)
+        (record { state = record s { asked = None }; outs = writer.answer own epoch ∷ [] })
         (λ t. record { state = before; outs = tt }) (λ t. record { state = before; outs = answer_fits own })
 
 writer_goes : (s : WriterState) (given : WriterIn) → WriterFits s → WriterInFits given → Writes (writer.transition s given)

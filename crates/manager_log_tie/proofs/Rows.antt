@@ -43,7 +43,8 @@ use Rattle.manager_log_tie.specs.Fitting.{RowsFit, PagesFit}
 inserted_fit : (rows : Rows) (block : BlockId) (entry : Entry) → RowsFit rows → FitsRow (block, entry) → RowsFit (insert_entry block_cmp rows block entry)
 inserted_fit [] block entry all new = (new, tt)
 inserted_fit (r ∷ rows) block entry all new =
-    elim (block_cmp block r.0) as (λ (o : Ordering). RowsFit (match_ordering o ((block, entry) ∷ r ∷ rows) ((r.0, entry) ∷ rows) (r ∷ insert_entry block_cmp rows block entry))) [
+    elim (block_cmp block r.0) as
+    (λ (o : Ordering). RowsFit (match_ordering o ((block, entry) ∷ r ∷ rows) ((r.0, entry) ∷ rows) (r ∷ insert_entry block_cmp rows block entry))) [
       | Less ↦ (new, all)
       | Equal ↦ ((all.0.0, new.1, new.2, new.3), all.1)
       | Greater ↦ (all.0, inserted_fit rows block entry all.1 new)

@@ -79,7 +79,8 @@ deltas_on s log first upto rows fit h =
     by_test Goes (is_followed log) (deltas_of s log first upto rows) (still s)
     (λ t. by_test Goes (joins_on (applied_of s.applied log.0) first upto) (apply_or_not s log upto rows) (told_applied s log)
     (λ u. by_test Goes (can_apply s log upto rows) (apply s log upto rows) (still s)
-    (λ v. each_finished (with_deltas s log upto rows) (ready_blocks s.jobs (applied_upto s.applied log upto)) (all_indexed_fit s.index rows h fit)) (λ v. h)) (λ u. h))
+    (λ v. each_finished (with_deltas s log upto rows) (ready_blocks s.jobs (applied_upto s.applied log upto)) (all_indexed_fit s.index rows h fit)) (λ v. h))
+    (λ u. h))
     (λ t. h)
 
 -- ---- all inputs

@@ -32,17 +32,20 @@ use Rattle.cleaner_log_tie.proofs.Bytes.{Bytes, xor_bytes, times_bytes}
 abbrev AllWritten : List Segment → Type 0
 AllWritten segments = (s : Segment) → In s segments → IsWritten s
 
-with_flight : (f : Option FlightState) (before : List Segment) → IfSome f (λ (f : FlightState). IsWritten f.segment) → AllWritten before → AllWritten (flown_with f before)
+with_flight : (f : Option FlightState) (before : List Segment) → IfSome f (λ (f : FlightState). IsWritten f.segment) → AllWritten before
+    → AllWritten (flown_with f before)
 with_flight None before new old s among = old s among
 with_flight (Some f) before new old s (inl same) = subst IsWritten (sym same) new
 with_flight (Some f) before new old s (inr among) = old s among
 
 module _ (g : Setting) (n : Net) (old : AllWritten n.flown) where
-  flight_written : (chain : List Segment) (d : log.Done) (f : Option FlightState) → IfSome f (λ (f : FlightState). IsWritten f.segment) → AllWritten (after_flight g n chain d f).flown
+  flight_written : (chain : List Segment) (d : log.Done) (f : Option FlightState) → IfSome f (λ (f : FlightState). IsWritten f.segment)
+      → AllWritten (after_flight g n chain d f).flown
   flight_written chain d None new = old
   flight_written chain d (Some f) new = with_flight (Some f) n.flown new old
 
-  told_written : (s : ScanState) (d : scan.Done) (t : Option Told) (groups : Option GroupMapState) → d.state.opening.groups ≡ groups → IfSome t (StartsWith g n.inc d)
+  told_written : (s : ScanState) (d : scan.Done) (t : Option Told) (groups : Option GroupMapState) → d.state.opening.groups ≡ groups
+      → IfSome t (StartsWith g n.inc d)
       → AllWritten (after_told g n s d t groups).flown
   told_written s d None groups is can = old
   told_written s d (Some t) None is can = old
@@ -73,7 +76,8 @@ along g n o (On {m = m} run happens) old = stays_written g m o happens (along g 
 
 -- ---- its fragments
 
-sum_bytes : (adds : ℕ → List ℕ → List ℕ) → ((place : ℕ) (f : List ℕ) → Bytes f → Bytes (adds place f)) → (place : ℕ) (start : List ℕ) (fs : List (List ℕ)) → Bytes start
+sum_bytes : (adds : ℕ → List ℕ → List ℕ) → ((place : ℕ) (f : List ℕ) → Bytes f → Bytes (adds place f)) → (place : ℕ) (start : List ℕ) (fs : List (List ℕ))
+    → Bytes start
     → AllByRecursion Bytes fs → Bytes (sum_onto adds place start fs)
 sum_bytes adds keeps place start [] first all = first
 sum_bytes adds keeps place start (f ∷ fs) first all =
@@ -86,7 +90,8 @@ zero_bytes (suc count) = (omega arith, zero_bytes count)
 parities_bytes : (parity part : ℕ) (fs : List (List ℕ)) → AllByRecursion Bytes fs → AllByRecursion Bytes (parities parity part fs)
 parities_bytes parity part fs all =
     let first : Bytes (sum_onto plain 0 (zeros part) fs) = sum_bytes plain (λ place f b. b) 0 (zeros part) fs (zero_bytes part) all in
-    by_test (AllByRecursion Bytes) (parity == 2) (sum_onto plain 0 (zeros part) fs ∷ sum_onto weighted 0 (zeros part) fs ∷ []) (sum_onto plain 0 (zeros part) fs ∷ [])
+    by_test (AllByRecursion Bytes) (parity == 2) (sum_onto plain 0 (zeros part) fs ∷ sum_onto weighted 0 (zeros part) fs ∷ [])
+    (sum_onto plain 0 (zeros part) fs ∷ [])
     (λ t. (first, (sum_bytes weighted (λ place f b. times_bytes (2 ^ place) f b) 0 (zeros part) fs (zero_bytes part) all, tt))) (λ t. (first, tt))
 
 each_bytes : (fs : List (List ℕ)) → AllByRecursion IsBytes fs → AllByRecursion Bytes fs
@@ -116,7 +121,8 @@ fragment_bytes g s place h =
 pub told_in_range : OneNameOneText → WhatIsToldIsInRange
 told_in_range law g n m = record {
   written = written;
-  stored = λ v generation f among. (let p = one.stored v generation f among in subst (λ (x : Fragment). IsBytes x.bytes) (sym p.2) (fragment_bytes g p.0 f.meta.index (written p.0 p.1)));
+  stored = λ v generation f among.
+      (let p = one.stored v generation f among in subst (λ (x : Fragment). IsBytes x.bytes) (sym p.2) (fragment_bytes g p.0 f.meta.index (written p.0 p.1)));
   told = λ f among. (let p = one.told f among in subst (λ (x : Fragment). IsBytes x.bytes) (sym p.2) (fragment_bytes g p.0 f.meta.index (written p.0 p.1)));
 }
   where

@@ -150,10 +150,12 @@ fit_looked before s f h now fits =
 fit_acked : (s : LogState) (name : SegName) (index generation : ℕ) → LogFits s → FitAfter (on_acked s name index generation)
 unfolding on_acked
 fit_acked s name index generation h =
-    elim s.flight as (λ o. IfSome o FlightFits → FitAfter (elim o [ None ↦ still s | Some f ↦ cond (is_of f name index generation) (looked_at s s (noting f index)) (still s) ])) [
+    elim s.flight as
+    (λ o. IfSome o FlightFits → FitAfter (elim o [ None ↦ still s | Some f ↦ cond (is_of f name index generation) (looked_at s s (noting f index)) (still s) ])) [
       | None ↦ λ e. fit_still s h
       | Some f ↦ λ e. by_test FitAfter (is_of f name index generation) (looked_at s s (noting f index)) (still s)
-          (λ t. fit_looked s s (noting f index) h h (record { log = e.log; name = e.name; prior = e.prior; group = e.group; items = e.items })) (λ t. fit_still s h)
+          (λ t. fit_looked s s (noting f index) h h (record { log = e.log; name = e.name; prior = e.prior; group = e.group; items = e.items }))
+          (λ t. fit_still s h)
     ] h.flight
 
 fit_maps : (s : LogState) (m : GroupMapState) → LogFits s → MapFits m → FitAfter (on_maps s m)
@@ -192,7 +194,8 @@ pub anew_written : (log : LogId) (inc : ℕ) (m : GroupMapState) → IsLog log.0
 anew_written log inc m is small ids later all =
     let s : LogState = started log inc no_end m in
     in_flight (state_after s later).flight
-    (fit_all s later (record { log = is; inc = small; end = (omega arith, (omega arith, omega arith), omega arith); groups = ids; none = refl; flight = tt }) all).flight
+    (fit_all s later
+    (record { log = is; inc = small; end = (omega arith, (omega arith, omega arith), omega arith); groups = ids; none = refl; flight = tt }) all).flight
 
 -- ---- one input
 

@@ -144,7 +144,8 @@ module _ (part : ℕ) (texts : Texts) (asked : Questions) (named : ℕ → Type 
   IsEvent n a k d = Event n (phase.Active a) (holding a d.state) (flat_map (said k a.slot.epoch) d.outs)
 
   active_deltas : (n : Net) (a : Active) (of : LogId) (m : Deltas) → DeltasKnown part n of.0 m → ActiveAgrees part texts n desk a
-      → Event n (phase.Active a) (holding a (slot.transition a.slot (deltas_input of m)).state) (flat_map (said m.slot a.slot.epoch) (slot.transition a.slot (deltas_input of m)).outs)
+      → Event n (phase.Active a) (holding a (slot.transition a.slot (deltas_input of m)).state)
+      (flat_map (said m.slot a.slot.epoch) (slot.transition a.slot (deltas_input of m)).outs)
   active_deltas n a of m known agrees = by (slot.is_followed of) refl
     where
       within : (x : ℕ) → slot.is_followed (record { 0 = x }) ≡ true → x - 1 < 9
@@ -180,7 +181,8 @@ module _ (part : ℕ) (texts : Texts) (asked : Questions) (named : ℕ → Type 
       let happens = Answers e s known.number check.block check.place known.below agrees.there known.sent in
       by_test (λ (o : Out). Happens part (held_in part texts) n (record n
       { sent = answer_packets known.number check.block check.place.seg.name known.below e (o ∷ []) ++ n.sent })
-      → Event n (phase.Active a) (phase.Active a) (flat_map (check_said check e) (o ∷ []))) (slot.is_place (slot.entry_at s check.block).place check.place) (out.Live (slot.entry_at s check.block)) out.Dead
+      → Event n (phase.Active a) (phase.Active a) (flat_map (check_said check e) (o ∷ []))) (slot.is_place (slot.entry_at s check.block).place check.place)
+      (out.Live (slot.entry_at s check.block)) out.Dead
       (λ _ it. sees_sent part texts asked named n (phase.Active a) (phase.Active a) (AnsweredLive check.block (slot.entry_at s check.block) ∷ []) _
       (λ m. PhaseAgrees part texts m desk (phase.Active a)) it (λ d h. h) (omega arith) ((λ _. inl refl), tt)
       (phase_on part texts n _ (grows_sent n (AnsweredLive check.block (slot.entry_at s check.block) ∷ [])) desk (phase.Active a) (λ d _. refl) agrees))

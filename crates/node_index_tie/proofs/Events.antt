@@ -188,7 +188,8 @@ module _ (part : ℕ) (texts : Texts) (questions : Questions) (exists : part < 8
 
   -- a log and a writer that have begun
   pub begun_agreed : (kept : Kept) (maps : Maps) (slots : Table) (groups : GroupMapState) → length slots ≡ 8
-      → PhaseAgrees part texts n (record { log = log_started (log_of kept.number) kept.inc no_end groups; given = []; writer = writer_started (log_of kept.number) }) (phase_at slots part)
+      → PhaseAgrees part texts n
+      (record { log = log_started (log_of kept.number) kept.inc no_end groups; given = []; writer = writer_started (log_of kept.number) }) (phase_at slots part)
       → ServingAgrees part texts n (serving_begun kept maps slots groups)
   begun_agreed kept maps slots groups eight here = record {
     eight = eight;

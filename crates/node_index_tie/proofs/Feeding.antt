@@ -62,7 +62,8 @@ filed_more base (Settled s r ∷ xs) seq rows less =
     end_from : nat_lt base s ≡ true → end_of s xs ≡ max s (end_of base xs)
     end_from below = ap (λ k. greatest k (settled_numbers xs)) (sym (max_is base s (grind (arith, nat_tests)))) ∙ greatest-max s base (settled_numbers xs)
 
-    by : (t : Bool) → nat_lt base s ≡ t → (nat_lt base s ≡ true → filed_by s (xs ++ Settled seq rows ∷ []) ≡ filed_by s xs ++ record { seq = seq; rows = rows } ∷ [])
+    by : (t : Bool) → nat_lt base s ≡ t
+        → (nat_lt base s ≡ true → filed_by s (xs ++ Settled seq rows ∷ []) ≡ filed_by s xs ++ record { seq = seq; rows = rows } ∷ [])
         → filed_by base (xs ++ Settled seq rows ∷ []) ≡ filed_by base xs ++ record { seq = seq; rows = rows } ∷ []
         → cond t (record { seq = s; rows = r } ∷ filed_by s (xs ++ Settled seq rows ∷ [])) (filed_by base (xs ++ Settled seq rows ∷ []))
         ≡ cond t (record { seq = s; rows = r } ∷ filed_by s xs) (filed_by base xs) ++ record { seq = seq; rows = rows } ∷ []

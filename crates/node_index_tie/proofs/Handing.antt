@@ -269,9 +269,11 @@ module _ (part : ℕ) (texts : Texts) (asked : Questions) (named : ℕ → Type 
       sees_quiet part texts asked named n p d.state.phase d.outs (λ m. PhaseAgrees part texts m desk d.state.phase) (λ e h. inl (t.held e h))
       (let e = t.epoch in omega arith) done t.agrees
 
-  is_handed : (n : Net) (k : ℕ) (t : Taking) (q : Numbers) (given : Input) (agrees : TakingAgrees part texts n t.epoch t.take) (owes : Owes part texts n t.epoch t.take given) (filed : AreTexts texts n.filed)
+  is_handed : (n : Net) (k : ℕ) (t : Taking) (q : Numbers) (given : Input) (agrees : TakingAgrees part texts n t.epoch t.take)
+      (owes : Owes part texts n t.epoch t.take given) (filed : AreTexts texts n.filed)
       (hands : Hands (transition t.take given).state (transition t.take given).outs) (busy : Busy n)
-      → AskEvent n (phase.Taking t) (says_each k (asker (phase.Taking (record t { take = (transition t.take given).state })) q) (active (transition t.take given).state hands.index ∷ []))
+      → AskEvent n (phase.Taking t)
+      (says_each k (asker (phase.Taking (record t { take = (transition t.take given).state })) q) (active (transition t.take given).state hands.index ∷ []))
   unfolding says_each says
   is_handed n k t q given agrees owes filed hands busy = handed n t given agrees owes filed hands busy
 

@@ -292,7 +292,8 @@ module _ (part : ℕ) (texts : Texts) (questions : Questions) (exists : part < 8
 
     told_groups : (n : Net) (s : Serving) (groups : GroupMapState) (slots : List SlotNews) → ServingAgrees part texts n s → AreTexts texts n.filed
         → AllNewsGets part texts questions j n (epoch_of (phase_at s.slots part)) slots
-        → Sees part texts questions named n (phase_at s.slots part) (phase_at (serving.regroups s groups).state.slots part) (serving.regroups s groups).outs (λ m. Owed m (serving.regroups s groups).state (epoch_of (phase_at s.slots part)) slots)
+        → Sees part texts questions named n (phase_at s.slots part) (phase_at (serving.regroups s groups).state.slots part) (serving.regroups s groups).outs
+        (λ m. Owed m (serving.regroups s groups).state (epoch_of (phase_at s.slots part)) slots)
     unfolding serving.regroups
     told_groups n s groups slots agrees filed gets =
         let d = serving.regroups s groups in
@@ -353,7 +354,9 @@ module _ (part : ℕ) (texts : Texts) (questions : Questions) (exists : part < 8
         let newer : Serving = record s { maps = taken s.maps news } in
         by_test (Of part texts questions exists named n s) (is_older s.maps news) (serving.on_newer newer clients news)
         (serving.hears_slots s clients news.slots)
-        (λ _. newer_serves n newer clients news number (record { eight = agrees.eight; given = agrees.given; here = agrees.here; writer = agrees.writer; closed = agrees.closed; done = agrees.done }) filed text gets names)
+        (λ _. newer_serves n newer clients news number
+        (record { eight = agrees.eight; given = agrees.given; here = agrees.here; writer = agrees.writer; closed = agrees.closed; done = agrees.done })
+        filed text gets names)
         (λ _. rose n s clients (epoch_of (phase_at s.slots part)) news.slots number agrees filed gets (omega arith) names)
 
     fitting_serves : (n : Net) (s : Serving) (clients : ℕ) (news : News) → s.lasting.number ≡ j → ServingAgrees part texts n s → AreTexts texts n.filed

@@ -64,7 +64,8 @@ module _ (part : ℕ) (n : Net) (l : ℕ) (some : 0 < l) (most : l ≤ 9) (feed 
   ends = ap (λ (s : FeedState). s.end) k.is ∙ (is_after k.base k.inputs).end_is ∙ k.fed.end
 
   -- a range that the feed gives tells what is filed
-  known : (slot : ℕ) (input : In) → Contains (transition feed input).outs (Range slot (acked_of feed slot + 1) feed.end (rows_after slot (acked_of feed slot) feed.filed)) → slot ≡ part
+  known : (slot : ℕ) (input : In)
+      → Contains (transition feed input).outs (Range slot (acked_of feed slot + 1) feed.end (rows_after slot (acked_of feed slot) feed.filed)) → slot ≡ part
       → DeltasKnown part n l (record { slot = slot; first = acked_of feed slot + 1; upto = feed.end; rows = rows_after slot (acked_of feed slot) feed.filed })
   known slot input given ours = record {
     tells = λ b inside. ranges_tell b n.filed l k.base k.inputs input slot (acked_of feed slot + 1) feed.end
@@ -80,7 +81,8 @@ module _ (part : ℕ) (n : Net) (l : ℕ) (some : 0 < l) (most : l ≤ 9) (feed 
   told slot = by (nat_lt slot 8 && nat_lt (acked_of feed slot) feed.end) refl
     where
       by : (t : Bool) → (nat_lt slot 8 && nat_lt (acked_of feed slot) feed.end) ≡ t
-          → AllByRecursion (OwnerDoes part n l) (map (range managers) (cond t (Range slot (acked_of feed slot + 1) feed.end (rows_after slot (acked_of feed slot) feed.filed) ∷ []) []))
+          → AllByRecursion (OwnerDoes part n l)
+          (map (range managers) (cond t (Range slot (acked_of feed slot + 1) feed.end (rows_after slot (acked_of feed slot) feed.filed) ∷ []) []))
       by true is = (
         known slot (Push slot) (subst (λ os. Contains os (Range slot (acked_of feed slot + 1) feed.end (rows_after slot (acked_of feed slot) feed.filed)))
             (ap (λ t. cond t (Range slot (acked_of feed slot + 1) feed.end (rows_after slot (acked_of feed slot) feed.filed) ∷ []) []) (sym is))
@@ -141,7 +143,8 @@ quiet_filed base [] Tick q = refl
 quiet_filed base (Settled seq rows ∷ xs) i q = by (nat_lt base seq) (quiet_filed seq xs i q) (quiet_filed base xs i q)
   where
     by : (t : Bool) → filed_by seq (xs ++ i ∷ []) ≡ filed_by seq xs → filed_by base (xs ++ i ∷ []) ≡ filed_by base xs
-        → cond t (record { seq = seq; rows = rows } ∷ filed_by seq (xs ++ i ∷ [])) (filed_by base (xs ++ i ∷ [])) ≡ cond t (record { seq = seq; rows = rows } ∷ filed_by seq xs) (filed_by base xs)
+        → cond t (record { seq = seq; rows = rows } ∷ filed_by seq (xs ++ i ∷ [])) (filed_by base (xs ++ i ∷ [])) ≡ cond t
+        (record { seq = seq; rows = rows } ∷ filed_by seq xs) (filed_by base xs)
     by true a b = ap (λ fs. record { seq = seq; rows = rows } ∷ fs) a
     by false a b = b
 quiet_filed base (Ack slot applied ∷ xs) i q = quiet_filed base xs i q

@@ -129,7 +129,9 @@ module _ (part : ℕ) (texts : Texts) (questions : Questions) (exists : part < 8
   -- the writer goes on with a checkpoint that was begun
   begins_on : (n : Net) (s v : Serving) (w : WorkState) (p : SlotPhase) → v.writer.work ≡ Some w → v.log.flight ≡ None → p ≡ phase_at s.slots part
       → Sees part texts questions named n p (phase_at v.slots part) [] (λ m. Clear m v)
-      → Sees part texts questions named n p (phase_at (node.says_each (record v { writer = (go_on v.writer w).state }) (go_on v.writer w).outs).state.slots part) (node.says_each (record v { writer = (go_on v.writer w).state }) (go_on v.writer w).outs).outs
+      → Sees part texts questions named n p
+      (phase_at (node.says_each (record v { writer = (go_on v.writer w).state }) (go_on v.writer w).outs).state.slots part)
+      (node.says_each (record v { writer = (go_on v.writer w).state }) (go_on v.writer w).outs).outs
       (λ m. ServingAgrees part texts m (node.says_each (record v { writer = (go_on v.writer w).state }) (go_on v.writer w).outs).state)
   begins_on n s v w p there landed at h =
       let d = node.says_each (record v { writer = (go_on v.writer w).state }) (go_on v.writer w).outs in
@@ -272,7 +274,8 @@ module _ (part : ℕ) (texts : Texts) (questions : Questions) (exists : part < 8
           none = refl;
         }
 
-        begins_covered : Serves part texts questions exists named n s (node.said_by cleaned_here (go_on (record s.writer { number = s.writer.number + 1 }) asked_work))
+        begins_covered : Serves part texts questions exists named n s
+            (node.said_by cleaned_here (go_on (record s.writer { number = s.writer.number + 1 }) asked_work))
         begins_covered = begins_on n s virtual asked_work now refl landed refl (record {
           next = later;
           runs = On (On Begun (Plans epoch a.slot events (horizon_of a.slot) k.there (ap (λ (c : Checkpointed). c.pages) is) may
@@ -403,7 +406,14 @@ module _ (part : ℕ) (texts : Texts) (questions : Questions) (exists : part < 8
             parts = (plan_of (pages_of a.slot.index) a.parts).parts;
             horizon = horizon_of a.slot;
           })) (still s.writer)
-          (λ idle. begins_other (record { slot = k; epoch = a.slot.epoch; left = (plan_of (pages_of a.slot.index) a.parts).pages; parts = (plan_of (pages_of a.slot.index) a.parts).parts; horizon = horizon_of a.slot }) refl idle)
+          (λ idle. begins_other
+          (record {
+            slot = k;
+            epoch = a.slot.epoch;
+            left = (plan_of (pages_of a.slot.index) a.parts).pages;
+            parts = (plan_of (pages_of a.slot.index) a.parts).parts;
+            horizon = horizon_of a.slot;
+          }) refl idle)
           (λ _. refused)
         where
           refused : Serves part texts questions exists named n s (node.said_by cleaned_there (still s.writer))

@@ -232,9 +232,12 @@ each_place P h (suc (suc (suc (suc (suc zero))))) low = and_first (P 5) _
 each_place P h (suc (suc (suc (suc (suc (suc zero)))))) low =
     and_first (P 6) _ (and_second (P 5) _ (and_second (P 4) _ (and_second (P 3) _ (and_second (P 2) _ (and_second (P 1) _ (and_second (P 0) _ h))))))
 each_place P h (suc (suc (suc (suc (suc (suc (suc zero))))))) low =
-    and_first (P 7) _ (and_second (P 6) _ (and_second (P 5) _ (and_second (P 4) _ (and_second (P 3) _ (and_second (P 2) _ (and_second (P 1) _ (and_second (P 0) _ h)))))))
+    and_first (P 7) _
+    (and_second (P 6) _ (and_second (P 5) _ (and_second (P 4) _ (and_second (P 3) _ (and_second (P 2) _ (and_second (P 1) _ (and_second (P 0) _ h)))))))
 each_place P h (suc (suc (suc (suc (suc (suc (suc (suc zero)))))))) low =
-    and_first (P 8) _ (and_second (P 7) _ (and_second (P 6) _ (and_second (P 5) _ (and_second (P 4) _ (and_second (P 3) _ (and_second (P 2) _ (and_second (P 1) _ (and_second (P 0) _ h))))))))
+    and_first (P 8) _
+    (and_second (P 7) _
+    (and_second (P 6) _ (and_second (P 5) _ (and_second (P 4) _ (and_second (P 3) _ (and_second (P 2) _ (and_second (P 1) _ (and_second (P 0) _ h))))))))
 each_place P h (suc (suc (suc (suc (suc (suc (suc (suc (suc k))))))))) low = absurd (omega arith)
 
 -- none of its numbers is lower

@@ -76,7 +76,8 @@ pub by_taken : (P : Table → List Effect → Type 0) (a : TableAsker) (k : ℕ)
     → P (table.at_taken a k event).state.table (table.at_taken a k event).outs
 by_taken P a k event = by (slice_get a.table k)
   where
-    by : (o : Option SlotPhase) → P (table.in_slot a.table k (as_slot a.questions event) o).state (table.in_slot a.table k (as_slot a.questions event) o).outs → P (table.in_taken a k event o).state.table (table.in_taken a k event o).outs
+    by : (o : Option SlotPhase) → P (table.in_slot a.table k (as_slot a.questions event) o).state (table.in_slot a.table k (as_slot a.questions event) o).outs
+        → P (table.in_taken a k event o).state.table (table.in_taken a k event o).outs
     by None h = h
     by (Some p) h = h
 

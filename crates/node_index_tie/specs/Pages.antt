@@ -42,7 +42,8 @@ module _ (part : ℕ) (texts : Texts) (n : Net) (desk : Desk) where
     pub may : AllMayCome (held_in part texts) nothing_checkpointed events
     pub segments : List SegRef
     pub parts : w.parts ≡ (plan_of (slot_after events).pages (slot_after events).parts).parts ++ segments
-    pub rows : rows_in (held_in part texts) segments ++ (rows_of desk.given ++ rows_of w.left) ≡ rows_of (plan_of (slot_after events).pages (slot_after events).parts).pages
+    pub rows : rows_in (held_in part texts) segments
+        ++ (rows_of desk.given ++ rows_of w.left) ≡ rows_of (plan_of (slot_after events).pages (slot_after events).parts).pages
     pub flies : (f : FlightState) → desk.log.flight ≡ Some f → f.segment.items ≡ items_of part desk.given
 
   -- The pages of a slot that is managed at this epoch, and the parts that its last checkpoint names: these cover what has not changed since; or its checkpoint is

@@ -84,7 +84,9 @@ module _ (g : Setting) (owner : Asker) (n : Net) (b : BoardState) (before : Regi
         by_test (λ k. k ≡ generation_at (generations_after b.groups.generations v generation) u) (u == v) generation (n.registry u)
         (λ t. sym (ap (λ w. generation_at (generations_after b.groups.generations v generation) w) (equal u v t)
         ∙ get_or-set_same b.groups.generations (v - 1) generation 0 (let l = before.map.each_server in let e = exists.0 in let f = exists.1 in omega arith)))
-        (λ t. before.known u has ∙ sym (get_or-set_other b.groups.generations (v - 1) (u - 1) generation 0 (λ e. let first : 1 ≤ u = grind (arith, nat_tests) in let k = exists.0 in let apart : u ≢ v = grind (arith, nat_tests) in apart (omega arith))))
+        (λ t. before.known u has
+        ∙ sym (get_or-set_other b.groups.generations (v - 1) (u - 1) generation 0
+        (λ e. let first : 1 ≤ u = grind (arith, nat_tests) in let k = exists.0 in let apart : u ≢ v = grind (arith, nat_tests) in apart (omega arith))))
 
     heard : Leads (server_lost b v generation)
     heard keeps = record {
@@ -116,11 +118,13 @@ module _ (g : Setting) (owner : Asker) (n : Net) (b : BoardState) (before : Regi
   slot_given : (slot manager : ℕ) → Leads (reassign b slot manager).state
   unfolding reassign
   slot_given slot manager =
-      by_test (λ (m : Made). Leads m.state) (can_move b slot) (record { state = moved b slot manager; outs = _ }) (still b) (λ t. given slot manager) (λ t. stays)
+      by_test (λ (m : Made). Leads m.state) (can_move b slot) (record { state = moved b slot manager; outs = _ }) (still b) (λ t. given slot manager)
+      (λ t. stays)
 
   -- ---- a checkpoint that is kept
 
-  raised : (c : BoardState) → low_of g b ≤ low_of g c → IsFiled n (low_of g c) → ((low : ℕ) → low ≡ low_of g c → RegistrySeen g (record n { low = low }) c) → MadeSeen c
+  raised : (c : BoardState) → low_of g b ≤ low_of g c → IsFiled n (low_of g c) → ((low : ℕ) → low ≡ low_of g c → RegistrySeen g (record n { low = low }) c)
+      → MadeSeen c
   raised c rises (inl no_more) shown = record {
     next = n;
     runs = Begun;
@@ -142,16 +146,19 @@ module _ (g : Setting) (owner : Asker) (n : Net) (b : BoardState) (before : Regi
   same : Checkpointed b
   same = record { groups = refl; horizons = before.horizons }
 
-  kept_so : (slot epoch : ℕ) (parts : List SegRef) (horizon : List ℕ) → covers_kept b.checkpoints slot horizon ≡ true → Checkpointed (keep b slot epoch parts horizon).state
+  kept_so : (slot epoch : ℕ) (parts : List SegRef) (horizon : List ℕ) → covers_kept b.checkpoints slot horizon ≡ true
+      → Checkpointed (keep b slot epoch parts horizon).state
   unfolding keep
   kept_so slot epoch parts horizon covers =
-      by_test (λ (m : Made). Checkpointed m.state) (b.version == 4294967295) (still b) (record { state = checkpointed b slot parts horizon; outs = _ }) (λ t. same)
+      by_test (λ (m : Made). Checkpointed m.state) (b.version == 4294967295) (still b) (record { state = checkpointed b slot parts horizon; outs = _ })
+      (λ t. same)
       (λ t. record { groups = refl; horizons = kept_nine b.checkpoints slot (record { parts = parts; horizon = horizon }) covers before.horizons })
 
   done_so : (slot epoch : ℕ) (parts : List SegRef) (horizon : List ℕ) → Checkpointed (done b slot epoch parts horizon).state
   unfolding done
   done_so slot epoch parts horizon =
-      by_test (λ (m : Made). Checkpointed m.state) (nat_lt 7 slot) (still b) (cond (is_kept b slot epoch horizon) (keep b slot epoch parts horizon) (record { state = b; outs = _ })) (λ t. same)
+      by_test (λ (m : Made). Checkpointed m.state) (nat_lt 7 slot) (still b)
+      (cond (is_kept b slot epoch horizon) (keep b slot epoch parts horizon) (record { state = b; outs = _ })) (λ t. same)
       (λ t. by_test (λ (m : Made). Checkpointed m.state) (is_kept b slot epoch horizon) (keep b slot epoch parts horizon) (record { state = b; outs = _ })
       (λ k. kept_so slot epoch parts horizon (and_second ((entry_of b.entries slot).epoch == epoch) (covers_kept b.checkpoints slot horizon) k)) (λ k. same))
 
@@ -174,13 +181,15 @@ module _ (g : Setting) (owner : Asker) (n : Net) (b : BoardState) (before : Regi
       by : (t : Bool) → nat_le g.log.0 9 ≡ t → MadeSeen (done b slot epoch parts horizon).state
       by true t =
           let some : g.log.0 ≤ 9 = grind (arith, nat_tests) in
-          raised (done b slot epoch parts horizon).state (low_rises g.log.0 some b (input.Done slot epoch parts horizon) before.horizons is.horizons) (keeps.filed some)
+          raised (done b slot epoch parts horizon).state (low_rises g.log.0 some b (input.Done slot epoch parts horizon) before.horizons is.horizons)
+          (keeps.filed some)
           (shown_at (done b slot epoch parts horizon).state is)
       by false t =
           let high : 9 < g.log.0 = grind (arith, nat_tests) in
           let first : low_of g b ≡ 1 = least_is_one g.log.0 high b before.horizons in
           let then_is : low_of g (done b slot epoch parts horizon).state ≡ 1 = least_is_one g.log.0 high (done b slot epoch parts horizon).state is.horizons in
-          raised (done b slot epoch parts horizon).state (omega arith) (inl (let e = before.low in omega arith)) (shown_at (done b slot epoch parts horizon).state is)
+          raised (done b slot epoch parts horizon).state (omega arith) (inl (let e = before.low in omega arith))
+          (shown_at (done b slot epoch parts horizon).state is)
 
   -- ---- all inputs
 

@@ -73,7 +73,8 @@ module _ (g : Setting) (owner : Asker) (other : g.log ≡ cleaner_log → ⊥) (
 
   maps_asked : (n : Net) (e : Emptying) (job : Option Job) → EmptyingSeen g n e → IfSome job (JobSeen g n) → Goes n (asks_maps e job)
   maps_asked n e None seen its = stays g owner n e seen
-  maps_asked n e (Some job) seen its = at_once g owner n _ _ (record { log = seen.log; job = its }) (record { own = λ is. absurd (away (sym is)); reached = tt }, tt)
+  maps_asked n e (Some job) seen its =
+      at_once g owner n _ _ (record { log = seen.log; job = its }) (record { own = λ is. absurd (away (sym is)); reached = tt }, tt)
 
   list_asked : (n : Net) (e : Emptying) (job : Option Job) (server : ℕ) → EmptyingSeen g n e → IfSome job (JobSeen g n) → Goes n (asks_list e job server)
   list_asked n e None server seen its = stays g owner n e seen
@@ -88,7 +89,8 @@ module _ (g : Setting) (owner : Asker) (other : g.log ≡ cleaner_log → ⊥) (
   checks_kept n job q None block its = its
   checks_kept n job q (Some hand) block its = its
 
-  checked_kept : (n : Net) (e : Emptying) (job : Option Job) (block : BlockId) → EmptyingSeen g n e → IfSome job (JobSeen g n) → EmptyingSeen g n (checked_in e job block).state
+  checked_kept : (n : Net) (e : Emptying) (job : Option Job) (block : BlockId) → EmptyingSeen g n e → IfSome job (JobSeen g n)
+      → EmptyingSeen g n (checked_in e job block).state
   unfolding job_checks
   checked_kept n e None block seen its = seen
   checked_kept n e (Some job) block seen its = record { log = seen.log; job = checks_kept n job e.lasting.questions job.hand block its }
@@ -99,7 +101,8 @@ module _ (g : Setting) (owner : Asker) (other : g.log ≡ cleaner_log → ⊥) (
 
   check_asked : (n : Net) (e : Emptying) (block : BlockId) (place : Place) → EmptyingSeen g n e → Goes n (asks_check e block place)
   unfolding asks_check checks_block
-  check_asked n e block place seen = check_said n (checks_block e block).state block place (checks_block e block).ask (checked_kept n e e.job block seen seen.job)
+  check_asked n e block place seen =
+      check_said n (checks_block e block).state block place (checks_block e block).ask (checked_kept n e e.job block seen seen.job)
 
   -- ---- a segment is read
 
@@ -133,7 +136,8 @@ module _ (g : Setting) (owner : Asker) (other : g.log ≡ cleaner_log → ⊥) (
   unfolding puts
   put_so n e i seen =
       let d : OwnDone cleaner_log (log.transition e.log i) = own_log cleaner_log e.log i seen.log in
-      at_once g owner n (record e { log = (log.transition e.log i).state }) _ (record { log = d.state; job = seen.job }) (all_stored n (log.transition e.log i).outs d.outs)
+      at_once g owner n (record e { log = (log.transition e.log i).state }) _ (record { log = d.state; job = seen.job })
+      (all_stored n (log.transition e.log i).outs d.outs)
 
   block_put : (n : Net) (e : Emptying) (one : BlockId × Entry × Option (List ℕ)) → EmptyingSeen g n e → Unit {0} → Goes n (puts_block e one)
   unfolding puts_block
@@ -178,28 +182,41 @@ module _ (g : Setting) (owner : Asker) (other : g.log ≡ cleaner_log → ⊥) (
             acted = λ its. inl (sym m.named);
             only = λ x is. ⊎_elim (λ same. inr (same ∙ m.named)) (λ was. inl was) is;
           }
-      by false foreign = record { next = n; drop = no_drop g owner n; said = λ its. contrary (sym foreign ∙ its); acted = λ its. contrary (sym foreign ∙ its); only = λ x is. inl is }
+      by false foreign =
+          record {
+            next = n;
+            drop = no_drop g owner n;
+            said = λ its. contrary (sym foreign ∙ its);
+            acted = λ its. contrary (sym foreign ∙ its);
+            only = λ x is. inl is;
+          }
 
   drop_acted : (n : Net) (is_first : Bool) (name : SegName) → (is_of_log g name ≡ true → In name n.dropped) → Does_all n (drops is_first name)
   drop_acted n true name acted = (acted, tt)
   drop_acted n false name acted = tt
 
-  segment_deleted : (n : Net) (e : Emptying) (job : Option Job) (server : ℕ) (name : SegName) → EmptyingSeen g n e → IfSome job (JobSeen g n) → DropOfLog g n name → Goes n (deletes e job server name)
+  segment_deleted : (n : Net) (e : Emptying) (job : Option Job) (server : ℕ) (name : SegName) → EmptyingSeen g n e → IfSome job (JobSeen g n)
+      → DropOfLog g n name → Goes n (deletes e job server name)
   segment_deleted n e None server name seen its may = stays g owner n e seen
   segment_deleted n e (Some job) server name seen its may =
       let l : LetGo n name = let_go n name may in
       record {
         next = l.next;
         drop = l.drop;
-        seen = emptying_later g n l.next (run_later g n l.next l.drop.runs) (record e { job = Some (record job { hand = _ }) }) (record { log = seen.log; job = its });
+        seen = emptying_later g n l.next (run_later g n l.next l.drop.runs) (record e { job = Some (record job { hand = _ }) })
+            (record { log = seen.log; job = its });
         does = all_append (CleanerDoes g owner l.next) (drops (is_whole job.hand) name) _ (drop_acted l.next (is_whole job.hand) name l.acted) (l.said, tt);
         only = λ x is. ⊎_elim (λ was. inl was)
-            (λ same. inr (Server server, in_after (drops (is_whole job.hand) name) _ _ (inl (ap (λ (z : SegName). Send (Server server) (body.Delete (record { name = z }))) same)))) (l.only x is);
+            (λ same. inr (
+              Server server,
+              in_after (drops (is_whole job.hand) name) _ _ (inl (ap (λ (z : SegName). Send (Server server) (body.Delete (record { name = z }))) same)),
+            )) (l.only x is);
       }
 
   job_over : (n : Net) (e : Emptying) (count : ℕ) → EmptyingSeen g n e → Goes n (finishes e count)
   job_over n e count seen =
-      at_once g owner n _ _ (record { log = seen.log; job = tt }) (answers_send (CleanerDoes g owner n) (λ item answer. tt) e.lasting.items.unanswered (Count count))
+      at_once g owner n _ _ (record { log = seen.log; job = tt })
+      (answers_send (CleanerDoes g owner n) (λ item answer. tt) e.lasting.items.unanswered (Count count))
 
   job_says : (n : Net) (e : Emptying) (o : Out) → EmptyingSeen g n e → OutDrops g n o → Goes n (says e o)
   unfolding says
@@ -229,7 +246,8 @@ module _ (g : Setting) (owner : Asker) (other : g.log ≡ cleaner_log → ⊥) (
   unfolding cleans job_takes
   job_goes_on n e given seen sent =
       let t : Took n (takes_in e e.job given).state (takes_in e e.job given).outs = took n e e.job given seen seen.job sent in
-      all_steps g owner says (OutDrops g) (λ m k later o h. out_later g m k later o h) job_says n (takes_in e e.job given).state (takes_in e e.job given).outs t.seen t.said
+      all_steps g owner says (OutDrops g) (λ m k later o h. out_later g m k later o h) job_says n (takes_in e e.job given).state
+      (takes_in e e.job given).outs t.seen t.said
 
   -- ---- what comes for it
 
@@ -243,7 +261,8 @@ module _ (g : Setting) (owner : Asker) (other : g.log ≡ cleaner_log → ⊥) (
   pub usage_came : (n : Net) (e : Emptying) (m : Usage) → EmptyingSeen g n e → Goes n (on_usage e m)
   unfolding on_usage
   usage_came n e m seen =
-      by_test (Goes n) (is_out (usages_of e.job) m.ask) (cleans e (input.Usage m.slot m.epoch m.counts)) (still e) (λ t. job_goes_on n e (input.Usage m.slot m.epoch m.counts) seen tt)
+      by_test (Goes n) (is_out (usages_of e.job) m.ask) (cleans e (input.Usage m.slot m.epoch m.counts)) (still e)
+      (λ t. job_goes_on n e (input.Usage m.slot m.epoch m.counts) seen tt)
       (λ t. stays g owner n e seen)
 
   pub live_came : (n : Net) (e : Emptying) (m : Live) → EmptyingSeen g n e → Goes n (on_live e m)
@@ -271,13 +290,15 @@ module _ (g : Setting) (owner : Asker) (other : g.log ≡ cleaner_log → ⊥) (
 
   reading_ended : (n : Net) (e : Emptying) (read : Option Segment) → EmptyingSeen g n e → Goes n (ends_reading e read)
   unfolding ends_reading
-  reading_ended n e read seen = job_goes_on n (record e { job = job_read e.job }) (input.Read read) (record { log = seen.log; job = read_kept n e.job seen.job }) tt
+  reading_ended n e read seen =
+      job_goes_on n (record e { job = job_read e.job }) (input.Read read) (record { log = seen.log; job = read_kept n e.job seen.job }) tt
 
   confirms_hand : (n : Net) (job : Job) (hand : Option Hand) (ask : ℕ) → JobSeen g n job → JobSeen g n (hand_confirmed_in job hand ask).state
   confirms_hand n job None ask its = its
   confirms_hand n job (Some hand) ask its = its
 
-  confirms : (n : Net) (e : Emptying) (job : Option Job) (ask : ℕ) → EmptyingSeen g n e → IfSome job (JobSeen g n) → EmptyingSeen g n (confirmed_in e job ask).state
+  confirms : (n : Net) (e : Emptying) (job : Option Job) (ask : ℕ) → EmptyingSeen g n e → IfSome job (JobSeen g n)
+      → EmptyingSeen g n (confirmed_in e job ask).state
   unfolding job_confirmed
   confirms n e None ask seen its = seen
   confirms n e (Some job) ask seen its = record { log = seen.log; job = confirms_hand n job job.hand ask its }
@@ -303,11 +324,13 @@ module _ (g : Setting) (owner : Asker) (other : g.log ≡ cleaner_log → ⊥) (
   told_so n e (next.Read segment) seen = reading_ended n e (Some segment) seen
   told_so n e next.Lost seen = reading_ended n e None seen
 
-  hears_hand : (n : Net) (job : Job) (hand : Option Hand) (groups : GroupMapState) (ask server : ℕ) (t : Told) → JobSeen g n job → JobSeen g n (hand_hears_in job hand groups ask server t).state
+  hears_hand : (n : Net) (job : Job) (hand : Option Hand) (groups : GroupMapState) (ask server : ℕ) (t : Told) → JobSeen g n job
+      → JobSeen g n (hand_hears_in job hand groups ask server t).state
   hears_hand n job None groups ask server t its = its
   hears_hand n job (Some hand) groups ask server t its = its
 
-  hears_told : (n : Net) (e : Emptying) (job : Option Job) (groups : Option GroupMapState) (ask server : ℕ) (t : Told) → EmptyingSeen g n e → IfSome job (JobSeen g n)
+  hears_told : (n : Net) (e : Emptying) (job : Option Job) (groups : Option GroupMapState) (ask server : ℕ) (t : Told) → EmptyingSeen g n e
+      → IfSome job (JobSeen g n)
       → EmptyingSeen g n (told_in e job groups ask server t).state
   unfolding job_hears
   hears_told n e None groups ask server t seen its = seen

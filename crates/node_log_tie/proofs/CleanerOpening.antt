@@ -100,7 +100,8 @@ module _ (g : Setting) (owner : Asker) (other : g.log ≡ cleaner_log → ⊥) (
   all_said : (its : Owner) (low : ℕ) → its.log ≡ cleaner_log → (s : _) (outs : List Out) → Does_all (steps (said its low) s outs).outs
   all_said its low is s [] = tt
   all_said its low is s (o ∷ outs) =
-      all_append (CleanerDoes g owner n) (said its low s o).outs (steps (said its low) (said its low s o).state outs).outs (one_said its low is s o) (all_said its low is (said its low s o).state outs)
+      all_append (CleanerDoes g owner n) (said its low s o).outs (steps (said its low) (said its low s o).state outs).outs (one_said its low is s o)
+      (all_said its low is (said its low s o).state outs)
 
   -- ---- what the log says
 
@@ -127,10 +128,12 @@ module _ (g : Setting) (owner : Asker) (other : g.log ≡ cleaner_log → ⊥) (
   writes_on k its s own i =
       let d : OwnDone cleaner_log (log.transition s.log i) = own_log cleaner_log s.log i own in
       let w = written (log.transition s.log i).outs in
-      let o : MovedOn (opens k (record s { log = (log.transition s.log i).state }) w.state) = opens_on k its (record s { log = (log.transition s.log i).state }) d.state w.state in
+      let o : MovedOn (opens k (record s { log = (log.transition s.log i).state }) w.state) =
+      opens_on k its (record s { log = (log.transition s.log i).state }) d.state w.state in
       record {
         seen = o.seen;
-        does = all_append (CleanerDoes g owner n) w.outs (opens k (record s { log = (log.transition s.log i).state }) w.state).outs (all_wrote None (log.transition s.log i).outs d.outs) o.does;
+        does = all_append (CleanerDoes g owner n) w.outs (opens k (record s { log = (log.transition s.log i).state }) w.state).outs
+            (all_wrote None (log.transition s.log i).outs d.outs) o.does;
       }
 
   -- ---- the end of the scan
@@ -138,15 +141,18 @@ module _ (g : Setting) (owner : Asker) (other : g.log ≡ cleaner_log → ⊥) (
   starts_on : (k : Known) → k.owner.log ≡ cleaner_log → (s : Scanning) (chain : _) (groups : GroupMapState) → MovedOn (starts_log k s chain groups)
   starts_on k its s chain groups =
       by_test MovedOn (is_log k.owner.log.0) (writes k (behind k chain groups) (log_in.Parts [])) (still (at_scan k s))
-      (λ t. writes_on k its (behind k chain groups) (record { log = its; flight = tt }) (log_in.Parts [])) (λ t. record { seen = scan_stays k its s; does = tt })
+      (λ t. writes_on k its (behind k chain groups) (record { log = its; flight = tt }) (log_in.Parts []))
+      (λ t. record { seen = scan_stays k its s; does = tt })
 
   settles_on : (k : Known) → k.owner.log ≡ cleaner_log → (s : Scanning) (chain : _) (groups : Option GroupMapState) → MovedOn (settles_over k s chain groups)
   settles_on k its s chain None = record { seen = scan_stays k its s; does = tt }
   settles_on k its s chain (Some groups) = starts_on k its s chain groups
 
   -- whatever the scan says, what is next behind it is seen
-  ends_on : (its : Owner) (low : ℕ) (a : Asked) (q : Questions) (e : _) (outs : List Out) → ((k : Known) → k.owner.log ≡ cleaner_log → (s : Scanning) → MovedOn (follows k s e))
-      → (k : Known) → k.owner.log ≡ cleaner_log → (s : Scanning) → MovedOn (follows k s (steps (said its low) (record { asked = a; questions = q; ended = e }) outs).state.ended)
+  ends_on : (its : Owner) (low : ℕ) (a : Asked) (q : Questions) (e : _) (outs : List Out)
+      → ((k : Known) → k.owner.log ≡ cleaner_log → (s : Scanning) → MovedOn (follows k s e))
+      → (k : Known) → k.owner.log ≡ cleaner_log → (s : Scanning)
+      → MovedOn (follows k s (steps (said its low) (record { asked = a; questions = q; ended = e }) outs).state.ended)
   unfolding follows said
   ends_on its low a q e [] ends = ends
   ends_on its low a q e (out.Hello own ∷ outs) ends = ends_on its low (asked_as a q own) (drawn_for a q own) e outs ends
@@ -183,7 +189,8 @@ module _ (g : Setting) (owner : Asker) (other : g.log ≡ cleaner_log → ⊥) (
 
   -- ---- the events
 
-  welcome_with : (k : Known) → k.owner.log ≡ cleaner_log → (q : Questions) (s : Scanning) (news : News) (own : ℕ) (groups : Option GroupMapState) → WentOn (welcomed_with k q s news own groups)
+  welcome_with : (k : Known) → k.owner.log ≡ cleaner_log → (q : Questions) (s : Scanning) (news : News) (own : ℕ) (groups : Option GroupMapState)
+      → WentOn (welcomed_with k q s news own groups)
   welcome_with k its q s news own None = record { seen = scan_stays k its s; does = tt }
   welcome_with k its q s news own (Some groups) = scan_on (record k { promised = promised_in news.slots }) its q _ (input.Welcome own news.slots groups)
 
@@ -194,11 +201,13 @@ module _ (g : Setting) (owner : Asker) (other : g.log ≡ cleaner_log → ⊥) (
 
   welcome_in : (k : Known) → k.owner.log ≡ cleaner_log → (q : Questions) (s : Scanning) (m : Welcome) → WentOn (welcomed_in k q s m)
   welcome_in k its q s m =
-      by_test WentOn (is_meant k m) (welcomed_as k q s m.news (own_of s.asked m.ask)) (stays (at_scan k s) q) (λ t. welcome_as k its q s m.news (own_of s.asked m.ask))
+      by_test WentOn (is_meant k m) (welcomed_as k q s m.news (own_of s.asked m.ask)) (stays (at_scan k s) q)
+      (λ t. welcome_as k its q s m.news (own_of s.asked m.ask))
       (λ t. record { seen = scan_stays k its s; does = tt })
 
   at_stage : (k : Known) → k.owner.log ≡ cleaner_log → (q : Questions) (at : Stage) → StageSeen at → (f : Scanning → Went) (h : Settling → Went)
-      → ((s : Scanning) → WentOn (f s)) → ((s : Settling) → IsOfLog cleaner_log s.log → WentOn (h s)) → WentOn (elim at [ stage.Scanning s ↦ f s | stage.Settling s ↦ h s ])
+      → ((s : Scanning) → WentOn (f s)) → ((s : Settling) → IsOfLog cleaner_log s.log → WentOn (h s))
+      → WentOn (elim at [ stage.Scanning s ↦ f s | stage.Settling s ↦ h s ])
   at_stage k its q (stage.Scanning s) seen f h first second = first s
   at_stage k its q (stage.Settling s) seen f h first second = second s seen
 
@@ -215,10 +224,12 @@ module _ (g : Setting) (owner : Asker) (other : g.log ≡ cleaner_log → ⊥) (
   news_heard : (o : openings.Opening) (q : Questions) (news : News) → OpeningSeen o → WentOn (on_news o q news)
   unfolding on_news
   news_heard o q news seen =
-      by_test WentOn (fits o.known.maps news && is_older o.known.maps news) (regrouped (record o.known { maps = taken o.known.maps news }) q news.groups o.stage) (drops o q)
+      by_test WentOn (fits o.known.maps news && is_older o.known.maps news)
+      (regrouped (record o.known { maps = taken o.known.maps news }) q news.groups o.stage) (drops o q)
       (λ t. regroup (record o.known { maps = taken o.known.maps news }) seen.log q news.groups o.stage seen.stage) (λ t. dropped o q seen)
 
-  server_says : (o : openings.Opening) (q : Questions) (f : ℕ → Went) (server : Option ℕ) → OpeningSeen o → ((v : ℕ) → WentOn (f v)) → WentOn (by_server o q f server)
+  server_says : (o : openings.Opening) (q : Questions) (f : ℕ → Went) (server : Option ℕ) → OpeningSeen o → ((v : ℕ) → WentOn (f v))
+      → WentOn (by_server o q f server)
   server_says o q f None seen each = dropped o q seen
   server_says o q f (Some server) seen each = each server
 
@@ -226,7 +237,8 @@ module _ (g : Setting) (owner : Asker) (other : g.log ≡ cleaner_log → ⊥) (
   unfolding on_fenced
   fence_heard o q from m seen =
       server_says o q (fenced_by o q m) (server_in from) seen
-      (λ v. by_test WentOn (is_fenced o m) (scans o q (input.Fenced v m.generation m.held)) (drops o q) (λ t. scans_seen o q (input.Fenced v m.generation m.held) seen) (λ t. dropped o q seen))
+      (λ v. by_test WentOn (is_fenced o m) (scans o q (input.Fenced v m.generation m.held)) (drops o q)
+      (λ t. scans_seen o q (input.Fenced v m.generation m.held) seen) (λ t. dropped o q seen))
 
   answered : (o : openings.Opening) (q : Questions) (f : ℕ → In) (own : Option ℕ) → OpeningSeen o → WentOn (answers o q f own)
   answered o q f None seen = dropped o q seen
@@ -234,23 +246,28 @@ module _ (g : Setting) (owner : Asker) (other : g.log ≡ cleaner_log → ⊥) (
 
   found_heard : (o : openings.Opening) (q : Questions) (from : NodeId) (m : Fragment) → OpeningSeen o → WentOn (on_found o q from m)
   unfolding on_found
-  found_heard o q from m seen = server_says o q (found_by o q m) (server_in from) seen (λ v. answered o q (λ own. input.Got own v m.generation m.fragment) (own_in o.stage m.ask) seen)
+  found_heard o q from m seen =
+      server_says o q (found_by o q m) (server_in from) seen (λ v. answered o q (λ own. input.Got own v m.generation m.fragment) (own_in o.stage m.ask) seen)
 
   missing_heard : (o : openings.Opening) (q : Questions) (from : NodeId) (m : Missing) → OpeningSeen o → WentOn (on_missing o q from m)
   unfolding on_missing
-  missing_heard o q from m seen = server_says o q (missing_by o q m) (server_in from) seen (λ v. answered o q (λ own. input.Missing own v m.generation) (own_in o.stage m.ask) seen)
+  missing_heard o q from m seen =
+      server_says o q (missing_by o q m) (server_in from) seen (λ v. answered o q (λ own. input.Missing own v m.generation) (own_in o.stage m.ask) seen)
 
   stored_heard : (o : openings.Opening) (q : Questions) (m : Stored) → OpeningSeen o → WentOn (on_stored o q m)
   unfolding on_stored
   stored_heard o q m seen =
-      at_stage o.known seen.log q o.stage seen.stage (λ s. stays (at_scan o.known s) q) (λ s. asking q (writes o.known s (log_in.Acked m.name m.index m.generation)))
+      at_stage o.known seen.log q o.stage seen.stage (λ s. stays (at_scan o.known s) q)
+      (λ s. asking q (writes o.known s (log_in.Acked m.name m.index m.generation)))
       (λ s. record { seen = scan_stays o.known seen.log s; does = tt })
-      (λ s own. asked_on q (writes o.known s (log_in.Acked m.name m.index m.generation)) (writes_on o.known seen.log s own (log_in.Acked m.name m.index m.generation)))
+      (λ s own. asked_on q (writes o.known s (log_in.Acked m.name m.index m.generation))
+      (writes_on o.known seen.log s own (log_in.Acked m.name m.index m.generation)))
 
   pub tick_heard : (o : openings.Opening) (q : Questions) → OpeningSeen o → WentOn (on_tick o q)
   unfolding on_tick
   tick_heard o q seen =
-      at_stage o.known seen.log q o.stage seen.stage (λ s. scans_on o.known q s input.Tick) (λ s. asking q (writes o.known s log_in.Tick)) (λ s. scan_on o.known seen.log q s input.Tick)
+      at_stage o.known seen.log q o.stage seen.stage (λ s. scans_on o.known q s input.Tick) (λ s. asking q (writes o.known s log_in.Tick))
+      (λ s. scan_on o.known seen.log q s input.Tick)
       (λ s own. asked_on q (writes o.known s log_in.Tick) (writes_on o.known seen.log s own log_in.Tick))
 
   body_heard : (o : openings.Opening) (q : Questions) (from : NodeId) (said : Body) → OpeningSeen o → WentOn (on_body o q from said)

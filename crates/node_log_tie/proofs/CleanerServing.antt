@@ -74,7 +74,8 @@ module _ (g : Setting) (owner : Asker) (other : g.log ≡ cleaner_log → ⊥) (
 
   all_promised : (n : Net) (e : Emptying) → EmptyingSeen g n e → Goes n (promises_all e)
   unfolding promises_all
-  all_promised n e seen = all_steps g owner promises_slot (λ m x. Unit {0}) (λ m k later x h. tt) slot_promised n e (range_with_len 0 8) seen (nothing_more (range_with_len 0 8))
+  all_promised n e seen =
+      all_steps g owner promises_slot (λ m x. Unit {0}) (λ m k later x h. tt) slot_promised n e (range_with_len 0 8) seen (nothing_more (range_with_len 0 8))
 
   job_begun : (n : Net) (e : Emptying) (number count : ℕ) → EmptyingSeen g n e → Goes n (begins_job e number count)
   unfolding begins_job
@@ -86,7 +87,8 @@ module _ (g : Setting) (owner : Asker) (other : g.log ≡ cleaner_log → ⊥) (
   pub cleaning_wished : (n : Net) (e : Emptying) (number count : ℕ) → EmptyingSeen g n e → Goes n (on_clean e number count)
   unfolding on_clean
   cleaning_wished n e number count seen =
-      by_test (Goes n) (is_some e.lasting.items.unanswered) (record { state = e; outs = _ ∷ [] }) (begins_job e number count) (λ t. at_once g owner n e _ seen (tt, tt))
+      by_test (Goes n) (is_some e.lasting.items.unanswered) (record { state = e; outs = _ ∷ [] }) (begins_job e number count)
+      (λ t. at_once g owner n e _ seen (tt, tt))
       (λ t. job_begun n e number count seen)
 
   -- ---- the log
@@ -111,18 +113,21 @@ module _ (g : Setting) (owner : Asker) (other : g.log ≡ cleaner_log → ⊥) (
   unfolding writes
   log_takes n e i seen =
       let d : OwnDone cleaner_log (log.transition e.log i) = own_log cleaner_log e.log i seen.log in
-      all_steps g owner writes_one (λ m o. SendsOwn cleaner_log o) (λ m k later o h. h) one_written n (record e { log = (log.transition e.log i).state }) (log.transition e.log i).outs
+      all_steps g owner writes_one (λ m o. SendsOwn cleaner_log o) (λ m k later o h. h) one_written n (record e { log = (log.transition e.log i).state })
+      (log.transition e.log i).outs
       (record { log = d.state; job = seen.job }) d.outs
 
   acknowledged : (n : Net) (e : Emptying) (m : DeltaAck) → EmptyingSeen g n e → Goes n (on_ack e m)
   unfolding on_ack
   acknowledged n e m seen =
-      by_test (Goes n) (epoch_of e.promised m.slot == m.epoch) _ (still e) (λ t. stays g owner n _ (record { log = seen.log; job = seen.job })) (λ t. stays g owner n e seen)
+      by_test (Goes n) (epoch_of e.promised m.slot == m.epoch) _ (still e) (λ t. stays g owner n _ (record { log = seen.log; job = seen.job }))
+      (λ t. stays g owner n e seen)
 
   -- ---- promises
 
   renewed : (n : Net) (e : Emptying) (slot epoch : ℕ) → EmptyingSeen g n e → EmptyingSeen g n (renews e slot epoch)
-  renewed n e slot epoch seen = by_test (EmptyingSeen g n) (nat_lt (epoch_of e.promised slot) epoch) _ e (λ t. record { log = seen.log; job = seen.job }) (λ t. seen)
+  renewed n e slot epoch seen =
+      by_test (EmptyingSeen g n) (nat_lt (epoch_of e.promised slot) epoch) _ e (λ t. record { log = seen.log; job = seen.job }) (λ t. seen)
 
   promised : (n : Net) (e : Emptying) (slot epoch manager : ℕ) → EmptyingSeen g n e → EmptyingSeen g n (promises e slot epoch manager)
   unfolding promises
@@ -137,7 +142,8 @@ module _ (g : Setting) (owner : Asker) (other : g.log ≡ cleaner_log → ⊥) (
   poll_heard : (n : Net) (e : Emptying) (from : NodeId) (m : Poll) → EmptyingSeen g n e → Goes n (on_poll e from m)
   unfolding on_poll
   poll_heard n e (node.Manager manager) m seen =
-      by_test (Goes n) (nat_lt m.epoch (epoch_of e.promised m.slot)) (still e) (reports e manager m) (λ t. stays g owner n e seen) (λ t. reported n e manager m seen)
+      by_test (Goes n) (nat_lt m.epoch (epoch_of e.promised m.slot)) (still e) (reports e manager m) (λ t. stays g owner n e seen)
+      (λ t. reported n e manager m seen)
   poll_heard n e (node.Client c) m seen = stays g owner n e seen
   poll_heard n e (node.Server v) m seen = stays g owner n e seen
   poll_heard n e node.Cleaner m seen = stays g owner n e seen
@@ -148,8 +154,10 @@ module _ (g : Setting) (owner : Asker) (other : g.log ≡ cleaner_log → ⊥) (
   slot_heard : (n : Net) (e : Emptying) (news : SlotNews) → EmptyingSeen g n e → Unit {0} → Goes n (hears_slot e news)
   unfolding hears_slot
   slot_heard n e news seen no_more =
-      by_test (Goes n) (nat_lt (epoch_of e.promised news.slot) news.epoch) (cleans (promises e news.slot news.epoch news.manager) (input.Promise news.slot news.epoch)) (still e)
-      (λ t. job_goes_on g owner other away n (promises e news.slot news.epoch news.manager) (input.Promise news.slot news.epoch) (promised n e news.slot news.epoch news.manager seen) tt)
+      by_test (Goes n) (nat_lt (epoch_of e.promised news.slot) news.epoch)
+      (cleans (promises e news.slot news.epoch news.manager) (input.Promise news.slot news.epoch)) (still e)
+      (λ t. job_goes_on g owner other away n (promises e news.slot news.epoch news.manager) (input.Promise news.slot news.epoch)
+      (promised n e news.slot news.epoch news.manager seen) tt)
       (λ t. stays g owner n e seen)
 
   slots_heard : (n : Net) (e : Emptying) (slots : List SlotNews) → EmptyingSeen g n e → Goes n (hears_slots e slots)
@@ -184,7 +192,8 @@ module _ (g : Setting) (owner : Asker) (other : g.log ≡ cleaner_log → ⊥) (
   greeted_kept n None its = tt
   greeted_kept n (Some job) its = its
 
-  welcomed_over : (n : Net) (e : Emptying) (slots : List SlotNews) (groups : Option GroupMapState) → EmptyingSeen g n e → least_horizon g.log.0 slots ≤ n.low → Goes n (welcomes_over e slots groups)
+  welcomed_over : (n : Net) (e : Emptying) (slots : List SlotNews) (groups : Option GroupMapState) → EmptyingSeen g n e → least_horizon g.log.0 slots ≤ n.low
+      → Goes n (welcomes_over e slots groups)
   welcomed_over n e slots None seen low = stays g owner n e seen
   welcomed_over n e slots (Some groups) seen low = job_goes_on g owner other away n e (input.Welcome slots groups) seen low
 
@@ -192,19 +201,23 @@ module _ (g : Setting) (owner : Asker) (other : g.log ≡ cleaner_log → ⊥) (
   unfolding welcomes
   job_welcomed n e m seen low =
       by_test (Goes n) (is_out (hello_of e.job) m.ask) (welcomes_over (record e { job = greeted e.job }) m.news.slots e.maps.groups) (still e)
-      (λ t. welcomed_over n (record e { job = greeted e.job }) m.news.slots e.maps.groups (record { log = seen.log; job = greeted_kept n e.job seen.job }) low) (λ t. stays g owner n e seen)
+      (λ t. welcomed_over n (record e { job = greeted e.job }) m.news.slots e.maps.groups (record { log = seen.log; job = greeted_kept n e.job seen.job }) low)
+      (λ t. stays g owner n e seen)
 
   welcome_heard : (n : Net) (e : Emptying) (m : Welcome) → EmptyingSeen g n e → least_horizon g.log.0 m.news.slots ≤ n.low → Goes n (on_welcome e m)
   unfolding on_welcome
   welcome_heard n e m seen low =
       let d : Done = takes_news e m.news in
       by_test (Goes n) ((m.inc == e.lasting.inc) && fits e.maps m.news) (after d.outs (welcomes d.state m)) (still e)
-      (λ t. let w : Goes n d = news_taken n e m.news seen in and_then g owner n d (welcomes d.state m) w (job_welcomed w.next d.state m w.seen (let l = run_later g n w.next w.drop.runs in let a = l.low in omega arith)))
+      (λ t. let w : Goes n d = news_taken n e m.news seen in
+      and_then g owner n d (welcomes d.state m) w
+      (job_welcomed w.next d.state m w.seen (let l = run_later g n w.next w.drop.runs in let a = l.low in omega arith)))
       (λ t. stays g owner n e seen)
 
   -- ---- packets and time
 
-  body_heard : (n : Net) (e : Emptying) (from : NodeId) (said : Body) → EmptyingSeen g n e → BodySeen g owner n from node.Cleaner said → Goes n (on_body e from said)
+  body_heard : (n : Net) (e : Emptying) (from : NodeId) (said : Body) → EmptyingSeen g n e → BodySeen g owner n from node.Cleaner said
+      → Goes n (on_body e from said)
   body_heard n e from (body.MapNews m) seen sent = news_heard n e m seen
   body_heard n e from (body.Welcome m) seen sent = welcome_heard n e m seen sent.low
   body_heard n e from (body.Poll m) seen sent = poll_heard n e from m seen
@@ -219,10 +232,12 @@ module _ (g : Setting) (owner : Asker) (other : g.log ≡ cleaner_log → ⊥) (
   body_heard n e from (body.Deleted m) seen sent = deleted_came g owner other away n e (server_in from) m seen
   body_heard n e from _ seen sent = stays g owner n e seen
 
-  pub packet_heard : (n : Net) (e : Emptying) (packet : Packet) → EmptyingSeen g n e → BodySeen g owner n packet.from node.Cleaner packet.body → Goes n (on_packet e packet)
+  pub packet_heard : (n : Net) (e : Emptying) (packet : Packet) → EmptyingSeen g n e → BodySeen g owner n packet.from node.Cleaner packet.body
+      → Goes n (on_packet e packet)
   unfolding on_packet
   packet_heard n e packet seen sent =
-      by_test (Goes n) (names_known e.maps packet.body) (on_body e packet.from packet.body) (asks_for_maps e) (λ t. body_heard n e packet.from packet.body seen sent)
+      by_test (Goes n) (names_known e.maps packet.body) (on_body e packet.from packet.body) (asks_for_maps e)
+      (λ t. body_heard n e packet.from packet.body seen sent)
       (λ t. at_once g owner n _ _ (record { log = seen.log; job = seen.job }) (record { own = λ is. absurd (away (sym is)); reached = tt }, tt))
 
   pub time_passes : (n : Net) (e : Emptying) → EmptyingSeen g n e → Goes n (on_tick e)
@@ -234,4 +249,5 @@ module _ (g : Setting) (owner : Asker) (other : g.log ≡ cleaner_log → ⊥) (
       let wl : Goes wj.next l = log_takes wj.next j.state log_in.Tick wj.seen in
       and_then g owner n j (after l.outs (record { state = l.state; outs = pushes_all l.state.promised.managers l.state.feed })) wj
       (and_then g owner wj.next l (record { state = l.state; outs = pushes_all l.state.promised.managers l.state.feed }) wl
-      (at_once g owner wl.next l.state (pushes_all l.state.promised.managers l.state.feed) wl.seen (deltas_pushed wl.next l.state.promised.managers l.state.feed)))
+      (at_once g owner wl.next l.state (pushes_all l.state.promised.managers l.state.feed) wl.seen
+      (deltas_pushed wl.next l.state.promised.managers l.state.feed)))

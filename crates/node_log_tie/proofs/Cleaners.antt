@@ -65,7 +65,9 @@ module _ (g : Setting) (owner : Asker) (other : g.log ≡ cleaner_log → ⊥) (
 
   crashed : (l : Lasting) (number : ℕ) → Goes (crashes l number)
   unfolding crashes
-  crashed l number = at_once (Down _) _ tt (all_append (CleanerDoes g owner n) (answers_unanswered l.items.unanswered answer.Cut) _ (answers_do l.items.unanswered answer.Cut) (tt, tt))
+  crashed l number =
+      at_once (Down _) _ tt
+      (all_append (CleanerDoes g owner n) (answers_unanswered l.items.unanswered answer.Cut) _ (answers_do l.items.unanswered answer.Cut) (tt, tt))
 
   progressed : (l : Lasting) (p : Progress) → ProgressSeen p → Goes (after_opening l p)
   unfolding after_opening
@@ -83,7 +85,8 @@ module _ (g : Setting) (owner : Asker) (other : g.log ≡ cleaner_log → ⊥) (
         next = p.next;
         drop = p.drop;
         seen = p.seen;
-        does = all_append (CleanerDoes g owner p.next) w.effects (after_opening (record l { questions = w.questions }) w.progress).outs (all_does_later g owner n p.next p.drop w.effects on.does) p.does;
+        does = all_append (CleanerDoes g owner p.next) w.effects (after_opening (record l { questions = w.questions }) w.progress).outs
+            (all_does_later g owner n p.next p.drop w.effects on.does) p.does;
         only = ordered_then g owner n n p.next w.effects (after_opening (record l { questions = w.questions }) w.progress).outs (λ name is. inl is) p.only;
       }
 
@@ -91,7 +94,8 @@ module _ (g : Setting) (owner : Asker) (other : g.log ≡ cleaner_log → ⊥) (
   unfolding restarts
   restarted servers l number =
       let life : Lasting = next_life l number in
-      let w : WentOn g owner other away n (opening.on_start (owner_of life) servers life.questions) = opening_begun g owner other away n (owner_of life) servers life.questions refl in
+      let w : WentOn g owner other away n (opening.on_start (owner_of life) servers life.questions) =
+      opening_begun g owner other away n (owner_of life) servers life.questions refl in
       at_once (Opening _ _) _ w.seen w.does
 
   -- ---- items
@@ -127,7 +131,8 @@ module _ (g : Setting) (owner : Asker) (other : g.log ≡ cleaner_log → ⊥) (
   unfolding on_begin
   item_begun servers (Down l) seen = down_item servers (begun_life l) (next_item l.items)
   item_begun servers (Opening l o) seen = opening_item (begun_life l) o (next_item l.items) seen
-  item_begun servers (Serving e) seen = serving_item (record e { lasting = begun_life e.lasting }) (next_item e.lasting.items) (record { log = seen.log; job = seen.job })
+  item_begun servers (Serving e) seen =
+      serving_item (record e { lasting = begun_life e.lasting }) (next_item e.lasting.items) (record { log = seen.log; job = seen.job })
 
   -- ---- packets and time
 
@@ -147,7 +152,8 @@ module _ (g : Setting) (owner : Asker) (other : g.log ≡ cleaner_log → ⊥) (
   unfolding on_deliver
   all_events peers p Begin seen owed = item_begun peers.servers p seen
   all_events peers p (Deliver packet) seen owed =
-      by_test Goes (is_well_formed peers packet) (hears p packet) (still p) (λ t. heard p packet seen (subst (λ to. BodySeen g owner n packet.from to packet.body) owed.0 owed.1)) (λ t. stays p seen)
+      by_test Goes (is_well_formed peers packet) (hears p packet) (still p)
+      (λ t. heard p packet seen (subst (λ to. BodySeen g owner n packet.from to packet.body) owed.0 owed.1)) (λ t. stays p seen)
   all_events peers p Tick seen owed = passed p seen
 
   taken_so : (peers : _) (p : Phase) (what : Do) → CleanerSeen g n p → CleanerOwed g owner n what → Goes (takes peers p what)
@@ -161,7 +167,8 @@ module _ (g : Setting) (owner : Asker) (other : g.log ≡ cleaner_log → ⊥) (
         next = w.next;
         runs = w.drop.runs;
         seen = w.seen;
-        sends = packets_all (PacketSeen g owner w.next) (EffectSeen g owner w.next TheCleaner) TheCleaner (λ to said does. does) outs (as_seen g owner w.next outs w.does);
+        sends = packets_all (PacketSeen g owner w.next) (EffectSeen g owner w.next TheCleaner) TheCleaner (λ to said does. does) outs
+            (as_seen g owner w.next outs w.does);
         drops = all_acts g owner w.next outs w.does;
         only = only_deleted g owner n w.next outs w.only;
         rest = w.drop.rest;

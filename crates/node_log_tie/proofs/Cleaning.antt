@@ -53,7 +53,8 @@ number_least (x ∷ xs) (suc k) = number_least xs k
 
 -- the horizon by which the job judges is no further than the least one
 pub least_within : (log : ℕ) (slots : List SlotNews) (least : ℕ) → least ≤ u32_end
-    → (fold (λ a (s : SlotNews). min a (horizon_at s log)) least slots ≤ least) × (fold (λ a (s : SlotNews). min a (horizon_at s log)) least slots ≤ scan.least_horizon log slots)
+    → (fold (λ a (s : SlotNews). min a (horizon_at s log)) least slots ≤ least)
+    × (fold (λ a (s : SlotNews). min a (horizon_at s log)) least slots ≤ scan.least_horizon log slots)
 least_within log [] least some = (omega arith, some)
 least_within log (s ∷ slots) least some =
     let rest = least_within log slots (min least (horizon_at s log)) (omega arith) in
@@ -66,7 +67,8 @@ least_within log (s ∷ slots) least some =
 
 module _ {K V : Type 0} (P : K × V → Type 0) where
   -- what holds of the new entry, and of an old one with another value, holds after it is put in
-  all_put : (cmp : K → K → Ordering) (es : List (K × V)) (k : K) (v : V) → P (k, v) → ((q : K) (w : V) → P (q, w) → P (q, v)) → AllByRecursion P es → AllByRecursion P (insert_entry cmp es k v)
+  all_put : (cmp : K → K → Ordering) (es : List (K × V)) (k : K) (v : V) → P (k, v) → ((q : K) (w : V) → P (q, w) → P (q, v)) → AllByRecursion P es
+      → AllByRecursion P (insert_entry cmp es k v)
   all_put cmp [] k v here keep all = (here, tt)
   all_put cmp (e ∷ es) k v here keep all =
       elim (cmp k e.0) as (λ (o : Ordering). AllByRecursion P (match_ordering o ((k, v) ∷ e ∷ es) ((e.0, v) ∷ es) (e ∷ insert_entry cmp es k v))) [
@@ -100,18 +102,21 @@ module _ (g : Setting) (n : Net) where
   next_seen (seg ∷ left) j all = record { phase = (all.1, all.0); outs = (tt, tt) }
 
   deleting_seen : (j : JobState) (seg : SegRef) → AllDrop g n j.left → DropOfLog g n seg.name → TurnSeen (deleting j seg)
-  deleting_seen j seg left may = record { phase = (left, may); outs = all_map OutDrops (λ (server : ℕ). out.Delete server seg.name) (λ server. may) (servers_of j.groups seg) }
+  deleting_seen j seg left may =
+      record { phase = (left, may); outs = all_map OutDrops (λ (server : ℕ). out.Delete server seg.name) (λ server. may) (servers_of j.groups seg) }
 
   asks_seen : (seg : SegRef) (checks : List Check) → AllByRecursion OutDrops (questions seg checks)
   asks_seen seg [] = tt
   asks_seen seg (c ∷ checks) =
-      by_test (λ (o : Option Out). AllByRecursion OutDrops (cons_option o (questions seg checks))) (is_awaited c.fate) (Some (out.Check c.block (place_in seg c.item))) None
+      by_test (λ (o : Option Out). AllByRecursion OutDrops (cons_option o (questions seg checks))) (is_awaited c.fate)
+      (Some (out.Check c.block (place_in seg c.item))) None
       (λ t. (tt, asks_seen seg checks)) (λ t. asks_seen seg checks)
 
   checking_seen : (j : JobState) (seg : SegRef) (checks : List Check) → AllDrop g n j.left → DropOfLog g n seg.name → TurnSeen (checking j seg checks)
   unfolding checking
   checking_seen j seg checks left may =
-      by_test TurnSeen (all_dead checks) (deleting j seg) (record { state = Checking j seg checks; outs = questions seg checks }) (λ t. deleting_seen j seg left may)
+      by_test TurnSeen (all_dead checks) (deleting j seg) (record { state = Checking j seg checks; outs = questions seg checks })
+      (λ t. deleting_seen j seg left may)
       (λ t. record { phase = (left, may); outs = asks_seen seg checks })
 
   read_seen : (read : Option Segment) (j : JobState) (seg : SegRef) → AllDrop g n j.left → DropOfLog g n seg.name → TurnSeen (on_read read j seg)
@@ -120,53 +125,65 @@ module _ (g : Setting) (n : Net) where
       by_test TurnSeen (same_name read.name seg.name) (checking j seg (checks_from 0 read.items)) (still (Reading j seg))
       (λ t. checking_seen j seg (checks_from 0 read.items) left may) (λ t. record { phase = (left, may); outs = tt })
 
-  looked_seen : (j : JobState) (seg : SegRef) (asked : Bool) (checks : List Check) → AllDrop g n j.left → DropOfLog g n seg.name → TurnSeen (looked_at j seg asked checks)
+  looked_seen : (j : JobState) (seg : SegRef) (asked : Bool) (checks : List Check) → AllDrop g n j.left → DropOfLog g n seg.name
+      → TurnSeen (looked_at j seg asked checks)
   unfolding looked_at
   looked_seen j seg asked checks left may =
       by_test TurnSeen (all_dead checks) (deleting j seg) _ (λ t. deleting_seen j seg left may)
-      (λ t. by_test TurnSeen (asked && not (any_asked checks)) (record { state = Checking j seg checks; outs = out.Move (moves checks) ∷ [] }) (still (Checking j seg checks))
+      (λ t. by_test TurnSeen (asked && not (any_asked checks)) (record { state = Checking j seg checks; outs = out.Move (moves checks) ∷ [] })
+      (still (Checking j seg checks))
       (λ k. record { phase = (left, may); outs = (tt, tt) }) (λ k. record { phase = (left, may); outs = tt }))
 
   moved_seen : (j : JobState) (seg : SegRef) (checks : List Check) → AllDrop g n j.left → DropOfLog g n seg.name → TurnSeen (on_moved j seg checks)
   moved_seen j seg checks left may =
-      by_test TurnSeen (is_moving checks) (record { state = Checking j seg (map moved_at checks); outs = questions seg (map moved_at checks) }) (still (Checking j seg checks))
+      by_test TurnSeen (is_moving checks) (record { state = Checking j seg (map moved_at checks); outs = questions seg (map moved_at checks) })
+      (still (Checking j seg checks))
       (λ t. record { phase = (left, may); outs = asks_seen seg (map moved_at checks) }) (λ t. record { phase = (left, may); outs = tt })
 
-  deleted_seen : (server : ℕ) (name : SegName) (j : JobState) (seg : SegRef) (servers : List ℕ) → AllDrop g n j.left → DropOfLog g n seg.name → TurnSeen (on_deleted server name j seg servers)
+  deleted_seen : (server : ℕ) (name : SegName) (j : JobState) (seg : SegRef) (servers : List ℕ) → AllDrop g n j.left → DropOfLog g n seg.name
+      → TurnSeen (on_deleted server name j seg servers)
   deleted_seen server name j seg servers left may =
       by_test TurnSeen (same_name name seg.name && is_among servers server) (left_to_delete j seg (without servers server)) (still (Deleting j seg servers))
-      (λ t. by_test TurnSeen (length (without servers server) == 0) (next (counted j)) (still (Deleting j seg (without servers server))) (λ k. next_seen j.left (counted j) left)
+      (λ t. by_test TurnSeen (length (without servers server) == 0) (next (counted j)) (still (Deleting j seg (without servers server)))
+      (λ k. next_seen j.left (counted j) left)
       (λ k. record { phase = (left, may); outs = tt }))
       (λ t. record { phase = (left, may); outs = tt })
 
   -- ---- the choice
 
-  candidate_seen : (slots : List SlotNews) → least_horizon slots g.log.0 ≤ n.low → (meta : FragMeta) → ListedOfLog g n meta → is_candidate slots meta.name ≡ true → DropOfLog g n meta.name
+  candidate_seen : (slots : List SlotNews) → least_horizon slots g.log.0 ≤ n.low → (meta : FragMeta) → ListedOfLog g n meta
+      → is_candidate slots meta.name ≡ true → DropOfLog g n meta.name
   candidate_seen slots low meta was is own =
       let at = was own in
       let log : meta.name.log.0 ≡ g.log.0 = equal meta.name.log.0 g.log.0 own in
-      let less : nat_lt meta.name.seq (least_horizon slots meta.name.log.0) ≡ true = and_second (is_cleaned meta.name.log.0) (nat_lt meta.name.seq (least_horizon slots meta.name.log.0)) is in
+      let less : nat_lt meta.name.seq (least_horizon slots meta.name.log.0) ≡ true =
+      and_second (is_cleaned meta.name.log.0) (nat_lt meta.name.seq (least_horizon slots meta.name.log.0)) is in
       let below : meta.name.seq < least_horizon slots meta.name.log.0 = grind (arith, nat_tests) in
       let same = ap (λ k. least_horizon slots k) log in
       let one : is_cleaned meta.name.log.0 ≡ true = and_first (is_cleaned meta.name.log.0) (nat_lt meta.name.seq (least_horizon slots meta.name.log.0)) is in
       let some : meta.name.log.0 ≤ 9 = grind (arith, nat_tests) in
       record { lists = at.lists; sent = at.sent; meta = meta; among = at.among; named = refl; below = omega arith; cleaned = some }
 
-  one_candidate : (slots : List SlotNews) → least_horizon slots g.log.0 ≤ n.low → (entries : List (SegName × ℕ)) (meta : FragMeta) → ListedOfLog g n meta → Candidates g n entries
+  one_candidate : (slots : List SlotNews) → least_horizon slots g.log.0 ≤ n.low → (entries : List (SegName × ℕ)) (meta : FragMeta) → ListedOfLog g n meta
+      → Candidates g n entries
       → Candidates g n (candidates_with_one slots entries meta)
   one_candidate slots low entries meta was all =
       by_test (Candidates g n) (is_candidate slots meta.name) (insert_entry seg_cmp entries meta.name meta.group) entries
-      (λ t. all_put (λ (e : SegName × ℕ). DropOfLog g n e.0) seg_cmp entries meta.name meta.group (candidate_seen slots low meta was t) (λ q w h. h) all) (λ t. all)
+      (λ t. all_put (λ (e : SegName × ℕ). DropOfLog g n e.0) seg_cmp entries meta.name meta.group (candidate_seen slots low meta was t) (λ q w h. h) all)
+      (λ t. all)
 
-  with_candidates : (slots : List SlotNews) → least_horizon slots g.log.0 ≤ n.low → (held : List FragMeta) (entries : List (SegName × ℕ)) → AllByRecursion (ListedOfLog g n) held
+  with_candidates : (slots : List SlotNews) → least_horizon slots g.log.0 ≤ n.low → (held : List FragMeta) (entries : List (SegName × ℕ))
+      → AllByRecursion (ListedOfLog g n) held
       → Candidates g n entries → Candidates g n (candidates_with slots held entries)
   with_candidates slots low [] entries was all = all
-  with_candidates slots low (m ∷ ms) entries was all = with_candidates slots low ms (candidates_with_one slots entries m) was.1 (one_candidate slots low entries m was.0 all)
+  with_candidates slots low (m ∷ ms) entries was all =
+      with_candidates slots low ms (candidates_with_one slots entries m) was.1 (one_candidate slots low entries m was.0 all)
 
   abbrev RankDrops : Rank × ℕ → Type 0
   RankDrops e = DropOfLog g n e.0.name
 
-  all_ranked : (usages : List (ℕ × List (SegName × ℕ))) (entries : List (SegName × ℕ)) (before : List (Rank × ℕ)) → Candidates g n entries → AllByRecursion RankDrops before
+  all_ranked : (usages : List (ℕ × List (SegName × ℕ))) (entries : List (SegName × ℕ)) (before : List (Rank × ℕ)) → Candidates g n entries
+      → AllByRecursion RankDrops before
       → AllByRecursion RankDrops (fold (ranked_with_one usages) before entries)
   all_ranked usages [] before all have = have
   all_ranked usages (e ∷ entries) before all have =
@@ -182,24 +199,28 @@ module _ (g : Setting) (n : Net) where
   counted_seen : (count : ℕ) (c : CountingState) → Candidates g n c.candidates → TurnSeen (cleaning.counted count c)
   counted_seen count c all =
       by_test TurnSeen (is_counted c.usages) (next (record { groups = c.groups; left = chosen count c; deleted = 0 })) (still (Counting c))
-      (λ t. next_seen (chosen count c) (record { groups = c.groups; left = chosen count c; deleted = 0 }) (all_chosen count c all)) (λ t. record { phase = all; outs = tt })
+      (λ t. next_seen (chosen count c) (record { groups = c.groups; left = chosen count c; deleted = 0 }) (all_chosen count c all))
+      (λ t. record { phase = all; outs = tt })
 
   asked_usage : (slots : List ℕ) → AllByRecursion OutDrops (usage_asks slots)
   asked_usage slots = all_map OutDrops (λ (slot : ℕ). out.UsageAsk slot) (λ slot. tt) slots
 
   listed_turn : (l : ListingState) → JobPhaseSeen g n (Listing l) → TurnSeen (listed l)
   listed_turn l seen =
-      by_test TurnSeen (length l.awaited == 0) (record { state = Counting (record { groups = l.groups; candidates = l.candidates; usages = [] }); outs = usage_asks all_slots }) (still (Listing l))
+      by_test TurnSeen (length l.awaited == 0)
+      (record { state = Counting (record { groups = l.groups; candidates = l.candidates; usages = [] }); outs = usage_asks all_slots }) (still (Listing l))
       (λ t. record { phase = seen.1; outs = asked_usage all_slots }) (λ t. record { phase = seen; outs = tt })
 
-  list_turn : (server : ℕ) (held : List FragMeta) (l : ListingState) → JobPhaseSeen g n (Listing l) → AllByRecursion (ListedOfLog g n) held → TurnSeen (on_list server held l)
+  list_turn : (server : ℕ) (held : List FragMeta) (l : ListingState) → JobPhaseSeen g n (Listing l) → AllByRecursion (ListedOfLog g n) held
+      → TurnSeen (on_list server held l)
   list_turn server held l seen was =
       by_test TurnSeen (is_among l.awaited server) (listed (heard l server held)) (still (Listing l))
       (λ t. listed_turn (heard l server held) (seen.0, with_candidates l.slots seen.0 held l.candidates was seen.1)) (λ t. record { phase = seen; outs = tt })
 
   -- ---- each input, by the phase
 
-  listed_phase : (server : ℕ) (held : List FragMeta) (p : Phase) → JobPhaseSeen g n p → AllByRecursion (ListedOfLog g n) held → TurnSeen (listed_in server held p)
+  listed_phase : (server : ℕ) (held : List FragMeta) (p : Phase) → JobPhaseSeen g n p → AllByRecursion (ListedOfLog g n) held
+      → TurnSeen (listed_in server held p)
   listed_phase server held (Listing l) seen was = list_turn server held l seen was
   listed_phase server held Greeting seen was = stands Greeting seen
   listed_phase server held (Counting c) seen was = stands (Counting c) seen
@@ -257,7 +278,8 @@ module _ (g : Setting) (n : Net) where
 
   forgotten_phase : (slot : ℕ) (p : Phase) → JobPhaseSeen g n p → TurnSeen (forgetting slot p)
   forgotten_phase slot (Counting c) seen =
-      by_test TurnSeen (has_usage c.usages slot) (record { state = Counting (forgotten slot c); outs = out.UsageAsk slot ∷ [] }) (still (Counting c)) (λ t. record { phase = seen; outs = (tt, tt) })
+      by_test TurnSeen (has_usage c.usages slot) (record { state = Counting (forgotten slot c); outs = out.UsageAsk slot ∷ [] }) (still (Counting c))
+      (λ t. record { phase = seen; outs = (tt, tt) })
       (λ t. stands (Counting c) seen)
   forgotten_phase slot Greeting seen = stands Greeting seen
   forgotten_phase slot (Listing l) seen = stands (Listing l) seen
@@ -302,7 +324,8 @@ module _ (g : Setting) (n : Net) where
   CleaningSent (input.Listed server held) = AllByRecursion (ListedOfLog g n) held
   CleaningSent _ = Unit {0}
 
-  welcome_on : (s : CleaningState) (slots : List SlotNews) (groups : GroupMapState) → JobPhaseSeen g n s.phase → scan.least_horizon g.log.0 slots ≤ n.low → CleanOn (on_welcome s slots groups)
+  welcome_on : (s : CleaningState) (slots : List SlotNews) (groups : GroupMapState) → JobPhaseSeen g n s.phase → scan.least_horizon g.log.0 slots ≤ n.low
+      → CleanOn (on_welcome s slots groups)
   unfolding on_welcome
   welcome_on s slots groups seen low =
       by_test CleanOn (is_greeting s.phase && (length slots == 8)) (welcomed s slots groups) (still s)
@@ -316,8 +339,10 @@ module _ (g : Setting) (n : Net) where
   unfolding on_promise on_usage on_live on_dead
   cleaning_takes s (input.Welcome slots groups) seen sent = welcome_on s slots groups seen sent
   cleaning_takes s (input.Promise slot epoch) seen sent =
-      by_test CleanOn (is_above s.promised slot epoch) (turned (record s { promised = promised_with s.promised slot epoch }) (forgetting slot s.phase)) (still s)
-      (λ t. on_turn (record s { promised = promised_with s.promised slot epoch }) (forgetting slot s.phase) (forgotten_phase slot s.phase seen)) (λ t. as_was s seen)
+      by_test CleanOn (is_above s.promised slot epoch) (turned (record s { promised = promised_with s.promised slot epoch }) (forgetting slot s.phase))
+      (still s)
+      (λ t. on_turn (record s { promised = promised_with s.promised slot epoch }) (forgetting slot s.phase) (forgotten_phase slot s.phase seen))
+      (λ t. as_was s seen)
   cleaning_takes s (input.Maps groups) seen sent = record { phase = mapped_phase groups s.phase seen; outs = tt }
   cleaning_takes s (input.Listed server held) seen sent = on_turn s (listed_in server held s.phase) (listed_phase server held s.phase seen sent)
   cleaning_takes s (input.Usage slot epoch counts) seen sent =

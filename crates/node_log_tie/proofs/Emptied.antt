@@ -41,13 +41,24 @@ use Rattle.node_log_tie.proofs.Sights.{seen_later}
 
 module _ (g : Setting) (n next : Net) (later : Later n next) where
   pub drop_later : (name : SegName) → DropOfLog g n name → DropOfLog g next name
-  drop_later name h own = let m = h own in record { lists = m.lists; sent = later.sent _ m.sent; meta = m.meta; among = m.among; named = m.named; below = (let a = m.below in let b = later.low in omega arith); cleaned = m.cleaned }
+  drop_later name h own = let m =
+      h own in record {
+        lists = m.lists;
+        sent = later.sent _ m.sent;
+        meta = m.meta;
+        among = m.among;
+        named = m.named;
+        below = (let a = m.below in let b = later.low in omega arith);
+        cleaned = m.cleaned;
+      }
 
   all_drop_later : (segs : List SegRef) → AllDrop g n segs → AllDrop g next segs
-  all_drop_later segs all = all_weaker (λ (seg : SegRef). DropOfLog g n seg.name) (λ (seg : SegRef). DropOfLog g next seg.name) (λ seg. drop_later seg.name) segs all
+  all_drop_later segs all =
+      all_weaker (λ (seg : SegRef). DropOfLog g n seg.name) (λ (seg : SegRef). DropOfLog g next seg.name) (λ seg. drop_later seg.name) segs all
 
   candidates_later : (entries : List (SegName × ℕ)) → Candidates g n entries → Candidates g next entries
-  candidates_later entries all = all_weaker (λ (e : SegName × ℕ). DropOfLog g n e.0) (λ (e : SegName × ℕ). DropOfLog g next e.0) (λ e. drop_later e.0) entries all
+  candidates_later entries all =
+      all_weaker (λ (e : SegName × ℕ). DropOfLog g n e.0) (λ (e : SegName × ℕ). DropOfLog g next e.0) (λ e. drop_later e.0) entries all
 
   phase_later : (p : Phase) → JobPhaseSeen g n p → JobPhaseSeen g next p
   phase_later Greeting h = tt
@@ -101,7 +112,13 @@ module _ (g : Setting) (owner : Asker) where
   no_drop n = record { runs = Begun; dropped = λ name is. is; rest = refl; none = λ high. refl }
 
   pub then_drop : (n m o : Net) → Dropping n m → Dropping m o → Dropping n o
-  then_drop n m o a b = record { runs = runs_on g n m o a.runs b.runs; dropped = λ name is. b.dropped name (a.dropped name is); rest = b.rest ∙ a.rest; none = λ high. b.none high ∙ a.none high }
+  then_drop n m o a b =
+      record {
+        runs = runs_on g n m o a.runs b.runs;
+        dropped = λ name is. b.dropped name (a.dropped name is);
+        rest = b.rest ∙ a.rest;
+        none = λ high. b.none high ∙ a.none high;
+      }
 
   acted_later : (n next : Net) → Dropping n next → (a : Act) → DropActed g n a → DropActed g next a
   acted_later n next d (act.Dropped seg) h = λ own. d.dropped seg (h own)
@@ -124,7 +141,8 @@ module _ (g : Setting) (owner : Asker) where
     pub does : AllByRecursion (CleanerDoes next) d.outs
     pub only : OnlyOrdered n next d.outs
 
-  pub at_once : (n : Net) (e : Emptying) (outs : List Effect) → EmptyingSeen g n e → AllByRecursion (CleanerDoes n) outs → Emptied n (record { state = e; outs = outs })
+  pub at_once : (n : Net) (e : Emptying) (outs : List Effect) → EmptyingSeen g n e → AllByRecursion (CleanerDoes n) outs
+      → Emptied n (record { state = e; outs = outs })
   at_once n e outs seen does = record { next = n; drop = no_drop n; seen = seen; does = does; only = λ name is. inl is }
 
   pub stays : (n : Net) (e : Emptying) → EmptyingSeen g n e → Emptied n (still e)
@@ -177,7 +195,8 @@ module _ (g : Setting) (owner : Asker) where
   one_act n (Does a) h = All-cons (DropActed g n) a [] h (All-nil (DropActed g n))
 
   -- what is ordered is sent
-  in_packets : (outs : List Effect) (to : NodeId) (said : Body) → In (Send to said) outs → In (record { from = Cleaner; to = to; clock = 0; body = said }) (packets_of Cleaner outs)
+  in_packets : (outs : List Effect) (to : NodeId) (said : Body) → In (Send to said) outs
+      → In (record { from = Cleaner; to = to; clock = 0; body = said }) (packets_of Cleaner outs)
   in_packets [] to said is = absurd is
   in_packets (e ∷ outs) to said (inl same) =
       subst (λ x. In (record { from = Cleaner; to = to; clock = 0; body = said }) (packet_of Cleaner x ++ packets_of Cleaner outs)) same (inl refl)
@@ -185,7 +204,8 @@ module _ (g : Setting) (owner : Asker) where
 
   pub only_deleted : (n next : Net) (outs : List Effect) → OnlyOrdered n next outs → OnlyDeleted n next (packets_of Cleaner outs)
   only_deleted n next outs only name is =
-      ⊎_elim (λ was. inl was) (λ (ordered : Orders name outs). inr (_, in_packets outs ordered.0 (body.Delete (record { name = name })) ordered.1, refl)) (only name is)
+      ⊎_elim (λ was. inl was) (λ (ordered : Orders name outs). inr (_, in_packets outs ordered.0 (body.Delete (record { name = name })) ordered.1, refl))
+      (only name is)
 
   pub all_acts : (n : Net) (outs : List Effect) → AllByRecursion (CleanerDoes n) outs → All (DropActed g n) (acts_of Cleaner outs)
   all_acts n [] all = All-nil (DropActed g n)

@@ -57,7 +57,8 @@ module _ (s : ShelfState) where
   kept_no_lower f = by_test (NoLower s) (is_held s f.meta.name) s _ (λ t. omega arith) (λ t. omega arith)
 
   pub fence_no_lower : (log : LogId) (pass : Pass) → s.generation ≤ (on_fence s log pass).generation
-  fence_no_lower log pass = by_test (λ (t : ShelfState). s.generation ≤ t.generation) (is_greater (pass_cmp pass (fence_of s.fences log))) _ s (λ t. omega arith) (λ t. omega arith)
+  fence_no_lower log pass =
+      by_test (λ (t : ShelfState). s.generation ≤ t.generation) (is_greater (pass_cmp pass (fence_of s.fences log))) _ s (λ t. omega arith) (λ t. omega arith)
 
   deed_no_lower : (g : Setting) (n : Net) (v : ℕ) (deed : Deed) → (n.shelves v ≡ s) → CameToServer g n v deed → NoLower s (shelf_after g s deed)
   unfolding NoLower
@@ -85,14 +86,16 @@ module _ (g : Setting) (n : Net) where
   serves_later v deed came = record {
     low = omega arith;
     sent = λ p is. in_after (answers g v (n.shelves v) deed) n.sent p is;
-    reached = put_each (λ (u : ℕ) (t : ShelfState). (n.shelves u).generation ≤ t.generation) n.shelves v _ (deed_no_lower (n.shelves v) g n v deed refl came) (λ u. omega arith);
+    reached = put_each (λ (u : ℕ) (t : ShelfState). (n.shelves u).generation ≤ t.generation) n.shelves v _ (deed_no_lower (n.shelves v) g n v deed refl came)
+        (λ u. omega arith);
   }
 
   bars_later : (v : ℕ) (log : LogId) (pass : Pass) → Later n (record n { shelves = put n.shelves v (on_fence (n.shelves v) log pass) })
   bars_later v log pass = record {
     low = omega arith;
     sent = λ p is. is;
-    reached = put_each (λ (u : ℕ) (t : ShelfState). (n.shelves u).generation ≤ t.generation) n.shelves v _ (fence_no_lower (n.shelves v) log pass) (λ u. omega arith);
+    reached = put_each (λ (u : ℕ) (t : ShelfState). (n.shelves u).generation ≤ t.generation) n.shelves v _ (fence_no_lower (n.shelves v) log pass)
+        (λ u. omega arith);
   }
 
   flight_later : (chain : List Segment) (d : log.Done) (f : Option FlightState) → Later n (after_flight g n chain d f)
@@ -111,7 +114,8 @@ module _ (g : Setting) (n : Net) where
 pub happened_later : (g : Setting) (n o : Net) → Happens g n o → Later n o
 happened_later g n o (Acts s i serves came text) = says_more g n _ (log_packets (log.transition s i).outs) refl refl (omega arith)
 happened_later g n o (Writes chain s i writes came text) = flight_later g n chain (log.transition s i) (log.transition s i).state.flight
-happened_later g n o (Opens s i opens came can) = told_later g n s (scan.transition s i) (chain_in (scan.transition s i).outs) (scan.transition s i).state.opening.groups
+happened_later g n o (Opens s i opens came can) =
+    told_later g n s (scan.transition s i) (chain_in (scan.transition s i).outs) (scan.transition s i).state.opening.groups
 happened_later g n o Crashes = says_more g n _ [] refl refl (omega arith)
 happened_later g n o (Restarts down) = says_more g n _ [] refl refl (omega arith)
 happened_later g n o (Renews m high doubts down came) = says_more g n _ [] refl refl (omega arith)

@@ -21,7 +21,8 @@ HasHorizons b = (slot : ℕ) → slot < 8 → length (horizon_at b.checkpoints s
 
 -- ---- a checkpoint that is kept
 
-set_nine : (cs : List Checkpoint) (at slot : ℕ) (c : Checkpoint) → length c.horizon ≡ 9 → length (horizon_at cs slot) ≡ 9 → length (horizon_at (slice_set cs at c) slot) ≡ 9
+set_nine : (cs : List Checkpoint) (at slot : ℕ) (c : Checkpoint) → length c.horizon ≡ 9 → length (horizon_at cs slot) ≡ 9
+    → length (horizon_at (slice_set cs at c) slot) ≡ 9
 set_nine [] at slot c new old = old
 set_nine (x ∷ xs) zero zero c new old = new
 set_nine (x ∷ xs) zero (suc slot) c new old = old
@@ -33,7 +34,8 @@ covered_nine [] slot horizon h = contrary h
 covered_nine (c ∷ cs) zero horizon h = equal (length horizon) 9 (and_first (length horizon == 9) (none_lower c.horizon horizon) h)
 covered_nine (c ∷ cs) (suc slot) horizon h = covered_nine cs slot horizon h
 
-pub kept_nine : (cs : List Checkpoint) (at : ℕ) (c : Checkpoint) → covers_kept cs at c.horizon ≡ true → ((slot : ℕ) → slot < 8 → length (horizon_at cs slot) ≡ 9)
+pub kept_nine : (cs : List Checkpoint) (at : ℕ) (c : Checkpoint) → covers_kept cs at c.horizon ≡ true
+    → ((slot : ℕ) → slot < 8 → length (horizon_at cs slot) ≡ 9)
     → (slot : ℕ) → slot < 8 → length (horizon_at (slice_set cs at c) slot) ≡ 9
 kept_nine cs at c covers old slot below = set_nine cs at slot c (covered_nine cs at c.horizon covers) (old slot below)
 
@@ -54,7 +56,8 @@ module _ (log : ℕ) (some : log ≤ 9) (b c : BoardState) (old : HasHorizons b)
       let r = rises slot (log - 1) k in
       omega arith
 
-  all_rise : (slots : List ℕ) → AllByRecursion (λ (slot : ℕ). slot < 8) slots → least_horizon log (map (slot_news b) slots) ≤ least_horizon log (map (slot_news c) slots)
+  all_rise : (slots : List ℕ) → AllByRecursion (λ (slot : ℕ). slot < 8) slots
+      → least_horizon log (map (slot_news b) slots) ≤ least_horizon log (map (slot_news c) slots)
   all_rise [] below = omega arith
   all_rise (slot ∷ slots) below = (let first = one_rises slot below.0 in let rest = all_rise slots below.1 in omega arith)
 

@@ -51,7 +51,8 @@ in_filter p x (y ∷ xs) (inr later) t =
 
 module _ {K V : Type 0} (P : K × V → Type 0) where
   -- what holds of an entry under any key holds where it is put in
-  pub all_insert : (cmp : K → K → Ordering) (es : List (K × V)) (k : K) (v : V) → ((q : K) → P (q, v)) → AllByRecursion P es → AllByRecursion P (insert_entry cmp es k v)
+  pub all_insert : (cmp : K → K → Ordering) (es : List (K × V)) (k : K) (v : V) → ((q : K) → P (q, v)) → AllByRecursion P es
+      → AllByRecursion P (insert_entry cmp es k v)
   all_insert cmp [] k v here all = (here k, tt)
   all_insert cmp (e ∷ es) k v here all =
       elim (cmp k e.0) as (λ (o : Ordering). AllByRecursion P (match_ordering o ((k, v) ∷ e ∷ es) ((e.0, v) ∷ es) (e ∷ insert_entry cmp es k v))) [
@@ -68,7 +69,8 @@ module _ {K V : Type 0} (P : K × V → Type 0) where
 -- ---- steps
 
 -- an answer is no packet
-pub answers_send : (P : Effect → Type 0) → ((item : ℕ) (answer : Answered) → P (Answer item answer)) → (item : Option ℕ) (answer : Answered) → AllByRecursion P (answers_unanswered item answer)
+pub answers_send : (P : Effect → Type 0) → ((item : ℕ) (answer : Answered) → P (Answer item answer)) → (item : Option ℕ) (answer : Answered)
+    → AllByRecursion P (answers_unanswered item answer)
 answers_send P each None answer = tt
 answers_send P each (Some number) answer = (each number answer, tt)
 

@@ -77,7 +77,8 @@ module _ (log : LogId) where
 
   own_seal : (s : LogState) → IsOfLog log s → OwnDone (on_seal s)
   unfolding on_seal
-  own_seal s h = by_test OwnDone (is_idle s && nat_lt 0 (length s.dirty) && has_next s.end.seq) (sealed s) (still s) (λ e. own_sealed s h.log) (λ e. own_still s h)
+  own_seal s h =
+      by_test OwnDone (is_idle s && nat_lt 0 (length s.dirty) && has_next s.end.seq) (sealed s) (still s) (λ e. own_sealed s h.log) (λ e. own_still s h)
 
   own_parts : (s : LogState) (items : List Item) → IsOfLog log s → OwnDone (on_parts s items)
   unfolding on_parts
@@ -100,9 +101,12 @@ module _ (log : LogId) where
   own_acked : (s : LogState) (name : SegName) (index generation : ℕ) → IsOfLog log s → OwnDone (on_acked s name index generation)
   unfolding on_acked
   own_acked s name index generation h =
-      elim s.flight as (λ o. IfSome o (λ f. f.segment.name.log ≡ log) → OwnDone (elim o [ None ↦ still s | Some f ↦ cond (is_of f name index generation) (looked_at s s (noting f index)) (still s) ])) [
+      elim s.flight as
+      (λ o. IfSome o (λ f. f.segment.name.log ≡ log)
+      → OwnDone (elim o [ None ↦ still s | Some f ↦ cond (is_of f name index generation) (looked_at s s (noting f index)) (still s) ])) [
         | None ↦ λ e. own_still s h
-        | Some f ↦ λ e. by_test OwnDone (is_of f name index generation) (looked_at s s (noting f index)) (still s) (λ t. own_looked s s (noting f index) h h.log e) (λ t. own_still s h)
+        | Some f ↦ λ e. by_test OwnDone (is_of f name index generation) (looked_at s s (noting f index)) (still s)
+            (λ t. own_looked s s (noting f index) h h.log e) (λ t. own_still s h)
       ] h.flight
 
   own_maps : (s : LogState) (groups : GroupMapState) → IsOfLog log s → OwnDone (on_maps s groups)

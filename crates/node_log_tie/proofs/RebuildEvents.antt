@@ -49,7 +49,8 @@ module _ (g : Setting) (n : Net) where
   EntryListed e = ListedOfLog g n e.1
 
   -- what a server lists that it holds, was listed
-  listed_of : (held part : List FragMeta) → In (ListedSent (filter (λ (m : FragMeta). is_of_log g m.name) held)) n.sent → ((m : FragMeta) → In m part → In m held)
+  listed_of : (held part : List FragMeta) → In (ListedSent (filter (λ (m : FragMeta). is_of_log g m.name) held)) n.sent
+      → ((m : FragMeta) → In m part → In m held)
       → AllByRecursion (ListedOfLog g n) part
   listed_of held [] sent within = tt
   listed_of held (m ∷ ms) sent within = (
@@ -66,7 +67,8 @@ module _ (g : Setting) (n : Net) where
 
   -- ---- the table of what is listed
 
-  with_listed : (metas : List FragMeta) (es : List Entry) → AllByRecursion (ListedOfLog g n) metas → AllByRecursion EntryListed es → AllByRecursion EntryListed (listed_with metas es)
+  with_listed : (metas : List FragMeta) (es : List Entry) → AllByRecursion (ListedOfLog g n) metas → AllByRecursion EntryListed es
+      → AllByRecursion EntryListed (listed_with metas es)
   with_listed [] es metas all = all
   with_listed (m ∷ ms) es metas all = with_listed ms (insert_entry seg_cmp es m.name m) metas.1 (all_insert EntryListed seg_cmp es m.name m (λ q. metas.0) all)
 
@@ -88,15 +90,18 @@ module _ (g : Setting) (n : Net) where
     begun_seen s barred seen =
         let table = without_barred barred s.listed seen.listed in
         let metas = values_of (without barred s.listed) in
-        let wanted = subst (λ (server : ℕ). AllByRecursion (WantedSeen g n v) (wanted_in server s.groups metas)) (sym seen.server) (all_wanted g n v s.groups metas seen.groups (values_listed (without barred s.listed) table)) in
-        let on : ReadOn g n v (go_on (wanted_in s.server s.groups metas) (at_first (wanted_in s.server s.groups metas))) = goes_on_seen g n v (wanted_in s.server s.groups metas) (at_first (wanted_in s.server s.groups metas)) wanted in
+        let wanted = subst (λ (server : ℕ). AllByRecursion (WantedSeen g n v) (wanted_in server s.groups metas)) (sym seen.server)
+        (all_wanted g n v s.groups metas seen.groups (values_listed (without barred s.listed) table)) in
+        let on : ReadOn g n v (go_on (wanted_in s.server s.groups metas) (at_first (wanted_in s.server s.groups metas))) =
+        goes_on_seen g n v (wanted_in s.server s.groups metas) (at_first (wanted_in s.server s.groups metas)) wanted in
         record { rebuild = record { server = seen.server; groups = seen.groups; listed = table; reads = on.reads }; outs = on.outs }
 
     listed_seen : (s : RebuildState) (server : ℕ) (metas : List FragMeta) (barred : List SegName) → RebuildSeen g n v s → AllByRecursion (ListedOfLog g n) metas
         → RebuildOn (on_listed s server metas barred)
     unfolding on_listed
     listed_seen s server metas barred seen all =
-        by_test RebuildOn (is_some s.reads || not (awaits s server)) (still s) (begun_if_all (heard_from s server metas) barred) (λ t. record { rebuild = seen; outs = tt })
+        by_test RebuildOn (is_some s.reads || not (awaits s server)) (still s) (begun_if_all (heard_from s server metas) barred)
+        (λ t. record { rebuild = seen; outs = tt })
         (λ t. heard (record { server = seen.server; groups = seen.groups; listed = with_listed metas s.listed all seen.listed; reads = seen.reads }))
       where
         heard : RebuildSeen g n v (heard_from s server metas) → RebuildOn (begun_if_all (heard_from s server metas) barred)
@@ -104,7 +109,8 @@ module _ (g : Setting) (n : Net) where
             by_test RebuildOn (length (awaited (heard_from s server metas)) == 0) (begun (heard_from s server metas) barred) (still (heard_from s server metas))
             (λ t. begun_seen (heard_from s server metas) barred next) (λ t. record { rebuild = next; outs = tt })
 
-    told_seen : (s : RebuildState) (r : Option ReadsState) (ask server : ℕ) (told : Told) → RebuildSeen g n v s → IfSome r (ReadsSeen g n v) → TellsSent g n v told
+    told_seen : (s : RebuildState) (r : Option ReadsState) (ask server : ℕ) (told : Told) → RebuildSeen g n v s → IfSome r (ReadsSeen g n v)
+        → TellsSent g n v told
         → RebuildOn (told_by s r ask server told)
     told_seen s None ask server told seen reads sent = record { rebuild = seen; outs = tt }
     told_seen s (Some r) ask server told seen reads sent =
@@ -131,5 +137,6 @@ module _ (g : Setting) (n : Net) where
     rebuild_takes s (input.Listed server metas barred) seen sent = listed_seen s server metas barred seen sent
     rebuild_takes s (input.Got ask server generation f) seen sent = told_seen s s.reads ask server (Held f) seen seen.reads sent
     rebuild_takes s (input.Missing ask server generation) seen sent = told_seen s s.reads ask server (Missing generation) seen seen.reads tt
-    rebuild_takes s (input.Maps groups) seen sent = record { rebuild = record { server = seen.server; groups = sent; listed = seen.listed; reads = seen.reads }; outs = tt }
+    rebuild_takes s (input.Maps groups) seen sent =
+        record { rebuild = record { server = seen.server; groups = sent; listed = seen.listed; reads = seen.reads }; outs = tt }
     rebuild_takes s input.Tick seen sent = record { rebuild = seen; outs = repeated_seen s s.reads }

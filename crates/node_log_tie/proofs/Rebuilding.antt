@@ -94,10 +94,12 @@ module _ (g : Setting) (n next : Net) (later : Later n next) where
 -- ---- what is wanted
 
 module _ (g : Setting) (n : Net) (v : ℕ) where
-  at_place : (members : List Member) (place : ℕ) → position (λ (m : Member). m.server == v) members ≡ Some place → (place < length members) × (server_of members place ≡ v)
+  at_place : (members : List Member) (place : ℕ) → position (λ (m : Member). m.server == v) members ≡ Some place
+      → (place < length members) × (server_of members place ≡ v)
   at_place members place is = let p = position-Some (λ (m : Member). m.server == v) members place no_member is in (p.0, equal _ v p.1)
 
-  wanted_at : (group : Group) (meta : FragMeta) (place : Option ℕ) → g.stripe meta.group ≡ stripe_of_group group → IsCut (length group.members) group.parity → ListedOfLog g n meta
+  wanted_at : (group : Group) (meta : FragMeta) (place : Option ℕ) → g.stripe meta.group ≡ stripe_of_group group → IsCut (length group.members) group.parity
+      → ListedOfLog g n meta
       → position (λ (m : Member). m.server == v) group.members ≡ place → IfSome (in_group v group meta place) (WantedSeen g n v)
   wanted_at group meta None named cut listed is = tt
   wanted_at group meta (Some place) named cut listed is =
@@ -111,20 +113,24 @@ module _ (g : Setting) (n : Net) (v : ℕ) where
         own = ap (λ (s : Stripe). server_of s.members place) named ∙ at.1;
       }
 
-  wanted_in_group : (groups : GroupMapState) (meta : FragMeta) (group : Option Group) → NamesStripes g groups → ListedOfLog g n meta → group_of groups meta.group ≡ group
+  wanted_in_group : (groups : GroupMapState) (meta : FragMeta) (group : Option Group) → NamesStripes g groups → ListedOfLog g n meta
+      → group_of groups meta.group ≡ group
       → IfSome (of_group v meta group) (WantedSeen g n v)
   wanted_in_group groups meta None maps listed is = tt
   wanted_in_group groups meta (Some group) maps listed is =
       wanted_at group meta (position (λ (m : Member). m.server == v) group.members) (maps.named meta.group group is) (maps.cut meta.group group is) listed refl
 
-  if_wanted : (o : Option Wanted) (rest : List Wanted) → IfSome o (WantedSeen g n v) → AllByRecursion (WantedSeen g n v) rest → AllByRecursion (WantedSeen g n v) (cons_option o rest)
+  if_wanted : (o : Option Wanted) (rest : List Wanted) → IfSome o (WantedSeen g n v) → AllByRecursion (WantedSeen g n v) rest
+      → AllByRecursion (WantedSeen g n v) (cons_option o rest)
   if_wanted None rest h all = all
   if_wanted (Some w) rest h all = (h, all)
 
-  pub all_wanted : (groups : GroupMapState) (metas : List FragMeta) → NamesStripes g groups → AllByRecursion (ListedOfLog g n) metas → AllByRecursion (WantedSeen g n v) (wanted_in v groups metas)
+  pub all_wanted : (groups : GroupMapState) (metas : List FragMeta) → NamesStripes g groups → AllByRecursion (ListedOfLog g n) metas
+      → AllByRecursion (WantedSeen g n v) (wanted_in v groups metas)
   all_wanted groups [] maps all = tt
   all_wanted groups (meta ∷ metas) maps all =
-      if_wanted (wanted_of v groups meta) (wanted_in v groups metas) (wanted_in_group groups meta (group_of groups meta.group) maps all.0 refl) (all_wanted groups metas maps all.1)
+      if_wanted (wanted_of v groups meta) (wanted_in v groups metas) (wanted_in_group groups meta (group_of groups meta.group) maps all.0 refl)
+      (all_wanted groups metas maps all.1)
 
   -- ---- what is said
 
@@ -177,7 +183,8 @@ module _ (g : Setting) (n : Net) (v : ℕ) where
           unwrap_or-slice_get (stripe_of text w.n w.parity) w.place []
           ∙ (at_or_none (stripe_of text w.n w.parity) w.place ∙ sym (λ i. fragment_at (stripe_of text (is i) (also i)) w.place))
 
-  filling : (w : Wanted) (r : RoundSoFar) (text : List ℕ) → WantedSeen g n v w → RoundSeen g n v w r → state_of r ≡ Read text → is_of_log g (refilled w text).meta.name ≡ true
+  filling : (w : Wanted) (r : RoundSoFar) (text : List ℕ) → WantedSeen g n v w → RoundSeen g n v w r → state_of r ≡ Read text
+      → is_of_log g (refilled w text).meta.name ≡ true
       → IsFilling g n v (refilled w text)
   unfolding refilled
   filling w r text wanted round read own =
@@ -202,13 +209,15 @@ module _ (g : Setting) (n : Net) (v : ℕ) where
 
   -- ---- an answer
 
-  judged_seen : (r : ReadsState) (w : Wanted) (round : RoundSoFar) (st : RoundState) → ReadsSeen g n v r → WantedSeen g n v w → RoundSeen g n v w round → state_of round ≡ st
+  judged_seen : (r : ReadsState) (w : Wanted) (round : RoundSoFar) (st : RoundState) → ReadsSeen g n v r → WantedSeen g n v w → RoundSeen g n v w round
+      → state_of round ≡ st
       → ReadOn (judged r w round st)
   judged_seen r w round (Read text) seen wanted rounds is =
       let more = goes_on_seen r.left (record r { filled = one_more r.filled }) seen.left in
       record { reads = more.reads; outs = (filling w round text wanted rounds is, more.outs) }
   judged_seen r w round (Short pairs) seen wanted rounds is = goes_on_seen r.left (record r { gone = one_more r.gone }) seen.left
-  judged_seen r w round Waiting seen wanted rounds is = record { reads = record { left = seen.left; present = record { wanted = wanted; round = rounds } }; outs = tt }
+  judged_seen r w round Waiting seen wanted rounds is =
+      record { reads = record { left = seen.left; present = record { wanted = wanted; round = rounds } }; outs = tt }
 
   -- what a server told was sent
   abbrev pub TellsSent : Told → Type 0
@@ -229,7 +238,8 @@ module _ (g : Setting) (n : Net) (v : ℕ) where
       → RoundSeen g n v w (taken r server told)
   unfolding taken
   taken_seen w r server told seen is fits sent =
-      by_test (RoundSeen g n v w) (has_answered r.answers server) r (record r { answers = r.answers ++ record { server = server; told = told } ∷ [] }) (λ t. seen)
+      by_test (RoundSeen g n v w) (has_answered r.answers server) r (record r { answers = r.answers ++ record { server = server; told = told } ∷ [] })
+      (λ t. seen)
       (λ t. record {
         is_round = pushed_is_round r server told seen.is_round fits;
         count = seen.count;
@@ -237,7 +247,8 @@ module _ (g : Setting) (n : Net) (v : ℕ) where
         came = λ own. came_too w.meta.name r.answers (record { server = server; told = told }) (seen.came own) (told_came w told is sent own);
       })
 
-  answered_seen : (r : ReadsState) (present : Option Present) (ask server : ℕ) (told : Told) → ReadsSeen g n v r → IfSome present (PresentSeen g n v) → TellsSent told
+  answered_seen : (r : ReadsState) (present : Option Present) (ask server : ℕ) (told : Told) → ReadsSeen g n v r → IfSome present (PresentSeen g n v)
+      → TellsSent told
       → ReadOn (answered r present ask server told)
   answered_seen r None ask server told seen present sent = record { reads = seen; outs = tt }
   answered_seen r (Some p) ask server told seen present sent =
@@ -246,7 +257,8 @@ module _ (g : Setting) (n : Net) (v : ℕ) where
       let fit = and_second (asks p.round server) (is_of p.wanted told && told_fits p.round told) (and_second (ask == r.ask) (counts p server told) t) in
       let is = and_first (is_of p.wanted told) (told_fits p.round told) fit in
       let fits = and_second (is_of p.wanted told) (told_fits p.round told) fit in
-      judged_seen r p.wanted (taken p.round server told) (state_of (taken p.round server told)) seen present.wanted (taken_seen p.wanted p.round server told present.round is fits sent) refl)
+      judged_seen r p.wanted (taken p.round server told) (state_of (taken p.round server told)) seen present.wanted
+      (taken_seen p.wanted p.round server told present.round is fits sent) refl)
       (λ t. record { reads = seen; outs = tt })
 
   pub answer_seen : (r : ReadsState) (ask server : ℕ) (told : Told) → ReadsSeen g n v r → TellsSent told → ReadOn (on_answer r ask server told)

@@ -79,11 +79,13 @@ module _ (g : Setting) (owner : Asker) (n : Net) where
   publishes m b seen runs = On runs (Publishes b.groups (whole_map b.groups seen.map g seen.size seen.named m.registry seen.known))
 
   all_told : (m : Net) (node : RegistryNode) → In (MapSent node.board.groups) m.sent → AllByRecursion (EffectSeen g owner m Registry) (tells_all node)
-  all_told m node sent = all_map (EffectSeen g owner m Registry) (λ (to : NodeId). Send to (body.MapNews (news_of node.board))) (λ to. sent) (others node.peers Registry)
+  all_told m node sent =
+      all_map (EffectSeen g owner m Registry) (λ (to : NodeId). Send to (body.MapNews (news_of node.board))) (λ to. sent) (others node.peers Registry)
 
   -- ---- a slot goes to a manager
 
-  one_moved : (m : Net) (node : RegistryNode) (number : ℕ) → In (MapSent node.board.groups) m.sent → (o : Out) → AllByRecursion (EffectSeen g owner m Registry) (moved node number o)
+  one_moved : (m : Net) (node : RegistryNode) (number : ℕ) → In (MapSent node.board.groups) m.sent → (o : Out)
+      → AllByRecursion (EffectSeen g owner m Registry) (moved node number o)
   one_moved m node number sent Changed = all_told m node sent
   one_moved m node number sent (Epoch epoch) = (tt, tt)
   one_moved m node number sent (Kept epoch) = tt
@@ -99,20 +101,23 @@ module _ (g : Setting) (owner : Asker) (n : Net) where
         runs = publishes b.next made.state b.seen b.runs;
         seen = resent b.next made.state (MapSent made.state.groups ∷ b.next.sent) b.seen;
         does =
-            all_flat_map (EffectSeen g owner (published b.next made.state) Registry) (moved to number) (one_moved (published b.next made.state) to number (inl refl))
+            all_flat_map (EffectSeen g owner (published b.next made.state) Registry) (moved to number)
+            (one_moved (published b.next made.state) to number (inl refl))
             made.outs;
         rest = b.rest;
       }
 
   -- ---- a node asks for the maps
 
-  one_changed : (m : Net) (node : RegistryNode) → In (MapSent node.board.groups) m.sent → (o : Out) → AllByRecursion (EffectSeen g owner m Registry) (changed node o)
+  one_changed : (m : Net) (node : RegistryNode) → In (MapSent node.board.groups) m.sent → (o : Out)
+      → AllByRecursion (EffectSeen g owner m Registry) (changed node o)
   one_changed m node sent Changed = all_told m node sent
   one_changed m node sent (Epoch epoch) = tt
   one_changed m node sent (Kept epoch) = tt
 
   -- a Welcome that the small world doesn't see, but for its map
-  told_plainly : (from : NodeId) (m : Hello) (at : Net) (node : RegistryNode) (outs : List Out) → RegistrySeen g at node.board → Runs g n at → all_but_known at ≡ all_but_known n
+  told_plainly : (from : NodeId) (m : Hello) (at : Net) (node : RegistryNode) (outs : List Out) → RegistrySeen g at node.board → Runs g n at
+      → all_but_known at ≡ all_but_known n
       → In (MapSent node.board.groups) at.sent → (from ≡ owner.node → AnsweredBy g owner at (welcome_of node m) (owner.asked m.ask))
       → Goes (record { state = node; outs = flat_map (changed node) outs ++ Send from (body.Welcome (welcome_of node m)) ∷ [] })
   told_plainly from m at node outs seen runs rest map own = record {
@@ -121,7 +126,8 @@ module _ (g : Setting) (owner : Asker) (n : Net) where
     seen = seen;
     does =
         all_append (EffectSeen g owner at Registry) (flat_map (changed node) outs) _
-        (all_flat_map (EffectSeen g owner at Registry) (changed node) (one_changed at node map) outs) (record { own = own; map = map; low = (let e = seen.low in omega arith) }, tt);
+        (all_flat_map (EffectSeen g owner at Registry) (changed node) (one_changed at node map) outs)
+        (record { own = own; map = map; low = (let e = seen.low in omega arith) }, tt);
     rest = rest;
   }
 
@@ -134,18 +140,28 @@ module _ (g : Setting) (owner : Asker) (n : Net) where
       let next : Net = record at { sent = p ∷ at.sent } in
       record {
         next = next;
-        runs = On runs (Welcomes m.inc own (all_news node.board) node.board.groups said (sym seen.low) (whole_map node.board.groups seen.map g seen.size seen.named at.registry seen.known));
+        runs = On runs
+            (Welcomes m.inc own (all_news node.board) node.board.groups said (sym seen.low)
+            (whole_map node.board.groups seen.map g seen.size seen.named at.registry seen.known));
         seen = resent at node.board (p ∷ at.sent) seen;
         does =
             all_append (EffectSeen g owner next Registry) (flat_map (changed node) outs) _
-            (all_flat_map (EffectSeen g owner next Registry) (changed node) (one_changed next node (inr map)) outs)
-            (record { own = λ same. subst (AnsweredBy g owner next (welcome_of node m)) (sym is) (inl refl); map = inr map; low = (let e = seen.low in omega arith) }, tt);
+            (all_flat_map (EffectSeen g owner next Registry) (changed node) (one_changed next node (inr map)) outs) (
+              record {
+                own = λ same. subst (AnsweredBy g owner next (welcome_of node m)) (sym is) (inl refl);
+                map = inr map;
+                low = (let e = seen.low in omega arith);
+              },
+              tt,
+            );
         rest = rest;
       }
 
   -- a Welcome, to the owner or to another
-  welcomed : (from : NodeId) (m : Hello) (at : Net) (node : RegistryNode) (outs : List Out) → RegistrySeen g at node.board → Runs g n at → all_but_known at ≡ all_but_known n
-      → In (MapSent node.board.groups) at.sent → (from ≡ owner.node → AskedBy g owner at m.inc (owner.asked m.ask)) → (from ≡ owner.node) ⊎ (from ≡ owner.node → ⊥)
+  welcomed : (from : NodeId) (m : Hello) (at : Net) (node : RegistryNode) (outs : List Out) → RegistrySeen g at node.board → Runs g n at
+      → all_but_known at ≡ all_but_known n
+      → In (MapSent node.board.groups) at.sent → (from ≡ owner.node → AskedBy g owner at m.inc (owner.asked m.ask))
+      → (from ≡ owner.node) ⊎ (from ≡ owner.node → ⊥)
       → Goes (record { state = node; outs = flat_map (changed node) outs ++ Send from (body.Welcome (welcome_of node m)) ∷ [] })
   welcomed from m at node outs seen runs rest map said (inl is) = by_question (owner.asked m.ask) refl (said is)
     where
@@ -156,15 +172,18 @@ module _ (g : Setting) (owner : Asker) (n : Net) where
       by_question (OfOpening own) e asked = told_opening from m at node outs own seen runs rest map e asked
   welcomed from m at node outs seen runs rest map said (inr other) = told_plainly from m at node outs seen runs rest map (λ same. absurd (other same))
 
-  hello_answered : (node : RegistryNode) → RegistrySeen g n node.board → (from : NodeId) (m : Hello) → HelloSeen g owner n from m → GoesIf (on_hello node from m)
+  hello_answered : (node : RegistryNode) → RegistrySeen g n node.board → (from : NodeId) (m : Hello) → HelloSeen g owner n from m
+      → GoesIf (on_hello node from m)
   unfolding on_hello
   hello_answered node before from m hello keeps =
       let made = transition node.board (input.Hello from m.inc) in
       let to : RegistryNode = record node { board = made.state } in
       let b : MadeSeen g owner n node.board before made.state = board_goes g owner n node.board before (input.Hello from m.inc) hello.reached keeps in
       let at : Net = published b.next made.state in
-      welcomed from m at to made.outs (resent b.next made.state (MapSent made.state.groups ∷ b.next.sent) b.seen) (publishes b.next made.state b.seen b.runs) b.rest (inl refl)
-      (λ is. asked_later g owner n at (run_later g n at (publishes b.next made.state b.seen b.runs)) m.inc (owner.asked m.ask) (hello.own is)) (same_or_other from owner.node)
+      welcomed from m at to made.outs (resent b.next made.state (MapSent made.state.groups ∷ b.next.sent) b.seen)
+      (publishes b.next made.state b.seen b.runs) b.rest (inl refl)
+      (λ is. asked_later g owner n at (run_later g n at (publishes b.next made.state b.seen b.runs)) m.inc (owner.asked m.ask) (hello.own is))
+      (same_or_other from owner.node)
 
   -- ---- a manager has written a checkpoint
 
@@ -208,7 +227,8 @@ module _ (g : Setting) (owner : Asker) (n : Net) where
   delivered : (r : RegistryNode) → RegistrySeen g n r.board → (packet : Packet) → PacketSeen g owner n packet → GoesIf (on_packet r packet)
   unfolding on_packet
   delivered r before packet sent =
-      by_test GoesIf (is_well_formed r.peers packet) (hears r packet.from packet.body) (still r) (λ t. heard r before packet.from packet.to packet.body sent) (λ t. stays r before)
+      by_test GoesIf (is_well_formed r.peers packet) (hears r packet.from packet.body) (still r) (λ t. heard r before packet.from packet.to packet.body sent)
+      (λ t. stays r before)
 
   ticks : (r : RegistryNode) → RegistrySeen g n r.board → GoesIf (record { state = r; outs = tells_all r })
   ticks r before keeps = record {
@@ -227,14 +247,16 @@ module _ (g : Setting) (owner : Asker) (n : Net) where
   taken_so : (r : RegistryNode) → RegistrySeen g n r.board → (what : Do) → Hears g owner n what → GoesIf (takes r what)
   taken_so r before what sent = by_test GoesIf (has_room r.board.version) (on_event r what) (still r) (λ t. happens r before what sent) (λ t. stays r before)
 
-  goes_on : (r : RegistryNode) (what : Do) → RegistrySeen g n r.board → Hears g owner n what → MayKeep g n (registry_step r what).node.board → RegistryGoes g owner n r what
+  goes_on : (r : RegistryNode) (what : Do) → RegistrySeen g n r.board → Hears g owner n what → MayKeep g n (registry_step r what).node.board
+      → RegistryGoes g owner n r what
   goes_on r what before sent keeps =
       let goes : Goes (takes r what) = taken_so r before what sent keeps in
       record {
         next = goes.next;
         runs = goes.runs;
         seen = goes.seen;
-        sends = packets_all (PacketSeen g owner goes.next) (EffectSeen g owner goes.next Registry) Registry (λ to said does. does) (takes r what).outs goes.does;
+        sends = packets_all (PacketSeen g owner goes.next) (EffectSeen g owner goes.next Registry) Registry (λ to said does. does)
+            (takes r what).outs goes.does;
         rest = goes.rest;
       }
 
@@ -242,7 +264,8 @@ pub registry_goes : RegistryEventGoes
 registry_goes g owner n r what some before sent keeps = goes_on g owner n r what before sent (record { named = keeps.named; filed = λ low. keeps.filed })
 
 pub registry_goes_above : RegistryGoesAbove
-registry_goes_above g owner n r what high before sent named = goes_on g owner n r what before sent (record { named = named; filed = λ low. absurd (omega arith) })
+registry_goes_above g owner n r what high before sent named =
+    goes_on g owner n r what before sent (record { named = named; filed = λ low. absurd (omega arith) })
 
 -- ---- the start
 
@@ -264,13 +287,17 @@ nine_at [] slot below all = absurd (let b = below in omega arith)
 nine_at (c ∷ cs) zero below all = all.0
 nine_at (c ∷ cs) (suc slot) below all = nine_at cs slot (omega arith) all.1
 
-pub registry_begins : (g : Setting) (n : Net) (setup : Setup) (items : List Work) → IsSetup setup → setup.servers ≡ g.servers → NamesGroups g (registry_start setup items).board.groups
+pub registry_begins : (g : Setting) (n : Net) (setup : Setup) (items : List Work) → IsSetup setup → setup.servers ≡ g.servers
+    → NamesGroups g (registry_start setup items).board.groups
     → ((v : ℕ) → n.registry v ≡ 1) → n.low ≡ 1 → RegistrySeen g n (registry_start setup items).board
 registry_begins g n setup items ok size named registry low = record {
   map = IsGroupMap-started setup.servers setup.groups ok.count.0 (let c = ok.count.1 in omega arith) ok.sizes ok.exist ok.differ ok.parity;
   size = size;
   named = named;
-  known = λ v has. registry v ∙ sym (one_at setup.servers (v - 1) (let first : 1 ≤ v = grind (arith, nat_tests) in let last : v ≤ setup.servers = grind (arith, nat_tests) in omega arith));
+  known = λ v has. registry v
+      ∙ sym (one_at setup.servers (v - 1)
+      (let first : 1 ≤ v = grind (arith, nat_tests) in let last : v ≤ setup.servers = grind (arith, nat_tests) in omega arith));
   low = low ∙ sym (ap (λ x. min x (min x (min x (min x (min x (min x (min x (min x u32_end)))))))) (all_ones 9 (g.log.0 - 1)));
-  horizons = λ slot below. nine_at (registry_start setup items).board.checkpoints slot below (all_map (λ (c : Checkpoint). length c.horizon ≡ 9) (λ (slot : ℕ). first_checkpoint) (λ slot. refl) all_slots);
+  horizons = λ slot below. nine_at (registry_start setup items).board.checkpoints slot below
+      (all_map (λ (c : Checkpoint). length c.horizon ≡ 9) (λ (slot : ℕ). first_checkpoint) (λ slot. refl) all_slots);
 }

@@ -67,7 +67,8 @@ told_no_map (Some f) m (inr is) = is
 answers_no_map : (g : Setting) (v : ℕ) (s : ShelfState) (deed : Deed) → NoMap (answers g v s deed)
 answers_no_map g v s (Stores f generation) =
     by_test NoMap (is_of_log g f.meta.name && is_stored s f generation) (_ ∷ []) [] (λ t. one_no_map _ (λ m e. absurd cc)) (λ t. λ m is. is)
-answers_no_map g v s (Fetches name) = by_test NoMap (is_of_log g name) (fragment_told (held_at s.held name)) [] (λ t. told_no_map (held_at s.held name)) (λ t m is. is)
+answers_no_map g v s (Fetches name) =
+    by_test NoMap (is_of_log g name) (fragment_told (held_at s.held name)) [] (λ t. told_no_map (held_at s.held name)) (λ t m is. is)
 answers_no_map g v s (Fences inc) = one_no_map _ (λ m e. absurd cc)
 answers_no_map g v s (Deletes name) = λ m is. is
 answers_no_map g v s (Fills f) = λ m is. is
@@ -100,9 +101,11 @@ module _ (g : Setting) (n : Net) (before : MapsName g n) where
   published registry m whole k (inr is) = before k is
 
 happened_named : (g : Setting) (n o : Net) → MapsName g n → Happens g n o → MapsName g o
-happened_named g n o before (Acts s i serves came text) = more g n before (log_packets (log.transition s i).outs) n.sent (log_no_map (log.transition s i).outs) before
+happened_named g n o before (Acts s i serves came text) =
+    more g n before (log_packets (log.transition s i).outs) n.sent (log_no_map (log.transition s i).outs) before
 happened_named g n o before (Writes chain s i writes came text) = flight_named g n before chain (log.transition s i) (log.transition s i).state.flight
-happened_named g n o before (Opens s i opens came can) = told_named g n before s (scan.transition s i) (chain_in (scan.transition s i).outs) (scan.transition s i).state.opening.groups
+happened_named g n o before (Opens s i opens came can) =
+    told_named g n before s (scan.transition s i) (chain_in (scan.transition s i).outs) (scan.transition s i).state.opening.groups
 happened_named g n o before Crashes = before
 happened_named g n o before (Restarts down) = before
 happened_named g n o before (Renews m high doubts down came) = before

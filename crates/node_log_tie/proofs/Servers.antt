@@ -98,9 +98,11 @@ module _ (g : Setting) (owner : Asker) (v : ℕ) (some : 0 < v) (other : owner.n
   all_said n node (o ∷ outs) seen all =
       let w : Goes n (says node o) = said_went n node o seen all.0 in
       went_then g owner v n (says node o) (steps says (says node o).state outs) w
-      (all_said w.next (says node o).state outs w.seen (all_weaker (OutSeen g n v) (OutSeen g w.next v) (out_later n w.next (run_later g n w.next w.runs)) outs all.1))
+      (all_said w.next (says node o).state outs w.seen
+      (all_weaker (OutSeen g n v) (OutSeen g w.next v) (out_later n w.next (run_later g n w.next w.runs)) outs all.1))
 
-  goes_on_went : (n : Net) (node : nodes.Server) (r : Option Rebuilding) (given : Input) → ServerSeen g n v node → IfSome r (λ (z : Rebuilding). RebuildSeen g n v z.rebuild)
+  goes_on_went : (n : Net) (node : nodes.Server) (r : Option Rebuilding) (given : Input) → ServerSeen g n v node
+      → IfSome r (λ (z : Rebuilding). RebuildSeen g n v z.rebuild)
       → InputSent g n v given → Goes n (goes_on node r given)
   goes_on_went n node None given seen rebuild sent = stays g owner v n node seen
   goes_on_went n node (Some r) given seen rebuild sent =
@@ -122,7 +124,8 @@ module _ (g : Setting) (owner : Asker) (v : ℕ) (some : 0 < v) (other : owner.n
         by_test (Goes n) (awaits_list node.rebuilding m.ask) (rebuilds node (input.Listed server m.held (barred node.shelf))) (still node)
         (λ t. rebuild_went n node (input.Listed server m.held (barred node.shelf)) seen (all_listed g n m.held sent)) (λ t. stays g owner v n node seen)
 
-    found_by : (node : nodes.Server) (server : ℕ) (m : Found) (own : Option ℕ) → ServerSeen g n v node → FragmentSeen g owner n m → Goes n (found_for node server m own)
+    found_by : (node : nodes.Server) (server : ℕ) (m : Found) (own : Option ℕ) → ServerSeen g n v node → FragmentSeen g owner n m
+        → Goes n (found_for node server m own)
     found_by node server m None seen sent = stays g owner v n node seen
     found_by node server m (Some own) seen sent = rebuild_went n node (input.Got own server m.generation m.fragment) seen sent
 
@@ -143,7 +146,8 @@ module _ (g : Setting) (owner : Asker) (v : ℕ) (some : 0 < v) (other : owner.n
     -- ---- the maps
 
     taken_name : (maps : Maps) (news : News) → IfSome maps.groups (NamesStripes g) → NewsSeen g owner n news → IfSome (taken maps news).groups (NamesStripes g)
-    taken_name maps news old sent = by_test (λ (m : Maps). IfSome m.groups (NamesStripes g)) (is_older maps news) _ maps (λ t. maps_name news.groups sent) (λ t. old)
+    taken_name maps news old sent =
+        by_test (λ (m : Maps). IfSome m.groups (NamesStripes g)) (is_older maps news) _ maps (λ t. maps_name news.groups sent) (λ t. old)
 
     news_taken : (node : nodes.Server) (news : News) → ServerSeen g n v node → NewsSeen g owner n news → Goes n (takes_news node news)
     unfolding takes_news
@@ -177,7 +181,8 @@ module _ (g : Setting) (owner : Asker) (v : ℕ) (some : 0 < v) (other : owner.n
 
     -- ---- packets
 
-    heard : (node : nodes.Server) (from : NodeId) (said : Body) → ServerSeen g n v node → BodySeen g owner n from (Server v) said → Goes n (hears node from said)
+    heard : (node : nodes.Server) (from : NodeId) (said : Body) → ServerSeen g n v node → BodySeen g owner n from (Server v) said
+        → Goes n (hears node from said)
     heard node from (body.Store m) seen sent = stores_went g owner v some n node seen from m sent
     heard node from (body.Fetch m) seen sent = fetches_went g owner v some n node seen from m
     heard node from (body.Fence m) seen sent = fences_went g owner v some n node seen from m sent
@@ -188,19 +193,24 @@ module _ (g : Setting) (owner : Asker) (v : ℕ) (some : 0 < v) (other : owner.n
     heard node from (body.Missing m) seen sent = missing_went node (server_in from) m seen
     heard node from _ seen sent = stays g owner v n node seen
 
-    heard_known : (node : nodes.Server) (from : NodeId) (said : Body) → ServerSeen g n v node → BodySeen g owner n from (Server v) said → Goes n (hears_known node from said)
+    heard_known : (node : nodes.Server) (from : NodeId) (said : Body) → ServerSeen g n v node → BodySeen g owner n from (Server v) said
+        → Goes n (hears_known node from said)
     heard_known node from said seen sent =
-        by_test (Goes n) (names_known node.maps said) (hears node from said) (asks_for_maps node) (λ t. heard node from said seen sent) (λ t. maps_asked node seen)
+        by_test (Goes n) (names_known node.maps said) (hears node from said) (asks_for_maps node) (λ t. heard node from said seen sent)
+        (λ t. maps_asked node seen)
 
-    body_heard : (node : nodes.Server) (from : NodeId) (said : Body) → ServerSeen g n v node → BodySeen g owner n from (Server v) said → Goes n (on_body node from said)
+    body_heard : (node : nodes.Server) (from : NodeId) (said : Body) → ServerSeen g n v node → BodySeen g owner n from (Server v) said
+        → Goes n (on_body node from said)
     body_heard node from (body.MapNews news) seen sent = news_heard node news seen sent
     body_heard node from (body.Welcome m) seen sent = welcomed node (Server v) m seen sent
     body_heard node from said seen sent = heard_known node from said seen sent
 
-    packet_heard : (node : nodes.Server) (packet : Packet) → ServerSeen g n v node → BodySeen g owner n packet.from (Server v) packet.body → Goes n (on_packet node packet)
+    packet_heard : (node : nodes.Server) (packet : Packet) → ServerSeen g n v node → BodySeen g owner n packet.from (Server v) packet.body
+        → Goes n (on_packet node packet)
     unfolding on_packet
     packet_heard node packet seen sent =
-        by_test (Goes n) (is_well_formed node.peers packet) (on_body node packet.from packet.body) (still node) (λ t. body_heard node packet.from packet.body seen sent)
+        by_test (Goes n) (is_well_formed node.peers packet) (on_body node packet.from packet.body) (still node)
+        (λ t. body_heard node packet.from packet.body seen sent)
         (λ t. stays g owner v n node seen)
 
     -- ---- items
@@ -221,11 +231,17 @@ module _ (g : Setting) (owner : Asker) (v : ℕ) (some : 0 < v) (other : owner.n
           rest = w.rest;
         }
 
-    rebuild_begun : (node : nodes.Server) (number : ℕ) (groups : Option GroupMapState) → ServerSeen g n v node → IfSome groups (NamesStripes g) → Goes n (begins_rebuild node number groups)
+    rebuild_begun : (node : nodes.Server) (number : ℕ) (groups : Option GroupMapState) → ServerSeen g n v node → IfSome groups (NamesStripes g)
+        → Goes n (begins_rebuild node number groups)
     rebuild_begun node number None seen maps = stays g owner v n node seen
     rebuild_begun node number (Some groups) seen maps =
         rebuild_went n _ input.Tick
-        (record { number = seen.number; shelf = seen.shelf; maps = seen.maps; rebuild = record { server = seen.number; groups = maps; listed = tt; reads = tt } }) tt
+        (record {
+          number = seen.number;
+          shelf = seen.shelf;
+          maps = seen.maps;
+          rebuild = record { server = seen.number; groups = maps; listed = tt; reads = tt };
+        }) tt
 
     rebuild_wished : (node : nodes.Server) (number : ℕ) → ServerSeen g n v node → Goes n (on_rebuild node number)
     unfolding on_rebuild
@@ -257,9 +273,11 @@ module _ (g : Setting) (owner : Asker) (v : ℕ) (some : 0 < v) (other : owner.n
     ticks : (node : nodes.Server) → ServerSeen g n v node → Goes n (on_tick node)
     unfolding on_tick
     ticks node seen =
-        went_after g owner v n (hello_again node node.hello) (rebuilds node input.Tick) (hello_said node node.hello seen) (rebuild_went n node input.Tick seen tt)
+        went_after g owner v n (hello_again node node.hello) (rebuilds node input.Tick) (hello_said node node.hello seen)
+        (rebuild_went n node input.Tick seen tt)
 
-    happens : (node : nodes.Server) (what : Do) → ServerSeen g n v node → node.shelf.generation < u32_end → ServerOwed g owner n v what → Goes n (on_event node what)
+    happens : (node : nodes.Server) (what : Do) → ServerSeen g n v node → node.shelf.generation < u32_end → ServerOwed g owner n v what
+        → Goes n (on_event node what)
     happens node Begin seen low owed = begins node seen low
     happens node (Deliver packet) seen low owed = packet_heard node packet seen (subst (λ to. BodySeen g owner n packet.from to packet.body) owed.0 owed.1)
     happens node Tick seen low owed = ticks node seen
@@ -267,7 +285,8 @@ module _ (g : Setting) (owner : Asker) (v : ℕ) (some : 0 < v) (other : owner.n
     taken_so : (node : nodes.Server) (what : Do) → ServerSeen g n v node → ServerOwed g owner n v what → Goes n (takes node what)
     taken_so node what seen owed =
         by_test (Goes n) (is_far_from_ends node) (on_event node what) (still node)
-        (λ t. (let room = and_first (has_room node.shelf.generation) (has_room node.questions.last && has_room node.maps.version) t in happens node what seen (grind (arith, nat_tests)) owed))
+        (λ t. (let room = and_first (has_room node.shelf.generation) (has_room node.questions.last && has_room node.maps.version) t in
+        happens node what seen (grind (arith, nat_tests)) owed))
         (λ t. stays g owner v n node seen)
 
     pub server_goes : (node : nodes.Server) (what : Do) → ServerSeen g n v node → ServerOwed g owner n v what → ServerGoes g owner n v node what
@@ -278,13 +297,15 @@ module _ (g : Setting) (owner : Asker) (v : ℕ) (some : 0 < v) (other : owner.n
           runs = w.runs;
           seen = w.seen;
           sends =
-              packets_all (PacketSeen g owner w.next) (EffectSeen g owner w.next (Server node.number)) (Server node.number) (λ to said does. does) (takes node what).outs
+              packets_all (PacketSeen g owner w.next) (EffectSeen g owner w.next (Server node.number)) (Server node.number) (λ to said does. does)
+              (takes node what).outs
               (subst (λ k. AllByRecursion (EffectSeen g owner w.next (Server k)) (takes node what).outs) (sym seen.number) w.does);
           shelves = w.shelves;
           rest = w.rest;
         }
 
 -- at the start
-pub server_begins : (g : Setting) (n : Net) (v : ℕ) (setup : Setup) (items : List Work) → n.shelves v ≡ new_shelf → IfSome (server_start v setup items).maps.groups (NamesStripes g)
+pub server_begins : (g : Setting) (n : Net) (v : ℕ) (setup : Setup) (items : List Work) → n.shelves v ≡ new_shelf
+    → IfSome (server_start v setup items).maps.groups (NamesStripes g)
     → ServerSeen g n v (server_start v setup items)
 server_begins g n v setup items empty maps = record { number = refl; shelf = empty; maps = maps; rebuild = tt }

@@ -64,7 +64,8 @@ found_named (h ∷ hs) name f is =
 
 -- a Fence leaves generation and fragments alone
 fence_generation : (s : ShelfState) (log : LogId) (pass : Pass) → (fenced_at s log pass).generation ≡ s.generation
-fence_generation s log pass = by_test (λ (t : ShelfState). t.generation ≡ s.generation) (is_greater (pass_cmp pass (fence_of s.fences log))) _ s (λ t. refl) (λ t. refl)
+fence_generation s log pass =
+    by_test (λ (t : ShelfState). t.generation ≡ s.generation) (is_greater (pass_cmp pass (fence_of s.fences log))) _ s (λ t. refl) (λ t. refl)
 
 fence_held : (s : ShelfState) (log : LogId) (pass : Pass) → (fenced_at s log pass).held ≡ s.held
 fence_held s log pass = by_test (λ (t : ShelfState). t.held ≡ s.held) (is_greater (pass_cmp pass (fence_of s.fences log))) _ s (λ t. refl) (λ t. refl)
@@ -85,7 +86,8 @@ module _ (g : Setting) (owner : Asker) (v : ℕ) where
   effect_later n next later _ h = tt
 
   -- nothing happens, and what is done is seen
-  pub went_still : (n : Net) (node : nodes.Server) (outs : List Effect) → ServerSeen g n v node → AllByRecursion (EffectSeen g owner n (Server v)) outs → Went n (record { state = node; outs = outs })
+  pub went_still : (n : Net) (node : nodes.Server) (outs : List Effect) → ServerSeen g n v node → AllByRecursion (EffectSeen g owner n (Server v)) outs
+      → Went n (record { state = node; outs = outs })
   went_still n node outs seen does = record { next = n; runs = Begun; seen = seen; does = does; shelves = λ u other. refl; rest = refl }
 
   pub stays : (n : Net) (node : nodes.Server) → ServerSeen g n v node → Went n (still node)
@@ -99,7 +101,8 @@ module _ (g : Setting) (owner : Asker) (v : ℕ) where
     seen = x.seen;
     does =
         all_append (EffectSeen g owner x.next (Server v)) d.outs e.outs
-        (all_weaker (EffectSeen g owner w.next (Server v)) (EffectSeen g owner x.next (Server v)) (effect_later w.next x.next (run_later g w.next x.next x.runs)) d.outs w.does) x.does;
+        (all_weaker (EffectSeen g owner w.next (Server v)) (EffectSeen g owner x.next (Server v))
+        (effect_later w.next x.next (run_later g w.next x.next x.runs)) d.outs w.does) x.does;
     shelves = λ u other. x.shelves u other ∙ w.shelves u other;
     rest = x.rest ∙ w.rest;
   }
@@ -112,19 +115,22 @@ module _ (g : Setting) (owner : Asker) (v : ℕ) where
     seen = x.seen;
     does =
         all_append (EffectSeen g owner x.next (Server v)) outs e.outs
-        (all_weaker (EffectSeen g owner n (Server v)) (EffectSeen g owner x.next (Server v)) (effect_later n x.next (run_later g n x.next x.runs)) outs does) x.does;
+        (all_weaker (EffectSeen g owner n (Server v)) (EffectSeen g owner x.next (Server v)) (effect_later n x.next (run_later g n x.next x.runs)) outs does)
+        x.does;
     shelves = x.shelves;
     rest = x.rest;
   }
 
   -- a server is seen with its shelf as it is then
-  pub reshelved : (n next : Net) (node : nodes.Server) (s : ShelfState) → ServerSeen g n v node → Later n next → next.shelves v ≡ s → ServerSeen g next v (record node { shelf = s })
+  pub reshelved : (n next : Net) (node : nodes.Server) (s : ShelfState) → ServerSeen g n v node → Later n next → next.shelves v ≡ s
+      → ServerSeen g next v (record node { shelf = s })
   reshelved n next node s seen later shelf = record {
     number = seen.number;
     shelf = shelf;
     maps = seen.maps;
     rebuild =
-        if_some (λ (r : Rebuilding). RebuildSeen g n v r.rebuild) (λ (r : Rebuilding). RebuildSeen g next v r.rebuild) (λ r. rebuild_later g n next later v r.rebuild)
+        if_some (λ (r : Rebuilding). RebuildSeen g n v r.rebuild) (λ (r : Rebuilding). RebuildSeen g next v r.rebuild)
+        (λ r. rebuild_later g n next later v r.rebuild)
         node.rebuilding seen.rebuild;
   }
 
@@ -219,10 +225,12 @@ module _ (g : Setting) (owner : Asker) (v : ℕ) where
     fenced_said m own = inl (λ i. FencedSent v m.pass.inc (same_generation m i) (same_list m own i))
 
     fence_does : (next : Net) (from : NodeId) (m : Fence)
-        → ((m.log.0 == g.log.0) ≡ true → In (FencedSent v m.pass.inc (fenced_at node.shelf m.log m.pass).generation (of_log m.log (listed_on (fenced_at node.shelf m.log m.pass)))) next.sent)
+        → ((m.log.0 == g.log.0) ≡ true
+        → In (FencedSent v m.pass.inc (fenced_at node.shelf m.log m.pass).generation (of_log m.log (listed_on (fenced_at node.shelf m.log m.pass)))) next.sent)
         → AllByRecursion (EffectSeen g owner next (Server v)) (fence_told from m (fenced_at node.shelf m.log m.pass))
     fence_does next from m said =
-        by_test (AllByRecursion (EffectSeen g owner next (Server v))) (is_eq (pass_cmp (fence_of (fenced_at node.shelf m.log m.pass).fences m.log) m.pass)) _ [] (λ t. (said, tt)) (λ t. tt)
+        by_test (AllByRecursion (EffectSeen g owner next (Server v))) (is_eq (pass_cmp (fence_of (fenced_at node.shelf m.log m.pass).fences m.log) m.pass)) _ []
+        (λ t. (said, tt)) (λ t. tt)
 
     -- the Fence of another log
     bars_went : (from : NodeId) (m : Fence) → (m.log.0 == g.log.0) ≡ false → Went n (on_fence node from m)
@@ -233,7 +241,8 @@ module _ (g : Setting) (owner : Asker) (v : ℕ) where
         record {
           next = next;
           runs = runs;
-          seen = reshelved n next node (fenced_at node.shelf m.log m.pass) seen (run_later g n next runs) (put_here n.shelves v _ ∙ ap (λ t. fenced_at t m.log m.pass) seen.shelf);
+          seen = reshelved n next node (fenced_at node.shelf m.log m.pass) seen (run_later g n next runs)
+              (put_here n.shelves v _ ∙ ap (λ t. fenced_at t m.log m.pass) seen.shelf);
           does = fence_does next from m (λ own. contrary (sym other ∙ own));
           shelves = λ u away. put_there n.shelves v (fenced_at (n.shelves v) m.log m.pass) u away;
           rest = refl;

@@ -60,6 +60,11 @@ module _ (g : Setting) (owner : Asker) (n next : Net) (later : Later n next) whe
   seen_later from to (body.Listed m) h = later.sent _ h
   seen_later from to (body.Delete m) h = λ own. later.sent _ (h own)
   seen_later from to (body.Hello m) h = record { own = λ is. asked_later m.inc (owner.asked m.ask) (h.own is); reached = reached_later from m.inc h.reached }
-  seen_later from to (body.Welcome m) h = record { own = λ is. answered_later m (owner.asked m.ask) (h.own is); map = later.sent _ h.map; low = (let x = h.low in let y = later.low in omega arith) }
+  seen_later from to (body.Welcome m) h =
+      record {
+        own = λ is. answered_later m (owner.asked m.ask) (h.own is);
+        map = later.sent _ h.map;
+        low = (let x = h.low in let y = later.low in omega arith);
+      }
   seen_later from to (body.MapNews m) h = later.sent _ h
   seen_later from to _ h = tt

@@ -35,7 +35,8 @@ found_all P test (x ∷ xs) g all is =
 found_passes : (test : Group → Bool) (gs : List Group) (g : Group) → find test gs ≡ Some g → test g ≡ true
 found_passes test [] g is = absurd cc
 found_passes test (x ∷ xs) g is =
-    by_test (λ (o : Option Group). o ≡ Some g → test g ≡ true) (test x) (Some x) (find test xs) (λ t e. let same : x ≡ g = cc in subst (λ z. test z ≡ true) same t)
+    by_test (λ (o : Option Group). o ≡ Some g → test g ≡ true) (test x) (Some x) (find test xs)
+    (λ t e. let same : x ≡ g = cc in subst (λ z. test z ≡ true) same t)
     (λ t e. found_passes test xs g e) is
 
 -- a group that an id names has that id
@@ -119,7 +120,8 @@ module _ (m : GroupMapState) (ok : IsGroupMap m) where
           differ = differ group stripe;
           present = λ j below.
               is_present m group.id group ok.present found current j no_member below
-              ∙ sym (ap (λ t. cond t (generation_at m.generations (server_of group.members j)) 0) (has_one group stripe (server_of group.members j) (exists group stripe j below)));
+              ∙ sym (ap (λ t. cond t (generation_at m.generations (server_of group.members j)) 0)
+              (has_one group stripe (server_of group.members j) (exists group stripe j below)));
           named = named group.id group found;
         }
 

@@ -115,7 +115,8 @@ all_but_drops n = record n { sent = []; dropped = [] }
 
 -- what is dropped was so before, or a Delete of it is sent
 abbrev pub OnlyDeleted : Net → Net → List Packet → Type 0
-OnlyDeleted n next sent = (name : SegName) → In name next.dropped → In name n.dropped ⊎ ((p : Packet) × In p sent × (p.body ≡ body.Delete (record { name = name })))
+OnlyDeleted n next sent =
+    (name : SegName) → In name next.dropped → In name n.dropped ⊎ ((p : Packet) × In p sent × (p.body ≡ body.Delete (record { name = name })))
 
 -- The small world runs on, by drops alone, to a net in which the cleaner is seen as it is then; all that it sends was sent, and what it acts to be dropped is,
 -- and nothing else of the log but what it has servers delete. Of a manager's log it drops nothing: that small world stands still.
@@ -132,7 +133,8 @@ pub record CleanerGoes (g : Setting) (owner : Asker) (n : Net) (cleaner : cleane
 -- Each event of the cleaner, where the log is not its own.
 abbrev pub CleanerEventGoes : Type 0
 CleanerEventGoes =
-    (g : Setting) (owner : Asker) (n : Net) (cleaner : cleaners.Cleaner) (what : Do) → (g.log ≡ cleaner_log → ⊥) → (owner.node ≡ Cleaner → ⊥) → CleanerSeen g n cleaner.phase
+    (g : Setting) (owner : Asker) (n : Net) (cleaner : cleaners.Cleaner) (what : Do) → (g.log ≡ cleaner_log → ⊥) → (owner.node ≡ Cleaner → ⊥)
+    → CleanerSeen g n cleaner.phase
     → CleanerOwed g owner n what → CleanerGoes g owner n cleaner what
 
 abbrev pub CleanerStarts : Type 0

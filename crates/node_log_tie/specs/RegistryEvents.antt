@@ -87,5 +87,6 @@ RegistryGoesAbove =
 -- At the start of a run the registry knows each server at generation 1, and no horizon above 1.
 abbrev pub RegistryStarts : Type 0
 RegistryStarts =
-    (g : Setting) (n : Net) (setup : Setup) (items : List Work) → IsSetup setup → setup.servers ≡ g.servers → NamesGroups g (registry_start setup items).board.groups
+    (g : Setting) (n : Net) (setup : Setup) (items : List Work) → IsSetup setup → setup.servers ≡ g.servers
+    → NamesGroups g (registry_start setup items).board.groups
     → ((v : ℕ) → n.registry v ≡ 1) → n.low ≡ 1 → RegistrySeen g n (registry_start setup items).board

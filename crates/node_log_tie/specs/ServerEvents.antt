@@ -117,13 +117,15 @@ pub record ServerGoes (g : Setting) (owner : Asker) (n : Net) (v : ℕ) (node : 
 -- Each event of a server.
 abbrev pub ServerEventGoes : Type 0
 ServerEventGoes =
-    (g : Setting) (owner : Asker) (n : Net) (v : ℕ) (node : nodes.Server) (what : Do) → 0 < v → (owner.node ≡ Server v → ⊥) → MapsName g n → ServerSeen g n v node
+    (g : Setting) (owner : Asker) (n : Net) (v : ℕ) (node : nodes.Server) (what : Do) → 0 < v → (owner.node ≡ Server v → ⊥) → MapsName g n
+    → ServerSeen g n v node
     → ServerOwed g owner n v what → ServerGoes g owner n v node what
 
 -- At the start of a run each server has nothing on its shelf.
 abbrev pub ServerStarts : Type 0
 ServerStarts =
-    (g : Setting) (n : Net) (v : ℕ) (setup : Setup) (items : List Work) → n.shelves v ≡ new_shelf → IfSome (server_start v setup items).maps.groups (NamesStripes g)
+    (g : Setting) (n : Net) (v : ℕ) (setup : Setup) (items : List Work) → n.shelves v ≡ new_shelf
+    → IfSome (server_start v setup items).maps.groups (NamesStripes g)
     → ServerSeen g n v (server_start v setup items)
 
 -- Of each moment of a run the maps that were sent name stripes.

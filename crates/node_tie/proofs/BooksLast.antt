@@ -104,7 +104,8 @@ empty_others zero k own l other = same_log k l
 empty_others (suc count) k own l other =
     let m : Books = sealed k own [] in
     let o : Books = filed m own in
-    same_through k o (with_empty count o own) l (same_through k m o l (sealed_others k own [] l other) (filed_others m own l other)) (empty_others count o own l other)
+    same_through k o (with_empty count o own) l (same_through k m o l (sealed_others k own [] l other) (filed_others m own l other))
+    (empty_others count o own l other)
 
 opens_last : (k : Books) (own : ℕ) (adopted : Bool) (count : ℕ) → Lasts k (with_empty count (reopened k own adopted) own)
 opens_last k own adopted count =

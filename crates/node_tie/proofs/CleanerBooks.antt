@@ -41,7 +41,8 @@ copy_grown k m lasts b row copy = record {
 }
 
 pub copies_grown : (k m : Books) → Lasts k m → (rows : List (BlockId × Row)) → AreCopies k rows → AreCopies m rows
-copies_grown k m lasts rows all = all_weaker (λ (r : BlockId × Row). IsCopy k r.0 r.1) (λ (r : BlockId × Row). IsCopy m r.0 r.1) (λ r. copy_grown k m lasts r.0 r.1) rows all
+copies_grown k m lasts rows all =
+    all_weaker (λ (r : BlockId × Row). IsCopy k r.0 r.1) (λ (r : BlockId × Row). IsCopy m r.0 r.1) (λ r. copy_grown k m lasts r.0 r.1) rows all
 
 -- rows that are copies may be sealed
 originals : (k : Books) (rows : List (BlockId × Row)) → AreCopies k rows → SealsOriginals k rows
@@ -80,7 +81,8 @@ module _ (members part : ℕ) (few : members ≤ its_log) where
     runs = λ n. runs_through (with_books n k) (with_books n m) (with_books n o) (a.runs n) (b.runs n);
     lasts = lasts_through k m o a.lasts b.lasts;
     others = λ l other. same_through k m o l (a.others l other) (b.others l other);
-    flown = λ f. ⊎_elim (λ same. subst (λ e. o.rows its_log (suc e) ≡ m.rows its_log (suc e)) same.0 (b.flown same.1)) (λ less. b.lasts.rows its_log (suc (k.end its_log)) less)
+    flown = λ f. ⊎_elim (λ same. subst (λ e. o.rows its_log (suc e) ≡ m.rows its_log (suc e)) same.0 (b.flown same.1))
+        (λ less. b.lasts.rows its_log (suc (k.end its_log)) less)
         (a.flies f) ∙ a.flown f;
     flies = λ f. ⊎_elim (λ same. ⊎_elim (λ still. inl (still.0 ∙ same.0, still.1)) (λ less. let e = same.0 in inr (omega arith)) (b.flies same.1))
         (λ less. let e = b.lasts.filed its_log in inr (omega arith)) (a.flies f);
@@ -125,8 +127,10 @@ module _ (members part : ℕ) (few : members ≤ its_log) where
       → AreCopies k (map told (insert_entry same_block cs block change))
   put_copies k [] block change copy all = (copy, tt)
   put_copies k (c ∷ cs) block change copy all =
-      by_test (λ (rows : List (BlockId × Change)). AreCopies k (map told rows)) (same_block block c.0) ((c.0, change) ∷ cs) (c ∷ insert_entry same_block cs block change)
-      (λ same. (subst (λ (b : BlockId). IsCopy k b (row_of change)) (sym (same_block_exact block c.0 same)) copy, all.1)) (λ _. (all.0, put_copies k cs block change copy all.1))
+      by_test (λ (rows : List (BlockId × Change)). AreCopies k (map told rows)) (same_block block c.0) ((c.0, change) ∷ cs)
+      (c ∷ insert_entry same_block cs block change)
+      (λ same. (subst (λ (b : BlockId). IsCopy k b (row_of change)) (sym (same_block_exact block c.0 same)) copy, all.1))
+      (λ _. (all.0, put_copies k cs block change copy all.1))
 
   idle_is : (o : Option FlightState) → is_none o ≡ true → o ≡ None
   idle_is None t = refl
@@ -184,7 +188,8 @@ module _ (members part : ℕ) (few : members ≤ its_log) where
       by_fate : (fate : Fate) → LogGone k (log.followed s f fate).state
       by_fate Restripe = restripes
       by_fate Settle =
-          settles (if_full_goes (filed k its_log) (log.landed s f) (file_seen k its_log s f end flown) (copies_grown k (filed k its_log) (lasts_filed k its_log) _ waits))
+          settles (if_full_goes (filed k its_log) (log.landed s f) (file_seen k its_log s f end flown)
+          (copies_grown k (filed k its_log) (lasts_filed k its_log) _ waits))
       by_fate Wait = log_stays k (record s { flight = Some f }) (flies_seen k its_log s (record s { flight = Some f }) f flying end refl refl flown) waits
 
   -- what is put is a copy; segments of these items are none of the cleaner
@@ -213,7 +218,10 @@ module _ (members part : ℕ) (few : members ≤ its_log) where
   log_goes k s (log_in.Parts items) seen waits copy = absurd copy
   log_goes k s log_in.Seal seen waits copy =
       by_test (λ (d : log.Done). LogGone k d.state) (log.is_idle s && nat_lt 0 (length s.dirty) && log.has_next s.end.seq) (log.sealed s) (still s)
-      (λ may. log_seals k s (idle_is s.flight (and_first (log.is_idle s) (nat_lt 0 (length s.dirty)) (and_first (log.is_idle s && nat_lt 0 (length s.dirty)) (log.has_next s.end.seq) may))) seen waits) (λ _. log_stays k s seen waits)
+      (λ may. log_seals k s
+      (idle_is s.flight
+      (and_first (log.is_idle s) (nat_lt 0 (length s.dirty)) (and_first (log.is_idle s && nat_lt 0 (length s.dirty)) (log.has_next s.end.seq) may))) seen waits)
+      (λ _. log_stays k s seen waits)
   log_goes k s (log_in.Acked name index generation) seen waits copy =
       flight_or k s (λ o. LogGone k (acked_in o).state) seen (log_stays k s seen waits)
       (λ f flying flown. by_test (λ (d : log.Done). LogGone k d.state) (log.is_of f name index generation) (log.looked_at s s (log.noting f index)) (still s)

@@ -136,7 +136,8 @@ module _ (part most : ℕ) (small : part < 8) where
   serves_then e a b x more =
       let y = more x.bears in
       record {
-        says = all_append (Says (CleanerSends part (At b.state) e.lasting.inc)) a.outs b.outs (all_more (At a.state) (At b.state) e.lasting.inc y.rises a.outs x.says)
+        says = all_append (Says (CleanerSends part (At b.state) e.lasting.inc)) a.outs b.outs
+            (all_more (At a.state) (At b.state) e.lasting.inc y.rises a.outs x.says)
             (subst (λ life. AllSay (CleanerSends part (At b.state) life) b.outs) x.inc y.says);
         inc = y.inc ∙ x.inc;
         rises = up_to (At e) (At a.state) (At b.state) x.rises y.rises;
@@ -147,14 +148,17 @@ module _ (part most : ℕ) (small : part < 8) where
   serves_from : (e f : Emptying) (d : Done) → f.lasting.inc ≡ e.lasting.inc → f.promised ≡ e.promised → Bears e → (Bears f → ServesOn f d) → ServesOn e d
   serves_from e f d inc promised b more = serves_then e (still f) d (serves_same e (still f) b (record { says = tt; inc = inc; promised = promised })) more
 
-  serves_steps : {A : Type 0} (step : Emptying → A → Done) (P : A → Type 0) → ((e : Emptying) (x : A) → P x → Bears e → ServesOn e (step e x)) → (e : Emptying) (xs : List A) → AllByRecursion P xs → Bears e → ServesOn e (steps step e xs)
+  serves_steps : {A : Type 0} (step : Emptying → A → Done) (P : A → Type 0) → ((e : Emptying) (x : A) → P x → Bears e → ServesOn e (step e x))
+      → (e : Emptying) (xs : List A) → AllByRecursion P xs → Bears e → ServesOn e (steps step e xs)
   serves_steps step P each e [] all b = serves_still e b
   serves_steps step P each e (x ∷ xs) all b =
       serves_then e (step e x) (steps step (step e x).state xs) (each e x all.0 b) (λ c. serves_steps step P each (step e x).state xs all.1 c)
 
   -- what is said first
   serves_said : (e : Emptying) (outs : List Effect) (d : Done) → AllSay (JobSends e.lasting.inc) outs → Bears e → ServesOn e d → ServesOn e (after outs d)
-  serves_said e outs d said b x = serves_then e (record { state = e; outs = outs }) d (serves_same e (record { state = e; outs = outs }) b (record { says = said; inc = refl; promised = refl })) (λ _. x)
+  serves_said e outs d said b x =
+      serves_then e (record { state = e; outs = outs }) d
+      (serves_same e (record { state = e; outs = outs }) b (record { says = said; inc = refl; promised = refl })) (λ _. x)
 
   -- ---- deltas
 
@@ -228,7 +232,8 @@ module _ (part most : ℕ) (small : part < 8) where
   kept_promise e news = promised_to (renews e news.slot news.epoch).promised news.slot news.epoch news.manager
 
   -- a promise within the bounds is kept
-  promise_kept : (e : Emptying) (news : SlotNews) → Bears e → (news.slot ≡ part → (At e ≤ news.epoch) × (news.epoch ≤ most)) → Bounded part (At e) most (kept_promise e news)
+  promise_kept : (e : Emptying) (news : SlotNews) → Bears e → (news.slot ≡ part → (At e ≤ news.epoch) × (news.epoch ≤ most))
+      → Bounded part (At e) most (kept_promise e news)
   promise_kept e news b within =
       subst (λ (p : Promised). Bounded part (At e) most (promised_to p news.slot news.epoch news.manager)) (sym (renewed e news.slot news.epoch).promised)
       (promise_keeps part (At e) most small e.promised news within (record { eight = b.eight; rises = omega arith; within = b.within }))
@@ -239,7 +244,8 @@ module _ (part most : ℕ) (small : part < 8) where
       (subst (λ (p : Promised). Bounded part news.epoch most (promised_to p news.slot news.epoch news.manager)) (sym (renewed e news.slot news.epoch).promised)
       (promise_here part news.epoch most small e.promised news b.eight same (λ _. (omega arith, within)))).rises
 
-  promised_so : (e : Emptying) (news : SlotNews) → Bears e → (news.slot ≡ part → (At e ≤ news.epoch) × (news.epoch ≤ most)) → ServesOn e (still (promises e news.slot news.epoch news.manager))
+  promised_so : (e : Emptying) (news : SlotNews) → Bears e → (news.slot ≡ part → (At e ≤ news.epoch) × (news.epoch ≤ most))
+      → ServesOn e (still (promises e news.slot news.epoch news.manager))
   unfolding promises
   promised_so e news b within =
       let k = promise_kept e news b within in
@@ -253,7 +259,8 @@ module _ (part most : ℕ) (small : part < 8) where
   reported e manager m b within =
       let f : Emptying = promises e m.slot m.epoch manager in
       let k = promised_so e (news_of manager m) b within in
-      serves_then e (record { state = f; outs = Send (node.Manager manager) (body.Report (record { slot = m.slot; epoch = m.epoch; held = []; end = f.log.end })) ∷ [] })
+      serves_then e
+      (record { state = f; outs = Send (node.Manager manager) (body.Report (record { slot = m.slot; epoch = m.epoch; held = []; end = f.log.end })) ∷ [] })
       (cleans f (input.Promise m.slot m.epoch))
       (record { says = ((λ same. promise_is e (news_of manager m) b same (within same).1), tt); inc = k.inc; rises = k.rises; bears = k.bears })
       (λ c. serves_same f (cleans f (input.Promise m.slot m.epoch)) c (job_goes_on f (input.Promise m.slot m.epoch)))
@@ -265,7 +272,8 @@ module _ (part most : ℕ) (small : part < 8) where
   poll_taken e manager m b within =
       by_test (ServesOn e) (nat_lt m.epoch (epoch_of e.promised m.slot)) (still e) (reports e manager m) (λ t. serves_still e b)
       (λ t. reported e manager m b (λ same. (
-        subst (λ k. k ≤ m.epoch) (one_epoch e.promised part) (subst (λ x. epoch_of e.promised x ≤ m.epoch) same (not_below m.epoch (epoch_of e.promised m.slot) t)),
+        subst (λ k. k ≤ m.epoch) (one_epoch e.promised part)
+            (subst (λ x. epoch_of e.promised x ≤ m.epoch) same (not_below m.epoch (epoch_of e.promised m.slot) t)),
         within same,
       )))
 
@@ -290,7 +298,8 @@ module _ (part most : ℕ) (small : part < 8) where
       let f : Emptying = promises e news.slot news.epoch news.manager in
       serves_then e (still f) (cleans f (input.Promise news.slot news.epoch))
       (promised_so e news b (λ same. (
-        subst (λ k. k ≤ news.epoch) (one_epoch e.promised part) (subst (λ x. epoch_of e.promised x ≤ news.epoch) same (less (epoch_of e.promised news.slot) news.epoch t)),
+        subst (λ k. k ≤ news.epoch) (one_epoch e.promised part)
+            (subst (λ x. epoch_of e.promised x ≤ news.epoch) same (less (epoch_of e.promised news.slot) news.epoch t)),
         low same,
       )))
       (λ c. serves_same f (cleans f (input.Promise news.slot news.epoch)) c (job_goes_on f (input.Promise news.slot news.epoch))))
@@ -319,7 +328,8 @@ module _ (part most : ℕ) (small : part < 8) where
       let a : Done = job_regrouped with_maps newer news.groups in
       let b : Done = hears_slots a.state news.slots in
       serves_from e with_maps (after a.outs (after b.outs (log_regrouped b.state newer news.groups))) refl refl bears
-      (λ c. serves_then with_maps a (after b.outs (log_regrouped b.state newer news.groups)) (serves_same with_maps a c (job_hears_groups with_maps newer news.groups))
+      (λ c. serves_then with_maps a (after b.outs (log_regrouped b.state newer news.groups))
+      (serves_same with_maps a c (job_hears_groups with_maps newer news.groups))
       (λ d. serves_then a.state b (log_regrouped b.state newer news.groups) (slots_heard a.state news.slots low d)
       (λ f. serves_same b.state (log_regrouped b.state newer news.groups) f (log_hears_groups b.state newer news.groups))))
 
@@ -359,11 +369,14 @@ module _ (part most : ℕ) (small : part < 8) where
   body_heard e from (body.Welcome m) owed b = welcome_heard e m owed b
   body_heard e from (body.Poll m) owed b = poll_heard e from m b owed
   body_heard e from (body.DeltaAck m) owed b = serves_same e (on_ack e m) b (acknowledged e m)
-  body_heard e from (body.Stored m) owed b = serves_same e (writes e (log_in.Acked m.name m.index m.generation)) b (log_takes e (log_in.Acked m.name m.index m.generation))
+  body_heard e from (body.Stored m) owed b =
+      serves_same e (writes e (log_in.Acked m.name m.index m.generation)) b (log_takes e (log_in.Acked m.name m.index m.generation))
   body_heard e from (body.Listed m) owed b = serves_same e (on_listed e (server_in from) m) b (list_came e (server_in from) m)
   body_heard e from (body.Usage m) owed b = serves_same e (on_usage e m) b (usage_came e m)
-  body_heard e from (body.Fragment m) owed b = serves_same e (on_told e (server_in from) m.ask (told.Held m.fragment)) b (told_came e (server_in from) m.ask (told.Held m.fragment))
-  body_heard e from (body.Missing m) owed b = serves_same e (on_told e (server_in from) m.ask (told.Missing m.generation)) b (told_came e (server_in from) m.ask (told.Missing m.generation))
+  body_heard e from (body.Fragment m) owed b =
+      serves_same e (on_told e (server_in from) m.ask (told.Held m.fragment)) b (told_came e (server_in from) m.ask (told.Held m.fragment))
+  body_heard e from (body.Missing m) owed b =
+      serves_same e (on_told e (server_in from) m.ask (told.Missing m.generation)) b (told_came e (server_in from) m.ask (told.Missing m.generation))
   body_heard e from (body.Live m) owed b = serves_same e (on_live e m) b (live_came e m)
   body_heard e from (body.Dead m) owed b = serves_same e (on_dead e m) b (dead_came e m)
   body_heard e from (body.Deleted m) owed b = serves_same e (on_deleted e (server_in from) m) b (deleted_came e (server_in from) m)

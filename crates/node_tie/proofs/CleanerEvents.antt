@@ -91,7 +91,8 @@ module _ (part promised most : ℕ) (small : part < 8) (low : promised ≤ most)
 
   -- ---- where nothing new is promised
 
-  goes_same : (p q : Phase) (outs : List Effect) → CleanerStands part promised most q → AllDone promised (lasting_of q).inc outs → (lasting_of p).inc ≤ (lasting_of q).inc → OpensLater p q
+  goes_same : (p q : Phase) (outs : List Effect) → CleanerStands part promised most q → AllDone promised (lasting_of q).inc outs
+      → (lasting_of p).inc ≤ (lasting_of q).inc → OpensLater p q
       → CleanerGoes part promised most p q outs
   goes_same p q outs stands done later begins = record {
     next = promised;
@@ -125,7 +126,8 @@ module _ (part promised most : ℕ) (small : part < 8) (low : promised ≤ most)
         let life : Lasting = next_life (begun_life l) number in
         let later : l.inc < life.inc = raised (begun_life l) number room in
         goes_same (Down l) (restarts_in servers life).state (restarts_in servers life).outs (record { owner = refl; promises = inl refl })
-        (start_does (owner_of life) (CleanerDoes part promised life.inc) (cleaner_opening part promised life.inc (owner_of life) (omega arith)) servers life.questions) (omega arith) later
+        (start_does (owner_of life) (CleanerDoes part promised life.inc)
+        (cleaner_opening part promised life.inc (owner_of life) (omega arith)) servers life.questions) (omega arith) later
 
     down_wished : (servers number : ℕ) (wish : Wish) → has_room l.inc ≡ true → Goes (Down l) (down_wishes servers (begun_life l) number wish)
     down_wished servers number Restart room = restarted servers number room
@@ -140,11 +142,15 @@ module _ (part promised most : ℕ) (small : part < 8) (low : promised ≤ most)
 
   module _ (l : Lasting) (o : openings.Opening) (stands : OpensSo part promised most l o) where
     opening_answers : (number : ℕ) (a : AnAnswer) → CleanerGoes part promised most (Opening l o) (Opening (begun_life l) o) (Answer number a ∷ [])
-    opening_answers number a = goes_same (Opening l o) (Opening (begun_life l) o) (Answer number a ∷ []) (record { owner = stands.owner; promises = stands.promises }) (tt, tt) (omega arith) tt
+    opening_answers number a =
+        goes_same (Opening l o) (Opening (begun_life l) o) (Answer number a ∷ []) (record { owner = stands.owner; promises = stands.promises }) (tt, tt)
+        (omega arith) tt
 
     opening_wished : (number : ℕ) (wish : Wish) → Goes (Opening l o) (opening_wishes (begun_life l) o number wish)
     unfolding crashes
-    opening_wished number Crash = goes_same (Opening l o) (crashes (begun_life l) number).state (crashes (begun_life l) number).outs tt (crashed_done l.inc (begun_life l).items.unanswered number) (omega arith) tt
+    opening_wished number Crash =
+        goes_same (Opening l o) (crashes (begun_life l) number).state (crashes (begun_life l) number).outs tt
+        (crashed_done l.inc (begun_life l).items.unanswered number) (omega arith) tt
     opening_wished number Restart = opening_answers number answer.Up
     opening_wished number (Clean count) = opening_answers number answer.Down
 
@@ -156,7 +162,8 @@ module _ (part promised most : ℕ) (small : part < 8) (low : promised ≤ most)
     Kept p = Bounded part promised most p
 
     -- it serves again
-    came_back : (questions : Questions) (effects : List Effect) (r : Opened) → ((now : ℕ) → AllDone now l.inc effects) → Kept r.promised → Goes (Opening l o) (after effects (back (record l { questions = questions }) r))
+    came_back : (questions : Questions) (effects : List Effect) (r : Opened) → ((now : ℕ) → AllDone now l.inc effects) → Kept r.promised
+        → Goes (Opening l o) (after effects (back (record l { questions = questions }) r))
     came_back questions effects r done kept =
         let now : ℕ = epoch_of r.promised.epochs part in
         let said : List Effect = pushes_all r.promised.managers r.feed ++ answers_unanswered l.items.unanswered answer.Done in
@@ -166,8 +173,11 @@ module _ (part promised most : ℕ) (small : part < 8) (low : promised ≤ most)
           within = kept.within;
           stands = record { eight = kept.eight; is = refl };
           does = All-from_recursion (CleanerDoes part now l.inc) (effects ++ said)
-              (done_append now l.inc effects said (done now) (done_append now l.inc (pushes_all r.promised.managers r.feed) (answers_unanswered l.items.unanswered answer.Done)
-              (done_said now l.inc (pushes_all r.promised.managers r.feed) (emptying.all_job part most small now l.inc (pushes_all r.promised.managers r.feed) (emptying.deltas_pushed part most small l.inc r.promised.managers r.feed)))
+              (done_append now l.inc effects said (done now)
+              (done_append now l.inc (pushes_all r.promised.managers r.feed) (answers_unanswered l.items.unanswered answer.Done)
+              (done_said now l.inc (pushes_all r.promised.managers r.feed)
+              (emptying.all_job part most small now l.inc (pushes_all r.promised.managers r.feed)
+              (emptying.deltas_pushed part most small l.inc r.promised.managers r.feed)))
               (done_answers now l.inc l.items.unanswered answer.Done)));
           later = omega arith;
           begins = tt;
@@ -185,19 +195,24 @@ module _ (part promised most : ℕ) (small : part < 8) (low : promised ≤ most)
     opens_here q (inl is) = inl (client_opening.awaits_here q.stage is)
     opens_here q (inr k) = inr k
 
-    ends_so : (questions : Questions) (effects : List Effect) (p : Progress) → ((now : ℕ) → AllDone now l.inc effects) → IsOf o.known.owner p → promising.Holds Kept p
+    ends_so : (questions : Questions) (effects : List Effect) (p : Progress) → ((now : ℕ) → AllDone now l.inc effects) → IsOf o.known.owner p
+        → promising.Holds Kept p
         → Goes (Opening l o) (after effects (after_opening (record l { questions = questions }) p))
     unfolding after_opening
     ends_so questions effects (progress.Opening q) done its kept =
-        goes_same (Opening l o) (Opening (record l { questions = questions }) q) (effects ++ []) (record { owner = ap (λ (x : Owner). x.inc) its ∙ stands.owner; promises = opens_here q kept })
+        goes_same (Opening l o) (Opening (record l { questions = questions }) q) (effects ++ [])
+        (record { owner = ap (λ (x : Owner). x.inc) its ∙ stands.owner; promises = opens_here q kept })
         (done_append promised l.inc effects [] (done promised) tt) (omega arith) tt
     ends_so questions effects (progress.Opened r) done its kept = came_back questions effects r done kept
     ends_so questions effects (progress.Lost seg) done its kept =
-        goes_same (Opening l o) (after_opening (record l { questions = questions }) (progress.Lost seg)).state (effects ++ answers_unanswered l.items.unanswered (answer.Lost seg)) tt
-        (done_append promised l.inc effects (answers_unanswered l.items.unanswered (answer.Lost seg)) (done promised) (done_answers promised l.inc l.items.unanswered (answer.Lost seg)))
+        goes_same (Opening l o) (after_opening (record l { questions = questions }) (progress.Lost seg)).state
+        (effects ++ answers_unanswered l.items.unanswered (answer.Lost seg)) tt
+        (done_append promised l.inc effects (answers_unanswered l.items.unanswered (answer.Lost seg)) (done promised)
+        (done_answers promised l.inc l.items.unanswered (answer.Lost seg)))
         (omega arith) tt
 
-    went_so : (w : Went) → ((now : ℕ) → AllDone now l.inc w.effects) → IsOf o.known.owner w.progress → promising.Holds Kept w.progress → Goes (Opening l o) (opened_on l w)
+    went_so : (w : Went) → ((now : ℕ) → AllDone now l.inc w.effects) → IsOf o.known.owner w.progress → promising.Holds Kept w.progress
+        → Goes (Opening l o) (opened_on l w)
     went_so w done its kept = ends_so w.questions w.effects w.progress done its kept
 
     own : o.known.owner.inc ≤ l.inc
@@ -215,15 +230,18 @@ module _ (part promised most : ℕ) (small : part < 8) (low : promised ≤ most)
         (each w.news.slots (recursion_from_All (λ (x : SlotNews). x.slot ≡ part → promised ≤ x.epoch) w.news.slots (gets.1 incs))
         (recursion_from_All (λ (x : SlotNews). x.slot ≡ part → x.epoch ≤ most) w.news.slots gets.0))
       where
-        each : (slots : List SlotNews) → AllByRecursion (λ (x : SlotNews). x.slot ≡ part → promised ≤ x.epoch) slots → AllByRecursion (λ (x : SlotNews). x.slot ≡ part → x.epoch ≤ most) slots
+        each : (slots : List SlotNews) → AllByRecursion (λ (x : SlotNews). x.slot ≡ part → promised ≤ x.epoch) slots
+            → AllByRecursion (λ (x : SlotNews). x.slot ≡ part → x.epoch ≤ most) slots
             → AllByRecursion (client_opening.Says part promised most small) slots
         each [] rises within = tt
         each (x ∷ slots) rises within = (λ is. (rises.0 is, within.0 is), each slots rises.1 within.1)
     brings_so _ gets logs = tt
 
-    opening_packet : (packet : Packet) → CleanerGets part promised most (Opening l o) packet.body → has_logs packet.body ≡ true → Goes (Opening l o) (opened_on l (opening.on_packet o l.questions packet))
+    opening_packet : (packet : Packet) → CleanerGets part promised most (Opening l o) packet.body → has_logs packet.body ≡ true
+        → Goes (Opening l o) (opened_on l (opening.on_packet o l.questions packet))
     opening_packet packet gets logs =
-        went_so (opening.on_packet o l.questions packet) (λ now. packet_does o l.questions (CleanerDoes part now l.inc) (cleaner_opening part now l.inc o.known.owner own) packet)
+        went_so (opening.on_packet o l.questions packet)
+        (λ now. packet_does o l.questions (CleanerDoes part now l.inc) (cleaner_opening part now l.inc o.known.owner own) packet)
         (behaving.packet_so o l.questions packet).stays_its (promising.packet_so Kept o l.questions packet opens_so (brings_so packet.body gets logs))
 
     opening_time : Goes (Opening l o) (opened_on l (opening.on_tick o l.questions))
@@ -243,10 +261,12 @@ module _ (part promised most : ℕ) (small : part < 8) (low : promised ≤ most)
       within = subst (λ (p : Promised). epoch_of p.epochs part ≤ most) (sym is) (let k = stands.is in omega arith);
     }
 
-    serves_so : (f : Emptying) → f.lasting.inc ≡ e.lasting.inc → f.promised ≡ e.promised → (d : Done) → emptying.ServesOn part most small f d → Goes (Serves e) (serves_on d)
+    serves_so : (f : Emptying) → f.lasting.inc ≡ e.lasting.inc → f.promised ≡ e.promised → (d : Done) → emptying.ServesOn part most small f d
+        → Goes (Serves e) (serves_on d)
     serves_so f inc is d x = record {
       next = epoch_of d.state.promised.epochs part;
-      rises = (let at : epoch_of f.promised.epochs part ≡ promised = ap (λ (p : Promised). epoch_of p.epochs part) is ∙ stands.is in let up = x.rises in omega arith);
+      rises = (let at : epoch_of f.promised.epochs part ≡ promised = ap (λ (p : Promised). epoch_of p.epochs part) is ∙ stands.is in let up = x.rises in
+          omega arith);
       within = x.bears.within;
       stands = record { eight = x.bears.eight; is = refl };
       does = All-from_recursion (CleanerDoes part (epoch_of d.state.promised.epochs part) d.state.lasting.inc) d.outs
@@ -265,7 +285,8 @@ module _ (part promised most : ℕ) (small : part < 8) (low : promised ≤ most)
     serving_wished number Restart =
         goes_same (Serves e) (Serves begun_emptying) (Answer number answer.Up ∷ []) (record { eight = stands.eight; is = stands.is }) (tt, tt) (omega arith) tt
     serving_wished number (Clean count) =
-        serves_so begun_emptying refl refl (on_clean begun_emptying number count) (emptying.cleaning_wished part most small begun_emptying number count (bears begun_emptying refl))
+        serves_so begun_emptying refl refl (on_clean begun_emptying number count)
+        (emptying.cleaning_wished part most small begun_emptying number count (bears begun_emptying refl))
 
     serving_begun : (item : Option ℕ) → Goes (Serves e) (serving_at begun_emptying item)
     serving_begun None = goes_same (Serves e) (Serves begun_emptying) [] (record { eight = stands.eight; is = stands.is }) tt (omega arith) tt
@@ -278,7 +299,8 @@ module _ (part promised most : ℕ) (small : part < 8) (low : promised ≤ most)
     owed_there _ gets = tt
 
     serving_packet : (packet : Packet) → CleanerGets part promised most (Serves e) packet.body → Goes (Serves e) (serves_on (on_packet e packet))
-    serving_packet packet gets = serves_so e refl refl (on_packet e packet) (emptying.packet_heard part most small e packet (owed_there packet.body gets) (bears e refl))
+    serving_packet packet gets =
+        serves_so e refl refl (on_packet e packet) (emptying.packet_heard part most small e packet (owed_there packet.body gets) (bears e refl))
 
     serving_time : Goes (Serves e) (serves_on (on_tick e))
     serving_time = serves_so e refl refl (on_tick e) (emptying.time_passes part most small e (bears e refl))
@@ -291,13 +313,15 @@ module _ (part promised most : ℕ) (small : part < 8) (low : promised ≤ most)
   begins_so servers (Opening l o) stands room = opening_begun l o stands (next_item l.items)
   begins_so servers (Serves e) stands room = serving_begun e stands (next_item e.lasting.items)
 
-  heard : (p : Phase) (packet : Packet) → CleanerStands part promised most p → CleanerGets part promised most p packet.body → has_logs packet.body ≡ true → Goes p (hears p packet)
+  heard : (p : Phase) (packet : Packet) → CleanerStands part promised most p → CleanerGets part promised most p packet.body → has_logs packet.body ≡ true
+      → Goes p (hears p packet)
   unfolding hears
   heard (Down l) packet stands gets logs = goes_still (Down l) stands
   heard (Opening l o) packet stands gets logs = opening_packet l o stands packet gets logs
   heard (Serves e) packet stands gets logs = serving_packet e stands packet gets
 
-  delivered : (peers : Peers) (p : Phase) (packet : Packet) → CleanerStands part promised most p → CleanerGets part promised most p packet.body → Goes p (on_deliver peers p packet)
+  delivered : (peers : Peers) (p : Phase) (packet : Packet) → CleanerStands part promised most p → CleanerGets part promised most p packet.body
+      → Goes p (on_deliver peers p packet)
   unfolding on_deliver
   delivered peers p packet stands gets =
       by_test (Goes p) (is_well_formed peers packet) (hears p packet) (still p)
@@ -316,7 +340,8 @@ module _ (part promised most : ℕ) (small : part < 8) (low : promised ≤ most)
   room_of (Opening l o) room = and_first (has_room l.inc) (has_room l.questions.last) (and_first (lasting_room l) (opening.opening_room o) room)
   room_of (Serves e) room = and_first (has_room e.lasting.inc) (has_room e.lasting.questions.last) (and_first (lasting_room e.lasting) _ room)
 
-  happened : (peers : Peers) (p : Phase) (what : Do) → phase_room p ≡ true → CleanerStands part promised most p → CleanerOwed part promised most p what → Goes p (happens peers p what)
+  happened : (peers : Peers) (p : Phase) (what : Do) → phase_room p ≡ true → CleanerStands part promised most p → CleanerOwed part promised most p what
+      → Goes p (happens peers p what)
   happened peers p Begin room stands owed = begins_so peers.servers p stands (room_of p room)
   happened peers p (Deliver packet) room stands owed = delivered peers p packet stands owed
   happened peers p Tick room stands owed = ticked p stands
@@ -337,8 +362,10 @@ first_epoch (suc (suc (suc (suc (suc (suc (suc (suc k)))))))) h = absurd (omega 
 pub cleaner_takes : CleanerTakes
 cleaner_takes logs members part promised most n small low few cleaner what stands owed copies told =
     let goes : CleanerGoes part promised most cleaner.phase (takes cleaner.peers cleaner.phase what).state (takes cleaner.peers cleaner.phase what).outs =
-    by_test (λ (w : Went_to). CleanerGoes part promised most cleaner.phase w.state w.outs) (phase_room cleaner.phase) (happens cleaner.peers cleaner.phase what) (still cleaner.phase)
-    (λ room. happened part promised most small low cleaner.peers cleaner.phase what room stands owed) (λ room. goes_still part promised most small low cleaner.phase stands) in
+    by_test (λ (w : Went_to). CleanerGoes part promised most cleaner.phase w.state w.outs) (phase_room cleaner.phase) (happens cleaner.peers cleaner.phase what)
+    (still cleaner.phase)
+    (λ room. happened part promised most small low cleaner.peers cleaner.phase what room stands owed)
+    (λ room. goes_still part promised most small low cleaner.phase stands) in
     (goes, cleaner_runs logs members part n few cleaner.peers cleaner.phase what copies told goes.next _ goes.does)
 
 pub cleaner_starts : CleanerStarts

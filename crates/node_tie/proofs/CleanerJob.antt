@@ -68,7 +68,8 @@ job_still e = record { says = tt; inc = refl; promised = refl }
 pub job_from : (e f : Emptying) (d : Done) → f.lasting.inc ≡ e.lasting.inc → f.promised ≡ e.promised → JobDoes f d → JobDoes e d
 job_from e f d inc promised x = record { says = subst (λ life. AllSay (JobSends life) d.outs) inc x.says; inc = x.inc ∙ inc; promised = x.promised ∙ promised }
 
-pub job_steps : {A : Type 0} (step : Emptying → A → Done) → ((e : Emptying) (x : A) → JobDoes e (step e x)) → (e : Emptying) (xs : List A) → JobDoes e (steps step e xs)
+pub job_steps : {A : Type 0} (step : Emptying → A → Done) → ((e : Emptying) (x : A) → JobDoes e (step e x)) → (e : Emptying) (xs : List A)
+    → JobDoes e (steps step e xs)
 job_steps step each e [] = job_still e
 job_steps step each e (x ∷ xs) = job_then e (step e x) (steps step (step e x).state xs) (each e x) (job_steps step each (step e x).state xs)
 
@@ -102,7 +103,8 @@ check_asked : (e : Emptying) (block : BlockId) (place : Place) → JobDoes e (as
 unfolding asks_check checks_block
 check_asked e block place =
     let c = checked_in e e.job block in
-    job_from e c.state (check_sent c.state block place c.ask) (checked_alike e e.job block).0 (checked_alike e e.job block).1 (check_said c.state block place c.ask)
+    job_from e c.state (check_sent c.state block place c.ask) (checked_alike e e.job block).0 (checked_alike e e.job block).1
+    (check_said c.state block place c.ask)
 
 -- ---- a segment is read
 

@@ -110,7 +110,8 @@ module _ (k : Books) where
   asks_copy : (seg : SegRef) (checks : List Check) → AllByRecursion OutCopies (questions seg checks)
   asks_copy seg [] = tt
   asks_copy seg (c ∷ checks) =
-      by_test (λ (o : Option Out). AllByRecursion OutCopies (cons_option o (questions seg checks))) (is_awaited c.fate) (Some (out.Check c.block (place_in seg c.item))) None
+      by_test (λ (o : Option Out). AllByRecursion OutCopies (cons_option o (questions seg checks))) (is_awaited c.fate)
+      (Some (out.Check c.block (place_in seg c.item))) None
       (λ t. (tt, asks_copy seg checks)) (λ t. asks_copy seg checks)
 
   -- ---- the emptying of the chosen
@@ -139,13 +140,16 @@ module _ (k : Books) where
   unfolding looked_at
   looked_copies j seg was_asked checks all =
       by_test TurnCopies (all_dead checks) (deleting j seg) _ (λ t. deleting_copies j seg)
-      (λ t. by_test TurnCopies (was_asked && not (any_asked checks)) (record { state = Checking j seg checks; outs = out.Move (moves checks) ∷ [] }) (still (Checking j seg checks))
+      (λ t. by_test TurnCopies (was_asked && not (any_asked checks)) (record { state = Checking j seg checks; outs = out.Move (moves checks) ∷ [] })
+      (still (Checking j seg checks))
       (λ k. record { phase = all; outs = (moves_copy checks all, tt) }) (λ k. stands (Checking j seg checks) all))
 
   moved_on : (j : JobState) (seg : SegRef) (checks : List Check) → AllByRecursion CheckCopies checks → TurnCopies (on_moved j seg checks)
   moved_on j seg checks all =
-      by_test TurnCopies (is_moving checks) (record { state = Checking j seg (map moved_at checks); outs = questions seg (map moved_at checks) }) (still (Checking j seg checks))
-      (λ t. record { phase = answers_copy moved_at (λ c h. moved_copies c.block c.fate h) checks all; outs = asks_copy seg (map moved_at checks) }) (λ t. stands (Checking j seg checks) all)
+      by_test TurnCopies (is_moving checks) (record { state = Checking j seg (map moved_at checks); outs = questions seg (map moved_at checks) })
+      (still (Checking j seg checks))
+      (λ t. record { phase = answers_copy moved_at (λ c h. moved_copies c.block c.fate h) checks all; outs = asks_copy seg (map moved_at checks) })
+      (λ t. stands (Checking j seg checks) all)
 
   deleted_copies : (server : ℕ) (name : SegName) (j : JobState) (seg : SegRef) (servers : List ℕ) → TurnCopies (on_deleted server name j seg servers)
   deleted_copies server name j seg servers =
@@ -161,11 +165,13 @@ module _ (k : Books) where
 
   list_copies : (server : ℕ) (held : List FragMeta) (l : ListingState) → TurnCopies (on_list server held l)
   list_copies server held l =
-      by_test TurnCopies (is_among l.awaited server) (listed (heard l server held)) (still (Listing l)) (λ t. listed_copies (heard l server held)) (λ t. stands (Listing l) tt)
+      by_test TurnCopies (is_among l.awaited server) (listed (heard l server held)) (still (Listing l)) (λ t. listed_copies (heard l server held))
+      (λ t. stands (Listing l) tt)
     where
       listed_copies : (l : ListingState) → TurnCopies (listed l)
       listed_copies l =
-          by_test TurnCopies (length l.awaited == 0) (record { state = Counting (record { groups = l.groups; candidates = l.candidates; usages = [] }); outs = usage_asks all_slots }) (still (Listing l))
+          by_test TurnCopies (length l.awaited == 0)
+          (record { state = Counting (record { groups = l.groups; candidates = l.candidates; usages = [] }); outs = usage_asks all_slots }) (still (Listing l))
           (λ t. record { phase = tt; outs = asked_usages all_slots }) (λ t. stands (Listing l) tt)
 
   counts_copy : (count : ℕ) (c : CountingState) → TurnCopies (cleaning.counted count c)
@@ -276,7 +282,8 @@ module _ (k : Books) where
       by_test CheckCopies (same_block c.block block) (record c { fate = after_live entry c.fate }) c
       (λ t. live_copies c.block block entry c.fate (same_block_exact c.block block t) (is t) h) (λ t. h)
 
-  live_checks : (block : BlockId) (entry : Entry) (checks : List Check) → AllByRecursion (λ (c : Check). same_block c.block block ≡ true → FateTold k block entry c.fate) checks
+  live_checks : (block : BlockId) (entry : Entry) (checks : List Check)
+      → AllByRecursion (λ (c : Check). same_block c.block block ≡ true → FateTold k block entry c.fate) checks
       → AllByRecursion CheckCopies checks → AllByRecursion CheckCopies (map (live_at block entry) checks)
   live_checks block entry [] told all = tt
   live_checks block entry (c ∷ checks) told all = (live_check block entry c told.0 all.0, live_checks block entry checks told.1 all.1)
@@ -307,7 +314,8 @@ module _ (k : Books) where
   unfolding on_promise on_usage on_live on_dead
   cleaning_copies s (input.Welcome slots groups) h told = welcome_copies s slots groups h
   cleaning_copies s (input.Promise slot epoch) h told =
-      by_test DoneCopies (is_above s.promised slot epoch) (turned (record s { promised = promised_with s.promised slot epoch }) (forgetting slot s.phase)) (still s)
+      by_test DoneCopies (is_above s.promised slot epoch) (turned (record s { promised = promised_with s.promised slot epoch }) (forgetting slot s.phase))
+      (still s)
       (λ t. on_turn (record s { promised = promised_with s.promised slot epoch }) (forgetting slot s.phase) (forgotten_phase slot s.phase h)) (λ t. as_was s h)
   cleaning_copies s (input.Maps groups) h told = record { phase = mapped_phase groups s.phase h; outs = tt }
   cleaning_copies s (input.Listed server held) h told = on_turn s (listed_in server held s.phase) (listed_phase server held s.phase h)

@@ -93,7 +93,8 @@ module _ (members part : ℕ) (few : members ≤ its_log) where
   acknowledged : (k : Books) (e : Emptying) (m : DeltaAck) → ServesCopies k e → GoesTo k (on_ack e m)
   unfolding on_ack
   acknowledged k e m h =
-      by_test (GoesTo k) (epoch_of e.promised m.slot == m.epoch) _ (still e) (λ t. as_was k _ (record { seen = h.seen; waits = h.waits; job = h.job })) (λ t. as_was k e h)
+      by_test (GoesTo k) (epoch_of e.promised m.slot == m.epoch) _ (still e) (λ t. as_was k _ (record { seen = h.seen; waits = h.waits; job = h.job }))
+      (λ t. as_was k e h)
 
   -- ---- promises
 
@@ -154,7 +155,8 @@ module _ (members part : ℕ) (few : members ≤ its_log) where
   news_heard : (k : Books) (e : Emptying) (news : News) → ServesCopies k e → GoesTo k (on_news e news)
   news_heard k e news h = by_test (GoesTo k) (fits e.maps news) (takes_news e news) (still e) (λ t. news_taken k e news h) (λ t. as_was k e h)
 
-  welcomed_over : (k : Books) (e : Emptying) (slots : List SlotNews) (groups : Option GroupMapState) → ServesCopies k e → GoesTo k (welcomes_over e slots groups)
+  welcomed_over : (k : Books) (e : Emptying) (slots : List SlotNews) (groups : Option GroupMapState) → ServesCopies k e
+      → GoesTo k (welcomes_over e slots groups)
   welcomed_over k e slots None h = as_was k e h
   welcomed_over k e slots (Some groups) h = job_goes_on members part few k e (input.Welcome slots groups) h (λ p. tt)
 
@@ -198,7 +200,8 @@ module _ (members part : ℕ) (few : members ≤ its_log) where
   pub packet_heard : (k : Books) (e : Emptying) (packet : Packet) → ServingTold k e packet.body → ServesCopies k e → GoesTo k (on_packet e packet)
   unfolding on_packet
   packet_heard k e packet owed h =
-      by_test (GoesTo k) (names_known e.maps packet.body) (on_body e packet.from packet.body) (asks_for_maps e) (λ t. body_heard k e packet.from packet.body owed h)
+      by_test (GoesTo k) (names_known e.maps packet.body) (on_body e packet.from packet.body) (asks_for_maps e)
+      (λ t. body_heard k e packet.from packet.body owed h)
       (λ t. as_was k _ (record { seen = h.seen; waits = h.waits; job = h.job }))
 
   pub time_passes : (k : Books) (e : Emptying) → ServesCopies k e → GoesTo k (on_tick e)

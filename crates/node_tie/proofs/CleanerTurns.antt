@@ -135,7 +135,8 @@ module _ (members part : ℕ) (few : members ≤ its_log) where
   opening_begun k before l o None = to_opening k (Opening before o) l o
   opening_begun k before l o (Some number) = opening_wished k before l o number (wish_at l.items number)
 
-  serving_wished : (k : Books) (before e : Emptying) (number : ℕ) (wish : Wish) → ServesCopies k e → Turned k (Serves before) (serving_wishes e number wish).state
+  serving_wished : (k : Books) (before e : Emptying) (number : ℕ) (wish : Wish) → ServesCopies k e
+      → Turned k (Serves before) (serving_wishes e number wish).state
   unfolding crashes
   serving_wished k before e number Crash h = to_down k (Serves before) _
   serving_wished k before e number Restart h = on_serving k before e h
@@ -162,10 +163,12 @@ module _ (members part : ℕ) (few : members ≤ its_log) where
       (let w : Went = opening.on_packet o l.questions packet in ended k l (record l { questions = w.questions }) o w.progress owed)
   heard k (Serves e) packet h owed = serving k e (on_packet e packet).state (packet_heard members part few k e packet owed h)
 
-  delivered : (k : Books) (peers : Peers) (p : Phase) (packet : Packet) → CleanerCopies k p → PacketTold k p packet → Turned k p (on_deliver peers p packet).state
+  delivered : (k : Books) (peers : Peers) (p : Phase) (packet : Packet) → CleanerCopies k p → PacketTold k p packet
+      → Turned k p (on_deliver peers p packet).state
   unfolding on_deliver
   delivered k peers p packet h owed =
-      by_test (λ (w : Went_to). Turned k p w.state) (is_well_formed peers packet) (hears p packet) (still p) (λ t. heard k p packet h owed) (λ t. as_it_was k p h)
+      by_test (λ (w : Went_to). Turned k p w.state) (is_well_formed peers packet) (hears p packet) (still p) (λ t. heard k p packet h owed)
+      (λ t. as_it_was k p h)
 
   ticked : (k : Books) (p : Phase) → CleanerCopies k p → InTime k p → Turned k p (on_time p).state
   unfolding on_time

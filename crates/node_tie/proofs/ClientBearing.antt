@@ -39,7 +39,8 @@ IsValued h = is_held h.mode ≡ true → is_some h.value ≡ true
 pub record Stays (Q : BlockId → Held → Type 0) : Type 0 where
   pub same : (b : BlockId) (h g : Held) → g.mode ≡ h.mode → g.ver ≡ h.ver → g.settled ≡ h.settled → g.value ≡ h.value → Q b h → Q b g
   pub clean : (b : BlockId) (h g : Held) → is_dirty h ≡ false → is_dirty g ≡ false → IsValued g → Q b h → Q b g
-  pub lowers : (b : BlockId) (h g : Held) → is_held h.mode ≡ true → is_dirty h ≡ false → g.ver ≡ h.ver → g.settled ≡ h.settled → g.value ≡ h.value → Q b h → Q b g
+  pub lowers : (b : BlockId) (h g : Held) → is_held h.mode ≡ true → is_dirty h ≡ false → g.ver ≡ h.ver → g.settled ≡ h.settled → g.value ≡ h.value → Q b h
+      → Q b g
 
 -- no fact stays
 pub no_fact : Stays (λ b h. Unit {0})
@@ -50,7 +51,8 @@ no_fact = record {
 }
 
 -- what holds of the incarnation, of what is promised, of what is put off of each block, and of what is known of it
-pub record Bearing (P : BlockId → Option Giving → Type 0) (E : List ℕ → Type 0) (Q : BlockId → Held → Type 0) (life inc : ℕ) (epochs : List ℕ) (blocks : List (BlockId × Held)) : Type 0
+pub record Bearing (P : BlockId → Option Giving → Type 0) (E : List ℕ → Type 0) (Q : BlockId → Held → Type 0) (life inc : ℕ) (epochs : List ℕ)
+    (blocks : List (BlockId × Held)) : Type 0
   where
     pub life_is : inc ≡ life
     pub promised : E epochs
@@ -112,9 +114,11 @@ module _ (P : BlockId → Option Giving → Type 0) (E : List ℕ → Type 0) (Q
 
   module _ (stays : Stays Q) where
     -- the same version and value
-    same_held : (s : TokensState) → Bears s → (block : BlockId) (g : Held) → P block g.giving → g.mode ≡ (held_of s.blocks block).mode → g.ver ≡ (held_of s.blocks block).ver
+    same_held : (s : TokensState) → Bears s → (block : BlockId) (g : Held) → P block g.giving → g.mode ≡ (held_of s.blocks block).mode
+        → g.ver ≡ (held_of s.blocks block).ver
         → g.settled ≡ (held_of s.blocks block).settled → g.value ≡ (held_of s.blocks block).value → Bears (with_held s block g)
-    same_held s h block g here mode ver settled value = bears_with s h block g here (stays.same block (held_of s.blocks block) g mode ver settled value (h.held block))
+    same_held s h block g here mode ver settled value =
+        bears_with s h block g here (stays.same block (held_of s.blocks block) g mode ver settled value (h.held block))
 
     pub ask-bears : (s : TokensState) (block : BlockId) (mode : Mode) → Bears s → Bears (new_want s block mode).state
     unfolding new_want
@@ -143,7 +147,8 @@ module _ (P : BlockId → Option Giving → Type 0) (E : List ℕ → Type 0) (Q
         by_place None = p
         by_place (Some place) = p
 
-    granted-fact : (block : BlockId) (h : Held) (stamp : Stamp) (mode : Mode) (entry : Entry) → (is_own mode ≡ true → (h : Held) → Q block h → Q block (owned h stamp entry.ver))
+    granted-fact : (block : BlockId) (h : Held) (stamp : Stamp) (mode : Mode) (entry : Entry)
+        → (is_own mode ≡ true → (h : Held) → Q block h → Q block (owned h stamp entry.ver))
         → is_dirty h ≡ false → Q block h → Q block (grant_taken h stamp mode entry)
     granted-fact block h stamp mode entry may clean q =
         by_test (Q block) (is_own mode) (owned h stamp entry.ver) (copy_granted h stamp entry.ver entry.place) (λ t. may t h q) (λ t. by_place entry.place)
@@ -170,7 +175,8 @@ module _ (P : BlockId → Option Giving → Type 0) (E : List ℕ → Type 0) (Q
         by_test (λ (d : Done). Bears d.state) (accepts s block stamp inc req Copy) (record { state = with_held s block g; outs = output.Ready block ∷ [] })
         (still s)
         (λ t. bears_with s h block g (h.giving block)
-        (stays.clean block (held_of s.blocks block) g (asked_clean s sound block stamp inc req Copy t) (itself_clean ver) (λ held. refl) (h.held block))) (λ t. h)
+        (stays.clean block (held_of s.blocks block) g (asked_clean s sound block stamp inc req Copy t) (itself_clean ver) (λ held. refl) (h.held block)))
+        (λ t. h)
 
     on_forwarded-bears : (s : TokensState) (block : BlockId) (stamp : Stamp) (ver : ℕ) → Bears s → Bears (on_forwarded s block stamp ver).state
     unfolding on_forwarded
@@ -204,7 +210,8 @@ module _ (P : BlockId → Option Giving → Type 0) (E : List ℕ → Type 0) (Q
           (record k { mode = Nothing; value = None; stamp = stamp; giving = None }) (λ u. none block) (λ u. none block))
           (by_test (Q block) (keep && is_held k.mode) (record k { mode = Copy; stamp = stamp; giving = None })
           (record k { mode = Nothing; value = None; stamp = stamp; giving = None })
-          (λ u. stays.lowers block k (record k { mode = Copy; stamp = stamp; giving = None }) (and_second keep (is_held k.mode) u) t refl refl refl (h.held block))
+          (λ u. stays.lowers block k (record k { mode = Copy; stamp = stamp; giving = None }) (and_second keep (is_held k.mode) u) t refl refl refl
+          (h.held block))
           (λ u. stays.clean block k (record k { mode = Nothing; value = None; stamp = stamp; giving = None }) t t (λ held. contrary held) (h.held block))))
 
       recalled_above-bears : (s : TokensState) (block : BlockId) (stamp : Stamp) (keep : Bool) → P block (Some (record { stamp = stamp; keep = keep }))
@@ -257,7 +264,8 @@ module _ (P : BlockId → Option Giving → Type 0) (E : List ℕ → Type 0) (Q
           by_test (λ (d : Done). Bears d.state) (may_promise s slot epoch) (steps ask_copy (raised s slot epoch) (fetched_in slot s.blocks)) (still s)
           (λ t. bears_steps ask_copy (λ u b. ask-bears u b Copy) (raised s slot epoch) (fetched_in slot s.blocks) (raised-bears s slot epoch may h)) (λ t. h)
 
-    on_wrote-bears : (s : TokensState) (block : BlockId) (value : Option (List ℕ)) → Allowed (Wrote block value) → Bears s → Bears (on_wrote s block value).state
+    on_wrote-bears : (s : TokensState) (block : BlockId) (value : Option (List ℕ)) → Allowed (Wrote block value) → Bears s
+        → Bears (on_wrote s block value).state
     unfolding on_wrote
     on_wrote-bears s block value may h =
         let g : Held = written (held_of s.blocks block) value in
@@ -294,7 +302,8 @@ module _ (P : BlockId → Option Giving → Type 0) (E : List ℕ → Type 0) (Q
         let g : Held = let_go (held_of s.blocks block) in
         by_test (λ (d : Done). Bears d.state) (may_evict (held_of s.blocks block)) (still (with_held s block g)) (still s)
         (λ t. bears_with s h block g (h.giving block)
-        (stays.clean block (held_of s.blocks block) g (is_clean (held_of s.blocks block) t) (is_clean (held_of s.blocks block) t) (λ held. contrary held) (h.held block))) (λ t. h)
+        (stays.clean block (held_of s.blocks block) g (is_clean (held_of s.blocks block) t) (is_clean (held_of s.blocks block) t) (λ held. contrary held)
+        (h.held block))) (λ t. h)
       where
         is_clean : (k : Held) → may_evict k ≡ true → is_dirty k ≡ false
         is_clean k t = not_true (is_dirty k) (and_second (is_held k.mode) (not (is_dirty k)) t)

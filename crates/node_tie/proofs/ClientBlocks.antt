@@ -119,7 +119,8 @@ module _ (logs : Bool) (members part most c life room top : ℕ) (pos : 0 < c) (
       (subst (λ k. frames.Grown logs members part c n m (Wrote k block value ∷ [])) (sym number) grown)
       (writing.puts_from logs members part most c life room top pos less m w block (record { ver = (held_at w block).ver; hop = 0; place = None }) value h)
 
-  changes_so : (n : Net) (s : Serving) (block : BlockId) (value : Option (List ℕ)) → may_write (held_at s block) ≡ true → At n s → Goes n (changes s block value).done
+  changes_so : (n : Net) (s : Serving) (block : BlockId) (value : Option (List ℕ)) → may_write (held_at s block) ≡ true → At n s
+      → Goes n (changes s block value).done
   changes_so n s block value may h =
       let k : Written n s block value =
       putting.written_so logs members part most c life room top pos less n s.tokens s.log s.lasting.number s.lasting.inc block value may h in
@@ -130,7 +131,8 @@ module _ (logs : Bool) (members part most c life room top : ℕ) (pos : 0 < c) (
       → Goes n (still (notes_gone (record s { tokens = (client.on_evict s.tokens block).state }) block))
   gone_from n s block h =
       let t : Serving = record s { tokens = (client.on_evict s.tokens block).state } in
-      frames.goes_still logs members part most c life room top n (notes_gone t block) (tokens.notes_gone_so logs members part most c life room top pos less n t block h)
+      frames.goes_still logs members part most c life room top n (notes_gone t block)
+      (tokens.notes_gone_so logs members part most c life room top pos less n t block h)
 
   lets_go_so : (n : Net) (s : Serving) (block : BlockId) → At n s → Goes n (still (lets_go s block))
   lets_go_so n s block h =

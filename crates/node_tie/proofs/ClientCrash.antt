@@ -45,13 +45,15 @@ flown_of all b low (Block block value ∷ items) some = flown_of all b low items
 flown_of all b low (Delta block ver hop item ∷ items) some = by_same (same_block block b) some.0 (flown_of all b low items some.1)
   where
     by_same : (t : Bool) → 0 < ver → Flown b low (version_in b low items) (row_in (filter_map (row_told all) items) b)
-        → Flown b low (unwrap_or (cond t (Some ver) None) (version_in b low items)) (cond t (record { version = ver; value = value_in (slice_get all item) }) (row_in (filter_map (row_told all) items) b))
+        → Flown b low (unwrap_or (cond t (Some ver) None) (version_in b low items))
+        (cond t (record { version = ver; value = value_in (slice_get all item) }) (row_in (filter_map (row_told all) items) b))
     by_same true new rest = inl (refl, new)
     by_same false new rest = rest
 flown_of all b low (Part slot rows ∷ items) some = flown_of all b low items some
 
 -- so a dirty block may fall to the greater of both versions
-high_is : (h : Held) (b : BlockId) (flight : Option FlightState) (waits : Row) → AreVersions (rows_flown flight) → IsUnsettled h waits (row_in (rows_flown flight) b)
+high_is : (h : Held) (b : BlockId) (flight : Option FlightState) (waits : Row) → AreVersions (rows_flown flight)
+    → IsUnsettled h waits (row_in (rows_flown flight) b)
     → flown_version flight b h.settled ≡ max h.settled (row_in (rows_flown flight) b).version
 high_is h b None waits some p = none h.settled
   where
@@ -124,7 +126,8 @@ module _ (s : Serving) where
   apart_all a [] below = tt
   apart_all a (e ∷ es) below =
       let rows : List (BlockId × Held) = filter (λ (x : BlockId × Held). is_dirty x.1) es in
-      by_test (λ (xs : List (BlockId × Held)). AllByRecursion (λ (g : Fall). same_block a g.block ≡ false) (map (fall_of s) (keys_of xs))) (is_dirty e.1) (e ∷ rows) rows
+      by_test (λ (xs : List (BlockId × Held)). AllByRecursion (λ (g : Fall). same_block a g.block ≡ false) (map (fall_of s) (keys_of xs))) (is_dirty e.1)
+      (e ∷ rows) rows
       (λ dirty. (apart a e.0 below.0, apart_all a es below.1)) (λ clean. apart_all a es below.1)
 
   -- no block falls twice
@@ -150,11 +153,14 @@ module _ (s : Serving) where
   abbrev Found : BlockId → List (BlockId × Held) → Held → Type 0
   Found b es h = acts.fall_of b (falls_in es) ≡ cond (is_dirty h) (Some (fall_of s b)) None
 
-  found_first : (b : BlockId) (e : BlockId × Held) (es : List (BlockId × Held)) → AllByRecursion (λ k. block_cmp e.0 k ≡ Less) (keys_of es) → e.0 ≡ b → Found b (e ∷ es) e.1
+  found_first : (b : BlockId) (e : BlockId × Held) (es : List (BlockId × Held)) → AllByRecursion (λ k. block_cmp e.0 k ≡ Less) (keys_of es) → e.0 ≡ b
+      → Found b (e ∷ es) e.1
   unfolding fall_of
   found_first b e es below same = at_head (is_dirty e.1)
     where
-      at_head : (t : Bool) → acts.fall_of b (map (fall_of s) (keys_of (cond t (e ∷ filter (λ (x : BlockId × Held). is_dirty x.1) es) (filter (λ (x : BlockId × Held). is_dirty x.1) es))))
+      at_head : (t : Bool)
+          → acts.fall_of b
+          (map (fall_of s) (keys_of (cond t (e ∷ filter (λ (x : BlockId × Held). is_dirty x.1) es) (filter (λ (x : BlockId × Held). is_dirty x.1) es))))
           ≡ cond t (Some (fall_of s b)) None
       at_head true =
           ap (λ t. cond t (Some (fall_of s e.0)) (acts.fall_of b (falls_in es))) (ap (λ k. same_block k b) same ∙ same_block_itself b)
@@ -165,13 +171,16 @@ module _ (s : Serving) where
   unfolding fall_of
   found_later b e es h other rest =
       let rows : List (BlockId × Held) = filter (λ (x : BlockId × Held). is_dirty x.1) es in
-      by_test (λ (xs : List (BlockId × Held)). acts.fall_of b (map (fall_of s) (keys_of xs)) ≡ cond (is_dirty h) (Some (fall_of s b)) None) (is_dirty e.1) (e ∷ rows) rows
+      by_test (λ (xs : List (BlockId × Held)). acts.fall_of b (map (fall_of s) (keys_of xs)) ≡ cond (is_dirty h) (Some (fall_of s b)) None) (is_dirty e.1)
+      (e ∷ rows) rows
       (λ dirty. ap (λ t. cond t (Some (fall_of s e.0)) (acts.fall_of b (falls_in es))) other ∙ rest) (λ clean. rest)
 
-  found_step : (b : BlockId) (e : BlockId × Held) (es : List (BlockId × Held)) → AllByRecursion (λ k. block_cmp e.0 k ≡ Less) (keys_of es) → Found b es (held_of es b)
+  found_step : (b : BlockId) (e : BlockId × Held) (es : List (BlockId × Held)) → AllByRecursion (λ k. block_cmp e.0 k ≡ Less) (keys_of es)
+      → Found b es (held_of es b)
       → Found b (e ∷ es) (held_of (e ∷ es) b)
   found_step b e es below rest =
-      subst (λ t. Found b (e ∷ es) (unwrap_or (cond t (Some e.1) (lookup (is_at (block_cmp b)) es)) unknown)) (sym (eq_same e.0 b)) (by_same (same_block e.0 b) refl)
+      subst (λ t. Found b (e ∷ es) (unwrap_or (cond t (Some e.1) (lookup (is_at (block_cmp b)) es)) unknown)) (sym (eq_same e.0 b))
+      (by_same (same_block e.0 b) refl)
     where
       by_same : (t : Bool) → same_block e.0 b ≡ t → Found b (e ∷ es) (unwrap_or (cond t (Some e.1) (lookup (is_at (block_cmp b)) es)) unknown)
       by_same true same = found_first b e es below (sym (same_block_exact e.0 b same))

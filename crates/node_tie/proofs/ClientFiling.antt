@@ -30,7 +30,8 @@ record Ready (logs : Bool) (members part most c life room top : ℕ) (n : Net) (
   flies : Premise logs (next.books.flying c ≡ true)
   rows_are : next.books.rows c (suc (next.books.end c)) ≡ rows
 
-ready : (logs : Bool) (members part most c life room top : ℕ) → 0 < c → c < members → (n : Net) (t : TokensState) (l : LogState) (f : FlightState) (number inc : ℕ)
+ready : (logs : Bool) (members part most c life room top : ℕ) → 0 < c → c < members
+    → (n : Net) (t : TokensState) (l : LogState) (f : FlightState) (number inc : ℕ)
     → frames.Stands logs members part most c life room top n t (record l { flight = Some f }) number inc
     → Ready logs members part most c life room top n t (record l { flight = Some f }) number inc (rows_told f.segment.items)
 ready true members part most c life room top pos less n t l f number inc h =
@@ -60,7 +61,8 @@ ready false members part most c life room top pos less n t l f number inc h = re
   rows_are = said_now n.books c (rows_told f.segment.items);
 }
 
-module _ (logs : Bool) (members part most c life room top : ℕ) (pos : 0 < c) (less : c < members) (n : Net) (t : TokensState) (l : LogState) (f : FlightState) (number inc : ℕ)
+module _ (logs : Bool) (members part most c life room top : ℕ) (pos : 0 < c) (less : c < members) (n : Net) (t : TokensState) (l : LogState) (f : FlightState)
+    (number inc : ℕ)
     (h : frames.Stands logs members part most c life (room + 1) top n t (record l { flight = Some f }) number inc) where
   abbrev flown : LogState
   flown = record l { flight = Some f }
@@ -81,7 +83,8 @@ module _ (logs : Bool) (members part most c life room top : ℕ) (pos : 0 < c) (
 
     tokens_are : after_filing.tokens c ≡ all_settled t rows
     tokens_are =
-        put_here r.next.tokens c (all_settled (r.next.tokens c) (k.rows c (suc (k.end c)))) ∙ ap (λ (u : TokensState). all_settled u (k.rows c (suc (k.end c)))) r.stands.tokens
+        put_here r.next.tokens c (all_settled (r.next.tokens c) (k.rows c (suc (k.end c))))
+        ∙ ap (λ (u : TokensState). all_settled u (k.rows c (suc (k.end c)))) r.stands.tokens
         ∙ ap (all_settled t) r.rows_are
 
     valued : Bears (Sent part c r.next.sent) (Promised part most) (λ b h. IsValued h) life (all_settled t rows)
@@ -145,7 +148,10 @@ module _ (logs : Bool) (members part most c life room top : ℕ) (pos : 0 < c) (
           life_is = valued.life_is;
           promised = valued.promised;
           giving = valued.giving;
-          held = λ b. (valued.held b, premise_at logs (λ b. IsUnsettled (held_of (all_settled t rows).blocks b) (row_in (rows_waiting l) b) (row_in [] b)) unsettled b);
+          held = λ b. (
+            valued.held b,
+            premise_at logs (λ b. IsUnsettled (held_of (all_settled t rows).blocks b) (row_in (rows_waiting l) b) (row_in [] b)) unsettled b,
+          );
         };
         logged = logged;
         numbers = numbers;

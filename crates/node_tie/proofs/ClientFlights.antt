@@ -54,7 +54,8 @@ module _ (logs : Bool) (members part most c life room top : ℕ) (pos : 0 < c) (
   unfolding keeps_clean
   keeps_clean_so n s row h =
       by_test (λ (t : Serving). Goes n (still t)) (not (is_dirty (held_at s row.0)) && is_held (held_at s row.0).mode) (notes_clean s row.0) s
-      (λ t. tokens.notes_clean_so logs members part most c life room top pos less n s row.0 h) (λ t. frames.goes_still logs members part most c life room top n s h)
+      (λ t. tokens.notes_clean_so logs members part most c life room top pos less n s row.0 h)
+      (λ t. frames.goes_still logs members part most c life room top n s h)
 
   gives_up_so : (n : Net) (s : Serving) (block : BlockId) (g : Option Giving) → frames.Sent part c n.sent block g → At n s
       → Goes n (gives_up s block g)

@@ -103,7 +103,8 @@ module _ (part c life : ℕ) where
 -- what is done by one list and then by another
 pub acts_on : (c : ℕ) (es fs : List Effect) → acts_of (Client c) (es ++ fs) ≡ acts_of (Client c) es ++ acts_of (Client c) fs
 acts_on c [] fs = refl
-acts_on c (e ∷ es) fs = ap (λ rest. act_of (Client c) e ++ rest) (acts_on c es fs) ∙ sym (append_assoc (act_of (Client c) e) (acts_of (Client c) es) (acts_of (Client c) fs))
+acts_on c (e ∷ es) fs =
+    ap (λ rest. act_of (Client c) e ++ rest) (acts_on c es fs) ∙ sym (append_assoc (act_of (Client c) e) (acts_of (Client c) es) (acts_of (Client c) fs))
 
 -- ---- the net
 
@@ -229,7 +230,8 @@ module _ (logs : Bool) (members part most c life room top : ℕ) where
     pub grown : Grown logs members part c n next []
     pub stands : Stands next t l number inc
 
-  pub stands_acted : (n : Net) (done : List Act) (t : TokensState) (l : LogState) (number inc : ℕ) → Stands n t l number inc → Stands (acted n done) t l number inc
+  pub stands_acted : (n : Net) (done : List Act) (t : TokensState) (l : LogState) (number inc : ℕ) → Stands n t l number inc
+      → Stands (acted n done) t l number inc
   stands_acted n done t l number inc h = record {
     up = h.up;
     tokens = h.tokens;
@@ -299,11 +301,13 @@ module _ (logs : Bool) (members part most c life room top : ℕ) where
       → Goes n (gives s (d.outs ++ outs))
   goes_and_gives n d s outs p f plain = goes_on n d (gives s outs) p (λ m h. goes_plain m s outs (f m h) plain)
 
-  pub goes_after_in : (n : Net) (s : Serving) (outs : List Effect) (d : Done) → Plain part c life outs → At n s → ((m : Net) → Within n.sent m.sent → At m s → Goes m d)
+  pub goes_after_in : (n : Net) (s : Serving) (outs : List Effect) (d : Done) → Plain part c life outs → At n s
+      → ((m : Net) → Within n.sent m.sent → At m s → Goes m d)
       → Goes n (after outs d)
   goes_after_in n s outs d plain h f = goes_on_in n (gives s outs) d (goes_plain n s outs h plain) f
 
-  pub goes_after : (n : Net) (s : Serving) (outs : List Effect) (d : Done) → Plain part c life outs → At n s → ((m : Net) → At m s → Goes m d) → Goes n (after outs d)
+  pub goes_after : (n : Net) (s : Serving) (outs : List Effect) (d : Done) → Plain part c life outs → At n s → ((m : Net) → At m s → Goes m d)
+      → Goes n (after outs d)
   goes_after n s outs d plain h f = goes_after_in n s outs d plain h (λ m w k. f m k)
 
   -- a list of steps

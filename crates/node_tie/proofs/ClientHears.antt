@@ -156,7 +156,8 @@ module _ (logs : Bool) (members part most c life room top : ℕ) (pos : 0 < c) (
       by_test (λ (x : Done). Goes n x) (is_stamp (held_at s r.block).stamp r.stamp) (says_again s r d) (takes_back s r.block r.stamp r.keep)
       (λ is.
       let k : taking.Taken logs members part most c life room top n s.log s.log.end.seq s.lasting.number s.lasting.inc d [] =
-      taking.takes logs members part most c life room top n s.tokens s.log s.lasting.number s.lasting.inc (input.Recalled r.block r.stamp r.keep) pos less h may in
+      taking.takes logs members part most c life room top n s.tokens s.log s.lasting.number s.lasting.inc
+      (input.Recalled r.block r.stamp r.keep) pos less h may in
       frames.goes_from logs members part most c life room top n k.next (says_again s r d) k.grown
       (again_so k.next t r d.outs (said_again s.tokens r.block r.stamp r.keep is) k.seen k.stands))
       (λ is. tokens.takes_back_so logs members part most c life room top pos less n s r.block r.stamp r.keep may h)
@@ -207,7 +208,8 @@ module _ (logs : Bool) (members part most c life room top : ℕ) (pos : 0 < c) (
       as_read next.Ask brings = brings
       as_read next.Lost brings = brings
 
-  told_by_so : (n : Net) (s : Serving) (server ask : ℕ) (t : Told) → Premise logs (Tells n.books s (node.Server server) ask t) → At n s → Goes n (told_by s server ask t)
+  told_by_so : (n : Net) (s : Serving) (server ask : ℕ) (t : Told) → Premise logs (Tells n.books s (node.Server server) ask t) → At n s
+      → Goes n (told_by s server ask t)
   unfolding told_by
   told_by_so n s server ask t brings h = told_at_so n s (block_read (reading_in s.call)) (heard (reading_in s.call) s.maps.groups ask server t) brings h
 
@@ -218,7 +220,8 @@ module _ (logs : Bool) (members part most c life room top : ℕ) (pos : 0 < c) (
   on_told_so n s node.Cleaner ask t brings h = still_so n s h
   on_told_so n s node.Registry ask t brings h = still_so n s h
 
-  pub on_found_so : (n : Net) (s : Serving) (from : NodeId) (f : Found) → Premise logs (Tells n.books s from f.ask (told.Held f.fragment)) → At n s → Goes n (on_found s from f)
+  pub on_found_so : (n : Net) (s : Serving) (from : NodeId) (f : Found) → Premise logs (Tells n.books s from f.ask (told.Held f.fragment)) → At n s
+      → Goes n (on_found s from f)
   on_found_so n s from f brings h = on_told_so n s from f.ask (told.Held f.fragment) brings h
 
   pub on_missing_so : (n : Net) (s : Serving) (from : NodeId) (m : Missing) → Premise logs (Tells n.books s from m.ask (told.Missing m.generation)) → At n s

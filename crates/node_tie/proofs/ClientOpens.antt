@@ -72,7 +72,8 @@ abbrev count_of : (logs : Bool) (k : Books) (acts : List Act) (c : ℕ) (r : Ope
 count_of true k acts c r ended = ended.count
 count_of false k acts c r ended = 0
 
-end_of : (logs : Bool) (k : Books) (acts : List Act) (c : ℕ) (r : Opened) (ended : Premise logs (ReopensSo k acts c r)) (adopted : Bool) → adopted ≡ adopts acts c r.chain
+end_of : (logs : Bool) (k : Books) (acts : List Act) (c : ℕ) (r : Opened) (ended : Premise logs (ReopensSo k acts c r)) (adopted : Bool)
+    → adopted ≡ adopts acts c r.chain
     → Premise logs (r.log.end.seq ≡ (with_empty (count_of logs k acts c r ended) (reopened k c adopted) c).end c)
 end_of true k acts c r ended adopted same = ended.end ∙ ap (λ t. (with_empty ended.count (reopened k c t) c).end c) (sym same)
 end_of false k acts c r ended adopted same = tt
@@ -99,13 +100,16 @@ module _ (logs : Bool) (members part most c : ℕ) (small : part < 8) (pos : 0 <
     opening_answers : (number : ℕ) (a : Answer) → Goes (Opening l o) (answers (Opening (record l { items = begun l.items }) o) number a)
     opening_answers number a =
         stays_so logs members part most c small pos less n (Opening l o) (Opening (record l { items = begun l.items }) o) (Answers number a ∷ [])
-        (record { up = sees.up; number = sees.number; inc = sees.inc; owner = sees.owner; promised = sees.promised; beyond = sees.beyond }) h.within h.promises (omega arith) tt tt (premise logs refl)
+        (record { up = sees.up; number = sees.number; inc = sees.inc; owner = sees.owner; promised = sees.promised; beyond = sees.beyond }) h.within h.promises
+        (omega arith) tt tt (premise logs refl)
         (answered_one logs members part most c small pos less n l.inc number a)
 
     pub opening_begins_so : (number : ℕ) (w : Option Work) → Goes (Opening l o) (opening_begins (record l { items = begun l.items }) o number (wish_of w))
     opening_begins_so number (Some (work.Crash node)) =
-        stays_so logs members part most c small pos less n (Opening l o) (crashed (record l { items = begun l.items }) number).state (crashed (record l { items = begun l.items }) number).outs
-        (record { up = sees.up; number = sees.number; inc = (let k : (n.tokens c).inc < l.inc = sees.inc in omega arith); beyond = sees.beyond }) h.within tt (omega arith) tt tt (premise logs refl)
+        stays_so logs members part most c small pos less n (Opening l o) (crashed (record l { items = begun l.items }) number).state
+        (crashed (record l { items = begun l.items }) number).outs
+        (record { up = sees.up; number = sees.number; inc = (let k : (n.tokens c).inc < l.inc = sees.inc in omega arith); beyond = sees.beyond }) h.within tt
+        (omega arith) tt tt (premise logs refl)
         (crashed_plain l.inc (begun l.items).unanswered number)
     opening_begins_so number (Some (work.Restart node)) = opening_answers number answer.Up
     opening_begins_so number (Some _) = opening_answers number answer.Down
@@ -170,7 +174,8 @@ module _ (logs : Bool) (members part most c : ℕ) (small : part < 8) (pos : 0 <
       logged k end = premise_three logs
           (λ (o : ReopensSo n.books n.acts c r) (e : r.log.end.seq ≡ (books k).end c) (b : NothingBeyond n.books c).
           opened_agrees (books k) c l.inc r.promised.epochs
-          (with_empty_rests k (reopened n.books c (adopts before.acts c r.chain)) c (reopened_rests n.books c (adopts before.acts c r.chain) b)) r.log o.nothing_waits
+          (with_empty_rests k (reopened n.books c (adopts before.acts c r.chain)) c (reopened_rests n.books c (adopts before.acts c r.chain) b))
+          r.log o.nothing_waits
           o.nothing_flies e) ended end sees.beyond
 
       ends_so : Premise logs (r.log.end.seq ≡ (books (count_of logs n.books n.acts c r ended)).end c)
@@ -247,7 +252,14 @@ module _ (logs : Bool) (members part most c : ℕ) (small : part < 8) (pos : 0 <
             → Goes (Opening l o) (after w.effects (after_opening (record l { questions = w.questions }) capacity p))
         by_progress (progress.Opening q) its kept ended =
             stays_so logs members part most c small pos less n (Opening l o) (Opening (record l { questions = w.questions }) q) (w.effects ++ [])
-            (record { up = sees.up; number = sees.number; inc = sees.inc; owner = ap (λ (x : Owner). x.inc) its ∙ sees.owner; promised = raises q kept; beyond = sees.beyond })
+            (record {
+              up = sees.up;
+              number = sees.number;
+              inc = sees.inc;
+              owner = ap (λ (x : Owner). x.inc) its ∙ sees.owner;
+              promised = raises q kept;
+              beyond = sees.beyond;
+            })
             h.within (within q kept) (omega arith) tt tt (premise logs refl)
             (All-append (frames.May part c l.inc) w.effects [] plain (All-nil (frames.May part c l.inc)))
           where
@@ -262,7 +274,8 @@ module _ (logs : Bool) (members part most c : ℕ) (small : part < 8) (pos : 0 <
         by_progress (progress.Lost seg) its kept ended =
             stays_so logs members part most c small pos less n (Opening l o) (Down (record l { questions = w.questions; items = answered l.items }))
             (w.effects ++ answers_unanswered l.items.unanswered (answer.Lost seg))
-            (record { up = sees.up; number = sees.number; inc = (let k : (n.tokens c).inc < l.inc = sees.inc in omega arith); beyond = sees.beyond }) h.within tt (omega arith) tt tt (premise logs refl)
+            (record { up = sees.up; number = sees.number; inc = (let k : (n.tokens c).inc < l.inc = sees.inc in omega arith); beyond = sees.beyond })
+            h.within tt (omega arith) tt tt (premise logs refl)
             (All-append (frames.May part c l.inc) w.effects _ plain (tokens.plain_answers part c l.inc l.items.unanswered (answer.Lost seg)))
 
     -- a Welcome promises within the bounds
@@ -290,6 +303,7 @@ module _ (logs : Bool) (members part most c : ℕ) (small : part < 8) (pos : 0 <
         went_so capacity (opening.on_packet o l.questions packet) (behaving.packet_so o l.questions packet)
         (promising.packet_so Kept o l.questions packet opens_so (brings_so packet.body gets.brings known)) gets.reads
 
-    pub opening_time : (capacity : ℕ) → Premise logs (EndsInTime part most c n (Opening l o)) → Goes (Opening l o) (opened_on l capacity (opening.on_tick o l.questions))
+    pub opening_time : (capacity : ℕ) → Premise logs (EndsInTime part most c n (Opening l o))
+        → Goes (Opening l o) (opened_on l capacity (opening.on_tick o l.questions))
     opening_time capacity ended =
         went_so capacity (opening.on_tick o l.questions) (behaving.tick_so o l.questions) (promising.tick_so Kept o l.questions opens_so) ended

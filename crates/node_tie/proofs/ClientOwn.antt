@@ -51,7 +51,9 @@ module _ (logs : Bool) (members part most c life room top : ℕ) (pos : 0 < c) (
   and_runs d = after d.outs (runs d.state)
 
   pub runs_after : (n : Net) (d : Done) → Goes n d → Goes n (and_runs d)
-  runs_after n d p = frames.goes_on logs members part most c life room top n d (runs d.state) p (λ m k. blocks.runs_so logs members part most c life room top pos less m d.state k)
+  runs_after n d p =
+      frames.goes_on logs members part most c life room top n d (runs d.state) p
+      (λ m k. blocks.runs_so logs members part most c life room top pos less m d.state k)
 
   -- ---- a grant to own is accepted
 

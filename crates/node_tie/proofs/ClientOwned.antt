@@ -130,7 +130,8 @@ owned_so s block stamp inc req entry is =
     by_test (λ (d : client.Done). Owned s block stamp entry d) (client.accepts s block stamp inc req Own) d (still s)
     (λ t. record { outs_are = refl; known = held_of-put_itself block g s.blocks }) (λ t. contrary (sym t ∙ is))
 
-pub refused : (s : TokensState) (block : BlockId) (stamp : Stamp) (inc req : ℕ) (mode : Mode) (entry : Entry) → client.accepts s block stamp inc req mode ≡ false
+pub refused : (s : TokensState) (block : BlockId) (stamp : Stamp) (inc req : ℕ) (mode : Mode) (entry : Entry)
+    → client.accepts s block stamp inc req mode ≡ false
     → client.on_granted s block stamp inc req mode entry ≡ still s
 unfolding client.on_granted
 refused s block stamp inc req mode entry is = ap
@@ -183,11 +184,13 @@ module _ (logs : Bool) (members part most c life room top : ℕ) (pos : 0 < c) (
     unfolding client.on_granted
     others_known P here there =
         by_test (λ (d : client.Done). (b : BlockId) → P b (held_of d.state.blocks b)) (client.accepts s.tokens block stamp inc req Own)
-        (record { state = with_held s.tokens block (grant_taken (held_of s.tokens.blocks block) stamp Own entry); outs = output.Ready block ∷ [] }) (still s.tokens)
+        (record { state = with_held s.tokens block (grant_taken (held_of s.tokens.blocks block) stamp Own entry); outs = output.Ready block ∷ [] })
+        (still s.tokens)
         (λ t. put_cases P block (grant_taken (held_of s.tokens.blocks block) stamp Own entry) s.tokens.blocks here there) (λ t. contrary (sym t ∙ taken))
 
     valued : (b : BlockId) → same_block block b ≡ false → IsValued (held_of granted.state.blocks b)
-    valued = others_known (λ b g. same_block block b ≡ false → IsValued g) (λ other. contrary (sym other ∙ same_block_itself block)) (λ b other o. (h.bears.held b).0)
+    valued = others_known (λ b g. same_block block b ≡ false → IsValued g) (λ other. contrary (sym other ∙ same_block_itself block))
+        (λ b other o. (h.bears.held b).0)
 
     unsettled : Premise logs (AllUnsettled granted.state (row_in (rows_waiting s.log)) (row_in (rows_flown s.log.flight)))
     unsettled = premise_by logs (λ (p : AllUnsettled s.tokens (row_in (rows_waiting s.log)) (row_in (rows_flown s.log.flight))).
@@ -227,7 +230,8 @@ module _ (logs : Bool) (members part most c life room top : ℕ) (pos : 0 < c) (
         }
 
     wrote_stands : (value : Option (List ℕ)) → Premise logs (frames.LogStands n.books c (waiting value))
-    wrote_stands value = waits_stands logs block value n.books c s.log (change_of (wrote value) block value) (written_some granted.state block value may) h.logged
+    wrote_stands value =
+        waits_stands logs block value n.books c s.log (change_of (wrote value) block value) (written_some granted.state block value may) h.logged
 
     serving : IsServing logs members n c s.log.end.seq
     serving = taking.is_serving logs members part most c life room top n s.tokens s.log s.lasting.number s.lasting.inc pos less h
@@ -237,7 +241,8 @@ module _ (logs : Bool) (members part most c life room top : ℕ) (pos : 0 < c) (
         let k : taking.Taken logs members part most c life room top n (waiting value) s.log.end.seq s.lasting.number s.lasting.inc
         (granted_and_wrote s.tokens stamp inc req block entry value) (Wrote c block value ∷ []) =
         taking.acting logs members part most c life room top n (waiting value) s.log.end.seq s.lasting.number s.lasting.inc
-        (granted_and_wrote s.tokens stamp inc req block entry value) (Wrote c block value ∷ []) (n.acts ++ Wrote c block value ∷ []) h.up h.number_is h.inc_is h.numbers refl
+        (granted_and_wrote s.tokens stamp inc req block entry value) (Wrote c block value ∷ [])
+        (n.acts ++ Wrote c block value ∷ []) h.up h.number_is h.inc_is h.numbers refl
         (subst (λ (t : TokensState). Happens logs members part n
         (acted (after_client n c s.log.end.seq (granted_and_wrote t stamp inc req block entry value)) (Wrote c block value ∷ []))) h.tokens
         (GetsOwn c s.log.end.seq block stamp inc req entry value serving (sent inside) accepts_here below))
@@ -252,7 +257,9 @@ module _ (logs : Bool) (members part most c life room top : ℕ) (pos : 0 < c) (
     module _ (other : is_in_slot part block ≡ false) where
       outside_grown : frames.Grown logs members part c n outside []
       outside_grown = record {
-        runs = On Begun (subst (λ (t : TokensState). Happens logs members part n (after_client n c s.log.end.seq (client.on_granted t block stamp inc req Own entry))) h.tokens
+        runs = On Begun
+            (subst (λ (t : TokensState). Happens logs members part n (after_client n c s.log.end.seq (client.on_granted t block stamp inc req Own entry)))
+            h.tokens
             (Elsewhere c s.log.end.seq (input.Granted block stamp inc req Own entry) serving other));
         others = λ k o. (put_there n.tokens c granted.state k o, refl);
         slots = λ e. refl;
@@ -272,7 +279,8 @@ module _ (logs : Bool) (members part most c life room top : ℕ) (pos : 0 < c) (
       written_outside value =
           let k : taking.Taken logs members part most c life room top outside (waiting value) s.log.end.seq s.lasting.number s.lasting.inc
           (client.on_wrote granted.state block value) (Wrote c block value ∷ []) =
-          taking.acting logs members part most c life room top outside (waiting value) s.log.end.seq s.lasting.number s.lasting.inc (client.on_wrote granted.state block value)
+          taking.acting logs members part most c life room top outside (waiting value) s.log.end.seq s.lasting.number s.lasting.inc
+          (client.on_wrote granted.state block value)
           (Wrote c block value ∷ []) (n.acts ++ Wrote c block value ∷ []) h.up h.number_is h.inc_is h.numbers refl happens (wrote_sound value)
           (taking.bears_more logs members part most c life room top n.sent outside.sent outside_grown.grows (waiting value) (wrote value) (wrote_bears value))
           (wrote_stands value) in
@@ -286,9 +294,11 @@ module _ (logs : Bool) (members part most c life room top : ℕ) (pos : 0 < c) (
               (record (after_client outside c s.log.end.seq (client.on_wrote granted.state block value)) { acts = n.acts ++ Wrote c block value ∷ [] })
           happens =
               subst (λ x. Happens logs members part outside
-              (record (after_client outside c s.log.end.seq (client.on_wrote granted.state block value)) { acts = n.acts ++ cond x (Wrote c block value ∷ []) [] })) may
+              (record (after_client outside c s.log.end.seq (client.on_wrote granted.state block value))
+              { acts = n.acts ++ cond x (Wrote c block value ∷ []) [] })) may
               (subst (λ (u : TokensState). Happens logs members part outside
-              (record (after_client outside c s.log.end.seq (client.on_wrote u block value)) { acts = n.acts ++ acts_by c u (input.Wrote block value) })) outside_tokens
+              (record (after_client outside c s.log.end.seq (client.on_wrote u block value)) { acts = n.acts ++ acts_by c u (input.Wrote block value) }))
+              outside_tokens
               (Acts c s.log.end.seq (input.Wrote block value) outside_serving tt))
 
     by_slot : {P : Type 0} → (is_in_slot part block ≡ true → P) → (is_in_slot part block ≡ false → P) → P
@@ -319,7 +329,8 @@ module _ (logs : Bool) (members part most c life room top : ℕ) (pos : 0 < c) (
     unfolding client.on_evict
     gone_known =
         let g : Held = held_of granted.state.blocks block in
-        by_test (λ (d : client.Done). (b : BlockId) → frames.Known logs s.log b (held_of d.state.blocks b)) (may_evict g) (still (with_held granted.state block (let_go g)))
+        by_test (λ (d : client.Done). (b : BlockId) → frames.Known logs s.log b (held_of d.state.blocks b)) (may_evict g)
+        (still (with_held granted.state block (let_go g)))
         (still granted.state)
         (λ t. put_cases (λ b k. frames.Known logs s.log b k) block (let_go g) granted.state.blocks (
           λ held. contrary held,
@@ -344,14 +355,16 @@ module _ (logs : Bool) (members part most c life room top : ℕ) (pos : 0 < c) (
     gone_inside inside =
         let k : taking.Taken logs members part most c life room top n s.log s.log.end.seq s.lasting.number s.lasting.inc
         (granted_and_evicted s.tokens stamp inc req block entry) [] =
-        taking.taken logs members part most c life room top n s.tokens s.log s.lasting.number s.lasting.inc (granted_and_evicted s.tokens stamp inc req block entry) h
+        taking.taken logs members part most c life room top n s.tokens s.log s.lasting.number s.lasting.inc
+        (granted_and_evicted s.tokens stamp inc req block entry) h
         (subst (λ (t : TokensState). Happens logs members part n (after_client n c s.log.end.seq (granted_and_evicted t stamp inc req block entry))) h.tokens
         (Declines c s.log.end.seq block stamp inc req entry serving (sent inside) accepts_here)) gone_sound gone_bears in
         record { next = k.next; grown = k.grown; stands = k.stands }
 
     gone_outside : is_in_slot part block ≡ false → Gone
     gone_outside other =
-        let k : taking.Taken logs members part most c life room top outside s.log s.log.end.seq s.lasting.number s.lasting.inc (client.on_evict granted.state block) [] =
+        let k : taking.Taken logs members part most c life room top outside s.log s.log.end.seq s.lasting.number s.lasting.inc
+        (client.on_evict granted.state block) [] =
         taking.acting logs members part most c life room top outside s.log s.log.end.seq s.lasting.number s.lasting.inc (client.on_evict granted.state block) []
         (n.acts ++ []) h.up h.number_is h.inc_is h.numbers refl
         (subst (λ (u : TokensState). Happens logs members part outside

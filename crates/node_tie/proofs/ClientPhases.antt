@@ -115,7 +115,8 @@ module _ (logs : Bool) (members part most c : ℕ) (small : part < 8) (pos : 0 <
           (frames.grown_saying logs members part c fallen (acts_of (AClient c) after_falls) (frames.plain_acts part c s.lasting.inc after_falls plain_after))
 
       dirty_ones : (f : Fall) → In f falling → is_dirty (held_of (n.tokens c).blocks f.block) ≡ true
-      dirty_ones f is = subst (λ (t : TokensState). is_dirty (held_of t.blocks f.block) ≡ true) (sym sees.tokens) (falls_dirty begun_serving h.asks.sound.sorted f is)
+      dirty_ones f is =
+          subst (λ (t : TokensState). is_dirty (held_of t.blocks f.block) ≡ true) (sym sees.tokens) (falls_dirty begun_serving h.asks.sound.sorted f is)
 
       low : (n.tokens c).inc ≤ s.lasting.inc
       low = (let e : (n.tokens c).inc ≡ s.lasting.inc = ap (λ (t : TokensState). t.inc) sees.tokens ∙ sees.inc in omega arith)
@@ -158,11 +159,13 @@ module _ (logs : Bool) (members part most c : ℕ) (small : part < 8) (pos : 0 <
       serving_answers : (number : ℕ) (a : Answer) → Goes (Serves s) (answers (Serves begun_serving) number a)
       serving_answers number a =
           serving.serves_on_so logs members part most c n s sees (gives begun_serving (Answers number a ∷ []))
-          (serving.says_so logs members part most c s.lasting.inc (serving.top logs members part most c n s) small pos less n begun_serving number a begun_stands)
+          (serving.says_so logs members part most c s.lasting.inc
+          (serving.top logs members part most c n s) small pos less n begun_serving number a begun_stands)
 
       serving_calls : (number : ℕ) → Goes (Serves s) (serves_on (opens begun_serving number))
       serving_calls number = serving.serves_on_so logs members part most c n s sees (opens begun_serving number)
-          (serving.opens_so logs members part most c s.lasting.inc (serving.top logs members part most c n s) small pos less n begun_serving number begun_stands)
+          (serving.opens_so logs members part most c s.lasting.inc
+          (serving.top logs members part most c n s) small pos less n begun_serving number begun_stands)
 
       serving_begins_so : (number : ℕ) (w : Option Work) → Goes (Serves s) (serving_begins begun_serving number (wish_of w))
       serving_begins_so number (Some (work.Crash node)) = crashed_so number
@@ -173,12 +176,15 @@ module _ (logs : Bool) (members part most c : ℕ) (small : part < 8) (pos : 0 <
       serving_packet : (packet : wire.Packet) → ClientGets logs part most c n (Serves s) packet → has_room s.tokens.req ≡ true
           → Goes (Serves s) (then_runs (packets.on_packet s packet))
       serving_packet packet gets wants =
-          serving.serves_on_so logs members part most c n s sees (serving.and_runs logs members part most c s.lasting.inc (serving.top logs members part most c n s) small pos less (packets.on_packet s packet))
-          (serving.packet_so logs members part most c s.lasting.inc (serving.top logs members part most c n s) small pos less n s packet gets h.asks wants stands)
+          serving.serves_on_so logs members part most c n s sees
+          (serving.and_runs logs members part most c s.lasting.inc (serving.top logs members part most c n s) small pos less (packets.on_packet s packet))
+          (serving.packet_so logs members part most c s.lasting.inc
+          (serving.top logs members part most c n s) small pos less n s packet gets h.asks wants stands)
 
       serving_time : Goes (Serves s) (then_runs (packets.on_tick s))
       serving_time =
-          serving.serves_on_so logs members part most c n s sees (serving.and_runs logs members part most c s.lasting.inc (serving.top logs members part most c n s) small pos less (packets.on_tick s))
+          serving.serves_on_so logs members part most c n s sees
+          (serving.and_runs logs members part most c s.lasting.inc (serving.top logs members part most c n s) small pos less (packets.on_tick s))
           (serving.time_so logs members part most c s.lasting.inc (serving.top logs members part most c n s) small pos less n s stands)
 
   -- ---- the events
@@ -186,7 +192,8 @@ module _ (logs : Bool) (members part most c : ℕ) (small : part < 8) (pos : 0 <
   still_so : (p : Phase) → ClientAgrees logs part c n p → ClientStands part most c n p → Goes p (still p)
   still_so p sees h = staying.still_so logs members part most c small pos less n p sees h
 
-  begin_so : (servers number : ℕ) (p : Phase) → ClientAgrees logs part c n p → ClientStands part most c n p → has_room (lasting_of p).inc ≡ true → phase_room p ≡ true
+  begin_so : (servers number : ℕ) (p : Phase) → ClientAgrees logs part c n p → ClientStands part most c n p → has_room (lasting_of p).inc ≡ true
+      → phase_room p ≡ true
       → Goes p (item_begins servers (with_begun p) number (wish_at (lasting_of (with_begun p)) number))
   begin_so servers number (Down l) sees h later room =
       staying.down_begins_so logs members part most c small pos less n l sees h servers number (work_at (begun l.items) number) later
@@ -199,7 +206,8 @@ module _ (logs : Bool) (members part most c : ℕ) (small : part < 8) (pos : 0 <
   item_so servers p None sees h later room = still_so p sees h
   item_so servers p (Some number) sees h later room = begin_so servers number p sees h later room
 
-  on_begin_so : (servers : ℕ) (p : Phase) → ClientAgrees logs part c n p → ClientStands part most c n p → has_room (lasting_of p).inc ≡ true → phase_room p ≡ true
+  on_begin_so : (servers : ℕ) (p : Phase) → ClientAgrees logs part c n p → ClientStands part most c n p → has_room (lasting_of p).inc ≡ true
+      → phase_room p ≡ true
       → Goes p (on_begin servers p)
   unfolding on_begin
   on_begin_so servers p sees h later room = item_so servers p (next_item (lasting_of p).items) sees h later room

@@ -119,7 +119,8 @@ unfolding client.on_promise
 promise_kept s slot epoch eight small may =
     by_test (λ (d : client.Done). epoch_of d.state.epochs slot ≡ epoch) (client.may_promise s slot epoch)
     (steps client.ask_copy (client.raised s slot epoch) (client.fetched_in slot s.blocks)) (still s)
-    (λ t. (bears_steps (λ b g. Unit {0}) kept (λ b g. Unit {0}) s.inc client.ask_copy (λ u b. ask-bears (λ b g. Unit {0}) kept (λ b g. Unit {0}) s.inc no_fact u b Copy)
+    (λ t. (bears_steps (λ b g. Unit {0}) kept (λ b g. Unit {0}) s.inc client.ask_copy
+    (λ u b. ask-bears (λ b g. Unit {0}) kept (λ b g. Unit {0}) s.inc no_fact u b Copy)
     (client.raised s slot epoch) (client.fetched_in slot s.blocks)
     (record { life_is = refl; promised = get_or-set_same s.epochs slot epoch 0 (omega arith); giving = λ b. tt; held = λ b. tt })).promised)
     (λ t. contrary (sym t ∙ may))
@@ -155,7 +156,8 @@ all_ask-wants t (b ∷ blocks) =
 promise-wants : (t : TokensState) (slot epoch : ℕ) → AllByRecursion IsWant (client.on_promise t slot epoch).outs
 unfolding client.on_promise
 promise-wants t slot epoch =
-    by_test (λ (d : client.Done). AllByRecursion IsWant d.outs) (client.may_promise t slot epoch) (steps client.ask_copy (client.raised t slot epoch) (client.fetched_in slot t.blocks))
+    by_test (λ (d : client.Done). AllByRecursion IsWant d.outs) (client.may_promise t slot epoch)
+    (steps client.ask_copy (client.raised t slot epoch) (client.fetched_in slot t.blocks))
     (still t) (λ x. all_ask-wants (client.raised t slot epoch) (client.fetched_in slot t.blocks)) (λ x. tt)
 
 wants-log : (s : Serving) (outs : List outputs.Out) → AllByRecursion IsWant outs → (follows s outs).state.log ≡ s.log
@@ -171,7 +173,8 @@ wants-log s (output.Ready block ∷ outs) h = absurd h.0
 renews-log : (s : Serving) (slot epoch : ℕ) → (renews s slot epoch).log ≡ s.log
 unfolding renews
 renews-log s slot epoch =
-    by_test (λ (t : Serving). t.log ≡ s.log) (nat_lt (epoch_of s.tokens.epochs slot) epoch) (record s { feed = new_epoch s.feed slot }) s (λ x. refl) (λ x. refl)
+    by_test (λ (t : Serving). t.log ≡ s.log) (nat_lt (epoch_of s.tokens.epochs slot) epoch) (record s { feed = new_epoch s.feed slot }) s (λ x. refl)
+    (λ x. refl)
 
 hears-log : (s : Serving) (news : SlotNews) → (hears s news).state.log ≡ s.log
 unfolding hears promises
@@ -199,7 +202,8 @@ module _ (logs : Bool) (members part most c life room top : ℕ) (small : part <
 
   -- the tokens take the promise
   abbrev Promises : Net → Serving → ℕ → ℕ → Type 0
-  Promises n s slot epoch = taking.Taken logs members part most c life room top n s.log s.log.end.seq s.lasting.number s.lasting.inc (client.on_promise s.tokens slot epoch) []
+  Promises n s slot epoch =
+      taking.Taken logs members part most c life room top n s.log s.log.end.seq s.lasting.number s.lasting.inc (client.on_promise s.tokens slot epoch) []
 
   promise_taken : (n : Net) (s : Serving) (slot epoch : ℕ) → (slot ≡ part → epoch ≤ most) → At n s → Promises n s slot epoch
   promise_taken n s slot epoch fits h =
@@ -242,7 +246,9 @@ module _ (logs : Bool) (members part most c life room top : ℕ) (small : part <
       let m : Net = k.next in
       let next : Net = record m { sent = ReportSent c (epoch_of (m.tokens c).epochs part) (held_in part (m.tokens c).blocks) s.log.end.seq ∷ m.sent } in
       let grown : frames.Grown logs members part c m next [] = record {
-        runs = On Begun (Reports c s.log.end.seq (taking.is_serving logs members part most c life room top m p.state.tokens s.log s.lasting.number s.lasting.inc pos less k.stands));
+        runs = On Begun
+            (Reports c s.log.end.seq
+            (taking.is_serving logs members part most c life room top m p.state.tokens s.log s.lasting.number s.lasting.inc pos less k.stands));
         others = λ d other. (refl, refl);
         slots = λ e. refl;
         grows = λ x i. inr i;
@@ -253,12 +259,14 @@ module _ (logs : Bool) (members part most c life room top : ℕ) (small : part <
       let said : frames.Goes logs members part most c life room top m (record { state = p.state; outs = report p.state slot epoch ∷ [] }) = record {
         next = next;
         grown = grown;
-        stands = taking.stands_more logs members part most c life room top m next.sent p.state.tokens s.log s.lasting.number s.lasting.inc (λ x i. inr i) k.stands;
+        stands = taking.stands_more logs members part most c life room top m next.sent p.state.tokens s.log s.lasting.number s.lasting.inc
+            (λ x i. inr i) k.stands;
         does = All-cons (ClientDoes part next.sent c life) (report p.state slot epoch) [] (λ is. inl (reported m k.stands.tokens is))
             (All-nil (ClientDoes part next.sent c life));
       } in
       frames.goes_from logs members part most c life room top n m (reports slot epoch p) k.grown
-      (frames.goes_on_in logs members part most c life room top m (record { state = p.state; outs = report p.state slot epoch ∷ [] }) (follows p.state p.outs) said
+      (frames.goes_on_in logs members part most c life room top m (record { state = p.state; outs = report p.state slot epoch ∷ [] })
+      (follows p.state p.outs) said
       (λ o w i. tokens.follows_so logs members part most c life room top pos less o p.state p.outs i
       (taking.outs_more logs members part most c life room top m.sent o.sent w s.log.end.seq p.outs
       (taking.outs_seen logs members part most c life room top m.sent s.log.end.seq p.outs k.seen))))
@@ -330,7 +338,8 @@ module _ (logs : Bool) (members part most c life room top : ℕ) (small : part <
       more_then : (m : Net) (u : Serving) → u.log ≡ s.log → At m u → More m u
       more_then m u same k f is =
           frames.stands_upto logs members part most c life room (room + 1) top m u.tokens u.log u.lasting.number u.lasting.inc
-          (premise_by logs (λ (x : frames.HasNumbers s.log.end.seq (room + 1) top). subst (λ (l : LogState). frames.HasNumbers l.end.seq (room + 1) top) (sym same) x)
+          (premise_by logs
+          (λ (x : frames.HasNumbers s.log.end.seq (room + 1) top). subst (λ (l : LogState). frames.HasNumbers l.end.seq (room + 1) top) (sym same) x)
           (more f (ap (λ (l : LogState). l.flight) (sym same) ∙ is)).numbers) k
 
   pub on_news_so : (n : Net) (s : Serving) (news : News) → NewsWithin part most c n news.slots → At n s → More n s → Goes n (on_news s news)

@@ -53,7 +53,8 @@ written_some t block value may =
 
 module _ (logs : Bool) (block : BlockId) (value : Option (List ℕ)) where
   -- the log stands with it
-  pub waits_stands : (k : Books) (c : ℕ) (l : LogState) (change : Change) → 0 < change.entry.ver → Premise logs (LogStands k c l) → Premise logs (LogStands k c (waits l block change))
+  pub waits_stands : (k : Books) (c : ℕ) (l : LogState) (change : Change) → 0 < change.entry.ver → Premise logs (LogStands k c l)
+      → Premise logs (LogStands k c (waits l block change))
   waits_stands k c l change some h = premise_by logs (λ (x : LogStands k c l). record {
     seen = record { end = x.seen.end; flying = x.seen.flying; flight = x.seen.flight };
     said = x.said;
@@ -76,8 +77,10 @@ module _ (logs : Bool) (block : BlockId) (value : Option (List ℕ)) where
     values : (b : BlockId) → IsValued (held_of wrote.blocks b)
     values b = put_cases (λ b g. IsValued g) block (written h value) t.blocks (λ held. refl) valued b
 
-    rows_are : put_row block (row_of (change_of wrote block value)) (rows_waiting l) ≡ put_row block (record { version = h.ver + 1; value = value }) (rows_waiting l)
-    rows_are = ap (λ (g : Held). put_row block (record { version = g.ver; value = value }) (rows_waiting l)) (held_of-put_itself block (written h value) t.blocks)
+    rows_are : put_row block (row_of (change_of wrote block value)) (rows_waiting l) ≡ put_row block (record { version = h.ver + 1; value = value })
+        (rows_waiting l)
+    rows_are = ap (λ (g : Held). put_row block (record { version = g.ver; value = value }) (rows_waiting l))
+        (held_of-put_itself block (written h value) t.blocks)
 
     unsettled_then : Premise logs (AllUnsettled wrote (row_in (rows_waiting (waits l block (change_of wrote block value)))) (row_in (rows_flown l.flight)))
     unsettled_then = premise_by logs (λ (p : AllUnsettled t (row_in (rows_waiting l)) (row_in (rows_flown l.flight))).
@@ -92,7 +95,9 @@ module _ (logs : Bool) (block : BlockId) (value : Option (List ℕ)) where
         by_test (λ (d : client.Done). (b : BlockId) → Known logs (waits l block (change_of d.state block value)) b (held_of d.state.blocks b)) (may_write h)
         (still wrote) (still t) (λ is b. (
           values b,
-          premise_at logs (λ b. IsUnsettled (held_of wrote.blocks b) (row_in (rows_waiting (waits l block (change_of wrote block value))) b) (row_in (rows_flown l.flight) b))
+          premise_at logs
+              (λ b. IsUnsettled (held_of wrote.blocks b) (row_in (rows_waiting (waits l block (change_of wrote block value))) b)
+              (row_in (rows_flown l.flight) b))
               unsettled_then b,
         )) (λ is. contrary (sym is ∙ may))
 
@@ -104,7 +109,8 @@ module _ (logs : Bool) (members part most c life room top : ℕ) (pos : 0 < c) (
     pub stands : frames.Stands logs members part most c life room top next (client.on_wrote t block value).state
         (waits l block (change_of (client.on_wrote t block value).state block value)) number inc
 
-  pub written_so : (n : Net) (t : TokensState) (l : LogState) (number inc : ℕ) (block : BlockId) (value : Option (List ℕ)) → may_write (held_of t.blocks block) ≡ true
+  pub written_so : (n : Net) (t : TokensState) (l : LogState) (number inc : ℕ) (block : BlockId) (value : Option (List ℕ))
+      → may_write (held_of t.blocks block) ≡ true
       → frames.Stands logs members part most c life room top n t l number inc → Written n t l number inc block value
   written_so n t l number inc block value may h =
       let d : client.Done = client.on_wrote t block value in
@@ -114,14 +120,16 @@ module _ (logs : Bool) (members part most c life room top : ℕ) (pos : 0 < c) (
       (taking.none_sent logs members part most c life room top n.sent) t h.sound (input.Wrote block value) (λ g q. tt)
       (record { life_is = h.bears.life_is; promised = h.bears.promised; giving = h.bears.giving; held = λ b. tt }) in
       let k : taking.Taken logs members part most c life room top n m l.end.seq number inc d (Wrote c block value ∷ []) =
-      taking.acting logs members part most c life room top n m l.end.seq number inc d (Wrote c block value ∷ []) (n.acts ++ Wrote c block value ∷ []) h.up h.number_is h.inc_is
+      taking.acting logs members part most c life room top n m l.end.seq number inc d (Wrote c block value ∷ [])
+      (n.acts ++ Wrote c block value ∷ []) h.up h.number_is h.inc_is
       h.numbers refl happens
       (transition-follows (λ b. Unit {0}) t h.sound (input.Wrote block value) (λ b k. tt)).sound
       (record {
         life_is = plain.life_is;
         promised = plain.promised;
         giving = plain.giving;
-        held = written_known logs block value t l h.sound may (λ b other. (h.bears.held b).0) (all_known logs members part most c life room top l t h.bears.held);
+        held = written_known logs block value t l h.sound may (λ b other. (h.bears.held b).0)
+            (all_known logs members part most c life room top l t h.bears.held);
       })
       (waits_stands logs block value n.books c l (change_of d.state block value) (written_some t block value may) h.logged) in
       record { next = k.next; grown = k.grown; stands = k.stands }
@@ -129,7 +137,9 @@ module _ (logs : Bool) (members part most c life room top : ℕ) (pos : 0 < c) (
       happens : Happens logs members part n
           (record (after_client n c l.end.seq (client.on_wrote t block value)) { acts = n.acts ++ Wrote c block value ∷ [] })
       happens =
-          subst (λ x. Happens logs members part n (record (after_client n c l.end.seq (client.on_wrote t block value)) { acts = n.acts ++ cond x (Wrote c block value ∷ []) [] })) may
-          (subst (λ (u : TokensState). Happens logs members part n (record (after_client n c l.end.seq (client.on_wrote u block value)) { acts = n.acts ++ acts_by c u (input.Wrote block value) }))
+          subst (λ x. Happens logs members part n
+          (record (after_client n c l.end.seq (client.on_wrote t block value)) { acts = n.acts ++ cond x (Wrote c block value ∷ []) [] })) may
+          (subst (λ (u : TokensState). Happens logs members part n
+          (record (after_client n c l.end.seq (client.on_wrote u block value)) { acts = n.acts ++ acts_by c u (input.Wrote block value) }))
           h.tokens
           (Acts c l.end.seq (input.Wrote block value) (taking.is_serving logs members part most c life room top n t l number inc pos less h) tt))

@@ -78,7 +78,8 @@ some_taken (suc n) (r ∷ rows) some = (some.0, some_taken n rows some.1)
 -- what is said of a block is said by one part
 abbrev pub InOnePart : ℕ → Rows → BlockId → Type 0
 InOnePart n rows b =
-    ((row_in (take n rows) b ≡ row_in rows b) × (row_in (drop n rows) b ≡ nothing_said)) ⊎ ((row_in (take n rows) b ≡ nothing_said) × (row_in (drop n rows) b ≡ row_in rows b))
+    ((row_in (take n rows) b ≡ row_in rows b) × (row_in (drop n rows) b ≡ nothing_said))
+    ⊎ ((row_in (take n rows) b ≡ nothing_said) × (row_in (drop n rows) b ≡ row_in rows b))
 
 pub in_one_part : (n : ℕ) (rows : Rows) (b : BlockId) → AreOnce rows → InOnePart n rows b
 in_one_part zero rows b once = inr (refl, refl)
@@ -167,7 +168,8 @@ module _ (f : Change → Row) where
   abbrev pub row_with : BlockId × Change → BlockId × Row
   row_with c = (c.0, f c.1)
 
-  pub rows_put : (k : BlockId) (change : Change) (cs : List (BlockId × Change)) → map row_with (insert_entry same_block cs k change) ≡ put_row k (f change) (map row_with cs)
+  pub rows_put : (k : BlockId) (change : Change) (cs : List (BlockId × Change))
+      → map row_with (insert_entry same_block cs k change) ≡ put_row k (f change) (map row_with cs)
   rows_put k change [] = refl
   rows_put k change (c ∷ cs) = by_same (same_block k c.0) (rows_put k change cs)
     where

@@ -114,8 +114,10 @@ module _ (logs : Bool) (members part most c life room top : ℕ) where
       promised = h.bears.promised;
       giving = h.bears.giving;
       held = λ b.
-          subst (λ (w : Rows). IsValued (held_of t.blocks b) × Premise logs (IsUnsettled (held_of t.blocks b) (row_in w b) (row_in (rows_flown m.flight) b))) (sym waits)
-          (subst (λ (f : Rows). IsValued (held_of t.blocks b) × Premise logs (IsUnsettled (held_of t.blocks b) (row_in (rows_waiting l) b) (row_in f b))) (sym flies)
+          subst (λ (w : Rows). IsValued (held_of t.blocks b) × Premise logs (IsUnsettled (held_of t.blocks b) (row_in w b) (row_in (rows_flown m.flight) b)))
+          (sym waits)
+          (subst (λ (f : Rows). IsValued (held_of t.blocks b) × Premise logs (IsUnsettled (held_of t.blocks b) (row_in (rows_waiting l) b) (row_in f b)))
+          (sym flies)
           (h.bears.held b));
     };
     logged = premise_both logs (λ (x : LogSeen n.books c m) (k : LogStands n.books c l). record {
@@ -131,7 +133,8 @@ module _ (logs : Bool) (members part most c life room top : ℕ) where
   }
 
   -- the same content flies, by this attempt
-  pub reflown : (n : Net) (t : TokensState) (l : LogState) (f g : FlightState) (number inc : ℕ) → g.segment.items ≡ f.segment.items → g.segment.name.seq ≡ f.segment.name.seq
+  pub reflown : (n : Net) (t : TokensState) (l : LogState) (f g : FlightState) (number inc : ℕ) → g.segment.items ≡ f.segment.items
+      → g.segment.name.seq ≡ f.segment.name.seq
       → Stands n t (record l { flight = Some f }) number inc → Stands n t (record l { flight = Some g }) number inc
   reflown n t l f g number inc items seq h =
       restands n t (record l { flight = Some f }) (record l { flight = Some g }) number inc refl refl (ap rows_told items)
@@ -199,7 +202,8 @@ module _ (logs : Bool) (members part most c life room top : ℕ) where
 
       newest : Premise logs (SealsNewest (n.tokens c) rows)
       newest = premise_both logs
-          (λ (p : AllUnsettled t (row_in (rows_waiting l)) (row_in [])) (x : LogStands k c l). subst (λ (u : TokensState). SealsNewest u rows) (sym h.tokens) (record {
+          (λ (p : AllUnsettled t (row_in (rows_waiting l)) (row_in [])) (x : LogStands k c l). subst (λ (u : TokensState). SealsNewest u rows) (sym h.tokens)
+          (record {
             once = subst AreOnce (sym rows_are) (once_taken segment_blocks (rows_waiting l) x.waits_once);
             newest = λ b. subst (λ (r : Rows). IsNewest (held_of t.blocks b) (row_in r b)) (sym rows_are)
                 (taken_newest segment_blocks (rows_waiting l) b (held_of t.blocks b) x.waits_once (p b).newest);
@@ -254,7 +258,10 @@ module _ (logs : Bool) (members part most c life room top : ℕ) where
             life_is = h.bears.life_is;
             promised = h.bears.promised;
             giving = h.bears.giving;
-            held = λ b. ((h.bears.held b).0, premise_at logs (λ b. IsUnsettled (held_of t.blocks b) (row_in (map told (drop segment_blocks l.dirty)) b) (row_in rows b)) unsettled b);
+            held = λ b. (
+              (h.bears.held b).0,
+              premise_at logs (λ b. IsUnsettled (held_of t.blocks b) (row_in (map told (drop segment_blocks l.dirty)) b) (row_in rows b)) unsettled b,
+            );
           };
           logged = logged_then;
           numbers = h.numbers;
@@ -268,9 +275,11 @@ module _ (logs : Bool) (members part most c life room top : ℕ) where
     pub on_seal_passes : (n : Net) (t : TokensState) (l : LogState) (number inc : ℕ) → Stands n t l number inc → Passes n t (log.on_seal l).state number inc
     unfolding log.on_seal
     on_seal_passes n t l number inc h =
-        by_test (λ (d : log.Done). Passes n t d.state number inc) (log.is_idle l && nat_lt 0 (length l.dirty) && log.has_next l.end.seq) (log.sealed l) (still l)
+        by_test (λ (d : log.Done). Passes n t d.state number inc) (log.is_idle l && nat_lt 0 (length l.dirty) && log.has_next l.end.seq) (log.sealed l)
+        (still l)
         (λ x. sealed_passes n t l number inc
-        (idle_is l.flight (and_first (log.is_idle l) (nat_lt 0 (length l.dirty)) (and_first (log.is_idle l && nat_lt 0 (length l.dirty)) (log.has_next l.end.seq) x))) h)
+        (idle_is l.flight
+        (and_first (log.is_idle l) (nat_lt 0 (length l.dirty)) (and_first (log.is_idle l && nat_lt 0 (length l.dirty)) (log.has_next l.end.seq) x))) h)
         (λ x. passes_still n t l number inc h)
 
     pub if_full_passes : (n : Net) (t : TokensState) (l : LogState) (number inc : ℕ) → Stands n t l number inc → Passes n t (log.if_full l).state number inc

@@ -83,7 +83,8 @@ module _ (logs : Bool) (members part most c life top : ℕ) (small : part < 8) (
 
   -- ---- packets
 
-  body_so : (n : Net) (s : Serving) (p : Packet) (b : Body) → GetsBody part most c n (Serves s) b → Premise logs (ServingReads part most c n s p b) → AsksForCall s
+  body_so : (n : Net) (s : Serving) (p : Packet) (b : Body) → GetsBody part most c n (Serves s) b → Premise logs (ServingReads part most c n s p b)
+      → AsksForCall s
       → has_room s.tokens.req ≡ true → Before n s → Goes n (and_runs (on_body s p.from b))
   body_so n s p (body.Grant m) gets reads asks room h = own.on_grant_so logs members part most c life 0 top pos less n s m h.here asks gets
   body_so n s p (body.Supply m) gets reads asks room h =
@@ -101,7 +102,8 @@ module _ (logs : Bool) (members part most c life top : ℕ) (small : part < 8) (
       runs_after n _ (hearing.on_found_so logs members part most c life 0 top pos less n s p.from m reads h.here)
   body_so n s p (body.Missing m) gets reads asks room h =
       runs_after n _ (hearing.on_missing_so logs members part most c life 0 top pos less n s p.from m reads h.here)
-  body_so n s p (body.MapNews m) gets reads asks room h = runs_after n _ (promising.on_news_so logs members part most c life 0 top small pos less n s m gets h.here h.more)
+  body_so n s p (body.MapNews m) gets reads asks room h =
+      runs_after n _ (promising.on_news_so logs members part most c life 0 top small pos less n s m gets h.here h.more)
   body_so n s p (body.Welcome m) gets reads asks room h =
       runs_after n _ (promising.on_welcome_so logs members part most c life 0 top small pos less n s m gets.0 h.here h.more)
   body_so n s p _ gets reads asks room h = just_runs n s h
@@ -129,8 +131,10 @@ module _ (logs : Bool) (members part most c life top : ℕ) (small : part < 8) (
       let pushed : List Effect = pushes_all l.state.managers l.state.feed in
       frames.goes_on logs members part most c life 0 top n w (gives l.state (fetched ++ (l.outs ++ pushed)))
       (tokens.hands_own logs members part most c life 0 top pos less n s input.Tick tt (λ u. refl) tt h.here)
-      (λ m k. frames.goes_after logs members part most c life 0 top m w.state fetched (gives l.state (l.outs ++ pushed)) (plain_again (reading_in w.state.call)) k
-      (λ o i. frames.goes_and_gives logs members part most c life 0 top o l l.state pushed (writing.ticks_so logs members part most c life 0 top pos less o w.state i)
+      (λ m k. frames.goes_after logs members part most c life 0 top m w.state fetched (gives l.state (l.outs ++ pushed))
+      (plain_again (reading_in w.state.call)) k
+      (λ o i. frames.goes_and_gives logs members part most c life 0 top o l l.state pushed
+      (writing.ticks_so logs members part most c life 0 top pos less o w.state i)
       (λ x y. y) (tokens.plain_pushes_all part c life l.state.managers l.state.feed)))
 
   pub time_so : (n : Net) (s : Serving) → Before n s → Goes n (and_runs (on_tick s))
@@ -266,7 +270,8 @@ module _ (logs : Bool) (members part most c : ℕ) (n : Net) (s : Serving) where
       filed_stay n.books p.next.books c s.log.flight on g.seen.flying
       (subst (λ e. p.next.books.end c ≤ end_upto e s.log.flight) (sym g.seen.end) low)) p.grown.own
       (premise_both logs
-      (λ (x : frames.LogStands p.next.books c d.state.log) (k : frames.HasNumbers d.state.log.end.seq 0 top). within (p.next.books.end c) d.state.log.end.seq x.seen.end k.below)
+      (λ (x : frames.LogStands p.next.books c d.state.log) (k : frames.HasNumbers d.state.log.end.seq 0 top). within
+      (p.next.books.end c) d.state.log.end.seq x.seen.end k.below)
       p.stands.logged p.stands.numbers))
     where
       within : (a b : ℕ) → a ≡ b → b + 0 ≤ top → a ≤ top

@@ -129,13 +129,21 @@ module _ (logs : Bool) (members part most c : ℕ) (small : part < 8) (pos : 0 <
         let w : Went = opening.on_start (owner_of life) servers life.questions in
         let later : l.inc < life.inc = raised (record l { items = begun l.items }) number room in
         stays_so (Down l) (restarted servers life).state w.effects
-        (record { up = sees.up; number = sees.number; inc = (let k : (n.tokens c).inc ≤ l.inc = sees.inc in omega arith); owner = refl; promised = inl refl; beyond = sees.beyond })
+        (record {
+          up = sees.up;
+          number = sees.number;
+          inc = (let k : (n.tokens c).inc ≤ l.inc = sees.inc in omega arith);
+          owner = refl;
+          promised = inl refl;
+          beyond = sees.beyond;
+        })
         h.within (inl refl) (omega arith) later tt (premise logs refl) (plain_does part c life.inc (owner_of life) refl w.effects
         (behaving.begin_so (owner_of life) servers life.questions).does)
 
     down_answers : (number : ℕ) (a : Answer) → Goes (Down l) (answers (Down (record l { items = begun l.items })) number a)
     down_answers number a =
-        stays_so (Down l) (Down (record l { items = begun l.items })) (Answers number a ∷ []) (record { up = sees.up; number = sees.number; inc = sees.inc; beyond = sees.beyond })
+        stays_so (Down l) (Down (record l { items = begun l.items })) (Answers number a ∷ [])
+        (record { up = sees.up; number = sees.number; inc = sees.inc; beyond = sees.beyond })
         h.within tt (omega arith) tt tt (premise logs refl) (answered_one l.inc number a)
 
     pub down_begins_so : (servers number : ℕ) (w : Option Work) → has_room l.inc ≡ true

@@ -88,7 +88,8 @@ module _ (logs : Bool) (members part most c life room top : ℕ) where
   }
 
   -- it is one that serves, and knows the end of its log
-  pub is_serving : (n : Net) (t : TokensState) (l : LogState) (number inc : ℕ) → 0 < c → c < members → Stands n t l number inc → IsServing logs members n c l.end.seq
+  pub is_serving : (n : Net) (t : TokensState) (l : LogState) (number inc : ℕ) → 0 < c → c < members → Stands n t l number inc
+      → IsServing logs members n c l.end.seq
   is_serving n t l number inc pos less h =
       record { some = pos; within = less; up = h.up; end_is = premise_by logs (λ (k : LogStands n.books c l). sym k.seen.end) h.logged }
 
@@ -101,7 +102,8 @@ module _ (logs : Bool) (members part most c life room top : ℕ) where
 
   -- an input is taken, with these acts
   pub acting : (n : Net) (m : LogState) (end number inc : ℕ) (d : client.Done) (done acts : List Act) → n.up c ≡ true → number ≡ c → inc ≡ life
-      → Premise logs (frames.HasNumbers m.end.seq room top) → acts ≡ n.acts ++ done → Happens logs members part n (record (after_client n c end d) { acts = acts }) → IsSound d.state → Bear n.sent m d.state
+      → Premise logs (frames.HasNumbers m.end.seq room top) → acts ≡ n.acts ++ done
+      → Happens logs members part n (record (after_client n c end d) { acts = acts }) → IsSound d.state → Bear n.sent m d.state
       → Premise logs (LogStands n.books c m) → Taken n m end number inc d done
   acting n m end number inc d done acts up number_is inc_is numbers are happens sound bears logged =
       let next : Net = record (after_client n c end d) { acts = acts } in

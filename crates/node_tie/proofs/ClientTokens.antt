@@ -126,7 +126,8 @@ module _ (logs : Bool) (members part most c life room top : ℕ) (pos : 0 < c) (
   pub notes_clean_so : (n : Net) (s : Serving) (block : BlockId) → At n s → Goes n (still (notes_clean s block))
   unfolding notes_clean
   notes_clean_so n s block h =
-      frames.goes_fold logs members part most c life room top evicts evicts_so n (record s { cache = (cleaned s.cache block).state }) (cleaned s.cache block).outs h
+      frames.goes_fold logs members part most c life room top evicts evicts_so n (record s { cache = (cleaned s.cache block).state })
+      (cleaned s.cache block).outs h
 
   evicts_end : (s : Serving) (outs : List cache_out.Out) → (fold evicts s outs).log ≡ s.log
   unfolding evicts
@@ -165,7 +166,8 @@ module _ (logs : Bool) (members part most c life room top : ℕ) (pos : 0 < c) (
       on_seal_passes logs members part most c life room top pos less n s.tokens s.log s.lasting.number s.lasting.inc h in
       record {
         goes = frames.goes_from logs members part most c life room top n k.next (seals s) k.grown
-            (frames.goes_plain logs members part most c life room top k.next (record s { log = r.state }) (flat_map stored r.outs) k.stands (plain_stored part c life r.outs));
+            (frames.goes_plain logs members part most c life room top k.next (record s { log = r.state }) (flat_map stored r.outs) k.stands
+            (plain_stored part c life r.outs));
         end_is = ap (λ x. x.seq) (seal_end s.log) ∙ e;
       }
 
@@ -182,7 +184,8 @@ module _ (logs : Bool) (members part most c life room top : ℕ) (pos : 0 < c) (
       } in
       let outs : List Effect = Lose seg ∷ answers_unanswered s.lasting.items.unanswered (Lost seg) in
       record {
-        goes = frames.goes_and_gives logs members part most c life room top n (still quit) t outs (acts_so n s (input.Quit block) tt (λ u. refl) tt h) (λ m k. k)
+        goes = frames.goes_and_gives logs members part most c life room top n (still quit) t outs (acts_so n s (input.Quit block) tt (λ u. refl) tt h)
+            (λ m k. k)
             (All-cons (frames.May part c life) _ _ tt (plain_answers part c life s.lasting.items.unanswered (Lost seg)));
         end_is = e;
       }
@@ -199,7 +202,10 @@ module _ (logs : Bool) (members part most c life room top : ℕ) (pos : 0 < c) (
   begins_over_so n s end target None e h = still_so n s end e h
   begins_over_so n s end target (Some group) e h =
       let r : ReadingState = begun target group (next_ask s.lasting.questions) in
-      record { goes = frames.goes_plain logs members part most c life room top n (with_reading (draws s) (Some r)) (fetches r) h (plain_fetches part c life r); end_is = e }
+      record {
+        goes = frames.goes_plain logs members part most c life room top n (with_reading (draws s) (Some r)) (fetches r) h (plain_fetches part c life r);
+        end_is = e;
+      }
 
   begins_so : (n : Net) (s : Serving) (end : ℕ) (target : Target) → s.log.end.seq ≡ end → At n s → Logged n end (begins s target)
   unfolding begins
@@ -254,7 +260,8 @@ module _ (logs : Bool) (members part most c life room top : ℕ) (pos : 0 < c) (
     end_is = log;
   }
 
-  follows_one_so : (n : Net) (s : Serving) (end : ℕ) (o : outputs.Out) → s.log.end.seq ≡ end → At n s → taking.OutSeen logs members part most c life room top n.sent end o
+  follows_one_so : (n : Net) (s : Serving) (end : ℕ) (o : outputs.Out) → s.log.end.seq ≡ end → At n s
+      → taking.OutSeen logs members part most c life room top n.sent end o
       → Logged n end (follows_one s o)
   unfolding follows_one
   follows_one_so n s end (output.Want block req again mode) e h seen =
@@ -275,7 +282,8 @@ module _ (logs : Bool) (members part most c life room top : ℕ) (pos : 0 < c) (
   follows_all n s end (o ∷ outs) e h seen =
       let one : Logged n end (follows_one s o) = follows_one_so n s end o e h seen.0 in
       frames.goes_on_in logs members part most c life room top n (follows_one s o) (steps follows_one (follows_one s o).state outs) one.goes
-      (λ m w k. follows_all m (follows_one s o).state end outs one.end_is k (taking.outs_more logs members part most c life room top n.sent m.sent w end outs seen.1))
+      (λ m w k. follows_all m (follows_one s o).state end outs one.end_is k
+      (taking.outs_more logs members part most c life room top n.sent m.sent w end outs seen.1))
 
   -- what the tokens gave out, and was sent, is done
   pub follows_so : (n : Net) (s : Serving) (outs : List outputs.Out) → At n s → taking.OutsSeen logs members part most c life room top n.sent s.log.end.seq outs

@@ -220,7 +220,8 @@ abbrev pub AllUnsettled : TokensState → (BlockId → Row) → (BlockId → Row
 AllUnsettled t w f = (b : BlockId) → IsUnsettled (held_of t.blocks b) (w b) (f b)
 
 -- what waits first is sealed
-pub all_sealed : (t : TokensState) (n : ℕ) (rows : Rows) → AreOnce rows → AllUnsettled t (row_in rows) (row_in []) → AllUnsettled t (row_in (drop n rows)) (row_in (take n rows))
+pub all_sealed : (t : TokensState) (n : ℕ) (rows : Rows) → AreOnce rows → AllUnsettled t (row_in rows) (row_in [])
+    → AllUnsettled t (row_in (drop n rows)) (row_in (take n rows))
 all_sealed t n rows once p b = by_part (in_one_part n rows b once)
   where
     by_part : InOnePart n rows b → IsUnsettled (held_of t.blocks b) (row_in (drop n rows) b) (row_in (take n rows) b)
@@ -266,21 +267,26 @@ settled_known t k v P here there =
     (λ is. by_block (λ b. P b (held_of t.blocks b)) k (subst (λ x. P k (cond x (version_settled h v) h)) is here) there)
 
 -- what is in flight is settled
-pub rows_settled : (t : TokensState) (w : BlockId → Row) (rows : Rows) → AreOnce rows → AllUnsettled t w (row_in rows) → AllUnsettled (all_settled t rows) w (row_in [])
+pub rows_settled : (t : TokensState) (w : BlockId → Row) (rows : Rows) → AreOnce rows → AllUnsettled t w (row_in rows)
+    → AllUnsettled (all_settled t rows) w (row_in [])
 rows_settled t w [] once p = p
 rows_settled t w (r ∷ rows) once p = rows_settled (on_settled t r.0 r.1.version).state w rows once.1
     (settled_known t r.0 r.1.version (λ b h. IsUnsettled h (w b) (row_in rows b))
     (subst (λ (f : Row). IsUnsettled (settled_by (held_of t.blocks r.0) r.1.version) (w r.0) f) (sym (absent_said r.0 rows once.0))
-    (settled_now (held_of t.blocks r.0) (w r.0) r.1 (subst (λ x. IsUnsettled (held_of t.blocks r.0) (w r.0) (cond x r.1 (row_in rows r.0))) (same_block_itself r.0) (p r.0))))
+    (settled_now (held_of t.blocks r.0) (w r.0) r.1
+    (subst (λ x. IsUnsettled (held_of t.blocks r.0) (w r.0) (cond x r.1 (row_in rows r.0))) (same_block_itself r.0) (p r.0))))
     (λ b other. subst (λ x. IsUnsettled (held_of t.blocks b) (w b) (cond x r.1 (row_in rows b))) other (p b)))
 
 -- a block is written, and its row waits
-pub all_written : (t : TokensState) (k : BlockId) (value : Option (List ℕ)) (rows : Rows) (f : BlockId → Row) → (held_of t.blocks k).settled ≤ (held_of t.blocks k).ver
+pub all_written : (t : TokensState) (k : BlockId) (value : Option (List ℕ)) (rows : Rows) (f : BlockId → Row)
+    → (held_of t.blocks k).settled ≤ (held_of t.blocks k).ver
     → AllUnsettled t (row_in rows) f
-    → AllUnsettled (with_held t k (written (held_of t.blocks k) value)) (row_in (put_row k (record { version = (held_of t.blocks k).ver + 1; value = value }) rows)) f
+    → AllUnsettled (with_held t k (written (held_of t.blocks k) value))
+    (row_in (put_row k (record { version = (held_of t.blocks k).ver + 1; value = value }) rows)) f
 all_written t k value rows f below p =
     put_cases (λ b h. IsUnsettled h (row_in (put_row k new rows) b) (f b)) k (written (held_of t.blocks k) value) t.blocks
-    (subst (λ (w : Row). IsUnsettled (written (held_of t.blocks k) value) w (f k)) (sym (said_put k new k rows ∙ ap (λ x. cond x new (row_in rows k)) (same_block_itself k)))
+    (subst (λ (w : Row). IsUnsettled (written (held_of t.blocks k) value) w (f k))
+    (sym (said_put k new k rows ∙ ap (λ x. cond x new (row_in rows k)) (same_block_itself k)))
     (stays_written (row_in rows k) (f k) (held_of t.blocks k) value below (p k)))
     (λ b other. subst (λ (w : Row). IsUnsettled (held_of t.blocks b) w (f b)) (sym (said_put k new b rows ∙ ap (λ x. cond x new (row_in rows b)) other)) (p b))
   where

@@ -55,7 +55,8 @@ all_sent f (m ∷ ms) place = one_sent f m place (log.sends f ms (place + 1)) (a
 sealed-sends : (l : LogState) → AllByRecursion IsSend (log.sealed l).outs
 unfolding log.sealed log.launched log.all_sends
 sealed-sends l =
-    let f : FlightState = log.flown (log.next_name l) (log.prior_from l.end) (items_of 0 (take segment_blocks l.dirty)) (log.group_for l.groups l.log.0 (log.next_name l).seq) in
+    let f : FlightState =
+    log.flown (log.next_name l) (log.prior_from l.end) (items_of 0 (take segment_blocks l.dirty)) (log.group_for l.groups l.log.0 (log.next_name l).seq) in
     all_sent f f.group.members 0
 
 if_full-sends : (l : LogState) → AllByRecursion IsSend (log.if_full l).outs
@@ -80,7 +81,8 @@ module _ (logs : Bool) (members part most c life room top : ℕ) (pos : 0 < c) (
   seals_again_so : (n : Net) (s : Serving) (settling : Bool) → At n s → Goes n (seals_again s settling)
   seals_again_so n s settling h =
       by_test (λ (d : Done). Goes n d) (settling && is_giving s.tokens) (seals s) (still s)
-      (λ t. (tokens.seals_so logs members part most c life room top pos less n s s.log.end.seq refl h).goes) (λ t. frames.goes_still logs members part most c life room top n s h)
+      (λ t. (tokens.seals_so logs members part most c life room top pos less n s s.log.end.seq refl h).goes)
+      (λ t. frames.goes_still logs members part most c life room top n s h)
 
   -- what the log did is done
   abbrev Wrote : Net → Serving → log.Done → Type 0
@@ -103,12 +105,14 @@ module _ (logs : Bool) (members part most c life room top : ℕ) (pos : 0 < c) (
   if_full_so n s l h =
       let k : frames.Passes logs members part most c life room top n s.tokens (log.if_full l).state s.lasting.number s.lasting.inc =
       if_full_passes logs members part most c life room top pos less n s.tokens l s.lasting.number s.lasting.inc h in
-      frames.goes_from logs members part most c life room top n k.next (steps writes_one (record s { log = (log.if_full l).state }) (log.if_full l).outs) k.grown
+      frames.goes_from logs members part most c life room top n k.next
+      (steps writes_one (record s { log = (log.if_full l).state }) (log.if_full l).outs) k.grown
       (only_sends k.next s (log.if_full l) (if_full-sends l) k.stands)
 
   -- ---- a block waits
 
-  put_so : (n : Net) (s : Serving) (block : BlockId) (change : Change) → At n (record s { log = log.waits s.log block change }) → Wrote n s (log.on_put s.log block change)
+  put_so : (n : Net) (s : Serving) (block : BlockId) (change : Change) → At n (record s { log = log.waits s.log block change })
+      → Wrote n s (log.on_put s.log block change)
   unfolding log.on_put
   put_so n s block change h =
       let m : LogState = log.waits s.log block change in
@@ -136,7 +140,8 @@ module _ (logs : Bool) (members part most c life room top : ℕ) (pos : 0 < c) (
 
   module _ (n : Net) (s : Serving) (l : LogState) (f : FlightState) (h : Before n s.tokens (record l { flight = Some f }) s.lasting.number s.lasting.inc) where
     -- the same content flies, by this attempt
-    flies_so : (g : FlightState) → g.segment.items ≡ f.segment.items → g.segment.name.seq ≡ f.segment.name.seq → At n (record s { log = record l { flight = Some g } })
+    flies_so : (g : FlightState) → g.segment.items ≡ f.segment.items → g.segment.name.seq ≡ f.segment.name.seq
+        → At n (record s { log = record l { flight = Some g } })
     flies_so g items seq =
         reflown logs members part most c life room top n s.tokens l f g s.lasting.number s.lasting.inc items seq
         (frames.stands_less logs members part most c life room top n s.tokens (record l { flight = Some f }) s.lasting.number s.lasting.inc h)
@@ -154,26 +159,32 @@ module _ (logs : Bool) (members part most c life room top : ℕ) (pos : 0 < c) (
         let rows : List (BlockId × Entry) = rows_of f.segment in
         let full : log.Done = log.if_full (log.landed l f) in
         let behind : Serving = record s { log = full.state } in
-        let filed : frames.Passes logs members part most c life room top n (all_settled s.tokens (rows_told f.segment.items)) (log.landed l f) s.lasting.number s.lasting.inc =
+        let filed : frames.Passes logs members part most c life room top n (all_settled s.tokens (rows_told f.segment.items))
+        (log.landed l f) s.lasting.number s.lasting.inc =
         filed_passes logs members part most c life room top pos less n s.tokens l f s.lasting.number s.lasting.inc h in
-        let k : frames.Passes logs members part most c life room top filed.next (all_settled s.tokens (rows_told f.segment.items)) full.state s.lasting.number s.lasting.inc =
-        if_full_passes logs members part most c life room top pos less filed.next (all_settled s.tokens (rows_told f.segment.items)) (log.landed l f) s.lasting.number
+        let k : frames.Passes logs members part most c life room top filed.next
+        (all_settled s.tokens (rows_told f.segment.items)) full.state s.lasting.number s.lasting.inc =
+        if_full_passes logs members part most c life room top pos less filed.next (all_settled s.tokens (rows_told f.segment.items))
+        (log.landed l f) s.lasting.number
         s.lasting.inc filed.stands in
         let settling : Done = settles behind end rows in
         frames.goes_from logs members part most c life room top n k.next (after settling.outs (steps writes_one settling.state full.outs))
         (frames.grown_on logs members part c n filed.next k.next [] [] filed.grown k.grown)
         (frames.goes_on logs members part most c life room top k.next settling (steps writes_one settling.state full.outs)
-        (settles_from logs members part most c life room top pos less k.next behind end rows (subst (At k.next) (sym (notes_settled_are behind f.segment)) k.stands))
+        (settles_from logs members part most c life room top pos less k.next behind end rows
+        (subst (At k.next) (sym (notes_settled_are behind f.segment)) k.stands))
         (λ m i. sends_so m settling.state full.outs (if_full-sends (log.landed l f)) i))
 
-    followed_so : (before : LogState) → At n (record s { log = before }) → (fate : Fate) → Wrote n s (cond (log.can_follow l f fate) (log.followed l f fate) (still before))
+    followed_so : (before : LogState) → At n (record s { log = before }) → (fate : Fate)
+        → Wrote n s (cond (log.can_follow l f fate) (log.followed l f fate) (still before))
     followed_so before q Restripe =
         by_test (λ (r : log.Done). Wrote n s r) (log.can_follow l f Restripe) (log.restriped l f) (still before) (λ t. restriped_so)
         (λ t. frames.goes_still logs members part most c life room top n (record s { log = before }) q)
     followed_so before q Settle =
         by_test (λ (r : log.Done). Wrote n s r) (log.can_follow l f Settle) (log.settled l f) (still before) (λ t. settled_so)
         (λ t. frames.goes_still logs members part most c life room top n (record s { log = before }) q)
-    followed_so before q Wait = frames.goes_still logs members part most c life room top n (record s { log = record l { flight = Some f } }) (flies_so f refl refl)
+    followed_so before q Wait =
+        frames.goes_still logs members part most c life room top n (record s { log = record l { flight = Some f } }) (flies_so f refl refl)
 
     looked_so : (before : LogState) → At n (record s { log = before }) → Wrote n s (log.looked_at before l f)
     unfolding log.looked_at
@@ -212,7 +223,8 @@ module _ (logs : Bool) (members part most c life room top : ℕ) (pos : 0 < c) (
       acked_so name index generation (Some f) is =
           by_test (λ (r : log.Done). Wrote n s r) (log.is_of f name index generation) (log.looked_at s.log s.log (log.noting f index)) (still s.log)
           (λ t. looked_so n s s.log (log.noting f index)
-          (reflown logs members part most c life (room + 1) top n s.tokens s.log f (log.noting f index) s.lasting.number s.lasting.inc refl refl (flying f is)) s.log here)
+          (reflown logs members part most c life (room + 1) top n s.tokens s.log f (log.noting f index) s.lasting.number s.lasting.inc refl refl (flying f is))
+          s.log here)
           (λ t. still_logged)
 
       abbrev mapped : GroupMapState → Option FlightState → log.Done
@@ -225,7 +237,8 @@ module _ (logs : Bool) (members part most c life room top : ℕ) (pos : 0 < c) (
           (regrouped logs members part most c life room top n s.tokens s.log groups s.lasting.number s.lasting.inc here)
       mapped_so groups (Some f) is =
           looked_so n s (record s.log { groups = groups }) f
-          (regrouped logs members part most c life (room + 1) top n s.tokens (record s.log { flight = Some f }) groups s.lasting.number s.lasting.inc (flying f is)) s.log here
+          (regrouped logs members part most c life (room + 1) top n s.tokens (record s.log { flight = Some f }) groups s.lasting.number s.lasting.inc
+          (flying f is)) s.log here
 
       pub acks_so : (name : SegName) (index generation : ℕ) → Goes n (writes s (log_in.Acked name index generation))
       unfolding log.on_acked

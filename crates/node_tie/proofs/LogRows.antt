@@ -54,7 +54,8 @@ Tells all cs =
     (before : ℕ) (first : List Item) → length first ≡ before → all ≡ first ++ items_of before cs → filter_map (row_told all) (items_of before cs) ≡ map told cs
 
 -- a change before them
-tells_more : (all : List Item) → length all ≤ no_item → (block : BlockId) (entry : Entry) (value : Option (List ℕ)) (cs : List (BlockId × Change)) → Tells all cs
+tells_more : (all : List Item) → length all ≤ no_item → (block : BlockId) (entry : Entry) (value : Option (List ℕ)) (cs : List (BlockId × Change))
+    → Tells all cs
     → Tells all ((block, record { entry = entry; value = value }) ∷ cs)
 tells_more all within block entry None cs tells before first at is =
     let here : Item = Delta block entry.ver entry.hop no_item in

@@ -42,7 +42,8 @@ seal_seen k l s seen = record {
   flying = put_here k.flying l true;
   flight = (
     next_number s.end.seq,
-    ap (λ (rows : ℕ → _). rows (suc (k.end l))) (put_here k.rows l _) ∙ put_here (k.rows l) (suc (k.end l)) (rows_told (items_of 0 (take segment_blocks s.dirty))),
+    ap (λ (rows : ℕ → _). rows (suc (k.end l))) (put_here k.rows l _)
+        ∙ put_here (k.rows l) (suc (k.end l)) (rows_told (items_of 0 (take segment_blocks s.dirty))),
   );
 }
   where

@@ -65,7 +65,8 @@ module _ (logs : Bool) (members part most life : ℕ) where
   elsewhere k block other of inside = absurd (other (sym of ∙ eqb-true (slot_of block.ino.0) part inside))
 
   -- what another slot says is of no block of the slot
-  said_other : (n : Net) (k epoch : ℕ) (outs : List Out) → (k ≡ part → ⊥) → AllSpeakOf k outs → AllDone logs members part most life n (flat_map (said k epoch) outs)
+  said_other : (n : Net) (k epoch : ℕ) (outs : List Out) → (k ≡ part → ⊥) → AllSpeakOf k outs
+      → AllDone logs members part most life n (flat_map (said k epoch) outs)
   unfolding said
   said_other n k epoch [] other all = tt
   said_other n k epoch (out.Grant client block stamp inc req mode entry ∷ os) other all =

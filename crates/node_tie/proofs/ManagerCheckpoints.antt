@@ -63,7 +63,8 @@ module _ (logs : Bool) (members part most life : ℕ) (exists : part < 8) (n : N
   quiet_then j inc t d e h k = record {
     number = k.number ∙ h.number;
     lives = k.lives ∙ h.lives;
-    stays = stays_then logs members part most life n (phase_at t part) (phase_at d.state.slots part) (phase_at e.state.slots part) d.outs e.outs h.stays k.stays;
+    stays = stays_then logs members part most life n (phase_at t part) (phase_at d.state.slots part)
+        (phase_at e.state.slots part) d.outs e.outs h.stays k.stays;
     agrees = k.agrees;
   }
 

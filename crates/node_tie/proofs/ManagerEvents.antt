@@ -73,7 +73,8 @@ module _ (logs : Bool) (members part most j : ℕ) (n : Net) where
       → Runs logs members part n (done m outs)
   done_runs life m outs runs does =
       runs_through n m (done m outs) runs
-      (says_all logs members part m (acts_of (Manager j) outs) (neutral_acts (Manager j) (DoesAt logs members part most life m) (λ a neutral. neutral) outs does))
+      (says_all logs members part m (acts_of (Manager j) outs)
+      (neutral_acts (Manager j) (DoesAt logs members part most life m) (λ a neutral. neutral) outs does))
 
   done_agrees : (m : Net) (outs : List Effect) (p : Phase) → ManagerAgrees members part m j p → ManagerAgrees members part (done m outs) j p
   done_agrees m outs p agrees = manager_on members part m (done m outs) (λ x is. is) (omega arith) j p (λ e held. refl) agrees
@@ -132,7 +133,8 @@ module _ (logs : Bool) (members part most j : ℕ) (n : Net) where
 
 module _ (logs : Bool) (members part most j : ℕ) (exists : part < 8) (n : Net) where
   -- it serves on
-  to_serving : (s : Serving) (what : Do) (d : Done) → s.lasting.number ≡ j → WentOf logs members part most s.lasting.inc exists j (λ e. Names part j e what) n s d
+  to_serving : (s : Serving) (what : Do) (d : Done) → s.lasting.number ≡ j
+      → WentOf logs members part most s.lasting.inc exists j (λ e. Names part j e what) n s d
       → ManagerGoes logs members part most j n (Serves s) what (serves d)
   to_serving s what d number h = record {
     next = done logs members part most j n h.next d.outs;
@@ -159,7 +161,8 @@ module _ (logs : Bool) (members part most j : ℕ) (exists : part < 8) (n : Net)
 
   serves_on : (s : Serving) (what : Do) (d : Done) → s.lasting.number ≡ j → epoch_of (phase_at s.slots part) ≤ most
       → Of logs members part most s.lasting.inc exists n s d → ManagerGoes logs members part most j n (Serves s) what (serves d)
-  serves_on s what d number low h = to_serving s what d number (went_serving logs members part most s.lasting.inc exists j (λ e. Names part j e what) n s d low h)
+  serves_on s what d number low h =
+      to_serving s what d number (went_serving logs members part most s.lasting.inc exists j (λ e. Names part j e what) n s d low h)
 
   -- nothing is made of the event
   to_itself : (p : Phase) (what : Do) → ManagerAgrees members part n j p → epoch_in part p ≤ most → ManagerGoes logs members part most j n p what (still p)
@@ -261,7 +264,8 @@ module _ (logs : Bool) (members part most j : ℕ) (exists : part < 8) (n : Net)
   time_goes (Down kept) agrees low = to_itself (Down kept) Tick agrees low
   time_goes (Waiting kept ask) agrees low = to_waiting logs members part most j n (Waiting kept ask) Tick kept ask _ agrees (omega arith)
       (λ is. contrary (sym is)) ((omega arith), tt)
-  time_goes (Serves s) agrees low = serves_on s Tick (on_tick s) agrees.number low (serves_tick logs members part most s.lasting.inc exists n s agrees.table low)
+  time_goes (Serves s) agrees low =
+      serves_on s Tick (on_tick s) agrees.number low (serves_tick logs members part most s.lasting.inc exists n s agrees.table low)
 
   -- ---- packets
 

@@ -42,7 +42,8 @@ module _ (logs : Bool) (members part most life : ℕ) (exists : part < 8) (j : �
   abbrev pub WentOf : Net → Serving → Done → Type 0
   WentOf n s d = Went n s.lasting.number s.lasting.inc s.slots false [] d
 
-  pub went_serving : (n : Net) (s : Serving) (d : Done) → serves.Low logs members part most life exists s.slots → serves.Of logs members part most life exists n s d → WentOf n s d
+  pub went_serving : (n : Net) (s : Serving) (d : Done) → serves.Low logs members part most life exists s.slots
+      → serves.Of logs members part most life exists n s d → WentOf n s d
   went_serving n s d low h = record {
     numbered = h.number;
     lives = h.lives;
@@ -69,7 +70,8 @@ module _ (logs : Bool) (members part most life : ℕ) (exists : part < 8) (j : �
     pub gets : AllNewsGets part most j n (epoch_of (phase_at s.slots part)) slots
     pub names : (news : SlotNews) → In news slots → news.slot ≡ part → news.manager ≡ j → named news.epoch
 
-  rose_slots : (n : Net) (s : Serving) (clients : ℕ) (slots : List SlotNews) → TableAgrees members part n s.slots → serves.Low logs members part most life exists s.slots → Owed n s clients slots
+  rose_slots : (n : Net) (s : Serving) (clients : ℕ) (slots : List SlotNews) → TableAgrees members part n s.slots
+      → serves.Low logs members part most life exists s.slots → Owed n s clients slots
       → Rose n s.lasting.number s.lasting.inc s.slots (is_some s.maps.groups) slots (hears_slots s clients slots)
   unfolding hears_slots
   rose_slots n s clients slots agrees low owed = by s.maps.groups
@@ -88,7 +90,8 @@ module _ (logs : Bool) (members part most life : ℕ) (exists : part < 8) (j : �
           (record { number = owed.number; many = owed.many }) agrees low owed.gets owed.names in
           record { numbered = refl; lives = refl; rises = h.rises; agrees = h.agrees; within = h.within; above = λ _. h.above }
 
-  serves_rose : (n : Net) (number inc : ℕ) (t : Table) (known : Bool) (slots : List SlotNews) (d e : Done) (h : serves.Serves logs members part most life exists n number inc t d)
+  serves_rose : (n : Net) (number inc : ℕ) (t : Table) (known : Bool) (slots : List SlotNews) (d e : Done)
+      (h : serves.Serves logs members part most life exists n number inc t d)
       → Rose h.event.next d.state.lasting.number d.state.lasting.inc d.state.slots known slots e → Went n number inc t known slots (after d.outs e)
   serves_rose n number inc t known slots d e h k = record {
     numbered = k.numbered ∙ h.number;
@@ -134,13 +137,15 @@ module _ (logs : Bool) (members part most life : ℕ) (exists : part < 8) (j : �
   went_less n s known slots d h =
       record { numbered = h.numbered; lives = h.lives; next = h.next; goes = h.goes; agrees = h.agrees; within = h.within; above = λ is. contrary is }
 
-  serves_regroups : (n : Net) (s : Serving) (groups : GroupMapState) → TableAgrees members part n s.slots → serves.Low logs members part most life exists s.slots → serves.Of logs members part most life exists n s (regroups s groups)
+  serves_regroups : (n : Net) (s : Serving) (groups : GroupMapState) → TableAgrees members part n s.slots
+      → serves.Low logs members part most life exists s.slots → serves.Of logs members part most life exists n s (regroups s groups)
   unfolding regroups
   serves_regroups n s groups agrees low = serves.by_asker logs members part most life exists n s (table.regroups_all groups (asker_of s))
       (table_regroups logs members part most life exists n groups (asker_of s) agrees low)
 
   -- what is owed still is once the slot has moved
-  owed_on : (n : Net) (s : Serving) (clients : ℕ) (slots : List SlotNews) (d : Done) (h : serves.Of logs members part most life exists n s d) → Owed n s clients slots
+  owed_on : (n : Net) (s : Serving) (clients : ℕ) (slots : List SlotNews) (d : Done) (h : serves.Of logs members part most life exists n s d)
+      → Owed n s clients slots
       → Owed h.event.next d.state clients slots
   owed_on n s clients slots d h owed =
       let same = h.event.moves.epoch in
@@ -155,20 +160,23 @@ module _ (logs : Bool) (members part most life : ℕ) (exists : part < 8) (j : �
         names = owed.names;
       }
 
-  went_newer : (n : Net) (s : Serving) (clients : ℕ) (news : News) → TableAgrees members part n s.slots → serves.Low logs members part most life exists s.slots → Owed n s clients news.slots
+  went_newer : (n : Net) (s : Serving) (clients : ℕ) (news : News) → TableAgrees members part n s.slots → serves.Low logs members part most life exists s.slots
+      → Owed n s clients news.slots
       → Went n s.lasting.number s.lasting.inc s.slots (is_some s.maps.groups) news.slots (on_newer s clients news)
   unfolding on_newer regroups
   went_newer n s clients news agrees low owed =
       let d = regroups s news.groups in
       let h = serves_regroups n s news.groups agrees low in
       let e = hears_slots d.state clients news.slots in
-      let r = rose_slots h.event.next d.state clients news.slots h.event.agrees (serves.low_on logs members part most life exists n s.lasting.number s.lasting.inc s.slots d h low)
+      let r = rose_slots h.event.next d.state clients news.slots h.event.agrees
+      (serves.low_on logs members part most life exists n s.lasting.number s.lasting.inc s.slots d h low)
       (owed_on n s clients news.slots d h owed) in
       let w = serves_rose n s.lasting.number s.lasting.inc s.slots (is_some s.maps.groups) news.slots d e h r in
       went_quiet n s.lasting.number s.lasting.inc s.slots (is_some s.maps.groups) news.slots (after d.outs e) (writes e.state (log_input.Maps news.groups)) w
       (quiet_writes logs members part most life exists w.next e.state (log_input.Maps news.groups) w.agrees)
 
-  went_news : (n : Net) (s : Serving) (clients : ℕ) (news : News) → TableAgrees members part n s.slots → serves.Low logs members part most life exists s.slots → Owed n s clients news.slots
+  went_news : (n : Net) (s : Serving) (clients : ℕ) (news : News) → TableAgrees members part n s.slots → serves.Low logs members part most life exists s.slots
+      → Owed n s clients news.slots
       → WentOf n s (on_news s clients news)
   unfolding on_news
   went_news n s clients news agrees low owed =
@@ -180,7 +188,8 @@ module _ (logs : Bool) (members part most life : ℕ) (exists : part < 8) (j : �
       (rose_went n s (is_some s.maps.groups) news.slots (hears_slots s clients news.slots) (rose_slots n s clients news.slots agrees low owed)))
 
   -- one that opens knows of the epochs that its Welcome names, where the maps are newer than none
-  pub went_opening : (n : Net) (s : Serving) (clients : ℕ) (news : News) → TableAgrees members part n s.slots → serves.Low logs members part most life exists s.slots → Owed n s clients news.slots
+  pub went_opening : (n : Net) (s : Serving) (clients : ℕ) (news : News) → TableAgrees members part n s.slots
+      → serves.Low logs members part most life exists s.slots → Owed n s clients news.slots
       → is_older s.maps news ≡ true → Went n s.lasting.number s.lasting.inc s.slots true news.slots (on_news s clients news)
   unfolding on_news
   went_opening n s clients news agrees low owed older =
@@ -195,7 +204,8 @@ module _ (logs : Bool) (members part most life : ℕ) (exists : part < 8) (j : �
   went_still : (n : Net) (s : Serving) → TableAgrees members part n s.slots → serves.Low logs members part most life exists s.slots → WentOf n s (still s)
   went_still n s agrees low = went_serving n s (still s) low (serves.still_serves logs members part most life exists n s agrees)
 
-  went_fitting : (n : Net) (s : Serving) (clients : ℕ) (news : News) → TableAgrees members part n s.slots → serves.Low logs members part most life exists s.slots → Owed n s clients news.slots
+  went_fitting : (n : Net) (s : Serving) (clients : ℕ) (news : News) → TableAgrees members part n s.slots
+      → serves.Low logs members part most life exists s.slots → Owed n s clients news.slots
       → WentOf n s (on_fitting_news s clients news)
   went_fitting n s clients news agrees low owed = by_test (WentOf n s) (fits s.maps news) (on_news s clients news) (still s)
       (λ _. went_news n s clients news agrees low owed) (λ _. went_still n s agrees low)
@@ -219,20 +229,28 @@ module _ (logs : Bool) (members part most life : ℕ) (exists : part < 8) (j : �
             (x, is, of, refl, ours);
       }))
       (λ _. went_still n s agrees low)
-  went_body n s clients from (body.Want want) number many agrees low gets names = went_serving n s _ low (serves.serves_want logs members part most life exists n s from want agrees gets)
-  went_body n s clients from (body.Gave gave) number many agrees low gets names = went_serving n s _ low (serves.serves_gave logs members part most life exists n s from gave agrees gets)
-  went_body n s clients from (body.Deltas deltas) number many agrees low gets names = went_serving n s _ low (serves.serves_deltas logs members part most life exists n s from deltas agrees gets)
-  went_body n s clients from (body.Check check) number many agrees low gets names = went_serving n s _ low (serves.serves_check logs members part most life exists n s check agrees)
-  went_body n s clients from (body.UsageAsk asked) number many agrees low gets names = went_serving n s _ low (serves.serves_usage logs members part most life exists n s asked agrees)
-  went_body n s clients from (body.Report report) number many agrees low gets names = went_serving n s _ low (serves.serves_report logs members part most life exists n s from report agrees low gets.0 gets.1)
+  went_body n s clients from (body.Want want) number many agrees low gets names =
+      went_serving n s _ low (serves.serves_want logs members part most life exists n s from want agrees gets)
+  went_body n s clients from (body.Gave gave) number many agrees low gets names =
+      went_serving n s _ low (serves.serves_gave logs members part most life exists n s from gave agrees gets)
+  went_body n s clients from (body.Deltas deltas) number many agrees low gets names =
+      went_serving n s _ low (serves.serves_deltas logs members part most life exists n s from deltas agrees gets)
+  went_body n s clients from (body.Check check) number many agrees low gets names =
+      went_serving n s _ low (serves.serves_check logs members part most life exists n s check agrees)
+  went_body n s clients from (body.UsageAsk asked) number many agrees low gets names =
+      went_serving n s _ low (serves.serves_usage logs members part most life exists n s asked agrees)
+  went_body n s clients from (body.Report report) number many agrees low gets names =
+      went_serving n s _ low (serves.serves_report logs members part most life exists n s from report agrees low gets.0 gets.1)
   went_body n s clients from (body.Fragment found) number many agrees low gets names = went_serving n s _ low
       (serves.serves_found logs members part most life exists n s from found agrees low gets)
   went_body n s clients from (body.Missing missing) number many agrees low gets names = went_serving n s _ low
       (serves.serves_missing logs members part most life exists n s from missing agrees low gets)
   went_body n s clients from (body.Stored stored) number many agrees low gets names = went_serving n s _ low
-      (serves.serves_quiet logs members part most life exists n s.lasting.number s.lasting.inc s.slots (on_stored s stored) (quiet_stored logs members part most life exists n s stored agrees))
+      (serves.serves_quiet logs members part most life exists n s.lasting.number s.lasting.inc s.slots (on_stored s stored)
+      (quiet_stored logs members part most life exists n s stored agrees))
   went_body n s clients from (body.CkptAck ack) number many agrees low gets names = went_serving n s _ low
-      (serves.serves_quiet logs members part most life exists n s.lasting.number s.lasting.inc s.slots (on_ckpt_ack s ack) (quiet_ckpt_ack logs members part most life exists n s ack agrees))
+      (serves.serves_quiet logs members part most life exists n s.lasting.number s.lasting.inc s.slots (on_ckpt_ack s ack)
+      (quiet_ckpt_ack logs members part most life exists n s ack agrees))
   went_body n s clients from _ number many agrees low gets names = went_still n s agrees low
 
   pub went_hears : (n : Net) (s : Serving) (clients : ℕ) (packet : Sent) → s.lasting.number ≡ j → s.lasting.inc ≡ life → clients + 1 ≡ members

@@ -19,7 +19,8 @@ use Rattle.xfs_base.specs.Steps.{still}
 use Rattle.node_tie.proofs.ManagerTakes.{IsPlain, ArePlain, fetches_plain}
 
 -- where all is plain no slot is handed out
-pub plain_hands_nothing : (outs : List Out) → ArePlain outs → (epoch : ℕ) (index : List (BlockId × Entry)) (beliefs : List (BlockId × ℕ × Mode)) (applied : List ℕ)
+pub plain_hands_nothing : (outs : List Out) → ArePlain outs
+    → (epoch : ℕ) (index : List (BlockId × Entry)) (beliefs : List (BlockId × ℕ × Mode)) (applied : List ℕ)
     → In (Active epoch index beliefs applied) outs → ⊥
 plain_hands_nothing [] plain epoch index beliefs applied is = is
 plain_hands_nothing (o ∷ outs) plain epoch index beliefs applied (inl is) = subst IsPlain (sym is) plain.0

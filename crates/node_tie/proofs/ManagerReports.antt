@@ -143,7 +143,8 @@ ends_applied horizon reports (suc (suc (suc (suc (suc (suc (suc (suc (suc c)))))
 
 module _ (members part : ℕ) (n : Net) where
   -- once all have reported, the cleaner has promised the epoch
-  pub cleaner_promised : (s : TakeState) (e : ℕ) → awaited s ≡ [] → ((r : Heard) → In r s.reports → ReportKnown members part n e r.from r.held r.end) → e ≤ n.promised
+  pub cleaner_promised : (s : TakeState) (e : ℕ) → awaited s ≡ [] → ((r : Heard) → In r s.reports → ReportKnown members part n e r.from r.held r.end)
+      → e ≤ n.promised
   cleaner_promised s e none known =
       let r = heard_is s.reports Cleaner (all_heard s.reports (polled s.clients) Cleaner none (cleaner_polled s.clients)) in
       subst (λ node. ReportKnown members part n e node r.0.held r.0.end) r.2 (known r.0 r.1)
@@ -169,7 +170,8 @@ module _ (members part : ℕ) (n : Net) where
   known_at e c node held end is known = (subst (λ k. ReportKnown members part n e k held end) is known).2
 
   -- once all have reported, the slot becomes active in the small world
-  pub activates : (logs : Bool) (s : TakeState) (e : ℕ) (index : List (BlockId × Entry)) (applied : List ℕ) → n.slots e ≡ None → s.clients + 1 ≡ members → awaited s ≡ []
+  pub activates : (logs : Bool) (s : TakeState) (e : ℕ) (index : List (BlockId × Entry)) (applied : List ℕ) → n.slots e ≡ None → s.clients + 1 ≡ members
+      → awaited s ≡ []
       → IsOnce s.reports
       → ((r : Heard) → In r s.reports → ReportKnown members part n e r.from r.held r.end)
       → Premise logs (IsLatest n e → Gathered members part n.books index applied (ends_of s.reports))

@@ -66,7 +66,8 @@ module _ (logs : Bool) (members part most life : ℕ) (exists : part < 8) where
   pub still_serves : (n : Net) (s : Serving) → TableAgrees members part n s.slots → Of n s (still s)
   still_serves n s agrees = record { number = refl; lives = refl; event = table_same logs members part most life exists n s.slots [] agrees tt }
 
-  saying : (n : Net) (s : Serving) (outs : List Effect) → TableAgrees members part n s.slots → AllDone logs members part most life n outs → Of n s (gives s outs)
+  saying : (n : Net) (s : Serving) (outs : List Effect) → TableAgrees members part n s.slots → AllDone logs members part most life n outs
+      → Of n s (gives s outs)
   saying n s outs agrees done = record { number = refl; lives = refl; event = table_same logs members part most life exists n s.slots outs agrees done }
 
   by_table : (n : Net) (s : Serving) (d : table.Done) → TableEvent logs members part most life exists n s.slots d.state d.outs → Of n s (with_slots s d)
@@ -97,7 +98,8 @@ module _ (logs : Bool) (members part most life : ℕ) (exists : part < 8) where
   serves_gave n s Cleaner gave agrees gets = still_serves n s agrees
   serves_gave n s Registry gave agrees gets = still_serves n s agrees
 
-  pub serves_deltas : (n : Net) (s : Serving) (from : NodeId) (deltas : Deltas) → TableAgrees members part n s.slots → DeltasGets logs members part n from deltas
+  pub serves_deltas : (n : Net) (s : Serving) (from : NodeId) (deltas : Deltas) → TableAgrees members part n s.slots
+      → DeltasGets logs members part n from deltas
       → Of n s (on_deltas s (fed_log from) deltas)
   unfolding on_deltas
   serves_deltas n s (Client c) deltas agrees owed = by_table n s (table.on_deltas s.slots (record { 0 = c }) deltas)

@@ -80,7 +80,8 @@ module _ (logs : Bool) (members part most life : ℕ) (exists : part < 8) where
   abbrev pub IsLow : Table → Type 0
   IsLow t = epoch_of (phase_at t part) ≤ most
 
-  pub table_same : (n : Net) (t : Table) (outs : List Effect) → TableAgrees members part n t → AllDone logs members part most life n outs → TableEvent n t t outs
+  pub table_same : (n : Net) (t : Table) (outs : List Effect) → TableAgrees members part n t → AllDone logs members part most life n outs
+      → TableEvent n t t outs
   table_same n t outs agrees done = record {
     next = n;
     moves = moves_of logs members part most life n _ _ outs
@@ -250,20 +251,24 @@ module _ (logs : Bool) (members part most life : ℕ) (exists : part < 8) where
   -- ---- takeovers
 
   pub table_takes : (n : Net) (a : TableAsker) (k : ℕ) (given : Input) → TableAgrees members part n a.table → IsLow a.table
-      → ((r : Heard) → Brings given r → ⊥) → (k ≡ part → TakeoverGets logs members part n (phase_at a.table part) given) → AskTable n a.table (table.takes a k given)
+      → ((r : Heard) → Brings given r → ⊥) → (k ≡ part → TakeoverGets logs members part n (phase_at a.table part) given)
+      → AskTable n a.table (table.takes a k given)
   unfolding table.takes
   table_takes n a k given agrees low none owed =
       at_taken-goes n a k (λ one. takeovers.takes one k given) agrees
-      (λ same. slot_hears logs members part most life n k (phase_at a.table part) a.questions given agrees.here (λ _. low) (λ r is. absurd (none r is)) (owed same))
+      (λ same. slot_hears logs members part most life n k (phase_at a.table part) a.questions given agrees.here (λ _. low) (λ r is. absurd (none r is))
+      (owed same))
       (λ other. other_hears logs members part most life n k (asker (phase_at a.table k) a.questions) given other (agrees.there k other))
 
   pub table_reports : (n : Net) (a : TableAsker) (from : NodeId) (report : Report) → TableAgrees members part n a.table → IsLow a.table
-      → ReportGets part n members from report → LastReportGets logs members part n (phase_at a.table part) from report → AskTable n a.table (table.on_report a from report)
+      → ReportGets part n members from report → LastReportGets logs members part n (phase_at a.table part) from report
+      → AskTable n a.table (table.on_report a from report)
   unfolding table.on_report
   table_reports n a from report agrees low gets owed =
       at_taken-goes n a report.slot (λ one. takeovers.on_report one from report) agrees
       (λ same. slot_reports logs members part most life n (phase_at a.table part) a.questions from report agrees.here low same gets owed)
-      (λ other. other_reports logs members part most life n (asker (phase_at a.table report.slot) a.questions) from report other (agrees.there report.slot other))
+      (λ other. other_reports logs members part most life n (asker (phase_at a.table report.slot) a.questions) from report other
+      (agrees.there report.slot other))
 
   pub table_asks : (n : Net) (polls : Bool) (a : TableAsker) (k : ℕ) → TableAgrees members part n a.table → IsLow a.table
       → AskTable n a.table (table.asks polls a k)
@@ -299,7 +304,8 @@ module _ (logs : Bool) (members part most life : ℕ) (exists : part < 8) where
   pub table_regroups : (n : Net) (groups : GroupMapState) (a : TableAsker) → TableAgrees members part n a.table → IsLow a.table
       → AskTable n a.table (table.regroups_all groups a)
   table_regroups n groups a agrees low = each_goes (λ (b : TableAsker). b.table) (table.regroups groups)
-      (λ n b k h l. table_takes n b k (input.Maps groups) h l (λ r is. is) (λ _. maps_owed logs members part most life n (phase_at b.table part) groups)) n a all_slots agrees low
+      (λ n b k h l. table_takes n b k (input.Maps groups) h l (λ r is. is) (λ _. maps_owed logs members part most life n (phase_at b.table part) groups))
+      n a all_slots agrees low
 
   -- ---- checkpoints
 
@@ -360,7 +366,8 @@ module _ (logs : Bool) (members part most life : ℕ) (exists : part < 8) where
   name_stays : (n : Net) (epoch : ℕ) (parts : List SegRef) (p : SlotPhase) → Stays logs members part most life n p (table.named_phase epoch parts p) []
   unfolding table.named_phase
   name_stays n epoch parts (phase.Active a) =
-      by_test (λ q. Stays logs members part most life n (phase.Active a) q []) (a.slot.epoch == epoch) (phase.Active (record a { parts = parts })) (phase.Active a)
+      by_test (λ q. Stays logs members part most life n (phase.Active a) q []) (a.slot.epoch == epoch) (phase.Active (record a { parts = parts }))
+      (phase.Active a)
       (λ _. record { epoch = refl; taking = λ e h. h; held = λ e h. h; does = tt }) (λ _. stays_same logs members part most life n (phase.Active a) [] tt)
   name_stays n epoch parts (phase.Away e) = stays_same logs members part most life n (phase.Away e) [] tt
   name_stays n epoch parts (phase.Taking t) = stays_same logs members part most life n (phase.Taking t) [] tt

@@ -101,7 +101,10 @@ module _ (logs : Bool) (members part most life : ℕ) where
     quiet_each a (o ∷ os) plain agrees low =
         let one = quiet_says a o plain.0 agrees low in
         let rest = quiet_each (says k a o).state os plain.1 one.agrees (λ same. let l = low same in let e = one.stays.epoch in omega arith) in
-        record { agrees = rest.agrees; stays = stays_then logs members part most life n a.phase (says k a o).state.phase _ (says k a o).outs _ one.stays rest.stays }
+        record {
+          agrees = rest.agrees;
+          stays = stays_then logs members part most life n a.phase (says k a o).state.phase _ (says k a o).outs _ one.stays rest.stays;
+        }
 
     -- time alone says nothing else
     pub quiet_ticks : (p : SlotPhase) (q : Questions) → A p → IsLow k p → Quiet A n p (takes (asker p q) k input.Tick)
@@ -129,7 +132,8 @@ module _ (logs : Bool) (members part most life : ℕ) where
 
   -- the takeover hands the slot out
   handed : (n : Net) (t : Taking) (q : Questions) (k : ℕ) (index : List (BlockId × Entry)) → TakingAgrees members part n t
-      → Hands t.take (active t.take index ∷ []) → Premise logs (HasGathered members part n t.take index) → AskEvent n (phase.Taking t) (says_each k (asker (phase.Taking t) q) (active t.take index ∷ []))
+      → Hands t.take (active t.take index ∷ []) → Premise logs (HasGathered members part n t.take index)
+      → AskEvent n (phase.Taking t) (says_each k (asker (phase.Taking t) q) (active t.take index ∷ []))
   unfolding says_each says applied_of
   handed n t q k index agrees hands gathered =
       let e = t.take.news.epoch in

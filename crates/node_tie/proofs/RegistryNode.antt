@@ -84,7 +84,8 @@ module _ (part : ℕ) (below : part < 8) (r : RegistryNode) (sound : RegistrySou
   one_changed node (Epoch epoch) = tt
   one_changed node (Kept epoch) = tt
 
-  hello_goes : (from : NodeId) (m : Hello) → HearsHello what from m.inc → BoardGoes part (ToldIn what) r.board (transition r.board (board.Hello from m.inc)).state
+  hello_goes : (from : NodeId) (m : Hello) → HearsHello what from m.inc
+      → BoardGoes part (ToldIn what) r.board (transition r.board (board.Hello from m.inc)).state
   hello_goes (Client n) m hears = goes_still part (ToldIn what) r.board sound
   hello_goes (Manager n) m hears = goes_manager part (ToldIn what) r.board sound low n m.inc hears
   hello_goes (Server n) m hears = goes_server part (ToldIn what) r.board sound n m.inc

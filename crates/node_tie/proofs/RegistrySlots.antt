@@ -42,7 +42,8 @@ unfoldable pub raised_entry : ℕ → SlotEntry → SlotEntry
 raised_entry manager e = cond (e.manager == manager) (next_entry e manager) e
 
 -- it moves a slot, or leaves all as it is
-raise_keeps : (P : List SlotEntry → Type 0) (manager : ℕ) (es : List SlotEntry) (slot : ℕ) → P es → P (after_move es slot manager) → P (raise_one manager es slot)
+raise_keeps : (P : List SlotEntry → Type 0) (manager : ℕ) (es : List SlotEntry) (slot : ℕ) → P es → P (after_move es slot manager)
+    → P (raise_one manager es slot)
 unfolding raise_one
 raise_keeps P manager es slot as_is moved =
     by_test P ((entry_of es slot).manager == manager) (cond (nat_lt 7 slot) es (after_move es slot manager)) es
@@ -55,13 +56,15 @@ raise_long manager es slot =
 
 raise_other : (manager : ℕ) (es : List SlotEntry) (slot p : ℕ) → slot ≢ p → entry_at (raise_one manager es slot) p ≡ entry_at es p
 raise_other manager es slot p apart =
-    raise_keeps (λ (xs : List SlotEntry). entry_at xs p ≡ entry_at es p) manager es slot refl (set_other es slot p (next_entry (entry_at es slot) manager) apart)
+    raise_keeps (λ (xs : List SlotEntry). entry_at xs p ≡ entry_at es p) manager es slot refl
+    (set_other es slot p (next_entry (entry_at es slot) manager) apart)
 
 raise_same : (manager : ℕ) (es : List SlotEntry) (p : ℕ) → p < 8 → length es ≡ 8 → entry_at (raise_one manager es p) p ≡ raised_entry manager (entry_at es p)
 unfolding raise_one raised_entry
 raise_same manager es p below long =
     subst
-    (λ (q : ℕ). entry_at (cond ((entry_at es q).manager == manager) (cond (nat_lt 7 p) es (after_move es p manager)) es) p ≡ raised_entry manager (entry_at es p))
+    (λ (q : ℕ). entry_at (cond ((entry_at es q).manager == manager) (cond (nat_lt 7 p) es (after_move es p manager)) es) p ≡ raised_entry manager
+    (entry_at es p))
     (sym low)
     (at ((entry_at es p).manager == manager))
   where
@@ -87,7 +90,8 @@ raise_range manager es from (suc n) p low high below long =
   where
     at : (t : Bool) → (from == p) ≡ t
         → (from + 1 ≤ p
-        → entry_at (fold (raise_one manager) (raise_one manager es from) (range_with_len (from + 1) n)) p ≡ raised_entry manager (entry_at (raise_one manager es from) p))
+        → entry_at (fold (raise_one manager) (raise_one manager es from) (range_with_len (from + 1) n)) p ≡ raised_entry manager
+        (entry_at (raise_one manager es from) p))
         → entry_at (fold (raise_one manager) (raise_one manager es from) (range_with_len (from + 1) n)) p ≡ raised_entry manager (entry_at es p)
     at true same later =
         let is : from ≡ p = grind (arith, nat_tests) in

@@ -89,11 +89,15 @@ module _ (logs : Bool) (members part : ℕ) where
   happens_any k n m (Elsewhere c end i serves other) = Elsewhere c end i (serving_any k n c end serves) other
   happens_any k n m (Reports c end serves) = Reports c end (serving_any k n c end serves)
   happens_any k n m (GetsCopy c end block stamp inc req entry serves is) = GetsCopy c end block stamp inc req entry (serving_any k n c end serves) is
-  happens_any k n m (GetsOwn c end block stamp inc req entry value serves is accepts room) = GetsOwn c end block stamp inc req entry value (serving_any k n c end serves) is accepts room
-  happens_any k n m (Declines c end block stamp inc req entry serves is accepts) = Declines c end block stamp inc req entry (serving_any k n c end serves) is accepts
+  happens_any k n m (GetsOwn c end block stamp inc req entry value serves is accepts room) =
+      GetsOwn c end block stamp inc req entry value (serving_any k n c end serves) is accepts room
+  happens_any k n m (Declines c end block stamp inc req entry serves is accepts) =
+      Declines c end block stamp inc req entry (serving_any k n c end serves) is accepts
   happens_any k n m (GetsRecall c end block stamp keep serves is) = GetsRecall c end block stamp keep (serving_any k n c end serves) is
-  happens_any k n m (GetsForward c other block stamp inc req ver value pos less is up serves held) = GetsForward c other block stamp inc req ver value pos less is up serves held
-  happens_any k n m (GetsSupply c end block stamp inc req ver value serves is) = GetsSupply c end block stamp inc req ver value (serving_any k n c end serves) is
+  happens_any k n m (GetsForward c other block stamp inc req ver value pos less is up serves held) =
+      GetsForward c other block stamp inc req ver value pos less is up serves held
+  happens_any k n m (GetsSupply c end block stamp inc req ver value serves is) =
+      GetsSupply c end block stamp inc req ver value (serving_any k n c end serves) is
   happens_any k n m (Fetches c end block value serves there) = Fetches c end block value (serving_any k n c end serves) there
   happens_any k n m (Reads c block value pos less up holds held) = Reads c block value pos less up holds held
   happens_any k n m (Syncs c pos less up clean) = Syncs c pos less up clean
@@ -108,7 +112,8 @@ module _ (logs : Bool) (members part : ℕ) where
   happens_any k n m (SealsCopies l rows above idle copies) = SealsCopies l rows above idle copies
   happens_any k n m (FilesCopies l above flies) = FilesCopies l above flies
   happens_any k n m (Reopens l adopted count above flies) = Reopens l adopted count above flies
-  happens_any k n m (Activates e index applied rows ends order none all each sent gathered) = Activates e index applied rows ends order none all each sent gathered
+  happens_any k n m (Activates e index applied rows ends order none all each sent gathered) =
+      Activates e index applied rows ends order none all each sent gathered
   happens_any k n m (Says a neutral) = Says a neutral
 
   pub any_promise : (k : ℕ) (n m : Net) → Runs logs members part n m → Runs logs members part (with_promise k n) (with_promise k m)

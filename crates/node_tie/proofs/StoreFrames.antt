@@ -95,5 +95,6 @@ module _ (P : Act → Type 0) (D : Effect → Type 0) (node : NodeId) (answers :
   acts_are (e ∷ es) all = All-append P (act_of node e) (acts_of node es) (one_act_is e all.0) (acts_are es all.1)
 
 -- no act changes a history where no effect does
-pub all_neutral : (D : Effect → Type 0) (node : NodeId) → ((a : Act) → D (Does a) → IsNeutral a) → (effects : List Effect) → AllByRecursion D effects → AllNeutral (acts_of node effects)
+pub all_neutral : (D : Effect → Type 0) (node : NodeId) → ((a : Act) → D (Does a) → IsNeutral a) → (effects : List Effect) → AllByRecursion D effects
+    → AllNeutral (acts_of node effects)
 all_neutral D node each effects all = acts_are IsNeutral D node (λ item answer. tt) (λ seg. tt) each effects all

@@ -246,4 +246,5 @@ pub record ClientBegins (logs : Bool) (part most c : ℕ) (client : clients.Clie
   pub promises : PromisesWithin part most client.phase
 
 abbrev pub ClientStarts : Type 0
-ClientStarts = (logs : Bool) (part most c : ℕ) → part < 8 → 1 ≤ most → (setup : Setup) (works : List Work) → ClientBegins logs part most c (first_client c setup works)
+ClientStarts =
+    (logs : Bool) (part most c : ℕ) → part < 8 → 1 ≤ most → (setup : Setup) (works : List Work) → ClientBegins logs part most c (first_client c setup works)

@@ -365,7 +365,8 @@ pub record ManagerGoes (logs : Bool) (members part most j : ℕ) (n : Net) (p : 
 -- Each event of a manager, if the world owes it what its packet says.
 abbrev pub ManagerEventGoes : Type 0
 ManagerEventGoes =
-    (logs : Bool) (members part most j : ℕ) (n : Net) (m : AManager) (what : Do) → part < 8 → members ≡ m.peers.clients + 1 → ManagerAgrees members part n j m.phase
+    (logs : Bool) (members part most j : ℕ) (n : Net) (m : AManager) (what : Do) → part < 8 → members ≡ m.peers.clients + 1
+    → ManagerAgrees members part n j m.phase
     → epoch_in part m.phase ≤ most → EventGets logs part most j n members m.phase what
     → ManagerGoes logs members part most j n m.phase what (happens m what)
 

@@ -110,7 +110,8 @@ module _ (owner : Owner) (q : Questions) (s : Scanning) (room : has_room q.last 
   -- the scan and the questions of the node after it
   abbrev AfterStep : scan.Done → Type 0
   AfterStep d =
-      ScanAsks (record { scan = d.state; asked = (scanned owner d.state.opening.low s.asked q d.outs).state.asked }) (scanned owner d.state.opening.low s.asked q d.outs).state.questions.last
+      ScanAsks (record { scan = d.state; asked = (scanned owner d.state.opening.low s.asked q d.outs).state.asked })
+      (scanned owner d.state.opening.low s.asked q d.outs).state.questions.last
 
   old_few : (d : scan.Done) (groups : Option GroupMapState) → s.scan.opening.ask ≤ q.last → Old s.scan.opening.ask groups d → AfterStep d
   old_few d groups small x =
@@ -141,7 +142,8 @@ module _ (owner : Owner) (q : Questions) (s : Scanning) (room : has_room q.last 
       let e = x.last in
       let past = h.past in
       let reads : v.round.ask ≤ s.scan.opening.ask = subst (λ st. PastStage s.scan.opening.ask st) v.is h.reads in
-      subst (λ outs. ScanAsks (record { scan = d.state; asked = (scanned owner d.state.opening.low s.asked q outs).state.asked }) (scanned owner d.state.opening.low s.asked q outs).state.questions.last)
+      subst (λ outs. ScanAsks (record { scan = d.state; asked = (scanned owner d.state.opening.low s.asked q outs).state.asked })
+      (scanned owner d.state.opening.low s.asked q outs).state.questions.last)
       (sym x.outs)
       (record {
         few = inr (record { back = v.back; round = v.round; is = x.stage; asking = v.asking; nobody = v.nobody }, omega arith);
@@ -179,7 +181,8 @@ starts_few_log k s chain (Some groups) last h =
 
 ends_few : (its : Owner) (low : ℕ) (a : Asked) (q : Questions) (e : _) (outs : List Out)
     → ((k : Known) (s : Scanning) (last : ℕ) → ScanAsks s last → ProgressAsks (follows k s e).state last)
-    → (k : Known) (s : Scanning) (last : ℕ) → ScanAsks s last → ProgressAsks (follows k s (steps (said its low) (record { asked = a; questions = q; ended = e }) outs).state.ended).state last
+    → (k : Known) (s : Scanning) (last : ℕ) → ScanAsks s last
+    → ProgressAsks (follows k s (steps (said its low) (record { asked = a; questions = q; ended = e }) outs).state.ended).state last
 unfolding follows said
 ends_few its low a q e [] ends = ends
 ends_few its low a q e (Hello own ∷ outs) ends = ends_few its low (asked_as a q own) (drawn_for a q own) e outs ends
@@ -200,7 +203,8 @@ module _ (q : Questions) (room : has_room q.last ≡ true) where
   scan_few k s i h =
       let d : scan.Done = scan.transition s.scan i in
       ends_few k.owner d.state.opening.low s.asked q None d.outs none_ends k
-      (record { scan = d.state; asked = (scanned k.owner d.state.opening.low s.asked q d.outs).state.asked }) (scanned k.owner d.state.opening.low s.asked q d.outs).state.questions.last
+      (record { scan = d.state; asked = (scanned k.owner d.state.opening.low s.asked q d.outs).state.asked })
+      (scanned k.owner d.state.opening.low s.asked q d.outs).state.questions.last
       (step_few k.owner q s room h i)
 
   at_few : (k : Known) (i : In) (at : Stage) → StageAsks at q.last → AsksOn (scans_at k q i at)
@@ -211,7 +215,8 @@ module _ (q : Questions) (room : has_room q.last ≡ true) where
       → AsksOn (welcomed_with k q s news own groups)
   welcome_with k s news own None h = h
   welcome_with k s news own (Some groups) h =
-      scan_few (record k { promised = promised_in news.slots }) (record s { asked = nothing_asked }) (input.Welcome own news.slots groups) (record { few = h.few; past = omega arith; reads = h.reads })
+      scan_few (record k { promised = promised_in news.slots }) (record s { asked = nothing_asked }) (input.Welcome own news.slots groups)
+      (record { few = h.few; past = omega arith; reads = h.reads })
 
   welcome_as : (k : Known) (s : Scanning) (news : News) (own : Option ℕ) → ScanAsks s q.last → AsksOn (welcomed_as k q s news own)
   unfolding welcomed
@@ -224,7 +229,8 @@ module _ (q : Questions) (room : has_room q.last ≡ true) where
     where
       by_stage : (at : Stage) → StageAsks at q.last → AsksOn (on_welcome (record o { stage = at }) q m)
       by_stage (stage.Scanning s) h =
-          by_test AsksOn (is_meant o.known m) (welcomed_as o.known q s m.news (own_of s.asked m.ask)) (stays (at_scan o.known s) q) (λ t. welcome_as o.known s m.news (own_of s.asked m.ask) h)
+          by_test AsksOn (is_meant o.known m) (welcomed_as o.known q s m.news (own_of s.asked m.ask)) (stays (at_scan o.known s) q)
+          (λ t. welcome_as o.known s m.news (own_of s.asked m.ask) h)
           (λ t. h)
       by_stage (stage.Settling s) h = tt
 
@@ -235,7 +241,8 @@ module _ (q : Questions) (room : has_room q.last ≡ true) where
   news_few : (o : Opening) (news : News) → StageAsks o.stage q.last → AsksOn (on_news o q news)
   unfolding on_news
   news_few o news h =
-      by_test AsksOn (fits o.known.maps news && is_older o.known.maps news) (regrouped (record o.known { maps = taken o.known.maps news }) q news.groups o.stage) (drops o q)
+      by_test AsksOn (fits o.known.maps news && is_older o.known.maps news)
+      (regrouped (record o.known { maps = taken o.known.maps news }) q news.groups o.stage) (drops o q)
       (λ t. regroup_few (record o.known { maps = taken o.known.maps news }) news.groups o.stage h) (λ t. h)
 
   server_few : (o : Opening) (f : ℕ → Went) (server : Option ℕ) → StageAsks o.stage q.last → ((v : ℕ) → AsksOn (f v)) → AsksOn (by_server o q f server)
@@ -246,7 +253,8 @@ module _ (q : Questions) (room : has_room q.last ≡ true) where
   unfolding on_fenced
   fenced_few o from m h =
       server_few o (fenced_by o q m) (server_in from) h
-      (λ v. by_test AsksOn (is_fenced o m) (scans o q (input.Fenced v m.generation m.held)) (drops o q) (λ t. at_few o.known (input.Fenced v m.generation m.held) o.stage h) (λ t. h))
+      (λ v. by_test AsksOn (is_fenced o m) (scans o q (input.Fenced v m.generation m.held)) (drops o q)
+      (λ t. at_few o.known (input.Fenced v m.generation m.held) o.stage h) (λ t. h))
 
   answer_few : (o : Opening) (f : ℕ → In) (own : Option ℕ) → StageAsks o.stage q.last → AsksOn (answers o q f own)
   answer_few o f None h = h
@@ -282,7 +290,8 @@ drawn_few (stage.Settling s) q h = tt
 pub packet_few : PacketAsksFew
 unfolding on_packet
 packet_few o q packet room h =
-    by_test AsksOn (names_known o.known.maps packet.body) (on_body o q packet.from packet.body) (went _ (drawn q) _) (λ t. body_few q room o packet.from packet.body h)
+    by_test AsksOn (names_known o.known.maps packet.body) (on_body o q packet.from packet.body) (went _ (drawn q) _)
+    (λ t. body_few q room o packet.from packet.body h)
     (λ t. drawn_few o.stage q h)
 
 pub tick_few : TickAsksFew

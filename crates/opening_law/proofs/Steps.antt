@@ -82,17 +82,22 @@ fetches_up most r small = all_up most (λ server. Fetch server r.target.seg.name
 
 -- a round that begins asks its servers
 begins_asking : (target : Target) (ask : ℕ) (kept : List (ℕ × ℕ)) (n parity : ℕ) (servers : List ℕ)
-    → AsksBy ask (scan.fetches (record { target = target; ask = ask; kept = kept; round = record { n = n; parity = parity; servers = servers; answers = [] }; stage = reading.Asking }))
+    → AsksBy ask (scan.fetches
+    (record { target = target; ask = ask; kept = kept; round = record { n = n; parity = parity; servers = servers; answers = [] }; stage = reading.Asking }))
     ⊎ (servers ≡ [])
 begins_asking target ask kept n parity [] = inr refl
 begins_asking target ask kept n parity (server ∷ servers) = inl refl
 
 -- the round of a reading begins, by the next question
 round_begins : (o : Opening) (b : Backward) (target : Target) (kept : List (ℕ × ℕ)) (n parity : ℕ) (servers : List ℕ)
-    → let r : ReadingState = record { target = target; ask = o.ask + 1; kept = kept; round = record { n = n; parity = parity; servers = servers; answers = [] }; stage = reading.Asking } in
+    → let r : ReadingState =
+    record { target = target; ask = o.ask + 1; kept = kept; round = record { n = n; parity = parity; servers = servers; answers = [] }; stage = reading.Asking }
+    in
     Says o.ask o.groups (goes (record o { ask = o.ask + 1 }) (Reads b (Some r)) (scan.fetches r))
 round_begins o b target kept n parity servers =
-    let r : ReadingState = record { target = target; ask = o.ask + 1; kept = kept; round = record { n = n; parity = parity; servers = servers; answers = [] }; stage = reading.Asking } in
+    let r : ReadingState =
+    record { target = target; ask = o.ask + 1; kept = kept; round = record { n = n; parity = parity; servers = servers; answers = [] }; stage = reading.Asking }
+    in
     inr (record {
       last = refl;
       same = refl;
@@ -145,7 +150,8 @@ unfolding on_answer scan.goes_on
 answer_so o b r None ask server t small = rests o (Reads b (Some r)) small
 answer_so o b r (Some groups) ask server t small =
     let now : ReadingState = record r { round = taken r.round server t } in
-    by_test (λ (x : Step). Says o.ask o.groups (scan.goes_on o b x.state x.next)) (counts r ask server t) (judged now groups (state_of now.round)) (record { state = r; next = next.Wait })
+    by_test (λ (x : Step). Says o.ask o.groups (scan.goes_on o b x.state x.next)) (counts r ask server t) (judged now groups (state_of now.round))
+    (record { state = r; next = next.Wait })
     (λ e. judged_so o b now groups (state_of now.round) small) (λ e. rests o (Reads b (Some r)) small)
 
 heard_so : (o : Opening) (b : Backward) (r : Option ReadingState) (ask server : ℕ) (t : Told) → PastReading o.ask r
@@ -171,7 +177,8 @@ fenced_so o Hails l past = rests o Hails tt
 fenced_so o (Gathers lists) l past =
     let more : List Listing = lists ++ l ∷ [] in
     by_test (Says o.ask o.groups) (can_ask o && scan.awaits o.groups lists l.server) (scan.with_list o more) (stays o (Gathers lists))
-    (λ e. by_test (Says o.ask o.groups) (length (scan.awaited o.groups more) == 0) (scan.asks_anew o (Asks more)) (stays o (Gathers more)) (λ k. anew o (Asks more) tt)
+    (λ e. by_test (Says o.ask o.groups) (length (scan.awaited o.groups more) == 0) (scan.asks_anew o (Asks more)) (stays o (Gathers more))
+    (λ k. anew o (Asks more) tt)
     (λ k. rests o (Gathers more) tt))
     (λ e. rests o (Gathers lists) tt)
 fenced_so o (Asks lists) l past = rests o (Asks lists) tt
@@ -247,10 +254,13 @@ pub says_so : (o : Opening) (st : Stage) (i : In) → PastStage o.ask st → Ste
 says_so o st (input.Welcome ask news groups) past = welcome_so o st ask news groups past
 says_so o st (input.Fenced server generation held) past =
     record { groups = o.groups; says = fenced_so o st (record { server = server; generation = generation; held = held }) past; from = refl }
-says_so o st (input.Got ask server generation fragment) past = record { groups = o.groups; says = told_so o st ask server (told.Held fragment) past; from = refl }
-says_so o st (input.Missing ask server generation) past = record { groups = o.groups; says = told_so o st ask server (told.Missing generation) past; from = refl }
+says_so o st (input.Got ask server generation fragment) past =
+    record { groups = o.groups; says = told_so o st ask server (told.Held fragment) past; from = refl }
+says_so o st (input.Missing ask server generation) past =
+    record { groups = o.groups; says = told_so o st ask server (told.Missing generation) past; from = refl }
 says_so o st (input.Maps groups) past = record { groups = Some groups; says = inl (record { last = refl; same = refl; outs = tt; reads = past }); from = refl }
-says_so o st input.Tick past = record { groups = o.groups; says = inl (record { last = refl; same = refl; outs = tick_up o st past; reads = past }); from = refl }
+says_so o st input.Tick past =
+    record { groups = o.groups; says = inl (record { last = refl; same = refl; outs = tick_up o st past; reads = past }); from = refl }
 
 -- ---- where it waits in vain, nothing is asked
 
@@ -276,7 +286,8 @@ module _ (o : Opening) (b : Backward) (r : ReadingState) (asking : r.stage ≡ r
   no_answer None ask server t = it_stays
   no_answer (Some groups) ask server t =
       let now : ReadingState = record r { round = taken r.round server t } in
-      by_test (λ (x : Step). Still o at (scan.goes_on o b x.state x.next)) (counts r ask server t) (judged now groups (state_of now.round)) (record { state = r; next = next.Wait })
+      by_test (λ (x : Step). Still o at (scan.goes_on o b x.state x.next)) (counts r ask server t) (judged now groups (state_of now.round))
+      (record { state = r; next = next.Wait })
       (λ e. contrary (subst (λ servers. list_any (λ s. s == server) servers ≡ true) nobody
       (third_of_four (is_asking r.stage) (ask == r.ask) (round_asks r.round server) (name_fits r.target t && told_fits r.round t) e)))
       (λ e. it_stays)
@@ -289,7 +300,8 @@ module _ (o : Opening) (b : Backward) (r : ReadingState) (asking : r.stage ≡ r
   not_welcomed : (ask : ℕ) (news : List SlotNews) (groups : GroupMapState) → Still o at (scan.on_welcome o at ask news groups)
   unfolding scan.on_welcome
   not_welcomed ask news groups =
-      by_test (Still o at) ((ask == o.ask) && (can_ask o && scan.awaits_welcome at)) (scan.welcomed (record o { groups = Some groups }) at (scan.least_horizon o.log.0 news)) (stays o at)
+      by_test (Still o at) ((ask == o.ask) && (can_ask o && scan.awaits_welcome at))
+      (scan.welcomed (record o { groups = Some groups }) at (scan.least_horizon o.log.0 news)) (stays o at)
       (λ t. contrary (subst (λ (s : readings.Stage). not (is_asking s) ≡ true) asking
       (and_second (can_ask o) (scan.awaits_welcome at) (and_second (ask == o.ask) (can_ask o && scan.awaits_welcome at) t))))
       (λ t. it_stays)
@@ -297,7 +309,8 @@ module _ (o : Opening) (b : Backward) (r : ReadingState) (asking : r.stage ≡ r
   not_asked : scan.on_tick o at ≡ []
   unfolding scan.on_tick
   not_asked =
-      ap (λ (s : readings.Stage). cond (is_asking s) (map (λ server. Fetch server r.target.seg.name r.ask) (cond (is_asking s) (unanswered r.round) [])) (Hello o.ask ∷ [])) asking
+      ap (λ (s : readings.Stage). cond (is_asking s) (map (λ server. Fetch server r.target.seg.name r.ask) (cond (is_asking s) (unanswered r.round) []))
+      (Hello o.ask ∷ [])) asking
       ∙ ap (λ servers. map (λ server. Fetch server r.target.seg.name r.ask) (unanswered (record r.round { servers = servers }))) nobody
 
   pub still_so : (i : In) → Still o at (scan.takes o at i)

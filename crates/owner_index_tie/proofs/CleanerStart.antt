@@ -72,4 +72,5 @@ module _ (part : ℕ) (texts : Texts) (n m : Net) (same : LeavesCleaner n m) whe
   )
 
 pub cleaner_stays : CleanerStays
-cleaner_stays part texts n m p same h = record { phase = same_cleaner part texts n m same p h.phase; moves = moves_later part n.sent m.sent same.sent p h.moves }
+cleaner_stays part texts n m p same h =
+    record { phase = same_cleaner part texts n m same p h.phase; moves = moves_later part n.sent m.sent same.sent p h.moves }

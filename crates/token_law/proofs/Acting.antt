@@ -52,7 +52,8 @@ record IsGreatest (c n : ℕ) (versions : List Version) : Type 0 where
   is : greatest_by c n versions ≡ n + place
 
 -- the first is, or one of the rest
-greatest_of : (c n : ℕ) (v : Version) (vs : List Version) → (0 < greatest_by c (n + 1) vs → IsGreatest c (n + 1) vs) → 0 < greatest_by c n (v ∷ vs) → IsGreatest c n (v ∷ vs)
+greatest_of : (c n : ℕ) (v : Version) (vs : List Version) → (0 < greatest_by c (n + 1) vs → IsGreatest c (n + 1) vs) → 0 < greatest_by c n (v ∷ vs)
+    → IsGreatest c n (v ∷ vs)
 greatest_of c n v vs later some = go (nat_lt 0 (greatest_by c (n + 1) vs)) refl
   where
     more : (m : ℕ) → nat_lt 0 m ≡ true → 0 < m
@@ -68,7 +69,14 @@ greatest_of c n v vs later some = go (nat_lt 0 (greatest_by c (n + 1) vs)) refl
     go : (t : Bool) → nat_lt 0 (greatest_by c (n + 1) vs) ≡ t → IsGreatest c n (v ∷ vs)
     go true h =
         let g = later (more (greatest_by c (n + 1) vs) h) in
-        record { place = suc g.place; version = g.version; there = g.there; below = let b = g.below in omega arith; mine = g.mine; is = rest (greatest_by c (n + 1) vs) g.place (v.writer == c) g.is }
+        record {
+          place = suc g.place;
+          version = g.version;
+          there = g.there;
+          below = let b = g.below in omega arith;
+          mine = g.mine;
+          is = rest (greatest_by c (n + 1) vs) g.place (v.writer == c) g.is;
+        }
     go false h = let f = first (greatest_by c (n + 1) vs) h some in record { place = 0; version = v; there = refl; below = omega arith; mine = f.0; is = f.1 }
 
 greatest_is : (c n : ℕ) (versions : List Version) → 0 < greatest_by c n versions → IsGreatest c n versions
@@ -80,7 +88,8 @@ module _ (logs : Bool) (members part : ℕ) (b : BlockId) (n : Net) (v : View lo
   w = v.world
 
   -- a version is pinned, and nothing else
-  pub pinned_view : (pinned : ℕ) (more : List Act) (steps : Steps logs (start members) (pinning w pinned)) → Premise logs (told (start members) (pinning w pinned) steps ≡ acts_of b more) → View logs members part b (record n { acts = more })
+  pub pinned_view : (pinned : ℕ) (more : List Act) (steps : Steps logs (start members) (pinning w pinned))
+      → Premise logs (told (start members) (pinning w pinned) steps ≡ acts_of b more) → View logs members part b (record n { acts = more })
   pinned_view pinned more steps told_ = record {
     world = pinning w pinned;
     steps = steps;
@@ -96,21 +105,31 @@ module _ (logs : Bool) (members part : ℕ) (b : BlockId) (n : Net) (v : View lo
     manages = same_manager logs members part b n v (pinning w pinned) refl refl (λ d. refl) (λ d. refl) refl v.manages.job;
     past = v.past;
     sent = λ p is. carried_on logs part b w (pinning w pinned) p
-        (record { epoch = refl; wants = λ x h. h; gaves = λ x h. h; offers = λ x h. h; recalls = λ x h. h; reports = λ x h. h; lasts = owed logs (Lasts w (pinning w pinned)) (λ _. record { join = omega arith; value = λ m _. refl }) })
+        (record {
+          epoch = refl;
+          wants = λ x h. h;
+          gaves = λ x h. h;
+          offers = λ x h. h;
+          recalls = λ x h. h;
+          reports = λ x h. h;
+          lasts = owed logs (Lasts w (pinning w pinned)) (λ _. record { join = omega arith; value = λ m _. refl });
+        })
         (v.sent p is);
     kept = v.kept;
     acts = told_;
   }
 
 -- acts that tell nothing of the block
-unacted : (logs : Bool) (members part : ℕ) (b : BlockId) (n : Net) (v : View logs members part b n) (more : List Act) → Premise logs (acts_of b more ≡ acts_of b n.acts) → View logs members part b (record n { acts = more })
+unacted : (logs : Bool) (members part : ℕ) (b : BlockId) (n : Net) (v : View logs members part b n) (more : List Act)
+    → Premise logs (acts_of b more ≡ acts_of b n.acts) → View logs members part b (record n { acts = more })
 unacted true members part b n v more same = pinned_view true members part b n v v.world.pinned more v.steps (v.acts ∙ sym same)
 unacted false members part b n v more same = pinned_view false members part b n v v.world.pinned more v.steps tt
 
 -- ---- reads
 
 reads_here : (members part : ℕ) (b : BlockId) (n : Net) → View true members part b n → (c : ℕ) (value : Option (List ℕ)) → 0 < c → c < members → n.up c ≡ true
-    → is_held (held_of (n.tokens c).blocks b).mode ≡ true → (held_of (n.tokens c).blocks b).value ≡ Some value → View true members part b (acted n (act.Read c b (held_of (n.tokens c).blocks b).ver value ∷ []))
+    → is_held (held_of (n.tokens c).blocks b).mode ≡ true → (held_of (n.tokens c).blocks b).value ≡ Some value
+    → View true members part b (acted n (act.Read c b (held_of (n.tokens c).blocks b).ver value ∷ []))
 reads_here members part b n v c value pos less up held is =
     let w = v.world in
     let x = w.client c in
@@ -122,7 +141,8 @@ reads_here members part b n v c value pos less up held is =
     let text : x.value ≡ number value = subst (λ o. ValueShown number o x.value) is shown.value in
     pinned_view true members part b n v (reads w c).pinned (n.acts ++ act.Read c b ver value ∷ []) (More v.steps (Reads c (record { holds = omega arith })))
     ((λ i. ReadBlock c (known i) (text i) ∷ v.acts i)
-    ∙ sym (acts_on b n.acts (act.Read c b ver value) ∙ ap (λ t. if t then ReadBlock c ver (number value) ∷ acts_of b n.acts else acts_of b n.acts) (same_block_itself b)))
+    ∙ sym (acts_on b n.acts (act.Read c b ver value)
+    ∙ ap (λ t. if t then ReadBlock c ver (number value) ∷ acts_of b n.acts else acts_of b n.acts) (same_block_itself b)))
 
 pub apart_blocks : (b k : BlockId) → (k ≡ b → ⊥) → same_block k b ≡ false
 apart_blocks b k other = go (same_block k b) refl
@@ -131,22 +151,27 @@ apart_blocks b k other = go (same_block k b) refl
     go true is = absurd (other (sym (same_block_exact k b is)))
     go false is = refl
 
-pub reads_view : (logs : Bool) (members part : ℕ) (b : BlockId) (n : Net) → View logs members part b n → (c : ℕ) (block : BlockId) (value : Option (List ℕ)) → 0 < c → c < members → n.up c ≡ true
-    → is_held (held_of (n.tokens c).blocks block).mode ≡ true → (held_of (n.tokens c).blocks block).value ≡ Some value → View logs members part b (acted n (act.Read c block (held_of (n.tokens c).blocks block).ver value ∷ []))
+pub reads_view : (logs : Bool) (members part : ℕ) (b : BlockId) (n : Net) → View logs members part b n → (c : ℕ) (block : BlockId) (value : Option (List ℕ))
+    → 0 < c → c < members → n.up c ≡ true
+    → is_held (held_of (n.tokens c).blocks block).mode ≡ true → (held_of (n.tokens c).blocks block).value ≡ Some value
+    → View logs members part b (acted n (act.Read c block (held_of (n.tokens c).blocks block).ver value ∷ []))
 reads_view false members part b n v c block value pos less up held is = unacted false members part b n v _ tt
 reads_view true members part b n v c block value pos less up held is =
     at_block (setting b c 0)
-    (λ k. is_held (held_of (n.tokens c).blocks k).mode ≡ true → (held_of (n.tokens c).blocks k).value ≡ Some value → View true members part b (acted n (act.Read c k (held_of (n.tokens c).blocks k).ver value ∷ [])))
+    (λ k. is_held (held_of (n.tokens c).blocks k).mode ≡ true → (held_of (n.tokens c).blocks k).value ≡ Some value
+    → View true members part b (acted n (act.Read c k (held_of (n.tokens c).blocks k).ver value ∷ [])))
     (reads_here members part b n v c value pos less up)
     (λ k other _ _.
     let ver = (held_of (n.tokens c).blocks k).ver in
     unacted true members part b n v (n.acts ++ act.Read c k ver value ∷ [])
-    (acts_on b n.acts (act.Read c k ver value) ∙ ap (λ t. if t then ReadBlock c ver (number value) ∷ acts_of b n.acts else acts_of b n.acts) (apart_blocks b k other)))
+    (acts_on b n.acts (act.Read c k ver value)
+    ∙ ap (λ t. if t then ReadBlock c ver (number value) ∷ acts_of b n.acts else acts_of b n.acts) (apart_blocks b k other)))
     block held is
 
 -- ---- syncs
 
-syncs_true : (members part : ℕ) (b : BlockId) (n : Net) → View true members part b n → FallsApart n.acts → (c : ℕ) → 0 < c → c < members → n.up c ≡ true → AllClean (n.tokens c)
+syncs_true : (members part : ℕ) (b : BlockId) (n : Net) → View true members part b n → FallsApart n.acts → (c : ℕ) → 0 < c → c < members → n.up c ≡ true
+    → AllClean (n.tokens c)
     → View true members part b (acted n (act.Synced c ∷ []))
 syncs_true members part b n v apart c pos less up clean = go (nat_lt 0 version) refl
   where
@@ -191,11 +216,14 @@ syncs_true members part b n v apart c pos less up clean = go (nat_lt 0 version) 
     go : (t : Bool) → nat_lt 0 version ≡ t → View true members part b (acted n (act.Synced c ∷ []))
     go true h =
         pinned_view true members part b n v (syncs v.world version).pinned (n.acts ++ act.Synced c ∷ []) (More v.steps (Syncs c version (may h)))
-        (ap (λ acts. SyncedBlock c version ∷ acts) v.acts ∙ sym (acts_on b n.acts (act.Synced c) ∙ ap (λ t. if t then SyncedBlock c version ∷ acts_of b n.acts else acts_of b n.acts) h))
+        (ap (λ acts. SyncedBlock c version ∷ acts) v.acts
+        ∙ sym (acts_on b n.acts (act.Synced c) ∙ ap (λ t. if t then SyncedBlock c version ∷ acts_of b n.acts else acts_of b n.acts) h))
     go false h =
-        unacted true members part b n v (n.acts ++ act.Synced c ∷ []) (acts_on b n.acts (act.Synced c) ∙ ap (λ t. if t then SyncedBlock c version ∷ acts_of b n.acts else acts_of b n.acts) h)
+        unacted true members part b n v (n.acts ++ act.Synced c ∷ [])
+        (acts_on b n.acts (act.Synced c) ∙ ap (λ t. if t then SyncedBlock c version ∷ acts_of b n.acts else acts_of b n.acts) h)
 
-pub syncs_view : (logs : Bool) (members part : ℕ) (b : BlockId) (n : Net) → View logs members part b n → Premise logs (FallsApart n.acts) → (c : ℕ) → 0 < c → c < members → n.up c ≡ true → Premise logs (AllClean (n.tokens c))
+pub syncs_view : (logs : Bool) (members part : ℕ) (b : BlockId) (n : Net) → View logs members part b n → Premise logs (FallsApart n.acts) → (c : ℕ) → 0 < c
+    → c < members → n.up c ≡ true → Premise logs (AllClean (n.tokens c))
     → View logs members part b (acted n (act.Synced c ∷ []))
 syncs_view true members part b n v apart c pos less up clean = syncs_true members part b n v apart c pos less up clean
 syncs_view false members part b n v apart c pos less up clean = unacted false members part b n v _ tt
@@ -213,5 +241,7 @@ neutral_acts b acts (act.Filed seg) neutral = acts_on b acts (act.Filed seg)
 neutral_acts b acts (act.Dropped seg) neutral = acts_on b acts (act.Dropped seg)
 neutral_acts b acts (act.Answered node item answer) neutral = acts_on b acts (act.Answered node item answer)
 
-pub says_view : (logs : Bool) (members part : ℕ) (b : BlockId) (n : Net) → View logs members part b n → (a : Act) → IsNeutral a → View logs members part b (acted n (a ∷ []))
-says_view logs members part b n v a neutral = unacted logs members part b n v (n.acts ++ a ∷ []) (owed logs (acts_of b (n.acts ++ a ∷ []) ≡ acts_of b n.acts) (λ _. neutral_acts b n.acts a neutral))
+pub says_view : (logs : Bool) (members part : ℕ) (b : BlockId) (n : Net) → View logs members part b n → (a : Act) → IsNeutral a
+    → View logs members part b (acted n (a ∷ []))
+says_view logs members part b n v a neutral =
+    unacted logs members part b n v (n.acts ++ a ∷ []) (owed logs (acts_of b (n.acts ++ a ∷ []) ≡ acts_of b n.acts) (λ _. neutral_acts b n.acts a neutral))

@@ -93,7 +93,8 @@ back_kept up acts c chain i =
     let g = settle chain (h.told c) h in
     kept_on up (put up c true) acts (act.Back c chain) i tt
     (put_each (λ d y. y ≡ true → (if d == c then [] else g.told d) ≡ []) up c true (λ _. ap (λ (y : Bool). if y then [] else g.told c) (itself c))
-    (λ d other up_. ap (λ (y : Bool). if y then [] else g.told d) (differs d c other) ∙ ap (λ (f : ℕ → List FallTold). f d) (settle_told chain (h.told c) h) ∙ i.waits d up_))
+    (λ d other up_. ap (λ (y : Bool). if y then [] else g.told d) (differs d c other) ∙ ap (λ (f : ℕ → List FallTold). f d) (settle_told chain (h.told c) h)
+    ∙ i.waits d up_))
   where
     itself : (d : ℕ) → (d == d) ≡ true
     itself d = grind (arith, nat_tests)
@@ -106,7 +107,8 @@ falls_keep logs members part n m (Acts c end x serves own) i = wrote_kept n.up n
 falls_keep logs members part n m (Elsewhere c end x serves other) i = i
 falls_keep logs members part n m (Reports c end serves) i = i
 falls_keep logs members part n m (GetsCopy c end block stamp inc req entry serves is) i = i
-falls_keep logs members part n m (GetsOwn c end block stamp inc req entry value serves is accepts room) i = kept_on n.up n.up n.acts (act.Wrote c block value) i tt i.waits
+falls_keep logs members part n m (GetsOwn c end block stamp inc req entry value serves is accepts room) i =
+    kept_on n.up n.up n.acts (act.Wrote c block value) i tt i.waits
 falls_keep logs members part n m (Declines c end block stamp inc req entry serves is accepts) i = i
 falls_keep logs members part n m (GetsRecall c end block stamp keep serves is) i = i
 falls_keep logs members part n m (GetsForward c other block stamp inc req ver value pos less is up serves held) i = i
@@ -116,7 +118,8 @@ falls_keep logs members part n m (Reads c block value pos less up held is) i =
     let h = history_after n.acts nothing_yet in
     let ver = (held_of (n.tokens c).blocks block).ver in
     kept_on n.up n.up n.acts (act.Read c block ver value) i tt
-    (λ d up_. by_test (λ (g : History). g.told d ≡ []) (is_by_other c ver (h.of_block block).versions) (change block (pin ver) h) h (λ _. i.waits d up_) (λ _. i.waits d up_))
+    (λ d up_. by_test (λ (g : History). g.told d ≡ []) (is_by_other c ver (h.of_block block).versions) (change block (pin ver) h) h (λ _. i.waits d up_)
+    (λ _. i.waits d up_))
 falls_keep logs members part n m (Syncs c pos less up clean) i = kept_on n.up n.up n.acts (act.Synced c) i tt i.waits
 falls_keep logs members part n m (Seals c rows pos less up free newest) i = i
 falls_keep logs members part n m (Files c pos less up flies) i = i

@@ -36,14 +36,16 @@ pub record Sure (members : ℕ) (n : Net) : Type 0 where
 whole_books : (logs : Bool) (members : ℕ) (n : Net) → Premise logs (Sure members n) → Premise logs (BooksWhole members n.books)
 whole_books logs members n sure = owed_on logs (Sure members n) (BooksWhole members n.books) (λ s. s.books) sure
 
-pub keeps : (logs : Bool) (members part : ℕ) (n m : Net) → Happens logs members part n m → Premise logs (Sure members n) → Good logs members part n → Good logs members part m
+pub keeps : (logs : Bool) (members part : ℕ) (n m : Net) → Happens logs members part n m → Premise logs (Sure members n) → Good logs members part n
+    → Good logs members part m
 keeps logs members part n m (Acts c end x serves own) sure i = record {
   sound = put_each (λ k x. IsSound x) n.tokens c (client.transition (n.tokens c) x).state (transition_sound logs members part n i c x) (λ k other. i.sound k);
   ran = i.ran;
   views = λ b inside. acts_view logs members part n i b (i.views b inside) c end x serves own;
 }
 keeps logs members part n m (Elsewhere c end x serves other) sure i =
-    client_good logs members part n i c end (client.transition (n.tokens c) x) serves (transition_sound logs members part n i c x) (λ b inside v. other_took logs members part n i b inside v c end x serves other)
+    client_good logs members part n i c end (client.transition (n.tokens c) x) serves (transition_sound logs members part n i c x)
+    (λ b inside v. other_took logs members part n i b inside v c end x serves other)
 keeps logs members part n m (Reports c end serves) sure i = record {
   sound = i.sound;
   ran = i.ran;
@@ -55,7 +57,8 @@ keeps logs members part n m (GetsCopy c end block stamp inc req entry serves is)
     (λ b inside v. takes_inputs logs (setting b c (n.tokens c).inc) end v.world (n.tokens c) x (ready logs members part n i b v c end serves) (v.sent _ is))
 keeps logs members part n m (GetsOwn c end block stamp inc req entry value serves is accepts room) sure i =
     let d = client.transition (n.tokens c) (input.Granted block stamp inc req Own entry) in
-    let sound = (transition-follows (λ b. Unit {0}) d.state (transition_sound logs members part n i c (input.Granted block stamp inc req Own entry)) (input.Wrote block value) (λ b h. tt)).sound in
+    let sound = (transition-follows (λ b. Unit {0}) d.state (transition_sound logs members part n i c (input.Granted block stamp inc req Own entry))
+    (input.Wrote block value) (λ b h. tt)).sound in
     record {
       sound = put_each (λ k x. IsSound x) n.tokens c (laws.granted_and_wrote (n.tokens c) stamp inc req block entry value).state sound (λ k other. i.sound k);
       ran = i.ran;
@@ -64,7 +67,8 @@ keeps logs members part n m (GetsOwn c end block stamp inc req entry value serve
 keeps logs members part n m (Declines c end block stamp inc req entry serves is accepts) sure i =
     let d = client.transition (n.tokens c) (input.Granted block stamp inc req Own entry) in
     client_good logs members part n i c end (laws.granted_and_evicted (n.tokens c) stamp inc req block entry) serves
-    (transition-follows (λ b. Unit {0}) d.state (transition_sound logs members part n i c (input.Granted block stamp inc req Own entry)) (input.Evict block) (λ b h. tt)).sound
+    (transition-follows (λ b. Unit {0}) d.state (transition_sound logs members part n i c (input.Granted block stamp inc req Own entry)) (input.Evict block)
+    (λ b h. tt)).sound
     (λ b inside v. declines_took logs members part n i b v c end block stamp inc req entry serves (v.sent _ is) accepts)
 keeps logs members part n m (GetsRecall c end block stamp keep serves is) sure i =
     let x = input.Recalled block stamp keep in
@@ -78,11 +82,13 @@ keeps logs members part n m (GetsForward c other block stamp inc req ver value p
 keeps logs members part n m (GetsSupply c end block stamp inc req ver value serves is) sure i =
     let x = input.Supplied block stamp inc req ver value in
     client_good logs members part n i c end (client.transition (n.tokens c) x) serves (transition_sound logs members part n i c x)
-    (λ b inside v. takes_inputs logs (setting b c (n.tokens c).inc) end v.world (n.tokens c) x (ready logs members part n i b v c end serves) (supply_brings logs members part n i b v c block stamp inc req ver value is))
+    (λ b inside v. takes_inputs logs (setting b c (n.tokens c).inc) end v.world (n.tokens c) x (ready logs members part n i b v c end serves)
+    (supply_brings logs members part n i b v c block stamp inc req ver value is))
 keeps logs members part n m (Fetches c end block value serves there) sure i =
     let x = input.Fetched block value in
     client_good logs members part n i c end (client.transition (n.tokens c) x) serves (transition_sound logs members part n i c x)
-    (λ b inside v. takes_inputs logs (setting b c (n.tokens c).inc) end v.world (n.tokens c) x (ready logs members part n i b v c end serves) (fetch_brings logs members part n i b v c end block value serves there))
+    (λ b inside v. takes_inputs logs (setting b c (n.tokens c).inc) end v.world (n.tokens c) x (ready logs members part n i b v c end serves)
+    (fetch_brings logs members part n i b v c end block value serves there))
 keeps logs members part n m (Reads c block value pos less up held is) sure i = record {
   sound = i.sound;
   ran = i.ran;
@@ -91,7 +97,8 @@ keeps logs members part n m (Reads c block value pos less up held is) sure i = r
 keeps logs members part n m (Syncs c pos less up clean) sure i = record {
   sound = i.sound;
   ran = i.ran;
-  views = λ b inside. syncs_view logs members part b n (i.views b inside) (owed_on logs (Sure members n) (FallsApart n.acts) (λ s. s.falls.apart) sure) c pos less up clean;
+  views = λ b inside. syncs_view logs members part b n (i.views b inside)
+      (owed_on logs (Sure members n) (FallsApart n.acts) (λ s. s.falls.apart) sure) c pos less up clean;
 }
 keeps logs members part n m (Seals c rows pos less up free newest) sure i = record {
   sound = i.sound;
@@ -126,7 +133,8 @@ keeps logs members part n m (GetsGave e s c block stamp end at is) sure i =
           let h = v.sent _ is in
           slot_event logs members part n i b v e s x at (λ _. (h.0, λ same of_epoch. (h.1 same).1 of_epoch)) (λ _. tt) (takes-transition s x tt).0);
     }
-keeps logs members part n m (Ticks e s at) sure i = record { sound = i.sound; ran = ran_put n.slots e s (i.ran e s at) i.ran; views = λ b inside. tick_event logs members part n i b (i.views b inside) e s at }
+keeps logs members part n m (Ticks e s at) sure i =
+    record { sound = i.sound; ran = ran_put n.slots e s (i.ran e s at) i.ran; views = λ b inside. tick_event logs members part n i b (i.views b inside) e s at }
 keeps logs members part n m (Crashes c flight falls pos less up once so) sure i = record {
   sound = i.sound;
   ran = i.ran;
@@ -142,11 +150,14 @@ keeps logs members part n m (SealsCopies l rows out free originals) sure i = rec
   ran = i.ran;
   views = λ b inside. copies_view logs members part b n (i.views b inside) l rows out free originals (whole_books logs members n sure);
 }
-keeps logs members part n m (FilesCopies l out flies) sure i = record { sound = i.sound; ran = i.ran; views = λ b inside. filed_view logs members part b n (i.views b inside) l out flies }
+keeps logs members part n m (FilesCopies l out flies) sure i =
+    record { sound = i.sound; ran = i.ran; views = λ b inside. filed_view logs members part b n (i.views b inside) l out flies }
 keeps logs members part n m (Reopens l adopted count out flies) sure i = record {
   sound = i.sound;
   ran = i.ran;
   views = λ b inside. reopens_view logs members part b n (i.views b inside) l adopted count out flies (whole_books logs members n sure);
 }
-keeps logs members part n m (Activates e index applied rows ends order none all each sent gathered) sure i = activated_good logs members part n i e index applied rows ends order none all each sent gathered
-keeps logs members part n m (Says a neutral) sure i = record { sound = i.sound; ran = i.ran; views = λ b inside. says_view logs members part b n (i.views b inside) a neutral }
+keeps logs members part n m (Activates e index applied rows ends order none all each sent gathered) sure i =
+    activated_good logs members part n i e index applied rows ends order none all each sent gathered
+keeps logs members part n m (Says a neutral) sure i =
+    record { sound = i.sound; ran = i.ran; views = λ b inside. says_view logs members part b n (i.views b inside) a neutral }

@@ -166,7 +166,9 @@ deltas_cover : DeltasCover 1 n5.books z1 (record { 0 = 1 }) 1 deltas
 deltas_cover = record { filed = omega arith; each = λ k inside. go k (same_block example_block k) refl }
   where
     go : (k : BlockId) (t : Bool) → same_block example_block k ≡ t → Covers n5.books k 1 1 (slot.entry_at z1 k) (entry_of (indexed_all z1.index deltas).rows k)
-    go k true is = subst (λ x. Covers n5.books x 1 1 (slot.entry_at z1 x) (entry_of (indexed_all z1.index deltas).rows x)) (sym (same_block_exact example_block k is)) covers_here
+    go k true is =
+        subst (λ x. Covers n5.books x 1 1 (slot.entry_at z1 x) (entry_of (indexed_all z1.index deltas).rows x))
+        (sym (same_block_exact example_block k is)) covers_here
     go k false is = covers_there k is
 
 step6 : Happens true 3 1 n5 n6
@@ -238,7 +240,8 @@ pub shared : IsShared
 shared = (
   n13,
   record {
-    run = On (On (On (On (On (On (On (On (On (On (On (On (On Begun step1) step2) step3) step4) step5) step6) step7) step8) step9) step10) step11) step12) step13;
+    run = On (On (On (On (On (On (On (On (On (On (On (On (On Begun step1) step2) step3) step4) step5) step6) step7) step8) step9) step10) step11) step12)
+        step13;
     acts = refl;
     filed = refl;
   },

@@ -60,12 +60,15 @@ module _ (logs : Bool) (members part : ℕ) (b : BlockId) (n : Net) (v : View lo
   abbrev pub Tells : (u : World) → Step logs w u → Act → Type 0
   Tells u step a = (acts : List block.Act) → tells w u step acts ≡ told_with b (history_after n.acts nothing_yet) a acts
 
-  pub acts_more : (u : World) (step : Step logs w u) (a : Act) → Premise logs (Tells u step a) → Premise logs (told (start members) u (More v.steps step) ≡ acts_of b (n.acts ++ a ∷ []))
+  pub acts_more : (u : World) (step : Step logs w u) (a : Act) → Premise logs (Tells u step a)
+      → Premise logs (told (start members) u (More v.steps step) ≡ acts_of b (n.acts ++ a ∷ []))
   acts_more u step a h =
-      owed_both logs (told (start members) w v.steps ≡ acts_of b n.acts) (Tells u step a) (told (start members) u (More v.steps step) ≡ acts_of b (n.acts ++ a ∷ []))
+      owed_both logs (told (start members) w v.steps ≡ acts_of b n.acts) (Tells u step a)
+      (told (start members) u (More v.steps step) ≡ acts_of b (n.acts ++ a ∷ []))
       (λ old new. ap (tells w u step) old ∙ new (acts_of b n.acts) ∙ sym (acts_on b n.acts a)) v.acts h
 
-  pub same_manager : (u : World) → u.epoch ≡ w.epoch → u.turn ≡ w.turn → ((d : ℕ) → u.belief d ≡ w.belief d) → ((d : ℕ) → u.applied d ≡ w.applied d) → u.index ≡ w.index → JobShown (slot.job_at v.slot.jobs b) v.slot.epoch u.awaited u.keep u.owed u.applied u.wants u.recalls → Manages b v.slot u
+  pub same_manager : (u : World) → u.epoch ≡ w.epoch → u.turn ≡ w.turn → ((d : ℕ) → u.belief d ≡ w.belief d) → ((d : ℕ) → u.applied d ≡ w.applied d)
+      → u.index ≡ w.index → JobShown (slot.job_at v.slot.jobs b) v.slot.epoch u.awaited u.keep u.owed u.applied u.wants u.recalls → Manages b v.slot u
   same_manager u epoch turn belief applied index job = record {
     epoch = v.manages.epoch ∙ sym epoch;
     turn = v.manages.turn ∙ sym turn;
@@ -75,7 +78,8 @@ module _ (logs : Bool) (members part : ℕ) (b : BlockId) (n : Net) (v : View lo
     job = job;
   }
 
-  pub all_same : (u : World) → u.epoch ≡ w.epoch → u.wants ≡ w.wants → u.gaves ≡ w.gaves → u.offers ≡ w.offers → u.recalls ≡ w.recalls → u.reports ≡ w.reports → Steps logs w u → Grows logs w u
+  pub all_same : (u : World) → u.epoch ≡ w.epoch → u.wants ≡ w.wants → u.gaves ≡ w.gaves → u.offers ≡ w.offers → u.recalls ≡ w.recalls → u.reports ≡ w.reports
+      → Steps logs w u → Grows logs w u
   all_same u epoch wants gaves offers recalls reports steps = record {
     epoch = epoch;
     wants = λ x h. subst (In x) (sym wants) h;
@@ -88,19 +92,33 @@ module _ (logs : Bool) (members part : ℕ) (b : BlockId) (n : Net) (v : View lo
 
   -- ---- a client falls
 
-  fall : (c : ℕ) (u : World) (a : Act) → 0 < c → c < members → n.up c ≡ true → (step : Step logs w u) → u.client ≡ put w.client c (down (w.client c)) → u.epoch ≡ w.epoch → u.members ≡ w.members → Manages b v.slot u → Grows logs w u
-      → Premise logs (Kept b n.books u) → ((k : ℕ) → (k ≡ c → ⊥) → u.fallen k ≡ w.fallen k) → (is_dirty (held_of (n.tokens c).blocks b) ≡ true → u.fallen c ≡ 1) → Premise logs (Tells u step a)
+  fall : (c : ℕ) (u : World) (a : Act) → 0 < c → c < members → n.up c ≡ true → (step : Step logs w u) → u.client ≡ put w.client c (down (w.client c))
+      → u.epoch ≡ w.epoch → u.members ≡ w.members → Manages b v.slot u → Grows logs w u
+      → Premise logs (Kept b n.books u) → ((k : ℕ) → (k ≡ c → ⊥) → u.fallen k ≡ w.fallen k) → (is_dirty (held_of (n.tokens c).blocks b) ≡ true → u.fallen c ≡ 1)
+      → Premise logs (Tells u step a)
       → View logs members part b (acted (record n { up = put n.up c false }) (a ∷ []))
   fall c u a pos less up step clients epoch many manages grows kept others falls told_ = record {
     world = u;
     steps = More v.steps step;
     many = many ∙ v.many;
     some = v.some;
-    nobody = subst (λ e. IsNobody (u.client 0) e) (sym epoch) (subst (λ x. IsNobody x w.epoch) (sym (ap (λ f. f 0) clients ∙ put_there w.client c (down (w.client c)) 0 (λ same. absurd (omega arith)))) v.nobody);
+    nobody = subst (λ e. IsNobody (u.client 0) e) (sym epoch)
+        (subst (λ x. IsNobody x w.epoch) (sym (ap (λ f. f 0) clients ∙ put_there w.client c (down (w.client c)) 0 (λ same. absurd (omega arith)))) v.nobody);
     positive = let p = v.positive in omega arith;
     clients = λ k. subst (λ f. 0 < k → k < members → ClientShown (put n.up c false k) b k (n.tokens k) u.epoch (f k)) (sym clients)
         (put_each_two (λ k t x. 0 < k → k < members → ClientShown t b k (n.tokens k) u.epoch x) n.up w.client c false (down (w.client c))
-        (λ _ _. let shown = shown_up c pos less up in record { serving = refl; incarnation = shown.incarnation; promised = shown.stamps.promised; mode = refl; stamp = refl; want = refl; version = refl; settled = refl; fetching = refl })
+        (λ _ _. let shown = shown_up c pos less up in
+        record {
+          serving = refl;
+          incarnation = shown.incarnation;
+          promised = shown.stamps.promised;
+          mode = refl;
+          stamp = refl;
+          want = refl;
+          version = refl;
+          settled = refl;
+          fetching = refl;
+        })
         (λ k other pos less. subst (λ e. ClientShown (n.up k) b k (n.tokens k) e (w.client k)) (sym epoch) (v.clients k pos less)) k);
     fell = put_each (λ k t. 0 < k → k < members → FellDirty t (held_of (n.tokens k).blocks b) (u.fallen k)) n.up c false (λ _ _ _ dirty. falls dirty)
         (λ k other pos less down dirty. others k other ∙ v.fell k pos less down dirty);
@@ -122,7 +140,8 @@ module _ (logs : Bool) (members part : ℕ) (b : BlockId) (n : Net) (v : View lo
   held c = held_of (n.tokens c).blocks b
 
   -- the fall of a dirty block is told, and that of a clean one isn't
-  tells_dirty : (c : ℕ) (falls : List Fall) → Shows (setting b c (n.tokens c).inc) w.epoch (local_of (n.tokens c) b) (w.client c) → is_dirty (held c) ≡ true → Kept b n.books w
+  tells_dirty : (c : ℕ) (falls : List Fall) → Shows (setting b c (n.tokens c).inc) w.epoch (local_of (n.tokens c) b) (w.client c) → is_dirty (held c) ≡ true
+      → Kept b n.books w
       → fall_of b falls ≡ fall_from b (held c) (said n.books c (suc (n.books.end c)) b) → (acts : List block.Act)
       → FellBlock c (w.client c).settled (max (w.client c).settled (flying_row w c).version) ∷ acts ≡ with_fall c (fall_of b falls) acts
   tells_dirty c falls shown dirty kept is acts =
@@ -132,29 +151,36 @@ module _ (logs : Bool) (members part : ℕ) (b : BlockId) (n : Net) (v : View lo
       let flies = in_flight c kept in
       (λ i. FellBlock c (safe i) (max (safe i) (flies i)) ∷ acts) ∙ sym (ap (λ o. with_fall c o acts) (is ∙ ap (λ t. if t then Some f else None) dirty))
 
-  tells_clean : (c : ℕ) (falls : List Fall) → is_dirty (held c) ≡ false → fall_of b falls ≡ fall_from b (held c) (said n.books c (suc (n.books.end c)) b) → (acts : List block.Act)
+  tells_clean : (c : ℕ) (falls : List Fall) → is_dirty (held c) ≡ false → fall_of b falls ≡ fall_from b (held c) (said n.books c (suc (n.books.end c)) b)
+      → (acts : List block.Act)
       → acts ≡ with_fall c (fall_of b falls) acts
   tells_clean c falls clean is acts =
       let row = said n.books c (suc (n.books.end c)) b in
       let f : Fall = record { block = b; low = (held c).settled; high = max (held c).settled row.version } in
       sym (ap (λ o. with_fall c o acts) (is ∙ ap (λ t. if t then Some f else None) clean))
 
-  pub crash_view : (c : ℕ) (flight : Option (ℕ × ℕ)) (falls : List Fall) → 0 < c → c < members → n.up c ≡ true → Premise logs (FallsSo n.books c (n.tokens c) flight falls)
+  pub crash_view : (c : ℕ) (flight : Option (ℕ × ℕ)) (falls : List Fall) → 0 < c → c < members → n.up c ≡ true
+      → Premise logs (FallsSo n.books c (n.tokens c) flight falls)
       → View logs members part b (acted (record n { up = put n.up c false }) (act.Fell c flight falls ∷ []))
   crash_view c flight falls pos less up so =
-      elim (nat_lt (w.client c).settled (w.client c).version) as (λ t. nat_lt (w.client c).settled (w.client c).version ≡ t → View logs members part b (acted (record n { up = put n.up c false }) (a ∷ []))) [
+      elim (nat_lt (w.client c).settled (w.client c).version) as
+      (λ t. nat_lt (w.client c).settled (w.client c).version ≡ t → View logs members part b (acted (record n { up = put n.up c false }) (a ∷ []))) [
         | true ↦ λ is.
             let u = crashes_dirty w c in
             let step : Step logs w u = CrashesDirty c (record { dirty = below _ _ is }) in
-            fall c u a pos less up step refl refl refl (same_manager u refl refl (λ d. refl) (λ d. refl) refl v.manages.job) (all_same u refl refl refl refl refl refl (More Done step)) v.kept
+            fall c u a pos less up step refl refl refl (same_manager u refl refl (λ d. refl) (λ d. refl) refl v.manages.job)
+            (all_same u refl refl refl refl refl refl (More Done step)) v.kept
             (λ k other. put_there w.fallen c 1 k other) (λ _. put_here w.fallen c 1)
-            (owed_both logs (Kept b n.books w) (FallsSo n.books c (n.tokens c) flight falls) (Tells u step a) (λ kept f. tells_dirty c falls shown (sym (shown_dirty shown) ∙ is) kept (f.each b)) v.kept so)
+            (owed_both logs (Kept b n.books w) (FallsSo n.books c (n.tokens c) flight falls) (Tells u step a)
+            (λ kept f. tells_dirty c falls shown (sym (shown_dirty shown) ∙ is) kept (f.each b)) v.kept so)
         | false ↦ λ is.
             let u = crashes_clean w c in
             let step : Step logs w u = CrashesClean c (record { clean = above _ _ is }) in
-            fall c u a pos less up step refl refl refl (same_manager u refl refl (λ d. refl) (λ d. refl) refl v.manages.job) (all_same u refl refl refl refl refl refl (More Done step)) v.kept
+            fall c u a pos less up step refl refl refl (same_manager u refl refl (λ d. refl) (λ d. refl) refl v.manages.job)
+            (all_same u refl refl refl refl refl refl (More Done step)) v.kept
             (λ k other. refl) (λ dirty. contrary (sym is ∙ (shown_dirty shown ∙ dirty)))
-            (owed_on logs (FallsSo n.books c (n.tokens c) flight falls) (Tells u step a) (λ f. tells_clean c falls (sym (shown_dirty shown) ∙ is) (f.each b)) so)
+            (owed_on logs (FallsSo n.books c (n.tokens c) flight falls) (Tells u step a)
+            (λ f. tells_clean c falls (sym (shown_dirty shown) ∙ is) (f.each b)) so)
       ] refl
     where
       a : Act
@@ -163,7 +189,8 @@ module _ (logs : Bool) (members part : ℕ) (b : BlockId) (n : Net) (v : View lo
       shown : Shows (setting b c (n.tokens c).inc) w.epoch (local_of (n.tokens c) b) (w.client c)
       shown = shown_up c pos less up
 
-      shown_dirty : Shows (setting b c (n.tokens c).inc) w.epoch (local_of (n.tokens c) b) (w.client c) → nat_lt (w.client c).settled (w.client c).version ≡ is_dirty (held c)
+      shown_dirty : Shows (setting b c (n.tokens c).inc) w.epoch (local_of (n.tokens c) b) (w.client c)
+          → nat_lt (w.client c).settled (w.client c).version ≡ is_dirty (held c)
       shown_dirty shown = ap (λ k. nat_lt k (w.client c).version) shown.settled ∙ ap (λ k. nat_lt (held c).settled k) shown.version
 
       below : (m k : ℕ) → nat_lt m k ≡ true → m < k
@@ -174,8 +201,10 @@ module _ (logs : Bool) (members part : ℕ) (b : BlockId) (n : Net) (v : View lo
 
   -- ---- a client returns
 
-  back_from : (c inc : ℕ) (epochs : List ℕ) (u : World) (k : Books) (more : List Act) → 0 < c → c < members → n.up c ≡ false → (steps : Steps logs (start members) u)
-      → u.client ≡ put w.client c (back (w.client c) inc (epoch_of epochs (slot_of b.ino.0))) → u.fallen ≡ put w.fallen c 0 → u.epoch ≡ w.epoch → u.members ≡ w.members → Manages b v.slot u → Grows logs w u
+  back_from : (c inc : ℕ) (epochs : List ℕ) (u : World) (k : Books) (more : List Act) → 0 < c → c < members → n.up c ≡ false
+      → (steps : Steps logs (start members) u)
+      → u.client ≡ put w.client c (back (w.client c) inc (epoch_of epochs (slot_of b.ino.0))) → u.fallen ≡ put w.fallen c 0 → u.epoch ≡ w.epoch
+      → u.members ≡ w.members → Manages b v.slot u → Grows logs w u
       → Premise logs (Kept b k u) → Premise logs (told (start members) u steps ≡ acts_of b more)
       → View logs members part b (record n { tokens = put n.tokens c (fresh_tokens inc epochs); up = put n.up c true; books = k; acts = more })
   back_from c inc epochs u k more pos less up steps clients fallen epoch many manages grows kept told_ =
@@ -186,9 +215,11 @@ module _ (logs : Bool) (members part : ℕ) (b : BlockId) (n : Net) (v : View lo
         steps = steps;
         many = many ∙ v.many;
         some = v.some;
-        nobody = subst (λ e. IsNobody (u.client 0) e) (sym epoch) (subst (λ y. IsNobody y w.epoch) (sym (ap (λ f. f 0) clients ∙ put_there w.client c x 0 (λ same. absurd (omega arith)))) v.nobody);
+        nobody = subst (λ e. IsNobody (u.client 0) e) (sym epoch)
+            (subst (λ y. IsNobody y w.epoch) (sym (ap (λ f. f 0) clients ∙ put_there w.client c x 0 (λ same. absurd (omega arith)))) v.nobody);
         positive = let p = v.positive in omega arith;
-        clients = λ d. subst (λ e. 0 < d → d < members → ClientShown (put n.up c true d) b d (put n.tokens c (fresh_tokens inc epochs) d) e (u.client d)) (sym epoch)
+        clients = λ d. subst (λ e. 0 < d → d < members → ClientShown (put n.up c true d) b d (put n.tokens c (fresh_tokens inc epochs) d) e (u.client d))
+            (sym epoch)
             (subst (λ f. 0 < d → d < members → ClientShown (put n.up c true d) b d (put n.tokens c (fresh_tokens inc epochs) d) w.epoch (f d)) (sym clients)
             (put_each_three (λ k t s y. 0 < k → k < members → ClientShown t b k s w.epoch y) n.up n.tokens w.client c true (fresh_tokens inc epochs) x
             (λ _ _. record {
@@ -206,7 +237,8 @@ module _ (logs : Bool) (members part : ℕ) (b : BlockId) (n : Net) (v : View lo
               fetch = gone.fetching;
             })
             (λ k other pos less. v.clients k pos less) d));
-        fell = λ d. subst (λ f. 0 < d → d < members → FellDirty (put n.up c true d) (held_of (put n.tokens c (fresh_tokens inc epochs) d).blocks b) (f d)) (sym fallen)
+        fell = λ d. subst (λ f. 0 < d → d < members → FellDirty (put n.up c true d) (held_of (put n.tokens c (fresh_tokens inc epochs) d).blocks b) (f d))
+            (sym fallen)
             (put_each_three (λ k t s f. 0 < k → k < members → FellDirty t (held_of s.blocks b) f) n.up n.tokens w.fallen c true (fresh_tokens inc epochs) 0
             (λ _ _ down _. contrary (sym down)) (λ k other. v.fell k) d);
         slot = v.slot;
@@ -219,23 +251,31 @@ module _ (logs : Bool) (members part : ℕ) (b : BlockId) (n : Net) (v : View lo
         acts = told_;
       }
 
-  pub return_view : (c inc : ℕ) (epochs : List ℕ) (chain : List SegName) → 0 < c → c < members → n.up c ≡ false → (n.tokens c).inc < inc → epoch_of (n.tokens c).epochs part ≤ epoch_of epochs part → is_in_slot part b ≡ true
+  pub return_view : (c inc : ℕ) (epochs : List ℕ) (chain : List SegName) → 0 < c → c < members → n.up c ≡ false → (n.tokens c).inc < inc
+      → epoch_of (n.tokens c).epochs part ≤ epoch_of epochs part → is_in_slot part b ≡ true
       → Premise logs (adopts n.acts c chain ≡ true → n.books.flying c ≡ true)
-      → View logs members part b (acted (record n { tokens = put n.tokens c (fresh_tokens inc epochs); up = put n.up c true; books = reopened n.books c (adopts n.acts c chain) }) (act.Back c chain ∷ []))
+      → View logs members part b
+      (acted (record n { tokens = put n.tokens c (fresh_tokens inc epochs); up = put n.up c true; books = reopened n.books c (adopts n.acts c chain) })
+      (act.Back c chain ∷ []))
   return_view c inc epochs chain pos less up later rises inside flies =
       elim (adopts n.acts c chain) as (λ t. adopts n.acts c chain ≡ t
-      → View logs members part b (acted (record n { tokens = put n.tokens c (fresh_tokens inc epochs); up = put n.up c true; books = reopened n.books c t }) (act.Back c chain ∷ []))) [
+      → View logs members part b
+      (acted (record n { tokens = put n.tokens c (fresh_tokens inc epochs); up = put n.up c true; books = reopened n.books c t }) (act.Back c chain ∷ []))) [
         | true ↦ λ is.
             let u = restarts_adopting w c inc promised in
             let step : Step logs w u = RestartsAdopting c inc promised may (adopting is) in
-            back_from c inc epochs u (filed n.books c) (n.acts ++ act.Back c chain ∷ []) pos less up (More v.steps step) refl refl refl refl (same_manager u refl refl (λ d. refl) (λ d. refl) refl v.manages.job)
-            (all_same u refl refl refl refl refl refl (More Done step)) (owed_on logs (Kept b n.books w) (Kept b (filed n.books c) u) (λ kept. filed_seen b n.books w.end w.flight w.rows kept c) v.kept)
+            back_from c inc epochs u (filed n.books c) (n.acts ++ act.Back c chain ∷ []) pos less up (More v.steps step) refl refl refl refl
+            (same_manager u refl refl (λ d. refl) (λ d. refl) refl v.manages.job)
+            (all_same u refl refl refl refl refl refl (More Done step))
+            (owed_on logs (Kept b n.books w) (Kept b (filed n.books c) u) (λ kept. filed_seen b n.books w.end w.flight w.rows kept c) v.kept)
             (acts_more u step (act.Back c chain) (owed logs (Tells u step (act.Back c chain)) (λ _ acts. ap (λ t. BackBlock c t ∷ acts) (sym is))))
         | false ↦ λ is.
             let u = restarts_discarding w c inc promised in
             let step : Step logs w u = RestartsDiscarding c inc promised may in
-            back_from c inc epochs u (discarded n.books c) (n.acts ++ act.Back c chain ∷ []) pos less up (More v.steps step) refl refl refl refl (same_manager u refl refl (λ d. refl) (λ d. refl) refl v.manages.job)
-            (all_same u refl refl refl refl refl refl (More Done step)) (owed_on logs (Kept b n.books w) (Kept b (discarded n.books c) u) (λ kept. discarded_seen b n.books w.end w.flight w.rows kept c) v.kept)
+            back_from c inc epochs u (discarded n.books c) (n.acts ++ act.Back c chain ∷ []) pos less up (More v.steps step) refl refl refl refl
+            (same_manager u refl refl (λ d. refl) (λ d. refl) refl v.manages.job)
+            (all_same u refl refl refl refl refl refl (More Done step))
+            (owed_on logs (Kept b n.books w) (Kept b (discarded n.books c) u) (λ kept. discarded_seen b n.books w.end w.flight w.rows kept c) v.kept)
             (acts_more u step (act.Back c chain) (owed logs (Tells u step (act.Back c chain)) (λ _ acts. ap (λ t. BackBlock c t ∷ acts) (sym is))))
       ] refl
     where
@@ -261,11 +301,14 @@ module _ (logs : Bool) (members part : ℕ) (b : BlockId) (n : Net) (v : View lo
   -- ---- a client that serves a Forward
 
   -- what it supplies is the value of the newest version, which is filed
-  supplies_so : (c other : ℕ) (stamp : Stamp) (inc req ver : ℕ) (value : Option (List ℕ)) (entry : Entry) → 0 < c → c < members → n.up c ≡ true → client.serves (n.tokens c) b stamp ver ≡ true
-      → (held_of (n.tokens c).blocks b).value ≡ Some value → entry.ver ≡ ver → SentOffer other w stamp inc req Copy (entry_seen entry) → Premise logs (Supplies stamp.epoch ver value w)
+  supplies_so : (c other : ℕ) (stamp : Stamp) (inc req ver : ℕ) (value : Option (List ℕ)) (entry : Entry) → 0 < c → c < members → n.up c ≡ true
+      → client.serves (n.tokens c) b stamp ver ≡ true
+      → (held_of (n.tokens c).blocks b).value ≡ Some value → entry.ver ≡ ver → SentOffer other w stamp inc req Copy (entry_seen entry)
+      → Premise logs (Supplies stamp.epoch ver value w)
   supplies_so c other stamp inc req ver value entry pos less up serves is same sent = go logs w (shown_up c pos less up) sent v.steps
     where
-      go : (l : Bool) (u : World) → Shows (setting b c (n.tokens c).inc) u.epoch (local_of (n.tokens c) b) (u.client c) → SentOffer other u stamp inc req Copy (entry_seen entry) → Steps l (start members) u
+      go : (l : Bool) (u : World) → Shows (setting b c (n.tokens c).inc) u.epoch (local_of (n.tokens c) b) (u.client c)
+          → SentOffer other u stamp inc req Copy (entry_seen entry) → Steps l (start members) u
           → Premise l (Supplies stamp.epoch ver value u)
       go true u shown sent steps = λ reigns.
           let i = always members u steps in
@@ -273,7 +316,8 @@ module _ (logs : Bool) (members part : ℕ) (b : BlockId) (n : Net) (v : View lo
           record { joined = let joined = offers_joined u i _ (sent.offered reigns) in omega arith; content = newest.0 }
       go false u shown sent steps = tt
 
-  pub supply_view : (c other : ℕ) (block : BlockId) (stamp : Stamp) (inc req ver : ℕ) (value : Option (List ℕ)) → 0 < c → c < members → In (ForwardSent c other block stamp inc req ver) n.sent → n.up c ≡ true
+  pub supply_view : (c other : ℕ) (block : BlockId) (stamp : Stamp) (inc req ver : ℕ) (value : Option (List ℕ)) → 0 < c → c < members
+      → In (ForwardSent c other block stamp inc req ver) n.sent → n.up c ≡ true
       → client.serves (n.tokens c) block stamp ver ≡ true → (held_of (n.tokens c).blocks block).value ≡ Some value
       → View logs members part b (record n { sent = SupplySent other block stamp inc req ver value ∷ n.sent })
   supply_view c other block stamp inc req ver value pos less is up serves value_is = record {

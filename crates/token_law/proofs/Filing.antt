@@ -45,7 +45,8 @@ module _ (logs : Bool) (members part : ℕ) (b : BlockId) (n : Net) (v : View lo
   Told u steps = told (start members) u steps ≡ acts_of b n.acts
 
   -- logs change, and nothing else
-  pub rebooked : (k : Books) (end flight : ℕ → ℕ) (rows : ℕ → ℕ → abstract.Row) (steps : Steps logs (start members) (logged w end flight rows)) → Premise logs (Told (logged w end flight rows) steps)
+  pub rebooked : (k : Books) (end flight : ℕ → ℕ) (rows : ℕ → ℕ → abstract.Row) (steps : Steps logs (start members) (logged w end flight rows))
+      → Premise logs (Told (logged w end flight rows) steps)
       → Premise logs (LogsSeen b k end flight rows) → View logs members part b (record n { books = k })
   rebooked k end flight rows steps told_ kept = record {
     world = logged w end flight rows;
@@ -62,23 +63,40 @@ module _ (logs : Bool) (members part : ℕ) (b : BlockId) (n : Net) (v : View lo
     manages = same_manager logs members part b n v (logged w end flight rows) refl refl (λ d. refl) (λ d. refl) refl v.manages.job;
     past = v.past;
     sent = λ p is. carried_on logs part b w (logged w end flight rows) p
-        (record { epoch = refl; wants = λ x h. h; gaves = λ x h. h; offers = λ x h. h; recalls = λ x h. h; reports = λ x h. h; lasts = owed logs (Lasts w (logged w end flight rows)) (λ _. record { join = omega arith; value = λ m _. refl }) })
+        (record {
+          epoch = refl;
+          wants = λ x h. h;
+          gaves = λ x h. h;
+          offers = λ x h. h;
+          recalls = λ x h. h;
+          reports = λ x h. h;
+          lasts = owed logs (Lasts w (logged w end flight rows)) (λ _. record { join = omega arith; value = λ m _. refl });
+        })
         (v.sent p is);
     kept = kept;
     acts = told_;
   }
 
   -- a client's segment, with this version of the block, is filed, and its tokens are told
-  pub settled_view : (c ver : ℕ) (flight : ℕ → ℕ) (rows : ℕ → ℕ → abstract.Row) (s : TokensState) (k : Books) → 0 < c → c < members → n.up c ≡ true → IsSound (n.tokens c)
-      → (steps : Steps logs (start members) (logged w w.end flight rows)) → Premise logs (Told (logged w w.end flight rows) steps) → Premise logs (SegmentFlying (logged w w.end flight rows) c)
-      → (rows c (suc (w.end c))).version ≡ ver → ver ≤ (held_of (n.tokens c).blocks b).ver → local_of s b ≡ local_of (client.on_settled (n.tokens c) b ver).state b
-      → Premise logs (LogsSeen b k (put w.end c (suc (w.end c))) (put flight c 0) rows) → View logs members part b (record n { tokens = put n.tokens c s; books = k })
+  pub settled_view : (c ver : ℕ) (flight : ℕ → ℕ) (rows : ℕ → ℕ → abstract.Row) (s : TokensState) (k : Books) → 0 < c → c < members → n.up c ≡ true
+      → IsSound (n.tokens c)
+      → (steps : Steps logs (start members) (logged w w.end flight rows)) → Premise logs (Told (logged w w.end flight rows) steps)
+      → Premise logs (SegmentFlying (logged w w.end flight rows) c)
+      → (rows c (suc (w.end c))).version ≡ ver → ver ≤ (held_of (n.tokens c).blocks b).ver
+      → local_of s b ≡ local_of (client.on_settled (n.tokens c) b ver).state b
+      → Premise logs (LogsSeen b k (put w.end c (suc (w.end c))) (put flight c 0) rows)
+      → View logs members part b (record n { tokens = put n.tokens c s; books = k })
   settled_view c ver flight rows s k pos less up sound steps told_ flying row below same kept =
       let g = setting b c (n.tokens c).inc in
       let f = logged w w.end flight rows in
       let shown = shown_up logs members part b n v c pos less up in
       let both = settles_blocks logs g (w.end c) f (n.tokens c) ver
-      (record { shows = shown; sound = sound; promised = epoch_promised w (owned logs members w v.steps) c (let m = v.many in omega arith); settled = owed logs (SettledEnd f c (w.end c)) (λ _. record { last_filed = refl }) })
+      (record {
+        shows = shown;
+        sound = sound;
+        promised = epoch_promised w (owned logs members w v.steps) c (let m = v.many in omega arith);
+        settled = owed logs (SettledEnd f c (w.end c)) (λ _. record { last_filed = refl });
+      })
       (record { serving = shown.serving }) flying row below in
       let u = settles f c in
       let step : Step logs f u = Settles c (record { serving = shown.serving }) flying in
@@ -89,19 +107,38 @@ module _ (logs : Bool) (members part : ℕ) (b : BlockId) (n : Net) (v : View lo
         many = v.many;
         some = v.some;
         positive = v.positive;
-        fell = put_each (λ d x. 0 < d → d < members → FellDirty (n.up d) (held_of x.blocks b) (u.fallen d)) n.tokens c s (λ _ _ down _. contrary (sym down ∙ up)) (λ d other. v.fell d);
+        fell = put_each (λ d x. 0 < d → d < members → FellDirty (n.up d) (held_of x.blocks b) (u.fallen d)) n.tokens c s
+            (λ _ _ down _. contrary (sym down ∙ up)) (λ d other. v.fell d);
         slot = v.slot;
         sound = v.sound;
         reigns = v.reigns;
         past = v.past;
         nobody = subst (λ x. IsNobody x w.epoch) (sym (put_there w.client c _ 0 (λ same. absurd (omega arith)))) v.nobody;
         clients = put_each (λ d x. 0 < d → d < members → ClientShown (n.up d) b d x w.epoch (u.client d)) n.tokens c s
-            (λ _ _. subst (λ t. ClientShown t b c s w.epoch (u.client c)) (sym up) (subst (λ i. Shows (setting b c i) w.epoch (local_of s b) (u.client c)) (sym shows.boot) shows))
+            (λ _ _. subst (λ t. ClientShown t b c s w.epoch (u.client c)) (sym up)
+            (subst (λ i. Shows (setting b c i) w.epoch (local_of s b) (u.client c)) (sym shows.boot) shows))
             (λ d other pos less. subst (λ x. ClientShown (n.up d) b d (n.tokens d) w.epoch x) (sym (put_there w.client c _ d other)) (v.clients d pos less));
         manages = same_manager logs members part b n v u refl refl (λ d. refl) (λ d. refl) refl v.manages.job;
-        sent = λ p is. carried_on logs part b f u p (record { epoch = refl; wants = λ x h. h; gaves = λ x h. h; offers = λ x h. h; recalls = λ x h. h; reports = λ x h. h; lasts = lasts_by logs members f u steps (More Done step) })
+        sent = λ p is. carried_on logs part b f u p
+            (record {
+              epoch = refl;
+              wants = λ x h. h;
+              gaves = λ x h. h;
+              offers = λ x h. h;
+              recalls = λ x h. h;
+              reports = λ x h. h;
+              lasts = lasts_by logs members f u steps (More Done step);
+            })
             (carried_on logs part b w f p
-            (record { epoch = refl; wants = λ x h. h; gaves = λ x h. h; offers = λ x h. h; recalls = λ x h. h; reports = λ x h. h; lasts = owed logs (Lasts w f) (λ _. record { join = omega arith; value = λ m _. refl }) }) (v.sent p is));
+            (record {
+              epoch = refl;
+              wants = λ x h. h;
+              gaves = λ x h. h;
+              offers = λ x h. h;
+              recalls = λ x h. h;
+              reports = λ x h. h;
+              lasts = owed logs (Lasts w f) (λ _. record { join = omega arith; value = λ m _. refl });
+            }) (v.sent p is));
         kept = kept;
         acts = told_;
       }
@@ -123,8 +160,10 @@ unsaid members k l whole free = whole.beyond l (suc (k.end l)) (let none = ap fl
 
 -- ---- a client seals
 
-pub seals_view : (logs : Bool) (members part : ℕ) (b : BlockId) (n : Net) → View logs members part b n → (c : ℕ) (rows : List (BlockId × Row)) → 0 < c → c < members → n.up c ≡ true
-    → Premise logs (n.books.flying c ≡ false) → Premise logs (SealsNewest (n.tokens c) rows) → Premise logs (BooksWhole members n.books) → View logs members part b (record n { books = sealed n.books c rows })
+pub seals_view : (logs : Bool) (members part : ℕ) (b : BlockId) (n : Net) → View logs members part b n → (c : ℕ) (rows : List (BlockId × Row)) → 0 < c
+    → c < members → n.up c ≡ true
+    → Premise logs (n.books.flying c ≡ false) → Premise logs (SealsNewest (n.tokens c) rows) → Premise logs (BooksWhole members n.books)
+    → View logs members part b (record n { books = sealed n.books c rows })
 seals_view false members part b n v c rows pos less up free newest whole = unbooked members part b n v (sealed n.books c rows)
 seals_view true members part b n v c rows pos less up free newest whole =
     ⊎_elim
@@ -136,9 +175,11 @@ seals_view true members part b n v c rows pos less up free newest whole =
     let ver = shown.version ∙ sym h.1 in
     let value : x.value ≡ number (row_in rows b).value = subst (λ o. ValueShown number o x.value) h.2 shown.value in
     let dirty : x.settled < x.version = let s = shown.settled in let m = shown.version in let d = below _ _ h.0 in omega arith in
-    rebooked true members part b n v (sealed n.books c rows) w.end (put w.flight c 1) (put w.rows c (put (w.rows c) (suc (w.end c)) (record { version = x.version; value = x.value })))
+    rebooked true members part b n v (sealed n.books c rows) w.end (put w.flight c 1)
+    (put w.rows c (put (w.rows c) (suc (w.end c)) (record { version = x.version; value = x.value })))
     (More v.steps (SealsWith c (record { dirty = dirty }))) v.acts
-    (sealed_seen b n.books w.end w.flight w.rows v.kept c rows (record { version = x.version; value = x.value }) (λ i. record { version = ver i; value = value i })))
+    (sealed_seen b n.books w.end w.flight w.rows v.kept c rows (record { version = x.version; value = x.value })
+    (λ i. record { version = ver i; value = value i })))
     (newest.newest b)
   where
     w : World
@@ -153,34 +194,44 @@ seals_view true members part b n v c rows pos less up free newest whole =
 -- ---- a client's segment is filed
 
 -- where logs keep their word, the newest row of the block is settled
-files_true : (members part : ℕ) (b : BlockId) (n : Net) (v : View true members part b n) (c : ℕ) (s : TokensState) → 0 < c → c < members → n.up c ≡ true → IsSound (n.tokens c) → n.books.flying c ≡ true
-    → local_of s b ≡ local_of (client.on_settled (n.tokens c) b (said n.books c (suc (n.books.end c)) b).version).state b → View true members part b (record n { tokens = put n.tokens c s; books = filed n.books c })
+files_true : (members part : ℕ) (b : BlockId) (n : Net) (v : View true members part b n) (c : ℕ) (s : TokensState) → 0 < c → c < members → n.up c ≡ true
+    → IsSound (n.tokens c) → n.books.flying c ≡ true
+    → local_of s b ≡ local_of (client.on_settled (n.tokens c) b (said n.books c (suc (n.books.end c)) b).version).state b
+    → View true members part b (record n { tokens = put n.tokens c s; books = filed n.books c })
 files_true members part b n v c s pos less up sound flies same =
     let w = v.world in
     let row = ap (λ e. (w.rows c (suc e)).version) (v.kept.ends c) ∙ ap (λ (r : abstract.Row). r.version) (v.kept.says c (suc (n.books.end c))) in
     let shown = shown_up true members part b n v c pos less up in
     let most = (flights_new w (always members w v.steps) c (let m = v.many in omega arith)).held shown.serving in
     let ver = shown.version in
-    settled_view true members part b n v c (said n.books c (suc (n.books.end c)) b).version w.flight w.rows s (filed n.books c) pos less up sound v.steps v.acts (record { in_flight = flown b n.books w c v.kept flies })
+    settled_view true members part b n v c (said n.books c (suc (n.books.end c)) b).version w.flight w.rows s (filed n.books c) pos less up sound v.steps v.acts
+    (record { in_flight = flown b n.books w c v.kept flies })
     row (let is = row in omega arith) same (filed_seen b n.books w.end w.flight w.rows v.kept c)
 
 -- where they don't, any version may be
-files_false : (members part : ℕ) (b : BlockId) (n : Net) (v : View false members part b n) (c : ℕ) (s : TokensState) (ver : ℕ) → 0 < c → c < members → n.up c ≡ true → IsSound (n.tokens c) → ver ≤ (held_of (n.tokens c).blocks b).ver
-    → local_of s b ≡ local_of (client.on_settled (n.tokens c) b ver).state b → (k : Books) → View false members part b (record n { tokens = put n.tokens c s; books = k })
+files_false : (members part : ℕ) (b : BlockId) (n : Net) (v : View false members part b n) (c : ℕ) (s : TokensState) (ver : ℕ) → 0 < c → c < members
+    → n.up c ≡ true → IsSound (n.tokens c) → ver ≤ (held_of (n.tokens c).blocks b).ver
+    → local_of s b ≡ local_of (client.on_settled (n.tokens c) b ver).state b → (k : Books)
+    → View false members part b (record n { tokens = put n.tokens c s; books = k })
 files_false members part b n v c s ver pos less up sound below same k =
     let w = v.world in
     let r : abstract.Row = record { version = ver; value = 0 } in
     let flight = put w.flight c 1 in
     let rows = put w.rows c (put (w.rows c) (suc (w.end c)) r) in
     let row : (rows c (suc (w.end c))).version ≡ ver =
-    ap (λ (h : ℕ → abstract.Row). (h (suc (w.end c))).version) (put_here w.rows c (put (w.rows c) (suc (w.end c)) r)) ∙ ap (λ (x : abstract.Row). x.version) (put_here (w.rows c) (suc (w.end c)) r) in
-    settled_view false members part b n v c ver flight rows s k pos less up sound (More v.steps (Loses (logged w w.end flight rows) refl)) tt tt row below same tt
+    ap (λ (h : ℕ → abstract.Row). (h (suc (w.end c))).version) (put_here w.rows c (put (w.rows c) (suc (w.end c)) r))
+    ∙ ap (λ (x : abstract.Row). x.version) (put_here (w.rows c) (suc (w.end c)) r) in
+    settled_view false members part b n v c ver flight rows s k pos less up sound
+    (More v.steps (Loses (logged w w.end flight rows) refl)) tt tt row below same tt
 
-pub files_view : (logs : Bool) (members part : ℕ) (b : BlockId) (n : Net) → View logs members part b n → (c : ℕ) → 0 < c → c < members → n.up c ≡ true → IsSound (n.tokens c) → Premise logs (n.books.flying c ≡ true)
-    → Premise logs (BooksWhole members n.books) → View logs members part b (record n { tokens = put n.tokens c (all_settled (n.tokens c) (n.books.rows c (suc (n.books.end c)))); books = filed n.books c })
+pub files_view : (logs : Bool) (members part : ℕ) (b : BlockId) (n : Net) → View logs members part b n → (c : ℕ) → 0 < c → c < members → n.up c ≡ true
+    → IsSound (n.tokens c) → Premise logs (n.books.flying c ≡ true)
+    → Premise logs (BooksWhole members n.books)
+    → View logs members part b (record n { tokens = put n.tokens c (all_settled (n.tokens c) (n.books.rows c (suc (n.books.end c)))); books = filed n.books c })
 files_view true members part b n v c pos less up sound flies whole =
     let rows = n.books.rows c (suc (n.books.end c)) in
-    files_true members part b n v c (all_settled (n.tokens c) rows) pos less up sound flies (settled_once b (n.tokens c) rows (whole.once c (suc (n.books.end c)) less))
+    files_true members part b n v c (all_settled (n.tokens c) rows) pos less up sound flies
+    (settled_once b (n.tokens c) rows (whole.once c (suc (n.books.end c)) less))
 files_view false members part b n v c pos less up sound flies whole =
     let rows = n.books.rows c (suc (n.books.end c)) in
     let d = settled_some b (n.tokens c) rows in
@@ -189,7 +240,8 @@ files_view false members part b n v c pos less up sound flies whole =
 -- ---- segments that say nothing
 
 -- one is sealed and filed by a client
-one_empty : (members part : ℕ) (b : BlockId) (n : Net) → View true members part b n → (c : ℕ) → 0 < c → c < members → n.up c ≡ true → IsSound (n.tokens c) → n.books.flying c ≡ false → BooksWhole members n.books
+one_empty : (members part : ℕ) (b : BlockId) (n : Net) → View true members part b n → (c : ℕ) → 0 < c → c < members → n.up c ≡ true → IsSound (n.tokens c)
+    → n.books.flying c ≡ false → BooksWhole members n.books
     → View true members part b (record n { books = filed (sealed n.books c []) c })
 one_empty members part b n v c pos less up sound free whole =
     let m : Net = record n { books = sealed n.books c [] } in
@@ -199,7 +251,8 @@ one_empty members part b n v c pos less up sound free whole =
     ∙ ap (λ xs. (row_in xs b).version) (put_here (n.books.rows c) (suc (n.books.end c)) []) in
     subst (λ tokens. View true members part b (record n { tokens = tokens; books = filed (sealed n.books c []) c })) (put_back n.tokens c)
     (files_true members part b m sealed_ c (n.tokens c) pos less up sound (put_here n.books.flying c true)
-    (sym (settled_here b (n.tokens c) (said m.books c (suc (n.books.end c)) b).version ∙ ap (once_settled (local_of (n.tokens c) b)) said_ ∙ none_settled (local_of (n.tokens c) b))))
+    (sym (settled_here b (n.tokens c) (said m.books c (suc (n.books.end c)) b).version ∙ ap (once_settled (local_of (n.tokens c) b)) said_
+    ∙ none_settled (local_of (n.tokens c) b))))
   where
     put_back : {X : Type 0} (f : ℕ → X) (d : ℕ) → put f d (f d) ≡ f
     put_back f d = λ i e. one e i
@@ -207,23 +260,28 @@ one_empty members part b n v c pos less up sound free whole =
         one : (e : ℕ) → put f d (f d) e ≡ f e
         one e = grind (arith, nat_tests)
 
-empties_true : (members part : ℕ) (b : BlockId) (n : Net) (c count : ℕ) → View true members part b n → 0 < c → c < members → n.up c ≡ true → IsSound (n.tokens c) → n.books.flying c ≡ false → BooksWhole members n.books
+empties_true : (members part : ℕ) (b : BlockId) (n : Net) (c count : ℕ) → View true members part b n → 0 < c → c < members → n.up c ≡ true
+    → IsSound (n.tokens c) → n.books.flying c ≡ false → BooksWhole members n.books
     → View true members part b (record n { books = with_empty count n.books c })
 empties_true members part b n c zero v pos less up sound free whole = v
 empties_true members part b n c (suc count) v pos less up sound free whole =
     let k = filed (sealed n.books c []) c in
-    empties_true members part b (record n { books = k }) c count (one_empty members part b n v c pos less up sound free whole) pos less up sound (put_here (put n.books.flying c true) c false)
+    empties_true members part b (record n { books = k }) c count (one_empty members part b n v c pos less up sound free whole) pos less up sound
+    (put_here (put n.books.flying c true) c false)
     (whole_filed members (sealed n.books c []) c (whole_sealed members n.books c [] (λ _. tt) whole))
 
-pub empties_view : (logs : Bool) (members part : ℕ) (b : BlockId) (n : Net) (c count : ℕ) → View logs members part b n → 0 < c → c < members → n.up c ≡ true → IsSound (n.tokens c) → Premise logs (n.books.flying c ≡ false)
+pub empties_view : (logs : Bool) (members part : ℕ) (b : BlockId) (n : Net) (c count : ℕ) → View logs members part b n → 0 < c → c < members → n.up c ≡ true
+    → IsSound (n.tokens c) → Premise logs (n.books.flying c ≡ false)
     → Premise logs (BooksWhole members n.books) → View logs members part b (record n { books = with_empty count n.books c })
 empties_view true members part b n c count v pos less up sound free whole = empties_true members part b n c count v pos less up sound free whole
 empties_view false members part b n c count v pos less up sound free whole = unbooked members part b n v (with_empty count n.books c)
 
 -- ---- the cleaner's log
 
-pub copies_view : (logs : Bool) (members part : ℕ) (b : BlockId) (n : Net) → View logs members part b n → (l : ℕ) (rows : List (BlockId × Row)) → members ≤ l → Premise logs (n.books.flying l ≡ false)
-    → Premise logs (SealsOriginals n.books rows) → Premise logs (BooksWhole members n.books) → View logs members part b (record n { books = sealed n.books l rows })
+pub copies_view : (logs : Bool) (members part : ℕ) (b : BlockId) (n : Net) → View logs members part b n → (l : ℕ) (rows : List (BlockId × Row)) → members ≤ l
+    → Premise logs (n.books.flying l ≡ false)
+    → Premise logs (SealsOriginals n.books rows) → Premise logs (BooksWhole members n.books)
+    → View logs members part b (record n { books = sealed n.books l rows })
 copies_view false members part b n v l rows out free originals whole = unbooked members part b n v (sealed n.books l rows)
 copies_view true members part b n v l rows out free originals whole =
     let w = v.world in
@@ -238,32 +296,40 @@ copies_view true members part b n v l rows out free originals whole =
     (sealed_seen b n.books w.end w.flight w.rows v.kept l rows r (v.kept.says h.0 h.1 ∙ ap row_seen (sym h.3))))
     (originals.copies b)
 
-pub filed_view : (logs : Bool) (members part : ℕ) (b : BlockId) (n : Net) → View logs members part b n → (l : ℕ) → members ≤ l → Premise logs (n.books.flying l ≡ true) → View logs members part b (record n { books = filed n.books l })
+pub filed_view : (logs : Bool) (members part : ℕ) (b : BlockId) (n : Net) → View logs members part b n → (l : ℕ) → members ≤ l
+    → Premise logs (n.books.flying l ≡ true) → View logs members part b (record n { books = filed n.books l })
 filed_view false members part b n v l out flies = unbooked members part b n v (filed n.books l)
 filed_view true members part b n v l out flies =
     let w = v.world in
     rebooked true members part b n v (filed n.books l) (put w.end l (suc (w.end l))) (put w.flight l 0) w.rows
-    (More v.steps (SettlesCopy l (record { outsider = let m = v.many in omega arith; flying = flown b n.books w l v.kept flies }))) v.acts (filed_seen b n.books w.end w.flight w.rows v.kept l)
+    (More v.steps (SettlesCopy l (record { outsider = let m = v.many in omega arith; flying = flown b n.books w l v.kept flies }))) v.acts
+    (filed_seen b n.books w.end w.flight w.rows v.kept l)
 
-discarded_view : (members part : ℕ) (b : BlockId) (n : Net) → View true members part b n → (l : ℕ) → members ≤ l → View true members part b (record n { books = discarded n.books l })
+discarded_view : (members part : ℕ) (b : BlockId) (n : Net) → View true members part b n → (l : ℕ) → members ≤ l
+    → View true members part b (record n { books = discarded n.books l })
 discarded_view members part b n v l out =
     let w = v.world in
     rebooked true members part b n v (discarded n.books l) w.end (put w.flight l 0) (put w.rows l (put (w.rows l) (suc (w.end l)) abstract.no_row))
     (More v.steps (DiscardsCopy l (record { outsider = let m = v.many in omega arith }))) v.acts (discarded_seen b n.books w.end w.flight w.rows v.kept l)
 
-other_empties : (members part : ℕ) (b : BlockId) (n : Net) (l count : ℕ) → View true members part b n → members ≤ l → n.books.flying l ≡ false → BooksWhole members n.books
+other_empties : (members part : ℕ) (b : BlockId) (n : Net) (l count : ℕ) → View true members part b n → members ≤ l → n.books.flying l ≡ false
+    → BooksWhole members n.books
     → View true members part b (record n { books = with_empty count n.books l })
 other_empties members part b n l zero v out free whole = v
 other_empties members part b n l (suc count) v out free whole =
     let m : Net = record n { books = sealed n.books l [] } in
     let one : View true members part b m = copies_view true members part b n v l [] out free (record { copies = λ k. inl refl }) whole in
-    other_empties members part b (record n { books = filed (sealed n.books l []) l }) l count (filed_view true members part b m one l out (put_here n.books.flying l true)) out (put_here (put n.books.flying l true) l false)
+    other_empties members part b (record n { books = filed (sealed n.books l []) l }) l count
+    (filed_view true members part b m one l out (put_here n.books.flying l true)) out (put_here (put n.books.flying l true) l false)
     (whole_filed members (sealed n.books l []) l (whole_sealed members n.books l [] (λ _. tt) whole))
 
-pub reopens_view : (logs : Bool) (members part : ℕ) (b : BlockId) (n : Net) → View logs members part b n → (l : ℕ) (adopted : Bool) (count : ℕ) → members ≤ l → Premise logs (adopted ≡ true → n.books.flying l ≡ true)
+pub reopens_view : (logs : Bool) (members part : ℕ) (b : BlockId) (n : Net) → View logs members part b n → (l : ℕ) (adopted : Bool) (count : ℕ) → members ≤ l
+    → Premise logs (adopted ≡ true → n.books.flying l ≡ true)
     → Premise logs (BooksWhole members n.books) → View logs members part b (record n { books = with_empty count (reopened n.books l adopted) l })
 reopens_view false members part b n v l adopted count out flies whole = unbooked members part b n v (with_empty count (reopened n.books l adopted) l)
 reopens_view true members part b n v l true count out flies whole =
-    other_empties members part b (record n { books = filed n.books l }) l count (filed_view true members part b n v l out (flies refl)) out (put_here n.books.flying l false) (whole_filed members n.books l whole)
+    other_empties members part b (record n { books = filed n.books l }) l count (filed_view true members part b n v l out (flies refl)) out
+    (put_here n.books.flying l false) (whole_filed members n.books l whole)
 reopens_view true members part b n v l false count out flies whole =
-    other_empties members part b (record n { books = discarded n.books l }) l count (discarded_view members part b n v l out) out (put_here n.books.flying l false) (whole_discarded members n.books l whole)
+    other_empties members part b (record n { books = discarded n.books l }) l count (discarded_view members part b n v l out) out
+    (put_here n.books.flying l false) (whole_discarded members n.books l whole)

@@ -49,7 +49,8 @@ module _ (b : BlockId) (k : Books) (w : World) (seen : Kept b k w) where
       ))
       made
     where
-      placed : (o : Option Place) {l q : ℕ} → ((p : Place) → o ≡ Some p → (p.seg.name.log.0 ≡ l) × (p.seg.name.seq ≡ q)) → 0 < placed_of o → (log_of o ≡ l) × (segment_of o ≡ q)
+      placed : (o : Option Place) {l q : ℕ} → ((p : Place) → o ≡ Some p → (p.seg.name.log.0 ≡ l) × (p.seg.name.seq ≡ q)) → 0 < placed_of o
+          → (log_of o ≡ l) × (segment_of o ≡ q)
       placed None at some = absurd (omega arith)
       placed (Some p) at some = at p refl
 
@@ -68,7 +69,8 @@ module _ (b : BlockId) (k : Books) (w : World) (seen : Kept b k w) where
       → IndexGathered w report (put applied 0 (w.end 0)) (entry_seen e)
   gathered_of report applied e empty nobody reported filed source rows = record {
     reported = put_each (λ c x. c < w.members → (report c).end ≤ x) applied 0 (w.end 0) (λ _. omega arith) (λ c other. reported c (positive c other));
-    filed_end = put_each (λ c x. x ≤ w.end c) applied 0 (w.end 0) (omega arith) (λ c other. let f = filed c (positive c other) in let a = seen.ends c in omega arith);
+    filed_end = put_each (λ c x. x ≤ w.end c) applied 0 (w.end 0) (omega arith)
+        (λ c other. let f = filed c (positive c other) in let a = seen.ends c in omega arith);
     source = filed_of e source;
     rows = put_each (λ c x. (q : ℕ) → q ≤ x → (w.rows c q).version ≤ e.ver) applied 0 (w.end 0) (λ q _. let none = empty.rows q in omega arith)
         (λ c other q most. let r = ap (λ (r : abstract.Row). r.version) (seen.says c q) in let x = rows c q (positive c other) most in omega arith);

@@ -51,7 +51,8 @@ module _ (logs : Bool) (members part : ℕ) (n : Net) (b : BlockId) (m : Moment 
   is_owned : (v : View logs members part b n) → Owned v.world
   is_owned v = owned logs members v.world v.steps
 
-  promised_is : (v : View logs members part b n) (c : ℕ) (up : Bool) → ClientShown up b c (n.tokens c) v.world.epoch (v.world.client c) → (v.world.client c).promised ≡ epoch_of (n.tokens c).epochs (slot_of b.ino.0)
+  promised_is : (v : View logs members part b n) (c : ℕ) (up : Bool) → ClientShown up b c (n.tokens c) v.world.epoch (v.world.client c)
+      → (v.world.client c).promised ≡ epoch_of (n.tokens c).epochs (slot_of b.ino.0)
   promised_is v c true shown = shown.stamps.promised
   promised_is v c false shown = shown.promised
 
@@ -71,14 +72,16 @@ one_owner logs members part n b m c d is is2 up up2 own held =
     let v = seen logs members part n b m c is in
     let mode = (shown_up logs members part b n v d is2.some is2.within up2).mode in
     let some = holds_some (held_of (n.tokens d).blocks b).mode held in
-    single_owner v.world (is_owned logs members part n b m v) c d ((shown_up logs members part b n v c is.some is.within up).mode ∙ owns_two (held_of (n.tokens c).blocks b).mode own) (omega arith)
+    single_owner v.world (is_owned logs members part n b m v) c d
+    ((shown_up logs members part b n v c is.some is.within up).mode ∙ owns_two (held_of (n.tokens c).blocks b).mode own) (omega arith)
 
 pub active_promised : ActiveEpochsPromised
 active_promised logs members part n b m e s active c is =
     let v = seen logs members part n b m c is in
     let below = (v.past e s active).0 in
     let high = promised_by logs members part n b m v c is in
-    let same = promised_is logs members part n b m v c (n.up c) (v.clients c is.some is.within) ∙ ap (epoch_of (n.tokens c).epochs) (equal_numbers (slot_of b.ino.0) part m.inside) in
+    let same = promised_is logs members part n b m v c (n.up c) (v.clients c is.some is.within)
+    ∙ ap (epoch_of (n.tokens c).epochs) (equal_numbers (slot_of b.ino.0) part m.inside) in
     omega arith
 
 pub holdings_believed : HoldingsBelieved
@@ -93,7 +96,8 @@ pub grants_believed : GrantsBelieved
 grants_believed logs members part n b m e s r c is up stamp inc req mode entry sent accepted =
     let v = seen logs members part n b m c is in
     let shown = shown_up logs members part b n v c is.some is.within up in
-    let may = taking logs (setting b c (n.tokens c).inc) 0 v.world (local_of (n.tokens c) b) stamp inc req mode (entry_seen entry) shown (promised_by logs members part n b m v c is) (v.sent _ sent refl) accepted in
+    let may = taking logs (setting b c (n.tokens c).inc) 0 v.world (local_of (n.tokens c) b) stamp inc req mode (entry_seen entry) shown
+    (promised_by logs members part n b m v c is) (v.sent _ sent refl) accepted in
     let covered = acceptable_believed v.world (is_owned logs members part n b m v) _ may.1.sent may.1.live in
     let believed = v.manages.belief c in
     subst (λ (x : SlotState). rank mode ≤ share_of x.beliefs b c) (sym (reigning logs members part n b m v e s r)) (omega arith)

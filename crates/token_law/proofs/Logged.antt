@@ -48,19 +48,23 @@ module _ (b : BlockId) (k : Books) (end flight : ℕ → ℕ) (rows : ℕ → �
   said_next new r is m q =
       subst (λ e. put rows l (put (rows l) (suc e) r) m q ≡ row_seen (row_in (put k.rows l (put (k.rows l) (suc (k.end l)) new) m q) b)) (sym (seen.ends l))
       (put_each_two (λ n f g. (p : ℕ) → f p ≡ row_seen (row_in (g p) b)) rows k.rows l (put (rows l) (suc (k.end l)) r) (put (k.rows l) (suc (k.end l)) new)
-      (put_each_two (λ p x xs. x ≡ row_seen (row_in xs b)) (rows l) (k.rows l) (suc (k.end l)) r new is (λ p other. seen.says l p)) (λ n other p. seen.says n p) m q)
+      (put_each_two (λ p x xs. x ≡ row_seen (row_in xs b)) (rows l) (k.rows l) (suc (k.end l)) r new is (λ p other. seen.says l p))
+      (λ n other p. seen.says n p) m q)
 
-  pub sealed_seen : (new : List (BlockId × Row)) (r : abstract.Row) → r ≡ row_seen (row_in new b) → LogsSeen b (sealed k l new) end (put flight l 1) (put rows l (put (rows l) (suc (end l)) r))
+  pub sealed_seen : (new : List (BlockId × Row)) (r : abstract.Row) → r ≡ row_seen (row_in new b)
+      → LogsSeen b (sealed k l new) end (put flight l 1) (put rows l (put (rows l) (suc (end l)) r))
   sealed_seen new r is = record { ends = seen.ends; flights = flies true 1 refl; says = said_next new r is }
 
   -- where it says nothing of the block, and nothing stood there
-  pub sealed_without : (new : List (BlockId × Row)) → row_in new b ≡ nothing_said → k.rows l (suc (k.end l)) ≡ [] → LogsSeen b (sealed k l new) end (put flight l 1) rows
+  pub sealed_without : (new : List (BlockId × Row)) → row_in new b ≡ nothing_said → k.rows l (suc (k.end l)) ≡ []
+      → LogsSeen b (sealed k l new) end (put flight l 1) rows
   sealed_without new none empty = record {
     ends = seen.ends;
     flights = flies true 1 refl;
     says = put_each (λ n g. (p : ℕ) → rows n p ≡ row_seen (row_in (g p) b)) k.rows l (put (k.rows l) (suc (k.end l)) new)
         (put_each (λ p xs. rows l p ≡ row_seen (row_in xs b)) (k.rows l) (suc (k.end l)) new
-        (seen.says l (suc (k.end l)) ∙ ap (λ xs. row_seen (row_in xs b)) empty ∙ ap row_seen (sym none)) (λ p other. seen.says l p)) (λ n other p. seen.says n p);
+        (seen.says l (suc (k.end l)) ∙ ap (λ xs. row_seen (row_in xs b)) empty ∙ ap row_seen (sym none)) (λ p other. seen.says l p))
+        (λ n other p. seen.says n p);
   }
 
   pub filed_seen : LogsSeen b (filed k l) (put end l (suc (end l))) (put flight l 0) rows
@@ -79,7 +83,8 @@ one_more : (e q : ℕ) → e + 0 < q → (q ≡ suc e → ⊥) → e + 1 < q
 one_more e q past other = grind arith
 
 module _ (members : ℕ) where
-  pub whole_sealed : (k : Books) (l : ℕ) (rows : List (BlockId × Row)) → (l < members → AreOnce rows) → BooksWhole members k → BooksWhole members (sealed k l rows)
+  pub whole_sealed : (k : Books) (l : ℕ) (rows : List (BlockId × Row)) → (l < members → AreOnce rows) → BooksWhole members k
+      → BooksWhole members (sealed k l rows)
   whole_sealed k l rows once i = record {
     beyond = put_each_two (λ m t f. (q : ℕ) → k.end m + flag t < q → f q ≡ []) k.flying k.rows l true (put (k.rows l) (suc (k.end l)) rows)
         (put_each (λ q xs. k.end l + 1 < q → xs ≡ []) (k.rows l) (suc (k.end l)) rows (λ past. absurd (omega arith))
@@ -99,7 +104,8 @@ module _ (members : ℕ) where
   whole_discarded k l i = record {
     beyond = put_each_two (λ m t f. (q : ℕ) → k.end m + flag t < q → f q ≡ []) k.flying k.rows l false (put (k.rows l) (suc (k.end l)) [])
         (put_each (λ q xs. k.end l + 0 < q → xs ≡ []) (k.rows l) (suc (k.end l)) [] (λ past. refl)
-        (λ q other past. i.beyond l q (let most = flag_most (k.flying l) in let more = one_more (k.end l) q past other in omega arith))) (λ m other. i.beyond m);
+        (λ q other past. i.beyond l q (let most = flag_most (k.flying l) in let more = one_more (k.end l) q past other in omega arith)))
+        (λ m other. i.beyond m);
     once = put_each (λ m f. (q : ℕ) → m < members → AreOnce (f q)) k.rows l (put (k.rows l) (suc (k.end l)) [])
         (put_each (λ q xs. l < members → AreOnce xs) (k.rows l) (suc (k.end l)) [] (λ within. tt) (λ q other. i.once l q)) (λ m other. i.once m);
   }
@@ -136,6 +142,7 @@ books_keep members part n m (Returns c inc epochs chain count pos less up later 
     whole_empty members count (reopened n.books c (adopts n.acts c chain)) c (whole_reopened members n.books c (adopts n.acts c chain) i)
 books_keep members part n m (SealsCopies l rows out free originals) i = whole_sealed members n.books l rows (λ within. absurd (omega arith)) i
 books_keep members part n m (FilesCopies l out flies) i = whole_filed members n.books l i
-books_keep members part n m (Reopens l adopted count out flies) i = whole_empty members count (reopened n.books l adopted) l (whole_reopened members n.books l adopted i)
+books_keep members part n m (Reopens l adopted count out flies) i =
+    whole_empty members count (reopened n.books l adopted) l (whole_reopened members n.books l adopted i)
 books_keep members part n m (Activates e index applied rows ends order none all each sent gathered) i = i
 books_keep members part n m (Says a neutral) i = i

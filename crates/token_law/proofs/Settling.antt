@@ -55,13 +55,15 @@ one_of_two h first then_ most = go (is_settled_by h first) refl
     later true news is = record {
       ver = then_;
       below = most;
-      is = ap (λ t. settled_by (if t then version_settled h first else h) then_) is ∙ ap (λ t. if t then version_settled h then_ else version_settled h first) news
+      is = ap (λ t. settled_by (if t then version_settled h first else h) then_) is
+          ∙ ap (λ t. if t then version_settled h then_ else version_settled h first) news
           ∙ sym (ap (λ t. if t then version_settled h then_ else h) (both h.settled first then_ h.ver is news));
     }
     later false news is = record {
       ver = first;
       below = within h.settled first h.ver is;
-      is = ap (λ t. settled_by (if t then version_settled h first else h) then_) is ∙ ap (λ t. if t then version_settled h then_ else version_settled h first) news
+      is = ap (λ t. settled_by (if t then version_settled h first else h) then_) is
+          ∙ ap (λ t. if t then version_settled h then_ else version_settled h first) news
           ∙ sym (ap (λ t. if t then version_settled h first else h) is);
     }
 
@@ -97,7 +99,8 @@ module _ (b : BlockId) where
       go false is = there is (λ same. contrary (sym is ∙ ap (λ (x : BlockId). same_block x b) same ∙ same_block_itself b))
 
   -- none of these rows is of the block
-  none_of_it : (s : TokensState) (rows : List (BlockId × Row)) → list_any (λ (r : BlockId × Row). same_block b r.0) rows ≡ false → local_of (all_settled s rows) b ≡ local_of s b
+  none_of_it : (s : TokensState) (rows : List (BlockId × Row)) → list_any (λ (r : BlockId × Row). same_block b r.0) rows ≡ false
+      → local_of (all_settled s rows) b ≡ local_of s b
   none_of_it s [] none = refl
   none_of_it s ((k, row) ∷ rows) none =
       let apart = neither (same_block b k) (list_any (λ (r : BlockId × Row). same_block b r.0) rows) none in
@@ -109,7 +112,8 @@ module _ (b : BlockId) where
       neither false c h = (refl, h)
 
   -- where no block stands twice in them, the row of the block decides
-  pub settled_once : (s : TokensState) (rows : List (BlockId × Row)) → AreOnce rows → local_of (all_settled s rows) b ≡ local_of (client.on_settled s b (row_in rows b).version).state b
+  pub settled_once : (s : TokensState) (rows : List (BlockId × Row)) → AreOnce rows
+      → local_of (all_settled s rows) b ≡ local_of (client.on_settled s b (row_in rows b).version).state b
   settled_once s rows once = go s rows once ∙ sym (settled_here s (row_in rows b).version)
     where
       go : (t : TokensState) (rs : List (BlockId × Row)) → AreOnce rs → local_of (all_settled t rs) b ≡ once_settled (local_of t b) (row_in rs b).version
@@ -138,7 +142,8 @@ module _ (b : BlockId) where
       let d = settled_some u rows in
       by_row (Decides s ((k, row) ∷ rows)) k
       (λ same.
-      let now : local_of u b ≡ once_settled (local_of s b) row.version = ap (λ (x : BlockId). local_of (client.on_settled s x row.version).state b) (sym (same_block_exact k b same)) ∙ settled_here s row.version in
+      let now : local_of u b ≡ once_settled (local_of s b) row.version =
+      ap (λ (x : BlockId). local_of (client.on_settled s x row.version).state b) (sym (same_block_exact k b same)) ∙ settled_here s row.version in
       let held : held_of u.blocks b ≡ settled_by (held_of s.blocks b) row.version = ap (λ (l : Local). l.held) now in
       let kept : (settled_by (held_of s.blocks b) row.version).ver ≡ (held_of s.blocks b).ver = stays (held_of s.blocks b) row.version in
       let most = d.below in
@@ -146,7 +151,8 @@ module _ (b : BlockId) where
       record {
         ver = one.ver;
         below = one.below;
-        is = d.is ∙ settled_here u d.ver ∙ ap (λ (l : Local). once_settled l d.ver) now ∙ ap (λ (x : Held). record (local_of s b) { held = x }) one.is ∙ sym (settled_here s one.ver);
+        is = d.is ∙ settled_here u d.ver ∙ ap (λ (l : Local). once_settled l d.ver) now ∙ ap (λ (x : Held). record (local_of s b) { held = x }) one.is
+            ∙ sym (settled_here s one.ver);
       })
       (λ differs other.
       let same = settled_there s k row.version other in

@@ -47,32 +47,40 @@ use Rattle.token_law.proofs.Takeovers.{now, hears, blocks, report, upto, entry, 
 use Rattle.token_law.proofs.Taking.{Good}
 
 -- all slots came from a start, once another is put that did
-pub ran_put : (slots : ℕ → Option SlotState) (e : ℕ) (s : SlotState) → Ran s → ((k : ℕ) (z : SlotState) → slots k ≡ Some z → Ran z) → (k : ℕ) (z : SlotState) → put slots e (Some s) k ≡ Some z → Ran z
+pub ran_put : (slots : ℕ → Option SlotState) (e : ℕ) (s : SlotState) → Ran s → ((k : ℕ) (z : SlotState) → slots k ≡ Some z → Ran z) → (k : ℕ) (z : SlotState)
+    → put slots e (Some s) k ≡ Some z → Ran z
 ran_put slots e s new all = put_each (λ k o. (z : SlotState) → o ≡ Some z → Ran z) slots e (Some s) (λ z is. subst Ran (some_one s z is) new) (λ k other. all k)
 
 module _ (logs : Bool) (members part : ℕ) (n : Net) (i : Good logs members part n) where
-  pub slot_event : (b : BlockId) (v : View logs members part b n) (e : ℕ) (s : SlotState) (x : slot_in.In) → n.slots e ≡ Some s → (e ≡ v.world.epoch → slot_inputs.Brings logs b v.world s x) → (e < v.world.epoch → IsNotTick x) → (slot.transition s x).state.epoch ≡ s.epoch → View logs members part b (after_slot n e (slot.transition s x))
+  pub slot_event : (b : BlockId) (v : View logs members part b n) (e : ℕ) (s : SlotState) (x : slot_in.In) → n.slots e ≡ Some s
+      → (e ≡ v.world.epoch → slot_inputs.Brings logs b v.world s x) → (e < v.world.epoch → IsNotTick x) → (slot.transition s x).state.epoch ≡ s.epoch
+      → View logs members part b (after_slot n e (slot.transition s x))
   slot_event b v e s x is brings news stays =
       ⊎_elim
       (λ same.
       let eq : v.slot ≡ s = some_one v.slot s (sym v.reigns ∙ ap n.slots (sym same) ∙ is) in
       subst (λ (z : SlotState). View logs members part b (after_slot n e (slot.transition z x))) eq
       (subst (λ k. View logs members part b (after_slot n k (slot.transition v.slot x))) (sym same)
-      (slot_view logs members part b n v (slot.transition v.slot x) (subst (λ (z : SlotState). (slot.transition z x).state.epoch ≡ z.epoch) (sym eq) stays) (sound-transition v.slot x v.sound)
+      (slot_view logs members part b n v (slot.transition v.slot x) (subst (λ (z : SlotState). (slot.transition z x).state.epoch ≡ z.epoch) (sym eq) stays)
+      (sound-transition v.slot x v.sound)
       (sound_takes logs b v.world v.slot x v.sound v.manages (subst (λ (z : SlotState). slot_inputs.Brings logs b v.world z x) (sym eq) (brings same))))))
       (λ other.
       let p = v.past e s is in
       let old : e < v.world.epoch = below e v.world.epoch p.0 other in
       let turns = (takes-transition s x (news old)).1 in
       let of_slot = p.1 in
-      stale_view logs members part b n v e (slot.transition s x).state (slot_packets (slot.transition s x).outs) old (stays ∙ p.1) (λ q new. stale_carried logs members part b n v s.epoch s.turn (slot.transition s x).state.turn (slot.transition s x).outs (omega arith) turns q new))
+      stale_view logs members part b n v e (slot.transition s x).state (slot_packets (slot.transition s x).outs) old (stays ∙ p.1)
+      (λ q new. stale_carried logs members part b n v s.epoch s.turn (slot.transition s x).state.turn (slot.transition s x).outs (omega arith) turns q new))
       (one_numbers e v.world.epoch)
     where
       below : (a c : ℕ) → a ≤ c → (a ≡ c → ⊥) → a < c
-      below a c most other = elim (nat_lt a c) as (λ t. nat_lt a c ≡ t → a < c) [ true ↦ λ h. grind (arith, nat_tests) | false ↦ λ h. absurd (other (grind (arith, nat_tests))) ] refl
+      below a c most other =
+          elim (nat_lt a c) as (λ t. nat_lt a c ≡ t → a < c)
+          [ true ↦ λ h. grind (arith, nat_tests) | false ↦ λ h. absurd (other (grind (arith, nat_tests))) ] refl
 
   -- a manager ticks: the latest one shows what it sends again, and of a deposed one that is of an epoch before the reigning one
-  pub tick_event : (b : BlockId) (v : View logs members part b n) (e : ℕ) (s : SlotState) → n.slots e ≡ Some s → View logs members part b (after_slot n e (slot.transition s told.Tick))
+  pub tick_event : (b : BlockId) (v : View logs members part b n) (e : ℕ) (s : SlotState) → n.slots e ≡ Some s
+      → View logs members part b (after_slot n e (slot.transition s told.Tick))
   tick_event b v e s is =
       elim (nat_lt e v.world.epoch) as (λ t. nat_lt e v.world.epoch ≡ t → View logs members part b (after_slot n e (slot.transition s told.Tick))) [
         | true ↦ λ h.
@@ -91,28 +99,39 @@ module _ (logs : Bool) (members part : ℕ) (n : Net) (i : Good logs members par
       not_below a c h less = absurd (grind (arith, nat_tests))
 
   -- Deltas that cover what is filed are seen so, where the slot is the latest one
-  pub deltas_event : (b : BlockId) → is_in_slot part b ≡ true → (v : View logs members part b n) (e : ℕ) (s : SlotState) (log : LogId) (first upto : ℕ) (rows : List (BlockId × Entry)) → n.slots e ≡ Some s
-      → log.0 - 1 < length s.applied → Premise logs (IsLatest n e → DeltasCover part n.books s log upto rows) → View logs members part b (after_slot n e (slot.transition s (told.Deltas log first upto rows)))
+  pub deltas_event : (b : BlockId) → is_in_slot part b ≡ true
+      → (v : View logs members part b n) (e : ℕ) (s : SlotState) (log : LogId) (first upto : ℕ) (rows : List (BlockId × Entry)) → n.slots e ≡ Some s
+      → log.0 - 1 < length s.applied → Premise logs (IsLatest n e → DeltasCover part n.books s log upto rows)
+      → View logs members part b (after_slot n e (slot.transition s (told.Deltas log first upto rows)))
   deltas_event b inside v e s log first upto rows is known covers =
       slot_event b v e s (told.Deltas log first upto rows) is (λ same. (known, seen same)) (λ _. tt) (takes-transition s (told.Deltas log first upto rows) tt).0
     where
       seen : e ≡ v.world.epoch → Premise logs (IndexCovers v.world log.0 upto (entry_seen (entry_of (indexed_all s.index rows).rows b)))
       seen same =
           let eq : v.slot ≡ s = some_one v.slot s (sym v.reigns ∙ ap n.slots (sym same) ∙ is) in
-          owed_both logs (Kept b n.books v.world) (IsLatest n e → DeltasCover part n.books s log upto rows) (IndexCovers v.world log.0 upto (entry_seen (entry_of (indexed_all s.index rows).rows b)))
+          owed_both logs (Kept b n.books v.world) (IsLatest n e → DeltasCover part n.books s log upto rows)
+          (IndexCovers v.world log.0 upto (entry_seen (entry_of (indexed_all s.index rows).rows b)))
           (λ kept c.
           let d = c (λ k z at. let p = (v.past k z at).0 in omega arith) in
-          covers_of b n.books v.world kept log.0 upto (slot.entry_at s b) (entry_of (indexed_all s.index rows).rows b) (v.manages.index ∙ ap (λ (z : SlotState). entry_seen (slot.entry_at z b)) eq) d.filed (d.each b inside))
+          covers_of b n.books v.world kept log.0 upto (slot.entry_at s b) (entry_of (indexed_all s.index rows).rows b)
+          (v.manages.index ∙ ap (λ (z : SlotState). entry_seen (slot.entry_at z b)) eq) d.filed (d.each b inside))
           v.kept covers
 
   -- the reigning epoch is one for all blocks
   pub one_epoch : (b k : BlockId) (v : View logs members part b n) (u : View logs members part k n) → v.world.epoch ≤ u.world.epoch
   one_epoch b k v u = (u.past v.world.epoch v.slot v.reigns).0
 
-  pub activated_good : (epoch : ℕ) (index : List (BlockId × Entry)) (applied : List ℕ) (rows : ℕ → List (BlockId × Mode)) (ends : ℕ → ℕ) (order : List ℕ) → n.slots epoch ≡ None → ((c : ℕ) → 0 < c → c < members → Contains order c)
-      → All (λ c. (0 < c) × (c < members)) order → ((c : ℕ) → 0 < c → c < members → In (ReportSent c epoch (rows c) (ends c)) n.sent) → Premise logs (IsLatest n epoch → Gathered members part n.books index applied ends)
+  pub activated_good : (epoch : ℕ) (index : List (BlockId × Entry)) (applied : List ℕ) (rows : ℕ → List (BlockId × Mode)) (ends : ℕ → ℕ) (order : List ℕ)
+      → n.slots epoch ≡ None → ((c : ℕ) → 0 < c → c < members → Contains order c)
+      → All (λ c. (0 < c) × (c < members)) order → ((c : ℕ) → 0 < c → c < members → In (ReportSent c epoch (rows c) (ends c)) n.sent)
+      → Premise logs (IsLatest n epoch → Gathered members part n.books index applied ends)
       → Good logs members part (record n { slots = put n.slots epoch (Some (slot.started epoch index (all_reported rows order) applied)) })
-  activated_good epoch index applied rows ends order none all each reports_sent gathered = record { sound = i.sound; ran = ran_put n.slots epoch (slot.started epoch index (all_reported rows order) applied) (begun epoch index (all_reported rows order) applied) i.ran; views = λ b inside. at b inside (i.views b inside) (nat_lt (i.views b inside).world.epoch epoch) refl }
+  activated_good epoch index applied rows ends order none all each reports_sent gathered =
+      record {
+        sound = i.sound;
+        ran = ran_put n.slots epoch (slot.started epoch index (all_reported rows order) applied) (begun epoch index (all_reported rows order) applied) i.ran;
+        views = λ b inside. at b inside (i.views b inside) (nat_lt (i.views b inside).world.epoch epoch) refl;
+      }
     where
       less : (a c : ℕ) → nat_lt a c ≡ true → a < c
       less a c h = grind (arith, nat_tests)
@@ -121,23 +140,33 @@ module _ (logs : Bool) (members part : ℕ) (n : Net) (i : Good logs members par
       most a c h = grind (arith, nat_tests)
 
       below : (a c : ℕ) → a ≤ c → (a ≡ c → ⊥) → a < c
-      below a c p other = elim (nat_lt a c) as (λ t. nat_lt a c ≡ t → a < c) [ true ↦ λ h. grind (arith, nat_tests) | false ↦ λ h. absurd (other (grind (arith, nat_tests))) ] refl
+      below a c p other =
+          elim (nat_lt a c) as (λ t. nat_lt a c ≡ t → a < c)
+          [ true ↦ λ h. grind (arith, nat_tests) | false ↦ λ h. absurd (other (grind (arith, nat_tests))) ] refl
 
       taken : SlotState → n.slots epoch ≡ None → (s : SlotState) → n.slots epoch ≡ Some s → ⊥
       taken z h s is = let clash : None ≡ Some s = sym h ∙ is in absurd (cc)
 
       gathered_at : (b : BlockId) → is_in_slot part b ≡ true → (v : View logs members part b n) → (later : v.world.epoch < epoch)
-          → Premise logs (IndexGathered (now logs members part b n v epoch index applied rows ends none order all each reports_sent) (report logs members part b n v epoch index applied rows ends none order all each reports_sent)
-          (upto logs members part b n v epoch index applied rows ends none order all each reports_sent) (entry logs members part b n v epoch index applied rows ends none order all each reports_sent))
+          → Premise logs
+          (IndexGathered (now logs members part b n v epoch index applied rows ends none order all each reports_sent)
+          (report logs members part b n v epoch index applied rows ends none order all each reports_sent)
+          (upto logs members part b n v epoch index applied rows ends none order all each reports_sent)
+          (entry logs members part b n v epoch index applied rows ends none order all each reports_sent))
       gathered_at b inside v later =
           gathers logs members part b n v epoch index applied rows ends none order all each reports_sent
           (owed_on logs (IsLatest n epoch → Gathered members part n.books index applied ends) (Gathered members part n.books index applied ends)
           (λ g. g (λ k z is. let p = (v.past k z is).0 in omega arith)) gathered) inside
 
-      alone : (b : BlockId) (v : View logs members part b n) → v.world.epoch < epoch → OwnsAlone (slot.started epoch index (all_reported rows order) applied).beliefs
+      alone : (b : BlockId) (v : View logs members part b n) → v.world.epoch < epoch
+          → OwnsAlone (slot.started epoch index (all_reported rows order) applied).beliefs
       alone b v later k c d apart =
-          elim (is_in_slot part k) as (λ t. is_in_slot part k ≡ t → share_of (all_believed [] (all_reported rows order)) k c + share_of (all_believed [] (all_reported rows order)) k d ≤ 2) [
-            | true ↦ λ inside. let u = i.views k inside in let same = one_epoch k b u v in alone_here logs members part k n u epoch index applied rows ends none order all each reports_sent (omega arith) (gathered_at k inside u (omega arith)) c d apart
+          elim (is_in_slot part k) as
+          (λ t. is_in_slot part k ≡ t → share_of (all_believed [] (all_reported rows order)) k c + share_of (all_believed [] (all_reported rows order)) k d ≤ 2) [
+            | true ↦ λ inside. let u = i.views k inside in let same =
+                one_epoch k b u v in
+                alone_here logs members part k n u epoch index applied rows ends none order all each reports_sent (omega arith)
+                (gathered_at k inside u (omega arith)) c d apart
             | false ↦ λ outside.
                 let as_ = beliefs_are logs members part b n v epoch index applied rows ends none order all each reports_sent in
                 let sorted = λ (x : ℕ). (hears logs members part b n v epoch index applied rows ends none order all each reports_sent x).sorted in
@@ -147,25 +176,36 @@ module _ (logs : Bool) (members part : ℕ) (n : Net) (i : Good logs members par
                 subst (λ xs. share_of (all_believed [] xs) k c + share_of (all_believed [] xs) k d ≤ 2) (sym as_) (omega arith)
           ] refl
 
-      at : (b : BlockId) → is_in_slot part b ≡ true → (v : View logs members part b n) (t : Bool) → nat_lt v.world.epoch epoch ≡ t → View logs members part b (record n { slots = put n.slots epoch (Some (slot.started epoch index (all_reported rows order) applied)) })
+      at : (b : BlockId) → is_in_slot part b ≡ true → (v : View logs members part b n) (t : Bool) → nat_lt v.world.epoch epoch ≡ t
+          → View logs members part b (record n { slots = put n.slots epoch (Some (slot.started epoch index (all_reported rows order) applied)) })
       at b inside v true h =
           let later = less v.world.epoch epoch h in
-          later_view logs members part b n v epoch index applied rows ends none order all each reports_sent later inside (gathered_at b inside v later) (sound-start epoch index (all_reported rows order) applied (alone b v later))
+          later_view logs members part b n v epoch index applied rows ends none order all each reports_sent later inside (gathered_at b inside v later)
+          (sound-start epoch index (all_reported rows order) applied (alone b v later))
       at b inside v false h =
           let other : epoch ≡ v.world.epoch → ⊥ = λ same. taken v.slot none v.slot (ap n.slots same ∙ v.reigns) in
-          stale_view logs members part b n v epoch (slot.started epoch index (all_reported rows order) applied) [] (below epoch v.world.epoch (most v.world.epoch epoch h) other) refl (λ p is. absurd is)
+          stale_view logs members part b n v epoch (slot.started epoch index (all_reported rows order) applied) []
+          (below epoch v.world.epoch (most v.world.epoch epoch h) other) refl (λ p is. absurd is)
 
   -- a client returns, with empty segments behind what it found
-  pub returned_view : (b : BlockId) → is_in_slot part b ≡ true → Premise logs (BooksWhole members n.books) → (c inc : ℕ) (epochs : List ℕ) (chain : List SegName) (count : ℕ) → 0 < c → c < members → n.up c ≡ false → (n.tokens c).inc < inc
+  pub returned_view : (b : BlockId) → is_in_slot part b ≡ true → Premise logs (BooksWhole members n.books)
+      → (c inc : ℕ) (epochs : List ℕ) (chain : List SegName) (count : ℕ) → 0 < c → c < members → n.up c ≡ false → (n.tokens c).inc < inc
       → epoch_of (n.tokens c).epochs part ≤ epoch_of epochs part → Premise logs (adopts n.acts c chain ≡ true → n.books.flying c ≡ true)
-      → View logs members part b (acted (record n { tokens = put n.tokens c (fresh_tokens inc epochs); up = put n.up c true; books = with_empty count (reopened n.books c (adopts n.acts c chain)) c }) (act.Back c chain ∷ []))
+      → View logs members part b
+      (acted (record n {
+        tokens = put n.tokens c (fresh_tokens inc epochs);
+        up = put n.up c true;
+        books = with_empty count (reopened n.books c (adopts n.acts c chain)) c;
+      }) (act.Back c chain ∷ []))
   returned_view b inside whole c inc epochs chain count pos less up later rises flies =
       let t = adopts n.acts c chain in
       let k = reopened n.books c t in
       let m : Net = acted (record n { tokens = put n.tokens c (fresh_tokens inc epochs); up = put n.up c true; books = k }) (act.Back c chain ∷ []) in
-      empties_view logs members part b m c count (return_view logs members part b n (i.views b inside) c inc epochs chain pos less up later rises inside flies) pos less (put_here n.up c true)
+      empties_view logs members part b m c count
+      (return_view logs members part b n (i.views b inside) c inc epochs chain pos less up later rises inside flies) pos less (put_here n.up c true)
       (subst IsSound (sym (put_here n.tokens c (fresh_tokens inc epochs))) (started-sound inc epochs))
-      (owed logs (k.flying c ≡ false) (λ _. landed t)) (owed_on logs (BooksWhole members n.books) (BooksWhole members k) (whole_reopened members n.books c t) whole)
+      (owed logs (k.flying c ≡ false) (λ _. landed t))
+      (owed_on logs (BooksWhole members n.books) (BooksWhole members k) (whole_reopened members n.books c t) whole)
     where
       landed : (t : Bool) → (reopened n.books c t).flying c ≡ false
       landed true = put_here n.books.flying c false

@@ -28,9 +28,12 @@ module _ (logs : Bool) (members part : ℕ) (b : BlockId) (n : Net) (v : View lo
 
   pub told_carried : (u : World) (outs : List tellings.Out) → AllTold b u outs → (p : Packet) → In p (slot_packets outs) → Carried logs part b u p
   told_carried u [] told_ p is = absurd is
-  told_carried u (telling.Grant client_ block at inc req mode entry ∷ os) told_ p is = ⊎_elim (λ e. subst (Carried logs part b u) (sym e) told_.0) (λ r. told_carried u os told_.1 p r) is
-  told_carried u (telling.Forward passer block at client_ inc req ver ∷ os) told_ p is = ⊎_elim (λ e. subst (Carried logs part b u) (sym e) told_.0) (λ r. told_carried u os told_.1 p r) is
-  told_carried u (telling.Recall client_ block at keep ∷ os) told_ p is = ⊎_elim (λ e. subst (Carried logs part b u) (sym e) told_.0) (λ r. told_carried u os told_.1 p r) is
+  told_carried u (telling.Grant client_ block at inc req mode entry ∷ os) told_ p is =
+      ⊎_elim (λ e. subst (Carried logs part b u) (sym e) told_.0) (λ r. told_carried u os told_.1 p r) is
+  told_carried u (telling.Forward passer block at client_ inc req ver ∷ os) told_ p is =
+      ⊎_elim (λ e. subst (Carried logs part b u) (sym e) told_.0) (λ r. told_carried u os told_.1 p r) is
+  told_carried u (telling.Recall client_ block at keep ∷ os) told_ p is =
+      ⊎_elim (λ e. subst (Carried logs part b u) (sym e) told_.0) (λ r. told_carried u os told_.1 p r) is
   told_carried u (telling.Applied log upto_ ∷ os) told_ p is = told_carried u os told_.1 p is
   told_carried u (telling.Live entry ∷ os) told_ p is = told_carried u os told_.1 p is
   told_carried u (telling.Dead ∷ os) told_ p is = told_carried u os told_.1 p is
@@ -68,28 +71,37 @@ module _ (logs : Bool) (members part : ℕ) (b : BlockId) (n : Net) (v : View lo
             }) (v.sent p old))
             (either_in p (slot_packets d.outs) n.sent is);
         kept = owed_on logs (Kept b n.books w) (Kept b n.books t.world) (subst (λ (u : World). Kept b n.books u) (sym same)) v.kept;
-        acts = owed_on logs (told (start members) w v.steps ≡ acts_of b n.acts) (told (start members) t.world (steps_through (start members) w t.world v.steps t.steps) ≡ acts_of b n.acts)
+        acts = owed_on logs (told (start members) w v.steps ≡ acts_of b n.acts)
+            (told (start members) t.world (steps_through (start members) w t.world v.steps t.steps) ≡ acts_of b n.acts)
             (λ old. told_through logs (start members) w t.world v.steps t.steps ∙ (λ i. t.quiet i ++ old i)) v.acts;
       }
 
   -- what a deposed manager says is heard by nobody
-  pub stale_carried : (epoch turn last : ℕ) (outs : List tellings.Out) → epoch < w.epoch → CountsTurns epoch turn outs last → (p : Packet) → In p (slot_packets outs) → Carried logs part b w p
+  pub stale_carried : (epoch turn last : ℕ) (outs : List tellings.Out) → epoch < w.epoch → CountsTurns epoch turn outs last → (p : Packet)
+      → In p (slot_packets outs) → Carried logs part b w p
   stale_carried epoch turn last [] old turns p is = absurd is
   stale_carried epoch turn last (telling.Grant client_ block at inc req mode entry ∷ os) old turns p is =
-      ⊎_elim (λ e. subst (Carried logs part b w) (sym e) (λ _. let at_epoch = ap (λ (x : Stamp). x.epoch) turns.0 in let at_turn = ap (λ (x : Stamp). x.turn) turns.0 in record { low = omega arith; some = omega arith; offered = λ reigns. absurd (omega arith) }))
+      ⊎_elim (λ e. subst (Carried logs part b w) (sym e)
+      (λ _. let at_epoch = ap (λ (x : Stamp). x.epoch) turns.0 in let at_turn = ap (λ (x : Stamp). x.turn) turns.0 in
+      record { low = omega arith; some = omega arith; offered = λ reigns. absurd (omega arith) }))
       (λ r. stale_carried epoch (turn + 1) last os old turns.1 p r) is
   stale_carried epoch turn last (telling.Forward passer block at client_ inc req ver ∷ os) old turns p is =
-      ⊎_elim (λ e. subst (Carried logs part b w) (sym e) (λ _. let at_epoch = ap (λ (x : Stamp). x.epoch) turns.0 in let at_turn = ap (λ (x : Stamp). x.turn) turns.0 in (record { ver = ver; hop = 0; place = None }, refl, record { low = omega arith; some = omega arith; offered = λ reigns. absurd (omega arith) })))
+      ⊎_elim (λ e. subst (Carried logs part b w) (sym e)
+      (λ _. let at_epoch = ap (λ (x : Stamp). x.epoch) turns.0 in let at_turn = ap (λ (x : Stamp). x.turn) turns.0 in
+      (record { ver = ver; hop = 0; place = None }, refl, record { low = omega arith; some = omega arith; offered = λ reigns. absurd (omega arith) })))
       (λ r. stale_carried epoch (turn + 1) last os old turns.1 p r) is
   stale_carried epoch turn last (telling.Recall client_ block at keep ∷ os) old turns p is =
-      ⊎_elim (λ e. subst (Carried logs part b w) (sym e) (λ _. let at_epoch = ap (λ (x : Stamp). x.epoch) turns.0 in let at_turn = ap (λ (x : Stamp). x.turn) turns.0 in record { low = omega arith; some = omega arith; recalled = λ reigns. absurd (omega arith) }))
+      ⊎_elim (λ e. subst (Carried logs part b w) (sym e)
+      (λ _. let at_epoch = ap (λ (x : Stamp). x.epoch) turns.0 in let at_turn = ap (λ (x : Stamp). x.turn) turns.0 in
+      record { low = omega arith; some = omega arith; recalled = λ reigns. absurd (omega arith) }))
       (λ r. stale_carried epoch (turn + 1) last os old turns.1 p r) is
   stale_carried epoch turn last (telling.Applied log upto_ ∷ os) old turns p is = stale_carried epoch turn last os old turns p is
   stale_carried epoch turn last (telling.Live entry ∷ os) old turns p is = stale_carried epoch turn last os old turns p is
   stale_carried epoch turn last (telling.Dead ∷ os) old turns p is = stale_carried epoch turn last os old turns p is
 
   -- a manager's that doesn't reign
-  pub stale_view : (e : ℕ) (x : SlotState) (outs : List Packet) → e < w.epoch → x.epoch ≡ e → ((p : Packet) → In p outs → Carried logs part b w p) → View logs members part b (record n { slots = put n.slots e (Some x); sent = outs ++ n.sent })
+  pub stale_view : (e : ℕ) (x : SlotState) (outs : List Packet) → e < w.epoch → x.epoch ≡ e → ((p : Packet) → In p outs → Carried logs part b w p)
+      → View logs members part b (record n { slots = put n.slots e (Some x); sent = outs ++ n.sent })
   stale_view e x outs old is_of new = record {
     world = w;
     steps = v.steps;

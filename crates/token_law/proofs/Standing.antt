@@ -59,7 +59,8 @@ waiting-transition s (Gave client block stamp end) w =
     (λ job is. waiting-put s.jobs block (record { want = job.want; awaited = noted job.awaited client stamp end }) (w.own block job is) w)
 waiting-transition s (Deltas log first upto rows) w =
     by_deltas (λ r. Waiting r.state.jobs) s log first upto rows w w
-    (λ _. steps_keep finished_at (λ (z : SlotState). Waiting z.jobs) (λ z block v. by_finished_at (λ r. Waiting r.state.jobs) z block v (λ job is. waiting-removed z.jobs block v))
+    (λ _. steps_keep finished_at (λ (z : SlotState). Waiting z.jobs)
+    (λ z block v. by_finished_at (λ r. Waiting r.state.jobs) z block v (λ job is. waiting-removed z.jobs block v))
     (with_deltas s log upto rows) (ready_blocks s.jobs (applied_upto s.applied log upto)) w)
 waiting-transition s (Check block place) w = w
 waiting-transition s Tick w = w

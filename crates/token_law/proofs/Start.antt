@@ -74,7 +74,12 @@ begins logs members part some = record {
       serving = serving_is c members less;
       boot = refl;
       incarnation = refl;
-      stamps = record { promised = sym (all_ones (slot_of b.ino.0) (below_eight b.ino.0)); past = omega arith; now = λ is. absurd (omega arith); old = λ is. refl };
+      stamps = record {
+        promised = sym (all_ones (slot_of b.ino.0) (below_eight b.ino.0));
+        past = omega arith;
+        now = λ is. absurd (omega arith);
+        old = λ is. refl;
+      };
       mode = refl;
       counted = omega arith;
       want = refl;

@@ -47,12 +47,17 @@ use Rattle.token_law.proofs.Logged.{Kept}
 use Rattle.token_law.proofs.Indexes.{nothing_of_nobody, gathered_of}
 use Rattle.token_law.proofs.Views.{setting, ClientShown, some_one, Supplies, Carried, View, Lasts, carried_on}
 
-pub carried_rise : (logs : Bool) (part : ℕ) (b : BlockId) (w : World) (epoch : ℕ) (report : ℕ → packets.Report) (applied : ℕ → ℕ) (e : abstract_entry.Entry) (p : Packet) → w.epoch < epoch → Carried logs part b w p → Carried logs part b (takeover.activates w epoch report applied e) p
+pub carried_rise : (logs : Bool) (part : ℕ) (b : BlockId) (w : World) (epoch : ℕ) (report : ℕ → packets.Report) (applied : ℕ → ℕ) (e : abstract_entry.Entry)
+    (p : Packet) → w.epoch < epoch → Carried logs part b w p → Carried logs part b (takeover.activates w epoch report applied e) p
 carried_rise logs part b w epoch report applied e (WantSent c inc req again block mode end) later h = h
-carried_rise logs part b w epoch report applied e (GrantSent c block at inc req mode entry) later h = λ is. let k = h is in let low = k.low in record { low = omega arith; some = k.some; offered = λ reigns. absurd (omega arith) }
-carried_rise logs part b w epoch report applied e (RecallSent c block at keep) later h = λ is. let k = h is in let low = k.low in record { low = omega arith; some = k.some; recalled = λ reigns. absurd (omega arith) }
-carried_rise logs part b w epoch report applied e (GaveSent c block stamp end) later h = (h.0, λ is. let low = (h.1 is).0 in (omega arith, λ reigns. absurd (omega arith)))
-carried_rise logs part b w epoch report applied e (ForwardSent passer c block at inc req ver) later h = λ is. let k = h is in let low = k.2.low in (k.0, k.1, record { low = omega arith; some = k.2.some; offered = λ reigns. absurd (omega arith) })
+carried_rise logs part b w epoch report applied e (GrantSent c block at inc req mode entry) later h = λ is. let k = h is in let low =
+    k.low in record { low = omega arith; some = k.some; offered = λ reigns. absurd (omega arith) }
+carried_rise logs part b w epoch report applied e (RecallSent c block at keep) later h = λ is. let k = h is in let low =
+    k.low in record { low = omega arith; some = k.some; recalled = λ reigns. absurd (omega arith) }
+carried_rise logs part b w epoch report applied e (GaveSent c block stamp end) later h =
+    (h.0, λ is. let low = (h.1 is).0 in (omega arith, λ reigns. absurd (omega arith)))
+carried_rise logs part b w epoch report applied e (ForwardSent passer c block at inc req ver) later h = λ is. let k = h is in let low =
+    k.2.low in (k.0, k.1, record { low = omega arith; some = k.2.some; offered = λ reigns. absurd (omega arith) })
 carried_rise logs part b w epoch report applied e (SupplySent c block at inc req ver value) later h = λ is.
     let k = h is in
     let low = k.2.low in (
@@ -68,9 +73,12 @@ unfolding IsStrictlySortedBy
 nothing_in_order = tt
 
 -- the rows of those who report
-pub rows_same : (members : ℕ) (rows more : ℕ → List (BlockId × Mode)) (order : List ℕ) → All (λ c. (0 < c) × (c < members)) order → ((c : ℕ) → 0 < c → c < members → rows c ≡ more c) → all_reported rows order ≡ all_reported more order
+pub rows_same : (members : ℕ) (rows more : ℕ → List (BlockId × Mode)) (order : List ℕ) → All (λ c. (0 < c) × (c < members)) order
+    → ((c : ℕ) → 0 < c → c < members → rows c ≡ more c) → all_reported rows order ≡ all_reported more order
 rows_same members rows more [] within same = refl
-rows_same members rows more (c ∷ order) within same = λ i. reported c (same c (within 0 c (omega arith)).0 (within 0 c (omega arith)).1 i) ++ rows_same members rows more order (λ k d less. within (suc k) d (omega arith)) same i
+rows_same members rows more (c ∷ order) within same =
+    λ i. reported c (same c (within 0 c (omega arith)).0 (within 0 c (omega arith)).1 i)
+    ++ rows_same members rows more order (λ k d less. within (suc k) d (omega arith)) same i
 
 pub most_rank : (mode : Mode) → rank mode ≤ 2
 most_rank Nothing = omega arith
@@ -101,7 +109,8 @@ pub record Told (members part : ℕ) (b : BlockId) (w : World) (epoch : ℕ) (ro
   pub end : 0 < c → c < members → report.end ≡ ends c
   pub nothing : (c < members → ⊥) → rank (held_of blocks b).mode ≡ 0
 
-module _ (logs : Bool) (members part : ℕ) (b : BlockId) (n : Net) (v : View logs members part b n) (epoch : ℕ) (index : List (BlockId × Entry)) (applied : List ℕ) (rows : ℕ → List (BlockId × Mode)) (ends : ℕ → ℕ)
+module _ (logs : Bool) (members part : ℕ) (b : BlockId) (n : Net) (v : View logs members part b n) (epoch : ℕ) (index : List (BlockId × Entry))
+    (applied : List ℕ) (rows : ℕ → List (BlockId × Mode)) (ends : ℕ → ℕ)
     (none : n.slots epoch ≡ None) (order : List ℕ) (all : (c : ℕ) → 0 < c → c < members → Contains order c) (each : All (λ c. (0 < c) × (c < members)) order)
     (reports_sent : (c : ℕ) → 0 < c → c < members → In (ReportSent c epoch (rows c) (ends c)) n.sent) where
   abbrev pub old : World
@@ -207,7 +216,8 @@ module _ (logs : Bool) (members part : ℕ) (b : BlockId) (n : Net) (v : View lo
       owed_both logs (Kept b n.books old × CleanerEmpty old) (Gathered members part n.books index applied ends) (IndexGathered now report upto entry)
       (λ known g. gathered_of b n.books now known.0 report (applied_of applied) (entry_of (indexed_all nothing_indexed index).rows b)
       (record { end = known.1.end; flight = known.1.flight; rows = known.1.rows; applied = known.1.applied; written = known.1.written }) refl
-      (λ c pos less. let within : c < members = let m = v.many in omega arith in let e = (hears c).end pos within in let most = g.reported c pos within in omega arith)
+      (λ c pos less. let within : c < members = let m = v.many in omega arith in let e = (hears c).end pos within in let most = g.reported c pos within in
+      omega arith)
       g.filed (g.source b inside) (g.rows b inside))
       (owed_both logs (Kept b n.books old) (CleanerEmpty old) (Kept b n.books old × CleanerEmpty old) (λ k e. (k, e)) v.kept
       (nothing_of_nobody logs members old (let m = v.many in let some = v.some in omega arith) v.steps))
@@ -216,12 +226,18 @@ module _ (logs : Bool) (members part : ℕ) (b : BlockId) (n : Net) (v : View lo
   pub activates_steps : old.epoch < epoch → Premise logs (IndexGathered now report upto entry) → Steps logs (start members) next
   activates_steps later gathered =
       More (now_steps later) (ActivatesStep epoch report upto entry
-      (record { later = later; sent = λ c less. (hears c).sent (within c less); sender = λ c less. (hears c).sender (within c less); asked = λ c less. (hears c).asked (within c less) }) gathered)
+      (record {
+        later = later;
+        sent = λ c less. (hears c).sent (within c less);
+        sender = λ c less. (hears c).sender (within c less);
+        asked = λ c less. (hears c).asked (within c less);
+      }) gathered)
     where
       within : (c : ℕ) → c < now.members → c < members
       within c less = let m = v.many in omega arith
 
-  pub later_view : old.epoch < epoch → is_in_slot part b ≡ true → Premise logs (IndexGathered now report upto entry) → Sound begun → View logs members part b (record n { slots = put n.slots epoch (Some begun) })
+  pub later_view : old.epoch < epoch → is_in_slot part b ≡ true → Premise logs (IndexGathered now report upto entry) → Sound begun
+      → View logs members part b (record n { slots = put n.slots epoch (Some begun) })
   unfolding hears activates_steps now_steps
   later_view later inside gathered sound = record {
     world = next;
@@ -230,18 +246,23 @@ module _ (logs : Bool) (members part : ℕ) (b : BlockId) (n : Net) (v : View lo
     some = v.some;
     nobody = record { serving = v.nobody.serving; mode = v.nobody.mode; promised = omega arith };
     positive = omega arith;
-    clients = λ c pos less. subst (λ (x : Client). ClientShown (n.up c) b c (n.tokens c) epoch (record x { stamp = 0 })) (sym (put_there old.client 0 (record (old.client 0) { promised = epoch; fetching = 0 }) c (λ same. absurd (omega arith))))
+    clients = λ c pos less. subst (λ (x : Client). ClientShown (n.up c) b c (n.tokens c) epoch (record x { stamp = 0 }))
+        (sym (put_there old.client 0 (record (old.client 0) { promised = epoch; fetching = 0 }) c (λ same. absurd (omega arith))))
         (risen c (n.up c) (v.clients c pos less));
     fell = v.fell;
     slot = begun;
     sound = sound;
     reigns = put_here n.slots epoch (Some begun);
     manages = activation_manages b now epoch index beliefs applied report upto
-        (λ c less. let within : c < members = let m = v.many in omega arith in covered c within (one_numbers c 0)) (λ c some. put_there (applied_of applied) 0 (old.end 0) c (λ same. absurd (omega arith)));
+        (λ c less. let within : c < members = let m = v.many in omega arith in covered c within (one_numbers c 0))
+        (λ c some. put_there (applied_of applied) 0 (old.end 0) c (λ same. absurd (omega arith)));
     past = put_each (λ e o. (s : SlotState) → o ≡ Some s → (e ≤ epoch) × (s.epoch ≡ e)) n.slots epoch (Some begun)
-        (λ s is. (omega arith, ap (λ (x : SlotState). x.epoch) (sym (some_one begun s is)))) (λ e other s is. (let p = (v.past e s is).0 in omega arith, (v.past e s is).1));
+        (λ s is. (omega arith, ap (λ (x : SlotState). x.epoch) (sym (some_one begun s is))))
+        (λ e other s is. (let p = (v.past e s is).0 in omega arith, (v.past e s is).1));
     sent = λ p is. carried_rise logs part b now epoch report upto entry p later
-        (carried_on logs part b old now p (record { epoch = refl; wants = λ x h. h; gaves = λ x h. h; offers = λ x h. h; recalls = λ x h. h; reports = λ x h. inr h; lasts = unchanged }) (v.sent p is));
+        (carried_on logs part b old now p
+        (record { epoch = refl; wants = λ x h. h; gaves = λ x h. h; offers = λ x h. h; recalls = λ x h. h; reports = λ x h. inr h; lasts = unchanged })
+        (v.sent p is));
     kept = v.kept;
     acts = v.acts;
   }
@@ -249,12 +270,25 @@ module _ (logs : Bool) (members part : ℕ) (b : BlockId) (n : Net) (v : View lo
       unchanged : Premise logs (Lasts old now)
       unchanged = owed logs (Lasts old now) (λ _. record { join = omega arith; value = λ k _. refl })
 
-      risen : (c : ℕ) (t : Bool) → ClientShown t b c (n.tokens c) old.epoch (old.client c) → ClientShown t b c (n.tokens c) epoch (record (old.client c) { stamp = 0 })
+      risen : (c : ℕ) (t : Bool) → ClientShown t b c (n.tokens c) old.epoch (old.client c)
+          → ClientShown t b c (n.tokens c) epoch (record (old.client c) { stamp = 0 })
       risen c true h = activation_shows (setting b c (n.tokens c).inc) old.epoch epoch (local_of (n.tokens c) b) (old.client c) later h
-      risen c false h = record { serving = h.serving; incarnation = h.incarnation; promised = h.promised; mode = h.mode; stamp = refl; want = h.want; version = h.version; settled = h.settled; fetching = h.fetching }
+      risen c false h =
+          record {
+            serving = h.serving;
+            incarnation = h.incarnation;
+            promised = h.promised;
+            mode = h.mode;
+            stamp = refl;
+            want = h.want;
+            version = h.version;
+            settled = h.settled;
+            fetching = h.fetching;
+          }
 
       covered : (c : ℕ) → c < members → (c ≡ 0) ⊎ (c ≡ 0 → ⊥) → (report c).mode ≤ share_of (all_believed [] beliefs) b c
-      covered c within (inl none) = let mode = (hears c).mode within in let z : rank (held_of (blocks c) b).mode ≡ 0 = ap (λ k. rank (held_of (blocks k) b).mode) none in omega arith
+      covered c within (inl none) = let mode = (hears c).mode within in let z : rank (held_of (blocks c) b).mode ≡ 0 =
+          ap (λ k. rank (held_of (blocks k) b).mode) none in omega arith
       covered c within (inr some) =
           let mode = (hears c).mode within in
           let most = reports_believed part blocks order b c (λ d. (hears d).sorted) inside (all c (positive c some) within) in
@@ -265,12 +299,14 @@ module _ (logs : Bool) (members part : ℕ) (b : BlockId) (n : Net) (v : View lo
           positive (suc k) h = omega arith
 
   -- the reports of a later epoch leave owners alone
-  pub alone_here : old.epoch < epoch → Premise logs (IndexGathered now report upto entry) → (c d : ℕ) → (c ≡ d → ⊥) → share_of (all_believed [] beliefs) b c + share_of (all_believed [] beliefs) b d ≤ 2
+  pub alone_here : old.epoch < epoch → Premise logs (IndexGathered now report upto entry) → (c d : ℕ) → (c ≡ d → ⊥)
+      → share_of (all_believed [] beliefs) b c + share_of (all_believed [] beliefs) b d ≤ 2
   alone_here later gathered c d apart =
       let cover = beliefs_cover next (owned logs members next (activates_steps later gathered)) in
       let mode : (k : ℕ) → next.belief k ≡ rank (held_of (blocks k) b).mode = λ k. belief_is k (nat_lt k now.members) refl in
       let mc = mode c in let md = mode d in
-      let sum = two_ranks (rank (held_of (blocks c) b).mode) (rank (held_of (blocks d) b).mode) (most_rank _) (most_rank _) (λ two some. apart (cover.single c d (mc ∙ two) (omega arith))) (λ two some. apart (sym (cover.single d c (md ∙ two) (omega arith)))) in
+      let sum = two_ranks (rank (held_of (blocks c) b).mode) (rank (held_of (blocks d) b).mode) (most_rank _) (most_rank _)
+      (λ two some. apart (cover.single c d (mc ∙ two) (omega arith))) (λ two some. apart (sym (cover.single d c (md ∙ two) (omega arith)))) in
       let a = reports_most part b c blocks order (λ k. (hears k).sorted) in
       let e = reports_most part b d blocks order (λ k. (hears k).sorted) in
       subst (λ xs. share_of (all_believed [] xs) b c + share_of (all_believed [] xs) b d ≤ 2) (sym beliefs_are) (omega arith)

@@ -52,7 +52,8 @@ pub record Good (logs : Bool) (members part : ℕ) (n : Net) : Type 0 where
   pub views : (b : BlockId) → is_in_slot part b ≡ true → View logs members part b n
 
 module _ (logs : Bool) (members part : ℕ) (n : Net) (i : Good logs members part n) where
-  pub ready : (b : BlockId) (v : View logs members part b n) (c end : ℕ) → IsServing logs members n c end → laws.Ready logs (setting b c (n.tokens c).inc) end v.world (n.tokens c)
+  pub ready : (b : BlockId) (v : View logs members part b n) (c end : ℕ) → IsServing logs members n c end
+      → laws.Ready logs (setting b c (n.tokens c).inc) end v.world (n.tokens c)
   ready b v c end serves = record {
     shows = shown_up logs members part b n v c serves.some serves.within serves.up;
     sound = i.sound c;
@@ -60,7 +61,8 @@ module _ (logs : Bool) (members part : ℕ) (n : Net) (i : Good logs members par
     settled = end_owed logs members part b n v c end serves.end_is;
   }
 
-  pub client_good : (c end : ℕ) (d : client.Done) → IsServing logs members n c end → IsSound d.state → ((b : BlockId) → is_in_slot part b ≡ true → (v : View logs members part b n) → Took logs (setting b c (n.tokens c).inc) end v.world d)
+  pub client_good : (c end : ℕ) (d : client.Done) → IsServing logs members n c end → IsSound d.state
+      → ((b : BlockId) → is_in_slot part b ≡ true → (v : View logs members part b n) → Took logs (setting b c (n.tokens c).inc) end v.world d)
       → Good logs members part (after_client n c end d)
   client_good c end d serves sound took = record {
     sound = put_each (λ k x. IsSound x) n.tokens c d.state sound (λ k other. i.sound k);
@@ -92,17 +94,21 @@ module _ (logs : Bool) (members part : ℕ) (n : Net) (i : Good logs members par
   abbrev pub writes_of : BlockId → ℕ → BlockId → Option (List ℕ) → List block.Act
   writes_of b c k value = if same_block k b then WroteBlock c (number value) ∷ [] else []
 
-  adds_write : (b : BlockId) (c : ℕ) (k : BlockId) (value : Option (List ℕ)) → writes_of b c k value ++ acts_of b n.acts ≡ acts_of b (n.acts ++ act.Wrote c k value ∷ [])
+  adds_write : (b : BlockId) (c : ℕ) (k : BlockId) (value : Option (List ℕ))
+      → writes_of b c k value ++ acts_of b n.acts ≡ acts_of b (n.acts ++ act.Wrote c k value ∷ [])
   adds_write b c k value = go (same_block k b) ∙ sym (acts_on b n.acts (act.Wrote c k value))
     where
-      go : (t : Bool) → (if t then WroteBlock c (number value) ∷ [] else []) ++ acts_of b n.acts ≡ (if t then WroteBlock c (number value) ∷ acts_of b n.acts else acts_of b n.acts)
+      go : (t : Bool)
+          → (if t then WroteBlock c (number value) ∷ [] else [])
+          ++ acts_of b n.acts ≡ (if t then WroteBlock c (number value) ∷ acts_of b n.acts else acts_of b n.acts)
       go true = refl
       go false = refl
 
   adds_none : (b : BlockId) → acts_of b n.acts ≡ acts_of b (n.acts ++ [])
   adds_none b = sym (ap (acts_of b) (nothing_more n.acts))
 
-  adds : (b : BlockId) (c : ℕ) (x : inputs.In) → laws.acts_seen (setting b c (n.tokens c).inc) (n.tokens c) x ++ acts_of b n.acts ≡ acts_of b (n.acts ++ acts_by c (n.tokens c) x)
+  adds : (b : BlockId) (c : ℕ) (x : inputs.In)
+      → laws.acts_seen (setting b c (n.tokens c).inc) (n.tokens c) x ++ acts_of b n.acts ≡ acts_of b (n.acts ++ acts_by c (n.tokens c) x)
   adds b c (input.Wrote k value) = go (may_write (held_of (n.tokens c).blocks k))
     where
       go : (t : Bool) → (if t then writes_of b c k value else []) ++ acts_of b n.acts ≡ acts_of b (n.acts ++ (if t then act.Wrote c k value ∷ [] else []))
@@ -132,62 +138,80 @@ module _ (logs : Bool) (members part : ℕ) (n : Net) (i : Good logs members par
       (owed logs (laws.acts_seen g (n.tokens c) x ++ acts_of b n.acts ≡ acts_of b more) (λ _. adds b c x))
 
   -- a grant to own of another block changes nothing here, and neither does its write
-  owned_there : (b : BlockId) (v : View logs members part b n) (c end : ℕ) (block : BlockId) (stamp : Stamp) (inc req : ℕ) (entry : Entry) (value : Option (List ℕ)) → IsServing logs members n c end → (block ≡ b → ⊥)
+  owned_there : (b : BlockId) (v : View logs members part b n) (c end : ℕ) (block : BlockId) (stamp : Stamp) (inc req : ℕ) (entry : Entry)
+      (value : Option (List ℕ)) → IsServing logs members n c end → (block ≡ b → ⊥)
       → Took logs (setting b c (n.tokens c).inc) end v.world (laws.granted_and_wrote (n.tokens c) stamp inc req block entry value)
   owned_there b v c end block stamp inc req entry value serves other =
       let g = setting b c (n.tokens c).inc in
       let s = n.tokens c in
       let d = client.on_granted s block stamp inc req Own entry in
       elsewhere.apart_took g logs end v.world s (laws.granted_and_wrote s stamp inc req block entry value)
-      (elsewhere.apart_through g s d (client.on_wrote d.state block value) (elsewhere.on_granted-apart g block other s stamp inc req Own entry) (elsewhere.on_wrote-apart g block other d.state value))
+      (elsewhere.apart_through g s d (client.on_wrote d.state block value) (elsewhere.on_granted-apart g block other s stamp inc req Own entry)
+      (elsewhere.on_wrote-apart g block other d.state value))
       (shown_up logs members part b n v c serves.some serves.within serves.up)
 
-  owns_acted : (b : BlockId) (v : View logs members part b n) (c end : ℕ) (block : BlockId) (stamp : Stamp) (inc req : ℕ) (entry : Entry) (value : Option (List ℕ)) → IsServing logs members n c end
-      → (block ≡ b → SentOffer c v.world stamp inc req Own (entry_seen entry)) → client.accepts (n.tokens c) block stamp inc req Own ≡ true → nat_lt entry.ver (2 ^ 64 - 1) ≡ true
+  owns_acted : (b : BlockId) (v : View logs members part b n) (c end : ℕ) (block : BlockId) (stamp : Stamp) (inc req : ℕ) (entry : Entry)
+      (value : Option (List ℕ)) → IsServing logs members n c end
+      → (block ≡ b → SentOffer c v.world stamp inc req Own (entry_seen entry)) → client.accepts (n.tokens c) block stamp inc req Own ≡ true
+      → nat_lt entry.ver (2 ^ 64 - 1) ≡ true
       → Acted logs (setting b c (n.tokens c).inc) end v.world (writes_of b c block value) (laws.granted_and_wrote (n.tokens c) stamp inc req block entry value)
   owns_acted b v c end block stamp inc req entry value serves sent accepts room =
       let g = setting b c (n.tokens c).inc in
       at_block g
       (λ k. (k ≡ b → SentOffer c v.world stamp inc req Own (entry_seen entry)) → client.accepts (n.tokens c) k stamp inc req Own ≡ true
       → Acted logs g end v.world (writes_of b c k value) (laws.granted_and_wrote (n.tokens c) stamp inc req k entry value))
-      (λ sent accepts. subst (λ t. Acted logs g end v.world (if t then WroteBlock c (number value) ∷ [] else []) (laws.granted_and_wrote (n.tokens c) stamp inc req b entry value)) (sym (same_block_itself b))
+      (λ sent accepts. subst
+      (λ t. Acted logs g end v.world (if t then WroteBlock c (number value) ∷ [] else []) (laws.granted_and_wrote (n.tokens c) stamp inc req b entry value))
+      (sym (same_block_itself b))
       (owns_and_writes logs g end v.world (n.tokens c) stamp inc req entry value (ready b v c end serves) (sent refl) accepts room))
-      (λ k other _ _. subst (λ t. Acted logs g end v.world (if t then WroteBlock c (number value) ∷ [] else []) (laws.granted_and_wrote (n.tokens c) stamp inc req k entry value)) (sym (apart_blocks b k other))
+      (λ k other _ _. subst
+      (λ t. Acted logs g end v.world (if t then WroteBlock c (number value) ∷ [] else []) (laws.granted_and_wrote (n.tokens c) stamp inc req k entry value))
+      (sym (apart_blocks b k other))
       (owned_there b v c end k stamp inc req entry value serves other)) block sent accepts
 
-  pub owns_view : (b : BlockId) (v : View logs members part b n) (c end : ℕ) (block : BlockId) (stamp : Stamp) (inc req : ℕ) (entry : Entry) (value : Option (List ℕ)) → IsServing logs members n c end
-      → In (GrantSent c block stamp inc req Own entry) n.sent → client.accepts (n.tokens c) block stamp inc req Own ≡ true → nat_lt entry.ver (2 ^ 64 - 1) ≡ true
-      → View logs members part b (acted (after_client n c end (laws.granted_and_wrote (n.tokens c) stamp inc req block entry value)) (act.Wrote c block value ∷ []))
+  pub owns_view : (b : BlockId) (v : View logs members part b n) (c end : ℕ) (block : BlockId) (stamp : Stamp) (inc req : ℕ) (entry : Entry)
+      (value : Option (List ℕ)) → IsServing logs members n c end
+      → In (GrantSent c block stamp inc req Own entry) n.sent → client.accepts (n.tokens c) block stamp inc req Own ≡ true
+      → nat_lt entry.ver (2 ^ 64 - 1) ≡ true
+      → View logs members part b
+      (acted (after_client n c end (laws.granted_and_wrote (n.tokens c) stamp inc req block entry value)) (act.Wrote c block value ∷ []))
   owns_view b v c end block stamp inc req entry value serves is accepts room =
       let more = n.acts ++ act.Wrote c block value ∷ [] in
-      client_view logs members part b n v c end (writes_of b c block value) (laws.granted_and_wrote (n.tokens c) stamp inc req block entry value) more serves.some serves.up
+      client_view logs members part b n v c end (writes_of b c block value)
+      (laws.granted_and_wrote (n.tokens c) stamp inc req block entry value) more serves.some serves.up
       (owns_acted b v c end block stamp inc req entry value serves (v.sent _ is) accepts room)
       (owed logs (writes_of b c block value ++ acts_of b n.acts ≡ acts_of b more) (λ _. adds_write b c block value))
 
   -- a grant that is let go
-  declined_there : (b : BlockId) (v : View logs members part b n) (c end : ℕ) (block : BlockId) (stamp : Stamp) (inc req : ℕ) (entry : Entry) → IsServing logs members n c end → (block ≡ b → ⊥)
+  declined_there : (b : BlockId) (v : View logs members part b n) (c end : ℕ) (block : BlockId) (stamp : Stamp) (inc req : ℕ) (entry : Entry)
+      → IsServing logs members n c end → (block ≡ b → ⊥)
       → Took logs (setting b c (n.tokens c).inc) end v.world (laws.granted_and_evicted (n.tokens c) stamp inc req block entry)
   declined_there b v c end block stamp inc req entry serves other =
       let g = setting b c (n.tokens c).inc in
       let s = n.tokens c in
       let d = client.on_granted s block stamp inc req Own entry in
       elsewhere.apart_took g logs end v.world s (laws.granted_and_evicted s stamp inc req block entry)
-      (elsewhere.apart_through g s d (client.on_evict d.state block) (elsewhere.on_granted-apart g block other s stamp inc req Own entry) (elsewhere.on_evict-apart g block other d.state))
+      (elsewhere.apart_through g s d (client.on_evict d.state block) (elsewhere.on_granted-apart g block other s stamp inc req Own entry)
+      (elsewhere.on_evict-apart g block other d.state))
       (shown_up logs members part b n v c serves.some serves.within serves.up)
 
-  pub declines_took : (b : BlockId) (v : View logs members part b n) (c end : ℕ) (block : BlockId) (stamp : Stamp) (inc req : ℕ) (entry : Entry) → IsServing logs members n c end → (block ≡ b → SentOffer c v.world stamp inc req Own (entry_seen entry))
-      → client.accepts (n.tokens c) block stamp inc req Own ≡ true → Took logs (setting b c (n.tokens c).inc) end v.world (laws.granted_and_evicted (n.tokens c) stamp inc req block entry)
+  pub declines_took : (b : BlockId) (v : View logs members part b n) (c end : ℕ) (block : BlockId) (stamp : Stamp) (inc req : ℕ) (entry : Entry)
+      → IsServing logs members n c end → (block ≡ b → SentOffer c v.world stamp inc req Own (entry_seen entry))
+      → client.accepts (n.tokens c) block stamp inc req Own ≡ true
+      → Took logs (setting b c (n.tokens c).inc) end v.world (laws.granted_and_evicted (n.tokens c) stamp inc req block entry)
   declines_took b v c end block stamp inc req entry serves sent accepts =
       at_block (setting b c (n.tokens c).inc)
       (λ k. (k ≡ b → SentOffer c v.world stamp inc req Own (entry_seen entry)) → client.accepts (n.tokens c) k stamp inc req Own ≡ true
       → Took logs (setting b c (n.tokens c).inc) end v.world (laws.granted_and_evicted (n.tokens c) stamp inc req k entry))
-      (λ sent accepts. owns_and_declines logs (setting b c (n.tokens c).inc) end v.world (n.tokens c) stamp inc req entry (ready b v c end serves) (sent refl) accepts)
+      (λ sent accepts. owns_and_declines logs (setting b c (n.tokens c).inc) end v.world (n.tokens c) stamp inc req entry (ready b v c end serves)
+      (sent refl) accepts)
       (λ k other _ _. declined_there b v c end k stamp inc req entry serves other) block sent accepts
 
   -- ---- what a client gets
 
   -- what is supplied is the history's value, where logs keep their word
-  pub supply_brings : (b : BlockId) (v : View logs members part b n) (c : ℕ) (block : BlockId) (stamp : Stamp) (inc req ver : ℕ) (value : Option (List ℕ)) → In (SupplySent c block stamp inc req ver value) n.sent
+  pub supply_brings : (b : BlockId) (v : View logs members part b n) (c : ℕ) (block : BlockId) (stamp : Stamp) (inc req ver : ℕ) (value : Option (List ℕ))
+      → In (SupplySent c block stamp inc req ver value) n.sent
       → laws.Brings logs (setting b c (n.tokens c).inc) v.world (n.tokens c) (input.Supplied block stamp inc req ver value)
   supply_brings b v c block stamp inc req ver value is = λ same.
       let h = v.sent _ is same in
@@ -195,11 +219,14 @@ module _ (logs : Bool) (members part : ℕ) (n : Net) (i : Good logs members par
         hop = h.0.hop;
         place = h.0.place;
         offer = subst (λ k. SentOffer c v.world stamp inc req Copy (located k h.0.hop h.0.place)) h.1 h.2;
-        content = λ reigns. owed_on logs (Supplies stamp.epoch ver value v.world) (IsSupplied v.world (offer_seen c stamp inc req Copy (located ver h.0.hop h.0.place)) (number value)) (λ s. record { content = (s reigns).content }) h.3;
+        content = λ reigns. owed_on logs (Supplies stamp.epoch ver value v.world)
+            (IsSupplied v.world (offer_seen c stamp inc req Copy (located ver h.0.hop h.0.place)) (number value))
+            (λ s. record { content = (s reigns).content }) h.3;
       }
 
   -- what is read of a place is what was filed there
-  pub fetch_brings : (b : BlockId) (v : View logs members part b n) (c end : ℕ) (block : BlockId) (value : Option (List ℕ)) → IsServing logs members n c end → Premise logs (ReadsThere n.books (n.tokens c) block value)
+  pub fetch_brings : (b : BlockId) (v : View logs members part b n) (c end : ℕ) (block : BlockId) (value : Option (List ℕ)) → IsServing logs members n c end
+      → Premise logs (ReadsThere n.books (n.tokens c) block value)
       → laws.Brings logs (setting b c (n.tokens c).inc) v.world (n.tokens c) (input.Fetched block value)
   fetch_brings b v c end block value serves there = λ same f is.
       owed_both logs (Kept b n.books v.world) (ReadsThere n.books (n.tokens c) block value) (PlaceRead v.world c (number value))
@@ -209,9 +236,11 @@ module _ (logs : Bool) (members part : ℕ) (n : Net) (i : Good logs members par
       let l = f.place.seg.name.log.0 in
       let q = f.place.seg.name.seq in
       let shown = (shown_up logs members part b n v c serves.some serves.within serves.up).fetch in
-      let open_ : FetchShown (Some f) x.fetching x.fetch = subst (λ o. FetchShown o x.fetching x.fetch) (ap (λ (k : BlockId). (held_of (n.tokens c).blocks k).fetch) (sym same) ∙ is) shown in
+      let open_ : FetchShown (Some f) x.fetching x.fetch =
+      subst (λ o. FetchShown o x.fetching x.fetch) (ap (λ (k : BlockId). (held_of (n.tokens c).blocks k).fetch) (sym same) ∙ is) shown in
       record {
-        content = ap number (reads f is ∙ ap (λ (k : BlockId). (said n.books l q k).value) same) ∙ sym (ap (λ (r : abstract_entry.Row). r.value) (kept.says l q))
+        content = ap number (reads f is ∙ ap (λ (k : BlockId). (said n.books l q k).value) same)
+            ∙ sym (ap (λ (r : abstract_entry.Row). r.value) (kept.says l q))
             ∙ sym (ap (λ (e : abstract_entry.Entry). (w.rows e.log e.segment).value) open_.1.1);
       })
       v.kept there
@@ -220,7 +249,8 @@ module _ (logs : Bool) (members part : ℕ) (n : Net) (i : Good logs members par
   of_other : (b block : BlockId) → is_in_slot part b ≡ true → is_in_slot part block ≡ false → block ≡ b → ⊥
   of_other b block inside outside same = let clash : false ≡ true = sym outside ∙ (ap (is_in_slot part) same ∙ inside) in absurd (cc)
 
-  other_brings : (b : BlockId) (c : ℕ) (w : World) (x : inputs.In) → is_in_slot part b ≡ true → IsOfOther part x → laws.Brings logs (setting b c (n.tokens c).inc) w (n.tokens c) x
+  other_brings : (b : BlockId) (c : ℕ) (w : World) (x : inputs.In) → is_in_slot part b ≡ true → IsOfOther part x
+      → laws.Brings logs (setting b c (n.tokens c).inc) w (n.tokens c) x
   other_brings b c w (input.Need block mode) inside other = absurd other
   other_brings b c w (input.Granted block stamp inc req Nothing entry) inside other = of_other b block inside other
   other_brings b c w (input.Granted block stamp inc req Copy entry) inside other = λ same. absurd (of_other b block inside other same)
@@ -252,7 +282,8 @@ module _ (logs : Bool) (members part : ℕ) (n : Net) (i : Good logs members par
   other_none b c (input.Promise slot_ epoch) other = absurd other
   other_none b c input.Tick other = absurd other
 
-  pub other_took : (b : BlockId) → is_in_slot part b ≡ true → (v : View logs members part b n) (c end : ℕ) (x : inputs.In) → IsServing logs members n c end → IsOfOther part x
+  pub other_took : (b : BlockId) → is_in_slot part b ≡ true → (v : View logs members part b n) (c end : ℕ) (x : inputs.In) → IsServing logs members n c end
+      → IsOfOther part x
       → Took logs (setting b c (n.tokens c).inc) end v.world (client.transition (n.tokens c) x)
   other_took b inside v c end x serves other =
       let g = setting b c (n.tokens c).inc in

@@ -75,11 +75,14 @@ abbrev pub ClientShown : Bool → BlockId → ℕ → TokensState → ℕ → Cl
 ClientShown true b c s epoch x = Shows (setting b c s.inc) epoch (local_of s b) x
 ClientShown false b c s epoch x = IsDown b s x
 
-pub put_each_three : {X Y Z : Type 0} (P : ℕ → X → Y → Z → Type 0) (f : ℕ → X) (g : ℕ → Y) (h : ℕ → Z) (c : ℕ) (x : X) (y : Y) (z : Z) → P c x y z → ((d : ℕ) → (d ≡ c → ⊥) → P d (f d) (g d) (h d)) → (d : ℕ) → P d (put f c x d) (put g c y d) (put h c z d)
+pub put_each_three : {X Y Z : Type 0} (P : ℕ → X → Y → Z → Type 0) (f : ℕ → X) (g : ℕ → Y) (h : ℕ → Z) (c : ℕ) (x : X) (y : Y) (z : Z) → P c x y z
+    → ((d : ℕ) → (d ≡ c → ⊥) → P d (f d) (g d) (h d)) → (d : ℕ) → P d (put f c x d) (put g c y d) (put h c z d)
 put_each_three {X = X} {Y = Y} {Z = Z} P f g h c x y z here there d =
     ⊎_elim
-    (λ same. subst (λ k. P k (put f c x k) (put g c y k) (put h c z k)) (sym same) (subst (λ (q : X × Y × Z). P c q.0 q.1 q.2) (λ i. (sym (put_here f c x) i, sym (put_here g c y) i, sym (put_here h c z) i)) here))
-    (λ other. subst (λ (q : X × Y × Z). P d q.0 q.1 q.2) (λ i. (sym (put_there f c x d other) i, sym (put_there g c y d other) i, sym (put_there h c z d other) i)) (there d other))
+    (λ same. subst (λ k. P k (put f c x k) (put g c y k) (put h c z k)) (sym same)
+    (subst (λ (q : X × Y × Z). P c q.0 q.1 q.2) (λ i. (sym (put_here f c x) i, sym (put_here g c y) i, sym (put_here h c z) i)) here))
+    (λ other. subst (λ (q : X × Y × Z). P d q.0 q.1 q.2)
+    (λ i. (sym (put_there f c x d other) i, sym (put_there g c y d other) i, sym (put_there h c z d other) i)) (there d other))
     (one_numbers d c)
 
 pub some_one : {A : Type 0} (x y : A) → Some x ≡ Some y → x ≡ y
@@ -99,12 +102,15 @@ abbrev pub Carried : Bool → ℕ → BlockId → World → Packet → Type 0
 Carried logs part b w (WantSent c inc req again block mode end) = (0 < c) × (block ≡ b → In (want_seen (slot.want_of c block inc req again mode) end) w.wants)
 Carried logs part b w (GrantSent c block at inc req mode entry) = block ≡ b → SentOffer c w at inc req mode (entry_seen entry)
 Carried logs part b w (RecallSent c block at keep) = block ≡ b → SentRecall c w at keep
-Carried logs part b w (GaveSent c block stamp end) = (0 < c) × (block ≡ b → (stamp.epoch ≤ w.epoch) × (stamp.epoch ≡ w.epoch → In (record { client = c; stamp = stamp.turn; end = end }) w.gaves))
-Carried logs part b w (ForwardSent passer c block at inc req ver) = block ≡ b → (entry : Entry) × (entry.ver ≡ ver) × SentOffer c w at inc req Copy (entry_seen entry)
+Carried logs part b w (GaveSent c block stamp end) =
+    (0 < c) × (block ≡ b → (stamp.epoch ≤ w.epoch) × (stamp.epoch ≡ w.epoch → In (record { client = c; stamp = stamp.turn; end = end }) w.gaves))
+Carried logs part b w (ForwardSent passer c block at inc req ver) =
+    block ≡ b → (entry : Entry) × (entry.ver ≡ ver) × SentOffer c w at inc req Copy (entry_seen entry)
 Carried logs part b w (SupplySent c block at inc req ver value) =
     block ≡ b → (entry : Entry) × (entry.ver ≡ ver) × SentOffer c w at inc req Copy (entry_seen entry) × Premise logs (Supplies at.epoch ver value w)
 Carried logs part b w (ReportSent c epoch rows end) =
-    (blocks : List (BlockId × Held)) × InOrder blocks × (rows ≡ held_in part blocks) × In (record { client = c; epoch = epoch; mode = rank (held_of blocks b).mode; end = end }) w.reports
+    (blocks : List (BlockId × Held)) × InOrder blocks × (rows ≡ held_in part blocks)
+    × In (record { client = c; epoch = epoch; mode = rank (held_of blocks b).mode; end = end }) w.reports
 
 -- a client that fell with the block dirty is known as fallen there
 abbrev pub FellDirty : Bool → Held → ℕ → Type 0
@@ -164,8 +170,10 @@ pub carried_on : (logs : Bool) (part : ℕ) (b : BlockId) (w v : World) (p : Pac
 carried_on logs part b w v (WantSent c inc req again block mode end) g h = (h.0, λ is. g.wants _ (h.1 is))
 carried_on logs part b w v (GrantSent c block at inc req mode entry) g h = λ is. offer_on c w v at inc req mode (entry_seen entry) g.epoch g.offers (h is)
 carried_on logs part b w v (RecallSent c block at keep) g h = λ is. recall_on c w v at keep g.epoch g.recalls (h is)
-carried_on logs part b w v (GaveSent c block stamp end) g h = (h.0, λ is. let k = h.1 is in let e = g.epoch in let low = k.0 in (omega arith, λ of_epoch. g.gaves _ (k.1 (of_epoch ∙ e))))
-carried_on logs part b w v (ForwardSent passer c block at inc req ver) g h = λ is. let k = h is in (k.0, k.1, offer_on c w v at inc req Copy (entry_seen k.0) g.epoch g.offers k.2)
+carried_on logs part b w v (GaveSent c block stamp end) g h =
+    (h.0, λ is. let k = h.1 is in let e = g.epoch in let low = k.0 in (omega arith, λ of_epoch. g.gaves _ (k.1 (of_epoch ∙ e))))
+carried_on logs part b w v (ForwardSent passer c block at inc req ver) g h = λ is. let k =
+    h is in (k.0, k.1, offer_on c w v at inc req Copy (entry_seen k.0) g.epoch g.offers k.2)
 carried_on logs part b w v (SupplySent c block at inc req ver value) g h = λ is.
     let k = h is in (
       k.0,
@@ -175,9 +183,12 @@ carried_on logs part b w v (SupplySent c block at inc req ver value) g h = λ is
     )
 carried_on logs part b w v (ReportSent c epoch rows end) g h = (h.0, h.1, h.2, g.reports _ h.3)
 
-pub job_wants : (o : Option Job) (epoch : ℕ) (awaited keep owed applied : ℕ → ℕ) (wants more : List packets.Want) (recalls : List packets.Recall) → ((x : packets.Want) → In x wants → In x more) → JobShown o epoch awaited keep owed applied wants recalls → JobShown o epoch awaited keep owed applied more recalls
+pub job_wants : (o : Option Job) (epoch : ℕ) (awaited keep owed applied : ℕ → ℕ) (wants more : List packets.Want) (recalls : List packets.Recall)
+    → ((x : packets.Want) → In x wants → In x more) → JobShown o epoch awaited keep owed applied wants recalls
+    → JobShown o epoch awaited keep owed applied more recalls
 job_wants None epoch awaited keep owed applied wants more recalls grows j = j
-job_wants (Some job) epoch awaited keep owed applied wants more recalls grows j = record { end = j.end; asked = grows _ j.asked; asker = j.asker; something = j.something; only = j.only; each = j.each; paid = j.paid }
+job_wants (Some job) epoch awaited keep owed applied wants more recalls grows j =
+    record { end = j.end; asked = grows _ j.asked; asker = j.asker; something = j.something; only = j.only; each = j.each; paid = j.paid }
 
 pub managed_on : (b : BlockId) (s : SlotState) (c : ℕ) (w v : World) → ByClient c w v → Manages b s w → Manages b s v
 managed_on b s c w v by m = record {
@@ -192,11 +203,16 @@ managed_on b s c w v by m = record {
 
 -- ---- a client's step
 
-pub said_carried : (logs : Bool) (part : ℕ) (b : BlockId) (c i inc end : ℕ) (v : World) (outs : List outputs.Out) → 0 < c → i ≡ inc → AllSaid (setting b c i) end v outs → (p : Packet) → In p (client_packets c inc end outs) → Carried logs part b v p
+pub said_carried : (logs : Bool) (part : ℕ) (b : BlockId) (c i inc end : ℕ) (v : World) (outs : List outputs.Out) → 0 < c → i ≡ inc
+    → AllSaid (setting b c i) end v outs → (p : Packet) → In p (client_packets c inc end outs) → Carried logs part b v p
 said_carried logs part b c i inc end v [] some one said p is = absurd is
 said_carried logs part b c i inc end v (output.Want block req again mode ∷ os) some one said p is =
-    ⊎_elim (λ e. subst (Carried logs part b v) (sym e) (some, λ same. subst (λ k. In (record { client = c; incarnation = k; request = req; mode = rank mode; end = end }) v.wants) one (said.0 same))) (λ r. said_carried logs part b c i inc end v os some one said.1 p r) is
-said_carried logs part b c i inc end v (output.Gave block stamp ∷ os) some one said p is = ⊎_elim (λ e. subst (Carried logs part b v) (sym e) (some, λ same. ((said.0 same).0, λ _. (said.0 same).1))) (λ r. said_carried logs part b c i inc end v os some one said.1 p r) is
+    ⊎_elim (λ e. subst (Carried logs part b v) (sym e)
+    (some, λ same. subst (λ k. In (record { client = c; incarnation = k; request = req; mode = rank mode; end = end }) v.wants) one (said.0 same)))
+    (λ r. said_carried logs part b c i inc end v os some one said.1 p r) is
+said_carried logs part b c i inc end v (output.Gave block stamp ∷ os) some one said p is =
+    ⊎_elim (λ e. subst (Carried logs part b v) (sym e) (some, λ same. ((said.0 same).0, λ _. (said.0 same).1)))
+    (λ r. said_carried logs part b c i inc end v os some one said.1 p r) is
 said_carried logs part b c i inc end v (output.Supply block ver value ∷ os) some one said p is = said_carried logs part b c i inc end v os some one said.1 p is
 said_carried logs part b c i inc end v (output.Flush block ∷ os) some one said p is = said_carried logs part b c i inc end v os some one said.1 p is
 said_carried logs part b c i inc end v (output.Read block place ∷ os) some one said p is = said_carried logs part b c i inc end v os some one said.1 p is
@@ -219,10 +235,12 @@ module _ (logs : Bool) (members part : ℕ) (b : BlockId) (n : Net) (v : View lo
 
   -- where logs keep their word, the end of a client's log is the one that is known there
   pub end_owed : (c end : ℕ) → Premise logs (end ≡ n.books.end c) → Premise logs (SettledEnd w c end)
-  end_owed c end is = owed_both logs (Kept b n.books w) (end ≡ n.books.end c) (SettledEnd w c end) (λ kept same. record { last_filed = same ∙ sym (kept.ends c) }) v.kept is
+  end_owed c end is =
+      owed_both logs (Kept b n.books w) (end ≡ n.books.end c) (SettledEnd w c end) (λ kept same. record { last_filed = same ∙ sym (kept.ends c) }) v.kept is
 
   -- a client took an input, and acted so
-  pub client_view : (c end : ℕ) (acts : List block.Act) (d : client.Done) (more : List Act) → 0 < c → n.up c ≡ true → Acted logs (setting b c (n.tokens c).inc) end w acts d
+  pub client_view : (c end : ℕ) (acts : List block.Act) (d : client.Done) (more : List Act) → 0 < c → n.up c ≡ true
+      → Acted logs (setting b c (n.tokens c).inc) end w acts d
       → Premise logs (acts ++ acts_of b n.acts ≡ acts_of b more) → View logs members part b (record (after_client n c end d) { acts = more })
   client_view c end acts d more some up t adds =
       let epoch = epoch_on logs (setting b c (n.tokens c).inc) end w t.world t.frame in
@@ -231,11 +249,15 @@ module _ (logs : Bool) (members part : ℕ) (b : BlockId) (n : Net) (v : View lo
         steps = steps_through (start members) w t.world v.steps t.steps;
         many = ap (λ (u : World). u.members) t.frame.others ∙ v.many;
         some = v.some;
-        nobody = subst (λ e. IsNobody (t.world.client 0) e) (sym epoch) (subst (λ x. IsNobody x w.epoch) (sym (t.frame.client 0 (λ same. absurd (omega arith)))) v.nobody);
+        nobody = subst (λ e. IsNobody (t.world.client 0) e) (sym epoch)
+            (subst (λ x. IsNobody x w.epoch) (sym (t.frame.client 0 (λ same. absurd (omega arith)))) v.nobody);
         positive = let p = v.positive in omega arith;
         clients = put_each (λ k x. 0 < k → k < members → ClientShown (n.up k) b k x t.world.epoch (t.world.client k)) n.tokens c d.state
-            (λ _ _. subst (λ u. ClientShown u b c d.state t.world.epoch (t.world.client c)) (sym up) (subst (λ k. Shows (setting b c k) t.world.epoch (local_of d.state b) (t.world.client c)) (sym t.shows.boot) (shown_on logs (setting b c (n.tokens c).inc) end w acts (local_of d.state b) d.outs t)))
-            (λ k other pos less. subst (λ e. ClientShown (n.up k) b k (n.tokens k) e (t.world.client k)) (sym epoch) (subst (λ x. ClientShown (n.up k) b k (n.tokens k) w.epoch x) (sym (t.frame.client k other)) (v.clients k pos less)));
+            (λ _ _. subst (λ u. ClientShown u b c d.state t.world.epoch (t.world.client c)) (sym up)
+            (subst (λ k. Shows (setting b c k) t.world.epoch (local_of d.state b) (t.world.client c)) (sym t.shows.boot)
+            (shown_on logs (setting b c (n.tokens c).inc) end w acts (local_of d.state b) d.outs t)))
+            (λ k other pos less. subst (λ e. ClientShown (n.up k) b k (n.tokens k) e (t.world.client k)) (sym epoch)
+            (subst (λ x. ClientShown (n.up k) b k (n.tokens k) w.epoch x) (sym (t.frame.client k other)) (v.clients k pos less)));
         fell = put_each (λ k x. 0 < k → k < members → FellDirty (n.up k) (held_of x.blocks b) (t.world.fallen k)) n.tokens c d.state
             (λ _ _ down _. contrary (sym down ∙ up))
             (λ k other pos less down dirty. ap (λ (u : World). u.fallen k) t.frame.others ∙ v.fell k pos less down dirty);
@@ -245,22 +267,26 @@ module _ (logs : Bool) (members part : ℕ) (b : BlockId) (n : Net) (v : View lo
         manages = managed_on b v.slot c w t.world t.frame v.manages;
         past = λ e s is. (let p = (v.past e s is).0 in omega arith, (v.past e s is).1);
         sent = λ p is. ⊎_elim (λ new. said_carried logs part b c (n.tokens c).inc d.state.inc end t.world d.outs some (sym t.shows.boot) t.said p new)
-            (λ old. carried_on logs part b w t.world p (by_client_grows logs c w t.world t.frame (lasts_by logs members w t.world v.steps t.steps)) (v.sent p old))
+            (λ old. carried_on logs part b w t.world p (by_client_grows logs c w t.world t.frame (lasts_by logs members w t.world v.steps t.steps))
+            (v.sent p old))
             (either_in p (client_packets c d.state.inc end d.outs) n.sent is);
         kept = owed_on logs (Kept b n.books w) (Kept b n.books t.world) (subst (λ (u : World). Kept b n.books u) (sym t.frame.others)) v.kept;
-        acts = owed_both logs (told (start members) w v.steps ≡ acts_of b n.acts) (acts ++ acts_of b n.acts ≡ acts_of b more) (told (start members) t.world (steps_through (start members) w t.world v.steps t.steps) ≡ acts_of b more)
+        acts = owed_both logs (told (start members) w v.steps ≡ acts_of b n.acts) (acts ++ acts_of b n.acts ≡ acts_of b more)
+            (told (start members) t.world (steps_through (start members) w t.world v.steps t.steps) ≡ acts_of b more)
             (λ old new. told_through logs (start members) w t.world v.steps t.steps ∙ (λ i. t.tells i ++ old i) ∙ new) v.acts adds;
       }
 
   -- where it acts nothing
-  pub quiet_view : (c end : ℕ) (d : client.Done) → 0 < c → n.up c ≡ true → Took logs (setting b c (n.tokens c).inc) end w d → View logs members part b (after_client n c end d)
+  pub quiet_view : (c end : ℕ) (d : client.Done) → 0 < c → n.up c ≡ true → Took logs (setting b c (n.tokens c).inc) end w d
+      → View logs members part b (after_client n c end d)
   quiet_view c end d some up t = client_view c end [] d n.acts some up t (owed logs (acts_of b n.acts ≡ acts_of b n.acts) (λ _. refl))
 
   -- a client reports: nothing but its report is new
   pub report_view : (c end : ℕ) → 0 < c → c < members → n.up c ≡ true → Premise logs (end ≡ n.books.end c) → IsSound (n.tokens c) → is_in_slot part b ≡ true
       → View logs members part b (record n { sent = ReportSent c (epoch_of (n.tokens c).epochs part) (held_in part (n.tokens c).blocks) end ∷ n.sent })
   report_view c end pos less up ends sound inside =
-      let shown : Shows (setting b c (n.tokens c).inc) w.epoch (local_of (n.tokens c) b) (w.client c) = subst (λ u. ClientShown u b c (n.tokens c) w.epoch (w.client c)) up (v.clients c pos less) in
+      let shown : Shows (setting b c (n.tokens c).inc) w.epoch (local_of (n.tokens c) b) (w.client c) =
+      subst (λ u. ClientShown u b c (n.tokens c) w.epoch (w.client c)) up (v.clients c pos less) in
       let u = takeover.reports w c end in
       let same : slot_of b.ino.0 ≡ part = equal_numbers (slot_of b.ino.0) part inside in
       record {
@@ -276,10 +302,29 @@ module _ (logs : Bool) (members part : ℕ) (b : BlockId) (n : Net) (v : View lo
         sound = v.sound;
         reigns = v.reigns;
         past = v.past;
-        manages = record { epoch = v.manages.epoch; turn = v.manages.turn; belief = v.manages.belief; applied = v.manages.applied; index = v.manages.index; job = v.manages.job };
+        manages = record {
+          epoch = v.manages.epoch;
+          turn = v.manages.turn;
+          belief = v.manages.belief;
+          applied = v.manages.applied;
+          index = v.manages.index;
+          job = v.manages.job;
+        };
         sent = λ p is. ⊎_elim
-            (λ e. subst (Carried logs part b u) (sym e) ((n.tokens c).blocks, sound.sorted, refl, inl (λ i. record { client = c; epoch = (ap (λ k. epoch_of (n.tokens c).epochs k) (sym same) ∙ sym shown.stamps.promised) i; mode = sym shown.mode i; end = end })))
-            (λ old. carried_on logs part b w u p (record { epoch = refl; wants = λ x h. h; gaves = λ x h. h; offers = λ x h. h; recalls = λ x h. h; reports = λ x h. inr h; lasts = unchanged }) (v.sent p old)) is;
+            (λ e. subst (Carried logs part b u) (sym e) (
+              (n.tokens c).blocks,
+              sound.sorted,
+              refl,
+              inl (λ i. record {
+                client = c;
+                epoch = (ap (λ k. epoch_of (n.tokens c).epochs k) (sym same) ∙ sym shown.stamps.promised) i;
+                mode = sym shown.mode i;
+                end = end;
+              }),
+            ))
+            (λ old. carried_on logs part b w u p
+            (record { epoch = refl; wants = λ x h. h; gaves = λ x h. h; offers = λ x h. h; recalls = λ x h. h; reports = λ x h. inr h; lasts = unchanged })
+            (v.sent p old)) is;
         kept = v.kept;
         acts = v.acts;
       }

@@ -36,32 +36,37 @@ pub record Reigns (n : Net) (e : ℕ) (s : SlotState) : Type 0 where
 -- Where one client's tokens own a block, no other client's tokens hold it.
 abbrev pub OneOwner : Type 0
 OneOwner =
-    (logs : Bool) (members part : ℕ) (n : Net) (b : BlockId) → Moment logs members part n b → (c d : ℕ) → IsClient members c → IsClient members d → n.up c ≡ true → n.up d ≡ true
+    (logs : Bool) (members part : ℕ) (n : Net) (b : BlockId) → Moment logs members part n b → (c d : ℕ) → IsClient members c → IsClient members d
+    → n.up c ≡ true → n.up d ≡ true
     → is_own (held_of (n.tokens c).blocks b).mode ≡ true → is_held (held_of (n.tokens d).blocks b).mode ≡ true → c ≡ d
 
 -- A manager is active only at an epoch that every client has promised, also one that is down.
 abbrev pub ActiveEpochsPromised : Type 0
 ActiveEpochsPromised =
-    (logs : Bool) (members part : ℕ) (n : Net) (b : BlockId) → Moment logs members part n b → (e : ℕ) (s : SlotState) → n.slots e ≡ Some s → (c : ℕ) → IsClient members c
+    (logs : Bool) (members part : ℕ) (n : Net) (b : BlockId) → Moment logs members part n b → (e : ℕ) (s : SlotState) → n.slots e ≡ Some s → (c : ℕ)
+    → IsClient members c
     → e ≤ epoch_of (n.tokens c).epochs part
 
 -- The manager that reigns believes of each client at least what it holds.
 abbrev pub HoldingsBelieved : Type 0
 HoldingsBelieved =
-    (logs : Bool) (members part : ℕ) (n : Net) (b : BlockId) → Moment logs members part n b → (e : ℕ) (s : SlotState) → Reigns n e s → (c : ℕ) → IsClient members c → n.up c ≡ true
+    (logs : Bool) (members part : ℕ) (n : Net) (b : BlockId) → Moment logs members part n b → (e : ℕ) (s : SlotState) → Reigns n e s → (c : ℕ)
+    → IsClient members c → n.up c ≡ true
     → rank (held_of (n.tokens c).blocks b).mode ≤ share_of s.beliefs b c
 
 -- It believes of each client what any sent Grant would give that the client would still accept.
 abbrev pub GrantsBelieved : Type 0
 GrantsBelieved =
-    (logs : Bool) (members part : ℕ) (n : Net) (b : BlockId) → Moment logs members part n b → (e : ℕ) (s : SlotState) → Reigns n e s → (c : ℕ) → IsClient members c → n.up c ≡ true
+    (logs : Bool) (members part : ℕ) (n : Net) (b : BlockId) → Moment logs members part n b → (e : ℕ) (s : SlotState) → Reigns n e s → (c : ℕ)
+    → IsClient members c → n.up c ≡ true
     → (stamp : Stamp) (inc req : ℕ) (mode : Mode) (entry : Entry) → In (GrantSent c b stamp inc req mode entry) n.sent
     → accepts (n.tokens c) b stamp inc req mode ≡ true → rank mode ≤ share_of s.beliefs b c
 
 -- Between the fall of a client with the block dirty and its return, nobody holds the block.
 abbrev pub NobodyHoldsAfterFall : Type 0
 NobodyHoldsAfterFall =
-    (logs : Bool) (members part : ℕ) (n : Net) (b : BlockId) → Moment logs members part n b → (c d : ℕ) → IsClient members c → IsClient members d → n.up c ≡ false
+    (logs : Bool) (members part : ℕ) (n : Net) (b : BlockId) → Moment logs members part n b → (c d : ℕ) → IsClient members c → IsClient members d
+    → n.up c ≡ false
     → is_dirty (held_of (n.tokens c).blocks b) ≡ true → n.up d ≡ true
     → is_held (held_of (n.tokens d).blocks b).mode ≡ false
 

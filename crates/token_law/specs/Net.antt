@@ -161,13 +161,15 @@ pub data Happens (logs : Bool) (members part : ℕ) : Net → Net → Type 0 whe
   -- a client gets a Grant to own that it accepts, and writes in the same event
   GetsOwn : {n : Net} (c end : ℕ) (block : BlockId) (stamp : Stamp) (inc req : ℕ) (entry : Entry) (value : Option (List ℕ)) → IsServing logs members n c end
       → In (GrantSent c block stamp inc req Own entry) n.sent → client.accepts (n.tokens c) block stamp inc req Own ≡ true → nat_lt entry.ver u64_end ≡ true
-      → Happens logs members part n (acted (after_client n c end (granted_and_wrote (n.tokens c) stamp inc req block entry value)) (act.Wrote c block value ∷ []))
+      → Happens logs members part n
+      (acted (after_client n c end (granted_and_wrote (n.tokens c) stamp inc req block entry value)) (act.Wrote c block value ∷ []))
   -- a client gets a Grant to own that it accepts, and lets it go in the same event
   Declines : {n : Net} (c end : ℕ) (block : BlockId) (stamp : Stamp) (inc req : ℕ) (entry : Entry) → IsServing logs members n c end
       → In (GrantSent c block stamp inc req Own entry) n.sent → client.accepts (n.tokens c) block stamp inc req Own ≡ true
       → Happens logs members part n (after_client n c end (granted_and_evicted (n.tokens c) stamp inc req block entry))
   -- a client gets a Recall
-  GetsRecall : {n : Net} (c end : ℕ) (block : BlockId) (stamp : Stamp) (keep : Bool) → IsServing logs members n c end → In (RecallSent c block stamp keep) n.sent
+  GetsRecall : {n : Net} (c end : ℕ) (block : BlockId) (stamp : Stamp) (keep : Bool) → IsServing logs members n c end
+      → In (RecallSent c block stamp keep) n.sent
       → Happens logs members part n (after_client n c end (client.transition (n.tokens c) (input.Recalled block stamp keep)))
   -- a client gets a Forward that it serves
   GetsForward : {n : Net} (c other : ℕ) (block : BlockId) (stamp : Stamp) (inc req ver : ℕ) (value : Option (List ℕ))
@@ -187,15 +189,18 @@ pub data Happens (logs : Bool) (members part : ℕ) : Net → Net → Type 0 whe
       → is_held (held_of (n.tokens c).blocks block).mode ≡ true → (held_of (n.tokens c).blocks block).value ≡ Some value
       → Happens logs members part n (acted n (act.Read c block (held_of (n.tokens c).blocks block).ver value ∷ []))
   -- a client's sync ends: nothing is dirty
-  Syncs : {n : Net} (c : ℕ) → 0 < c → c < members → n.up c ≡ true → Premise logs (AllClean (n.tokens c)) → Happens logs members part n (acted n (act.Synced c ∷ []))
+  Syncs : {n : Net} (c : ℕ) → 0 < c → c < members → n.up c ≡ true → Premise logs (AllClean (n.tokens c))
+      → Happens logs members part n (acted n (act.Synced c ∷ []))
   -- a client seals a segment while none is in flight
   Seals : {n : Net} (c : ℕ) (rows : List (BlockId × Row)) → 0 < c → c < members → n.up c ≡ true → Premise logs (n.books.flying c ≡ false)
       → Premise logs (SealsNewest (n.tokens c) rows) → Happens logs members part n (record n { books = sealed n.books c rows })
   -- a client's segment is filed, and its versions are settled
   Files : {n : Net} (c : ℕ) → 0 < c → c < members → n.up c ≡ true → Premise logs (n.books.flying c ≡ true)
-      → Happens logs members part n (record n { tokens = put n.tokens c (all_settled (n.tokens c) (n.books.rows c (suc (n.books.end c)))); books = filed n.books c })
+      → Happens logs members part n
+      (record n { tokens = put n.tokens c (all_settled (n.tokens c) (n.books.rows c (suc (n.books.end c)))); books = filed n.books c })
   -- a slot gets Deltas
-  GetsDeltas : {n : Net} (e : ℕ) (s : SlotState) (log : LogId) (first upto : ℕ) (rows : List (BlockId × Entry)) → n.slots e ≡ Some s → log.0 - 1 < length s.applied
+  GetsDeltas : {n : Net} (e : ℕ) (s : SlotState) (log : LogId) (first upto : ℕ) (rows : List (BlockId × Entry)) → n.slots e ≡ Some s
+      → log.0 - 1 < length s.applied
       → Premise logs (0 < log.0) → Premise logs (IsLatest n e → DeltasCover part n.books s log upto rows)
       → Happens logs members part n (after_slot n e (slot.transition s (told.Deltas log first upto rows)))
   -- a slot gets a Want
@@ -216,10 +221,15 @@ pub data Happens (logs : Bool) (members part : ℕ) : Net → Net → Type 0 whe
   Returns : {n : Net} (c inc : ℕ) (epochs : List ℕ) (chain : List SegName) (count : ℕ) → 0 < c → c < members → n.up c ≡ false → (n.tokens c).inc < inc
       → epoch_of (n.tokens c).epochs part ≤ epoch_of epochs part → Premise logs (adopts n.acts c chain ≡ true → n.books.flying c ≡ true)
       → Happens logs members part n (acted
-      (record n { tokens = put n.tokens c (fresh_tokens inc epochs); up = put n.up c true; books = with_empty count (reopened n.books c (adopts n.acts c chain)) c })
+      (record n {
+        tokens = put n.tokens c (fresh_tokens inc epochs);
+        up = put n.up c true;
+        books = with_empty count (reopened n.books c (adopts n.acts c chain)) c;
+      })
       (act.Back c chain ∷ []))
   -- the cleaner seals copies while none of its segments is in flight
-  SealsCopies : {n : Net} (l : ℕ) (rows : List (BlockId × Row)) → members ≤ l → Premise logs (n.books.flying l ≡ false) → Premise logs (SealsOriginals n.books rows)
+  SealsCopies : {n : Net} (l : ℕ) (rows : List (BlockId × Row)) → members ≤ l → Premise logs (n.books.flying l ≡ false)
+      → Premise logs (SealsOriginals n.books rows)
       → Happens logs members part n (record n { books = sealed n.books l rows })
   -- its segment is filed
   FilesCopies : {n : Net} (l : ℕ) → members ≤ l → Premise logs (n.books.flying l ≡ true) → Happens logs members part n (record n { books = filed n.books l })

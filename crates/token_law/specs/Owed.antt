@@ -58,7 +58,8 @@ pub record Gathered (members part : ℕ) (k : Books) (index : List (BlockId × E
   pub reported : (c : ℕ) → 0 < c → c < members → ends c ≤ applied_of applied c
   pub filed : (l : ℕ) → 0 < l → applied_of applied l ≤ k.end l
   pub source : (b : BlockId) → is_in_slot part b ≡ true → IsFiled k b (entry_of (indexed_all nothing_indexed index).rows b)
-  pub rows : (b : BlockId) → is_in_slot part b ≡ true → (l q : ℕ) → 0 < l → q ≤ applied_of applied l → (said k l q b).version ≤ (entry_of (indexed_all nothing_indexed index).rows b).ver
+  pub rows : (b : BlockId) → is_in_slot part b ≡ true → (l q : ℕ) → 0 < l → q ≤ applied_of applied l
+      → (said k l q b).version ≤ (entry_of (indexed_all nothing_indexed index).rows b).ver
 
 -- ---- falls and returns
 

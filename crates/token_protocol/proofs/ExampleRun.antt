@@ -108,7 +108,8 @@ abbrev pub step16 : Step true moment15 moment16
 step16 = Recalls 2 0 (record { less = grind arith })
 
 abbrev pub step17 : Step true moment16 moment17
-step17 = Gives second_recall 0 (record { sent = inl refl; serving = refl; heard = refl; newer = grind arith; clean = grind arith }) (record { last_filed = refl })
+step17 = Gives second_recall 0 (record { sent = inl refl; serving = refl; heard = refl; newer = grind arith; clean = grind arith })
+    (record { last_filed = refl })
 
 abbrev pub step18 : Step true moment17 moment18
 step18 = Notes second_gave (record { sent = inl refl; answers = refl })
@@ -220,7 +221,8 @@ abbrev pub first_write : Steps true (start 3) moment3
 first_write = More (More (More Done step1) step2) step3
 
 abbrev pub first_read : Steps true (start 3) moment14
-first_read = More (More (More (More (More (More (More (More (More (More (More first_write step4) step5) step6) step7) step8) step9) step10) step11) step12) step13) step14
+first_read = More
+    (More (More (More (More (More (More (More (More (More (More first_write step4) step5) step6) step7) step8) step9) step10) step11) step12) step13) step14
 
 abbrev pub second_write : Steps true (start 3) moment20
 second_write = More (More (More (More (More (More first_read step15) step16) step17) step18) step19) step20

@@ -61,7 +61,8 @@ join_is_join w i = record { upper = i.filing.joined.rows_join; attained = λ som
 
 pub join_newest : (w : World) → Invariant w → JoinNewest w
 join_newest w i clean none =
-    let same : w.join_version ≡ w.newest = grind (arith, clean w.last_writer, none w.last_writer, i.content.versions.last_dirty, i.content.versions.join_newest) in
+    let same : w.join_version ≡ w.newest =
+    grind (arith, clean w.last_writer, none w.last_writer, i.content.versions.last_dirty, i.content.versions.join_newest) in
     record {
       version = same;
       value = λ some.
@@ -79,7 +80,8 @@ dirty_leads w i c dirty =
       owned = own;
       settled = settled;
       ahead = omega arith;
-      mine = λ v above below. i.content.writers.above_writer v above below ∙ grind (arith, i.content.writers.above_writer w.newest, i.content.writers.own_writer c own);
+      mine = λ v above below. i.content.writers.above_writer v above below
+          ∙ grind (arith, i.content.writers.above_writer w.newest, i.content.writers.own_writer c own);
     }
 
 pub falls_legal : (w : World) → Invariant w → FallsLegal w

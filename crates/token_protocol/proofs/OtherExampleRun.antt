@@ -10,7 +10,8 @@ use Rattle.token_protocol.specs.Step.Steps.{Done, More}
 use Rattle.token_protocol.specs.OtherExample.{absent_want, absent_offer, early_recall, early_gave, declined_want, declined_offer, later_want, later_offer, later_recall, later_gave, later_entry, supplied_want, supplied_offer, other_acts, other_kinds, other_moment1, other_moment2, other_moment3, other_moment4, other_moment5, other_moment6, other_moment7, other_moment8, other_moment9, other_moment10, other_moment11, other_moment12, other_moment13, other_moment14, other_moment15, other_moment16, other_moment17, other_moment18, other_moment19, other_moment20, other_moment21, other_moment22, other_moment23, other_moment24, other_moment25, other_moment26, other_moment27, other_moment28, other_moment29, other_moment30, other_moment31, other_moment32, other_moment33, other_moment34, other_moment35, other_moment36}
 
 abbrev pub other_step1 : Step true (start 3) other_moment1
-other_step1 = Asks 2 1 1 0 (record { client = grind arith; serving = refl; some = grind arith; upto_own = grind arith; less = grind arith; unused = grind arith })
+other_step1 =
+    Asks 2 1 1 0 (record { client = grind arith; serving = refl; some = grind arith; upto_own = grind arith; less = grind arith; unused = grind arith })
     (record { last_filed = refl })
 
 abbrev pub other_step2 : Step true other_moment1 other_moment2
@@ -43,14 +44,16 @@ abbrev pub other_step6 : Step true other_moment5 other_moment6
 other_step6 = Evicts 2 (record { victim = grind arith })
 
 abbrev pub other_step7 : Step true other_moment6 other_moment7
-other_step7 = Asks 1 2 1 0 (record { client = grind arith; serving = refl; some = grind arith; upto_own = grind arith; less = grind arith; unused = grind arith })
+other_step7 =
+    Asks 1 2 1 0 (record { client = grind arith; serving = refl; some = grind arith; upto_own = grind arith; less = grind arith; unused = grind arith })
     (record { last_filed = refl })
 
 abbrev pub other_step8 : Step true other_moment7 other_moment8
 other_step8 = Recalls 2 0 (record { less = grind arith })
 
 abbrev pub other_step9 : Step true other_moment8 other_moment9
-other_step9 = Gives early_recall 0 (record { sent = inl refl; serving = refl; heard = refl; newer = grind arith; clean = grind arith }) (record { last_filed = refl })
+other_step9 =
+    Gives early_recall 0 (record { sent = inl refl; serving = refl; heard = refl; newer = grind arith; clean = grind arith }) (record { last_filed = refl })
 
 abbrev pub other_step10 : Step true other_moment9 other_moment10
 other_step10 = GivesAgain early_recall 0 (record { sent = inl refl; serving = refl; heard = refl; equal = refl }) (record { last_filed = refl })
@@ -82,7 +85,8 @@ other_step14 = Declines declined_offer (record {
 })
 
 abbrev pub other_step15 : Step true other_moment14 other_moment15
-other_step15 = Asks 1 2 2 0 (record { client = grind arith; serving = refl; some = grind arith; upto_own = grind arith; less = grind arith; unused = grind arith })
+other_step15 =
+    Asks 1 2 2 0 (record { client = grind arith; serving = refl; some = grind arith; upto_own = grind arith; less = grind arith; unused = grind arith })
     (record { last_filed = refl })
 
 abbrev pub other_step16 : Step true other_moment15 other_moment16
@@ -118,14 +122,16 @@ abbrev pub other_step21 : Step true other_moment20 other_moment21
 other_step21 = Syncs 1 2 (record { serving = refl; clean = grind arith; known = grind arith; mine = refl })
 
 abbrev pub other_step22 : Step true other_moment21 other_moment22
-other_step22 = Asks 2 1 2 0 (record { client = grind arith; serving = refl; some = grind arith; upto_own = grind arith; less = grind arith; unused = grind arith })
+other_step22 =
+    Asks 2 1 2 0 (record { client = grind arith; serving = refl; some = grind arith; upto_own = grind arith; less = grind arith; unused = grind arith })
     (record { last_filed = refl })
 
 abbrev pub other_step23 : Step true other_moment22 other_moment23
 other_step23 = Recalls 1 1 (record { less = grind arith })
 
 abbrev pub other_step24 : Step true other_moment23 other_moment24
-other_step24 = Gives later_recall 1 (record { sent = inl refl; serving = refl; heard = refl; newer = grind arith; clean = grind arith }) (record { last_filed = refl })
+other_step24 =
+    Gives later_recall 1 (record { sent = inl refl; serving = refl; heard = refl; newer = grind arith; clean = grind arith }) (record { last_filed = refl })
 
 abbrev pub other_step25 : Step true other_moment24 other_moment25
 other_step25 = Notes later_gave (record { sent = inl refl; answers = refl })
@@ -159,7 +165,8 @@ other_step28 = TakesSupply supplied_offer 6 (record {
 }) (record { content = refl })
 
 abbrev pub other_step29 : Step true other_moment28 other_moment29
-other_step29 = Asks 2 2 3 0 (record { client = grind arith; serving = refl; some = grind arith; upto_own = grind arith; less = grind arith; unused = grind arith })
+other_step29 =
+    Asks 2 2 3 0 (record { client = grind arith; serving = refl; some = grind arith; upto_own = grind arith; less = grind arith; unused = grind arith })
     (record { last_filed = refl })
 
 abbrev pub other_step30 : Step true other_moment29 other_moment30
@@ -191,10 +198,12 @@ other_declined = More (More (More (More (More (More (More
     (More other_absent other_step7) other_step8) other_step9) other_step10) other_step11) other_step12) other_step13) other_step14
 
 abbrev pub other_synced : Steps true (start 3) other_moment21
-other_synced = More (More (More (More (More (More (More other_declined other_step15) other_step16) other_step17) other_step18) other_step19) other_step20) other_step21
+other_synced =
+    More (More (More (More (More (More (More other_declined other_step15) other_step16) other_step17) other_step18) other_step19) other_step20) other_step21
 
 abbrev pub other_supplied : Steps true (start 3) other_moment28
-other_supplied = More (More (More (More (More (More (More other_synced other_step22) other_step23) other_step24) other_step25) other_step26) other_step27) other_step28
+other_supplied =
+    More (More (More (More (More (More (More other_synced other_step22) other_step23) other_step24) other_step25) other_step26) other_step27) other_step28
 
 abbrev pub other_run : Steps true (start 3) other_moment36
 other_run = More (More (More (More (More (More (More

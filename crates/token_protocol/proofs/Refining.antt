@@ -14,7 +14,8 @@ put_each P f c x here there d = go (d == c) (λ e. grind (arith, nat_tests, e)) 
     go false same other = there d (other refl)
 
 -- The same for two functions changed at one place, as a node's table and the client here that it is seen as.
-pub put_each_two : {X Y : Type 0} (P : ℕ → X → Y → Type 0) (f : ℕ → X) (g : ℕ → Y) (c : ℕ) (x : X) (y : Y) → P c x y → ((d : ℕ) → (d ≡ c → ⊥) → P d (f d) (g d)) → (d : ℕ)
+pub put_each_two : {X Y : Type 0} (P : ℕ → X → Y → Type 0) (f : ℕ → X) (g : ℕ → Y) (c : ℕ) (x : X) (y : Y) → P c x y → ((d : ℕ) → (d ≡ c → ⊥) → P d (f d) (g d))
+    → (d : ℕ)
     → P d (put f c x d) (put g c y d)
 put_each_two P f g c x y here there d = go (d == c) (λ e. grind (arith, nat_tests, e)) (λ e. grind (arith, nat_tests, e))
   where
@@ -33,7 +34,8 @@ pub included_more : {X Y : Type 0} (sees : X → Y → Type 0) (sent : List X) (
 included_more sees sent here more i grows x y is seen = grows y (i x y is seen)
 
 -- It stays so where a packet is sent, if what that is seen as was sent here.
-pub included_sent : {X Y : Type 0} (sees : X → Y → Type 0) (sent : List X) (here : List Y) (new : X) → Included sees sent here → ((y : Y) → sees new y → In y here)
+pub included_sent : {X Y : Type 0} (sees : X → Y → Type 0) (sent : List X) (here : List Y) (new : X) → Included sees sent here
+    → ((y : Y) → sees new y → In y here)
     → Included sees (new ∷ sent) here
 included_sent {X = X} sees sent here new i also x y (inl is) seen = also y (subst (λ (z : X). sees z y) is seen)
 included_sent sees sent here new i also x y (inr is) seen = i x y is seen

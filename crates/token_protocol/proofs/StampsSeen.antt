@@ -10,7 +10,8 @@ taken n x e s seen low high some same above =
     let reigning : s.epoch ≡ e = omega arith in (
       omega arith,
       reigning,
-      ⊎_elim (λ (z : n.stamp.epoch < s.epoch). let o = seen.old (omega arith) in omega arith) (λ (z : (n.stamp.epoch ≡ s.epoch) × (n.stamp.turn < s.turn)). let o = seen.now (omega arith) in omega arith) above,
+      ⊎_elim (λ (z : n.stamp.epoch < s.epoch). let o = seen.old (omega arith) in omega arith)
+          (λ (z : (n.stamp.epoch ≡ s.epoch) × (n.stamp.turn < s.turn)). let o = seen.now (omega arith) in omega arith) above,
     )
 
 pub equal : EqualSeen

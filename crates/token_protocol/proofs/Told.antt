@@ -171,7 +171,8 @@ tells_more logs w v (DiscardsCopy who h) acts more = refl
 tells_more logs w v (Loses x h) acts more = refl
 
 -- What steps after others tell stands before what those told.
-pub told_through : (logs : Bool) (w v u : World) (first : Steps logs w v) (then_ : Steps logs v u) → told w u (steps_through w v u first then_) ≡ told v u then_ ++ told w v first
+pub told_through : (logs : Bool) (w v u : World) (first : Steps logs w v) (then_ : Steps logs v u)
+    → told w u (steps_through w v u first then_) ≡ told v u then_ ++ told w v first
 unfolding steps_through
 told_through logs w v u first Done = refl
 told_through logs w v u first (More {v = x} steps step) =

@@ -73,13 +73,15 @@ pub data Step (logs : Bool) : World → World → Type 0 where
   RestartsAdopting : {w : World} (c incarnation promised : ℕ) → MayRestart w c incarnation promised → Premise logs (TailAdopted w c)
       → Step logs w (restarts_adopting w c incarnation promised)
   -- A client returns, and its tail is discarded.
-  RestartsDiscarding : {w : World} (c incarnation promised : ℕ) → MayRestart w c incarnation promised → Step logs w (restarts_discarding w c incarnation promised)
+  RestartsDiscarding : {w : World} (c incarnation promised : ℕ) → MayRestart w c incarnation promised
+      → Step logs w (restarts_discarding w c incarnation promised)
   -- A client promises a later epoch.
   Promises : {w : World} (c epoch : ℕ) → MayPromise w c epoch → Step logs w (promises w c epoch)
   -- A client reports what it holds.
   Reports : {w : World} (c end : ℕ) → MayReport w c → Premise logs (SettledEnd w c end) → Step logs w (reports w c end)
   -- A later manager becomes active.
-  Activates : {w : World} (epoch : ℕ) (report : ℕ → Report) (applied : ℕ → ℕ) (e : Entry) → MayActivate w epoch report → Premise logs (IndexGathered w report applied e)
+  Activates : {w : World} (epoch : ℕ) (report : ℕ → Report) (applied : ℕ → ℕ) (e : Entry) → MayActivate w epoch report
+      → Premise logs (IndexGathered w report applied e)
       → Step logs w (activates w epoch report applied e)
   -- A cleaner seals a copy of a row.
   SealsCopy : {w : World} (c log segment : ℕ) → MaySealCopy w c → Premise logs (OriginalFiled w log segment) → Step logs w (seals_copy w c log segment)

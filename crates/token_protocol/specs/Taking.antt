@@ -34,7 +34,10 @@ writes_first w g value =
 abbrev pub declines : World → Offer → World
 declines w g =
     let x = w.client g.client in
-    record w { client = put w.client g.client (record x { mode = 0; stamp = g.stamp; want = 0; version = g.entry.version; settled = g.entry.version; fetching = 0 }) }
+    record w {
+      client = put w.client g.client
+          (record x { mode = 0; stamp = g.stamp; want = 0; version = g.entry.version; settled = g.entry.version; fetching = 0 });
+    }
 
 -- Offered a copy whose value is known now: the client holds it.
 abbrev pub takes_value : World → Offer → ℕ → World

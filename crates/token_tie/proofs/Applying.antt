@@ -59,7 +59,8 @@ rising : (applied : ℕ → ℕ) (c upto : ℕ) → applied c ≤ upto → (d : 
 rising applied c upto most = put_each (λ d n. applied d ≤ n) applied c upto most (λ d other. omega arith)
 
 -- and is what the slot has applied
-applied_put : (w : World) (s : SlotState) (b : BlockId) (log : LogId) (upto : ℕ) → Manages b s w → 0 < log.0 → log.0 - 1 < length s.applied → (d : ℕ) → 0 < d → put w.applied log.0 upto d ≡ applied_of (applied_upto s.applied log upto) d
+applied_put : (w : World) (s : SlotState) (b : BlockId) (log : LogId) (upto : ℕ) → Manages b s w → 0 < log.0 → log.0 - 1 < length s.applied → (d : ℕ) → 0 < d
+    → put w.applied log.0 upto d ≡ applied_of (applied_upto s.applied log upto) d
 applied_put w s b log upto m some known =
     put_each (λ d n. 0 < d → n ≡ applied_of (applied_upto s.applied log upto) d) w.applied log.0 upto
     (λ _. sym (get_or-set_same s.applied (log.0 - 1) upto 0 known))
@@ -77,13 +78,16 @@ by_deltas_known : (Q : Done → Type 0) (s : SlotState) (log : LogId) (first upt
 by_deltas_known Q s log first upto rows same told done =
     by_test Q (is_followed log) (deltas_of s log first upto rows) (still s)
     (λ known. by_test Q (joins_on (applied_of s.applied log.0) first upto) (apply_or_not s log upto rows) (told_applied s log)
-    (λ joins. by_test Q (can_apply s log upto rows) (apply s log upto rows) (still s) (λ _. done (followed log.0 known) (joined (applied_of s.applied log.0) first upto joins)) (λ _. same))
+    (λ joins. by_test Q (can_apply s log upto rows) (apply s log upto rows) (still s)
+    (λ _. done (followed log.0 known) (joined (applied_of s.applied log.0) first upto joins)) (λ _. same))
     (λ _. told))
     (λ _. same)
 
 module _ (logs : Bool) (b : BlockId) where
-  raised : (o : Option Job) (epoch : ℕ) (awaited keep owed applied more : ℕ → ℕ) (wants : List packets.Want) (recalls : List packets.Recall) → ((d : ℕ) → applied d ≤ more d) → JobShown o epoch awaited keep owed applied wants recalls → JobShown o epoch awaited keep owed more wants recalls
-  raised None epoch awaited keep owed applied more wants recalls rises j = record { nothing = j.nothing; paid = λ d. let p = j.paid d in let r = rises d in omega arith }
+  raised : (o : Option Job) (epoch : ℕ) (awaited keep owed applied more : ℕ → ℕ) (wants : List packets.Want) (recalls : List packets.Recall)
+      → ((d : ℕ) → applied d ≤ more d) → JobShown o epoch awaited keep owed applied wants recalls → JobShown o epoch awaited keep owed more wants recalls
+  raised None epoch awaited keep owed applied more wants recalls rises j =
+      record { nothing = j.nothing; paid = λ d. let p = j.paid d in let r = rises d in omega arith }
   raised (Some job) epoch awaited keep owed applied more wants recalls rises j = record {
     end = j.end;
     asked = j.asked;
@@ -95,48 +99,78 @@ module _ (logs : Bool) (b : BlockId) where
   }
 
   -- the want that waits for this block is answered
-  let_go-runs : (w : World) (s : SlotState) (job : Job) → Sound s → Manages b s w → job_at s.jobs b ≡ Some job → is_ready s.applied job.awaited ≡ true → Runs logs b w (finished (let_go s b) job.want)
+  let_go-runs : (w : World) (s : SlotState) (job : Job) → Sound s → Manages b s w → job_at s.jobs b ≡ Some job → is_ready s.applied job.awaited ≡ true
+      → Runs logs b w (finished (let_go s b) job.want)
   let_go-runs w s job sound m is ready =
-      let waits : Waits job s.epoch w.awaited w.keep w.owed w.applied w.wants w.recalls = subst (λ o. JobShown o s.epoch w.awaited w.keep w.owed w.applied w.wants w.recalls) is m.job in
+      let waits : Waits job s.epoch w.awaited w.keep w.owed w.applied w.wants w.recalls =
+      subst (λ o. JobShown o s.epoch w.awaited w.keep w.owed w.applied w.wants w.recalls) is m.job in
       let none : job_at (let_go s b).jobs b ≡ None = gone s.jobs b sound.waiting.sorted in
       let idle : Idle w.awaited w.owed w.applied = record {
         nothing = λ d. zero_is (w.awaited d) (λ more. ready_none s.applied job.awaited d ready (waits.only d more));
-        paid = λ d. ⊎_elim (λ h. h) (λ h. let a = m.applied d h.0 in let n = named_applied s.applied job.awaited d (w.owed d) ready h.1 in omega arith) (waits.paid d);
+        paid = λ d. ⊎_elim (λ h. h) (λ h. let a = m.applied d h.0 in let n = named_applied s.applied job.awaited d (w.owed d) ready h.1 in omega arith)
+            (waits.paid d);
       } in
-      let shown : Manages b (let_go s b) w = record { epoch = m.epoch; turn = m.turn; belief = m.belief; applied = m.applied; index = m.index; job = subst (λ o. JobShown o s.epoch w.awaited w.keep w.owed w.applied w.wants w.recalls) (sym none) idle } in
-      finished-at logs b w (let_go s b) job.want waits.end (sound.waiting.own b job is) shown none waits.something (leaves_room s.beliefs s.applied job (sound.awaits b job is) ready) waits.asked waits.asker
+      let shown : Manages b (let_go s b) w =
+      record {
+        epoch = m.epoch;
+        turn = m.turn;
+        belief = m.belief;
+        applied = m.applied;
+        index = m.index;
+        job = subst (λ o. JobShown o s.epoch w.awaited w.keep w.owed w.applied w.wants w.recalls) (sym none) idle;
+      } in
+      finished-at logs b w (let_go s b) job.want waits.end (sound.waiting.own b job is) shown none waits.something
+      (leaves_room s.beliefs s.applied job (sound.awaits b job is) ready) waits.asked waits.asker
 
   -- a want for another block is answered
-  let_go-there : (w : World) (s : SlotState) (block : BlockId) (job : Job) → Sound s → Manages b s w → (block ≡ b → ⊥) → job_at s.jobs block ≡ Some job → Runs logs b w (finished (let_go s block) job.want)
+  let_go-there : (w : World) (s : SlotState) (block : BlockId) (job : Job) → Sound s → Manages b s w → (block ≡ b → ⊥) → job_at s.jobs block ≡ Some job
+      → Runs logs b w (finished (let_go s block) job.want)
   let_go-there w s block job sound m other is =
       let apart : job.want.block ≡ b → ⊥ = λ same. other (sym (sound.waiting.own block job is) ∙ same) in
       let u = let_go s block in
       turns-runs logs b w s (finished u job.want) 1 m refl refl (λ c. more_elsewhere s.beliefs job.want (holder b c) (λ same. apart (sym same))) refl refl
-      (after_removal s.jobs block b sound.waiting.sorted ∙ elim (eq_by_cmp block_cmp block b) as (λ t. eq_by_cmp block_cmp block b ≡ t → cond t None (job_at s.jobs b) ≡ job_at s.jobs b) [ true ↦ λ same. absurd (other (tells_apart block_cmp_exact block b same)) | false ↦ λ _. refl ] refl)
+      (after_removal s.jobs block b sound.waiting.sorted
+      ∙ elim (eq_by_cmp block_cmp block b) as (λ t. eq_by_cmp block_cmp block b ≡ t → cond t None (job_at s.jobs b) ≡ job_at s.jobs b)
+      [ true ↦ λ same. absurd (other (tells_apart block_cmp_exact block b same)) | false ↦ λ _. refl ] refl)
       (λ v. answer_quiet logs b v u job.want (passers u job.want) apart)
 
-  one-runs : (w : World) (s : SlotState) (block : BlockId) → Sound s → Manages b s w → ((job : Job) → job_at s.jobs block ≡ Some job → is_ready s.applied job.awaited ≡ true) → Runs logs b w (finished_at s block)
+  one-runs : (w : World) (s : SlotState) (block : BlockId) → Sound s → Manages b s w
+      → ((job : Job) → job_at s.jobs block ≡ Some job → is_ready s.applied job.awaited ≡ true) → Runs logs b w (finished_at s block)
   one-runs w s block sound m ready =
       by_block b (λ k. ((job : Job) → job_at s.jobs k ≡ Some job → is_ready s.applied job.awaited ≡ true) → Runs logs b w (finished_at s k))
       (λ r. by_finished_at (Runs logs b w) s b (runs_nowhere logs b w s m) (λ job is. let_go-runs w s job sound m is (r job is)))
       (λ k other _. by_finished_at (Runs logs b w) s k (runs_nowhere logs b w s m) (λ job is. let_go-there w s k job sound m other is)) block ready
 
   runs_through : (w : World) (s : SlotState) (d e : Done) (t : Runs logs b w d) → Runs logs b t.world e → Runs logs b w (after d.outs e)
-  runs_through w s d e t u = record { world = u.world; steps = steps_through w t.world u.world t.steps u.steps; quiet = both_quiet logs w t.world u.world t.steps u.steps t.quiet u.quiet; frame = by_through w t.world u.world t.frame u.frame; shows = u.shows; told = told_both b u.world d.outs e.outs (told_on b t.world u.world d.outs u.frame t.told) u.told }
+  runs_through w s d e t u =
+      record {
+        world = u.world;
+        steps = steps_through w t.world u.world t.steps u.steps;
+        quiet = both_quiet logs w t.world u.world t.steps u.steps t.quiet u.quiet;
+        frame = by_through w t.world u.world t.frame u.frame;
+        shows = u.shows;
+        told = told_both b u.world d.outs e.outs (told_on b t.world u.world d.outs u.frame t.told) u.told;
+      }
 
   same_applied : (s : SlotState) (block : BlockId) → (finished_at s block).state.applied ≡ s.applied
   same_applied s block = by_finished_at (λ d. d.state.applied ≡ s.applied) s block refl (λ job is. refl)
 
-  many-run : (w : World) (s : SlotState) (applied : List ℕ) (blocks : List BlockId) → s.applied ≡ applied → Sound s → Manages b s w → ReadyAt s.jobs applied blocks → Runs logs b w (steps finished_at s blocks)
+  many-run : (w : World) (s : SlotState) (applied : List ℕ) (blocks : List BlockId) → s.applied ≡ applied → Sound s → Manages b s w
+      → ReadyAt s.jobs applied blocks → Runs logs b w (steps finished_at s blocks)
   many-run w s applied [] is sound m ready = runs_nowhere logs b w s m
   many-run w s applied (k ∷ ks) is sound m ready =
       let d = finished_at s k in
-      let here : (job : Job) → job_at s.jobs k ≡ Some job → is_ready s.applied job.awaited ≡ true = λ job h. subst (λ a. is_ready a job.awaited ≡ true) (sym is) (ready k (contains_first k ks) job h) in
+      let here : (job : Job) → job_at s.jobs k ≡ Some job → is_ready s.applied job.awaited ≡ true =
+      λ job h. subst (λ a. is_ready a job.awaited ≡ true) (sym is) (ready k (contains_first k ks) job h) in
       let t = one-runs w s k sound m here in
-      let next : Sound d.state = by_finished_at (λ r. Sound r.state) s k sound (λ job h. sound-answered s applied k job sound h (ready k (contains_first k ks) job h)) in
-      runs_through w s d (steps finished_at d.state ks) t (many-run t.world d.state applied ks (same_applied s k ∙ is) next t.shows (λ block has job h. ready block (contains_rest k block ks has) job (jobs_fewer s k block job sound.waiting h)))
+      let next : Sound d.state =
+      by_finished_at (λ r. Sound r.state) s k sound (λ job h. sound-answered s applied k job sound h (ready k (contains_first k ks) job h)) in
+      runs_through w s d (steps finished_at d.state ks) t
+      (many-run t.world d.state applied ks (same_applied s k ∙ is) next t.shows
+      (λ block has job h. ready block (contains_rest k block ks has) job (jobs_fewer s k block job sound.waiting h)))
 
-  pub takes_deltas : (w : World) (s : SlotState) (log : LogId) (first upto : ℕ) (rows : List (BlockId × Entry)) → Sound s → Manages b s w → log.0 - 1 < length s.applied → Premise logs (IndexCovers w log.0 upto (entry_seen (entry_of (indexed_all s.index rows).rows b)))
+  pub takes_deltas : (w : World) (s : SlotState) (log : LogId) (first upto : ℕ) (rows : List (BlockId × Entry)) → Sound s → Manages b s w
+      → log.0 - 1 < length s.applied → Premise logs (IndexCovers w log.0 upto (entry_seen (entry_of (indexed_all s.index rows).rows b)))
       → Runs logs b w (on_deltas s log first upto rows)
   takes_deltas w s log first upto rows sound m known covers =
       by_deltas_known (Runs logs b w) s log first upto rows (runs_nowhere logs b w s m) (saying (Applied log (applied_of s.applied log.0) ∷ []) (tt, tt))
@@ -154,7 +188,9 @@ module _ (logs : Bool) (b : BlockId) where
         applied = applied_put w s b log upto m some known;
         job = raised (job_at s.jobs b) s.epoch w.awaited w.keep w.owed w.applied v.applied w.wants w.recalls (rising w.applied log.0 upto less) m.job;
       } in
-      let t = many-run v u (applied_upto s.applied log upto) (ready_blocks s.jobs (applied_upto s.applied log upto)) refl (record { sorted = sound.sorted; waiting = sound.waiting; alone = sound.alone; awaits = sound.awaits }) shown (ready_finds s.jobs (applied_upto s.applied log upto) sound.waiting.sorted) in
+      let t = many-run v u (applied_upto s.applied log upto) (ready_blocks s.jobs (applied_upto s.applied log upto)) refl
+      (record { sorted = sound.sorted; waiting = sound.waiting; alone = sound.alone; awaits = sound.awaits }) shown
+      (ready_finds s.jobs (applied_upto s.applied log upto) sound.waiting.sorted) in
       record {
         world = t.world;
         steps = steps_through w v t.world (More Ended (Applies log.0 upto e (record { forward = less }) covers)) t.steps;
@@ -180,7 +216,8 @@ module _ (logs : Bool) (b : BlockId) where
   sent-there : (w : World) (block : BlockId) (rows : List Awaited) → (block ≡ b → ⊥) → AllTold b w (sent block rows)
   sent-there w block [] other = tt
   sent-there w block (a ∷ rows) other =
-      elim (is_some a.end) as (λ t. AllTold b w (cond t (sent block rows) (recall_of block a ∷ sent block rows))) [ true ↦ sent-there w block rows other | false ↦ (λ same. absurd (other same), sent-there w block rows other) ]
+      elim (is_some a.end) as (λ t. AllTold b w (cond t (sent block rows) (recall_of block a ∷ sent block rows)))
+      [ true ↦ sent-there w block rows other | false ↦ (λ same. absurd (other same), sent-there w block rows other) ]
 
   pub all_sent-told : (w : World) (es : List (BlockId × Job)) → IsStrictlySortedBy block_cmp (keys_of es) → Resent w es → AllTold b w (all_sent es)
   unfolding IsStrictlySortedBy
@@ -190,22 +227,31 @@ module _ (logs : Bool) (b : BlockId) where
       elim (eq_by_cmp block_cmp b e.0) as (λ t. eq_by_cmp block_cmp b e.0 ≡ t → AllTold b w (sent e.0 e.1.awaited ++ all_sent es)) [
         | true ↦ λ same.
             let one : b ≡ e.0 = tells_apart block_cmp_exact b e.0 same in
-            told_both b w (sent e.0 e.1.awaited) (all_sent es) (subst (λ k. AllTold b w (sent k e.1.awaited)) one (resent e.1 (ap (λ t. cond t (Some e.1) (job_at es b)) same)))
+            told_both b w (sent e.0 e.1.awaited) (all_sent es)
+            (subst (λ k. AllTold b w (sent k e.1.awaited)) one (resent e.1 (ap (λ t. cond t (Some e.1) (job_at es b)) same)))
             (rest_ (λ job is. absurd (no_end job (job_at es b) (subst (λ k. job_at es k ≡ None) (sym one) (nobody_below e.0 es sorted.0)) is)))
         | false ↦ λ apart.
-            told_both b w (sent e.0 e.1.awaited) (all_sent es) (sent-there w e.0 e.1.awaited (λ same. false≢true (sym apart ∙ subst (λ k. eq_by_cmp block_cmp b k ≡ true) (sym same) (block_laws.refl b))))
+            told_both b w (sent e.0 e.1.awaited) (all_sent es)
+            (sent-there w e.0 e.1.awaited (λ same. false≢true (sym apart ∙ subst (λ k. eq_by_cmp block_cmp b k ≡ true) (sym same) (block_laws.refl b))))
             (rest_ (λ job is. resent job (ap (λ t. cond t (Some e.1) (job_at es b)) apart ∙ is)))
       ] refl
 
-  sent-here : (w : World) (leave : Bool) (epoch : ℕ) (rows : List Awaited) → epoch ≡ w.epoch → AllAwaited leave epoch w.awaited w.keep w.recalls rows → AllTold b w (sent b rows)
+  sent-here : (w : World) (leave : Bool) (epoch : ℕ) (rows : List Awaited) → epoch ≡ w.epoch → AllAwaited leave epoch w.awaited w.keep w.recalls rows
+      → AllTold b w (sent b rows)
   sent-here w leave epoch [] reigns all = tt
   sent-here w leave epoch (a ∷ rows) reigns all =
       elim (is_some a.end) as (λ t. is_some a.end ≡ t → AllTold b w (cond t (sent b rows) (recall_of b a ∷ sent b rows))) [
         | true ↦ λ _. sent-here w leave epoch rows reigns all.1
         | false ↦ λ none.
             let shown = all.0 (none_is a.end none) in
-            let turn = ap (λ (z : Stamp). z.turn) shown.stamp in let of_epoch = ap (λ (z : Stamp). z.epoch) shown.stamp in let some = shown.some in
-            (λ same. record { low = omega arith; some = omega arith; recalled = λ _. subst (λ n. In (record { client = a.client; stamp = n; keep = kept a.keep }) w.recalls) (sym turn) shown.sent }, sent-here w leave epoch rows reigns all.1)
+            let turn = ap (λ (z : Stamp). z.turn) shown.stamp in let of_epoch = ap (λ (z : Stamp). z.epoch) shown.stamp in let some = shown.some in (
+              λ same. record {
+                low = omega arith;
+                some = omega arith;
+                recalled = λ _. subst (λ n. In (record { client = a.client; stamp = n; keep = kept a.keep }) w.recalls) (sym turn) shown.sent;
+              },
+              sent-here w leave epoch rows reigns all.1,
+            )
       ] refl
 
   pub takes_tick : (w : World) (s : SlotState) → Sound s → Manages b s w → Runs logs b w (on_tick s)
@@ -233,8 +279,10 @@ module _ (logs : Bool) (b : BlockId) where
   }
 
 -- each input, of a sound slot
-pub sound_takes : (logs : Bool) (b : BlockId) (w : World) (s : SlotState) (input : inputs.In) → Sound s → Manages b s w → Brings logs b w s input → Runs logs b w (transition s input)
-sound_takes logs b w s (Want client block inc req again mode end) sound m brings = takes_want logs b w s client inc req again block mode end sound m brings.0 brings.1
+pub sound_takes : (logs : Bool) (b : BlockId) (w : World) (s : SlotState) (input : inputs.In) → Sound s → Manages b s w → Brings logs b w s input
+    → Runs logs b w (transition s input)
+sound_takes logs b w s (Want client block inc req again mode end) sound m brings =
+    takes_want logs b w s client inc req again block mode end sound m brings.0 brings.1
 sound_takes logs b w s (Gave client block stamp end) sound m brings = takes_gave logs b w s client block stamp end sound m brings.0 brings.1
 sound_takes logs b w s (Deltas log first upto rows) sound m brings = takes_deltas logs b w s log first upto rows sound m brings.0 brings.1
 sound_takes logs b w s (Check block place) sound m brings = takes_check logs b w s block place m

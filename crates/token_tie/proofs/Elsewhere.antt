@@ -51,9 +51,12 @@ module _ (g : Setting) where
     fetch = s.fetch;
   }
 
-  pub apart_took : (logs : Bool) (end : ℕ) (w : World) (s : TokensState) (d : Done) → Apart s d → Shows g w.epoch (local_of s g.block) (w.client g.client) → Took logs g end w d
+  pub apart_took : (logs : Bool) (end : ℕ) (w : World) (s : TokensState) (d : Done) → Apart s d → Shows g w.epoch (local_of s g.block) (w.client g.client)
+      → Took logs g end w d
   apart_took logs end w s d a shows =
-      goes_saying logs g end w (local_of d.state g.block) d.outs (subst (λ l. Shows g w.epoch l (w.client g.client)) (sym a.same) (shows_counted w.epoch (local_of s g.block) (w.client g.client) d.state.req a.rises shows)) (a.quiet end w)
+      goes_saying logs g end w (local_of d.state g.block) d.outs
+      (subst (λ l. Shows g w.epoch l (w.client g.client)) (sym a.same)
+      (shows_counted w.epoch (local_of s g.block) (w.client g.client) d.state.req a.rises shows)) (a.quiet end w)
 
   pub apart_still : (s : TokensState) → Apart s (still s)
   apart_still s = record { rises = omega arith; same = refl; quiet = λ end w. tt }
@@ -68,41 +71,56 @@ module _ (g : Setting) where
   module _ (block : BlockId) (other : block ≡ g.block → ⊥) where
     -- what is known of this block, once another is put
     pub other_put : (h : Held) (es : List (BlockId × Held)) → held_of (put_held es block h) g.block ≡ held_of es g.block
-    other_put h es = held_of-put g.block block h es ∙ by_test (λ (k : Held). k ≡ held_of es g.block) (eq_by_cmp block_cmp g.block block) h (held_of es g.block) (λ t. absurd (other (sym (tells_apart block_cmp_exact g.block block t)))) (λ t. refl)
+    other_put h es =
+        held_of-put g.block block h es
+        ∙ by_test (λ (k : Held). k ≡ held_of es g.block) (eq_by_cmp block_cmp g.block block) h (held_of es g.block)
+        (λ t. absurd (other (sym (tells_apart block_cmp_exact g.block block t)))) (λ t. refl)
 
-    apart_put : (s : TokensState) (h : Held) (n : ℕ) (outs : List Out) → s.req ≤ n → ((end : ℕ) (w : World) → AllSaid g end w outs) → Apart s (record { state = record (with_held s block h) { req = n }; outs = outs })
-    apart_put s h n outs rises quiet = record { rises = rises; same = ap (λ (k : Held). record (local_of s g.block) { req = n; held = k }) (other_put h s.blocks); quiet = quiet }
+    apart_put : (s : TokensState) (h : Held) (n : ℕ) (outs : List Out) → s.req ≤ n → ((end : ℕ) (w : World) → AllSaid g end w outs)
+        → Apart s (record { state = record (with_held s block h) { req = n }; outs = outs })
+    apart_put s h n outs rises quiet =
+        record { rises = rises; same = ap (λ (k : Held). record (local_of s g.block) { req = n; held = k }) (other_put h s.blocks); quiet = quiet }
 
-    apart_with : (s : TokensState) (h : Held) (outs : List Out) → ((end : ℕ) (w : World) → AllSaid g end w outs) → Apart s (record { state = with_held s block h; outs = outs })
+    apart_with : (s : TokensState) (h : Held) (outs : List Out) → ((end : ℕ) (w : World) → AllSaid g end w outs)
+        → Apart s (record { state = with_held s block h; outs = outs })
     apart_with s h outs quiet = apart_put s h s.req outs (omega arith) quiet
 
     pub ask-apart : (s : TokensState) (mode : Mode) → Apart s (new_want s block mode)
     unfolding new_want
     ask-apart s mode =
-        by_test (Apart s) (nat_lt s.req (2 ^ 32 - 1)) (record { state = record (with_held s block (asked (held_of s.blocks block) (s.req + 1) mode)) { req = s.req + 1 }; outs = Want block (s.req + 1) 0 mode ∷ [] }) (still s)
+        by_test (Apart s) (nat_lt s.req (2 ^ 32 - 1))
+        (record {
+          state = record (with_held s block (asked (held_of s.blocks block) (s.req + 1) mode)) { req = s.req + 1 };
+          outs = Want block (s.req + 1) 0 mode ∷ [];
+        }) (still s)
         (λ t. apart_put s _ (s.req + 1) _ (omega arith) (λ end w. (λ is. absurd (other is), tt))) (λ t. apart_still s)
 
     pub on_need-apart : (s : TokensState) (mode : Mode) → Apart s (on_need s block mode)
     unfolding on_need
-    on_need-apart s mode = by_test (Apart s) (must_ask (held_of s.blocks block) mode) (new_want s block mode) (still s) (λ t. ask-apart s mode) (λ t. apart_still s)
+    on_need-apart s mode =
+        by_test (Apart s) (must_ask (held_of s.blocks block) mode) (new_want s block mode) (still s) (λ t. ask-apart s mode) (λ t. apart_still s)
 
     copy_quiet : (place : Option Place) (end : ℕ) (w : World) → AllSaid g end w (copy_next block place ∷ [])
     copy_quiet None end w = (tt, tt)
     copy_quiet (Some p) end w = (tt, tt)
 
     grant_quiet : (mode : Mode) (place : Option Place) (end : ℕ) (w : World) → AllSaid g end w (grant_next block mode place ∷ [])
-    grant_quiet mode place end w = by_test (λ (o : Out). AllSaid g end w (o ∷ [])) (is_own mode) (Ready block) (copy_next block place) (λ t. (tt, tt)) (λ t. copy_quiet place end w)
+    grant_quiet mode place end w =
+        by_test (λ (o : Out). AllSaid g end w (o ∷ [])) (is_own mode) (Ready block) (copy_next block place) (λ t. (tt, tt)) (λ t. copy_quiet place end w)
 
     pub on_granted-apart : (s : TokensState) (stamp : Stamp) (inc req : ℕ) (mode : Mode) (entry : Entry) → Apart s (on_granted s block stamp inc req mode entry)
     unfolding on_granted
     on_granted-apart s stamp inc req mode entry =
-        by_test (Apart s) (accepts s block stamp inc req mode) (record { state = with_held s block (grant_taken (held_of s.blocks block) stamp mode entry); outs = grant_next block mode entry.place ∷ [] }) (still s)
+        by_test (Apart s) (accepts s block stamp inc req mode)
+        (record { state = with_held s block (grant_taken (held_of s.blocks block) stamp mode entry); outs = grant_next block mode entry.place ∷ [] }) (still s)
         (λ t. apart_with s _ _ (grant_quiet mode entry.place)) (λ t. apart_still s)
 
-    pub on_supplied-apart : (s : TokensState) (stamp : Stamp) (inc req ver : ℕ) (value : Option (List ℕ)) → Apart s (on_supplied s block stamp inc req ver value)
+    pub on_supplied-apart : (s : TokensState) (stamp : Stamp) (inc req ver : ℕ) (value : Option (List ℕ))
+        → Apart s (on_supplied s block stamp inc req ver value)
     unfolding on_supplied
     on_supplied-apart s stamp inc req ver value =
-        by_test (Apart s) (accepts s block stamp inc req Copy) (record { state = with_held s block (copied (held_of s.blocks block) stamp ver value); outs = Ready block ∷ [] }) (still s)
+        by_test (Apart s) (accepts s block stamp inc req Copy)
+        (record { state = with_held s block (copied (held_of s.blocks block) stamp ver value); outs = Ready block ∷ [] }) (still s)
         (λ t. apart_with s _ _ (λ end w. (tt, tt))) (λ t. apart_still s)
 
     refetch-apart : (s : TokensState) → Apart s (refetch s block)
@@ -116,7 +134,8 @@ module _ (g : Setting) where
     unfolding give
     give-apart s stamp keep =
         let h = held_of s.blocks block in
-        by_test (Apart s) (is_dirty h) (record { state = with_held s block (put_off h stamp keep); outs = Flush block ∷ [] }) (record { state = with_held s block (given_up h stamp keep); outs = Gave block stamp ∷ [] })
+        by_test (Apart s) (is_dirty h) (record { state = with_held s block (put_off h stamp keep); outs = Flush block ∷ [] })
+        (record { state = with_held s block (given_up h stamp keep); outs = Gave block stamp ∷ [] })
         (λ t. apart_with s _ _ (λ end w. (tt, tt))) (λ t. apart_with s _ _ (λ end w. (λ is. absurd (other is), tt)))
 
     pub on_recalled-apart : (s : TokensState) (stamp : Stamp) (keep : Bool) → Apart s (on_recalled s block stamp keep)
@@ -133,22 +152,27 @@ module _ (g : Setting) where
     pub on_wrote-apart : (s : TokensState) (value : Option (List ℕ)) → Apart s (on_wrote s block value)
     unfolding on_wrote
     on_wrote-apart s value =
-        by_test (Apart s) (may_write (held_of s.blocks block)) (still (with_held s block (written (held_of s.blocks block) value))) (still s) (λ t. apart_with s _ [] (λ end w. tt)) (λ t. apart_still s)
+        by_test (Apart s) (may_write (held_of s.blocks block)) (still (with_held s block (written (held_of s.blocks block) value))) (still s)
+        (λ t. apart_with s _ [] (λ end w. tt)) (λ t. apart_still s)
 
     pub on_settled-apart : (s : TokensState) (ver : ℕ) → Apart s (on_settled s block ver)
     unfolding on_settled
     on_settled-apart s ver =
-        by_test (Apart s) (is_settled_by (held_of s.blocks block) ver) (still (with_held s block (version_settled (held_of s.blocks block) ver))) (still s) (λ t. apart_with s _ [] (λ end w. tt)) (λ t. apart_still s)
+        by_test (Apart s) (is_settled_by (held_of s.blocks block) ver) (still (with_held s block (version_settled (held_of s.blocks block) ver))) (still s)
+        (λ t. apart_with s _ [] (λ end w. tt)) (λ t. apart_still s)
 
     pub on_fetched-apart : (s : TokensState) (value : Option (List ℕ)) → Apart s (on_fetched s block value)
     unfolding on_fetched
     on_fetched-apart s value =
         let h = held_of s.blocks block in
-        by_test (Apart s) (may_end_fetch h) (record { state = with_held s block (fetch_ended h h.fetch value); outs = Ready block ∷ [] }) (still s) (λ t. apart_with s _ _ (λ end w. (tt, tt))) (λ t. apart_still s)
+        by_test (Apart s) (may_end_fetch h) (record { state = with_held s block (fetch_ended h h.fetch value); outs = Ready block ∷ [] }) (still s)
+        (λ t. apart_with s _ _ (λ end w. (tt, tt))) (λ t. apart_still s)
 
     pub on_evict-apart : (s : TokensState) → Apart s (on_evict s block)
     unfolding on_evict
-    on_evict-apart s = by_test (Apart s) (may_evict (held_of s.blocks block)) (still (with_held s block (let_go (held_of s.blocks block)))) (still s) (λ t. apart_with s _ [] (λ end w. tt)) (λ t. apart_still s)
+    on_evict-apart s =
+        by_test (Apart s) (may_evict (held_of s.blocks block)) (still (with_held s block (let_go (held_of s.blocks block)))) (still s)
+        (λ t. apart_with s _ [] (λ end w. tt)) (λ t. apart_still s)
 
     pub on_reask-apart : (s : TokensState) → Apart s (on_reask s block)
     unfolding on_reask
@@ -156,7 +180,9 @@ module _ (g : Setting) where
 
     pub on_quit-apart : (s : TokensState) → Apart s (on_quit s block)
     unfolding on_quit
-    on_quit-apart s = by_test (Apart s) (is_asking (held_of s.blocks block)) (still (with_held s block (unasked (held_of s.blocks block)))) (still s) (λ t. apart_with s _ [] (λ end w. tt)) (λ t. apart_still s)
+    on_quit-apart s =
+        by_test (Apart s) (is_asking (held_of s.blocks block)) (still (with_held s block (unasked (held_of s.blocks block)))) (still s)
+        (λ t. apart_with s _ [] (λ end w. tt)) (λ t. apart_still s)
 
     repeated-apart : (s : TokensState) (v : Option Wanted) → Apart s (repeated s block v)
     repeated-apart s None = apart_still s
@@ -164,4 +190,6 @@ module _ (g : Setting) where
 
     pub ask_again-apart : (s : TokensState) → Apart s (ask_again s block)
     unfolding ask_again
-    ask_again-apart s = by_test (Apart s) (is_spent (held_of s.blocks block).want) (still s) (repeated s block (held_of s.blocks block).want) (λ t. apart_still s) (λ t. repeated-apart s (held_of s.blocks block).want)
+    ask_again-apart s =
+        by_test (Apart s) (is_spent (held_of s.blocks block).want) (still s) (repeated s block (held_of s.blocks block).want) (λ t. apart_still s)
+        (λ t. repeated-apart s (held_of s.blocks block).want)

@@ -23,7 +23,8 @@ pub put_there : {X : Type 0} (f : ℕ → X) (c : ℕ) (x : X) (d : ℕ) → (d 
 put_there f c x d other = grind (arith, nat_tests)
 
 -- steps that tell nothing, and then others that tell nothing
-pub both_quiet : (logs : Bool) (w v u : World) (s : Steps logs w v) (t : Steps logs v u) → told w v s ≡ [] → told v u t ≡ [] → told w u (steps_through w v u s t) ≡ []
+pub both_quiet : (logs : Bool) (w v u : World) (s : Steps logs w v) (t : Steps logs v u) → told w v s ≡ [] → told v u t ≡ []
+    → told w u (steps_through w v u s t) ≡ []
 both_quiet logs w v u s t p q = told_through logs w v u s t ∙ (λ i. q i ++ p i)
 
 pub by_nothing : (c : ℕ) (w : World) → ByClient c w w
@@ -42,7 +43,8 @@ module _ (logs : Bool) (g : Setting) (end : ℕ) where
   pub said_on : (w v : World) (outs : List Out) → ByClient g.client w v → AllSaid g end w outs → AllSaid g end v outs
   said_on w v [] by h = tt
   said_on w v (Want block req again mode ∷ os) by h = (λ is. by.wants _ (h.0 is), said_on w v os by h.1)
-  said_on w v (Gave block stamp ∷ os) by h = (λ is. (let e = ap (λ (u : World). u.epoch) by.others in let low = (h.0 is).0 in omega arith, by.gaves _ (h.0 is).1), said_on w v os by h.1)
+  said_on w v (Gave block stamp ∷ os) by h =
+      (λ is. (let e = ap (λ (u : World). u.epoch) by.others in let low = (h.0 is).0 in omega arith, by.gaves _ (h.0 is).1), said_on w v os by h.1)
   said_on w v (Supply block ver value ∷ os) by h = (tt, said_on w v os by h.1)
   said_on w v (Flush block ∷ os) by h = (tt, said_on w v os by h.1)
   said_on w v (Read block place ∷ os) by h = (tt, said_on w v os by h.1)
@@ -65,8 +67,10 @@ module _ (logs : Bool) (g : Setting) (end : ℕ) where
   epoch_on w v by = ap (λ (u : World). u.epoch) by.others
 
   -- one step of the client, which tells these acts and becomes x
-  pub acts_by : (w v : World) (acts : List Act) (l : Local) (outs : List Out) (x : Client) (step : Step logs w v) → tells w v step [] ≡ acts → v.client ≡ put w.client g.client x → rest v ≡ rest w
-      → ((p : packets.Want) → In p w.wants → In p v.wants) → ((y : packets.Gave) → In y w.gaves → In y v.gaves) → Shows g w.epoch l x → AllSaid g end v outs → Acts logs g end w acts l outs
+  pub acts_by : (w v : World) (acts : List Act) (l : Local) (outs : List Out) (x : Client) (step : Step logs w v) → tells w v step [] ≡ acts
+      → v.client ≡ put w.client g.client x → rest v ≡ rest w
+      → ((p : packets.Want) → In p w.wants → In p v.wants) → ((y : packets.Gave) → In y w.gaves → In y v.gaves) → Shows g w.epoch l x → AllSaid g end v outs
+      → Acts logs g end w acts l outs
   acts_by w v acts l outs x step told_ is others wants gaves shows said = record {
     world = v;
     steps = More Done step;
@@ -77,7 +81,8 @@ module _ (logs : Bool) (g : Setting) (end : ℕ) where
   }
 
   -- some steps, and then others
-  pub goes_through : (w : World) (l m : Local) (outs more : List Out) (t : Goes logs g end w l outs) → Goes logs g end t.world m more → Goes logs g end w m (outs ++ more)
+  pub goes_through : (w : World) (l m : Local) (outs more : List Out) (t : Goes logs g end w l outs) → Goes logs g end t.world m more
+      → Goes logs g end w m (outs ++ more)
   goes_through w l m outs more t u = record {
     world = u.world;
     steps = steps_through w t.world u.world t.steps u.steps;
@@ -88,7 +93,8 @@ module _ (logs : Bool) (g : Setting) (end : ℕ) where
   }
 
   -- what is shown after some steps, in the epoch that reigns there
-  pub shown_on : (w : World) (acts : List Act) (l : Local) (outs : List Out) (t : Acts logs g end w acts l outs) → Shows g t.world.epoch l (t.world.client g.client)
+  pub shown_on : (w : World) (acts : List Act) (l : Local) (outs : List Out) (t : Acts logs g end w acts l outs)
+      → Shows g t.world.epoch l (t.world.client g.client)
   shown_on w acts l outs t = subst (λ e. Shows g e l (t.world.client g.client)) (sym (epoch_on w t.world t.frame)) t.shows
 
 -- a settled end stays the settled end where the ends do

@@ -44,7 +44,8 @@ module _ (logs : Bool) (g : Setting) (end : ℕ) (w : World) where
   Shown l = Shows g w.epoch l here
 
   pub drops_want-goes : (l : Local) → Shown l → To (record l { held = record l.held { want = None } }) []
-  drops_want-goes l s = acts_by logs g end w (drops_want w g.client) [] _ [] (record here { want = 0 }) (DropsWant g.client) refl refl refl (λ p is. is) (λ y is. is)
+  drops_want-goes l s =
+      acts_by logs g end w (drops_want w g.client) [] _ [] (record here { want = 0 }) (DropsWant g.client) refl refl refl (λ p is. is) (λ y is. is)
       (record {
         client = s.client;
         serving = s.serving;
@@ -61,7 +62,8 @@ module _ (logs : Bool) (g : Setting) (end : ℕ) (w : World) where
       }) tt
 
   pub drops_fetch-goes : (l : Local) → Shown l → To (record l { held = unfetched l.held }) []
-  drops_fetch-goes l s = acts_by logs g end w (drops_fetch w g.client) [] _ [] (record here { fetching = 0 }) (DropsFetch g.client) refl refl refl (λ p is. is) (λ y is. is)
+  drops_fetch-goes l s =
+      acts_by logs g end w (drops_fetch w g.client) [] _ [] (record here { fetching = 0 }) (DropsFetch g.client) refl refl refl (λ p is. is) (λ y is. is)
       (record {
         client = s.client;
         serving = s.serving;
@@ -104,7 +106,8 @@ module _ (logs : Bool) (g : Setting) (end : ℕ) (w : World) where
       let known = s.mode in let counted = s.counted in
       acts_by logs g end w (asks w g.client (rank mode) (l.req + 1) end) [] _ _ (record here { want = rank mode; request = l.req + 1 })
       (Asks g.client (rank mode) (l.req + 1) end
-      (record { client = s.client; serving = s.serving; some = some_rank mode some; upto_own = most_rank mode; less = omega arith; unused = omega arith }) settled)
+      (record { client = s.client; serving = s.serving; some = some_rank mode some; upto_own = most_rank mode; less = omega arith; unused = omega arith })
+      settled)
       refl refl refl (λ p is. inr is) (λ y is. is)
       (record {
         client = s.client;
@@ -122,7 +125,8 @@ module _ (logs : Bool) (g : Setting) (end : ℕ) (w : World) where
       }) (λ is. inl (ap (λ i. record { client = g.client; incarnation = i; request = l.req + 1; mode = rank mode; end = end }) (sym s.incarnation)), tt)
 
   -- an open want is sent again
-  pub asks_again-goes : (l : Local) (v : Wanted) → Shown l → l.held.want ≡ Some v → Premise logs (SettledEnd w g.client end) → To (record l { held = asked_again l.held v }) (Want g.block v.req (v.again + 1) v.mode ∷ [])
+  pub asks_again-goes : (l : Local) (v : Wanted) → Shown l → l.held.want ≡ Some v → Premise logs (SettledEnd w g.client end)
+      → To (record l { held = asked_again l.held v }) (Want g.block v.req (v.again + 1) v.mode ∷ [])
   asks_again-goes l v s is settled =
       let open_ : WantShown (Some v) here.want here.request = subst (λ o. WantShown o here.want here.request) is s.want in
       let most = some_rank v.mode open_.2 in let named = open_.0 in
@@ -150,7 +154,8 @@ module _ (logs : Bool) (g : Setting) (end : ℕ) (w : World) where
   meets l stamp inc req mode = (l.promised == stamp.epoch) && (inc == l.inc) && is_answer l.held stamp req mode
 
   -- they show that the offer may be taken, and is of the reigning epoch
-  pub taking : (l : Local) (stamp : Stamp) (inc req : ℕ) (mode : Mode) (entry : abstract_entry.Entry) → Shown l → w.epoch ≤ here.promised → SentOffer g.client w stamp inc req mode entry → meets l stamp inc req mode ≡ true
+  pub taking : (l : Local) (stamp : Stamp) (inc req : ℕ) (mode : Mode) (entry : abstract_entry.Entry) → Shown l → w.epoch ≤ here.promised
+      → SentOffer g.client w stamp inc req mode entry → meets l stamp inc req mode ≡ true
       → (stamp.epoch ≡ w.epoch) × MayTake w (offer_seen g.client stamp inc req mode entry) (rank mode)
   taking l stamp inc req mode entry s high sent t =
       let two = and_first ((l.promised == stamp.epoch) && (inc == l.inc)) (is_answer l.held stamp req mode) t in
@@ -164,14 +169,24 @@ module _ (logs : Bool) (g : Setting) (end : ℕ) (w : World) where
         seen.1,
         record {
           sent = sent.offered seen.1;
-          live = record { heard = seen.0; newer = seen.2; wanted = want.0; incarnation = s.incarnation ∙ sym s.boot ∙ sym boot; request = want.1; some = want.2 };
+          live = record {
+            heard = seen.0;
+            newer = seen.2;
+            wanted = want.0;
+            incarnation = s.incarnation ∙ sym s.boot ∙ sym boot;
+            request = want.1;
+            some = want.2;
+          };
           of_mode = refl;
         },
       )
 
   -- the stamp of what was taken is seen
-  stamping : (l : Local) (stamp : Stamp) (x : Client) → Shown l → stamp.epoch ≡ w.epoch → x.promised ≡ here.promised → x.stamp ≡ stamp.turn → Seen (node_seen l.promised stamp) x w.epoch
-  stamping l stamp x s reigns p q = restamped (node_seen l.promised stamp) (record here { stamp = stamp.turn }) x w.epoch p q (stamped (node_seen l.promised l.held.stamp) here w.epoch (stamp_seen stamp) s.stamps reigns)
+  stamping : (l : Local) (stamp : Stamp) (x : Client) → Shown l → stamp.epoch ≡ w.epoch → x.promised ≡ here.promised → x.stamp ≡ stamp.turn
+      → Seen (node_seen l.promised stamp) x w.epoch
+  stamping l stamp x s reigns p q =
+      restamped (node_seen l.promised stamp) (record here { stamp = stamp.turn }) x w.epoch p q
+      (stamped (node_seen l.promised l.held.stamp) here w.epoch (stamp_seen stamp) s.stamps reigns)
 
   -- ready to run on
   abbrev Run : List Out → Type 0
@@ -179,7 +194,8 @@ module _ (logs : Bool) (g : Setting) (end : ℕ) (w : World) where
 
   module _ (l : Local) (stamp : Stamp) (inc req : ℕ) (outs : List Out) (s : Shown l) (run : Run outs) (reigns : stamp.epoch ≡ w.epoch) where
     -- a copy of an absent version
-    pub absent-goes : (ver hop : ℕ) → MayTake w (offer_seen g.client stamp inc req Copy (located ver hop None)) 1 → To (record l { held = copied l.held stamp ver None }) outs
+    pub absent-goes : (ver hop : ℕ) → MayTake w (offer_seen g.client stamp inc req Copy (located ver hop None)) 1
+        → To (record l { held = copied l.held stamp ver None }) outs
     absent-goes ver hop may =
         let p = offer_seen g.client stamp inc req Copy (located ver hop None) in
         acts_by logs g end w (takes_value w p 0) [] _ outs _ (TakesAbsent p may (record { unplaced = refl })) refl refl refl (λ p is. is) (λ y is. is)
@@ -199,7 +215,9 @@ module _ (logs : Bool) (g : Setting) (end : ℕ) (w : World) where
         }) (run (takes_value w p 0))
 
     -- a copy that another client supplied
-    pub supplied-goes : (ver hop : ℕ) (place : Option Place) (value : Option (List ℕ)) → MayTake w (offer_seen g.client stamp inc req Copy (located ver hop place)) 1 → Premise logs (IsSupplied w (offer_seen g.client stamp inc req Copy (located ver hop place)) (g.number value))
+    pub supplied-goes : (ver hop : ℕ) (place : Option Place) (value : Option (List ℕ))
+        → MayTake w (offer_seen g.client stamp inc req Copy (located ver hop place)) 1
+        → Premise logs (IsSupplied w (offer_seen g.client stamp inc req Copy (located ver hop place)) (g.number value))
         → To (record l { held = copied l.held stamp ver value }) outs
     supplied-goes ver hop place value may is =
         let p = offer_seen g.client stamp inc req Copy (located ver hop place) in
@@ -220,7 +238,8 @@ module _ (logs : Bool) (g : Setting) (end : ℕ) (w : World) where
         }) (run (takes_value w p (g.number value)))
 
     -- a place, which is read first
-    pub place-goes : (ver hop : ℕ) (place : Place) → MayTake w (offer_seen g.client stamp inc req Copy (located ver hop (Some place))) 1 → To (record l { held = fetched_from l.held stamp ver place }) outs
+    pub place-goes : (ver hop : ℕ) (place : Place) → MayTake w (offer_seen g.client stamp inc req Copy (located ver hop (Some place))) 1
+        → To (record l { held = fetched_from l.held stamp ver place }) outs
     place-goes ver hop place may =
         let p = offer_seen g.client stamp inc req Copy (located ver hop (Some place)) in
         acts_by logs g end w (takes_place w p) [] _ outs _ (TakesPlace p may (record { placed = omega arith })) refl refl refl (λ p is. is) (λ y is. is)
@@ -240,11 +259,13 @@ module _ (logs : Bool) (g : Setting) (end : ℕ) (w : World) where
         }) (run (takes_place w p))
 
     -- owned, and written in the same event
-    pub first-goes : (ver hop : ℕ) (place : Option Place) (value : Option (List ℕ)) → MayTake w (offer_seen g.client stamp inc req Own (located ver hop place)) 2
+    pub first-goes : (ver hop : ℕ) (place : Option Place) (value : Option (List ℕ))
+        → MayTake w (offer_seen g.client stamp inc req Own (located ver hop place)) 2
         → Acts logs g end w (WroteBlock g.client (g.number value) ∷ []) (record l { held = written (owned l.held stamp ver) value }) outs
     first-goes ver hop place value may =
         let p = offer_seen g.client stamp inc req Own (located ver hop place) in
-        acts_by logs g end w (writes_first w p (g.number value)) (WroteBlock g.client (g.number value) ∷ []) _ outs _ (WritesFirst p (g.number value) may) refl refl refl (λ p is. is) (λ y is. is)
+        acts_by logs g end w (writes_first w p (g.number value)) (WroteBlock g.client (g.number value) ∷ []) _ outs _
+        (WritesFirst p (g.number value) may) refl refl refl (λ p is. is) (λ y is. is)
         (record {
           client = s.client;
           serving = s.serving;
@@ -261,7 +282,8 @@ module _ (logs : Bool) (g : Setting) (end : ℕ) (w : World) where
         }) (run (writes_first w p (g.number value)))
 
     -- owned, and let go unwritten
-    pub declines-goes : (ver hop : ℕ) (place : Option Place) → MayTake w (offer_seen g.client stamp inc req Own (located ver hop place)) 2 → To (record l { held = let_go (owned l.held stamp ver) }) outs
+    pub declines-goes : (ver hop : ℕ) (place : Option Place) → MayTake w (offer_seen g.client stamp inc req Own (located ver hop place)) 2
+        → To (record l { held = let_go (owned l.held stamp ver) }) outs
     declines-goes ver hop place may =
         let p = offer_seen g.client stamp inc req Own (located ver hop place) in
         acts_by logs g end w (declines w p) [] _ outs _ (Declines p may) refl refl refl (λ p is. is) (λ y is. is)
@@ -283,11 +305,13 @@ module _ (logs : Bool) (g : Setting) (end : ℕ) (w : World) where
   -- ---- what is held
 
   -- a read of the place ends
-  pub fetches-goes : (l : Local) (f : Fetch) (value : Option (List ℕ)) (outs : List Out) → Shown l → l.held.fetch ≡ Some f → Run outs → Premise logs (PlaceRead w g.client (g.number value)) → To (record l { held = fetch_ended l.held (Some f) value }) outs
+  pub fetches-goes : (l : Local) (f : Fetch) (value : Option (List ℕ)) (outs : List Out) → Shown l → l.held.fetch ≡ Some f → Run outs
+      → Premise logs (PlaceRead w g.client (g.number value)) → To (record l { held = fetch_ended l.held (Some f) value }) outs
   fetches-goes l f value outs s is run read =
       let open_ : FetchShown (Some f) here.fetching here.fetch = subst (λ o. FetchShown o here.fetching here.fetch) is s.fetch in
       let ver : here.fetch.version ≡ f.ver = ap (λ (e : abstract_entry.Entry). e.version) open_.1.1 in
-      acts_by logs g end w (fetches w g.client (g.number value)) [] _ outs _ (Fetches g.client (g.number value) (record { fetching = open_.0 }) read) refl refl refl (λ p is. is) (λ y is. is)
+      acts_by logs g end w (fetches w g.client (g.number value)) [] _ outs _
+      (Fetches g.client (g.number value) (record { fetching = open_.0 }) read) refl refl refl (λ p is. is) (λ y is. is)
       (record {
         client = s.client;
         serving = s.serving;
@@ -303,11 +327,13 @@ module _ (logs : Bool) (g : Setting) (end : ℕ) (w : World) where
         fetch = refl;
       }) (run (fetches w g.client (g.number value)))
 
-  pub writes-goes : (l : Local) (value : Option (List ℕ)) → Shown l → is_own l.held.mode ≡ true → Acts logs g end w (WroteBlock g.client (g.number value) ∷ []) (record l { held = written l.held value }) []
+  pub writes-goes : (l : Local) (value : Option (List ℕ)) → Shown l → is_own l.held.mode ≡ true
+      → Acts logs g end w (WroteBlock g.client (g.number value) ∷ []) (record l { held = written l.held value }) []
   writes-goes l value s own =
       let owns : here.mode ≡ 2 = s.mode ∙ own_rank l.held.mode own in
       let known = s.version in
-      acts_by logs g end w (writes w g.client (g.number value)) (WroteBlock g.client (g.number value) ∷ []) _ [] _ (Writes g.client (g.number value) (record { owns = owns })) refl refl refl (λ p is. is) (λ y is. is)
+      acts_by logs g end w (writes w g.client (g.number value)) (WroteBlock g.client (g.number value) ∷ []) _ [] _
+      (Writes g.client (g.number value) (record { owns = owns })) refl refl refl (λ p is. is) (λ y is. is)
       (record {
         client = s.client;
         serving = s.serving;
@@ -349,7 +375,8 @@ module _ (logs : Bool) (g : Setting) (end : ℕ) (w : World) where
   -- a recall of a dirty block is put off
   pub put_off-goes : (l : Local) (stamp : Stamp) (keep : Bool) (outs : List Out) → Shown l → Run outs → To (record l { held = put_off l.held stamp keep }) outs
   put_off-goes l stamp keep outs s run =
-      by_test (λ (h : Held). To (record l { held = h }) outs) (gives_after l.held.giving stamp) l.held (record l.held { giving = Some (record { stamp = stamp; keep = keep }) })
+      by_test (λ (h : Held). To (record l { held = h }) outs) (gives_after l.held.giving stamp) l.held
+      (record l.held { giving = Some (record { stamp = stamp; keep = keep }) })
       (λ t. goes_saying logs g end w l outs s (run w))
       (λ t. goes_saying logs g end w _ outs
       (record {
@@ -367,13 +394,17 @@ module _ (logs : Bool) (g : Setting) (end : ℕ) (w : World) where
         fetch = s.fetch;
       }) (run w))
 
-  pub gives-goes : (l : Local) (stamp : Stamp) (keep : Bool) → Shown l → w.epoch ≤ here.promised → SentRecall g.client w stamp keep → stamp.epoch ≡ l.promised → is_later stamp l.held.stamp ≡ true → is_dirty l.held ≡ false
+  pub gives-goes : (l : Local) (stamp : Stamp) (keep : Bool) → Shown l → w.epoch ≤ here.promised → SentRecall g.client w stamp keep → stamp.epoch ≡ l.promised
+      → is_later stamp l.held.stamp ≡ true → is_dirty l.held ≡ false
       → is_none l.held.fetch ≡ true → Premise logs (SettledEnd w g.client end) → To (record l { held = given_up l.held stamp keep }) (Gave g.block stamp ∷ [])
   gives-goes l stamp keep s high sent same later clean unfetched_ settled =
-      let seen = taken (node_seen l.promised l.held.stamp) here w.epoch (stamp_seen stamp) s.stamps high sent.low sent.some same (later_exceeds stamp l.held.stamp later) in
+      let seen = taken (node_seen l.promised l.held.stamp) here w.epoch (stamp_seen stamp) s.stamps high sent.low sent.some same
+      (later_exceeds stamp l.held.stamp later) in
       let r = recall_seen g.client stamp keep in
-      let step : Step logs w (gives w r end) = Gives r end (record { sent = sent.recalled seen.1; serving = s.serving; heard = seen.0; newer = seen.2; clean = cleaned l s clean }) settled in
-      by_test (λ (h : Held). To (record l { held = h }) (Gave g.block stamp ∷ [])) (keep && is_held l.held.mode) (record l.held { mode = Copy; stamp = stamp; giving = None }) (record l.held { mode = Nothing; value = None; stamp = stamp; giving = None })
+      let step : Step logs w (gives w r end) =
+      Gives r end (record { sent = sent.recalled seen.1; serving = s.serving; heard = seen.0; newer = seen.2; clean = cleaned l s clean }) settled in
+      by_test (λ (h : Held). To (record l { held = h }) (Gave g.block stamp ∷ [])) (keep && is_held l.held.mode)
+      (record l.held { mode = Copy; stamp = stamp; giving = None }) (record l.held { mode = Nothing; value = None; stamp = stamp; giving = None })
       (λ t. acts_by logs g end w (gives w r end) [] _ _ _ step refl refl refl (λ p is. is) (λ y is. inr is)
       (record {
         client = s.client;
@@ -405,14 +436,21 @@ module _ (logs : Bool) (g : Setting) (end : ℕ) (w : World) where
         fetch = unfetching l.held.fetch here.fetching here.fetch unfetched_ s.fetch;
       }) (λ is. (sent.low, inl refl), tt))
 
-  pub gives_again-goes : (l : Local) (stamp : Stamp) (keep : Bool) → Shown l → w.epoch ≤ here.promised → SentRecall g.client w stamp keep → stamp.epoch ≡ l.promised → stamp_seen l.held.stamp ≡ stamp_seen stamp
+  pub gives_again-goes : (l : Local) (stamp : Stamp) (keep : Bool) → Shown l → w.epoch ≤ here.promised → SentRecall g.client w stamp keep
+      → stamp.epoch ≡ l.promised → stamp_seen l.held.stamp ≡ stamp_seen stamp
       → Premise logs (SettledEnd w g.client end) → To l (Gave g.block stamp ∷ [])
   gives_again-goes l stamp keep s high sent same is settled =
       let p = s.stamps.promised in let low = sent.low in
       let reigns : stamp.epoch ≡ w.epoch = omega arith in
       let r = recall_seen g.client stamp keep in
       acts_by logs g end w (gives_again w r end) [] _ _ here
-      (GivesAgain r end (record { sent = sent.recalled reigns; serving = s.serving; heard = omega arith; equal = equal (node_seen l.promised l.held.stamp) here w.epoch (stamp_seen stamp) s.stamps high sent.low same is }) settled)
+      (GivesAgain r end
+      (record {
+        sent = sent.recalled reigns;
+        serving = s.serving;
+        heard = omega arith;
+        equal = equal (node_seen l.promised l.held.stamp) here w.epoch (stamp_seen stamp) s.stamps high sent.low same is;
+      }) settled)
       refl (sym (put_back w.client g.client)) refl (λ p is. is) (λ y is. inr is) s (λ is. (sent.low, inl refl), tt)
 
   -- ---- promises
@@ -420,7 +458,8 @@ module _ (logs : Bool) (g : Setting) (end : ℕ) (w : World) where
   pub promises-goes : (l : Local) (epoch : ℕ) → Shown l → l.promised ≤ epoch → To (record l { promised = epoch; held = promise_dropped l.held }) []
   promises-goes l epoch s rises =
       let p = s.stamps.promised in
-      acts_by logs g end w (promises w g.client epoch) [] _ [] _ (Promises g.client epoch (record { serving = s.serving; higher = omega arith })) refl refl refl (λ p is. is) (λ y is. is)
+      acts_by logs g end w (promises w g.client epoch) [] _ [] _ (Promises g.client epoch (record { serving = s.serving; higher = omega arith })) refl refl refl
+      (λ p is. is) (λ y is. is)
       (record {
         client = s.client;
         serving = s.serving;

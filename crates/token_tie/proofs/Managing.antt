@@ -53,18 +53,24 @@ by_nothing w = record { others = refl; offers = λ p is. is; recalls = λ r is. 
 pub by_through : (w v u : World) → ByManager w v → ByManager v u → ByManager w u
 by_through w v u p q = record { others = q.others ∙ p.others; offers = λ x is. q.offers x (p.offers x is); recalls = λ x is. q.recalls x (p.recalls x is) }
 
-pub offer_on : (client : ℕ) (w v : World) (stamp : Stamp) (inc req : ℕ) (mode : Mode) (entry : abstract_entry.Entry) → v.epoch ≡ w.epoch → ((p : packets.Offer) → In p w.offers → In p v.offers) → SentOffer client w stamp inc req mode entry → SentOffer client v stamp inc req mode entry
-offer_on client w v stamp inc req mode entry epoch grows s = record { low = let a = s.low in omega arith; some = s.some; offered = λ is. grows _ (s.offered (is ∙ epoch)) }
+pub offer_on : (client : ℕ) (w v : World) (stamp : Stamp) (inc req : ℕ) (mode : Mode) (entry : abstract_entry.Entry) → v.epoch ≡ w.epoch
+    → ((p : packets.Offer) → In p w.offers → In p v.offers) → SentOffer client w stamp inc req mode entry → SentOffer client v stamp inc req mode entry
+offer_on client w v stamp inc req mode entry epoch grows s =
+    record { low = let a = s.low in omega arith; some = s.some; offered = λ is. grows _ (s.offered (is ∙ epoch)) }
 
-pub recall_on : (client : ℕ) (w v : World) (stamp : Stamp) (keep : Bool) → v.epoch ≡ w.epoch → ((p : packets.Recall) → In p w.recalls → In p v.recalls) → SentRecall client w stamp keep → SentRecall client v stamp keep
+pub recall_on : (client : ℕ) (w v : World) (stamp : Stamp) (keep : Bool) → v.epoch ≡ w.epoch → ((p : packets.Recall) → In p w.recalls → In p v.recalls)
+    → SentRecall client w stamp keep → SentRecall client v stamp keep
 recall_on client w v stamp keep epoch grows s = record { low = let a = s.low in omega arith; some = s.some; recalled = λ is. grows _ (s.recalled (is ∙ epoch)) }
 
 -- what was said stays said
 pub told_on : (b : BlockId) (w v : World) (outs : List Out) → ByManager w v → AllTold b w outs → AllTold b v outs
 told_on b w v [] by h = tt
-told_on b w v (Grant client block at inc req mode entry ∷ os) by h = (λ is. offer_on client w v at inc req mode _ (ap (λ (u : World). u.epoch) by.others) by.offers (h.0 is), told_on b w v os by h.1)
-told_on b w v (Forward passer block at client inc req ver ∷ os) by h = (λ is. let t = h.0 is in (t.0, t.1, offer_on client w v at inc req Copy _ (ap (λ (u : World). u.epoch) by.others) by.offers t.2), told_on b w v os by h.1)
-told_on b w v (Recall client block at keep ∷ os) by h = (λ is. recall_on client w v at keep (ap (λ (u : World). u.epoch) by.others) by.recalls (h.0 is), told_on b w v os by h.1)
+told_on b w v (Grant client block at inc req mode entry ∷ os) by h =
+    (λ is. offer_on client w v at inc req mode _ (ap (λ (u : World). u.epoch) by.others) by.offers (h.0 is), told_on b w v os by h.1)
+told_on b w v (Forward passer block at client inc req ver ∷ os) by h =
+    (λ is. let t = h.0 is in (t.0, t.1, offer_on client w v at inc req Copy _ (ap (λ (u : World). u.epoch) by.others) by.offers t.2), told_on b w v os by h.1)
+told_on b w v (Recall client block at keep ∷ os) by h =
+    (λ is. recall_on client w v at keep (ap (λ (u : World). u.epoch) by.others) by.recalls (h.0 is), told_on b w v os by h.1)
 told_on b w v (Applied log upto ∷ os) by h = (tt, told_on b w v os by h.1)
 told_on b w v (Live entry ∷ os) by h = (tt, told_on b w v os by h.1)
 told_on b w v (Dead ∷ os) by h = (tt, told_on b w v os by h.1)
@@ -95,18 +101,23 @@ none_least None h = refl
 none_least (Some x) h = contrary (sym h)
 
 -- the asker is believed to have what it had and what it wants
-asker_has : (bs : List (Holder × Bool)) (ask : Wanted) (n : ℕ) → is_nothing ask.mode ≡ false → n ≤ share_of bs ask.block ask.client → max n (rank ask.mode) ≤ share_of (want_met bs ask) ask.block ask.client
+asker_has : (bs : List (Holder × Bool)) (ask : Wanted) (n : ℕ) → is_nothing ask.mode ≡ false → n ≤ share_of bs ask.block ask.client
+    → max n (rank ask.mode) ≤ share_of (want_met bs ask) ask.block ask.client
 asker_has bs ask n something less =
     let h = holder ask.block ask.client in
     let most : manager.share (belief bs h) ≤ 2 = most_rank (belief bs h) in
     let named : rank ask.mode ≡ wanted_share ask.mode = rank_wanted ask.mode something in
-    let itself = λ (t : Bool) (es : List (Holder × Bool)). lookup-insert_entry holder_cmp_total h h t es ∙ ap (λ c. cond c (Some t) (belief es h)) (holder_laws.refl h) in
+    let itself = λ (t : Bool) (es : List (Holder × Bool)). lookup-insert_entry holder_cmp_total h h t es
+    ∙ ap (λ c. cond c (Some t) (belief es h)) (holder_laws.refl h) in
     elim (is_own ask.mode) as (λ t. is_own ask.mode ≡ t → max n (rank ask.mode) ≤ manager.share (belief (cond t (owned_by bs h) (held_by bs h)) h)) [
-      | true ↦ λ own. let two : manager.share (belief (owned_by bs h) h) ≡ 2 = ap manager.share (itself true (without_block bs h.block)) in let one = rank_own ask.mode own in at_most n (rank ask.mode) _ (omega arith) (omega arith)
+      | true ↦ λ own. let two : manager.share (belief (owned_by bs h) h) ≡ 2 = ap manager.share (itself true (without_block bs h.block)) in let one =
+          rank_own ask.mode own in at_most n (rank ask.mode) _ (omega arith) (omega arith)
       | false ↦ λ copy. let one : rank ask.mode ≡ 1 = rank_copy ask.mode something copy in
-          elim (is_some (belief bs h)) as (λ t. is_some (belief bs h) ≡ t → max n (rank ask.mode) ≤ manager.share (belief (cond t bs (insert_entry holder_cmp bs h false)) h)) [
+          elim (is_some (belief bs h)) as
+          (λ t. is_some (belief bs h) ≡ t → max n (rank ask.mode) ≤ manager.share (belief (cond t bs (insert_entry holder_cmp bs h false)) h)) [
             | true ↦ λ some. let there = some_most (belief bs h) some in at_most n (rank ask.mode) _ less (omega arith)
-            | false ↦ λ none. let new : manager.share (belief (insert_entry holder_cmp bs h false) h) ≡ 1 = ap manager.share (itself false bs) in let old = none_least (belief bs h) none in at_most n (rank ask.mode) _ (omega arith) (omega arith)
+            | false ↦ λ none. let new : manager.share (belief (insert_entry holder_cmp bs h false) h) ≡ 1 = ap manager.share (itself false bs) in let old =
+                none_least (belief bs h) none in at_most n (rank ask.mode) _ (omega arith) (omega arith)
           ] refl
     ] refl
   where
@@ -124,7 +135,8 @@ asker_has bs ask n something less =
     at_most a b c p q = grind (arith, nat_tests)
 
 -- of the others nobody has less where the asker wants a copy
-others_have : (bs : List (Holder × Bool)) (ask : Wanted) (d : ℕ) → (d ≡ ask.client → ⊥) → is_own ask.mode ≡ false → share_of bs ask.block d ≤ share_of (want_met bs ask) ask.block d
+others_have : (bs : List (Holder × Bool)) (ask : Wanted) (d : ℕ) → (d ≡ ask.client → ⊥) → is_own ask.mode ≡ false
+    → share_of bs ask.block d ≤ share_of (want_met bs ask) ask.block d
 others_have bs ask d other copy =
     let h = holder ask.block ask.client in
     let q = holder ask.block d in
@@ -132,7 +144,8 @@ others_have bs ask d other copy =
     subst (λ t. share_of bs ask.block d ≤ share_of (cond t (owned_by bs h) (held_by bs h)) ask.block d) (sym copy)
     (elim (is_some (belief bs h)) as (λ t. manager.share (belief bs q) ≤ manager.share (belief (cond t bs (insert_entry holder_cmp bs h false)) q)) [
       | true ↦ omega arith
-      | false ↦ subst (λ o. manager.share (belief bs q) ≤ manager.share o) (sym (lookup-insert_entry holder_cmp_total q h false bs)) (stays (eq_by_cmp holder_cmp q h) (belief bs q) apart)
+      | false ↦ subst (λ o. manager.share (belief bs q) ≤ manager.share o) (sym (lookup-insert_entry holder_cmp_total q h false bs))
+          (stays (eq_by_cmp holder_cmp q h) (belief bs q) apart)
     ])
   where
     stays : (t : Bool) (o : Option Bool) → (t ≡ true → ⊥) → manager.share o ≤ manager.share (cond t (Some false) o)
@@ -154,7 +167,8 @@ module _ (logs : Bool) where
   turning w (suc n) = let e : suc (w.turn + n) ≡ w.turn + suc n = omega arith in let t = turning w n in subst (Turning w) e (More t.0 Turns, t.1)
 
   -- the slot speaks of another block
-  pub turns-runs : (b : BlockId) (w : World) (s : SlotState) (d : Done) (n : ℕ) → Manages b s w → d.state.epoch ≡ s.epoch → d.state.turn ≡ s.turn + n → ((c : ℕ) → share_of s.beliefs b c ≤ share_of d.state.beliefs b c)
+  pub turns-runs : (b : BlockId) (w : World) (s : SlotState) (d : Done) (n : ℕ) → Manages b s w → d.state.epoch ≡ s.epoch → d.state.turn ≡ s.turn + n
+      → ((c : ℕ) → share_of s.beliefs b c ≤ share_of d.state.beliefs b c)
       → d.state.applied ≡ s.applied → d.state.index ≡ s.index → job_at d.state.jobs b ≡ job_at s.jobs b → ((v : World) → AllTold b v d.outs) → Runs logs b w d
   turns-runs b w s d n m epoch turn belief_ applied index jobs told = record {
     world = record w { turn = w.turn + n };
@@ -167,18 +181,45 @@ module _ (logs : Bool) where
       belief = λ c. let x = m.belief c in let y = belief_ c in omega arith;
       applied = λ c some. m.applied c some ∙ ap (λ xs. applied_of xs c) (sym applied);
       index = m.index ∙ ap (λ i. entry_seen (entry_at (record s { index = i }) b)) (sym index);
-      job = subst (λ o. JobShown o d.state.epoch w.awaited w.keep w.owed w.applied w.wants w.recalls) (sym jobs) (subst (λ e. JobShown (job_at s.jobs b) e w.awaited w.keep w.owed w.applied w.wants w.recalls) (sym epoch) m.job);
+      job = subst (λ o. JobShown o d.state.epoch w.awaited w.keep w.owed w.applied w.wants w.recalls) (sym jobs)
+          (subst (λ e. JobShown (job_at s.jobs b) e w.awaited w.keep w.owed w.applied w.wants w.recalls) (sym epoch) m.job);
     };
     told = told (record w { turn = w.turn + n });
   }
 
   -- ---- answers
 
-  told-answer : (v : World) (s : SlotState) (ask : Wanted) (from : List ℕ) → (is_own ask.mode ≡ true → from ≡ []) → is_nothing ask.mode ≡ false → s.epoch ≡ v.epoch
-      → In (record { client = ask.client; stamp = s.turn + 1; incarnation = ask.inc; request = ask.req; mode = rank ask.mode; entry = entry_seen (entry_at s ask.block) }) v.offers → AllTold ask.block v (answer s ask from ∷ [])
+  told-answer : (v : World) (s : SlotState) (ask : Wanted) (from : List ℕ) → (is_own ask.mode ≡ true → from ≡ []) → is_nothing ask.mode ≡ false
+      → s.epoch ≡ v.epoch
+      → In (record {
+        client = ask.client;
+        stamp = s.turn + 1;
+        incarnation = ask.inc;
+        request = ask.req;
+        mode = rank ask.mode;
+        entry = entry_seen (entry_at s ask.block);
+      }) v.offers → AllTold ask.block v (answer s ask from ∷ [])
   told-answer v s ask [] none something epoch is = (λ same. record { low = omega arith; some = omega arith; offered = λ _. is }, tt)
-  told-answer v s ask (c ∷ cs) none something epoch is =
-      (λ same. (entry_at s ask.block, refl, record { low = omega arith; some = omega arith; offered = λ _. subst (λ n. In (record { client = ask.client; stamp = s.turn + 1; incarnation = ask.inc; request = ask.req; mode = n; entry = entry_seen (entry_at s ask.block) }) v.offers) (rank_copy ask.mode something (copy (is_own ask.mode) none)) is }), tt)
+  told-answer v s ask (c ∷ cs) none something epoch is = (
+    λ same. (
+      entry_at s ask.block,
+      refl,
+      record {
+        low = omega arith;
+        some = omega arith;
+        offered = λ _. subst
+            (λ n. In (record {
+              client = ask.client;
+              stamp = s.turn + 1;
+              incarnation = ask.inc;
+              request = ask.req;
+              mode = n;
+              entry = entry_seen (entry_at s ask.block);
+            }) v.offers) (rank_copy ask.mode something (copy (is_own ask.mode) none)) is;
+      },
+    ),
+    tt,
+  )
     where
       copy : (t : Bool) → (t ≡ true → (c ∷ cs) ≡ []) → t ≡ false
       copy true h = absurd (let e : (c ∷ cs) ≡ [] = h refl in cc)
@@ -188,7 +229,8 @@ module _ (logs : Bool) where
   no_passers s ask own = ap (λ t. cond (t || not (ask.again == 0)) [] (others s.beliefs ask.block ask.client false)) own
 
   -- a want that need not wait is answered
-  pub finished-runs : (w : World) (s : SlotState) (ask : Wanted) (end : ℕ) → Manages ask.block s w → job_at s.jobs ask.block ≡ None → is_nothing ask.mode ≡ false → LeavesRoom s.beliefs ask → In (want_seen ask end) w.wants → end ≤ w.applied ask.client
+  pub finished-runs : (w : World) (s : SlotState) (ask : Wanted) (end : ℕ) → Manages ask.block s w → job_at s.jobs ask.block ≡ None
+      → is_nothing ask.mode ≡ false → LeavesRoom s.beliefs ask → In (want_seen ask end) w.wants → end ≤ w.applied ask.client
       → Runs logs ask.block w (finished s ask)
   finished-runs w s ask end m none something room asked asker =
       let p = want_seen ask end in
@@ -198,19 +240,22 @@ module _ (logs : Bool) where
       let turn : s.turn + 1 ≡ suc w.turn = let t = m.turn in omega arith in
       record {
         world = steps.offers w p;
-        steps = More Ended (Offers p (record { sent = asked; settled = idle.nothing ask.client; fits = fits }) (ends logs (record { asker = asker; givers = idle.paid })));
+        steps = More Ended
+            (Offers p (record { sent = asked; settled = idle.nothing ask.client; fits = fits }) (ends logs (record { asker = asker; givers = idle.paid })));
         quiet = refl;
         frame = record { others = refl; offers = λ x is. inr is; recalls = λ x is. is };
         shows = record {
           epoch = m.epoch;
           turn = turn;
-          belief = put_each (λ d n. n ≤ share_of (want_met s.beliefs ask) ask.block d) w.belief ask.client (max (w.belief ask.client) (rank ask.mode)) (asker_has s.beliefs ask (w.belief ask.client) something (m.belief ask.client))
+          belief = put_each (λ d n. n ≤ share_of (want_met s.beliefs ask) ask.block d) w.belief ask.client (max (w.belief ask.client) (rank ask.mode))
+              (asker_has s.beliefs ask (w.belief ask.client) something (m.belief ask.client))
               (λ d other. elsewhere d other (is_own ask.mode) refl (fits d other));
           applied = m.applied;
           index = m.index;
           job = m.job;
         };
-        told = told-answer (steps.offers w p) s ask (passers s ask) (no_passers s ask) something m.epoch (inl (λ i. record { client = ask.client; stamp = turn i; incarnation = ask.inc; request = ask.req; mode = rank ask.mode; entry = sym m.index i }));
+        told = told-answer (steps.offers w p) s ask (passers s ask) (no_passers s ask) something m.epoch
+            (inl (λ i. record { client = ask.client; stamp = turn i; incarnation = ask.inc; request = ask.req; mode = rank ask.mode; entry = sym m.index i }));
       }
     where
       ends : (t : Bool) → EndsApplied w (want_seen ask end) → Premise t (EndsApplied w (want_seen ask end))
@@ -222,7 +267,8 @@ module _ (logs : Bool) where
       two Copy h = contrary h
       two Own h = refl
 
-      elsewhere : (d : ℕ) → (d ≡ ask.client → ⊥) → (t : Bool) → is_own ask.mode ≡ t → w.belief d + rank ask.mode ≤ 2 → w.belief d ≤ share_of (want_met s.beliefs ask) ask.block d
+      elsewhere : (d : ℕ) → (d ≡ ask.client → ⊥) → (t : Bool) → is_own ask.mode ≡ t → w.belief d + rank ask.mode ≤ 2
+          → w.belief d ≤ share_of (want_met s.beliefs ask) ask.block d
       elsewhere d other true own fits = let n = two ask.mode own in omega arith
       elsewhere d other false copy fits = let x = m.belief d in let y = others_have s.beliefs ask d other copy in omega arith
 
@@ -241,7 +287,8 @@ module _ (logs : Bool) where
     each : AllAwaited keeps epoch world.awaited world.keep world.recalls (recalls epoch turn keeps cs)
     told : AllTold b world (sent b (recalls epoch turn keeps cs))
 
-  recalling : (b : BlockId) (keeps : Bool) (epoch turn : ℕ) (w : World) (cs : List ℕ) → Once cs → turn ≡ w.turn → epoch ≡ w.epoch → Recalled keeps b epoch turn w cs
+  recalling : (b : BlockId) (keeps : Bool) (epoch turn : ℕ) (w : World) (cs : List ℕ) → Once cs → turn ≡ w.turn → epoch ≡ w.epoch
+      → Recalled keeps b epoch turn w cs
   recalling b keeps epoch turn w [] once is reigns = record {
     world = w;
     steps = Ended;
@@ -268,7 +315,10 @@ module _ (logs : Bool) where
         frame = by_through w v r.world (record { others = refl; offers = λ x is. is; recalls = λ x is. inr is }) r.frame;
         same = r.same;
         turned = let t = r.turned in omega arith;
-        others = λ d no. (let o = r.others d (λ h. no (contains_rest c d cs h)) in let other : d ≡ c → ⊥ = λ e. no (subst (Contains (c ∷ cs)) (sym e) (contains_first c cs)) in (o.0 ∙ put_there w.awaited c (suc w.turn) d other, o.1 ∙ put_there w.keep c (kept keeps) d other));
+        others = λ d no.
+            (let o = r.others d (λ h. no (contains_rest c d cs h)) in let other : d ≡ c
+            → ⊥ = λ e. no (subst (Contains (c ∷ cs)) (sym e) (contains_first c cs)) in
+            (o.0 ∙ put_there w.awaited c (suc w.turn) d other, o.1 ∙ put_there w.keep c (kept keeps) d other));
         only = λ d some. ⊎_elim (λ s. first d s) (λ a. inr (inr a)) (r.only d some);
         each = (
           (λ none. record {
@@ -279,7 +329,14 @@ module _ (logs : Bool) where
           }),
           r.each,
         );
-        told = (λ same. record { low = let e : r.world.epoch ≡ w.epoch = ap (λ (u : World). u.epoch) r.same in omega arith; some = omega arith; recalled = λ _. subst (λ n. In (record { client = c; stamp = n; keep = kept keeps }) r.world.recalls) (sym next) sent_ }, r.told);
+        told = (
+          λ same. record {
+            low = let e : r.world.epoch ≡ w.epoch = ap (λ (u : World). u.epoch) r.same in omega arith;
+            some = omega arith;
+            recalled = λ _. subst (λ n. In (record { client = c; stamp = n; keep = kept keeps }) r.world.recalls) (sym next) sent_;
+          },
+          r.told,
+        );
       }
     where
       least : (t : Bool) → kept t ≤ 1
@@ -287,10 +344,12 @@ module _ (logs : Bool) where
       least false = omega arith
 
       first : (d : ℕ) → 0 < put w.awaited c (suc w.turn) d → (0 < w.awaited d) ⊎ Awaits (recalls epoch turn keeps (c ∷ cs)) d
-      first d = put_each (λ x n. 0 < n → (0 < w.awaited x) ⊎ Awaits (recalls epoch turn keeps (c ∷ cs)) x) w.awaited c (suc w.turn) (λ _. inr (inl (refl, refl))) (λ x other some. inl some) d
+      first d = put_each (λ x n. 0 < n → (0 < w.awaited x) ⊎ Awaits (recalls epoch turn keeps (c ∷ cs)) x) w.awaited c (suc w.turn)
+          (λ _. inr (inl (refl, refl))) (λ x other some. inl some) d
 
   -- a want that waits: a recall to each of these clients
-  pub recalled-runs : (w : World) (s : SlotState) (ask : Wanted) (end : ℕ) (cs : List ℕ) → Manages ask.block s w → job_at s.jobs ask.block ≡ None → is_nothing ask.mode ≡ false → Once cs → In (want_seen ask end) w.wants → end ≤ w.applied ask.client
+  pub recalled-runs : (w : World) (s : SlotState) (ask : Wanted) (end : ℕ) (cs : List ℕ) → Manages ask.block s w → job_at s.jobs ask.block ≡ None
+      → is_nothing ask.mode ≡ false → Once cs → In (want_seen ask end) w.wants → end ≤ w.applied ask.client
       → Runs logs ask.block w (recalled s ask cs)
   recalled-runs w s ask end cs m none something once asked asker =
       let b = ask.block in
@@ -299,7 +358,8 @@ module _ (logs : Bool) where
       let r = recalling b keeps s.epoch s.turn w cs once m.turn m.epoch in
       let v = r.world in
       let j : Job = record { want = ask; awaited = recalls s.epoch s.turn keeps cs } in
-      let mine : job_at (insert_entry block_cmp s.jobs b j) b ≡ Some j = lookup-insert_entry block_cmp_total b b j s.jobs ∙ ap (λ t. cond t (Some j) (job_at s.jobs b)) (block_laws.refl b) in
+      let mine : job_at (insert_entry block_cmp s.jobs b j) b ≡ Some j =
+      lookup-insert_entry block_cmp_total b b j s.jobs ∙ ap (λ t. cond t (Some j) (job_at s.jobs b)) (block_laws.refl b) in
       let owed : (d : ℕ) → v.owed d ≡ w.owed d = λ d. ap (λ (u : World). u.owed d) r.same in
       let applied : (d : ℕ) → v.applied d ≡ w.applied d = λ d. ap (λ (u : World). u.applied d) r.same in
       record {

@@ -34,7 +34,10 @@ ask-mode : (g : Setting) (u : TokensState) (block : BlockId) → (held_of (ask_c
 unfolding new_want
 ask-mode g u block =
     by_test (λ (d : Done). (held_of d.state.blocks g.block).mode ≡ (held_of u.blocks g.block).mode) (nat_lt u.req (2 ^ 32 - 1))
-    (record { state = record (with_held u block (asked (held_of u.blocks block) (u.req + 1) Copy)) { req = u.req + 1 }; outs = Want block (u.req + 1) 0 Copy ∷ [] }) (still u)
+    (record {
+      state = record (with_held u block (asked (held_of u.blocks block) (u.req + 1) Copy)) { req = u.req + 1 };
+      outs = Want block (u.req + 1) 0 Copy ∷ [];
+    }) (still u)
     (λ t. put_same (λ (h : Held). h.mode) g.block block (asked (held_of u.blocks block) (u.req + 1) Copy) u.blocks refl) (λ t. refl)
 
 -- past the end nothing is set
@@ -48,30 +51,37 @@ abbrev Unheld : Setting → TokensState → BlockId → Type 0
 Unheld g u k = k ≡ g.block → is_held (held_of u.blocks g.block).mode ≡ false
 
 module _ (logs : Bool) (g : Setting) (end : ℕ) where
-  one-asks : (v : World) (u : TokensState) (block : BlockId) → Shows g v.epoch (local_of u g.block) (v.client g.client) → Premise logs (SettledEnd v g.client end) → Unheld g u block → Took logs g end v (ask_copy u block)
+  one-asks : (v : World) (u : TokensState) (block : BlockId) → Shows g v.epoch (local_of u g.block) (v.client g.client)
+      → Premise logs (SettledEnd v g.client end) → Unheld g u block → Took logs g end v (ask_copy u block)
   one-asks v u block shows settled_ unheld =
       at_block g (λ k. Unheld g u k → Took logs g end v (ask_copy u k))
       (λ free. let none = unheld_rank (held_of u.blocks g.block).mode (free refl) in ask-there logs g end v u Copy shows settled_ refl (omega arith))
       (λ k other free. apart_took g logs end v u (ask_copy u k) (ask-apart g k other u Copy) shows) block unheld
 
-  asks-took : (v : World) (u : TokensState) (blocks : List BlockId) → Shows g v.epoch (local_of u g.block) (v.client g.client) → Premise logs (SettledEnd v g.client end) → Each (Unheld g u) blocks → Took logs g end v (steps ask_copy u blocks)
+  asks-took : (v : World) (u : TokensState) (blocks : List BlockId) → Shows g v.epoch (local_of u g.block) (v.client g.client)
+      → Premise logs (SettledEnd v g.client end) → Each (Unheld g u) blocks → Took logs g end v (steps ask_copy u blocks)
   asks-took v u [] shows settled_ free = goes_nowhere logs g end v (local_of u g.block) shows
   asks-took v u (b ∷ bs) shows settled_ free =
       let d = ask_copy u b in
       let t = one-asks v u b shows settled_ free.0 in
       let rest_ = Each-weaker (Unheld g u) (Unheld g d.state) (λ k f is. ap is_held (ask-mode g u b) ∙ f is) bs free.1 in
-      goes_through logs g end v (local_of d.state g.block) _ d.outs _ t (asks-took t.world d.state bs (shown_on logs g end v [] (local_of d.state g.block) d.outs t) (end_on logs v t.world g.client end t.frame settled_) rest_)
+      goes_through logs g end v (local_of d.state g.block) _ d.outs _ t
+      (asks-took t.world d.state bs (shown_on logs g end v [] (local_of d.state g.block) d.outs t) (end_on logs v t.world g.client end t.frame settled_) rest_)
 
-  one-again : (v : World) (u : TokensState) (block : BlockId) → Shows g v.epoch (local_of u g.block) (v.client g.client) → Premise logs (SettledEnd v g.client end) → Took logs g end v (ask_again u block)
+  one-again : (v : World) (u : TokensState) (block : BlockId) → Shows g v.epoch (local_of u g.block) (v.client g.client)
+      → Premise logs (SettledEnd v g.client end) → Took logs g end v (ask_again u block)
   one-again v u block shows settled_ =
-      at_block g (λ k. Took logs g end v (ask_again u k)) (ask_again-there logs g end v u shows settled_) (λ k other. apart_took g logs end v u (ask_again u k) (ask_again-apart g k other u) shows) block
+      at_block g (λ k. Took logs g end v (ask_again u k)) (ask_again-there logs g end v u shows settled_)
+      (λ k other. apart_took g logs end v u (ask_again u k) (ask_again-apart g k other u) shows) block
 
-  agains-took : (v : World) (u : TokensState) (blocks : List BlockId) → Shows g v.epoch (local_of u g.block) (v.client g.client) → Premise logs (SettledEnd v g.client end) → Took logs g end v (steps ask_again u blocks)
+  agains-took : (v : World) (u : TokensState) (blocks : List BlockId) → Shows g v.epoch (local_of u g.block) (v.client g.client)
+      → Premise logs (SettledEnd v g.client end) → Took logs g end v (steps ask_again u blocks)
   agains-took v u [] shows settled_ = goes_nowhere logs g end v (local_of u g.block) shows
   agains-took v u (b ∷ bs) shows settled_ =
       let d = ask_again u b in
       let t = one-again v u b shows settled_ in
-      goes_through logs g end v (local_of d.state g.block) _ d.outs _ t (agains-took t.world d.state bs (shown_on logs g end v [] (local_of d.state g.block) d.outs t) (end_on logs v t.world g.client end t.frame settled_))
+      goes_through logs g end v (local_of d.state g.block) _ d.outs _ t
+      (agains-took t.world d.state bs (shown_on logs g end v [] (local_of d.state g.block) d.outs t) (end_on logs v t.world g.client end t.frame settled_))
 
   module _ (w : World) (s : TokensState) (r : laws.Ready logs g end w s) where
     abbrev h : Held
@@ -88,7 +98,9 @@ module _ (logs : Bool) (g : Setting) (end : ℕ) where
 
     pub on_tick-took : At (on_tick s)
     unfolding on_tick
-    on_tick-took = by_test At (list_any (λ h. is_spent h.want) (values_of s.blocks)) (still s) (steps ask_again s (wanted_in s.blocks)) (λ t. stays) (λ t. agains-took w s (wanted_in s.blocks) r.shows r.settled)
+    on_tick-took =
+        by_test At (list_any (λ h. is_spent h.want) (values_of s.blocks)) (still s) (steps ask_again s (wanted_in s.blocks)) (λ t. stays)
+        (λ t. agains-took w s (wanted_in s.blocks) r.shows r.settled)
 
     -- what is known of the block once its slot, or another, is promised
     promised-known : (slot epoch : ℕ) → nat_le (epoch_of s.epochs slot) epoch ≡ true → At (still (raised s slot epoch))
@@ -96,7 +108,8 @@ module _ (logs : Bool) (g : Setting) (end : ℕ) where
         elim (is_in_slot slot g.block) as (λ t. is_in_slot slot g.block ≡ t → At (still (raised s slot epoch))) [
           | true ↦ λ is. inside (nat_lt slot (length s.epochs)) refl is
           | false ↦ λ is.
-              let now : epoch_of (slice_set s.epochs slot epoch) (slot_of g.block.ino.0) ≡ l.promised = get_or-set_other s.epochs slot (slot_of g.block.ino.0) epoch 0 (apart (slot_of g.block.ino.0) slot is) in
+              let now : epoch_of (slice_set s.epochs slot epoch) (slot_of g.block.ino.0) ≡ l.promised =
+              get_or-set_other s.epochs slot (slot_of g.block.ino.0) epoch 0 (apart (slot_of g.block.ino.0) slot is) in
               let kept_ : held_of (all_dropped_in slot s.blocks) g.block ≡ h = dropped-known s slot g.block ∙ ap (λ t. cond t (promise_dropped h) h) is in
               subst (λ (m : Local). Goes logs g end w m []) (λ i. record l { promised = sym now i; held = sym kept_ i }) stays
         ] refl
@@ -116,14 +129,20 @@ module _ (logs : Bool) (g : Setting) (end : ℕ) where
         inside : (t : Bool) → nat_lt slot (length s.epochs) ≡ t → is_in_slot slot g.block ≡ true → At (still (raised s slot epoch))
         inside true known is =
             let same : slot_of g.block.ino.0 ≡ slot = equal_numbers (slot_of g.block.ino.0) slot is in
-            let now : epoch_of (slice_set s.epochs slot epoch) (slot_of g.block.ino.0) ≡ epoch = ap (λ n. epoch_of (slice_set s.epochs slot epoch) n) same ∙ get_or-set_same s.epochs slot epoch 0 (less slot (length s.epochs) known) in
-            let dropped : held_of (all_dropped_in slot s.blocks) g.block ≡ promise_dropped h = dropped-known s slot g.block ∙ ap (λ t. cond t (promise_dropped h) h) is in
+            let now : epoch_of (slice_set s.epochs slot epoch) (slot_of g.block.ino.0) ≡ epoch =
+            ap (λ n. epoch_of (slice_set s.epochs slot epoch) n) same ∙ get_or-set_same s.epochs slot epoch 0 (less slot (length s.epochs) known) in
+            let dropped : held_of (all_dropped_in slot s.blocks) g.block ≡ promise_dropped h =
+            dropped-known s slot g.block ∙ ap (λ t. cond t (promise_dropped h) h) is in
             let before : l.promised ≡ epoch_of s.epochs slot = ap (epoch_of s.epochs) same in
-            subst (λ (m : Local). Goes logs g end w m []) (λ i. record l { promised = sym now i; held = sym dropped i }) (promises-goes logs g end w l epoch r.shows (lower l.promised (epoch_of s.epochs slot) epoch before rises))
+            subst (λ (m : Local). Goes logs g end w m []) (λ i. record l { promised = sym now i; held = sym dropped i })
+            (promises-goes logs g end w l epoch r.shows (lower l.promised (epoch_of s.epochs slot) epoch before rises))
         inside false unknown_ is =
-            let now : epoch_of (slice_set s.epochs slot epoch) (slot_of g.block.ino.0) ≡ l.promised = ap (λ xs. epoch_of xs (slot_of g.block.ino.0)) (set_past s.epochs slot epoch (past slot (length s.epochs) unknown_)) in
-            let dropped : held_of (all_dropped_in slot s.blocks) g.block ≡ promise_dropped h = dropped-known s slot g.block ∙ ap (λ t. cond t (promise_dropped h) h) is in
-            subst (λ (m : Local). Goes logs g end w m []) (λ i. record l { promised = sym now i; held = sym dropped i }) (drops_promised-goes logs g end w l r.shows)
+            let now : epoch_of (slice_set s.epochs slot epoch) (slot_of g.block.ino.0) ≡ l.promised =
+            ap (λ xs. epoch_of xs (slot_of g.block.ino.0)) (set_past s.epochs slot epoch (past slot (length s.epochs) unknown_)) in
+            let dropped : held_of (all_dropped_in slot s.blocks) g.block ≡ promise_dropped h =
+            dropped-known s slot g.block ∙ ap (λ t. cond t (promise_dropped h) h) is in
+            subst (λ (m : Local). Goes logs g end w m []) (λ i. record l { promised = sym now i; held = sym dropped i })
+            (drops_promised-goes logs g end w l r.shows)
 
     pub on_promise-took : (slot epoch : ℕ) → At (on_promise s slot epoch)
     unfolding on_promise
@@ -131,11 +150,17 @@ module _ (logs : Bool) (g : Setting) (end : ℕ) where
         let u = raised s slot epoch in
         let blocks = fetched_in slot s.blocks in
         let facts : Each (IsFetched s.blocks slot) blocks = fetched-facts s.blocks slot s.blocks (agrees-itself s.blocks r.sound.sorted) in
-        let mode : (held_of u.blocks g.block).mode ≡ h.mode = ap (λ (k : Held). k.mode) (dropped-known s slot g.block) ∙ by_test (λ (k : Held). k.mode ≡ h.mode) (is_in_slot slot g.block) (promise_dropped h) h (λ t. refl) (λ t. refl) in
-        let free : Each (Unheld g u) blocks = Each-weaker (IsFetched s.blocks slot) (Unheld g u) (λ k f is. ap is_held mode ∙ (r.sound.each g.block).fetch_unheld (subst (λ b. is_some (held_of s.blocks b).fetch ≡ true) is f.1)) blocks facts in
+        let mode : (held_of u.blocks g.block).mode ≡ h.mode =
+        ap (λ (k : Held). k.mode) (dropped-known s slot g.block)
+        ∙ by_test (λ (k : Held). k.mode ≡ h.mode) (is_in_slot slot g.block) (promise_dropped h) h (λ t. refl) (λ t. refl) in
+        let free : Each (Unheld g u) blocks =
+        Each-weaker (IsFetched s.blocks slot) (Unheld g u)
+        (λ k f is. ap is_held mode ∙ (r.sound.each g.block).fetch_unheld (subst (λ b. is_some (held_of s.blocks b).fetch ≡ true) is f.1)) blocks facts in
         by_test At (may_promise s slot epoch) (steps ask_copy u blocks) (still s)
         (λ may.
-        let rises = and_second (nat_lt slot 8) (nat_le (epoch_of s.epochs slot) epoch) (and_first (nat_lt slot 8 && nat_le (epoch_of s.epochs slot) epoch) (nat_le (length (fetched_in slot s.blocks)) (2 ^ 32 - 1 - s.req)) may) in
+        let rises = and_second (nat_lt slot 8) (nat_le (epoch_of s.epochs slot) epoch)
+        (and_first (nat_lt slot 8 && nat_le (epoch_of s.epochs slot) epoch) (nat_le (length (fetched_in slot s.blocks)) (2 ^ 32 - 1 - s.req)) may) in
         let t = promised-known slot epoch rises in
-        goes_through logs g end w (local_of u g.block) _ [] _ t (asks-took t.world u blocks (shown_on logs g end w [] (local_of u g.block) [] t) (end_on logs w t.world g.client end t.frame r.settled) free))
+        goes_through logs g end w (local_of u g.block) _ [] _ t
+        (asks-took t.world u blocks (shown_on logs g end w [] (local_of u g.block) [] t) (end_on logs w t.world g.client end t.frame r.settled) free))
         (λ _. stays)

@@ -23,11 +23,16 @@ use Rattle.xfs_base.specs.Stamps.{is_later}
 use Rattle.xfs_base.proofs.Booleans.{and_first, and_second, by_test, contrary}
 
 -- a Recall stays sent where only clients step
-sent_on : (g : Setting) (w v : World) (stamp : Stamp) (keep : Bool) → ByClient g.client w v → SentRecall g.client w stamp keep → SentRecall g.client v stamp keep
+sent_on : (g : Setting) (w v : World) (stamp : Stamp) (keep : Bool) → ByClient g.client w v → SentRecall g.client w stamp keep
+    → SentRecall g.client v stamp keep
 sent_on g w v stamp keep by sent =
     let epoch : v.epoch ≡ w.epoch = ap (λ (u : World). u.epoch) by.others in
     let low = sent.low in
-    record { low = omega arith; some = sent.some; recalled = λ is. subst (In (recall_seen g.client stamp keep)) (sym (ap (λ (u : World). u.recalls) by.others)) (sent.recalled (is ∙ epoch)) }
+    record {
+      low = omega arith;
+      some = sent.some;
+      recalled = λ is. subst (In (recall_seen g.client stamp keep)) (sym (ap (λ (u : World). u.recalls) by.others)) (sent.recalled (is ∙ epoch));
+    }
 
 none_or : {A : Type 0} (o : Option A) (b : Bool) → is_some o ≡ true → (is_none o || b) ≡ true → b ≡ true
 none_or None b some h = contrary some
@@ -45,17 +50,21 @@ one_stamp s t h =
 
 module _ (logs : Bool) (g : Setting) (end : ℕ) where
   -- a Recall above the stamp of a block without a fetch: given up where it is clean, put off where it is dirty
-  give-there : (v : World) (u : TokensState) (stamp : Stamp) (keep : Bool) → Shows g v.epoch (local_of u g.block) (v.client g.client) → v.epoch ≤ (local_of u g.block).promised → SentRecall g.client v stamp keep
-      → stamp.epoch ≡ (local_of u g.block).promised → is_later stamp (held_of u.blocks g.block).stamp ≡ true → is_none (held_of u.blocks g.block).fetch ≡ true → Premise logs (SettledEnd v g.client end)
+  give-there : (v : World) (u : TokensState) (stamp : Stamp) (keep : Bool) → Shows g v.epoch (local_of u g.block) (v.client g.client)
+      → v.epoch ≤ (local_of u g.block).promised → SentRecall g.client v stamp keep
+      → stamp.epoch ≡ (local_of u g.block).promised → is_later stamp (held_of u.blocks g.block).stamp ≡ true → is_none (held_of u.blocks g.block).fetch ≡ true
+      → Premise logs (SettledEnd v g.client end)
       → Took logs g end v (give u g.block stamp keep)
   unfolding give
   give-there v u stamp keep shows high sent same later unfetched_ settled_ =
       let h = held_of u.blocks g.block in
       let m = local_of u g.block in
       let p = shows.stamps.promised in
-      by_test (Took logs g end v) (is_dirty h) (record { state = with_held u g.block (put_off h stamp keep); outs = Flush g.block ∷ [] }) (record { state = with_held u g.block (given_up h stamp keep); outs = Gave g.block stamp ∷ [] })
+      by_test (Took logs g end v) (is_dirty h) (record { state = with_held u g.block (put_off h stamp keep); outs = Flush g.block ∷ [] })
+      (record { state = with_held u g.block (given_up h stamp keep); outs = Gave g.block stamp ∷ [] })
       (λ t. lifted logs g end v u (put_off h stamp keep) u.req _ (put_off-goes logs g end v m stamp keep (Flush g.block ∷ []) shows (λ x. (tt, tt))))
-      (λ t. lifted logs g end v u (given_up h stamp keep) u.req _ (gives-goes logs g end v m stamp keep shows (omega arith) sent same later t unfetched_ settled_))
+      (λ t. lifted logs g end v u (given_up h stamp keep) u.req _
+      (gives-goes logs g end v m stamp keep shows (omega arith) sent same later t unfetched_ settled_))
 
   module _ (w : World) (s : TokensState) (r : laws.Ready logs g end w s) where
     abbrev h : Held
@@ -71,7 +80,8 @@ module _ (logs : Bool) (g : Setting) (end : ℕ) where
     stays = goes_nowhere logs g end w l r.shows
 
     -- a Recall above the stamp: a fetch is dropped and asked for again, and then the block is given
-    recalled_above-here : (stamp : Stamp) (keep : Bool) → SentRecall g.client w stamp keep → stamp.epoch ≡ l.promised → is_later stamp h.stamp ≡ true → At (recalled_above s g.block stamp keep)
+    recalled_above-here : (stamp : Stamp) (keep : Bool) → SentRecall g.client w stamp keep → stamp.epoch ≡ l.promised → is_later stamp h.stamp ≡ true
+        → At (recalled_above s g.block stamp keep)
     unfolding recalled_above refetch new_want
     recalled_above-here stamp keep sent same later =
         let p = r.shows.stamps.promised in
@@ -80,7 +90,8 @@ module _ (logs : Bool) (g : Setting) (end : ℕ) where
         let gone : held_of dropped.blocks g.block ≡ unfetched h = held_of-put_itself g.block (unfetched h) s.blocks in
         let mine = asked (held_of dropped.blocks g.block) (s.req + 1) Copy in
         let u : TokensState = record (with_held dropped g.block mine) { req = s.req + 1 } in
-        let now : held_of u.blocks g.block ≡ asked (unfetched h) (s.req + 1) Copy = held_of-put_itself g.block mine dropped.blocks ∙ ap (λ (k : Held). asked k (s.req + 1) Copy) gone in
+        let now : held_of u.blocks g.block ≡ asked (unfetched h) (s.req + 1) Copy =
+        held_of-put_itself g.block mine dropped.blocks ∙ ap (λ (k : Held). asked k (s.req + 1) Copy) gone in
         let outs = Want g.block (s.req + 1) 0 Copy ∷ [] in
         let Given : Done → Type 0 = λ (d : Done). At (after d.outs (give d.state g.block stamp keep)) in
         by_test At (can_refetch s g.block) (after (refetch s g.block).outs (give (refetch s g.block).state g.block stamp keep)) (still s)
@@ -90,13 +101,15 @@ module _ (logs : Bool) (g : Setting) (end : ℕ) where
         let m = record l { held = unfetched h } in
         let one = drops_fetch-goes logs g end w l r.shows in
         let zero_ = unheld_rank h.mode ((r.sound.each g.block).fetch_unheld some) in
-        let two = asks-goes logs g end one.world m Copy (shown_on logs g end w [] m [] one) refl (omega arith) (end_on logs w one.world g.client end one.frame r.settled) in
+        let two = asks-goes logs g end one.world m Copy (shown_on logs g end w [] m [] one) refl (omega arith)
+        (end_on logs w one.world g.client end one.frame r.settled) in
         let both = goes_through logs g end w m (record m { req = s.req + 1; held = asked (unfetched h) (s.req + 1) Copy }) [] outs one two in
         let t : Goes logs g end w (local_of u g.block) outs = subst (λ k. Goes logs g end w (record l { req = s.req + 1; held = k }) outs) (sym now) both in
         let epoch = epoch_on logs g end w t.world t.frame in
         goes_through logs g end w (local_of u g.block) _ outs _ t
         (give-there t.world u stamp keep (shown_on logs g end w [] (local_of u g.block) outs t) (omega arith) (sent_on g w t.world stamp keep t.frame sent) same
-        (ap (λ (k : Held). is_later stamp k.stamp) now ∙ later) (ap (λ (k : Held). is_none k.fetch) now) (end_on logs w t.world g.client end t.frame r.settled)))
+        (ap (λ (k : Held). is_later stamp k.stamp) now ∙ later) (ap (λ (k : Held). is_none k.fetch) now)
+        (end_on logs w t.world g.client end t.frame r.settled)))
         (λ full. contrary (sym full ∙ none_or h.fetch (nat_lt s.req (2 ^ 32 - 1)) some room)))
         (λ none. give-there w s stamp keep r.shows (omega arith) sent same later (none_by h.fetch none) r.settled))
         (λ _. stays)
@@ -109,6 +122,7 @@ module _ (logs : Bool) (g : Setting) (end : ℕ) where
         by_test At (is_later stamp h.stamp) (recalled_above s g.block stamp keep) (recalled_again s g.block stamp)
         (λ later. recalled_above-here stamp keep sent epoch later)
         (λ _. by_test At (was_answered h stamp) (record { state = s; outs = Gave g.block stamp ∷ [] }) (still s)
-        (λ t. gives_again-goes logs g end w l stamp keep r.shows r.promised sent epoch (one_stamp h.stamp stamp (and_first ((h.stamp.epoch == stamp.epoch) && (h.stamp.turn == stamp.turn)) (is_none h.giving) t)) r.settled)
+        (λ t. gives_again-goes logs g end w l stamp keep r.shows r.promised sent epoch
+        (one_stamp h.stamp stamp (and_first ((h.stamp.epoch == stamp.epoch) && (h.stamp.turn == stamp.turn)) (is_none h.giving) t)) r.settled)
         (λ _. stays)))
         (λ _. stays)

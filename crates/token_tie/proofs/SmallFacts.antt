@@ -56,7 +56,8 @@ pub later_exceeds : (s t : Stamp) → is_later s t ≡ true → Exceeds (stamp_s
 later_exceeds s t h = grind (arith, nat_tests)
 
 -- an open want that an answer names
-pub wanted_rank : (o : Option Wanted) (req : ℕ) (mode : Mode) (want request : ℕ) → is_wanted o req mode ≡ true → WantShown o want request → (want ≡ rank mode) × (request ≡ req) × (0 < rank mode)
+pub wanted_rank : (o : Option Wanted) (req : ℕ) (mode : Mode) (want request : ℕ) → is_wanted o req mode ≡ true → WantShown o want request
+    → (want ≡ rank mode) × (request ≡ req) × (0 < rank mode)
 wanted_rank None req mode want request named shown = contrary named
 wanted_rank (Some v) req mode want request named shown =
     let same : rank v.mode ≡ rank mode = same_rank v.mode mode (and_second (v.req == req) (same_mode v.mode mode) named) in

@@ -80,33 +80,43 @@ not_or false false h = (refl, refl)
 
 module _ (logs : Bool) (g : Setting) (end : ℕ) where
   -- what is put is what is shown
-  pub acts_lifted : (w : World) (acts : List Act) (s : TokensState) (h : Held) (n : ℕ) (outs : List Out) → Acts logs g end w acts (record (local_of s g.block) { req = n; held = h }) outs
+  pub acts_lifted : (w : World) (acts : List Act) (s : TokensState) (h : Held) (n : ℕ) (outs : List Out)
+      → Acts logs g end w acts (record (local_of s g.block) { req = n; held = h }) outs
       → Acted logs g end w acts (record { state = record (with_held s g.block h) { req = n }; outs = outs })
-  acts_lifted w acts s h n outs t = subst (λ k. Acts logs g end w acts (record (local_of s g.block) { req = n; held = k }) outs) (sym (held_of-put_itself g.block h s.blocks)) t
+  acts_lifted w acts s h n outs t =
+      subst (λ k. Acts logs g end w acts (record (local_of s g.block) { req = n; held = k }) outs) (sym (held_of-put_itself g.block h s.blocks)) t
 
   pub lifted : (w : World) (s : TokensState) (h : Held) (n : ℕ) (outs : List Out) → Goes logs g end w (record (local_of s g.block) { req = n; held = h }) outs
       → Took logs g end w (record { state = record (with_held s g.block h) { req = n }; outs = outs })
   lifted w s h n outs t = acts_lifted w [] s h n outs t
 
   -- a want is asked, in any state that is shown
-  pub ask-there : (v : World) (u : TokensState) (mode : Mode) → Shows g v.epoch (local_of u g.block) (v.client g.client) → Premise logs (SettledEnd v g.client end) → is_held mode ≡ true → rank (held_of u.blocks g.block).mode < rank mode
+  pub ask-there : (v : World) (u : TokensState) (mode : Mode) → Shows g v.epoch (local_of u g.block) (v.client g.client)
+      → Premise logs (SettledEnd v g.client end) → is_held mode ≡ true → rank (held_of u.blocks g.block).mode < rank mode
       → Took logs g end v (new_want u g.block mode)
   unfolding new_want
   ask-there v u mode shows settled_ some less =
       let m = local_of u g.block in
-      by_test (Took logs g end v) (nat_lt u.req (2 ^ 32 - 1)) (record { state = record (with_held u g.block (asked m.held (u.req + 1) mode)) { req = u.req + 1 }; outs = Want g.block (u.req + 1) 0 mode ∷ [] }) (still u)
-      (λ t. lifted v u (asked m.held (u.req + 1) mode) (u.req + 1) _ (asks-goes logs g end v m mode shows some less settled_)) (λ t. goes_nowhere logs g end v m shows)
+      by_test (Took logs g end v) (nat_lt u.req (2 ^ 32 - 1))
+      (record { state = record (with_held u g.block (asked m.held (u.req + 1) mode)) { req = u.req + 1 }; outs = Want g.block (u.req + 1) 0 mode ∷ [] })
+      (still u)
+      (λ t. lifted v u (asked m.held (u.req + 1) mode) (u.req + 1) _ (asks-goes logs g end v m mode shows some less settled_))
+      (λ t. goes_nowhere logs g end v m shows)
 
   -- and so is one that is sent again
-  repeated-there : (v : World) (u : TokensState) (o : Option Wanted) → Shows g v.epoch (local_of u g.block) (v.client g.client) → Premise logs (SettledEnd v g.client end) → (held_of u.blocks g.block).want ≡ o → Took logs g end v (repeated u g.block o)
+  repeated-there : (v : World) (u : TokensState) (o : Option Wanted) → Shows g v.epoch (local_of u g.block) (v.client g.client)
+      → Premise logs (SettledEnd v g.client end) → (held_of u.blocks g.block).want ≡ o → Took logs g end v (repeated u g.block o)
   repeated-there v u None shows settled_ is = goes_nowhere logs g end v (local_of u g.block) shows
-  repeated-there v u (Some x) shows settled_ is = lifted v u (asked_again (held_of u.blocks g.block) x) u.req _ (asks_again-goes logs g end v (local_of u g.block) x shows is settled_)
+  repeated-there v u (Some x) shows settled_ is =
+      lifted v u (asked_again (held_of u.blocks g.block) x) u.req _ (asks_again-goes logs g end v (local_of u g.block) x shows is settled_)
 
-  pub ask_again-there : (v : World) (u : TokensState) → Shows g v.epoch (local_of u g.block) (v.client g.client) → Premise logs (SettledEnd v g.client end) → Took logs g end v (ask_again u g.block)
+  pub ask_again-there : (v : World) (u : TokensState) → Shows g v.epoch (local_of u g.block) (v.client g.client) → Premise logs (SettledEnd v g.client end)
+      → Took logs g end v (ask_again u g.block)
   unfolding ask_again
   ask_again-there v u shows settled_ =
       let o = (held_of u.blocks g.block).want in
-      by_test (Took logs g end v) (is_spent o) (still u) (repeated u g.block o) (λ t. goes_nowhere logs g end v (local_of u g.block) shows) (λ t. repeated-there v u o shows settled_ refl)
+      by_test (Took logs g end v) (is_spent o) (still u) (repeated u g.block o) (λ t. goes_nowhere logs g end v (local_of u g.block) shows)
+      (λ t. repeated-there v u o shows settled_ refl)
 
   module _ (w : World) (s : TokensState) (r : laws.Ready logs g end w s) where
     abbrev h : Held
@@ -128,12 +138,14 @@ module _ (logs : Bool) (g : Setting) (end : ℕ) where
     unfolding on_need
     on_need-here mode =
         by_test At (must_ask h mode) (new_want s g.block mode) (still s)
-        (λ t. let n = needed h.mode mode (not_true (allows h.mode mode) (and_second (not (is_asking h) && is_none h.giving) (not (allows h.mode mode)) t)) in asks-here mode n.0 n.1)
+        (λ t. let n = needed h.mode mode (not_true (allows h.mode mode) (and_second (not (is_asking h) && is_none h.giving) (not (allows h.mode mode)) t)) in
+        asks-here mode n.0 n.1)
         (λ t. stays)
 
     -- ---- grants and supplies
 
-    copied-here : (stamp : Stamp) (inc req ver hop : ℕ) (place : Option Place) → SentOffer g.client w stamp inc req Copy (located ver hop place) → meets logs g end w l stamp inc req Copy ≡ true
+    copied-here : (stamp : Stamp) (inc req ver hop : ℕ) (place : Option Place) → SentOffer g.client w stamp inc req Copy (located ver hop place)
+        → meets logs g end w l stamp inc req Copy ≡ true
         → Goes logs g end w (record l { held = copy_granted h stamp ver place }) (copy_next g.block place ∷ [])
     copied-here stamp inc req ver hop None sent t =
         let may = taking logs g end w l stamp inc req Copy (located ver hop None) r.shows r.promised sent t in
@@ -142,20 +154,27 @@ module _ (logs : Bool) (g : Setting) (end : ℕ) where
         let may = taking logs g end w l stamp inc req Copy (located ver hop (Some place)) r.shows r.promised sent t in
         place-goes logs g end w l stamp inc req (Read g.block place ∷ []) r.shows (λ v. (tt, tt)) may.0 ver hop place may.1
 
-    pub on_granted-here : (stamp : Stamp) (inc req : ℕ) (mode : Mode) (entry : Entry) → laws.GrantBrings g w stamp inc req g.block mode entry → At (on_granted s g.block stamp inc req mode entry)
+    pub on_granted-here : (stamp : Stamp) (inc req : ℕ) (mode : Mode) (entry : Entry) → laws.GrantBrings g w stamp inc req g.block mode entry
+        → At (on_granted s g.block stamp inc req mode entry)
     unfolding on_granted
     on_granted-here stamp inc req Nothing entry sent = absurd (sent refl)
     on_granted-here stamp inc req Own entry sent = absurd (sent refl)
     on_granted-here stamp inc req Copy entry sent =
-        by_test At (accepts s g.block stamp inc req Copy) (record { state = with_held s g.block (grant_taken h stamp Copy entry); outs = grant_next g.block Copy entry.place ∷ [] }) (still s)
-        (λ t. lifted w s (copy_granted h stamp entry.ver entry.place) s.req _ (copied-here stamp inc req entry.ver entry.hop entry.place (sent refl) t)) (λ t. stays)
+        by_test At (accepts s g.block stamp inc req Copy)
+        (record { state = with_held s g.block (grant_taken h stamp Copy entry); outs = grant_next g.block Copy entry.place ∷ [] }) (still s)
+        (λ t. lifted w s (copy_granted h stamp entry.ver entry.place) s.req _ (copied-here stamp inc req entry.ver entry.hop entry.place (sent refl) t))
+        (λ t. stays)
 
-    pub on_supplied-here : (stamp : Stamp) (inc req ver : ℕ) (value : Option (List ℕ)) → laws.SentSupply logs g w stamp inc req ver value → At (on_supplied s g.block stamp inc req ver value)
+    pub on_supplied-here : (stamp : Stamp) (inc req ver : ℕ) (value : Option (List ℕ)) → laws.SentSupply logs g w stamp inc req ver value
+        → At (on_supplied s g.block stamp inc req ver value)
     unfolding on_supplied
     on_supplied-here stamp inc req ver value sent =
-        by_test At (accepts s g.block stamp inc req Copy) (record { state = with_held s g.block (copied h stamp ver value); outs = Ready g.block ∷ [] }) (still s)
+        by_test At (accepts s g.block stamp inc req Copy) (record { state = with_held s g.block (copied h stamp ver value); outs = Ready g.block ∷ [] })
+        (still s)
         (λ t. let may = taking logs g end w l stamp inc req Copy (located ver sent.hop sent.place) r.shows r.promised sent.offer t in
-        lifted w s (copied h stamp ver value) s.req _ (supplied-goes logs g end w l stamp inc req (Ready g.block ∷ []) r.shows (λ v. (tt, tt)) may.0 ver sent.hop sent.place value may.1 (sent.content may.0)))
+        lifted w s (copied h stamp ver value) s.req _
+        (supplied-goes logs g end w l stamp inc req (Ready g.block ∷ []) r.shows (λ v. (tt, tt)) may.0 ver sent.hop sent.place value may.1
+        (sent.content may.0)))
         (λ t. stays)
 
     -- an answer to the open want finds nothing being given
@@ -171,7 +190,8 @@ module _ (logs : Bool) (g : Setting) (end : ℕ) where
     all_three : (a b c : Bool) → a ≡ true → b ≡ true → c ≡ true → (a && b && c) ≡ true
     all_three a b c p q t = ap (λ x. x && b && c) p ∙ ap (λ x. x && c) q ∙ t
 
-    pub owns_and_writes : (stamp : Stamp) (inc req : ℕ) (entry : Entry) (value : Option (List ℕ)) → SentOffer g.client w stamp inc req Own (entry_seen entry) → accepts s g.block stamp inc req Own ≡ true → nat_lt entry.ver (2 ^ 64 - 1) ≡ true
+    pub owns_and_writes : (stamp : Stamp) (inc req : ℕ) (entry : Entry) (value : Option (List ℕ)) → SentOffer g.client w stamp inc req Own (entry_seen entry)
+        → accepts s g.block stamp inc req Own ≡ true → nat_lt entry.ver (2 ^ 64 - 1) ≡ true
         → Acted logs g end w (WroteBlock g.client (g.number value) ∷ []) (laws.granted_and_wrote s stamp inc req g.block entry value)
     unfolding on_granted on_wrote
     owns_and_writes stamp inc req entry value sent t room =
@@ -179,10 +199,13 @@ module _ (logs : Bool) (g : Setting) (end : ℕ) where
         let mine = owned h stamp entry.ver in
         let u = with_held s g.block mine in
         let now : held_of u.blocks g.block ≡ mine = held_of-put_itself g.block mine s.blocks in
-        let free : may_write (held_of u.blocks g.block) ≡ true = ap may_write now ∙ all_three true (is_none h.giving) (nat_lt entry.ver (2 ^ 64 - 1)) refl (ungiven stamp inc req Own t) room in
+        let free : may_write (held_of u.blocks g.block) ≡ true =
+        ap may_write now ∙ all_three true (is_none h.giving) (nat_lt entry.ver (2 ^ 64 - 1)) refl (ungiven stamp inc req Own t) room in
         let acts = WroteBlock g.client (g.number value) ∷ [] in
-        by_test (λ (d : Done). Acted logs g end w acts (after d.outs (on_wrote d.state g.block value))) (accepts s g.block stamp inc req Own) (record { state = u; outs = Ready g.block ∷ [] }) (still s)
-        (λ _. by_test (λ (d : Done). Acted logs g end w acts (after (Ready g.block ∷ []) d)) (may_write (held_of u.blocks g.block)) (still (with_held u g.block (written (held_of u.blocks g.block) value))) (still u)
+        by_test (λ (d : Done). Acted logs g end w acts (after d.outs (on_wrote d.state g.block value))) (accepts s g.block stamp inc req Own)
+        (record { state = u; outs = Ready g.block ∷ [] }) (still s)
+        (λ _. by_test (λ (d : Done). Acted logs g end w acts (after (Ready g.block ∷ []) d)) (may_write (held_of u.blocks g.block))
+        (still (with_held u g.block (written (held_of u.blocks g.block) value))) (still u)
         (λ _. acts_lifted w acts u (written (held_of u.blocks g.block) value) s.req _
         (subst (λ k. Acts logs g end w acts (record l { held = written k value }) (Ready g.block ∷ [])) (sym now)
         (first-goes logs g end w l stamp inc req (Ready g.block ∷ []) r.shows (λ v. (tt, tt)) may.0 entry.ver entry.hop entry.place value may.1)))
@@ -192,7 +215,8 @@ module _ (logs : Bool) (g : Setting) (end : ℕ) where
     clean_itself : (n : ℕ) → nat_lt n n ≡ false
     clean_itself n = grind (arith, nat_tests)
 
-    pub owns_and_declines : (stamp : Stamp) (inc req : ℕ) (entry : Entry) → SentOffer g.client w stamp inc req Own (entry_seen entry) → accepts s g.block stamp inc req Own ≡ true
+    pub owns_and_declines : (stamp : Stamp) (inc req : ℕ) (entry : Entry) → SentOffer g.client w stamp inc req Own (entry_seen entry)
+        → accepts s g.block stamp inc req Own ≡ true
         → At (laws.granted_and_evicted s stamp inc req g.block entry)
     unfolding on_granted on_evict
     owns_and_declines stamp inc req entry sent t =
@@ -201,8 +225,10 @@ module _ (logs : Bool) (g : Setting) (end : ℕ) where
         let u = with_held s g.block mine in
         let now : held_of u.blocks g.block ≡ mine = held_of-put_itself g.block mine s.blocks in
         let free : may_evict (held_of u.blocks g.block) ≡ true = ap may_evict now ∙ ap not (clean_itself entry.ver) in
-        by_test (λ (d : Done). At (after d.outs (on_evict d.state g.block))) (accepts s g.block stamp inc req Own) (record { state = u; outs = Ready g.block ∷ [] }) (still s)
-        (λ _. by_test (λ (d : Done). At (after (Ready g.block ∷ []) d)) (may_evict (held_of u.blocks g.block)) (still (with_held u g.block (let_go (held_of u.blocks g.block)))) (still u)
+        by_test (λ (d : Done). At (after d.outs (on_evict d.state g.block))) (accepts s g.block stamp inc req Own)
+        (record { state = u; outs = Ready g.block ∷ [] }) (still s)
+        (λ _. by_test (λ (d : Done). At (after (Ready g.block ∷ []) d)) (may_evict (held_of u.blocks g.block))
+        (still (with_held u g.block (let_go (held_of u.blocks g.block)))) (still u)
         (λ _. lifted w u (let_go (held_of u.blocks g.block)) s.req _
         (subst (λ k. Goes logs g end w (record l { held = let_go k }) (Ready g.block ∷ [])) (sym now)
         (declines-goes logs g end w l stamp inc req (Ready g.block ∷ []) r.shows (λ v. (tt, tt)) may.0 entry.ver entry.hop entry.place may.1)))
@@ -227,33 +253,44 @@ module _ (logs : Bool) (g : Setting) (end : ℕ) where
     own_named Own t = refl
 
     -- a write is told where it may be
-    pub on_wrote-here : (value : Option (List ℕ)) → Acted logs g end w (if may_write h then WroteBlock g.client (g.number value) ∷ [] else []) (on_wrote s g.block value)
+    pub on_wrote-here : (value : Option (List ℕ))
+        → Acted logs g end w (if may_write h then WroteBlock g.client (g.number value) ∷ [] else []) (on_wrote s g.block value)
     unfolding on_wrote
     on_wrote-here value =
-        elim (may_write h) as (λ t. may_write h ≡ t → Acted logs g end w (if t then WroteBlock g.client (g.number value) ∷ [] else []) (if t then still (with_held s g.block (written h value)) else still s)) [
+        elim (may_write h) as
+        (λ t. may_write h ≡ t
+        → Acted logs g end w (if t then WroteBlock g.client (g.number value) ∷ [] else [])
+        (if t then still (with_held s g.block (written h value)) else still s)) [
           | true ↦ λ t.
               acts_lifted w (WroteBlock g.client (g.number value) ∷ []) s (written h value) s.req []
-              (writes-goes logs g end w l value r.shows (and_first (is_own h.mode) (is_none h.giving) (and_first (is_own h.mode && is_none h.giving) (nat_lt h.ver (2 ^ 64 - 1)) t)))
+              (writes-goes logs g end w l value r.shows
+              (and_first (is_own h.mode) (is_none h.giving) (and_first (is_own h.mode && is_none h.giving) (nat_lt h.ver (2 ^ 64 - 1)) t)))
           | false ↦ λ t. stays
         ] refl
 
-    pub on_fetched-here : (value : Option (List ℕ)) → ((f : Fetch) → h.fetch ≡ Some f → Premise logs (PlaceRead w g.client (g.number value))) → At (on_fetched s g.block value)
+    pub on_fetched-here : (value : Option (List ℕ)) → ((f : Fetch) → h.fetch ≡ Some f → Premise logs (PlaceRead w g.client (g.number value)))
+        → At (on_fetched s g.block value)
     unfolding on_fetched
     on_fetched-here value read =
         by_test At (may_end_fetch h) (record { state = with_held s g.block (fetch_ended h h.fetch value); outs = Ready g.block ∷ [] }) (still s)
         (λ t. let f = some_is h.fetch (and_first (is_some h.fetch) (is_none h.want) t) in
-        lifted w s (fetch_ended h h.fetch value) s.req _ (subst (λ o. Goes logs g end w (record l { held = fetch_ended h o value }) (Ready g.block ∷ [])) (sym f.1) (fetches-goes logs g end w l f.0 value (Ready g.block ∷ []) r.shows f.1 (λ v. (tt, tt)) (read f.0 f.1))))
+        lifted w s (fetch_ended h h.fetch value) s.req _
+        (subst (λ o. Goes logs g end w (record l { held = fetch_ended h o value }) (Ready g.block ∷ [])) (sym f.1)
+        (fetches-goes logs g end w l f.0 value (Ready g.block ∷ []) r.shows f.1 (λ v. (tt, tt)) (read f.0 f.1))))
         (λ t. stays)
 
     pub on_evict-here : At (on_evict s g.block)
     unfolding on_evict
     on_evict-here =
         by_test At (may_evict h) (still (with_held s g.block (let_go h))) (still s)
-        (λ t. lifted w s (let_go h) s.req [] (evicts-goes logs g end w l r.shows (not_true (is_dirty h) (and_second (is_held h.mode) (not (is_dirty h)) t)))) (λ t. stays)
+        (λ t. lifted w s (let_go h) s.req [] (evicts-goes logs g end w l r.shows (not_true (is_dirty h) (and_second (is_held h.mode) (not (is_dirty h)) t))))
+        (λ t. stays)
 
     pub on_reask-here : At (on_reask s g.block)
     unfolding on_reask
-    on_reask-here = by_test At (is_some h.fetch) (new_want s g.block Copy) (still s) (λ t. asks-here Copy refl (let z = unheld_rank h.mode ((r.sound.each g.block).fetch_unheld t) in omega arith)) (λ t. stays)
+    on_reask-here =
+        by_test At (is_some h.fetch) (new_want s g.block Copy) (still s)
+        (λ t. asks-here Copy refl (let z = unheld_rank h.mode ((r.sound.each g.block).fetch_unheld t) in omega arith)) (λ t. stays)
 
     pub on_quit-here : At (on_quit s g.block)
     unfolding on_quit
@@ -261,9 +298,11 @@ module _ (logs : Bool) (g : Setting) (end : ℕ) where
         let m = record l { held = record h { want = None } } in
         let t = drops_want-goes logs g end w l r.shows in
         by_test At (is_asking h) (still (with_held s g.block (unasked h))) (still s)
-        (λ _. lifted w s (unasked h) s.req [] (goes_through logs g end w m _ [] [] t (drops_fetch-goes logs g end t.world m (shown_on logs g end w [] m [] t)))) (λ _. stays)
+        (λ _. lifted w s (unasked h) s.req [] (goes_through logs g end w m _ [] [] t (drops_fetch-goes logs g end t.world m (shown_on logs g end w [] m [] t))))
+        (λ _. stays)
 
     -- a version that is settled is no news
     pub on_settled-still : (ver : ℕ) → is_settled_by h ver ≡ false → At (on_settled s g.block ver)
     unfolding on_settled
-    on_settled-still ver f = by_test At (is_settled_by h ver) (still (with_held s g.block (version_settled h ver))) (still s) (λ t. contrary (sym f ∙ t)) (λ t. stays)
+    on_settled-still ver f =
+        by_test At (is_settled_by h ver) (still (with_held s g.block (version_settled h ver))) (still s) (λ t. contrary (sym f ∙ t)) (λ t. stays)

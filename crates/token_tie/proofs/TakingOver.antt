@@ -99,12 +99,15 @@ activation_manages b w epoch index beliefs applied report upto covers same = rec
     less : (c n : ℕ) → nat_lt c n ≡ true → c < n
     less c n h = grind (arith, nat_tests)
 
-    at : (c : ℕ) (t : Bool) → (t ≡ true → (report c).mode ≤ share_of (all_believed [] beliefs) b c) → cond t (report c).mode 0 ≤ share_of (all_believed [] beliefs) b c
+    at : (c : ℕ) (t : Bool) → (t ≡ true → (report c).mode ≤ share_of (all_believed [] beliefs) b c)
+        → cond t (report c).mode 0 ≤ share_of (all_believed [] beliefs) b c
     at c true h = h refl
     at c false h = omega arith
 
 pub one_numbers : (n m : ℕ) → (n ≡ m) ⊎ (n ≡ m → ⊥)
-one_numbers n m = elim (n == m) as (λ t. (n == m) ≡ t → (n ≡ m) ⊎ (n ≡ m → ⊥)) [ true ↦ λ h. inl (equal_numbers n m h) | false ↦ λ h. inr (λ e. grind (arith, nat_tests)) ] refl
+one_numbers n m =
+    elim (n == m) as (λ t. (n == m) ≡ t → (n ≡ m) ⊎ (n ≡ m → ⊥))
+    [ true ↦ λ h. inl (equal_numbers n m h) | false ↦ λ h. inr (λ e. grind (arith, nat_tests)) ] refl
 
 -- ---- reports
 
@@ -128,23 +131,32 @@ module _ (b : BlockId) (c : ℕ) (mode : Mode) where
   nothing_least Copy n h = contrary h
   nothing_least Own n h = contrary h
 
-  one-believed : (bs : List (Holder × Bool)) (x : BlockId × ℕ × Mode) → (x.0 ≡ b → x.1 ≡ c → rank mode ≤ rank x.2) → (rank mode ≤ share_of bs b c) ⊎ ((x.0 ≡ b) × (x.1 ≡ c)) → rank mode ≤ share_of (believed bs x) b c
+  one-believed : (bs : List (Holder × Bool)) (x : BlockId × ℕ × Mode) → (x.0 ≡ b → x.1 ≡ c → rank mode ≤ rank x.2)
+      → (rank mode ≤ share_of bs b c) ⊎ ((x.0 ≡ b) × (x.1 ≡ c)) → rank mode ≤ share_of (believed bs x) b c
   unfolding believed
   one-believed bs x least why =
       let q = holder b c in
       let k = holder x.0 x.1 in
-      by_test (λ (rows : List (Holder × Bool)). is_nothing x.2 ≡ is_nothing x.2 → rank mode ≤ manager.share (belief rows q)) (is_nothing x.2) bs (insert_entry holder_cmp bs k (is_own x.2))
+      by_test (λ (rows : List (Holder × Bool)). is_nothing x.2 ≡ is_nothing x.2 → rank mode ≤ manager.share (belief rows q)) (is_nothing x.2) bs
+      (insert_entry holder_cmp bs k (is_own x.2))
       (λ none _. ⊎_elim (λ h. h) (λ h. let a = least h.0 h.1 in let z = nothing_least x.2 (manager.share (belief bs q)) none in omega arith) why)
-      (λ some _. subst (λ o. rank mode ≤ manager.share o) (sym (lookup-insert_entry holder_cmp_total q k (is_own x.2) bs)) (at (eq_by_cmp holder_cmp q k) refl some)) refl
+      (λ some _. subst (λ o. rank mode ≤ manager.share o) (sym (lookup-insert_entry holder_cmp_total q k (is_own x.2) bs))
+      (at (eq_by_cmp holder_cmp q k) refl some)) refl
     where
-      at : (t : Bool) → eq_by_cmp holder_cmp (holder b c) (holder x.0 x.1) ≡ t → is_nothing x.2 ≡ false → rank mode ≤ manager.share (cond t (Some (is_own x.2)) (belief bs (holder b c)))
+      at : (t : Bool) → eq_by_cmp holder_cmp (holder b c) (holder x.0 x.1) ≡ t → is_nothing x.2 ≡ false
+          → rank mode ≤ manager.share (cond t (Some (is_own x.2)) (belief bs (holder b c)))
       at true same some =
           let one : holder b c ≡ holder x.0 x.1 = tells_apart holder_cmp_exact (holder b c) (holder x.0 x.1) same in
           let a = least (sym (ap (λ (h : Holder). h.block) one)) (sym (ap (λ (h : Holder). h.client) one)) in
           let i = inserted x.2 some in omega arith
-      at false apart some = ⊎_elim (λ h. h) (λ h. absurd (contrary (sym apart ∙ subst (λ (k : Holder). eq_by_cmp holder_cmp (holder b c) k ≡ true) (λ i. record { block = sym h.0 i; client = sym h.1 i }) (holder_laws.refl (holder b c))))) why
+      at false apart some =
+          ⊎_elim (λ h. h)
+          (λ h. absurd (contrary
+          (sym apart ∙ subst (λ (k : Holder). eq_by_cmp holder_cmp (holder b c) k ≡ true) (λ i. record { block = sym h.0 i; client = sym h.1 i })
+          (holder_laws.refl (holder b c))))) why
 
-  pub all-believed : (bs : List (Holder × Bool)) (xs : List (BlockId × ℕ × Mode)) → Least xs → (rank mode ≤ share_of bs b c) ⊎ Speaks xs → rank mode ≤ share_of (all_believed bs xs) b c
+  pub all-believed : (bs : List (Holder × Bool)) (xs : List (BlockId × ℕ × Mode)) → Least xs → (rank mode ≤ share_of bs b c) ⊎ Speaks xs
+      → rank mode ≤ share_of (all_believed bs xs) b c
   all-believed bs [] least why = ⊎_elim (λ h. h) (λ h. absurd h) why
   all-believed bs (x ∷ xs) least why =
       all-believed (believed bs x) xs least.1
@@ -176,23 +188,38 @@ module _ (slot : ℕ) (b : BlockId) where
       let rows = filter (λ e. is_in_slot slot e.0 && is_held e.1.mode) es in
       let rest_ = least_mine c d table es agrees.1 in
       by_test (λ (xs : List (BlockId × Held)). Least b c (held_of table b).mode (reported d (map (λ e. (e.0, e.1.mode)) xs))) keeps (e ∷ rows) rows
-      (λ _. ((λ same _. let eq : rank (held_of table b).mode ≡ rank e.1.mode = ap (λ k. rank (held_of table k).mode) (sym same) ∙ ap (λ (h : Held). rank h.mode) agrees.0 in omega arith), rest_)) (λ _. rest_)
+      (λ _. (
+        (λ same _. let eq : rank (held_of table b).mode ≡ rank e.1.mode = ap (λ k. rank (held_of table k).mode) (sym same)
+            ∙ ap (λ (h : Held). rank h.mode) agrees.0 in omega arith),
+        rest_,
+      )) (λ _. rest_)
 
   -- and it reports what it holds
-  speaks_mine : (c : ℕ) (es : List (BlockId × Held)) → is_in_slot slot b ≡ true → is_held (held_of es b).mode ≡ true → Speaks b c (held_of es b).mode (reported c (held_in slot es))
+  speaks_mine : (c : ℕ) (es : List (BlockId × Held)) → is_in_slot slot b ≡ true → is_held (held_of es b).mode ≡ true
+      → Speaks b c (held_of es b).mode (reported c (held_in slot es))
   speaks_mine c [] inside held = contrary held
   speaks_mine c (e ∷ es) inside held =
       at (eq_by_cmp block_cmp b e.0) refl held (λ h. speaks_mine c es inside h)
     where
-      at : (t : Bool) → eq_by_cmp block_cmp b e.0 ≡ t → is_held (unwrap_or (cond t (Some e.1) (lookup (is_at (block_cmp b)) es)) unknown).mode ≡ true → (is_held (held_of es b).mode ≡ true → Speaks b c (held_of es b).mode (reported c (held_in slot es)))
-          → Speaks b c (unwrap_or (cond t (Some e.1) (lookup (is_at (block_cmp b)) es)) unknown).mode (reported c (map (λ e. (e.0, e.1.mode)) (cond (is_in_slot slot e.0 && is_held e.1.mode) (e ∷ filter (λ e. is_in_slot slot e.0 && is_held e.1.mode) es) (filter (λ e. is_in_slot slot e.0 && is_held e.1.mode) es))))
+      at : (t : Bool) → eq_by_cmp block_cmp b e.0 ≡ t → is_held (unwrap_or (cond t (Some e.1) (lookup (is_at (block_cmp b)) es)) unknown).mode ≡ true
+          → (is_held (held_of es b).mode ≡ true → Speaks b c (held_of es b).mode (reported c (held_in slot es)))
+          → Speaks b c (unwrap_or (cond t (Some e.1) (lookup (is_at (block_cmp b)) es)) unknown).mode
+          (reported c (map (λ e. (e.0, e.1.mode))
+          (cond (is_in_slot slot e.0 && is_held e.1.mode) (e ∷ filter (λ e. is_in_slot slot e.0 && is_held e.1.mode) es)
+          (filter (λ e. is_in_slot slot e.0 && is_held e.1.mode) es))))
       at true same held later =
           let one : b ≡ e.0 = tells_apart block_cmp_exact b e.0 same in
-          let here : is_in_slot slot e.0 && is_held e.1.mode ≡ true = ap (λ t. t && is_held e.1.mode) (subst (λ k. is_in_slot slot k ≡ true) one inside) ∙ held in
-          subst (λ t. Speaks b c e.1.mode (reported c (map (λ e. (e.0, e.1.mode)) (cond t (e ∷ filter (λ e. is_in_slot slot e.0 && is_held e.1.mode) es) (filter (λ e. is_in_slot slot e.0 && is_held e.1.mode) es))))) (sym here) (inl (sym one, refl))
+          let here : is_in_slot slot e.0 && is_held e.1.mode ≡ true =
+          ap (λ t. t && is_held e.1.mode) (subst (λ k. is_in_slot slot k ≡ true) one inside) ∙ held in
+          subst (λ t. Speaks b c e.1.mode
+          (reported c (map (λ e. (e.0, e.1.mode))
+          (cond t (e ∷ filter (λ e. is_in_slot slot e.0 && is_held e.1.mode) es) (filter (λ e. is_in_slot slot e.0 && is_held e.1.mode) es))))) (sym here)
+          (inl (sym one, refl))
       at false apart held later =
           let more = later held in
-          by_test (λ (xs : List (BlockId × Held)). Speaks b c (held_of es b).mode (reported c (map (λ e. (e.0, e.1.mode)) xs))) (is_in_slot slot e.0 && is_held e.1.mode) (e ∷ filter (λ e. is_in_slot slot e.0 && is_held e.1.mode) es) (filter (λ e. is_in_slot slot e.0 && is_held e.1.mode) es)
+          by_test (λ (xs : List (BlockId × Held)). Speaks b c (held_of es b).mode (reported c (map (λ e. (e.0, e.1.mode)) xs)))
+          (is_in_slot slot e.0 && is_held e.1.mode) (e ∷ filter (λ e. is_in_slot slot e.0 && is_held e.1.mode) es)
+          (filter (λ e. is_in_slot slot e.0 && is_held e.1.mode) es)
           (λ _. inr more) (λ _. more)
 
   module _ (blocks : ℕ → List (BlockId × Held)) (c : ℕ) (sorted : (d : ℕ) → InOrder (blocks d)) where
@@ -203,15 +230,20 @@ module _ (slot : ℕ) (b : BlockId) where
     all_least [] = tt
     all_least (d ∷ cs) =
         least_both b c mode (reported d (held_in slot (blocks d))) (all_reported (λ d. held_in slot (blocks d)) cs)
-        (⊎_elim (λ same. subst (λ k. Least b c mode (reported k (held_in slot (blocks k)))) (sym same) (least_mine c c (blocks c) (blocks c) (agrees-itself (blocks c) (sorted c)))) (λ other. least_other b c mode d (held_in slot (blocks d)) other) (one_numbers d c))
+        (⊎_elim (λ same. subst (λ k. Least b c mode (reported k (held_in slot (blocks k)))) (sym same)
+        (least_mine c c (blocks c) (blocks c) (agrees-itself (blocks c) (sorted c)))) (λ other. least_other b c mode d (held_in slot (blocks d)) other)
+        (one_numbers d c))
         (all_least cs)
 
-    all_speak : (cs : List ℕ) → is_in_slot slot b ≡ true → is_held mode ≡ true → Contains cs c → Speaks b c mode (all_reported (λ d. held_in slot (blocks d)) cs)
+    all_speak : (cs : List ℕ) → is_in_slot slot b ≡ true → is_held mode ≡ true → Contains cs c
+        → Speaks b c mode (all_reported (λ d. held_in slot (blocks d)) cs)
     all_speak [] inside held has = absurd (contains_nothing c has)
     all_speak (d ∷ cs) inside held has =
         ⊎_elim
-        (λ same. speaks_first b c mode (reported d (held_in slot (blocks d))) (all_reported (λ d. held_in slot (blocks d)) cs) (subst (λ k. Speaks b c mode (reported k (held_in slot (blocks k)))) (sym same) (speaks_mine c (blocks c) inside held)))
-        (λ later. speaks_later b c mode (reported d (held_in slot (blocks d))) (all_reported (λ d. held_in slot (blocks d)) cs) (all_speak cs inside held later)) (contains_cases d c cs has)
+        (λ same. speaks_first b c mode (reported d (held_in slot (blocks d))) (all_reported (λ d. held_in slot (blocks d)) cs)
+        (subst (λ k. Speaks b c mode (reported k (held_in slot (blocks k)))) (sym same) (speaks_mine c (blocks c) inside held)))
+        (λ later. speaks_later b c mode (reported d (held_in slot (blocks d))) (all_reported (λ d. held_in slot (blocks d)) cs)
+        (all_speak cs inside held later)) (contains_cases d c cs has)
 
 -- ---- and nothing more is believed than was reported
 
@@ -231,9 +263,11 @@ module _ (b : BlockId) (c : ℕ) (n : ℕ) where
       let q = holder b c in
       let k = holder x.0 x.1 in
       by_test (λ (rows : List (Holder × Bool)). manager.share (belief rows q) ≤ n) (is_nothing x.2) bs (insert_entry holder_cmp bs k (is_own x.2))
-      (λ _. less) (λ some. subst (λ o. manager.share o ≤ n) (sym (lookup-insert_entry holder_cmp_total q k (is_own x.2) bs)) (at (eq_by_cmp holder_cmp q k) refl some))
+      (λ _. less) (λ some. subst (λ o. manager.share o ≤ n) (sym (lookup-insert_entry holder_cmp_total q k (is_own x.2) bs))
+      (at (eq_by_cmp holder_cmp q k) refl some))
     where
-      at : (t : Bool) → eq_by_cmp holder_cmp (holder b c) (holder x.0 x.1) ≡ t → is_nothing x.2 ≡ false → manager.share (cond t (Some (is_own x.2)) (belief bs (holder b c))) ≤ n
+      at : (t : Bool) → eq_by_cmp holder_cmp (holder b c) (holder x.0 x.1) ≡ t → is_nothing x.2 ≡ false
+          → manager.share (cond t (Some (is_own x.2)) (belief bs (holder b c))) ≤ n
       at true same some =
           let one : holder b c ≡ holder x.0 x.1 = tells_apart holder_cmp_exact (holder b c) (holder x.0 x.1) same in
           let a = most (sym (ap (λ (h : Holder). h.block) one)) (sym (ap (λ (h : Holder). h.client) one)) in
@@ -262,30 +296,44 @@ module _ (slot : ℕ) (b : BlockId) (c : ℕ) where
   most_mine d table (e ∷ es) agrees =
       let rows = filter (λ e. is_in_slot slot e.0 && is_held e.1.mode) es in
       let rest_ = most_mine d table es agrees.1 in
-      by_test (λ (xs : List (BlockId × Held)). Most b c (rank (held_of table b).mode) (reported d (map (λ e. (e.0, e.1.mode)) xs))) (is_in_slot slot e.0 && is_held e.1.mode) (e ∷ rows) rows
-      (λ _. ((λ same _. let eq : rank (held_of table b).mode ≡ rank e.1.mode = ap (λ k. rank (held_of table k).mode) (sym same) ∙ ap (λ (h : Held). rank h.mode) agrees.0 in omega arith), rest_)) (λ _. rest_)
+      by_test (λ (xs : List (BlockId × Held)). Most b c (rank (held_of table b).mode) (reported d (map (λ e. (e.0, e.1.mode)) xs)))
+      (is_in_slot slot e.0 && is_held e.1.mode) (e ∷ rows) rows
+      (λ _. (
+        (λ same _. let eq : rank (held_of table b).mode ≡ rank e.1.mode = ap (λ k. rank (held_of table k).mode) (sym same)
+            ∙ ap (λ (h : Held). rank h.mode) agrees.0 in omega arith),
+        rest_,
+      )) (λ _. rest_)
 
   most_none : (d : ℕ) (es : List (BlockId × Held)) → is_in_slot slot b ≡ false → Most b c 0 (reported d (held_in slot es))
   most_none d [] outside = tt
   most_none d (e ∷ es) outside =
       let rows = filter (λ e. is_in_slot slot e.0 && is_held e.1.mode) es in
       let rest_ = most_none d es outside in
-      by_test (λ (xs : List (BlockId × Held)). Most b c 0 (reported d (map (λ e. (e.0, e.1.mode)) xs))) (is_in_slot slot e.0 && is_held e.1.mode) (e ∷ rows) rows
-      (λ t. ((λ same _. contrary (sym (subst (λ k. is_in_slot slot k ≡ false) (sym same) outside) ∙ and_first (is_in_slot slot e.0) (is_held e.1.mode) t)), rest_)) (λ _. rest_)
+      by_test (λ (xs : List (BlockId × Held)). Most b c 0 (reported d (map (λ e. (e.0, e.1.mode)) xs))) (is_in_slot slot e.0 && is_held e.1.mode)
+      (e ∷ rows) rows
+      (λ t. (
+        (λ same _. contrary (sym (subst (λ k. is_in_slot slot k ≡ false) (sym same) outside) ∙ and_first (is_in_slot slot e.0) (is_held e.1.mode) t)),
+        rest_,
+      )) (λ _. rest_)
 
   -- no more of a block is believed of a client than it holds
-  pub reports_most : (blocks : ℕ → List (BlockId × Held)) (cs : List ℕ) → ((d : ℕ) → InOrder (blocks d)) → share_of (all_believed [] (all_reported (λ d. held_in slot (blocks d)) cs)) b c ≤ rank (held_of (blocks c) b).mode
+  pub reports_most : (blocks : ℕ → List (BlockId × Held)) (cs : List ℕ) → ((d : ℕ) → InOrder (blocks d))
+      → share_of (all_believed [] (all_reported (λ d. held_in slot (blocks d)) cs)) b c ≤ rank (held_of (blocks c) b).mode
   reports_most blocks cs sorted =
       let n = rank (held_of (blocks c) b).mode in
       most-believed b c n [] (all_reported (λ d. held_in slot (blocks d)) cs)
       (most_all b c n (λ d. held_in slot (blocks d)) cs
-      (λ d. ⊎_elim (λ same. subst (λ k. Most b c n (reported k (held_in slot (blocks k)))) (sym same) (most_mine c (blocks c) (blocks c) (agrees-itself (blocks c) (sorted c)))) (λ other. most_other b c n d (held_in slot (blocks d)) other) (one_numbers d c)))
+      (λ d. ⊎_elim (λ same. subst (λ k. Most b c n (reported k (held_in slot (blocks k)))) (sym same)
+      (most_mine c (blocks c) (blocks c) (agrees-itself (blocks c) (sorted c)))) (λ other. most_other b c n d (held_in slot (blocks d)) other)
+      (one_numbers d c)))
       (omega arith)
 
   -- and nothing of a block of another slot
-  pub reports_none : (blocks : ℕ → List (BlockId × Held)) (cs : List ℕ) → is_in_slot slot b ≡ false → share_of (all_believed [] (all_reported (λ d. held_in slot (blocks d)) cs)) b c ≤ 0
+  pub reports_none : (blocks : ℕ → List (BlockId × Held)) (cs : List ℕ) → is_in_slot slot b ≡ false
+      → share_of (all_believed [] (all_reported (λ d. held_in slot (blocks d)) cs)) b c ≤ 0
   reports_none blocks cs outside =
-      most-believed b c 0 [] (all_reported (λ d. held_in slot (blocks d)) cs) (most_all b c 0 (λ d. held_in slot (blocks d)) cs (λ d. most_none d (blocks d) outside)) (omega arith)
+      most-believed b c 0 [] (all_reported (λ d. held_in slot (blocks d)) cs)
+      (most_all b c 0 (λ d. held_in slot (blocks d)) cs (λ d. most_none d (blocks d) outside)) (omega arith)
 
 none_rank : (m : Mode) (n : ℕ) → is_held m ≡ false → rank m ≤ n
 none_rank Nothing n h = omega arith

@@ -39,7 +39,10 @@ by_block b P here there block =
 
 -- what is reached is sound
 pub reached_sound : (s : SlotState) → Reached s → Sound s
-reached_sound s r = subst Sound (sym r.reached) (steps_keep transition Sound sound-transition (started r.epoch r.index r.beliefs r.applied) r.taken (sound-start r.epoch r.index r.beliefs r.applied r.alone))
+reached_sound s r =
+    subst Sound (sym r.reached)
+    (steps_keep transition Sound sound-transition (started r.epoch r.index r.beliefs r.applied) r.taken
+    (sound-start r.epoch r.index r.beliefs r.applied r.alone))
 
 -- what isn't dropped wants something, finds no want that waits, and names an end that is applied
 pub kept_all : (a b c : Bool) → (a || b || c) ≡ false → (a ≡ false) × (b ≡ false) × (c ≡ false)
@@ -59,7 +62,8 @@ module _ (logs : Bool) where
   answer_quiet b v s ask [] other = (λ same. absurd (other same), tt)
   answer_quiet b v s ask (c ∷ cs) other = (λ same. absurd (other same), tt)
 
-  sent_quiet : (b : BlockId) (v : World) (block : BlockId) (epoch turn : ℕ) (keep : Bool) (cs : List ℕ) → (block ≡ b → ⊥) → AllTold b v (sent block (recalls epoch turn keep cs))
+  sent_quiet : (b : BlockId) (v : World) (block : BlockId) (epoch turn : ℕ) (keep : Bool) (cs : List ℕ) → (block ≡ b → ⊥)
+      → AllTold b v (sent block (recalls epoch turn keep cs))
   sent_quiet b v block epoch turn keep [] other = tt
   sent_quiet b v block epoch turn keep (c ∷ cs) other = (λ same. absurd (other same), sent_quiet b v block epoch (turn + 1) keep cs other)
 
@@ -76,22 +80,30 @@ module _ (logs : Bool) where
   want-there : (b : BlockId) (w : World) (s : SlotState) (ask : Wanted) (end : ℕ) → Manages b s w → (ask.block ≡ b → ⊥) → Runs logs b w (on_want s ask end)
   want-there b w s ask end m other =
       by_want (Runs logs b w) s ask end (runs_nowhere logs b w s m)
-      (λ _ _. turns-runs logs b w s (finished s ask) 1 m refl refl (λ c. more_elsewhere s.beliefs ask (holder b c) (λ same. other (sym same))) refl refl refl (λ v. answer_quiet b v s ask (passers s ask) other))
-      (λ _. turns-runs logs b w s (recalled s ask (recalled_from s ask)) (length (recalled_from s ask)) m refl refl (λ c. omega arith) refl refl (other_put s b ask.block _ other) (λ v. sent_quiet b v ask.block s.epoch s.turn (not (is_own ask.mode)) (recalled_from s ask) other))
+      (λ _ _. turns-runs logs b w s (finished s ask) 1 m refl refl (λ c. more_elsewhere s.beliefs ask (holder b c) (λ same. other (sym same))) refl refl refl
+      (λ v. answer_quiet b v s ask (passers s ask) other))
+      (λ _. turns-runs logs b w s (recalled s ask (recalled_from s ask)) (length (recalled_from s ask)) m refl refl (λ c. omega arith) refl refl
+      (other_put s b ask.block _ other) (λ v. sent_quiet b v ask.block s.epoch s.turn (not (is_own ask.mode)) (recalled_from s ask) other))
 
   -- a want of this block
-  want-here : (w : World) (s : SlotState) (ask : Wanted) (end : ℕ) → Sound s → Manages ask.block s w → 0 < ask.client → In (want_seen ask end) w.wants → Runs logs ask.block w (on_want s ask end)
+  want-here : (w : World) (s : SlotState) (ask : Wanted) (end : ℕ) → Sound s → Manages ask.block s w → 0 < ask.client → In (want_seen ask end) w.wants
+      → Runs logs ask.block w (on_want s ask end)
   want-here w s ask end sound m some asked =
       by_want (Runs logs ask.block w) s ask end (runs_nowhere logs ask.block w s m)
       (λ going none. let k = kept_all (is_nothing ask.mode) (is_some (job_at s.jobs ask.block)) (nat_lt (applied_of s.applied ask.client) end) going in
       let a = not_below (applied_of s.applied ask.client) end k.2 in let q = m.applied ask.client some in
-      finished-runs logs w s ask end m (none_is (job_at s.jobs ask.block) k.1) k.0 (λ c apart. not_more _ (λ more. no_first (recalled_from s ask) c none (found_by s.beliefs ask c apart more))) asked (omega arith))
+      finished-runs logs w s ask end m (none_is (job_at s.jobs ask.block) k.1) k.0
+      (λ c apart. not_more _ (λ more. no_first (recalled_from s ask) c none (found_by s.beliefs ask c apart more))) asked (omega arith))
       (λ going. let k = kept_all (is_nothing ask.mode) (is_some (job_at s.jobs ask.block)) (nat_lt (applied_of s.applied ask.client) end) going in
       let a = not_below (applied_of s.applied ask.client) end k.2 in let q = m.applied ask.client some in
-      recalled-runs logs w s ask end (recalled_from s ask) m (none_is (job_at s.jobs ask.block) k.1) k.0 (others_once s.beliefs ask.block ask.client (not (is_own ask.mode)) sound.sorted) asked (omega arith))
+      recalled-runs logs w s ask end (recalled_from s ask) m (none_is (job_at s.jobs ask.block) k.1) k.0
+      (others_once s.beliefs ask.block ask.client (not (is_own ask.mode)) sound.sorted) asked (omega arith))
 
-pub takes_want : (logs : Bool) (b : BlockId) (w : World) (s : SlotState) (client inc req again : ℕ) (block : BlockId) (mode : Mode) (end : ℕ) → Sound s → Manages b s w → 0 < client
-    → (block ≡ b → In (want_seen (want_of client block inc req again mode) end) w.wants) → Runs logs b w (on_want s (want_of client block inc req again mode) end)
+pub takes_want : (logs : Bool) (b : BlockId) (w : World) (s : SlotState) (client inc req again : ℕ) (block : BlockId) (mode : Mode) (end : ℕ) → Sound s
+    → Manages b s w → 0 < client
+    → (block ≡ b → In (want_seen (want_of client block inc req again mode) end) w.wants)
+    → Runs logs b w (on_want s (want_of client block inc req again mode) end)
 takes_want logs b w s client inc req again block mode end sound m some asked =
     let ask = λ (k : BlockId). want_of client k inc req again mode in
-    by_block b (λ k. (k ≡ b → In (want_seen (ask k) end) w.wants) → Runs logs b w (on_want s (ask k) end)) (λ a. want-here logs w s (ask b) end sound m some (a refl)) (λ k other _. want-there logs b w s (ask k) end m other) block asked
+    by_block b (λ k. (k ≡ b → In (want_seen (ask k) end) w.wants) → Runs logs b w (on_want s (ask k) end))
+    (λ a. want-here logs w s (ask b) end sound m some (a refl)) (λ k other _. want-there logs b w s (ask k) end m other) block asked

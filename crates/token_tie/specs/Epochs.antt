@@ -45,7 +45,8 @@ ActivationShows = (g : Setting) (epoch later : ℕ) (l : Local) (x : Client) →
 -- A slot that starts is seen as the new manager, if it believes at least what was reported.
 abbrev pub ActivationManages : Type 0
 ActivationManages =
-    (b : BlockId) (w : World) (epoch : ℕ) (index : List (BlockId × Entry)) (beliefs : List (BlockId × ℕ × Mode)) (applied : List ℕ) (report : ℕ → packets.Report) (upto : ℕ → ℕ)
+    (b : BlockId) (w : World) (epoch : ℕ) (index : List (BlockId × Entry)) (beliefs : List (BlockId × ℕ × Mode)) (applied : List ℕ)
+    (report : ℕ → packets.Report) (upto : ℕ → ℕ)
     → ((c : ℕ) → c < w.members → (report c).mode ≤ share_of (all_believed [] beliefs) b c) → ((c : ℕ) → 0 < c → upto c ≡ applied_of applied c)
     → Manages b (started epoch index beliefs applied) (activates w epoch report upto (entry_seen (entry_of (indexed_all nothing_indexed index).rows b)))
 

@@ -55,7 +55,8 @@ Brings logs g w s (Forwarded block stamp ver) = Unit {0}
 Brings logs g w s (Recalled block stamp keep) = block ≡ g.block → SentRecall g.client w stamp keep
 Brings logs g w s (Wrote block value) = Unit {0}
 Brings logs g w s (Settled block ver) = block ≡ g.block → is_settled_by (held_of s.blocks block) ver ≡ false
-Brings logs g w s (Fetched block value) = block ≡ g.block → (f : Fetch) → (held_of s.blocks block).fetch ≡ Some f → Premise logs (PlaceRead w g.client (g.number value))
+Brings logs g w s (Fetched block value) =
+    block ≡ g.block → (f : Fetch) → (held_of s.blocks block).fetch ≡ Some f → Premise logs (PlaceRead w g.client (g.number value))
 Brings logs g w s (Evict block) = Unit {0}
 Brings logs g w s (Reask block) = Unit {0}
 Brings logs g w s (Quit block) = Unit {0}
@@ -64,7 +65,8 @@ Brings logs g w s Tick = Unit {0}
 
 -- The act of the block that an input is: a write, where it may be written.
 abbrev pub acts_seen : Setting → TokensState → inputs.In → List Act
-acts_seen g s (Wrote block value) = if may_write (held_of s.blocks block) then (if same_block block g.block then WroteBlock g.client (g.number value) ∷ [] else []) else []
+acts_seen g s (Wrote block value) =
+    if may_write (held_of s.blocks block) then (if same_block block g.block then WroteBlock g.client (g.number value) ∷ [] else []) else []
 acts_seen g s _ = []
 
 -- Each input is taken by steps of the client.

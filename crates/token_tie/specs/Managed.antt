@@ -34,7 +34,8 @@ pub record AwaitedShown (leave : Bool) (epoch : ℕ) (awaited keep : ℕ → ℕ
 
 abbrev pub AllAwaited : Bool → ℕ → (ℕ → ℕ) → (ℕ → ℕ) → List packets.Recall → List Awaited → Type 0
 AllAwaited keeps epoch awaited keep recalls [] = Unit {0}
-AllAwaited keeps epoch awaited keep recalls (a ∷ more) = (a.end ≡ None → AwaitedShown keeps epoch awaited keep recalls a) × AllAwaited keeps epoch awaited keep recalls more
+AllAwaited keeps epoch awaited keep recalls (a ∷ more) =
+    (a.end ≡ None → AwaitedShown keeps epoch awaited keep recalls a) × AllAwaited keeps epoch awaited keep recalls more
 
 -- some answer of this client named an end at or above this
 abbrev pub Named : List Awaited → ℕ → ℕ → Type 0

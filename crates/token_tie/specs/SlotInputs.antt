@@ -29,8 +29,10 @@ pub record Reached (s : SlotState) : Type 0 where
 -- what the world owes each input: that a Want or Gave was sent, and that Deltas tell what their log filed
 abbrev pub Brings : Bool → BlockId → World → SlotState → inputs.In → Type 0
 Brings logs b w s (Want client block inc req again mode end) = (0 < client) × (block ≡ b → In (want_seen (want_of client block inc req again mode) end) w.wants)
-Brings logs b w s (Gave client block stamp end) = (0 < client) × (block ≡ b → stamp.epoch ≡ w.epoch → In (record { client = client; stamp = stamp.turn; end = end }) w.gaves)
-Brings logs b w s (Deltas log first upto rows) = (log.0 - 1 < length s.applied) × Premise logs (IndexCovers w log.0 upto (entry_seen (entry_of (indexed_all s.index rows).rows b)))
+Brings logs b w s (Gave client block stamp end) =
+    (0 < client) × (block ≡ b → stamp.epoch ≡ w.epoch → In (record { client = client; stamp = stamp.turn; end = end }) w.gaves)
+Brings logs b w s (Deltas log first upto rows) =
+    (log.0 - 1 < length s.applied) × Premise logs (IndexCovers w log.0 upto (entry_seen (entry_of (indexed_all s.index rows).rows b)))
 Brings logs b w s (Check block place) = Unit {0}
 Brings logs b w s Tick = Unit {0}
 

@@ -25,7 +25,8 @@ pub record ByClient (c : ℕ) (w v : World) : Type 0 where
 
 -- what is given of the block was sent there, with this end of the client's log
 abbrev pub Said : Setting → ℕ → World → Out → Type 0
-Said g end w (Want block req again mode) = block ≡ g.block → In (record { client = g.client; incarnation = g.incarnation; request = req; mode = rank mode; end = end }) w.wants
+Said g end w (Want block req again mode) =
+    block ≡ g.block → In (record { client = g.client; incarnation = g.incarnation; request = req; mode = rank mode; end = end }) w.wants
 Said g end w (Gave block stamp) = block ≡ g.block → (stamp.epoch ≤ w.epoch) × In (record { client = g.client; stamp = stamp.turn; end = end }) w.gaves
 Said g end w (Supply block ver value) = Unit {0}
 Said g end w (Flush block) = Unit {0}

@@ -49,19 +49,23 @@ number Registry = 0
 -- ---- Welcomes
 
 -- what a Welcome to another client owes is owed as before
-pub welcome_frame : (part most c : ℕ) (n m : Net) → m.tokens c ≡ n.tokens c → (p : Phase) (w : Welcome) → WelcomeRises part most c n p w → WelcomeRises part most c m p w
+pub welcome_frame : (part most c : ℕ) (n m : Net) → m.tokens c ≡ n.tokens c → (p : Phase) (w : Welcome) → WelcomeRises part most c n p w
+    → WelcomeRises part most c m p w
 welcome_frame part most c n m tokens (Down l) w h = tt
-welcome_frame part most c n m tokens (Opening l o) w h = λ same i d less of_part. subst (λ (t : TokensState). epoch_of t.epochs part ≤ (get_or w.news.slots i d).epoch) (sym tokens) (h same i d less of_part)
+welcome_frame part most c n m tokens (Opening l o) w h =
+    λ same i d less of_part. subst (λ (t : TokensState). epoch_of t.epochs part ≤ (get_or w.news.slots i d).epoch) (sym tokens) (h same i d less of_part)
 welcome_frame part most c n m tokens (Serves s) w h = tt
 
 module _ (logs : Bool) (part most c : ℕ) (n : Net) where
   -- a Welcome of a life that a client had says nothing of one that begins, and what it owes to an opening stands still with that
-  pub welcome_after : (p p' : Phase) (members : ℕ) (outs : List Effect) (go : ClientGoes logs members part most c n p p' outs) (w : Welcome) → w.inc ≤ (lasting_of p).inc → WelcomeRises part most c n p w → WelcomeRises part most c go.next p' w
+  pub welcome_after : (p p' : Phase) (members : ℕ) (outs : List Effect) (go : ClientGoes logs members part most c n p p' outs) (w : Welcome)
+      → w.inc ≤ (lasting_of p).inc → WelcomeRises part most c n p w → WelcomeRises part most c go.next p' w
   welcome_after p (Down next) members outs go w life h = tt
   welcome_after p (Serves s) members outs go w life h = tt
   welcome_after (Down l) (Opening next o) members outs go w life h = λ same. (let later = go.begins in absurd (omega arith))
   welcome_after (Serves s) (Opening next o) members outs go w life h = λ same. (let later = go.begins in absurd (omega arith))
-  welcome_after (Opening l q) (Opening next o) members outs go w life h = λ same. (let later = go.later in let now : w.inc ≡ l.inc = omega arith in welcome_frame part most c n go.next (go.stands tt) (Opening l q) w h now)
+  welcome_after (Opening l q) (Opening next o) members outs go w life h =
+      λ same. (let later = go.later in let now : w.inc ≡ l.inc = omega arith in welcome_frame part most c n go.next (go.stands tt) (Opening l q) w h now)
 
 pub numbered : (logs : Bool) (part c : ℕ) (n : Net) (p : Phase) → ClientAgrees logs part c n p → (lasting_of p).number ≡ c
 numbered logs part c n (Down l) h = h.number
@@ -77,7 +81,8 @@ number_is part c n p h = numbered false part c n p h
 pub no_client : (c members l : ℕ) → c < members → members ≤ l → l ≡ c → ⊥
 no_client c members l less few is = omega arith
 
-module _ (logs : Bool) (k : Cluster) (part : ℕ) (RegistrySound : RegistryNode → Type 0) (nodes : List AnyNode) (sent : List Packet) (done : List Act) (s : Scene)
+module _ (logs : Bool) (k : Cluster) (part : ℕ) (RegistrySound : RegistryNode → Type 0) (nodes : List AnyNode) (sent : List Packet) (done : List Act)
+    (s : Scene)
     (st : Stands logs k part nodes sent done RegistrySound s)
     (c p clock : ℕ) (some : 0 < c) (within : c < members k part) (at : place_of k (Client c) ≡ Some p) (is : slice_get nodes p ≡ Some (any.Client (s.client c)))
     (w : Went_to) (go : ClientGoes logs (members k part) part (epoch_now k part s) c s.net (s.client c).phase w.state w.outs) (asks : PhaseAsks w.state) where
@@ -105,7 +110,9 @@ module _ (logs : Bool) (k : Cluster) (part : ℕ) (RegistrySound : RegistryNode 
     told = λ j. omega arith;
     given = λ e most. (refl, refl);
     new = λ e less most. absurd (omega arith);
-    welcomes = λ d m. put_each (λ d (x : ClientNode). m.inc ≤ life_of_client s d → WelcomeRises part (epoch_now k part s) d s.net (s.client d).phase m → WelcomeRises part (epoch_now k part s) d go.next x.phase m)
+    welcomes = λ d m. put_each
+        (λ d (x : ClientNode). m.inc ≤ life_of_client s d → WelcomeRises part (epoch_now k part s) d s.net (s.client d).phase m
+        → WelcomeRises part (epoch_now k part s) d go.next x.phase m)
         s.client c after_node (λ life h. welcome_after logs part (epoch_now k part s) c s.net (s.client c).phase w.state (members k part) w.outs go m life h)
         (λ d other life h. welcome_frame part (epoch_now k part s) d s.net go.next (go.others d other).0 (s.client d).phase m h) d;
     cleans = omega arith;
@@ -115,11 +122,13 @@ module _ (logs : Bool) (k : Cluster) (part : ℕ) (RegistrySound : RegistryNode 
 
   placed : Placed k part nodes_now sent_now client_scene
   placed = record {
-    clients = put_each (λ d (x : ClientNode). 0 < d → d < members k part → node_in nodes_now (place_of k (Client d)) ≡ Some (any.Client x)) s.client c after_node
+    clients = put_each
+        (λ d (x : ClientNode). 0 < d → d < members k part → node_in nodes_now (place_of k (Client d)) ≡ Some (any.Client x)) s.client c after_node
         (λ _ _. here k nodes (Client c) p at (any.Client after_node) (any.Client (s.client c)) is)
         (λ d other pos less. there k nodes (Client c) p at (any.Client after_node) (Client d) (λ same. other (ap number same)) ∙ st.placed.clients d pos less);
     managers = λ j pos most. there k nodes (Client c) p at (any.Client after_node) (Manager j) (λ same. absurd (cc)) ∙ st.placed.managers j pos most;
-    servers = λ n pos most. (let h = st.placed.servers n pos most in (h.0, there k nodes (Client c) p at (any.Client after_node) (Server n) (λ same. absurd (cc)) ∙ h.1));
+    servers = λ n pos most.
+        (let h = st.placed.servers n pos most in (h.0, there k nodes (Client c) p at (any.Client after_node) (Server n) (λ same. absurd (cc)) ∙ h.1));
     cleaner = there k nodes (Client c) p at (any.Client after_node) Cleaner (λ same. absurd (cc)) ∙ st.placed.cleaner;
     registry = there k nodes (Client c) p at (any.Client after_node) Registry (λ same. absurd (cc)) ∙ st.placed.registry;
   }
@@ -136,8 +145,10 @@ module _ (logs : Bool) (k : Cluster) (part : ℕ) (RegistrySound : RegistryNode 
 
   new_facts : (q : Packet) → In q (map (sent_at clock) (packets_of (Client (lasting_of (s.client c).phase).number) w.outs)) → Fact k part client_scene q
   new_facts q h =
-      sends (Client (lasting_of (s.client c).phase).number) clock (ClientDid part c s.net go.next.sent (lasting_of w.state).inc w.state) (Fact k part client_scene)
-      (λ to m does. fact_of (lasting_of (s.client c).phase).number (numbered logs part c s.net (s.client c).phase (st.clients c some within).0) to m does) w.outs go.does q h
+      sends (Client (lasting_of (s.client c).phase).number) clock (ClientDid part c s.net go.next.sent (lasting_of w.state).inc w.state)
+      (Fact k part client_scene)
+      (λ to m does. fact_of (lasting_of (s.client c).phase).number (numbered logs part c s.net (s.client c).phase (st.clients c some within).0) to m does)
+      w.outs go.does q h
     where
       life_here : life_of_client client_scene c ≡ (lasting_of w.state).inc
       life_here = ap (λ (x : ClientNode). (lasting_of x.phase).inc) (put_here s.client c after_node)
@@ -158,14 +169,19 @@ module _ (logs : Bool) (k : Cluster) (part : ℕ) (RegistrySound : RegistryNode 
 
   pub client_turn : Stands logs k part nodes_now sent_now acts_now RegistrySound client_scene
   client_turn = record {
-    runs = runs_on logs (members k part) part _ (with_promise 1 s.net) (with_promise 1 go.next) st.runs (any_promise logs (members k part) part 1 s.net go.next go.runs);
+    runs = runs_on logs (members k part) part _ (with_promise 1 s.net) (with_promise 1 go.next) st.runs
+        (any_promise logs (members k part) part 1 s.net go.next go.runs);
     acts = acts;
     placed = placed;
     sound = st.sound;
-    clients = put_each (λ d (x : ClientNode). 0 < d → d < members k part → ClientAgrees logs part d go.next x.phase × ClientStands part (epoch_now k part s) d go.next x.phase) s.client c after_node
+    clients = put_each
+        (λ d (x : ClientNode). 0 < d → d < members k part → ClientAgrees logs part d go.next x.phase × ClientStands part (epoch_now k part s) d go.next x.phase)
+        s.client c after_node
         (λ _ _. (go.agrees, record { asks = asks; within = go.within; promises = go.promises }))
-        (λ d other pos less. (let h = st.clients d pos less in let o = go.others d other in
-        (client_frame logs part d s.net go.next o.0 o.1 (go.books d other) go.grows (s.client d).phase h.0, stands_frame part (epoch_now k part s) (epoch_now k part s) d s.net go.next (omega arith) o.0 (s.client d).phase h.1)));
+        (λ d other pos less. (let h = st.clients d pos less in let o = go.others d other in (
+          client_frame logs part d s.net go.next o.0 o.1 (go.books d other) go.grows (s.client d).phase h.0,
+          stands_frame part (epoch_now k part s) (epoch_now k part s) d s.net go.next (omega arith) o.0 (s.client d).phase h.1,
+        )));
     managers = sees;
     cleaner = subst (λ x. (x ≤ epoch_now k part s) × CleanerStands part x (epoch_now k part s) s.cleaner.phase) (sym promised) st.cleaner;
     copies = premise_by logs

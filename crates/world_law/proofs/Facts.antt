@@ -89,7 +89,8 @@ module _ (part : ℕ) (xs ys : List NetPacket) (grows : (x : NetPacket) → In x
   client_stays c life later less to (body.CkptDone m) h = absurd h
   client_stays c life later less to (body.CkptAck m) h = absurd h
 
-  pub manager_stays : (most more life later : ℕ) → most ≤ more → life ≤ later → (to : NodeId) (m : Body) → ManagerSends part xs most life to m → ManagerSends part ys more later to m
+  pub manager_stays : (most more life later : ℕ) → most ≤ more → life ≤ later → (to : NodeId) (m : Body) → ManagerSends part xs most life to m
+      → ManagerSends part ys more later to m
   manager_stays most more life later rise less to (body.Want m) h = absurd h
   manager_stays most more life later rise less to (body.Grant m) h = grant_stays to m h
   manager_stays most more life later rise less to (body.Forward m) h = forward_stays to m h
@@ -123,7 +124,8 @@ module _ (part : ℕ) (xs ys : List NetPacket) (grows : (x : NetPacket) → In x
   manager_stays most more life later rise less to (body.CkptDone m) h = tt
   manager_stays most more life later rise less to (body.CkptAck m) h = absurd h
 
-pub cleaner_stays : (part promised more life later : ℕ) → promised ≤ more → life ≤ later → (m : Body) → CleanerSends part promised life m → CleanerSends part more later m
+pub cleaner_stays : (part promised more life later : ℕ) → promised ≤ more → life ≤ later → (m : Body) → CleanerSends part promised life m
+    → CleanerSends part more later m
 cleaner_stays part promised more life later rise less (body.Report m) h = λ same. up_to m.epoch promised more (h same) rise
 cleaner_stays part promised more life later rise less (body.Hello m) h = up_to m.inc life later h less
 cleaner_stays part promised more life later rise less (body.Deltas m) h = tt
@@ -173,13 +175,15 @@ module _ (k : Cluster) (part : ℕ) where
       own = λ news is same mine. (let now = g.given news.epoch (all.each news is same).within in subst (λ x. m.inc ≤ x) (sym now.1) (h.own news is same mine));
     }
       where
-        by_age : (news : SlotNews) → In news m.news.slots → news.slot ≡ part → (e : ℕ) → news.epoch < e → e ≤ epoch_now k part t → t.lord e ≡ j → (old : Bool) → nat_le e (epoch_now k part s) ≡ old → m.inc ≤ t.since e
+        by_age : (news : SlotNews) → In news m.news.slots → news.slot ≡ part → (e : ℕ) → news.epoch < e → e ≤ epoch_now k part t → t.lord e ≡ j → (old : Bool)
+            → nat_le e (epoch_now k part s) ≡ old → m.inc ≤ t.since e
         by_age news is same e less most lord true h_ =
             let within = le_of e (epoch_now k part s) h_ in
             let now = g.given e within in
             subst (λ x. m.inc ≤ x) (sym now.1) (h.later news is same e less within (sym now.0 ∙ lord))
         by_age news is same e less most lord false h_ =
-            up_to m.inc (life_told t j) (t.since e) (up_to _ _ _ h.life (g.told j)) (subst (λ x. life_told t x ≤ t.since e) lord (g.new e (lt_of e (epoch_now k part s) h_) most))
+            up_to m.inc (life_told t j) (t.since e) (up_to _ _ _ h.life (g.told j))
+            (subst (λ x. life_told t x ≤ t.since e) lord (g.new e (lt_of e (epoch_now k part s) h_) most))
 
     welcomed_stays : (to : NodeId) (m : Welcome) → AllTold k part s m.news.slots → Welcomed k part s to m → Welcomed k part t to m
     welcomed_stays (Client c) m all h = client_welcomed_stays c m h
@@ -224,8 +228,12 @@ module _ (k : Cluster) (part : ℕ) where
 
     sent_stays : (from to : NodeId) (m : Body) → SentBy k part s from to m → SentBy k part t from to m
     sent_stays (Client c) to m h = (h.0, h.1, client_stays part s.net.sent t.net.sent g.sent c (life_of_client s c) (life_of_client t c) (g.lives c) to m h.2)
-    sent_stays (Manager j) to m h =
-        (h.0, h.1, manager_stays part s.net.sent t.net.sent g.sent (epoch_now k part s) (epoch_now k part t) (life_of_manager s j) (life_of_manager t j) g.epochs (g.reigns j) to m h.2)
+    sent_stays (Manager j) to m h = (
+      h.0,
+      h.1,
+      manager_stays part s.net.sent t.net.sent g.sent (epoch_now k part s) (epoch_now k part t) (life_of_manager s j)
+          (life_of_manager t j) g.epochs (g.reigns j) to m h.2,
+    )
     sent_stays (Server n) to m h = h
     sent_stays Cleaner to m h = cleaner_stays part s.net.promised t.net.promised (life_of_cleaner s) (life_of_cleaner t) g.promises g.cleans m h
     sent_stays Registry to m h = registry_stays to m h

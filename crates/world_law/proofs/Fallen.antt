@@ -25,7 +25,8 @@ module _ (laws : NodeLaws) (small : NobodyHoldsAfterFall) where
   nobody_now : (w : World AnyNode) (k : Cluster) → w.cluster ≡ k → ((part : ℕ) (of_eight : part < 8) → GoodWorld laws k part of_eight w) → NobodyHolds w
   nobody_now w k cluster good b c d t fallen at_d =
       subst (λ (x : TokensState). is_held (held_of x.blocks b).mode ≡ false) y.tokens
-      (small false (members k part) part (with_promise 1 now.net) b (record { run = st.runs; inside = itself part }) c d (record { some = waits.some; within = waits.within }) y.client waits.down waits.dirty y.up)
+      (small false (members k part) part (with_promise 1 now.net) b (record { run = st.runs; inside = itself part }) c d
+      (record { some = waits.some; within = waits.within }) y.client waits.down waits.dirty y.up)
     where
       part : ℕ
       part = slot_of b.ino.0
@@ -46,11 +47,13 @@ module _ (laws : NodeLaws) (small : NobodyHoldsAfterFall) where
       itself n = grind (arith, nat_tests)
 
       y : ServesThere laws k part of_eight now d t
-      y = serves_there laws k part of_eight w.nodes w.sent w.acts now st d t (subst (λ cl. tokens_of (node_in w.nodes (place_of cl (Client d))) ≡ Some t) cluster at_d)
+      y = serves_there laws k part of_eight w.nodes w.sent w.acts now st d t
+          (subst (λ cl. tokens_of (node_in w.nodes (place_of cl (Client d))) ≡ Some t) cluster at_d)
 
   pub nobody_holds : NobodyHoldsWhatFell
   nobody_holds e setup run count =
-      nobody_now (moment e count) (cluster_of e.script.setup) (front laws e setup run count 0 (omega arith)).0 (λ part of_eight. (front laws e setup run count part of_eight).1)
+      nobody_now (moment e count) (cluster_of e.script.setup) (front laws e setup run count 0 (omega arith)).0
+      (λ part of_eight. (front laws e setup run count part of_eight).1)
 
 -- the acts of a run are those of the small world, in which falls are apart
 pub falls_apart : NodeLaws → FallsAreApart → EveryRunHasFallsApart

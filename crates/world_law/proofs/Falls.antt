@@ -59,19 +59,23 @@ module _ (F : ℕ → BlockId → Type 0) where
   one_told : (a : Act) (h : History) (c : ℕ) (b : BlockId) → Falls a → Names b ((after_act a h).told c) → Names b (h.told c) ⊎ F c b
   one_told (act.Wrote client block value) h c b right names = inl names
   one_told (act.Read client block ver value) h c b right names =
-      by_test (λ (x : History). Names b (x.told c) → Names b (h.told c) ⊎ F c b) (is_by_other client ver (h.of_block block).versions) (change block (pin ver) h) h
+      by_test (λ (x : History). Names b (x.told c) → Names b (h.told c) ⊎ F c b) (is_by_other client ver (h.of_block block).versions)
+      (change block (pin ver) h) h
       (λ t n. inl n) (λ t n. inl n) names
   one_told (act.Synced client) h c b right names = inl names
   one_told (act.Fell client flight falls) h c b right names =
       by_test (λ (xs : List FallTold). Names b xs → Names b (h.told c) ⊎ F c b) (c == client) (h.told c ++ told ∷ []) (h.told c)
-      (λ t n. ⊎_elim (λ old. inl (record { told_so = n.told_so; among = old; fall = n.fall; named = n.named; block = n.block })) (λ new. inr (fell t n new)) (in_append (h.told c) (told ∷ []) n.told_so n.among))
+      (λ t n. ⊎_elim (λ old. inl (record { told_so = n.told_so; among = old; fall = n.fall; named = n.named; block = n.block })) (λ new. inr (fell t n new))
+      (in_append (h.told c) (told ∷ []) n.told_so n.among))
       (λ t n. inl n) names
     where
       told : FallTold
       told = record { flight = flight; falls = falls }
 
       fell : {X : List FallTold} → (c == client) ≡ true → (n : Names b X) → In n.told_so (told ∷ []) → F c b
-      fell t n (inl is) = subst (λ x. F x b) (sym (eqb-true c client t)) (subst (λ x. F client x) n.block (right n.fall (subst (λ (x : FallTold). In n.fall x.falls) is n.named)))
+      fell t n (inl is) =
+          subst (λ x. F x b) (sym (eqb-true c client t))
+          (subst (λ x. F client x) n.block (right n.fall (subst (λ (x : FallTold). In n.fall x.falls) is n.named)))
       fell t n (inr later) = absurd later
   one_told (act.Back client chain) h c b right names =
       by_test (λ (xs : List FallTold). Names b xs → Names b (h.told c) ⊎ F c b) (c == client) [] ((settle chain (h.told client) h).told c)
@@ -87,10 +91,12 @@ module _ (F : ℕ → BlockId → Type 0) where
       ⊎_elim (λ old. one_told a h c b (All-head Falls a acts right) old) inr (all_told acts (after_act a h) c b (All-tail Falls a acts right) names)
 
   -- none waits once its client is back
-  pub back_told : (acts : List Act) (h : History) (c : ℕ) (b : BlockId) (chain : List SegName) → In (act.Back c chain) acts → All Falls acts → (F c b → ⊥) → Names b ((history_after acts h).told c) → ⊥
+  pub back_told : (acts : List Act) (h : History) (c : ℕ) (b : BlockId) (chain : List SegName) → In (act.Back c chain) acts → All Falls acts → (F c b → ⊥)
+      → Names b ((history_after acts h).told c) → ⊥
   back_told [] h c b chain is right none names = is
   back_told (a ∷ acts) h c b chain (inl same) right none names =
-      ⊎_elim (λ old. over (subst (λ (x : Act). Names b ((after_act x h).told c)) (sym same) old)) none (all_told acts (after_act a h) c b (All-tail Falls a acts right) names)
+      ⊎_elim (λ old. over (subst (λ (x : Act). Names b ((after_act x h).told c)) (sym same) old)) none
+      (all_told acts (after_act a h) c b (All-tail Falls a acts right) names)
     where
       over : Names b ((after_act (act.Back c chain) h).told c) → ⊥
       over n = (subst (λ t. Names b (if t then [] else (settle chain (h.told c) h).told c)) (itself c) n).among
@@ -127,7 +133,8 @@ module _ (members : ℕ) where
   falls_stay n m acts more tokens up none st b c names =
       let told = subst (λ (h : History). Names b (h.told c)) (history_append acts more nothing_yet) names in
       let old : Names b ((history_after acts nothing_yet).told c) =
-      ⊎_elim (λ o. o) (λ f. absurd f) (all_told (λ c b. ⊥) more (history_after acts nothing_yet) c b (All-weaker IsNeutral (Falls (λ c b. ⊥)) no_falls more none) told) in
+      ⊎_elim (λ o. o) (λ f. absurd f)
+      (all_told (λ c b. ⊥) more (history_after acts nothing_yet) c b (All-weaker IsNeutral (Falls (λ c b. ⊥)) no_falls more none) told) in
       let w = st b c old in
       record {
         some = w.some;
@@ -157,20 +164,25 @@ module _ (members : ℕ) where
           each _ h = tt
 
       -- one that was down and of which a fall waits still doesn't serve
-      still_away : (p q : Phase) (outs : List Effect) (go : ClientGoes logs members part most c n p q outs) → ClientAgrees logs part c n p → n.up c ≡ false → (h : History) → Names b ((history_after (acts_of node outs) h).told c) → IsAway q
+      still_away : (p q : Phase) (outs : List Effect) (go : ClientGoes logs members part most c n p q outs) → ClientAgrees logs part c n p → n.up c ≡ false
+          → (h : History) → Names b ((history_after (acts_of node outs) h).told c) → IsAway q
       still_away p (Down l) outs go agrees down h names = tt
       still_away p (Opening l o) outs go agrees down h names = tt
       still_away (Serves r) (Serves s) outs go agrees down h names = contrary (sym down ∙ agrees.up)
       still_away (Down l) (Serves s) outs go agrees down h names = absurd go.back
       still_away (Opening l o) (Serves s) outs go agrees down h names =
-          absurd (back_told (Own (Serves s)) (acts_of node outs) h c b go.back.0 (in_acts node (act.Back c go.back.0) outs go.back.1) (right (Opening l o) (Serves s) outs go) (λ f. f.1) names)
+          absurd (back_told (Own (Serves s)) (acts_of node outs) h c b go.back.0 (in_acts node (act.Back c go.back.0) outs go.back.1)
+          (right (Opening l o) (Serves s) outs go) (λ f. f.1) names)
 
     -- what a client does keeps falls standing so
-    pub client_falls : (p q : Phase) (outs : List Effect) (go : ClientGoes logs members part most c n p q outs) → ClientAgrees logs part c n p → FallsStand go.next (acts ++ acts_of node outs)
+    pub client_falls : (p q : Phase) (outs : List Effect) (go : ClientGoes logs members part most c n p q outs) → ClientAgrees logs part c n p
+        → FallsStand go.next (acts ++ acts_of node outs)
     client_falls p q outs go agrees b d names =
         ⊎_elim
         (λ old. let w = st b d old in ⊎_elim
-        (λ same. subst (WaitsDirty go.next b) (sym same) (here (still_away b p q outs go agrees (subst (λ x. n.up x ≡ false) same w.down) before (subst (λ x. Names b ((history_after (acts_of node outs) before).told x)) same told))
+        (λ same. subst (WaitsDirty go.next b) (sym same)
+        (here (still_away b p q outs go agrees (subst (λ x. n.up x ≡ false) same w.down) before
+        (subst (λ x. Names b ((history_after (acts_of node outs) before).told x)) same told))
         (subst (λ x. is_dirty (held_of (n.tokens x).blocks b) ≡ true) same w.dirty)))
         (λ other. let o = go.others d other in record {
           some = w.some;

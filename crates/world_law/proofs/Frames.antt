@@ -47,15 +47,26 @@ module _ (k m : Books) (c : ℕ) (same : SameLog k m c) where
 
 -- ---- a client
 
-module _ (logs : Bool) (part c : ℕ) (n m : Net) (tokens : m.tokens c ≡ n.tokens c) (up : m.up c ≡ n.up c) (log : SameLog n.books m.books c) (grows : (x : Packet) → In x n.sent → In x m.sent) where
+module _ (logs : Bool) (part c : ℕ) (n m : Net) (tokens : m.tokens c ≡ n.tokens c) (up : m.up c ≡ n.up c) (log : SameLog n.books m.books c)
+    (grows : (x : Packet) → In x n.sent → In x m.sent) where
   pub client_frame : (p : ClientPhase) → ClientAgrees logs part c n p → ClientAgrees logs part c m p
-  client_frame (clients.Down l) h = record { up = up ∙ h.up; number = h.number; inc = subst (λ (t : TokensState). t.inc ≤ l.inc) (sym tokens) h.inc; beyond = premise_by logs (beyond_on n.books m.books c log) h.beyond }
+  client_frame (clients.Down l) h =
+      record {
+        up = up ∙ h.up;
+        number = h.number;
+        inc = subst (λ (t : TokensState). t.inc ≤ l.inc) (sym tokens) h.inc;
+        beyond = premise_by logs (beyond_on n.books m.books c log) h.beyond;
+      }
   client_frame (clients.Opening l o) h = record {
     up = up ∙ h.up;
     number = h.number;
     inc = subst (λ (t : TokensState). t.inc < l.inc) (sym tokens) h.inc;
     owner = h.owner;
-    promised = ⊎_elim (λ first. inl first) (λ r. inr (record { epochs = r.epochs; rises = subst (λ (t : TokensState). epoch_of t.epochs part ≤ epoch_of o.known.promised.epochs part) (sym tokens) r.rises })) h.promised;
+    promised = ⊎_elim (λ first. inl first)
+        (λ r. inr (record {
+          epochs = r.epochs;
+          rises = subst (λ (t : TokensState). epoch_of t.epochs part ≤ epoch_of o.known.promised.epochs part) (sym tokens) r.rises;
+        })) h.promised;
     beyond = premise_by logs (beyond_on n.books m.books c log) h.beyond;
   }
   client_frame (clients.Serving s) h = record {
@@ -74,7 +85,8 @@ promises_more part most more rise (clients.Down l) h = tt
 promises_more part most more rise (clients.Opening l o) h = ⊎_elim (λ first. inl first) (λ within. inr (omega arith)) h
 promises_more part most more rise (clients.Serving s) h = tt
 
-pub stands_frame : (part most more c : ℕ) (n m : Net) → most ≤ more → m.tokens c ≡ n.tokens c → (p : ClientPhase) → ClientStands part most c n p → ClientStands part more c m p
+pub stands_frame : (part most more c : ℕ) (n m : Net) → most ≤ more → m.tokens c ≡ n.tokens c → (p : ClientPhase) → ClientStands part most c n p
+    → ClientStands part more c m p
 stands_frame part most more c n m rise tokens p h = record {
   asks = h.asks;
   within = subst (λ (t : TokensState). epoch_of t.epochs part ≤ more) (sym tokens) (up_to _ _ _ h.within rise);

@@ -103,7 +103,8 @@ module _ (k : Cluster) (part : ℕ) (s : Scene) where
   news_low : (slots : List SlotNews) → AllTold k part s slots → NewsLow part s.net.promised (epoch_now k part s) slots
   news_low slots all = all_in (λ news. news.slot ≡ part → news.epoch ≤ epoch_now k part s) slots (λ news is same. (all.each news is same).within)
 
-  client_body : (c : ℕ) (from to : NodeId) (m : Body) → SentBy k part s from to m → to ≡ Client c → GetsBody part (epoch_now k part s) c s.net (s.client c).phase m
+  client_body : (c : ℕ) (from to : NodeId) (m : Body) → SentBy k part s from to m → to ≡ Client c
+      → GetsBody part (epoch_now k part s) c s.net (s.client c).phase m
   client_body c from to (body.Want m) h same = tt
   client_body c from to (body.Grant m) h same = subst (λ x. GrantSeen part s.net.sent x m) same (grant_told from to m h)
   client_body c from to (body.Forward m) h same = subst (λ x. ForwardSeen part s.net.sent x m) same (forward_told from to m h)
@@ -132,21 +133,25 @@ module _ (k : Cluster) (part : ℕ) (s : Scene) where
   client_body c from to (body.UsageAsk m) h same = tt
   client_body c from to (body.Usage m) h same = tt
   client_body c from to (body.Hello m) h same = tt
-  client_body c from to (body.Welcome m) h same = (let w = welcome_told from to m h in (news_within c m.news.slots w.0, (subst (λ x. Welcomed k part s x m) same w.1).rises))
+  client_body c from to (body.Welcome m) h same =
+      (let w = welcome_told from to m h in (news_within c m.news.slots w.0, (subst (λ x. Welcomed k part s x m) same w.1).rises))
   client_body c from to (body.MapNews m) h same = news_within c m.slots (news_told from to m h)
   client_body c from to (body.CkptDone m) h same = tt
   client_body c from to (body.CkptAck m) h same = tt
 
-  pub client_gets : (logs : Bool) (c : ℕ) (q : Packet) → Fact k part s q → q.to ≡ Client c → Premise logs (ReadsSo part (epoch_now k part s) c s.net (s.client c).phase q)
+  pub client_gets : (logs : Bool) (c : ℕ) (q : Packet) → Fact k part s q → q.to ≡ Client c
+      → Premise logs (ReadsSo part (epoch_now k part s) c s.net (s.client c).phase q)
       → ClientGets logs part (epoch_now k part s) c s.net (s.client c).phase q
   client_gets logs c q fact same told = record { brings = client_body c q.from q.to q.body fact same; reads = told }
 
   -- ---- the cleaner
 
-  cleaner_body : (from to : NodeId) (m : Body) → SentBy k part s from to m → to ≡ Cleaner → CleanerGets part s.net.promised (epoch_now k part s) s.cleaner.phase m
+  cleaner_body : (from to : NodeId) (m : Body) → SentBy k part s from to m → to ≡ Cleaner
+      → CleanerGets part s.net.promised (epoch_now k part s) s.cleaner.phase m
   cleaner_body from to (body.Poll m) h same = poll_told from to m h
   cleaner_body from to (body.MapNews m) h same = news_low m.slots (news_told from to m h)
-  cleaner_body from to (body.Welcome m) h same = (let w = welcome_told from to m h in (news_low m.news.slots w.0, (subst (λ x. Welcomed k part s x m) same w.1).rises))
+  cleaner_body from to (body.Welcome m) h same =
+      (let w = welcome_told from to m h in (news_low m.news.slots w.0, (subst (λ x. Welcomed k part s x m) same w.1).rises))
   cleaner_body from to _ h same = tt
 
   pub cleaner_gets : (q : Packet) → Fact k part s q → q.to ≡ Cleaner → CleanerGets part s.net.promised (epoch_now k part s) s.cleaner.phase q.body
@@ -179,7 +184,8 @@ module _ (k : Cluster) (part : ℕ) (s : Scene) where
   report_gets Registry to m h = tt
 
   -- where logs may lose what they held, nothing is owed of what they tell
-  deltas_gets : (logs : Bool) (from : NodeId) (m : Deltas) → Premise logs (DeltasGets true (members k part) part s.net from m) → DeltasGets logs (members k part) part s.net from m
+  deltas_gets : (logs : Bool) (from : NodeId) (m : Deltas) → Premise logs (DeltasGets true (members k part) part s.net from m)
+      → DeltasGets logs (members k part) part s.net from m
   deltas_gets true from m told = told
   deltas_gets false (Client c) m told = λ of. tt
   deltas_gets false (Manager c) m told = tt
@@ -193,11 +199,13 @@ module _ (k : Cluster) (part : ℕ) (s : Scene) where
   takeover_gets (phase.Away epoch) given = tt
   takeover_gets (phase.Broken epoch seg) given = tt
 
-  last_gets : (logs : Bool) (p : SlotPhase) (from : NodeId) (m : Report) → Premise logs (LastReportGets true (members k part) part s.net p from m) → LastReportGets logs (members k part) part s.net p from m
+  last_gets : (logs : Bool) (p : SlotPhase) (from : NodeId) (m : Report) → Premise logs (LastReportGets true (members k part) part s.net p from m)
+      → LastReportGets logs (members k part) part s.net p from m
   last_gets true p from m told = told
   last_gets false p from m told = λ of same. takeover_gets p (report_input from m)
 
-  found_gets : (logs : Bool) (p : SlotPhase) (from : NodeId) (m : Found) → Premise logs (FoundGets true (members k part) part s.net p from m) → FoundGets logs (members k part) part s.net p from m
+  found_gets : (logs : Bool) (p : SlotPhase) (from : NodeId) (m : Found) → Premise logs (FoundGets true (members k part) part s.net p from m)
+      → FoundGets logs (members k part) part s.net p from m
   found_gets true p from m told = told
   found_gets false p (Client c) m told = tt
   found_gets false p (Manager c) m told = tt
@@ -205,7 +213,8 @@ module _ (k : Cluster) (part : ℕ) (s : Scene) where
   found_gets false p Cleaner m told = tt
   found_gets false p Registry m told = tt
 
-  absent_gets : (logs : Bool) (p : SlotPhase) (from : NodeId) (m : Missing) → Premise logs (AbsentGets true (members k part) part s.net p from m) → AbsentGets logs (members k part) part s.net p from m
+  absent_gets : (logs : Bool) (p : SlotPhase) (from : NodeId) (m : Missing) → Premise logs (AbsentGets true (members k part) part s.net p from m)
+      → AbsentGets logs (members k part) part s.net p from m
   absent_gets true p from m told = told
   absent_gets false p (Client c) m told = tt
   absent_gets false p (Manager c) m told = tt
@@ -227,13 +236,17 @@ module _ (k : Cluster) (part : ℕ) (s : Scene) where
       new = λ mine less. free news.epoch (λ z there. clash told mine less (entered news.epoch z there).3);
     })
       where
-        clash : NewsTold k part s news → news.manager ≡ j → epoch_in part (Serves v) < news.epoch → PastAt k part (s.manager (s.lord news.epoch)).phase (s.since news.epoch) news.epoch → ⊥
+        clash : NewsTold k part s news → news.manager ≡ j → epoch_in part (Serves v) < news.epoch
+            → PastAt k part (s.manager (s.lord news.epoch)).phase (s.since news.epoch) news.epoch → ⊥
         clash told mine less past =
             let lord : s.lord news.epoch ≡ j = told.given ∙ mine in
-            ⊎_elim (λ before. let fresh = sees.fresh refl news.epoch less told.within lord in absurd (omega arith)) (λ in_life. let been = in_life.1 in absurd (omega arith))
-            (subst (λ p. PastAt k part p (s.since news.epoch) news.epoch) is (subst (λ x. PastAt k part (s.manager x).phase (s.since news.epoch) news.epoch) lord past))
+            ⊎_elim (λ before. let fresh = sees.fresh refl news.epoch less told.within lord in absurd (omega arith))
+            (λ in_life. let been = in_life.1 in absurd (omega arith))
+            (subst (λ p. PastAt k part p (s.since news.epoch) news.epoch) is
+            (subst (λ x. PastAt k part (s.manager x).phase (s.since news.epoch) news.epoch) lord past))
 
-    waiting_news : (kept : Kept) (hello : ℕ) → (s.manager j).phase ≡ Waiting kept hello → (m : Welcome) → m.inc ≡ kept.inc → AllTold k part s m.news.slots → Welcomed k part s (Manager j) m
+    waiting_news : (kept : Kept) (hello : ℕ) → (s.manager j).phase ≡ Waiting kept hello → (m : Welcome) → m.inc ≡ kept.inc → AllTold k part s m.news.slots
+        → Welcomed k part s (Manager j) m
         → AllNewsGets part (epoch_now k part s) j s.net 0 m.news.slots
     waiting_news kept hello is m life all welcomed news among same = (let told = all.each news among same in record {
       within = told.within;
@@ -245,9 +258,11 @@ module _ (k : Cluster) (part : ℕ) (s : Scene) where
             let lord : s.lord news.epoch ≡ j = told.given ∙ mine in
             let own = welcomed.own news among same mine in
             ⊎_elim (λ before. absurd (omega arith)) (λ in_life. in_life.1)
-            (subst (λ p. PastAt k part p (s.since news.epoch) news.epoch) is (subst (λ x. PastAt k part (s.manager x).phase (s.since news.epoch) news.epoch) lord past))
+            (subst (λ p. PastAt k part p (s.since news.epoch) news.epoch) is
+            (subst (λ x. PastAt k part (s.manager x).phase (s.since news.epoch) news.epoch) lord past))
 
-    serving_body : (logs : Bool) (v : Serving) → (s.manager j).phase ≡ Serves v → ManagerSees k part s j (Serves v) → (from to : NodeId) (m : Body) → SentBy k part s from to m
+    serving_body : (logs : Bool) (v : Serving) → (s.manager j).phase ≡ Serves v → ManagerSees k part s j (Serves v) → (from to : NodeId) (m : Body)
+        → SentBy k part s from to m
         → Premise logs (SlotTold (members k part) part s.net (slot_in part (Serves v)) from m)
         → ServingGets logs part (epoch_now k part s) j s.net (members k part) v.lasting.inc (slot_in part (Serves v)) from m
     serving_body logs v is sees from to (body.Want m) h told = want_gets from to m h
@@ -283,7 +298,8 @@ module _ (k : Cluster) (part : ℕ) (s : Scene) where
     serving_body logs v is sees from to (body.CkptDone m) h told = tt
     serving_body logs v is sees from to (body.CkptAck m) h told = tt
 
-    waiting_body : (kept : Kept) (hello : ℕ) → (s.manager j).phase ≡ Waiting kept hello → (from to : NodeId) (m : Body) → SentBy k part s from to m → to ≡ Manager j
+    waiting_body : (kept : Kept) (hello : ℕ) → (s.manager j).phase ≡ Waiting kept hello → (from to : NodeId) (m : Body) → SentBy k part s from to m
+        → to ≡ Manager j
         → WaitingGets part (epoch_now k part s) j s.net kept.inc m
     waiting_body kept hello is from to (body.Want m) h same = tt
     waiting_body kept hello is from to (body.Grant m) h same = tt
@@ -313,7 +329,9 @@ module _ (k : Cluster) (part : ℕ) (s : Scene) where
     waiting_body kept hello is from to (body.UsageAsk m) h same = tt
     waiting_body kept hello is from to (body.Usage m) h same = tt
     waiting_body kept hello is from to (body.Hello m) h same = tt
-    waiting_body kept hello is from to (body.Welcome m) h same = λ life. (let w = welcome_told from to m h in let mine : Welcomed k part s (Manager j) m = subst (λ x. Welcomed k part s x m) same w.1 in record { newer = mine.version; slots = waiting_news kept hello is m life w.0 mine })
+    waiting_body kept hello is from to (body.Welcome m) h same =
+        λ life. (let w = welcome_told from to m h in let mine : Welcomed k part s (Manager j) m = subst (λ x. Welcomed k part s x m) same w.1 in
+        record { newer = mine.version; slots = waiting_news kept hello is m life w.0 mine })
     waiting_body kept hello is from to (body.MapNews m) h same = tt
     waiting_body kept hello is from to (body.CkptDone m) h same = tt
     waiting_body kept hello is from to (body.CkptAck m) h same = tt

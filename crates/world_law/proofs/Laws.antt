@@ -39,8 +39,10 @@ module _ (laws : NodeLaws) (k : Cluster) (part : ℕ) (of_eight : part < 8) wher
   abbrev pub Good : List AnyNode → List Packet → List Act → Type 0
   Good nodes sent acts = (s : Scene) × Stands false k part nodes sent acts RegistrySound s × FallsStand (members k part) s.net acts
 
-  pub event_keeps : (w : World AnyNode) → w.cluster ≡ k → (event : Event) → MayHappen w event → Good w.nodes w.sent w.acts → Good (next_world any_step w event).nodes (next_world any_step w event).sent (next_world any_step w event).acts
-  event_keeps w cluster event may good = (let t = event_turns laws false k part of_eight w event good.0 cluster may good.1 (λ node there. tt) in (t.next, t.stands, t.falls good.2))
+  pub event_keeps : (w : World AnyNode) → w.cluster ≡ k → (event : Event) → MayHappen w event → Good w.nodes w.sent w.acts
+      → Good (next_world any_step w event).nodes (next_world any_step w event).sent (next_world any_step w event).acts
+  event_keeps w cluster event may good =
+      (let t = event_turns laws false k part of_eight w event good.0 cluster may good.1 (λ node there. tt) in (t.next, t.stands, t.falls good.2))
 
   abbrev pub GoodWorld : World AnyNode → Type 0
   GoodWorld w = Good w.nodes w.sent w.acts
@@ -62,7 +64,9 @@ module _ (laws : NodeLaws) (k : Cluster) (part : ℕ) (of_eight : part < 8) wher
     pub up : s.net.up c ≡ true
     pub tokens : s.net.tokens c ≡ t
 
-  pub serves_there : {logs : Bool} (nodes : List AnyNode) (sent : List Packet) (acts : List Act) (s : Scene) → Stands logs k part nodes sent acts RegistrySound s → (c : ℕ) (t : TokensState) → tokens_of (node_in nodes (place_of k (Client c))) ≡ Some t → ServesThere s c t
+  pub serves_there : {logs : Bool} (nodes : List AnyNode) (sent : List Packet) (acts : List Act) (s : Scene)
+      → Stands logs k part nodes sent acts RegistrySound s → (c : ℕ) (t : TokensState) → tokens_of (node_in nodes (place_of k (Client c))) ≡ Some t
+      → ServesThere s c t
   serves_there {logs = logs} nodes sent acts s st c t is = by_place (place_of k (Client c)) refl
     where
       by_phase : (p : Phase) → ClientAgrees logs part c s.net p → IsClient (members k part) c → tokens_in p ≡ Some t → ServesThere s c t
@@ -75,10 +79,12 @@ module _ (laws : NodeLaws) (k : Cluster) (part : ℕ) (of_eight : part < 8) wher
       by_place (Some p) at =
           let b = behind 0 k.clients c p at in
           let less : c < members k part = (let most = b.within in omega arith) in
-          by_phase (s.client c).phase (st.clients c b.some less).0 (record { some = b.some; within = less }) (sym (ap tokens_of (st.placed.clients c b.some less)) ∙ is)
+          by_phase (s.client c).phase (st.clients c b.some less).0 (record { some = b.some; within = less })
+          (sym (ap tokens_of (st.placed.clients c b.some less)) ∙ is)
 
 -- each moment of a run stands to the small world of each slot
-pub front : (laws : NodeLaws) (e : Estate AnyNode) → IsSetup e.script.setup → IsRun any_step any_start e.script e.events e.world → (count part : ℕ) (of_eight : part < 8)
+pub front : (laws : NodeLaws) (e : Estate AnyNode) → IsSetup e.script.setup → IsRun any_step any_start e.script e.events e.world
+    → (count part : ℕ) (of_eight : part < 8)
     → ((moment e count).cluster ≡ cluster_of e.script.setup) × GoodWorld laws (cluster_of e.script.setup) part of_eight (moment e count)
 unfolding start_world
 front laws e setup run count part of_eight =
@@ -92,7 +98,8 @@ module _ (laws : NodeLaws) (small : OneOwner) where
   one_owner_now : (w : World AnyNode) (k : Cluster) → w.cluster ≡ k → ((part : ℕ) (of_eight : part < 8) → GoodWorld laws k part of_eight w) → HasOneOwner w
   one_owner_now w k cluster good b c d s t at_c at_d own held =
       small false (members k part) part (with_promise 1 now.net) b (record { run = st.runs; inside = itself part }) c d x.client y.client x.up y.up
-      (subst (λ (t : TokensState). is_own (held_of t.blocks b).mode ≡ true) (sym x.tokens) own) (subst (λ (t : TokensState). is_held (held_of t.blocks b).mode ≡ true) (sym y.tokens) held)
+      (subst (λ (t : TokensState). is_own (held_of t.blocks b).mode ≡ true) (sym x.tokens) own)
+      (subst (λ (t : TokensState). is_held (held_of t.blocks b).mode ≡ true) (sym y.tokens) held)
     where
       part : ℕ
       part = slot_of b.ino.0
@@ -110,11 +117,14 @@ module _ (laws : NodeLaws) (small : OneOwner) where
       itself n = grind (arith, nat_tests)
 
       x : ServesThere laws k part of_eight now c s
-      x = serves_there laws k part of_eight w.nodes w.sent w.acts now st c s (subst (λ cl. tokens_of (node_in w.nodes (place_of cl (Client c))) ≡ Some s) cluster at_c)
+      x = serves_there laws k part of_eight w.nodes w.sent w.acts now st c s
+          (subst (λ cl. tokens_of (node_in w.nodes (place_of cl (Client c))) ≡ Some s) cluster at_c)
 
       y : ServesThere laws k part of_eight now d t
-      y = serves_there laws k part of_eight w.nodes w.sent w.acts now st d t (subst (λ cl. tokens_of (node_in w.nodes (place_of cl (Client d))) ≡ Some t) cluster at_d)
+      y = serves_there laws k part of_eight w.nodes w.sent w.acts now st d t
+          (subst (λ cl. tokens_of (node_in w.nodes (place_of cl (Client d))) ≡ Some t) cluster at_d)
 
   pub every_run : EveryRunHasOneOwner
   every_run e setup run count =
-      one_owner_now (moment e count) (cluster_of e.script.setup) (front laws e setup run count 0 (omega arith)).0 (λ part of_eight. (front laws e setup run count part of_eight).1)
+      one_owner_now (moment e count) (cluster_of e.script.setup) (front laws e setup run count 0 (omega arith)).0
+      (λ part of_eight. (front laws e setup run count part of_eight).1)

@@ -97,7 +97,8 @@ one_of : (t : Bool) → (t ≡ true) ⊎ (t ≡ false)
 one_of true = inl refl
 one_of false = inr refl
 
-module _ (logs : Bool) (k : Cluster) (part : ℕ) (RegistrySound : RegistryNode → Type 0) (nodes : List AnyNode) (sent : List Packet) (done : List Act) (s : Scene)
+module _ (logs : Bool) (k : Cluster) (part : ℕ) (RegistrySound : RegistryNode → Type 0) (nodes : List AnyNode) (sent : List Packet) (done : List Act)
+    (s : Scene)
     (st : Stands logs k part nodes sent done RegistrySound s)
     (j p clock : ℕ) (some : 0 < j) (most : j ≤ k.managers) (at : place_of k (Manager j) ≡ Some p) (is : slice_get nodes p ≡ Some (any.Manager (s.manager j)))
     (what : Do) (fact : (q : Packet) → what ≡ Deliver q → Fact k part s q × (q.to ≡ Manager j)) (w : Went_to)
@@ -141,10 +142,13 @@ module _ (logs : Bool) (k : Cluster) (part : ℕ) (RegistrySound : RegistryNode 
   placed : Placed k part nodes_now sent_now manager_scene
   placed = record {
     clients = λ c pos less. there k nodes (Manager j) p at (any.Manager after_node) (Client c) (λ same. absurd (cc)) ∙ st.placed.clients c pos less;
-    managers = put_each (λ d (x : ManagerNode). 0 < d → d ≤ k.managers → node_in nodes_now (place_of k (Manager d)) ≡ Some (any.Manager x)) s.manager j after_node
+    managers = put_each
+        (λ d (x : ManagerNode). 0 < d → d ≤ k.managers → node_in nodes_now (place_of k (Manager d)) ≡ Some (any.Manager x)) s.manager j after_node
         (λ _ _. here k nodes (Manager j) p at (any.Manager after_node) (any.Manager (s.manager j)) is)
-        (λ d other pos less. there k nodes (Manager j) p at (any.Manager after_node) (Manager d) (λ same. other (ap number same)) ∙ st.placed.managers d pos less);
-    servers = λ n pos less. (let h = st.placed.servers n pos less in (h.0, there k nodes (Manager j) p at (any.Manager after_node) (Server n) (λ same. absurd (cc)) ∙ h.1));
+        (λ d other pos less. there k nodes (Manager j) p at (any.Manager after_node) (Manager d) (λ same. other (ap number same))
+        ∙ st.placed.managers d pos less);
+    servers = λ n pos less.
+        (let h = st.placed.servers n pos less in (h.0, there k nodes (Manager j) p at (any.Manager after_node) (Server n) (λ same. absurd (cc)) ∙ h.1));
     cleaner = there k nodes (Manager j) p at (any.Manager after_node) Cleaner (λ same. absurd (cc)) ∙ st.placed.cleaner;
     registry = there k nodes (Manager j) p at (any.Manager after_node) Registry (λ same. absurd (cc)) ∙ st.placed.registry;
   }
@@ -231,7 +235,8 @@ module _ (logs : Bool) (k : Cluster) (part : ℕ) (RegistrySound : RegistryNode 
       serves : is_serving w.state ≡ true
       serves = held_serves part w.state e held
 
-      least : (q : Packet) → what ≡ Deliver q → NamedBy part j e q.body → epoch_in part before < e → e ≤ epoch_now k part s → s.lord e ≡ j → (lasting_of w.state).inc ≤ s.since e
+      least : (q : Packet) → what ≡ Deliver q → NamedBy part j e q.body → epoch_in part before < e → e ≤ epoch_now k part s → s.lord e ≡ j
+          → (lasting_of w.state).inc ≤ s.since e
       least q gets names less within lord =
           ⊎_elim (λ was. subst (λ x. x ≤ s.since e) (sym (same_life serves)) (sees.fresh was e less within lord))
           (λ was_not. let c = came serves was_not in let n = subst (NamedBy part j e) (c.body q gets) names in
@@ -250,7 +255,8 @@ module _ (logs : Bool) (k : Cluster) (part : ℕ) (RegistrySound : RegistryNode 
 
   fresh_after : is_serving w.state ≡ true → (e : ℕ) → epoch_in part w.state < e → e ≤ epoch_now k part s → s.lord e ≡ j → (lasting_of w.state).inc ≤ s.since e
   fresh_after serves e less within lord =
-      ⊎_elim (λ was. let rises = go.rises was serves in let f = sees.fresh was e (omega arith) within lord in subst (λ x. x ≤ s.since e) (sym (same_life serves)) f)
+      ⊎_elim (λ was. let rises = go.rises was serves in let f = sees.fresh was e (omega arith) within lord in
+      subst (λ x. x ≤ s.since e) (sym (same_life serves)) f)
       (λ was_not. let c = came serves was_not in let news = c.all.here in let above = c.above news.0 news.1 news.2 in
       subst (λ x. x ≤ s.since e) c.life (c.welcomed.later news.0 news.1 news.2 e (omega arith) within lord))
       (one_of (is_serving before))
@@ -262,7 +268,14 @@ module _ (logs : Bool) (k : Cluster) (part : ℕ) (RegistrySound : RegistryNode 
       (one_of (is_serving before))
 
   sees_after : ManagerSees k part manager_scene j w.state
-  sees_after = record { agrees = go.agrees; within = go.within; owns = owns_after; fresh = fresh_after; known = known_after; told = (let a = sees.told in let b = go.later in omega arith) }
+  sees_after = record {
+    agrees = go.agrees;
+    within = go.within;
+    owns = owns_after;
+    fresh = fresh_after;
+    known = known_after;
+    told = (let a = sees.told in let b = go.later in omega arith);
+  }
 
   sees_others : (d : ℕ) → (d ≡ j → ⊥) → 0 < d → d ≤ k.managers → ManagerSees k part manager_scene d (s.manager d).phase
   sees_others d other pos less = (let h = st.managers d pos less in record {
@@ -282,28 +295,41 @@ module _ (logs : Bool) (k : Cluster) (part : ℕ) (RegistrySound : RegistryNode 
   past_after life e (inr in_life) = by_state w.state refl
     where
       by_state : (r : Phase) → w.state ≡ r → PastAt k part r life e
-      by_state (Down kept) now = ⊎_elim (λ same. inr (in_life.0 ∙ (sym same ∙ ap (λ (x : Phase). (lasting_of x).inc) now), tt)) (λ waits. absurd (down_waits_not kept (ap is_waiting (sym now) ∙ waits))) go.lives
+      by_state (Down kept) now =
+          ⊎_elim (λ same. inr (in_life.0 ∙ (sym same ∙ ap (λ (x : Phase). (lasting_of x).inc) now), tt))
+          (λ waits. absurd (down_waits_not kept (ap is_waiting (sym now) ∙ waits))) go.lives
       by_state (Waiting kept hello) now =
           ⊎_elim (λ waited. absurd (been_waits_not k part before e waited in_life.1))
-          (λ new. inl (let less = go.restarts (ap is_waiting now) new in subst (λ (x : Phase). life < (lasting_of x).inc) now (let same = in_life.0 in omega arith)))
+          (λ new. inl (let less = go.restarts (ap is_waiting now) new in
+          subst (λ (x : Phase). life < (lasting_of x).inc) now (let same = in_life.0 in omega arith)))
           (one_of (is_waiting before))
       by_state (Serves v) now =
           let serves : is_serving w.state ≡ true = ap is_serving now in
           ⊎_elim (λ was. inr (
             in_life.0 ∙ (sym (same_life serves) ∙ ap (λ (x : Phase). (lasting_of x).inc) now),
-            (let rises = go.rises was serves in let been = been_serving k part before e was in_life.1 in subst (λ (x : Phase). e ≤ epoch_in part x) now (omega arith)),
+            (let rises = go.rises was serves in let been = been_serving k part before e was in_life.1 in
+                subst (λ (x : Phase). e ≤ epoch_in part x) now (omega arith)),
           ))
           (λ was_not. absurd (been_waits_not k part before e (ap is_waiting (go.opens serves was_not).was) in_life.1))
           (one_of (is_serving before))
 
   entered_after : (e : ℕ) (z : SlotState) → go.next.slots e ≡ Some z
-      → (e ≤ epoch_now k part s) × (0 < s.lord e) × (s.lord e ≤ k.managers) × PastAt k part (put s.manager j after_node (s.lord e)).phase (s.since e) e × (e ≤ go.next.promised)
+      → (e ≤ epoch_now k part s) × (0 < s.lord e) × (s.lord e ≤ k.managers) × PastAt k part (put s.manager j after_node (s.lord e)).phase (s.since e) e
+      × (e ≤ go.next.promised)
   entered_after e z there_ = by_slot (s.net.slots e) refl
     where
-      by_slot : (o : Option SlotState) → s.net.slots e ≡ o → (e ≤ epoch_now k part s) × (0 < s.lord e) × (s.lord e ≤ k.managers) × PastAt k part (put s.manager j after_node (s.lord e)).phase (s.since e) e × (e ≤ go.next.promised)
+      by_slot : (o : Option SlotState) → s.net.slots e ≡ o
+          → (e ≤ epoch_now k part s) × (0 < s.lord e) × (s.lord e ≤ k.managers) × PastAt k part (put s.manager j after_node (s.lord e)).phase (s.since e) e
+          × (e ≤ go.next.promised)
       by_slot (Some y) old =
-          let h = st.entered e y old in
-          (h.0, h.1, h.2, put_each (λ d (x : ManagerNode). PastAt k part (s.manager d).phase (s.since e) e → PastAt k part x.phase (s.since e) e) s.manager j after_node (past_after (s.since e) e) (λ d other q. q) (s.lord e) h.3, subst (λ x. e ≤ x) (sym promised) h.4)
+          let h = st.entered e y old in (
+            h.0,
+            h.1,
+            h.2,
+            put_each (λ d (x : ManagerNode). PastAt k part (s.manager d).phase (s.since e) e → PastAt k part x.phase (s.since e) e) s.manager j after_node
+                (past_after (s.since e) e) (λ d other q. q) (s.lord e) h.3,
+            subst (λ x. e ≤ x) (sym promised) h.4,
+          )
       by_slot None none =
           let g = go.entered e z there_ none in
           let o = sees.owns e (taking_held (slot_in part before) e g.0) in
@@ -312,7 +338,8 @@ module _ (logs : Bool) (k : Cluster) (part : ℕ) (RegistrySound : RegistryNode 
             subst (λ x. 0 < x) (sym o.0) some,
             subst (λ x. x ≤ k.managers) (sym o.0) most,
             subst (λ x. PastAt k part (put s.manager j after_node x).phase (s.since e) e) (sym o.0)
-                (subst (λ (x : ManagerNode). PastAt k part x.phase (s.since e) e) (sym (put_here s.manager j after_node)) (inr (o.1 ∙ sym (same_life g.1), been_of k part w.state e g.1 g.2))),
+                (subst (λ (x : ManagerNode). PastAt k part x.phase (s.since e) e) (sym (put_here s.manager j after_node))
+                (inr (o.1 ∙ sym (same_life g.1), been_of k part w.state e g.1 g.2))),
             subst (λ x. e ≤ x) (sym promised) g.3,
           )
 
@@ -340,17 +367,22 @@ module _ (logs : Bool) (k : Cluster) (part : ℕ) (RegistrySound : RegistryNode 
 
   pub manager_turn : Stands logs k part nodes_now sent_now acts_now RegistrySound manager_scene
   manager_turn = record {
-    runs = runs_on logs (members k part) part _ (with_promise 1 s.net) (with_promise 1 go.next) st.runs (any_promise logs (members k part) part 1 s.net go.next go.runs);
+    runs = runs_on logs (members k part) part _ (with_promise 1 s.net) (with_promise 1 go.next) st.runs
+        (any_promise logs (members k part) part 1 s.net go.next go.runs);
     acts = acts;
     placed = placed;
     sound = st.sound;
-    clients = λ c pos less. (let h = st.clients c pos less in
-        (client_frame logs part c s.net go.next (tokens_same c) (up_same c) (same_books s.net.books go.next.books go.books c) go.grows (s.client c).phase h.0, stands_frame part (epoch_now k part s) (epoch_now k part s) c s.net go.next (omega arith) (tokens_same c) (s.client c).phase h.1));
-    managers = put_each (λ d (x : ManagerNode). 0 < d → d ≤ k.managers → ManagerSees k part manager_scene d x.phase) s.manager j after_node (λ _ _. sees_after) sees_others;
+    clients = λ c pos less. (let h = st.clients c pos less in (
+      client_frame logs part c s.net go.next (tokens_same c) (up_same c) (same_books s.net.books go.next.books go.books c) go.grows (s.client c).phase h.0,
+      stands_frame part (epoch_now k part s) (epoch_now k part s) c s.net go.next (omega arith) (tokens_same c) (s.client c).phase h.1,
+    ));
+    managers = put_each (λ d (x : ManagerNode). 0 < d → d ≤ k.managers → ManagerSees k part manager_scene d x.phase) s.manager j after_node
+        (λ _ _. sees_after) sees_others;
     cleaner = subst (λ x. (x ≤ epoch_now k part s) × CleanerStands part x (epoch_now k part s) s.cleaner.phase) (sym promised) st.cleaner;
     copies = premise_by logs (subst (λ b. CleanerCopies b s.cleaner.phase) (sym go.books)) st.copies;
     few = st.few;
-    peers = put_each (λ d (x : ManagerNode). 0 < d → d ≤ k.managers → x.peers.clients + 1 ≡ members k part) s.manager j after_node (st.peers j) (λ d other. st.peers d);
+    peers = put_each (λ d (x : ManagerNode). 0 < d → d ≤ k.managers → x.peers.clients + 1 ≡ members k part) s.manager j after_node (st.peers j)
+        (λ d other. st.peers d);
     current = st.current;
     some = st.some;
     before = st.before;

@@ -27,7 +27,8 @@ module _ {X : Type 0} (xs : List X) (p : ℕ) (x : X) where
   get_set_other q other =
       elim (nat_lt q (length xs)) as (λ t. nat_lt q (length xs) ≡ t → slice_get (slice_set xs p x) q ≡ slice_get xs q) [
         | true ↦ λ h. let less = less_of q (length xs) h in
-            slice_get-get_or (slice_set xs p x) q x (subst (λ n. q < n) (sym (length-set xs p x)) less) ∙ (ap Some (get_or-set_other xs p q x x other) ∙ sym (slice_get-get_or xs q x less))
+            slice_get-get_or (slice_set xs p x) q x (subst (λ n. q < n) (sym (length-set xs p x)) less)
+            ∙ (ap Some (get_or-set_other xs p q x x other) ∙ sym (slice_get-get_or xs q x less))
         | false ↦ λ h. let past = most_of q (length xs) h in
             slice_get_past (slice_set xs p x) q (subst (λ n. n ≤ q) (sym (length-set xs p x)) past) ∙ sym (slice_get_past xs q past)
       ] refl

@@ -45,14 +45,16 @@ use Rattle.xfs_base.specs.declared.node.NodeId.{NodeId}
 use Rattle.xfs_base.specs.declared.node.NodeId.TheVariants.{Client, Manager, Server, Cleaner, Registry}
 
 pub equal_or_not : (n m : ℕ) → (n ≡ m) ⊎ (n ≡ m → ⊥)
-equal_or_not n m = elim (n == m) as (λ t. (n == m) ≡ t → (n ≡ m) ⊎ (n ≡ m → ⊥)) [ true ↦ λ h. inl (same n m h) | false ↦ λ h. inr (λ e. grind (arith, nat_tests)) ] refl
+equal_or_not n m =
+    elim (n == m) as (λ t. (n == m) ≡ t → (n ≡ m) ⊎ (n ≡ m → ⊥)) [ true ↦ λ h. inl (same n m h) | false ↦ λ h. inr (λ e. grind (arith, nat_tests)) ] refl
   where
     same : (n m : ℕ) → (n == m) ≡ true → n ≡ m
     same n m h = grind (arith, nat_tests)
 
 -- ---- acts that change no history
 
-module _ (logs : Bool) (k : Cluster) (part : ℕ) (RegistrySound : RegistryNode → Type 0) (nodes : List AnyNode) (sent : List Packet) (done : List Act) (s : Scene)
+module _ (logs : Bool) (k : Cluster) (part : ℕ) (RegistrySound : RegistryNode → Type 0) (nodes : List AnyNode) (sent : List Packet) (done : List Act)
+    (s : Scene)
     (st : Stands logs k part nodes sent done RegistrySound s) (more : List Act) (neutral : All IsNeutral more) where
   -- they are said in the small world
   abbrev pub said_scene : Scene
@@ -89,9 +91,16 @@ module _ (logs : Bool) (k : Cluster) (part : ℕ) (RegistrySound : RegistryNode 
   pub said_stands : Stands logs k part nodes sent (done ++ more) RegistrySound said_scene
   said_stands = record {
     runs = runs_on logs (members k part) part _ (with_promise 1 s.net) (with_promise 1 said_scene.net) st.runs
-        (any_promise logs (members k part) part 1 s.net said_scene.net (says_all logs (members k part) part s.net more (recursion_from_All IsNeutral more neutral)));
+        (any_promise logs (members k part) part 1 s.net said_scene.net
+        (says_all logs (members k part) part s.net more (recursion_from_All IsNeutral more neutral)));
     acts = ap (λ a. a ++ more) st.acts;
-    placed = record { clients = st.placed.clients; managers = st.placed.managers; servers = st.placed.servers; cleaner = st.placed.cleaner; registry = st.placed.registry };
+    placed = record {
+      clients = st.placed.clients;
+      managers = st.placed.managers;
+      servers = st.placed.servers;
+      cleaner = st.placed.cleaner;
+      registry = st.placed.registry;
+    };
     sound = st.sound;
     clients = λ c pos less. (let h = st.clients c pos less in (
       client_frame logs part c s.net said_scene.net refl refl (same_log s.net.books c) (λ x sent_. sent_) (s.client c).phase h.0,
@@ -109,7 +118,8 @@ module _ (logs : Bool) (k : Cluster) (part : ℕ) (RegistrySound : RegistryNode 
     facts = λ q h. said_fact q (st.facts q h);
   }
 
-module _ (logs : Bool) (k : Cluster) (part : ℕ) (RegistrySound : RegistryNode → Type 0) (nodes : List AnyNode) (sent : List Packet) (done : List Act) (s : Scene)
+module _ (logs : Bool) (k : Cluster) (part : ℕ) (RegistrySound : RegistryNode → Type 0) (nodes : List AnyNode) (sent : List Packet) (done : List Act)
+    (s : Scene)
     (st : Stands logs k part nodes sent done RegistrySound s) (p clock : ℕ) (what : Do) where
   -- nothing but the place of the node and what was sent changes
   stands_so : (now : List AnyNode) (packets : List Packet) → Placed k part now (sent ++ packets) s → ((q : Packet) → In q packets → Fact k part s q)
@@ -134,8 +144,10 @@ module _ (logs : Bool) (k : Cluster) (part : ℕ) (RegistrySound : RegistryNode 
 
   -- ---- a server
 
-  pub server_turn : (n : ℕ) → place_of k (Server n) ≡ Some p → (server : ServerNode) → slice_get nodes p ≡ Some (any.Server server) → PacketsSay ServerSends (server_step server what).packets
-      → Stands logs k part (slice_set nodes p (any.Server (server_step server what).node)) (sent ++ map (sent_at clock) (server_step server what).packets) done RegistrySound s
+  pub server_turn : (n : ℕ) → place_of k (Server n) ≡ Some p → (server : ServerNode) → slice_get nodes p ≡ Some (any.Server server)
+      → PacketsSay ServerSends (server_step server what).packets
+      → Stands logs k part (slice_set nodes p (any.Server (server_step server what).node))
+      (sent ++ map (sent_at clock) (server_step server what).packets) done RegistrySound s
   server_turn n at server is says = stands_so now (map (sent_at clock) (server_step server what).packets) placed
       (λ q h. at_clock clock (λ x. (x.from ≡ Server server.number) × ServerSends x.body) (Fact k part s)
       (λ x both. subst (λ (y : NodeId). SentBy k part s y x.to x.body) (sym both.0) both.1)
@@ -170,7 +182,8 @@ module _ (logs : Bool) (k : Cluster) (part : ℕ) (RegistrySound : RegistryNode 
 
 -- a Welcome of a life that the cleaner had says nothing of one that begins, and what it owes to an opening stands still with that
 module _ (part promised most : ℕ) where
-  cleaner_after : (p q : Phase) (outs : List Effect) (go : CleanerGoes part promised most p q outs) (m : Welcome) → m.inc ≤ (lasting_of p).inc → CleanerWelcomed part promised most p m → CleanerWelcomed part go.next most q m
+  cleaner_after : (p q : Phase) (outs : List Effect) (go : CleanerGoes part promised most p q outs) (m : Welcome) → m.inc ≤ (lasting_of p).inc
+      → CleanerWelcomed part promised most p m → CleanerWelcomed part go.next most q m
   cleaner_after p (Down next) outs go m life h = tt
   cleaner_after p (Serves e) outs go m life h = tt
   cleaner_after (Down l) (Opening next o) outs go m life h = λ same. (let later = go.begins in absurd (omega arith))
@@ -178,9 +191,11 @@ module _ (part promised most : ℕ) where
   cleaner_after (Opening l o) (Opening next x) outs go m life h = λ same. (let later = go.later in let now : m.inc ≡ l.inc = omega arith in
       subst (λ y. All (λ (news : SlotNews). news.slot ≡ part → y ≤ news.epoch) m.news.slots) (sym (go.keeps tt)) (h now))
 
-module _ (logs : Bool) (k : Cluster) (part : ℕ) (RegistrySound : RegistryNode → Type 0) (nodes : List AnyNode) (sent : List Packet) (done : List Act) (s : Scene)
+module _ (logs : Bool) (k : Cluster) (part : ℕ) (RegistrySound : RegistryNode → Type 0) (nodes : List AnyNode) (sent : List Packet) (done : List Act)
+    (s : Scene)
     (st : Stands logs k part nodes sent done RegistrySound s) (p clock : ℕ)
-    (at : place_of k Cleaner ≡ Some p) (is : slice_get nodes p ≡ Some (any.Cleaner s.cleaner)) (w : Went_to) (go : CleanerGoes part s.net.promised (epoch_now k part s) s.cleaner.phase w.state w.outs)
+    (at : place_of k Cleaner ≡ Some p) (is : slice_get nodes p ≡ Some (any.Cleaner s.cleaner)) (w : Went_to)
+    (go : CleanerGoes part s.net.promised (epoch_now k part s) s.cleaner.phase w.state w.outs)
     (run : CleanerRuns logs (members k part) part s.net s.cleaner.phase w.state w.outs) where
   abbrev after_node : CleanerNode
   after_node = record s.cleaner { phase = w.state }
@@ -245,7 +260,8 @@ module _ (logs : Bool) (k : Cluster) (part : ℕ) (RegistrySound : RegistryNode 
     placed = placed;
     sound = st.sound;
     clients = λ c pos less. (let h = st.clients c pos less in (
-      client_frame logs part c s.net cleaner_scene.net refl refl (run.others c (λ own. no_client c (members k part) its_log less st.few (sym own))) (λ x sent_. sent_) (s.client c).phase h.0,
+      client_frame logs part c s.net cleaner_scene.net refl refl (run.others c (λ own. no_client c (members k part) its_log less st.few (sym own)))
+          (λ x sent_. sent_) (s.client c).phase h.0,
       stands_frame part (epoch_now k part s) (epoch_now k part s) c s.net cleaner_scene.net (omega arith) refl (s.client c).phase h.1,
     ));
     managers = sees;

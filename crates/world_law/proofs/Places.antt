@@ -17,7 +17,8 @@ some_place a p is = sym (ap (λ o. unwrap_or o 0) is)
 
 pub behind : (first count number p : ℕ) → place_behind first count number ≡ Some p → Behind first count number p
 behind first count number p =
-    elim (nat_lt 0 number && nat_le number count) as (λ t. (nat_lt 0 number && nat_le number count) ≡ t → cond t (Some (first + number - 1)) None ≡ Some p → Behind first count number p) [
+    elim (nat_lt 0 number && nat_le number count) as
+    (λ t. (nat_lt 0 number && nat_le number count) ≡ t → cond t (Some (first + number - 1)) None ≡ Some p → Behind first count number p) [
       | true ↦ λ h is. record { some = positive number count h; within = most number count h; place = some_place (first + number - 1) p is }
       | false ↦ λ h is. absurd (cc)
     ] refl
@@ -66,16 +67,21 @@ node_at_place c (Client k) p is =
     ap (λ t. cond t (Client (p + 1)) (from_managers c p)) (less p c.clients (omega arith)) ∙ ap Client (omega arith)
 node_at_place c (Manager k) p is =
     let b = behind (first_manager c) c.managers k p is in let place = b.place in let some = b.some in let within = b.within in
-    behind_clients c p (omega arith) ∙ (ap (λ t. cond t (Manager (p - first_manager c + 1)) (from_servers c p)) (less p (first_server c) (omega arith)) ∙ ap Manager (omega arith))
+    behind_clients c p (omega arith)
+    ∙ (ap (λ t. cond t (Manager (p - first_manager c + 1)) (from_servers c p)) (less p (first_server c) (omega arith)) ∙ ap Manager (omega arith))
 node_at_place c (Server k) p is =
     let b = behind (first_server c) c.servers k p is in let place = b.place in let some = b.some in let within = b.within in
-    behind_clients c p (omega arith) ∙ (behind_managers c p (omega arith) ∙ (ap (λ t. cond t (Server (p - first_server c + 1)) (last_two c p)) (less p (cleaner_place c) (omega arith)) ∙ ap Server (omega arith)))
+    behind_clients c p (omega arith)
+    ∙ (behind_managers c p (omega arith)
+    ∙ (ap (λ t. cond t (Server (p - first_server c + 1)) (last_two c p)) (less p (cleaner_place c) (omega arith)) ∙ ap Server (omega arith)))
 node_at_place c Cleaner p is =
     let place : p ≡ cleaner_place c = some_place (cleaner_place c) p is in
-    behind_clients c p (omega arith) ∙ (behind_managers c p (omega arith) ∙ (behind_servers c p (omega arith) ∙ ap (λ t. cond t Cleaner Registry) (ap (λ k. p == k) (sym place) ∙ equal p)))
+    behind_clients c p (omega arith)
+    ∙ (behind_managers c p (omega arith) ∙ (behind_servers c p (omega arith) ∙ ap (λ t. cond t Cleaner Registry) (ap (λ k. p == k) (sym place) ∙ equal p)))
 node_at_place c Registry p is =
     let place : p ≡ cleaner_place c + 1 = some_place (cleaner_place c + 1) p is in
-    behind_clients c p (omega arith) ∙ (behind_managers c p (omega arith) ∙ (behind_servers c p (omega arith) ∙ ap (λ t. cond t Cleaner Registry) (unequal p (cleaner_place c) (omega arith))))
+    behind_clients c p (omega arith)
+    ∙ (behind_managers c p (omega arith) ∙ (behind_servers c p (omega arith) ∙ ap (λ t. cond t Cleaner Registry) (unequal p (cleaner_place c) (omega arith))))
 
 -- two names have no place in common
 pub one_name : (c : Cluster) (a d : NodeId) (p : ℕ) → place_of c a ≡ Some p → place_of c d ≡ Some p → a ≡ d

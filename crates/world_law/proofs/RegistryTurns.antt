@@ -73,7 +73,8 @@ held_known (phase.Active a) e h = h
 held_known (phase.Away epoch) e h = absurd h
 held_known (phase.Broken epoch seg) e h = absurd h
 
-module _ (logs : Bool) (k : Cluster) (part : ℕ) (nodes : List AnyNode) (sent : List Packet) (done : List Act) (s : Scene) (st : Stands logs k part nodes sent done RegistrySound s)
+module _ (logs : Bool) (k : Cluster) (part : ℕ) (nodes : List AnyNode) (sent : List Packet) (done : List Act) (s : Scene)
+    (st : Stands logs k part nodes sent done RegistrySound s)
     (p clock : ℕ) (at : place_of k Registry ≡ Some p) (is : slice_get nodes p ≡ Some (any.Registry s.registry))
     (what : Do) (fact : (q : Packet) → what ≡ Deliver q → Fact k part s q) (go : RegistryGoes part s.registry what) where
   abbrev after_node : RegistryNode
@@ -111,7 +112,9 @@ module _ (logs : Bool) (k : Cluster) (part : ℕ) (nodes : List AnyNode) (sent :
 
   since_stays : (e : ℕ) → e ≤ old → put s.since new (inc_in after_node.board lord) e ≡ s.since e
   since_stays = put_each (λ d x. d ≤ old → x ≡ s.since d) s.since new (inc_in after_node.board lord)
-      (λ low. ⊎_elim (λ same. ap (inc_in after_node.board) same.1 ∙ (go.board.keeps (manager_now k part s) same.0 refl ∙ (sym st.current.1 ∙ ap s.since (sym same.0)))) (λ next. absurd (omega arith)) go.board.slot) (λ d other low. refl)
+      (λ low. ⊎_elim
+      (λ same. ap (inc_in after_node.board) same.1 ∙ (go.board.keeps (manager_now k part s) same.0 refl ∙ (sym st.current.1 ∙ ap s.since (sym same.0))))
+      (λ next. absurd (omega arith)) go.board.slot) (λ d other low. refl)
 
   new_given : (e : ℕ) → old < e → e ≤ new → life_told registry_scene (put s.lord new lord e) ≤ put s.since new (inc_in after_node.board lord) e
   new_given = put_each_two (λ d x y. old < d → d ≤ new → life_told registry_scene x ≤ y) s.lord s.since new lord (inc_in after_node.board lord)
@@ -136,7 +139,8 @@ module _ (logs : Bool) (k : Cluster) (part : ℕ) (nodes : List AnyNode) (sent :
   placed = record {
     clients = λ c pos less. there k nodes Registry p at (any.Registry after_node) (Client c) (λ same. absurd (cc)) ∙ st.placed.clients c pos less;
     managers = λ j pos less. there k nodes Registry p at (any.Registry after_node) (Manager j) (λ same. absurd (cc)) ∙ st.placed.managers j pos less;
-    servers = λ n pos less. (let h = st.placed.servers n pos less in (h.0, there k nodes Registry p at (any.Registry after_node) (Server n) (λ same. absurd (cc)) ∙ h.1));
+    servers = λ n pos less.
+        (let h = st.placed.servers n pos less in (h.0, there k nodes Registry p at (any.Registry after_node) (Server n) (λ same. absurd (cc)) ∙ h.1));
     cleaner = there k nodes Registry p at (any.Registry after_node) Cleaner (λ same. absurd (cc)) ∙ st.placed.cleaner;
     registry = here k nodes Registry p at (any.Registry after_node) (any.Registry s.registry) is;
   }
@@ -150,7 +154,8 @@ module _ (logs : Bool) (k : Cluster) (part : ℕ) (nodes : List AnyNode) (sent :
       by_what Begin gets h = absurd h
       by_what Tick gets h = absurd h
       by_what (Deliver q) gets h =
-          (let f = subst (λ b. SentBy k part s (Manager j) q.to b) h.said (subst (λ n. SentBy k part s n q.to q.body) h.from (fact q gets)) in subst (λ i. i ≤ life_of_manager s j) h.told f.2)
+          (let f = subst (λ b. SentBy k part s (Manager j) q.to b) h.said (subst (λ n. SentBy k part s n q.to q.body) h.from (fact q gets)) in
+          subst (λ i. i ≤ life_of_manager s j) h.told f.2)
 
   hello_of_client : (c inc : ℕ) → HearsHello what (Client c) inc → (0 < c) × (c < members k part) × (inc ≤ life_of_client s c)
   hello_of_client c inc h = by_what what refl h
@@ -159,7 +164,8 @@ module _ (logs : Bool) (k : Cluster) (part : ℕ) (nodes : List AnyNode) (sent :
       by_what Begin gets h = absurd h
       by_what Tick gets h = absurd h
       by_what (Deliver q) gets h =
-          (let f = subst (λ b. SentBy k part s (Client c) q.to b) h.said (subst (λ n. SentBy k part s n q.to q.body) h.from (fact q gets)) in (f.0, f.1, subst (λ i. i ≤ life_of_client s c) h.told f.2))
+          (let f = subst (λ b. SentBy k part s (Client c) q.to b) h.said (subst (λ n. SentBy k part s n q.to q.body) h.from (fact q gets)) in
+          (f.0, f.1, subst (λ i. i ≤ life_of_client s c) h.told f.2))
 
   hello_of_cleaner : (inc : ℕ) → HearsHello what Cleaner inc → inc ≤ life_of_cleaner s
   hello_of_cleaner inc h = by_what what refl h
@@ -168,7 +174,8 @@ module _ (logs : Bool) (k : Cluster) (part : ℕ) (nodes : List AnyNode) (sent :
       by_what Begin gets h = absurd h
       by_what Tick gets h = absurd h
       by_what (Deliver q) gets h =
-          (let f = subst (λ b. SentBy k part s Cleaner q.to b) h.said (subst (λ n. SentBy k part s n q.to q.body) h.from (fact q gets)) in subst (λ i. i ≤ life_of_cleaner s) h.told f)
+          (let f = subst (λ b. SentBy k part s Cleaner q.to b) h.said (subst (λ n. SentBy k part s n q.to q.body) h.from (fact q gets)) in
+          subst (λ i. i ≤ life_of_cleaner s) h.told f)
 
   -- ---- managers
 
@@ -178,8 +185,10 @@ module _ (logs : Bool) (k : Cluster) (part : ℕ) (nodes : List AnyNode) (sent :
     within = (let a = h.within in let b = rises in omega arith);
     owns = λ e held. (let o = h.owns e held in let low = below e held in (lord_stays e low ∙ o.0, since_stays e low ∙ o.1));
     fresh = λ serves e less within mine. ⊎_elim
-        (λ low. subst (λ x. (manager_phases.lasting_of (s.manager j).phase).inc ≤ x) (sym (since_stays e low)) (h.fresh serves e less low (sym (lord_stays e low) ∙ mine)))
-        (λ high. let g = subst (λ x. life_told registry_scene x ≤ put s.since new (inc_in after_node.board lord) e) mine (new_given e high within) in let a = h.known serves in let b = go.board.rises j in omega arith)
+        (λ low. subst (λ x. (manager_phases.lasting_of (s.manager j).phase).inc ≤ x) (sym (since_stays e low))
+        (h.fresh serves e less low (sym (lord_stays e low) ∙ mine)))
+        (λ high. let g = subst (λ x. life_told registry_scene x ≤ put s.since new (inc_in after_node.board lord) e) mine (new_given e high within) in
+        let a = h.known serves in let b = go.board.rises j in omega arith)
         (one_way e old);
     known = λ serves. (let a = h.known serves in let b = go.board.rises j in omega arith);
     told = ⊎_elim (λ low. let a = h.told in omega arith) (λ heard. hello_of_manager j (inc_in after_node.board j) heard) (go.board.heard j);
@@ -213,13 +222,17 @@ module _ (logs : Bool) (k : Cluster) (part : ℕ) (nodes : List AnyNode) (sent :
       by_phase pos less (clients.Down l) = tt
       by_phase pos less (clients.Serving v) = tt
       by_phase pos less (clients.Opening l o) = λ same. all_in (λ x. x.slot ≡ part → epoch_of (s.net.tokens c).epochs part ≤ x.epoch) m.news.slots
-          (λ x among of_part. let t = tells m.news w.news x among of_part in let e = t.0 in let a = (st.clients c pos less).1.within in let b = rises in omega arith)
+          (λ x among of_part. let t = tells m.news w.news x among of_part in let e = t.0 in let a = (st.clients c pos less).1.within in let b = rises in
+          omega arith)
   welcomed (Manager j) m w = record {
     life = w.kept j refl;
-    version = (let e = go.board.sound.epochs (slot_of part) (slot_below part) in let b = rises in let a = st.some in let v = ap (λ (n : News). n.version) w.news.whole in omega arith);
+    version = (let e = go.board.sound.epochs (slot_of part) (slot_below part) in let b = rises in let a = st.some in
+        let v = ap (λ (n : News). n.version) w.news.whole in omega arith);
     later = λ x among same e less within mine. (let t = tells m.news w.news x among same in let at_new = t.0 in absurd (omega arith));
     own = λ x among same mine. (let t = tells m.news w.news x among same in
-        subst (λ y. m.inc ≤ put s.since new (inc_in after_node.board lord) y) (sym t.0) (subst (λ y. m.inc ≤ y) (sym (put_here s.since new (inc_in after_node.board lord))) (subst (λ y. m.inc ≤ inc_in after_node.board y) (sym mine ∙ t.1) (w.kept j refl))));
+        subst (λ y. m.inc ≤ put s.since new (inc_in after_node.board lord) y) (sym t.0)
+        (subst (λ y. m.inc ≤ y) (sym (put_here s.since new (inc_in after_node.board lord)))
+        (subst (λ y. m.inc ≤ inc_in after_node.board y) (sym mine ∙ t.1) (w.kept j refl))));
   }
   welcomed (Server n) m w = tt
   welcomed Cleaner m w = record { life = hello_of_cleaner m.inc w.heard; rises = by_phase s.cleaner.phase }
@@ -283,7 +296,11 @@ module _ (logs : Bool) (k : Cluster) (part : ℕ) (nodes : List AnyNode) (sent :
     copies = st.copies;
     few = st.few;
     peers = st.peers;
-    current = (put_here s.lord new lord, put_here s.since new (inc_in after_node.board lord) ∙ ap (inc_in after_node.board) (sym (put_here s.lord new lord) ∙ put_here s.lord new lord));
+    current = (
+      put_here s.lord new lord,
+      put_here s.since new (inc_in after_node.board lord)
+          ∙ ap (inc_in after_node.board) (sym (put_here s.lord new lord) ∙ put_here s.lord new lord),
+    );
     some = (let a = st.some in let b = rises in omega arith);
     before = put_each_two (λ d x y. 0 < d → d ≤ new → y ≤ life_told registry_scene x) s.lord s.since new lord (inc_in after_node.board lord)
         (λ pos within. omega arith)
@@ -292,7 +309,8 @@ module _ (logs : Bool) (k : Cluster) (part : ℕ) (nodes : List AnyNode) (sent :
       omega_le e h.0,
       subst (λ x. 0 < x) (sym (lord_stays e h.0)) h.1,
       subst (λ x. x ≤ k.managers) (sym (lord_stays e h.0)) h.2,
-      subst (λ x. PastAt k part (s.manager x).phase (put s.since new (inc_in after_node.board lord) e) e) (sym (lord_stays e h.0)) (subst (λ x. PastAt k part (s.manager (s.lord e)).phase x e) (sym (since_stays e h.0)) h.3),
+      subst (λ x. PastAt k part (s.manager x).phase (put s.since new (inc_in after_node.board lord) e) e) (sym (lord_stays e h.0))
+          (subst (λ x. PastAt k part (s.manager (s.lord e)).phase x e) (sym (since_stays e h.0)) h.3),
       h.4,
     ));
     facts = λ q h. ⊎_elim (λ old_. fact_stays k part s registry_scene grown q (st.facts q old_)) (λ new_. new_facts q new_) (in_append sent _ q h);

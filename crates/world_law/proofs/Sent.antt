@@ -37,7 +37,8 @@ in_all K (y ∷ xs) all x (inr later) = in_all K xs (λ i d less. all (suc i) d 
 -- ---- what a step sends
 
 -- what holds of each packet of a step, holds of it with the clock with which it is sent
-pub at_clock : (clock : ℕ) (K F : Packet → Type 0) → ((p : Packet) → K p → F (sent_at clock p)) → (packets : List Packet) → All K packets → (q : Packet) → In q (map (sent_at clock) packets) → F q
+pub at_clock : (clock : ℕ) (K F : Packet → Type 0) → ((p : Packet) → K p → F (sent_at clock p)) → (packets : List Packet) → All K packets → (q : Packet)
+    → In q (map (sent_at clock) packets) → F q
 at_clock clock K F each [] all q h = absurd h
 at_clock clock K F each (p ∷ packets) all q (inl is) = subst F (sym is) (each p (all 0 p (omega arith)))
 at_clock clock K F each (p ∷ packets) all q (inr later) = at_clock clock K F each packets (λ i d less. all (suc i) d (omega arith)) q later

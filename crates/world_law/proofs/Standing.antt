@@ -166,7 +166,8 @@ module _ (logs : Bool) (k : Cluster) (part : ℕ) (nodes : List AnyNode) (sent :
     pub acts : s.net.acts ≡ done
     pub placed : Placed k part nodes sent s
     pub sound : RegistrySound s.registry
-    pub clients : (c : ℕ) → 0 < c → c < members k part → ClientAgrees logs part c s.net (s.client c).phase × ClientStands part (epoch_now k part s) c s.net (s.client c).phase
+    pub clients : (c : ℕ) → 0 < c → c < members k part
+        → ClientAgrees logs part c s.net (s.client c).phase × ClientStands part (epoch_now k part s) c s.net (s.client c).phase
     pub managers : (j : ℕ) → 0 < j → j ≤ k.managers → ManagerSees k part s j (s.manager j).phase
     -- the cleaner has promised an epoch that the slot had
     pub cleaner : (s.net.promised ≤ epoch_now k part s) × CleanerStands part s.net.promised (epoch_now k part s) s.cleaner.phase

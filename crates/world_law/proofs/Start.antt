@@ -43,8 +43,10 @@ use Rattle.xfs_base.specs.declared.node.NodeId.TheVariants.{Client, Manager, Ser
 -- each place is below the number of nodes
 place_within : (c : Cluster) (node : NodeId) (p : ℕ) → place_of c node ≡ Some p → p < node_count c
 place_within c (Client n) p is = (let b = behind 0 c.clients n p is in let place = b.place in let some = b.some in let within = b.within in omega arith)
-place_within c (Manager n) p is = (let b = behind c.clients c.managers n p is in let place = b.place in let some = b.some in let within = b.within in omega arith)
-place_within c (Server n) p is = (let b = behind (c.clients + c.managers) c.servers n p is in let place = b.place in let some = b.some in let within = b.within in omega arith)
+place_within c (Manager n) p is =
+    (let b = behind c.clients c.managers n p is in let place = b.place in let some = b.some in let within = b.within in omega arith)
+place_within c (Server n) p is =
+    (let b = behind (c.clients + c.managers) c.servers n p is in let place = b.place in let some = b.some in let within = b.within in omega arith)
 place_within c Cleaner p is = (let place = some_place (c.clients + c.managers + c.servers) p is in omega arith)
 place_within c Registry p is = (let place = some_place (c.clients + c.managers + c.servers + 1) p is in omega arith)
 
@@ -53,12 +55,14 @@ module _ (script : Script) where
   cluster = cluster_of script.setup
 
   -- the node of a name is its first state
-  pub first_stands : (node : NodeId) (p : ℕ) → place_of cluster node ≡ Some p → node_in (first_nodes any_start script cluster) (place_of cluster node) ≡ Some (any_start node script.setup (items_of script.lines node))
+  pub first_stands : (node : NodeId) (p : ℕ) → place_of cluster node ≡ Some p
+      → node_in (first_nodes any_start script cluster) (place_of cluster node) ≡ Some (any_start node script.setup (items_of script.lines node))
   first_stands node p at =
       ap (node_in (first_nodes any_start script cluster)) at
       ∙ (slice_get-map (first_node any_start script) (nodes_of cluster) p
       ∙ (ap (option_map (first_node any_start script)) (slice_get-map (node_at cluster) (range_with_len 0 (node_count cluster)) p
-      ∙ ap (option_map (node_at cluster)) (slice_get-get_or (range_with_len 0 (node_count cluster)) p 0 (subst (λ n. p < n) (sym (length-range_with_len 0 (node_count cluster))) within)
+      ∙ ap (option_map (node_at cluster))
+      (slice_get-get_or (range_with_len 0 (node_count cluster)) p 0 (subst (λ n. p < n) (sym (length-range_with_len 0 (node_count cluster))) within)
       ∙ ap Some (get_or-range_with_len 0 (node_count cluster) p 0 within ∙ omega arith)))
       ∙ ap (λ n. Some (first_node any_start script n)) (node_at_place cluster node p at)))
     where
@@ -75,7 +79,8 @@ place_there first count number some most = ap (λ t. cond t (Some (first + numbe
     both : (a c : ℕ) → 0 < a → a ≤ c → (nat_lt 0 a && nat_le a c) ≡ true
     both a c some most = grind (arith, nat_tests)
 
-module _ (logs : Bool) (first_asks : StartsAsking) (first_agrees : FirstManagerAgrees) (cleaner_starts : CleanerStarts) (begins : (part : ℕ) → part < 8 → (setup : Setup) (items : List Work) → RegistryBegins part setup.managers (registry_start setup items))
+module _ (logs : Bool) (first_asks : StartsAsking) (first_agrees : FirstManagerAgrees) (cleaner_starts : CleanerStarts)
+    (begins : (part : ℕ) → part < 8 → (setup : Setup) (items : List Work) → RegistryBegins part setup.managers (registry_start setup items))
     (script : Script) (clients : script.setup.clients ≤ 8) (managers : 1 ≤ script.setup.managers) (part : ℕ) (of_eight : part < 8) where
   abbrev k : Cluster
   k = cluster_of script.setup
@@ -97,8 +102,13 @@ module _ (logs : Bool) (first_asks : StartsAsking) (first_agrees : FirstManagerA
   placed : Placed k part (first_nodes any_start script k) [] start_scene
   placed = record {
     clients = λ c some less. first_stands script (Client c) (0 + c - 1) (place_there 0 script.setup.clients c some (omega arith));
-    managers = λ j some most. first_stands script (Manager j) (script.setup.clients + j - 1) (place_there script.setup.clients script.setup.managers j some most);
-    servers = λ n some most. (_, first_stands script (Server n) (script.setup.clients + script.setup.managers + n - 1) (place_there (script.setup.clients + script.setup.managers) script.setup.servers n some most));
+    managers = λ j some most. first_stands script (Manager j) (script.setup.clients + j - 1)
+        (place_there script.setup.clients script.setup.managers j some most);
+    servers = λ n some most. (
+      _,
+      first_stands script (Server n) (script.setup.clients + script.setup.managers + n - 1)
+          (place_there (script.setup.clients + script.setup.managers) script.setup.servers n some most),
+    );
     cleaner = first_stands script Cleaner (script.setup.clients + script.setup.managers + script.setup.servers) refl;
     registry = first_stands script Registry (script.setup.clients + script.setup.managers + script.setup.servers + 1) refl;
   }
@@ -122,7 +132,8 @@ module _ (logs : Bool) (first_asks : StartsAsking) (first_agrees : FirstManagerA
   one_of_them = (let m = begun.manager in let less = mod-lt part {m = script.setup.managers} (omega arith) in (omega arith, omega arith))
 
   -- who holds the slot at the start is its first manager
-  mine : (j e : ℕ) (t : Bool) → ((entry_at (start_entries script.setup.managers) (slot_of part)).manager == j) ≡ t → HeldAt (cond t first_active (phase.Away 1)) e → manager_now k part start_scene ≡ j
+  mine : (j e : ℕ) (t : Bool) → ((entry_at (start_entries script.setup.managers) (slot_of part)).manager == j) ≡ t
+      → HeldAt (cond t first_active (phase.Away 1)) e → manager_now k part start_scene ≡ j
   mine j e true test held = same (entry_at (start_entries script.setup.managers) (slot_of part)).manager j test
     where
       same : (n m : ℕ) → (n == m) ≡ true → n ≡ m
@@ -141,16 +152,24 @@ module _ (logs : Bool) (first_asks : StartsAsking) (first_agrees : FirstManagerA
 
   entered : (e : ℕ) (z : SlotState) → opening.slots e ≡ Some z
       → (e ≤ epoch_now k part start_scene) × (0 < manager_now k part start_scene) × (manager_now k part start_scene ≤ script.setup.managers)
-      × PastAt k part (first_manager (manager_now k part start_scene) script.setup (items_of script.lines (Manager (manager_now k part start_scene)))).phase 1 e × (e ≤ 1)
+      × PastAt k part (first_manager (manager_now k part start_scene) script.setup (items_of script.lines (Manager (manager_now k part start_scene)))).phase 1 e
+      × (e ≤ 1)
   entered = put_each
-      (λ e o. (z : SlotState) → o ≡ Some z → (e ≤ epoch_now k part start_scene) × (0 < manager_now k part start_scene) × (manager_now k part start_scene ≤ script.setup.managers)
-      × PastAt k part (first_manager (manager_now k part start_scene) script.setup (items_of script.lines (Manager (manager_now k part start_scene)))).phase 1 e × (e ≤ 1))
+      (λ e o. (z : SlotState) → o ≡ Some z
+      → (e ≤ epoch_now k part start_scene) × (0 < manager_now k part start_scene) × (manager_now k part start_scene ≤ script.setup.managers)
+      × PastAt k part (first_manager (manager_now k part start_scene) script.setup (items_of script.lines (Manager (manager_now k part start_scene)))).phase 1 e
+      × (e ≤ 1))
       (λ e. None) 1 (opening.slots 1)
       (λ z is. (
         let b = begun.epoch in omega arith,
         one_of_them.0,
         one_of_them.1,
-        inr (refl, (let f = (first_agrees (members k part) part (manager_now k part start_scene) script.setup (items_of script.lines (Manager (manager_now k part start_scene))) of_eight).epoch in omega arith)),
+        inr (
+          refl,
+          (let f =
+              (first_agrees (members k part) part (manager_now k part start_scene) script.setup
+              (items_of script.lines (Manager (manager_now k part start_scene))) of_eight).epoch in omega arith),
+        ),
         omega arith,
       ))
       (λ e other z is. absurd (cc))
@@ -161,9 +180,19 @@ module _ (logs : Bool) (first_asks : StartsAsking) (first_agrees : FirstManagerA
     acts = refl;
     placed = placed;
     sound = begun.sound;
-    clients = λ c some less. (client_agrees c, record { asks = first_asks c script.setup (items_of script.lines (Client c)); within = (let a = first_epoch part in let b = begun.epoch in omega arith); promises = tt });
+    clients = λ c some less. (
+      client_agrees c,
+      record {
+        asks = first_asks c script.setup (items_of script.lines (Client c));
+        within = (let a = first_epoch part in let b = begun.epoch in omega arith);
+        promises = tt;
+      },
+    );
     managers = λ j some most. sees j some;
-    cleaner = ((let b = begun.epoch in omega arith), (cleaner_starts part (epoch_now k part start_scene) of_eight script.setup (items_of script.lines Cleaner)).0);
+    cleaner = (
+      (let b = begun.epoch in omega arith),
+      (cleaner_starts part (epoch_now k part start_scene) of_eight script.setup (items_of script.lines Cleaner)).0,
+    );
     copies = premise logs (cleaner_starts part (epoch_now k part start_scene) of_eight script.setup (items_of script.lines Cleaner)).1;
     few = within_nine script.setup.clients clients;
     peers = λ j some most. refl;

@@ -69,7 +69,8 @@ one_node a b same = ap (λ o. unwrap_or o a) same
 module _ (laws : NodeLaws) (logs : Bool) (k : Cluster) (part : ℕ) (of_eight : part < 8) where
   -- ---- one node takes its step
 
-  module _ (nodes : List AnyNode) (sent : List Packet) (acts : List Act) (s : Scene) (st : Stands logs k part nodes sent acts RegistrySound s) (place clock : ℕ) (what : Do) where
+  module _ (nodes : List AnyNode) (sent : List Packet) (acts : List Act) (s : Scene) (st : Stands logs k part nodes sent acts RegistrySound s) (place clock : ℕ)
+      (what : Do) where
     -- the moment after it: it stands to a small world whose books went on as this node's events make them go
     pub record Turned (name : NodeId) (node : AnyNode) : Type 0 where
       pub next : Scene
@@ -85,7 +86,8 @@ module _ (laws : NodeLaws) (logs : Bool) (k : Cluster) (part : ℕ) (of_eight : 
     abbrev pub Brought : NodeId → Type 0
     Brought name = (q : Packet) → what ≡ Deliver q → Fact k part s q × (q.to ≡ name)
 
-    client_after : (c : ℕ) → Brought (Client c) → place_of k (Client c) ≡ Some place → (node : AnyNode) → slice_get nodes place ≡ Some node → Owed (Client c) node
+    client_after : (c : ℕ) → Brought (Client c) → place_of k (Client c) ≡ Some place → (node : AnyNode) → slice_get nodes place ≡ Some node
+        → Owed (Client c) node
         → Turned (Client c) node
     client_after c fact at node is = subst (λ x. Owed (Client c) x → Turned (Client c) x) (one_node (any.Client (s.client c)) node (sym here ∙ is)) turned
       where
@@ -111,19 +113,24 @@ module _ (laws : NodeLaws) (logs : Bool) (k : Cluster) (part : ℕ) (of_eight : 
         asks = laws.keeps_asking (s.client c) what agreed.1.asks
 
         turned : Owed (Client c) (any.Client (s.client c)) → Turned (Client c) (any.Client (s.client c))
-        turned owed = went (laws.client logs (members k part) part (epoch_now k part s) c of_eight b.some less s.net (s.client c) what agreed.0 agreed.1 (gets what refl owed))
+        turned owed =
+            went (laws.client logs (members k part) part (epoch_now k part s) c of_eight b.some less s.net (s.client c) what agreed.0 agreed.1
+            (gets what refl owed))
           where
-            went : ClientGoes logs (members k part) part (epoch_now k part s) c s.net (s.client c).phase (takes (s.client c) what).state (takes (s.client c) what).outs
+            went : ClientGoes logs (members k part) part (epoch_now k part s) c s.net (s.client c).phase (takes (s.client c) what).state
+                (takes (s.client c) what).outs
                 → Turned (Client c) (any.Client (s.client c))
             went go = record {
               next = client_scene logs k part RegistrySound nodes sent acts s st c place clock b.some less at here (takes (s.client c) what) go asks;
               stands = client_turn logs k part RegistrySound nodes sent acts s st c place clock b.some less at here (takes (s.client c) what) go asks;
               books = record { others = go.books; own = go.log };
-              falls = λ falls. client_falls (members k part) logs part (epoch_now k part s) c b.some less s.net (Client (lasting_of (s.client c).phase).number) acts falls
+              falls = λ falls. client_falls (members k part) logs part (epoch_now k part s) c b.some less s.net
+                  (Client (lasting_of (s.client c).phase).number) acts falls
                   (s.client c).phase (takes (s.client c) what).state (takes (s.client c) what).outs go agreed.0;
             }
 
-    manager_after : (j : ℕ) → Brought (Manager j) → place_of k (Manager j) ≡ Some place → (node : AnyNode) → slice_get nodes place ≡ Some node → Owed (Manager j) node
+    manager_after : (j : ℕ) → Brought (Manager j) → place_of k (Manager j) ≡ Some place → (node : AnyNode) → slice_get nodes place ≡ Some node
+        → Owed (Manager j) node
         → Turned (Manager j) node
     manager_after j fact at node is = subst (λ x. Owed (Manager j) x → Turned (Manager j) x) (one_node (any.Manager (s.manager j)) node (sym here ∙ is)) turned
       where
@@ -144,7 +151,8 @@ module _ (laws : NodeLaws) (logs : Bool) (k : Cluster) (part : ℕ) (of_eight : 
 
         turned : Owed (Manager j) (any.Manager (s.manager j)) → Turned (Manager j) (any.Manager (s.manager j))
         turned owed =
-            went (laws.manager logs (members k part) part (epoch_now k part s) j s.net (s.manager j) what of_eight (sym (st.peers j b.some b.within)) sees.agrees sees.within
+            went (laws.manager logs (members k part) part (epoch_now k part s) j s.net (s.manager j) what of_eight
+            (sym (st.peers j b.some b.within)) sees.agrees sees.within
             (gets what refl owed))
           where
             after : managers.Went_to
@@ -153,11 +161,14 @@ module _ (laws : NodeLaws) (logs : Bool) (k : Cluster) (part : ℕ) (of_eight : 
             went : ManagerGoes logs (members k part) part (epoch_now k part s) j s.net (s.manager j).phase what (happens (s.manager j) what)
                 → Turned (Manager j) (any.Manager (s.manager j))
             went go = record {
-              next = manager_scene logs k part RegistrySound nodes sent acts s st j place clock b.some b.within at here what fact (happens (s.manager j) what) go;
-              stands = manager_turn logs k part RegistrySound nodes sent acts s st j place clock b.some b.within at here what fact (happens (s.manager j) what) go;
+              next = manager_scene logs k part RegistrySound nodes sent acts s st j place clock b.some b.within at here what fact
+                  (happens (s.manager j) what) go;
+              stands = manager_turn logs k part RegistrySound nodes sent acts s st j place clock b.some b.within at here what fact
+                  (happens (s.manager j) what) go;
               books = go.books;
               falls = falls_stay (members k part) s.net go.next acts _ go.tokens go.up
-                  (all_neutral (ManagerDoes part go.next.sent (epoch_now k part s) (managers.lasting_of after.state).inc) (Manager (managers.lasting_of (s.manager j).phase).number)
+                  (all_neutral (ManagerDoes part go.next.sent (epoch_now k part s) (managers.lasting_of after.state).inc)
+                  (Manager (managers.lasting_of (s.manager j).phase).number)
                   (λ a is. is) after.outs
                   (recursion_from_All (ManagerDoes part go.next.sent (epoch_now k part s) (managers.lasting_of after.state).inc) after.outs go.does));
             }
@@ -165,7 +176,8 @@ module _ (laws : NodeLaws) (logs : Bool) (k : Cluster) (part : ℕ) (of_eight : 
     server_after : (n : ℕ) → place_of k (Server n) ≡ Some place → (node : AnyNode) → slice_get nodes place ≡ Some node → Turned (Server n) node
     server_after n at node is = subst (Turned (Server n)) (one_node (any.Server there.0) node (sym here ∙ is)) (record {
       next = said_scene logs k part RegistrySound nodes sent acts s st (server_step there.0 what).acts says.1;
-      stands = server_turn logs k part RegistrySound nodes sent (acts ++ (server_step there.0 what).acts) (said_scene logs k part RegistrySound nodes sent acts s st (server_step there.0 what).acts says.1)
+      stands = server_turn logs k part RegistrySound nodes sent (acts ++ (server_step there.0 what).acts)
+          (said_scene logs k part RegistrySound nodes sent acts s st (server_step there.0 what).acts says.1)
           (said_stands logs k part RegistrySound nodes sent acts s st (server_step there.0 what).acts says.1) place clock what n at there.0 here says.0;
       books = refl;
       falls = falls_stay (members k part) s.net _ acts _ refl refl says.1;
@@ -183,7 +195,8 @@ module _ (laws : NodeLaws) (logs : Bool) (k : Cluster) (part : ℕ) (of_eight : 
         says : PacketsSay ServerSends (server_step there.0 what).packets × AllNeutral (server_step there.0 what).acts
         says = laws.server there.0 what
 
-    cleaner_after : Brought Cleaner → place_of k Cleaner ≡ Some place → (node : AnyNode) → slice_get nodes place ≡ Some node → Owed Cleaner node → Turned Cleaner node
+    cleaner_after : Brought Cleaner → place_of k Cleaner ≡ Some place → (node : AnyNode) → slice_get nodes place ≡ Some node → Owed Cleaner node
+        → Turned Cleaner node
     cleaner_after fact at node is = subst (λ x. Owed Cleaner x → Turned Cleaner x) (one_node (any.Cleaner s.cleaner) node (sym here ∙ is)) turned
       where
         here : slice_get nodes place ≡ Some (any.Cleaner s.cleaner)
@@ -199,7 +212,8 @@ module _ (laws : NodeLaws) (logs : Bool) (k : Cluster) (part : ℕ) (of_eight : 
 
         turned : Owed Cleaner (any.Cleaner s.cleaner) → Turned Cleaner (any.Cleaner s.cleaner)
         turned owed =
-            (let t = laws.cleaner logs (members k part) part s.net.promised (epoch_now k part s) s.net of_eight st.cleaner.0 (premise logs st.few) s.cleaner what st.cleaner.1
+            (let t = laws.cleaner logs (members k part) part s.net.promised (epoch_now k part s) s.net of_eight st.cleaner.0
+            (premise logs st.few) s.cleaner what st.cleaner.1
             (gets what refl) st.copies owed in goes t.0 t.1)
           where
             goes : CleanerGoes part s.net.promised (epoch_now k part s) s.cleaner.phase went.state went.outs
@@ -213,7 +227,8 @@ module _ (laws : NodeLaws) (logs : Bool) (k : Cluster) (part : ℕ) (of_eight : 
                   (recursion_from_All (CleanerDoes part go.next (cleaners.lasting_of went.state).inc) went.outs go.does));
             }
 
-    registry_after : ((q : Packet) → what ≡ Deliver q → Fact k part s q) → place_of k Registry ≡ Some place → (node : AnyNode) → slice_get nodes place ≡ Some node → Turned Registry node
+    registry_after : ((q : Packet) → what ≡ Deliver q → Fact k part s q) → place_of k Registry ≡ Some place → (node : AnyNode)
+        → slice_get nodes place ≡ Some node → Turned Registry node
     registry_after fact at node is = subst (Turned Registry) (one_node (any.Registry s.registry) node (sym here ∙ is)) (record {
       next = registry_scene logs k part nodes sent _ said said_st place clock at here what said_facts go;
       stands = registry_turn logs k part nodes sent _ said said_st place clock at here what said_facts go;
@@ -237,7 +252,8 @@ module _ (laws : NodeLaws) (logs : Bool) (k : Cluster) (part : ℕ) (of_eight : 
         said_facts q gets = said_fact logs k part RegistrySound nodes sent acts s st (registry_step s.registry what).acts go.acts q (fact q gets)
 
     -- what one node's step makes of the moment, if logs give what is owed
-    pub turns : (name : NodeId) → Brought name → place_of k name ≡ Some place → (node : AnyNode) → slice_get nodes place ≡ Some node → Owed name node → Turned name node
+    pub turns : (name : NodeId) → Brought name → place_of k name ≡ Some place → (node : AnyNode) → slice_get nodes place ≡ Some node → Owed name node
+        → Turned name node
     turns (Client c) fact at node is owed = client_after c fact at node is owed
     turns (Manager j) fact at node is owed = manager_after j fact at node is owed
     turns (Server n) fact at node is owed = server_after n at node is
@@ -247,7 +263,8 @@ module _ (laws : NodeLaws) (logs : Bool) (k : Cluster) (part : ℕ) (of_eight : 
   -- ---- an event of the world
 
   -- what an event delivers was sent, to the node that it happens to
-  pub delivered_fact : (sent : List Packet) (s : Scene) → ((q : Packet) → In q sent → Fact k part s q) → (w : World AnyNode) → w.sent ≡ sent → (event : Event) → MayHappen w event
+  pub delivered_fact : (sent : List Packet) (s : Scene) → ((q : Packet) → In q sent → Fact k part s q) → (w : World AnyNode) → w.sent ≡ sent → (event : Event)
+      → MayHappen w event
       → (q : Packet) → what_of event ≡ Deliver q → Fact k part s q × (q.to ≡ node_of event)
   delivered_fact sent s facts w same (events.Begin node) may q gets = absurd (cc)
   delivered_fact sent s facts w same (events.Tick node) may q gets = absurd (cc)

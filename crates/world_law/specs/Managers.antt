@@ -87,7 +87,8 @@ pub record HasOneManager (w : World AnyNode) (part : ℕ) : Type 0 where
   pub believed : (j c : ℕ) (s : SlotState) (t : TokensState) (b : BlockId) → active_at w part j ≡ Some s → s.epoch ≡ epoch_at w part → tokens_at w c ≡ Some t
       → is_in_slot part b ≡ true → rank (held_of t.blocks b).mode ≤ share_of s.beliefs b c
   -- and what a Grant that was sent to it would give, where it would still accept that
-  pub acceptable : (j c : ℕ) (s : SlotState) (t : TokensState) (packet : Packet) (m : Grant) → active_at w part j ≡ Some s → s.epoch ≡ epoch_at w part → tokens_at w c ≡ Some t
+  pub acceptable : (j c : ℕ) (s : SlotState) (t : TokensState) (packet : Packet) (m : Grant) → active_at w part j ≡ Some s → s.epoch ≡ epoch_at w part
+      → tokens_at w c ≡ Some t
       → WasSent w.sent packet → packet.to ≡ nodes.Client c → packet.body ≡ body.Grant m → is_in_slot part m.block ≡ true
       → accepts t m.block m.stamp m.inc m.req m.mode ≡ true → rank m.mode ≤ share_of s.beliefs m.block c
 

@@ -33,7 +33,8 @@ use Rattle.world_logs.proofs.Goods.{NodeLaws}
 use Rattle.xfs_base.specs.declared.node.NodeId.TheVariants.{Cleaner}
 use Rattle.xfs_base.specs.declared.setup.Setup.{Setup}
 
-module _ (laws : NodeLaws) (base : Setting) (end : World AnyNode) (setup : Setup) (few : (id : ℕ) (group : Group) → group_at end id ≡ Some group → id < 2 ^ 32) where
+module _ (laws : NodeLaws) (base : Setting) (end : World AnyNode) (setup : Setup)
+    (few : (id : ℕ) (group : Group) → group_at end id ≡ Some group → id < 2 ^ 32) where
   abbrev k : Cluster
   k = cluster_of setup
 
@@ -53,7 +54,8 @@ module _ (laws : NodeLaws) (base : Setting) (end : World AnyNode) (setup : Setup
     seen = l.1.seen Cleaner (any.Cleaner node) (ap (node_in nodes) at ∙ is)
 
     opens : OpeningOwed g l.0 node.phase
-    opens = opening_owed g l.0 l.1.moment (λ m sent. names_fit base end setup.servers cleaner_log.0 few m (laws.maps g l.0.net l.1.moment m sent)) laws.goes_on node.phase seen
+    opens = opening_owed g l.0 l.1.moment
+        (λ m sent. names_fit base end setup.servers cleaner_log.0 few m (laws.maps g l.0.net l.1.moment m sent)) laws.goes_on node.phase seen
 
     owed : (x : Do) → what ≡ x → owner_events.CleanerOwed g l.0 node.phase x
     owed Begin same = tt
@@ -63,10 +65,12 @@ module _ (laws : NodeLaws) (base : Setting) (end : World AnyNode) (setup : Setup
     goes : OwnerGoes g l.0 (cleaner_step node what)
     goes = laws.owner g refl l.0 node what seen.agrees (owed what refl)
 
-    pub cleaner_mine : (v : Scene) × Stands g OfCleaner v k (slice_set nodes place (any.Cleaner (cleaner_step node what).node)) (sent ++ map (sent_at clock) packets) (told ++ acts)
+    pub cleaner_mine : (v : Scene)
+        × Stands g OfCleaner v k (slice_set nodes place (any.Cleaner (cleaner_step node what).node)) (sent ++ map (sent_at clock) packets) (told ++ acts)
     cleaner_mine = (
       goes.next,
-      turned g OfCleaner l.0 goes.next k nodes sent told l.1 Cleaner place clock at (any.Cleaner node) (any.Cleaner (cleaner_step node what).node) is packets acts
+      turned g OfCleaner l.0 goes.next k nodes sent told l.1 Cleaner place clock at (any.Cleaner node)
+          (any.Cleaner (cleaner_step node what).node) is packets acts
           (cleaner_owner_turn g l.0 l.1.moment (cleaner_step node what) goes
           (cleaner_leaves_room laws.flies g l.0 l.1.moment node what seen.agrees goes seen.room) acts (λ a h. h)),
     )

@@ -72,7 +72,8 @@ use Rattle.xfs_base.specs.declared.setup.Setup.{Setup}
 
 -- ---- the step
 
-module _ (laws : NodeLaws) (base : Setting) (end : World AnyNode) (setup : Setup) (ok : IsSetup setup) (few : (id : ℕ) (group : Group) → group_at end id ≡ Some group → id < 2 ^ 32) where
+module _ (laws : NodeLaws) (base : Setting) (end : World AnyNode) (setup : Setup) (ok : IsSetup setup)
+    (few : (id : ℕ) (group : Group) → group_at end id ≡ Some group → id < 2 ^ 32) where
   abbrev k : Cluster
   k = goods.k laws base end setup ok few
 
@@ -140,7 +141,8 @@ module _ (laws : NodeLaws) (base : Setting) (end : World AnyNode) (setup : Setup
     server_after v gets at (any.Cleaner node) is known = absurd (first.1.seen (Server v) (any.Cleaner node) (named (Server v) _ at is))
     server_after v gets at (any.Registry node) is known = absurd (first.1.seen (Server v) (any.Registry node) (named (Server v) _ at is))
     server_after v gets at (any.Server node) is known = record {
-      fits = others_fit (Server node.number) (λ e. absurd cc) (server_step node what).packets (sent_from (Server node.number) (servers.takes node what).outs) known.says;
+      fits = others_fit (Server node.number) (λ e. absurd cc) (server_step node what).packets
+          (sent_from (Server node.number) (servers.takes node what).outs) known.says;
       logs = λ r h. one r (good.logs r h);
     }
       where
@@ -148,7 +150,8 @@ module _ (laws : NodeLaws) (base : Setting) (end : World AnyNode) (setup : Setup
             → (l : Scene) × Stands (g r) r l k (nodes_at (any.Server node)) (sent_by (any.Server node)) (told_by (Server v) (any.Server node) (log_by r))
         one r l = (
           record l.0 { net = go.next },
-          turned (g r) r l.0 (record l.0 { net = go.next }) k nodes sent (told (log_by r)) l.1 (Server v) place clock at (any.Server node) (any.Server (server_step node what).node) is
+          turned (g r) r l.0 (record l.0 { net = go.next }) k nodes sent (told (log_by r)) l.1 (Server v) place clock at (any.Server node)
+              (any.Server (server_step node what).node) is
               (server_step node what).packets [] (server_turn (g r) r refl l.0 l.1.moment v node what go),
         )
           where
@@ -158,7 +161,8 @@ module _ (laws : NodeLaws) (base : Setting) (end : World AnyNode) (setup : Setup
             owed (Deliver q) same = (let h = gets q same in (h.1, l.1.facts q h.0))
 
             go : ServerGoes (g r) (asker_by r l.0) l.0.net v node what
-            go = laws.server (g r) (asker_by r l.0) l.0.net v node what (behind (k.clients + k.managers) k.servers v place at).some (no_server r v) (laws.maps (g r) l.0.net l.1.moment)
+            go = laws.server (g r) (asker_by r l.0) l.0.net v node what (behind (k.clients + k.managers) k.servers v place at).some (no_server r v)
+                (laws.maps (g r) l.0.net l.1.moment)
                 (l.1.seen (Server v) (any.Server node) (named (Server v) _ at is)) (owed what refl)
 
     -- ---- the cleaner
@@ -181,14 +185,18 @@ module _ (laws : NodeLaws) (base : Setting) (end : World AnyNode) (setup : Setup
         other e = (let n = ap (λ (l : LogId). l.0) e in let m = goods.eight laws base end setup ok few c most in absurd (omega arith))
 
         go : CleanerGoes (g (OfClient c)) (asker_by (OfClient c) l.0) l.0.net node what
-        go = laws.cleaner (g (OfClient c)) (asker_by (OfClient c) l.0) l.0.net node what other (λ e. absurd cc) (l.1.seen Cleaner (any.Cleaner node) (named Cleaner _ at is)) (heard what refl)
+        go = laws.cleaner (g (OfClient c)) (asker_by (OfClient c) l.0) l.0.net node what other (λ e. absurd cc)
+            (l.1.seen Cleaner (any.Cleaner node) (named Cleaner _ at is)) (heard what refl)
 
         cleaner_apart : Now Cleaner (any.Cleaner node) (OfClient c)
         cleaner_apart = (
           record l.0 { net = go.next },
-          subst (λ more. Stands (g (OfClient c)) (OfClient c) (record l.0 { net = go.next }) k (nodes_at (any.Cleaner node)) (sent_by (any.Cleaner node)) (told c ++ more))
-              (ap (λ t. if t then cleaner_acts else []) (sym (unequal cleaner_log.0 c (λ e. (let m = goods.eight laws base end setup ok few c most in absurd (omega (arith, e)))))))
-              (turned (g (OfClient c)) (OfClient c) l.0 (record l.0 { net = go.next }) k nodes sent (told c) l.1 Cleaner place clock at (any.Cleaner node) (any.Cleaner (cleaner_step node what).node) is
+          subst (λ more. Stands (g (OfClient c)) (OfClient c) (record l.0 { net = go.next }) k (nodes_at (any.Cleaner node)) (sent_by (any.Cleaner node))
+              (told c ++ more))
+              (ap (λ t. if t then cleaner_acts else [])
+              (sym (unequal cleaner_log.0 c (λ e. (let m = goods.eight laws base end setup ok few c most in absurd (omega (arith, e)))))))
+              (turned (g (OfClient c)) (OfClient c) l.0 (record l.0 { net = go.next }) k nodes sent (told c) l.1 Cleaner place clock at (any.Cleaner node)
+              (any.Cleaner (cleaner_step node what).node) is
               cleaner_packets [] (cleaner_turn (g (OfClient c)) c refl l.0 l.1.moment node what go)),
         )
 
@@ -198,7 +206,8 @@ module _ (laws : NodeLaws) (base : Setting) (end : World AnyNode) (setup : Setup
     cleaner_after gets at (any.Server node) is known = absurd (first.1.seen Cleaner (any.Server node) (named Cleaner _ at is))
     cleaner_after gets at (any.Registry node) is known = absurd (first.1.seen Cleaner (any.Registry node) (named Cleaner _ at is))
     cleaner_after gets at (any.Cleaner node) is known = record {
-      fits = others_fit Cleaner (λ e. absurd cc) (cleaner_step node what).packets (sent_from Cleaner (cleaners.takes node.peers node.phase what).outs) known.says;
+      fits = others_fit Cleaner (λ e. absurd cc) (cleaner_step node what).packets
+          (sent_from Cleaner (cleaners.takes node.peers node.phase what).outs) known.says;
       logs = λ r h. by_owner r h (good.logs r h);
     }
       where
@@ -228,7 +237,8 @@ module _ (laws : NodeLaws) (base : Setting) (end : World AnyNode) (setup : Setup
         goes : (r : Role) → There r → (l : (v : Scene) × Stands (g r) r v k nodes sent (told (log_by r)))
             → RegistryGoes (g r) (asker_by r l.0) l.0.net node what
         goes r there l =
-            laws.registry (g r) (asker_by r l.0) l.0.net node what (at_most_nine setup.clients (AllInRange end) ok.clients.1 r there) (l.1.seen Registry (any.Registry node) (named Registry _ at is)) (owed what refl)
+            laws.registry (g r) (asker_by r l.0) l.0.net node what (at_most_nine setup.clients (AllInRange end) ok.clients.1 r there)
+            (l.1.seen Registry (any.Registry node) (named Registry _ at is)) (owed what refl)
             (record { named = now.0; filed = filed now.1 })
           where
             owed : (x : Do) → what ≡ x → Hears (g r) (asker_by r l.0) l.0.net x
@@ -236,7 +246,8 @@ module _ (laws : NodeLaws) (base : Setting) (end : World AnyNode) (setup : Setup
             owed Tick same = tt
             owed (Deliver q) same = l.1.facts q (gets q same).0
 
-            now : NamesGroups (g r) (registry_step node what).node.board.groups × Reached (told (log_by r) ++ []) (low_of (g r) (registry_step node what).node.board)
+            now : NamesGroups (g r) (registry_step node what).node.board.groups
+                × Reached (told (log_by r) ++ []) (low_of (g r) (registry_step node what).node.board)
             now = known.registry (registry_step node what).node.board (ap board_of (places.here k nodes Registry place at y (any.Registry node) is)) r there
 
             low : 1 ≤ l.0.net.low
@@ -284,7 +295,8 @@ module _ (laws : NodeLaws) (base : Setting) (end : World AnyNode) (setup : Setup
             → (l : Scene) × Stands (g r) r l k (nodes_at (any.Manager node)) (sent_by (any.Manager node)) (told_by (Manager j) (any.Manager node) (log_by r))
         one r h l = (
           l.0,
-          turned (g r) r l.0 l.0 k nodes sent (told (log_by r)) l.1 (Manager j) place clock at (any.Manager node) (any.Manager (manager_step node what).node) is packets []
+          turned (g r) r l.0 l.0 k nodes sent (told (log_by r)) l.1 (Manager j) place clock at (any.Manager node)
+              (any.Manager (manager_step node what).node) is packets []
               (idle_turn (g r) r l.0 l.1.moment (Manager j) (any.Manager (manager_step node what).node) packets writes.writes sends),
         )
           where
@@ -333,7 +345,8 @@ module _ (laws : NodeLaws) (base : Setting) (end : World AnyNode) (setup : Setup
         seen = own.1.seen (Client d) (any.Client node) here refl
 
         scans : PhaseOwed (g (OfClient d)) own.0.net node.phase
-        scans = phase_owed (g (OfClient d)) d own.0 own.1.moment (λ m sent. names_fit base end setup.servers d few m (laws.maps (g (OfClient d)) own.0.net own.1.moment m sent)) laws.goes_on node.phase seen
+        scans = phase_owed (g (OfClient d)) d own.0 own.1.moment
+            (λ m sent. names_fit base end setup.servers d few m (laws.maps (g (OfClient d)) own.0.net own.1.moment m sent)) laws.goes_on node.phase seen
 
         owed : (x : Do) → what ≡ x → ClientOwed (g (OfClient d)) d own.0 node.phase x
         owed Begin same = tt
@@ -341,7 +354,8 @@ module _ (laws : NodeLaws) (base : Setting) (end : World AnyNode) (setup : Setup
         owed (Deliver q) same = (let h = gets q same in record { own = h.1; seen = own.1.facts q h.0; fits = good.fits q h.0; scans = scans })
 
         go : ClientGoes (g (OfClient d)) d own.0 (client_step node what)
-        go = laws.client (g (OfClient d)) d refl (log_small d some (goods.eight laws base end setup ok few d within)) own.0 node what seen.agrees seen.written (owed what refl)
+        go = laws.client (g (OfClient d)) d refl (log_small d some (goods.eight laws base end setup ok few d within)) own.0 node what seen.agrees seen.written
+            (owed what refl)
 
         room : IsRoomy go.next.net
         room = client_leaves_room laws.flies (g (OfClient d)) d own.0 own.1.moment node what seen.agrees go seen.room
@@ -349,8 +363,10 @@ module _ (laws : NodeLaws) (base : Setting) (end : World AnyNode) (setup : Setup
         mine : Now (Client d) (any.Client node) (OfClient d)
         mine = (
           go.next,
-          turned (g (OfClient d)) (OfClient d) own.0 go.next k nodes sent (told d) own.1 (Client d) place clock at (any.Client node) (any.Client (client_step node what).node) is
-              packets (if d == d then acts else []) (owner_turn (g (OfClient d)) d own.0 own.1.moment (client_step node what) go room (if d == d then acts else []) (in_those (d == d) acts)),
+          turned (g (OfClient d)) (OfClient d) own.0 go.next k nodes sent (told d) own.1 (Client d) place clock at (any.Client node)
+              (any.Client (client_step node what).node) is
+              packets (if d == d then acts else [])
+              (owner_turn (g (OfClient d)) d own.0 own.1.moment (client_step node what) go room (if d == d then acts else []) (in_those (d == d) acts)),
         )
 
         number : (lasting_of node.phase).number ≡ d
@@ -361,8 +377,10 @@ module _ (laws : NodeLaws) (base : Setting) (end : World AnyNode) (setup : Setup
             → (l : Scene) × Stands (g r) r l k nodes sent (told (log_by r)) → Now (Client d) (any.Client node) r
         apart r other away there l = (
           l.0,
-          subst (λ more. Stands (g r) r l.0 k (nodes_at (any.Client node)) (sent_by (any.Client node)) (told (log_by r) ++ more)) (ap (λ t. if t then acts else []) (sym (unequal d (log_by r) other)))
-              (turned (g r) r l.0 l.0 k nodes sent (told (log_by r)) l.1 (Client d) place clock at (any.Client node) (any.Client (client_step node what).node) is packets []
+          subst (λ more. Stands (g r) r l.0 k (nodes_at (any.Client node)) (sent_by (any.Client node)) (told (log_by r) ++ more))
+              (ap (λ t. if t then acts else []) (sym (unequal d (log_by r) other)))
+              (turned (g r) r l.0 l.0 k nodes sent (told (log_by r)) l.1 (Client d) place clock at (any.Client node)
+              (any.Client (client_step node what).node) is packets []
               (idle_turn (g r) r l.0 l.1.moment (Client d) (any.Client (client_step node what).node) packets (there l.0) sends)),
         )
           where
@@ -381,7 +399,8 @@ module _ (laws : NodeLaws) (base : Setting) (end : World AnyNode) (setup : Setup
         by_owner (OfClient c) h l =
             ⊎_elim (λ same. subst (λ n. Now (Client d) (any.Client node) (OfClient n)) same mine)
             (λ other. apart (OfClient c) other (λ e. other (same_client d c e)) (λ v e. absurd (other e)) l) (equal_or_not d c)
-        by_owner OfCleaner h l = apart OfCleaner (λ e. (let m = goods.eight laws base end setup ok few d within in absurd (omega (arith, e)))) (λ e. absurd cc) (λ v. tt) l
+        by_owner OfCleaner h l =
+            apart OfCleaner (λ e. (let m = goods.eight laws base end setup ok few d within in absurd (omega (arith, e)))) (λ e. absurd cc) (λ v. tt) l
 
     pub node_after : (name : NodeId) → Gets name → place_of k name ≡ Some place → (x : AnyNode) → slice_get nodes place ≡ Some x → After name x
     node_after (Client d) gets at x is = client_after d gets at x is

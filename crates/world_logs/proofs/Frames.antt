@@ -66,7 +66,8 @@ module _ (g : Setting) (c : ℕ) (n next : Net) (asked : ℕ → Question) (late
 
 -- ---- the cleaner as the owner of its log
 
-module _ (g : Setting) (is : g.log ≡ cleaner_log) (n next : Net) (asked : ℕ → Question) (later : Later n next) (inc : next.inc ≡ n.inc) (owner : next.owner ≡ n.owner) where
+module _ (g : Setting) (is : g.log ≡ cleaner_log) (n next : Net) (asked : ℕ → Question) (later : Later n next) (inc : next.inc ≡ n.inc)
+    (owner : next.owner ≡ n.owner) where
   abbrev mine : Scene
   mine = record { net = n; asked = asked }
 
@@ -91,7 +92,8 @@ module _ (g : Setting) (n next : Net) (later : Later n next) where
     number = h.number;
     shelf = shelf ∙ h.shelf;
     maps = h.maps;
-    rebuild = if_some (λ (r : Rebuilding). RebuildSeen g n v r.rebuild) (λ (r : Rebuilding). RebuildSeen g next v r.rebuild) (λ (r : Rebuilding). rebuild_later g n next later v r.rebuild)
+    rebuild = if_some (λ (r : Rebuilding). RebuildSeen g n v r.rebuild) (λ (r : Rebuilding). RebuildSeen g next v r.rebuild)
+        (λ (r : Rebuilding). rebuild_later g n next later v r.rebuild)
         node.rebuilding h.rebuild;
   }
 

@@ -71,7 +71,8 @@ kept_sent : (those : List Event) (w end : World AnyNode) → Leads any_step w th
 kept_sent [] w end leads q h = subst (λ (x : World AnyNode). In q x.sent) leads h
 kept_sent (event ∷ those) w end leads q h =
     kept_sent those (next_world any_step w event) end leads.1 q
-    (next_keeps any_step (λ nodes sent acts. In q sent) w event h (λ place x clock at here. in_before w.sent (map (sent_at clock) (any_step x (what_of event)).packets) q h))
+    (next_keeps any_step (λ nodes sent acts. In q sent) w event h
+    (λ place x clock at here. in_before w.sent (map (sent_at clock) (any_step x (what_of event)).packets) q h))
 
 manager_number : (members part : ℕ) (n : TokenNet) (j : ℕ) (p : ManagerPhase) → ManagerAgrees members part n j p → (managers.lasting_of p).number ≡ j
 manager_number members part n j (managing.Down kept) h = h
@@ -82,7 +83,8 @@ no_acts : (t : Bool) (acts : List Act) → acts ≡ [] → (if t then acts else 
 no_acts true acts none = none
 no_acts false acts none = refl
 
-module _ (laws : NodeLaws) (stay : GroupsStay) (base : Setting) (end : World AnyNode) (setup : Setup) (ok : IsSetup setup) (few : (id : ℕ) (group : Group) → group_at end id ≡ Some group → id < 2 ^ 32) where
+module _ (laws : NodeLaws) (stay : GroupsStay) (base : Setting) (end : World AnyNode) (setup : Setup) (ok : IsSetup setup)
+    (few : (id : ℕ) (group : Group) → group_at end id ≡ Some group → id < 2 ^ 32) where
   abbrev k : Cluster
   k = logs.k laws base end setup ok few
 
@@ -110,7 +112,8 @@ module _ (laws : NodeLaws) (stay : GroupsStay) (base : Setting) (end : World Any
       → Known laws base end setup ok few nodes sent b
   known_so nodes sent a b same h = record {
     says = h.says;
-    registry = λ board is r there. (let x = h.registry board is r there in (x.0, subst (λ acts. Reached acts (least_horizon (log_by r) (all_news board))) (same (log_by r)) x.1));
+    registry = λ board is r there.
+        (let x = h.registry board is r there in (x.0, subst (λ acts. Reached acts (least_horizon (log_by r) (all_news board))) (same (log_by r)) x.1));
   }
 
   -- ---- one event
@@ -152,7 +155,8 @@ module _ (laws : NodeLaws) (stay : GroupsStay) (base : Setting) (end : World Any
         by None at = (let clash : None ≡ Some (any.Manager m) = sym (ap (node_in w.nodes) at) ∙ here in absurd cc)
         by (Some p) at =
             let b = behind k.clients k.managers j p at in
-            subst (λ (x : ManagerNode). (managers.lasting_of x.phase).number ≡ j) (same_manager (tok.0.manager j) m (sym (tok.1.placed.managers j b.some b.within) ∙ here))
+            subst (λ (x : ManagerNode). (managers.lasting_of x.phase).number ≡ j)
+            (same_manager (tok.0.manager j) m (sym (tok.1.placed.managers j b.some b.within) ∙ here))
             (manager_number (k.clients + 1) 0 tok.0.net j (tok.0.manager j).phase (tok.1.managers j b.some b.within).agrees)
 
     abbrev Kept : List AnyNode → List Packet → List Act → Type 0
@@ -160,7 +164,8 @@ module _ (laws : NodeLaws) (stay : GroupsStay) (base : Setting) (end : World Any
 
     module _ (good : GoodNow w told) where
       turns : (place : ℕ) (x : AnyNode) (clock : ℕ) → place_of w.cluster (node_of event) ≡ Some place → slice_get w.nodes place ≡ Some x
-          → Kept (slice_set w.nodes place (any_step x (what_of event)).node) (w.sent ++ map (sent_at clock) (any_step x (what_of event)).packets) (w.acts ++ (any_step x (what_of event)).acts)
+          → Kept (slice_set w.nodes place (any_step x (what_of event)).node) (w.sent ++ map (sent_at clock) (any_step x (what_of event)).packets)
+          (w.acts ++ (any_step x (what_of event)).acts)
       turns place x clock at is known =
           let nodes = slice_set w.nodes place (any_step x (what_of event)).node in
           let sent = w.sent ++ map (sent_at clock) (any_step x (what_of event)).packets in
@@ -170,7 +175,8 @@ module _ (laws : NodeLaws) (stay : GroupsStay) (base : Setting) (end : World Any
           (node_of event) gets (subst (λ cl. place_of cl (node_of event) ≡ Some place) cluster at) x is
           (known_so nodes sent (told_with (w.acts ++ acts)) (λ c. told c ++ (if owns c (node_of event) then acts else [])) (added acts) known))
 
-      pub event_keeps : Known laws base end setup ok few (next_world any_step w event).nodes (next_world any_step w event).sent (λ c. told c ++ acts_of c w event)
+      pub event_keeps : Known laws base end setup ok few (next_world any_step w event).nodes (next_world any_step w event).sent
+          (λ c. told c ++ acts_of c w event)
           → GoodNow (next_world any_step w event) (λ c. told c ++ acts_of c w event)
       event_keeps known = next_keeps any_step Kept w event (λ h. good_so w.nodes w.sent told (told_with w.acts) unchanged good) turns known
 
@@ -179,7 +185,8 @@ module _ (laws : NodeLaws) (stay : GroupsStay) (base : Setting) (end : World Any
   -- from this world on
   abbrev HorizonsFrom : List Event → World AnyNode → (ℕ → List Act) → Type 0
   HorizonsFrom events_ w told = (n : ℕ) (r : Role) → There r → (b : BoardState)
-      → board_of (node_in (fold (next_world any_step) w (take n events_)).nodes (place_of (fold (next_world any_step) w (take n events_)).cluster Registry)) ≡ Some b
+      → board_of (node_in (fold (next_world any_step) w (take n events_)).nodes (place_of (fold (next_world any_step) w (take n events_)).cluster Registry))
+      ≡ Some b
       → Reached (told (log_by r) ++ acts_by (log_by r) w (take n events_)) (least_horizon (log_by r) (all_news b))
 
   pub named_so : (w : World AnyNode) → w.cluster ≡ k → StayIn stay w end → (b : BoardState) → board_of (node_in w.nodes (place_of k Registry)) ≡ Some b
@@ -190,11 +197,13 @@ module _ (laws : NodeLaws) (stay : GroupsStay) (base : Setting) (end : World Any
       names_at_end base end setup.servers _ _ (stays id group (ap (λ o. group_in o id) here ∙ found))
 
   known_now : (w : World AnyNode) → w.cluster ≡ k → Tokens w → StayIn stay w end → (told : ℕ → List Act)
-      → ((r : Role) → There r → (b : BoardState) → board_of (node_in w.nodes (place_of w.cluster Registry)) ≡ Some b → Reached (told (log_by r)) (least_horizon (log_by r) (all_news b)))
+      → ((r : Role) → There r → (b : BoardState) → board_of (node_in w.nodes (place_of w.cluster Registry)) ≡ Some b
+      → Reached (told (log_by r)) (least_horizon (log_by r) (all_news b)))
       → Known laws base end setup ok few w.nodes w.sent told
   known_now w cluster tok stays told reached = record {
     says = λ p h. may_say k 0 tok.0 p (tok.1.facts p h);
-    registry = λ b is r there. (named_so w cluster stays b is r, reached r there b (subst (λ cl. board_of (node_in w.nodes (place_of cl Registry)) ≡ Some b) (sym cluster) is));
+    registry = λ b is r there.
+        (named_so w cluster stays b is r, reached r there b (subst (λ cl. board_of (node_in w.nodes (place_of cl Registry)) ≡ Some b) (sym cluster) is));
   }
 
   pub front_keeps : (events_ : List Event) (count : ℕ) (w : World AnyNode) (told : ℕ → List Act) → w.cluster ≡ k → Leads any_step w events_ end
@@ -204,7 +213,8 @@ module _ (laws : NodeLaws) (stay : GroupsStay) (base : Setting) (end : World Any
   front_keeps [] (suc count) w told cluster leads tok low good = good_so w.nodes w.sent told (λ c. told c ++ []) (λ c. sym (append-nil (told c))) good
   front_keeps (event ∷ more) (suc count) w told cluster leads tok low good =
       good_so (fold (next_world any_step) next (take count more)).nodes (fold (next_world any_step) next (take count more)).sent
-      (λ c. now c ++ acts_by c next (take count more)) (λ c. told c ++ (acts_of c w event ++ acts_by c next (take count more))) (λ c. append_assoc (told c) (acts_of c w event) (acts_by c next (take count more)))
+      (λ c. now c ++ acts_by c next (take count more)) (λ c. told c ++ (acts_of c w event ++ acts_by c next (take count more)))
+      (λ c. append_assoc (told c) (acts_of c w event) (acts_by c next (take count more)))
       (front_keeps more count next now next_in leads.1 next_tok later next_good)
     where
       next : World AnyNode
@@ -222,7 +232,8 @@ module _ (laws : NodeLaws) (stay : GroupsStay) (base : Setting) (end : World Any
       later : HorizonsFrom more next now
       later n r there b is =
           let c = log_by r in
-          subst (λ acts. Reached acts (least_horizon c (all_news b))) (sym (append_assoc (told c) (acts_of c w event) (acts_by c next (take n more)))) (low (suc n) r there b is)
+          subst (λ acts. Reached acts (least_horizon c (all_news b))) (sym (append_assoc (told c) (acts_of c w event) (acts_by c next (take n more))))
+          (low (suc n) r there b is)
 
       known : Known laws base end setup ok few next.nodes next.sent now
       known = known_now next next_in next_tok (in_run stay more next end leads.1) now

@@ -54,7 +54,8 @@ pub record NodeLaws : Type 0 where
   pub goes_on : OpeningsGoOn
   pub flies : FliesNext
 
-module _ (laws : NodeLaws) (base : Setting) (end : World AnyNode) (setup : Setup) (ok : IsSetup setup) (few : (id : ℕ) (group : Group) → group_at end id ≡ Some group → id < 2 ^ 32) where
+module _ (laws : NodeLaws) (base : Setting) (end : World AnyNode) (setup : Setup) (ok : IsSetup setup)
+    (few : (id : ℕ) (group : Group) → group_at end id ≡ Some group → id < 2 ^ 32) where
   abbrev pub k : Cluster
   k = cluster_of setup
 
@@ -86,14 +87,18 @@ module _ (laws : NodeLaws) (base : Setting) (end : World AnyNode) (setup : Setup
     pub all_say : (packets : List Packet) → ((q : Packet) → In q (sent ++ map (sent_at clock) packets) → MaySay q.from q.body)
         → All (λ (p : Packet). MaySay p.from p.body) packets
     all_say packets says = λ i d less.
-        says (sent_at clock (get_or packets i d)) (in_after sent (map (sent_at clock) packets) _ (in_map (sent_at clock) packets (get_or packets i d) (in_get packets i d less)))
+        says (sent_at clock (get_or packets i d))
+        (in_after sent (map (sent_at clock) packets) _ (in_map (sent_at clock) packets (get_or packets i d) (in_get packets i d less)))
 
     pub all_fit : (packets : List Packet) → All (λ (p : Packet). BodyFits p.body) packets → (q : Packet) → In q (sent ++ map (sent_at clock) packets)
         → BodyFits q.body
     all_fit packets all q h = ⊎_elim (λ old. good.fits q old)
-        (λ new. at_clock clock (λ (p : Packet). BodyFits p.body) (λ (p : Packet). BodyFits p.body) (λ p f. f) packets all q new) (in_append sent (map (sent_at clock) packets) q h)
+        (λ new. at_clock clock (λ (p : Packet). BodyFits p.body) (λ (p : Packet). BodyFits p.body) (λ p f. f) packets all q new)
+        (in_append sent (map (sent_at clock) packets) q h)
 
     pub others_fit : (node : NodeId) → (node ≡ Registry → ⊥) → (packets : List Packet) → All (λ (p : Packet). p.from ≡ node) packets
-        → ((q : Packet) → In q (sent ++ map (sent_at clock) packets) → MaySay q.from q.body) → (q : Packet) → In q (sent ++ map (sent_at clock) packets) → BodyFits q.body
+        → ((q : Packet) → In q (sent ++ map (sent_at clock) packets) → MaySay q.from q.body) → (q : Packet) → In q (sent ++ map (sent_at clock) packets)
+        → BodyFits q.body
     others_fit node other packets from says =
-        all_fit packets (λ i d less. from_fits (get_or packets i d).from (get_or packets i d).body (all_say packets says i d less) (λ e. other (sym (from i d less) ∙ e)))
+        all_fit packets
+        (λ i d less. from_fits (get_or packets i d).from (get_or packets i d).body (all_say packets says i d less) (λ e. other (sym (from i d less) ∙ e)))

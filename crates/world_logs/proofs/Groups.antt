@@ -49,7 +49,8 @@ use Rattle.xfs_base.specs.declared.setup.Setup.{Setup}
 
 -- the law of the map of groups
 abbrev pub GroupsStay : Type 0
-GroupsStay = (state : GroupMapState) (losses : List Loss) (id : ℕ) (group : Group) → group_of state id ≡ Some group → IsSomeAnd (group_of (after_losses state losses) id) (IsLater group)
+GroupsStay = (state : GroupMapState) (losses : List Loss) (id : ℕ) (group : Group) → group_of state id ≡ Some group
+    → IsSomeAnd (group_of (after_losses state losses) id) (IsLater group)
 
 -- a group of this stripe is named
 pub record Names (o : Option Group) (stripe : Stripe) : Type 0 where
@@ -91,7 +92,8 @@ first_map setup ok items =
 module _ (law : GroupsStay) where
   lost_stay : (m : GroupMapState) (server generation : ℕ) → Stay m (after_losses m (record { server = server; generation = generation } ∷ []))
   lost_stay m server generation id group is =
-      by (group_of (after_losses m (record { server = server; generation = generation } ∷ [])) id) refl (law m (record { server = server; generation = generation } ∷ []) id group is)
+      by (group_of (after_losses m (record { server = server; generation = generation } ∷ [])) id) refl
+      (law m (record { server = server; generation = generation } ∷ []) id group is)
     where
       by : (o : Option Group) → group_of (after_losses m (record { server = server; generation = generation } ∷ [])) id ≡ o → IsSomeAnd o (IsLater group)
           → Names (group_of (after_losses m (record { server = server; generation = generation } ∷ [])) id) (stripe_of_group group)
@@ -127,7 +129,8 @@ module _ (law : GroupsStay) where
   by_input b (Done slot epoch parts horizon) =
       by_test (λ (d : board.Made). KeptBy b d.state) (nat_lt 7 slot) _ _ (λ t. same_map b.groups)
       (λ t. by_test (λ (d : board.Made). KeptBy b d.state) (is_kept b slot epoch horizon) (board.keep b slot epoch parts horizon) _
-      (λ u. by_test (λ (d : board.Made). KeptBy b d.state) (b.version == 4294967295) _ _ (λ v. same_map b.groups) (λ v. same_map b.groups)) (λ u. same_map b.groups))
+      (λ u. by_test (λ (d : board.Made). KeptBy b d.state) (b.version == 4294967295) _ _ (λ v. same_map b.groups) (λ v. same_map b.groups))
+      (λ u. same_map b.groups))
 
   abbrev KeptIn : RegistryNode → registry.Done → Type 0
   KeptIn r d = Kept r.board.groups d.state.board.groups
@@ -204,23 +207,28 @@ module _ (law : GroupsStay) where
 
   in_time : (w : World AnyNode) (event : Event) → InTime (at_registry w.cluster w.nodes) (at_registry w.cluster (next_world any_step w event).nodes)
   in_time w event =
-      next_keeps any_step (λ nodes sent acts. InTime (at_registry w.cluster w.nodes) (at_registry w.cluster nodes)) w event (in_time_still (at_registry w.cluster w.nodes))
+      next_keeps any_step (λ nodes sent acts. InTime (at_registry w.cluster w.nodes) (at_registry w.cluster nodes)) w event
+      (in_time_still (at_registry w.cluster w.nodes))
       (λ place x clock at here. by_place w.cluster w.nodes (node_of event) place (what_of event) x at here)
 
   in_next : (w : World AnyNode) (event : Event) → StayIn w (next_world any_step w event)
   in_next w event id group is =
-      subst (λ cl. Names (group_in (groups_of (node_in (next_world any_step w event).nodes (place_of cl Registry))) id) (stripe_of_group group)) (sym (next_cluster any_step w event))
+      subst (λ cl. Names (group_in (groups_of (node_in (next_world any_step w event).nodes (place_of cl Registry))) id) (stripe_of_group group))
+      (sym (next_cluster any_step w event))
       ((in_time w event).stays id group is)
 
   -- at the end of a run the map is well formed, if it was so before
-  pub map_in_run : (events : List Event) (w end : World AnyNode) → Leads any_step w events end → HasMap (node_named w Registry) → HasMap (node_named end Registry)
+  pub map_in_run : (events : List Event) (w end : World AnyNode) → Leads any_step w events end → HasMap (node_named w Registry)
+      → HasMap (node_named end Registry)
   map_in_run [] w end leads h = subst (λ v. HasMap (node_named v Registry)) leads h
   map_in_run (event ∷ events) w end leads h =
       map_in_run events (next_world any_step w event) end leads.1
-      (subst (λ cl. HasMap (node_in (next_world any_step w event).nodes (place_of cl Registry))) (sym (next_cluster any_step w event)) ((in_time w event).map h))
+      (subst (λ cl. HasMap (node_in (next_world any_step w event).nodes (place_of cl Registry))) (sym (next_cluster any_step w event))
+      ((in_time w event).map h))
 
   stay_on : (u v w : World AnyNode) → StayIn u v → StayIn v w → StayIn u w
-  stay_on u v w a b id group is = (let x = a id group is in let y = b id x.group x.is in record { group = y.group; is = y.is; stripe_is = y.stripe_is ∙ x.stripe_is })
+  stay_on u v w a b id group is =
+      (let x = a id group is in let y = b id x.group x.is in record { group = y.group; is = y.is; stripe_is = y.stripe_is ∙ x.stripe_is })
 
   pub in_run : (events : List Event) (w end : World AnyNode) → Leads any_step w events end → StayIn w end
   in_run [] w end leads = subst (StayIn w) leads (λ id group is. record { group = group; is = is; stripe_is = refl })

@@ -163,12 +163,14 @@ module _ (laws : tokens.NodeLaws) (below : Filing) (k : Cluster) (c : ℕ) where
       no_client_there d e clash =
           let b = behind 0 k.clients d place (subst (λ n. place_of k n ≡ Some place) e at) in
           let less : d < k.clients + 1 = (let most = b.within in omega arith) in
-          none (any.Client (tok.0.client d)) (clash (tok.0.client d)) (subst (λ n. node_in nodes (place_of k n) ≡ Some (any.Client (tok.0.client d))) (sym e) (tok.1.placed.clients d b.some less))
+          none (any.Client (tok.0.client d)) (clash (tok.0.client d))
+          (subst (λ n. node_in nodes (place_of k n) ≡ Some (any.Client (tok.0.client d))) (sym e) (tok.1.placed.clients d b.some less))
 
       no_manager_there : (j : ℕ) → name ≡ Manager j → ((n : ManagerNode) → any.Manager n ≡ y → ⊥) → ⊥
       no_manager_there j e clash =
           let b = behind k.clients k.managers j place (subst (λ n. place_of k n ≡ Some place) e at) in
-          none (any.Manager (tok.0.manager j)) (clash (tok.0.manager j)) (subst (λ n. node_in nodes (place_of k n) ≡ Some (any.Manager (tok.0.manager j))) (sym e) (tok.1.placed.managers j b.some b.within))
+          none (any.Manager (tok.0.manager j)) (clash (tok.0.manager j))
+          (subst (λ n. node_in nodes (place_of k n) ≡ Some (any.Manager (tok.0.manager j))) (sym e) (tok.1.placed.managers j b.some b.within))
 
       no_server_there : (v : ℕ) → name ≡ Server v → ((n : ServerNode) → any.Server n ≡ y → ⊥) → ⊥
       no_server_there v e clash =
@@ -178,11 +180,13 @@ module _ (laws : tokens.NodeLaws) (below : Filing) (k : Cluster) (c : ℕ) where
 
       no_cleaner_there : name ≡ Cleaner → ((n : CleanerNode) → any.Cleaner n ≡ y → ⊥) → ⊥
       no_cleaner_there e clash =
-          none (any.Cleaner tok.0.cleaner) (clash tok.0.cleaner) (subst (λ n. node_in nodes (place_of k n) ≡ Some (any.Cleaner tok.0.cleaner)) (sym e) tok.1.placed.cleaner)
+          none (any.Cleaner tok.0.cleaner) (clash tok.0.cleaner)
+          (subst (λ n. node_in nodes (place_of k n) ≡ Some (any.Cleaner tok.0.cleaner)) (sym e) tok.1.placed.cleaner)
 
       no_registry_there : name ≡ Registry → ((n : RegistryNode) → any.Registry n ≡ y → ⊥) → ⊥
       no_registry_there e clash =
-          none (any.Registry tok.0.registry) (clash tok.0.registry) (subst (λ n. node_in nodes (place_of k n) ≡ Some (any.Registry tok.0.registry)) (sym e) tok.1.placed.registry)
+          none (any.Registry tok.0.registry) (clash tok.0.registry)
+          (subst (λ n. node_in nodes (place_of k n) ≡ Some (any.Registry tok.0.registry)) (sym e) tok.1.placed.registry)
 
     manager_goes : (j : ℕ) → name ≡ Manager j → (x : AnyNode) → slice_get nodes place ≡ Some x → Goes x
     manager_goes j e (any.Manager node) is =
@@ -234,7 +238,8 @@ module _ (laws : tokens.NodeLaws) (below : Filing) (k : Cluster) (c : ℕ) where
             lowered (further x) (later x) cleaner_log.0 less Cleaner refl clock (any_step x what).packets
                 (sent_from Cleaner (cleaners.takes node.peers node.phase what).outs) t.packets
                 (λ q h from. cleaner_quiet 0 good.0.net.promised (standing.life_of_cleaner good.0) q.body
-                (subst (λ f. standing.SentBy k 0 good.0 f q.to q.body) from (good.1.facts q (in_after sent (map (sent_at clock) (any_step x what).packets) q h)))),
+                (subst (λ f. standing.SentBy k 0 good.0 f q.to q.body) from
+                (good.1.facts q (in_after sent (map (sent_at clock) (any_step x what).packets) q h)))),
           )
 
     cleaner_goes : name ≡ Cleaner → (x : AnyNode) → slice_get nodes place ≡ Some x → GoodAfter x → Goes x
@@ -246,7 +251,8 @@ module _ (laws : tokens.NodeLaws) (below : Filing) (k : Cluster) (c : ℕ) where
 
     -- ---- a client
 
-    module _ (d : ℕ) (named : name ≡ Client d) (node : ClientNode) (is : slice_get nodes place ≡ Some (any.Client node)) (good : GoodAfter (any.Client node)) where
+    module _ (d : ℕ) (named : name ≡ Client d) (node : ClientNode) (is : slice_get nodes place ≡ Some (any.Client node))
+        (good : GoodAfter (any.Client node)) where
       x : AnyNode
       x = any.Client node
 
@@ -268,18 +274,21 @@ module _ (laws : tokens.NodeLaws) (below : Filing) (k : Cluster) (c : ℕ) where
           let high : Reach = further (any.Client node) in
           let low : Reach = later (any.Client node) in
           let those : List Act = (client_step node what).acts in
-          let t = below.told.client before high node what (rises_wide (any.Client node)) (held (any.Client node) is) tells (wide_acts c (told_by (any.Client node)) acts those) in
+          let t = below.told.client before high node what (rises_wide (any.Client node)) (held (any.Client node) is) tells
+          (wide_acts c (told_by (any.Client node)) acts those) in
           let less = narrow c (told_by (any.Client node)) (acts ++ those) d other in
           let first : (lasting_of node.phase).number ≡ d = numbered nodes sent acts tok d place at_client node is in
           let set = get_set_same nodes place (any.Client (client_step node what).node) (any.Client node) is in
           let last : (lasting_of (client_step node what).node.phase).number ≡ d =
-          numbered (slice_set nodes place (any.Client (client_step node what).node)) (sent ++ map (sent_at clock) (client_step node what).packets) (acts ++ those)
+          numbered (slice_set nodes place (any.Client (client_step node what).node)) (sent ++ map (sent_at clock) (client_step node what).packets)
+          (acts ++ those)
           good d place at_client (client_step node what).node set in
           let from : NodeId = Client (lasting_of node.phase).number in (
             client_lower high low d less (client_step node what).node.phase last t.node,
             lowered high low d less from (ap (λ n. fed_log (Client n)) first) clock (client_step node what).packets
                 (sent_from from (takes node what).outs) t.packets
-                (λ q h its. client_quiet 0 good.0.net.sent (lasting_of node.phase).number (standing.life_of_client good.0 (lasting_of node.phase).number) q.to q.body
+                (λ q h its. client_quiet 0 good.0.net.sent (lasting_of node.phase).number
+                (standing.life_of_client good.0 (lasting_of node.phase).number) q.to q.body
                 (subst (λ f. standing.SentBy k 0 good.0 f q.to q.body) its
                 (good.1.facts q (in_after sent (map (sent_at clock) (client_step node what).packets) q h))).2),
           )
@@ -305,9 +314,11 @@ module _ (laws : tokens.NodeLaws) (below : Filing) (k : Cluster) (c : ℕ) where
         by_name Registry e = registry_goes e x is
 
     pub turn : (x : AnyNode) → slice_get nodes place ≡ Some x → GoodAfter x
-        → Told (told_by x) (acts ++ (any_step x what).acts) (slice_set nodes place (any_step x what).node) (sent ++ map (sent_at clock) (any_step x what).packets)
+        → Told (told_by x) (acts ++ (any_step x what).acts) (slice_set nodes place (any_step x what).node)
+        (sent ++ map (sent_at clock) (any_step x what).packets)
     turn x is good =
         let g = goes x is good in (
           telling.all_set (AnyReaches (later x)) nodes place (any_step x what).node (telling.nodes_rise below.told before (later x) (rises x) nodes now.0) g.0,
-          all_append (PacketTells (later x)) sent (map (sent_at clock) (any_step x what).packets) (telling.packets_rise below.told before (later x) (rises x) sent now.1) g.1,
+          all_append (PacketTells (later x)) sent (map (sent_at clock) (any_step x what).packets)
+              (telling.packets_rise below.told before (later x) (rises x) sent now.1) g.1,
         )

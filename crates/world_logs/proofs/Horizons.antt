@@ -79,7 +79,8 @@ module _ (laws : tokens.NodeLaws) (below : Filing) (k : Cluster) (c : ℕ) where
     all_turns place x clock at is good =
         let step = any_step x (what_of event) in
         subst (λ own. Told own (w.acts ++ step.acts) (slice_set w.nodes place step.node) (w.sent ++ map (sent_at clock) step.packets)) (sym (added step.acts))
-        (turns.turn laws below k c w.nodes w.sent w.acts told now tok place clock (what_of event) (node_of event) (subst (λ cl. place_of cl (node_of event) ≡ Some place) cluster at)
+        (turns.turn laws below k c w.nodes w.sent w.acts told now tok place clock (what_of event) (node_of event)
+        (subst (λ cl. place_of cl (node_of event) ≡ Some place) cluster at)
         (heard_by event may) x is good)
 
     event_keeps : Tokens (next_world any_step w event).nodes (next_world any_step w event).sent (next_world any_step w event).acts
@@ -135,7 +136,8 @@ module _ (reach : Reach) (nodes : List AnyNode) (all : AllByRecursion (AnyReache
   at_place None x is = absurd cc
   at_place (Some place) x is = telling.all_got (AnyReaches reach) nodes place x all is
 
-pub horizons_reached : tokens.NodeLaws → Filing → (e : Estate AnyNode) → IsSetup e.script.setup → IsRun any_step any_start e.script e.events e.world → HorizonsReached e
+pub horizons_reached : tokens.NodeLaws → Filing → (e : Estate AnyNode) → IsSetup e.script.setup → IsRun any_step any_start e.script e.events e.world
+    → HorizonsReached e
 unfolding start_world
 horizons_reached laws below e ok run count c opened b is =
     reached own c (least_horizon c (all_news b)) (telling.was_filed own c (least_horizon c (all_news b)) upto (is_filed own c))
@@ -169,7 +171,9 @@ horizons_reached laws below e ok run count c opened b is =
     same = tokens.one_node registry.board b (sym (ap board_of there) ∙ is)
 
     low : least_horizon c (all_news registry.board) ≤ suc (owned c own w.acts c)
-    low = telling.low_reached (owned c own w.acts) registry (at_place (owned c own w.acts) w.nodes stands.0 (place_of w.cluster Registry) (any.Registry registry) there) c some
+    low = telling.low_reached (owned c own w.acts) registry
+        (at_place (owned c own w.acts) w.nodes stands.0 (place_of w.cluster Registry) (any.Registry registry) there) c some
 
     upto : least_horizon c (all_news b) ≤ suc (filed_upto own c)
-    upto = subst (λ (x : BoardState). least_horizon c (all_news x) ≤ suc (filed_upto own c)) same (subst (λ n. least_horizon c (all_news registry.board) ≤ suc n) (owned_itself c own w.acts) low)
+    upto = subst (λ (x : BoardState). least_horizon c (all_news x) ≤ suc (filed_upto own c)) same
+        (subst (λ n. least_horizon c (all_news registry.board) ≤ suc n) (owned_itself c own w.acts) low)

@@ -52,7 +52,8 @@ at_end : (events : List Event) (w end : World AnyNode) → Leads any_step w even
 at_end [] w end leads = leads
 at_end (event ∷ events) w end leads = at_end events (next_world any_step w event) end leads.1
 
-module _ (below : Below) (e : Estate AnyNode) (ok : IsSetup e.script.setup) (run : IsRun any_step any_start e.script e.events e.world) (low : HorizonsReached e) where
+module _ (below : Below) (e : Estate AnyNode) (ok : IsSetup e.script.setup) (run : IsRun any_step any_start e.script e.events e.world)
+    (low : HorizonsReached e) where
   abbrev setup : Setup
   setup = e.script.setup
 
@@ -86,7 +87,9 @@ module _ (below : Below) (e : Estate AnyNode) (ok : IsSetup e.script.setup) (run
 
   first_named : (r : Role) → NamesGroups (g r) (groups.started setup.servers setup.groups)
   unfolding start_world
-  first_named r = named_so below.nodes below.groups base e.world setup ok few (start_world any_start e.script) refl (in_run below.groups e.events (start_world any_start e.script) e.world run)
+  first_named r =
+      named_so below.nodes below.groups base e.world setup ok few (start_world any_start e.script) refl
+      (in_run below.groups e.events (start_world any_start e.script) e.world run)
       (registry_start setup (items_of e.script.lines Registry)).board first_board r
 
   good_at : (count : ℕ) → Good below.nodes base e.world setup ok few (moment e count).nodes (moment e count).sent (λ c. did e c count)
@@ -127,7 +130,8 @@ module _ (below : Below) (e : Estate AnyNode) (ok : IsSetup e.script.setup) (run
       let l = (good_at count).logs r there in
       let f = tokens.front below.nodes.tokens e ok run count 0 (omega arith) in
       record {
-        whole = λ name is kept. is_whole base e.world (moment e count) setup.servers r k f.0 l.0 (did e (log_by r) count) l.1 below.whole below.text (exist count) name is kept;
+        whole = λ name is kept. is_whole base e.world (moment e count) setup.servers r k f.0 l.0 (did e (log_by r) count) l.1 below.whole below.text
+            (exist count) name is kept;
         one_text = λ name of. has_text base e.world (moment e count) setup.servers r k f.0 l.0 (did e (log_by r) count) l.1 below.text name of;
       }
 

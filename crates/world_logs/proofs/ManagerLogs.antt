@@ -101,12 +101,14 @@ module _ (own : LogId) (high : 10 ≤ own.0) where
   log_so : (s : Serving) (o : LogOut) → SendsOwn own o → IsOfLog own s.log → Goes own (checkpoints.log_says s o)
   unfolding checkpoints.log_says checkpoints.on_settled
   log_so s (log_out.Send f member) mine h = plain s _ h (subst (λ (l : LogId). 10 ≤ l.0) (sym mine) high, tt)
-  log_so s (log_out.Settled end rows) mine h = goes_after own (checkpoints.filed s end) (checkpoints.writer_takes s (input.Settled end)) (tt, tt) (takes_so s (input.Settled end) h)
+  log_so s (log_out.Settled end rows) mine h =
+      goes_after own (checkpoints.filed s end) (checkpoints.writer_takes s (input.Settled end)) (tt, tt) (takes_so s (input.Settled end) h)
 
   writes_so : (s : Serving) (given : LogIn) → IsOfLog own s.log → Goes own (checkpoints.writes s given)
   unfolding checkpoints.writes checkpoints.log_says_each
   writes_so s given h = (let d : OwnDone own (log.transition s.log given) = own_log own s.log given h in
-      goes_steps own checkpoints.log_says (SendsOwn own) log_so (record s { log = (log.transition s.log given).state }) (log.transition s.log given).outs d.outs d.state)
+      goes_steps own checkpoints.log_says (SendsOwn own) log_so (record s { log = (log.transition s.log given).state })
+      (log.transition s.log given).outs d.outs d.state)
 
   -- ---- checkpoints
 
@@ -130,7 +132,8 @@ module _ (own : LogId) (high : 10 ≤ own.0) where
   checkpoint_so : (s : Serving) (number : ℕ) → IsOfLog own s.log → Goes own (checkpoints.on_checkpoint s number)
   unfolding checkpoints.on_checkpoint
   checkpoint_so s number h =
-      by_test (Goes own) (is_some s.lasting.items.unanswered) (checkpoints.gives s _) (checkpoints.next_slot (checkpoints.waits s number)) (λ t. plain s _ h (tt, tt))
+      by_test (Goes own) (is_some s.lasting.items.unanswered) (checkpoints.gives s _) (checkpoints.next_slot (checkpoints.waits s number))
+      (λ t. plain s _ h (tt, tt))
       (λ t. next_so (checkpoints.waits s number) h)
 
   ack_so : (s : Serving) (ack : CkptAck) → IsOfLog own s.log → Goes own (checkpoints.on_ckpt_ack s ack)
@@ -140,7 +143,8 @@ module _ (own : LogId) (high : 10 ≤ own.0) where
       by_test (Goes own) (checkpoints.awaits s.checkpoint ack.ask) (checkpoints.answered_by s r) (still s)
       (λ t. by_test (Goes own) (length r.outs == 0) (still (record s { writer = r.state }))
       (checkpoints.next_slot (record s { writer = r.state; checkpoint = fold checkpoints.counted s.checkpoint r.outs }))
-      (λ u. stays own (record s { writer = r.state }) h) (λ u. next_so (record s { writer = r.state; checkpoint = fold checkpoints.counted s.checkpoint r.outs }) h))
+      (λ u. stays own (record s { writer = r.state }) h)
+      (λ u. next_so (record s { writer = r.state; checkpoint = fold checkpoints.counted s.checkpoint r.outs }) h))
       (λ t. stays own s h)
 
   again_so : (job : Option Checkpointing) → AllSay (checkpoints.told_again job)
@@ -178,14 +182,17 @@ module _ (own : LogId) (high : 10 ≤ own.0) where
   news_so : (s : Serving) (clients : ℕ) (news : News) → IsOfLog own s.log → Goes own (serving.on_news s clients news)
   unfolding serving.on_news
   news_so s clients news h =
-      by_test (Goes own) (is_older s.maps news) (serving.on_newer (record s { maps = taken s.maps news }) clients news) (serving.hears_slots s clients news.slots)
+      by_test (Goes own) (is_older s.maps news) (serving.on_newer (record s { maps = taken s.maps news }) clients news)
+      (serving.hears_slots s clients news.slots)
       (λ t. newer_so (record s { maps = taken s.maps news }) clients news h) (λ t. hears_slots_so s clients news.slots h)
 
   fitting_so : (s : Serving) (clients : ℕ) (news : News) → IsOfLog own s.log → Goes own (serving.on_fitting_news s clients news)
-  fitting_so s clients news h = by_test (Goes own) (fits s.maps news) (serving.on_news s clients news) (still s) (λ t. news_so s clients news h) (λ t. stays own s h)
+  fitting_so s clients news h =
+      by_test (Goes own) (fits s.maps news) (serving.on_news s clients news) (still s) (λ t. news_so s clients news h) (λ t. stays own s h)
 
   welcome_so : (s : Serving) (clients : ℕ) (m : Welcome) → IsOfLog own s.log → Goes own (serving.on_welcome s clients m)
-  welcome_so s clients m h = by_test (Goes own) (m.inc == s.lasting.inc) (serving.on_fitting_news s clients m.news) (still s) (λ t. fitting_so s clients m.news h) (λ t. stays own s h)
+  welcome_so s clients m h =
+      by_test (Goes own) (m.inc == s.lasting.inc) (serving.on_fitting_news s clients m.news) (still s) (λ t. fitting_so s clients m.news h) (λ t. stays own s h)
 
   -- ---- packets
 
@@ -238,7 +245,8 @@ module _ (own : LogId) (high : 10 ≤ own.0) where
   hears_so : (s : Serving) (clients : ℕ) (packet : Packet) → IsOfLog own s.log → Goes own (serving.hears s clients packet)
   unfolding serving.hears serving.asks_for_maps
   hears_so s clients packet h =
-      by_test (Goes own) (names_known s.maps packet.body) (serving.on_body s clients packet.from packet.body) _ (λ t. body_so s clients packet.from packet.body h) (λ t. plain _ _ h (tt, tt))
+      by_test (Goes own) (names_known s.maps packet.body) (serving.on_body s clients packet.from packet.body) _
+      (λ t. body_so s clients packet.from packet.body h) (λ t. plain _ _ h (tt, tt))
 
   tick_so : (s : Serving) → IsOfLog own s.log → Goes own (serving.on_tick s)
   unfolding serving.on_tick serving.recalls_again serving.asks_again checkpoints.tells_again
@@ -334,7 +342,8 @@ welcomed_so peers kept hello m some =
     let s : Serving = serving.again kept (forgotten peers.servers) m.news.groups in
     let own : IsWritten s = begun_so kept (forgotten peers.servers) table.unknown_table m.news.groups some in
     by_test Went (events.takes_welcome peers kept hello m) (serves (serving.on_news s peers.clients m.news)) (still (Waiting kept hello))
-    (λ t. serves_so s (serving.on_news s peers.clients m.news) own (news_so own.log own.high s peers.clients m.news own.of)) (λ t. still_so (Waiting kept hello) tt)
+    (λ t. serves_so s (serving.on_news s peers.clients m.news) own (news_so own.log own.high s peers.clients m.news own.of))
+    (λ t. still_so (Waiting kept hello) tt)
 
 waits_so : (peers : _) (kept : Kept) (hello : ℕ) (m : Body) → 1 ≤ kept.number → Went (events.on_waiting peers kept hello m)
 waits_so peers kept hello (body.Welcome m) some = welcomed_so peers kept hello m some
@@ -354,13 +363,15 @@ time_so (Serves s) h = serves_so s (serving.on_tick s) h (tick_so h.log h.high s
 event_so : (peers : _) (p : Phase) (what : Do) → 1 ≤ (phases.lasting_of p).number → WritesItsLog p → Went (events.on_event peers p what)
 unfolding events.on_deliver
 event_so peers p Begin some h = begins_so p h
-event_so peers p (Deliver packet) some h = by_test Went (is_well_formed peers packet) (events.on_packet peers p packet) (still p) (λ t. packet_so peers p packet some h) (λ t. still_so p h)
+event_so peers p (Deliver packet) some h =
+    by_test Went (is_well_formed peers packet) (events.on_packet peers p packet) (still p) (λ t. packet_so peers p packet some h) (λ t. still_so p h)
 event_so peers p Tick some h = time_so p h
 
 happens_so : (m : ManagerNode) (what : Do) → 1 ≤ (phases.lasting_of m.phase).number → WritesItsLog m.phase → Went (events.happens m what)
 unfolding events.happens
 happens_so m what some h =
-    by_test Went (phases.phase_has_room m.phase) (events.on_event m.peers m.phase what) (still m.phase) (λ t. event_so m.peers m.phase what some h) (λ t. still_so m.phase h)
+    by_test Went (phases.phase_has_room m.phase) (events.on_event m.peers m.phase what) (still m.phase) (λ t. event_so m.peers m.phase what some h)
+    (λ t. still_so m.phase h)
 
 -- a packet of a manager, which stores to its own log
 pub record IsManagers (p : Packet) : Type 0 where
@@ -379,7 +390,8 @@ manager_writes m what some h =
     let number = (phases.lasting_of m.phase).number in
     record {
       writes = w.writes;
-      sends = packets_all IsManagers Says (Manager number) (λ to said own. record { manager = number; from = refl; own = own }) (events.happens m what).outs w.says;
+      sends = packets_all IsManagers Says (Manager number) (λ to said own. record { manager = number; from = refl; own = own })
+          (events.happens m what).outs w.says;
     }
 
 pub manager_begins : (j : ℕ) (setup : Setup) (items : List Work) → 1 ≤ j → WritesItsLog (first_manager j setup items).phase

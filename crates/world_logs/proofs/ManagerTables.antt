@@ -71,7 +71,8 @@ checked_so check epoch out.Dead = (tt, tt)
 
 check_so : (check : Check) (p : SlotPhase) → AllSay (tokens.on_check p check).outs
 unfolding tokens.on_check
-check_so check (phase.Active a) = all_flat_map Says (tokens.check_said check a.slot.epoch) (checked_so check a.slot.epoch) (transition a.slot (tokens.check_input check)).outs
+check_so check (phase.Active a) =
+    all_flat_map Says (tokens.check_said check a.slot.epoch) (checked_so check a.slot.epoch) (transition a.slot (tokens.check_input check)).outs
 check_so check (phase.Away epoch) = tt
 check_so check (phase.Taking t) = tt
 check_so check (phase.Broken epoch seg) = tt
@@ -92,16 +93,19 @@ in_slot_so t slot event each (Some p) = each p
 
 pub wants_say : (t : Table) (client : ℕ) (want : Want) → AllSay (table.on_want t client want).outs
 unfolding table.on_want
-wants_say t client want = in_slot_so t (slot_of want.block.ino.0) (λ p. tokens.on_want p client want) (want_so client want) (slice_get t (slot_of want.block.ino.0))
+wants_say t client want =
+    in_slot_so t (slot_of want.block.ino.0) (λ p. tokens.on_want p client want) (want_so client want) (slice_get t (slot_of want.block.ino.0))
 
 pub gaves_say : (t : Table) (client : ℕ) (gave : Gave) → AllSay (table.on_gave t client gave).outs
 unfolding table.on_gave
-gaves_say t client gave = in_slot_so t (slot_of gave.block.ino.0) (λ p. tokens.on_gave p client gave) (λ p. takes_so p (slot_of gave.block.ino.0) (tokens.gave_input client gave))
+gaves_say t client gave =
+    in_slot_so t (slot_of gave.block.ino.0) (λ p. tokens.on_gave p client gave) (λ p. takes_so p (slot_of gave.block.ino.0) (tokens.gave_input client gave))
     (slice_get t (slot_of gave.block.ino.0))
 
 pub deltas_say : (t : Table) (log : LogId) (deltas : Deltas) → AllSay (table.on_deltas t log deltas).outs
 unfolding table.on_deltas
-deltas_say t log deltas = in_slot_so t deltas.slot (λ p. tokens.on_deltas p log deltas) (λ p. takes_so p deltas.slot (tokens.deltas_input log deltas)) (slice_get t deltas.slot)
+deltas_say t log deltas =
+    in_slot_so t deltas.slot (λ p. tokens.on_deltas p log deltas) (λ p. takes_so p deltas.slot (tokens.deltas_input log deltas)) (slice_get t deltas.slot)
 
 pub checks_say : (t : Table) (check : Check) → AllSay (table.on_check t check).outs
 unfolding table.on_check
@@ -148,7 +152,8 @@ taken_so a slot given = each_so slot (record a { phase = (takeovers.heard a.phas
 again_so : (a : Asker) (slot : ℕ) (polls : Bool) → AllSay (takeovers.asks_again a slot polls).outs
 unfolding takeovers.asks_again
 again_so a slot polls =
-    each_so slot (record a { phase = (takeovers.heard a.phase given_in.Tick).state }) (filter (takeovers.is_wanted polls) (takeovers.heard a.phase given_in.Tick).outs)
+    each_so slot (record a { phase = (takeovers.heard a.phase given_in.Tick).state })
+    (filter (takeovers.is_wanted polls) (takeovers.heard a.phase given_in.Tick).outs)
 
 in_taken_so : (a : TableAsker) (slot : ℕ) (event : Asker → Stepped Asker Effect) → ((one : Asker) → AllSay (event one).outs) → (o : Option SlotPhase)
     → AllSay (table.in_taken a slot event o).outs
@@ -164,7 +169,8 @@ unfolding table.on_report
 reports_say a from report = in_taken_so a report.slot (λ one. takeovers.on_report one from report) one (slice_get a.table report.slot)
   where
     one : (one : Asker) → AllSay (takeovers.on_report one from report).outs
-    one x = by_test (λ (d : takeovers.Done). AllSay d.outs) (report.epoch == epoch_of x.phase) (takeovers.takes x report.slot (takeovers.report_input from report)) _
+    one x = by_test (λ (d : takeovers.Done). AllSay d.outs) (report.epoch == epoch_of x.phase)
+        (takeovers.takes x report.slot (takeovers.report_input from report)) _
         (λ t. taken_so x report.slot (takeovers.report_input from report)) (λ t. tt)
 
 pub asks_say : (polls : Bool) (a : TableAsker) → AllSay (table.asks_all polls a).outs

@@ -75,7 +75,8 @@ of_log h d its (body.Fence m) own = ap (λ (l : LogId). l.0) (own ∙ its)
 of_log h d its _ own = tt
 
 -- what an opening is told: the ids of the groups of maps fit, and behind the end of a chain the log goes on
-module _ (g : Setting) (c : ℕ) (w : Scene) (at : Moment g w.net) (maps : (m : GroupMapState) → tables.In (MapSent m) w.net.sent → MapFits m) (law : OpeningsGoOn) where
+module _ (g : Setting) (c : ℕ) (w : Scene) (at : Moment g w.net) (maps : (m : GroupMapState) → tables.In (MapSent m) w.net.sent → MapFits m)
+    (law : OpeningsGoOn) where
   stage_told : (k : Known) (last : ℕ) (x : stages.Stage) → SeesStage g c w k last x → IsRoomy w.net → StageTells g w.net x
   stage_told k last (stage.Scanning s) sees room =
       record { maps = maps; end = law g w.net at (scan_has_room w.net s.scan sees.owner room) s.scan sees.owner }
@@ -86,7 +87,8 @@ module _ (g : Setting) (c : ℕ) (w : Scene) (at : Moment g w.net) (maps : (m : 
   phase_owed (clients.Opening l o) h = stage_told o.known l.questions.last o.stage h.agrees.1 h.room
   phase_owed (clients.Serving s) h = tt
 
-pub opening_owed : (g : Setting) (w : Scene) → Moment g w.net → ((m : GroupMapState) → tables.In (MapSent m) w.net.sent → MapFits m) → OpeningsGoOn → (p : CleanerPhase)
+pub opening_owed : (g : Setting) (w : Scene) → Moment g w.net → ((m : GroupMapState) → tables.In (MapSent m) w.net.sent → MapFits m) → OpeningsGoOn
+    → (p : CleanerPhase)
     → CleanerOwns g w p → OpeningOwed g w p
 opening_owed g w at maps law (cleaners.Down l) h = tt
 opening_owed g w at maps law (cleaners.Opening l o) h = stage_told g its_number w at maps law o.known l.questions.last o.stage h.agrees.sees h.room

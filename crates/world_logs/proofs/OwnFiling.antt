@@ -83,7 +83,8 @@ module _ (c : ℕ) where
 
   pub wide_acts : (told acts more : List Act) → ActsReach (wide c told (acts ++ more)) more
   wide_acts told acts more =
-      acts_rise (filed_upto (acts ++ more)) (wide c told (acts ++ more)) (λ log. second_most (owned c told (acts ++ more) log) (filed_upto (acts ++ more) log)) more
+      acts_rise (filed_upto (acts ++ more)) (wide c told (acts ++ more))
+      (λ log. second_most (owned c told (acts ++ more) log) (filed_upto (acts ++ more) log)) more
       (filed_reached acts more)
 
   -- of another log it is no further

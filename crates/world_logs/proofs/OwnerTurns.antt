@@ -35,7 +35,8 @@ use Rattle.xfs_base.specs.declared.node.NodeId.TheVariants.{Client, Cleaner}
 module _ (g : Setting) (c : ℕ) (w : Scene) (at : Moment g w.net) where
   -- ---- a client that owns it
 
-  module _ (d : NodeStep ClientNode) (go : ClientGoes g c w d) (room : IsRoomy go.next.net) (acts : List Act) (those : (a : Act) → In a acts → In a d.acts) where
+  module _ (d : NodeStep ClientNode) (go : ClientGoes g c w d) (room : IsRoomy go.next.net) (acts : List Act)
+      (those : (a : Act) → In a acts → In a d.acts) where
     later : Later w.net go.next.net
     later = run_later g w.net go.next.net go.grown.runs
 
@@ -61,7 +62,8 @@ module _ (g : Setting) (c : ℕ) (w : Scene) (at : Moment g w.net) where
 
 -- ---- the cleaner that owns it
 
-module _ (g : Setting) (w : Scene) (at : Moment g w.net) (d : NodeStep CleanerNode) (go : OwnerGoes g w d) (room : IsRoomy go.next.net) (acts : List Act) (those : (a : Act) → In a acts → In a d.acts) where
+module _ (g : Setting) (w : Scene) (at : Moment g w.net) (d : NodeStep CleanerNode) (go : OwnerGoes g w d) (room : IsRoomy go.next.net) (acts : List Act)
+    (those : (a : Act) → In a acts → In a d.acts) where
   grows_later : Later w.net go.next.net
   grows_later = run_later g w.net go.next.net go.grown.runs
 

@@ -52,7 +52,8 @@ decide : (a b : SegName) → (a ≡ b) ⊎ (a ≡ b → ⊥)
 decide a b = ⊎_elim
     (λ l. ⊎_elim
     (λ s. ⊎_elim
-    (λ i. ⊎_elim (λ t. inl (λ j. record { log = record { 0 = l j }; seq = s j; pass = record { inc = i j; att = t j } })) (λ no. inr (λ e. no (ap (λ (n : SegName). n.pass.att) e)))
+    (λ i. ⊎_elim (λ t. inl (λ j. record { log = record { 0 = l j }; seq = s j; pass = record { inc = i j; att = t j } }))
+    (λ no. inr (λ e. no (ap (λ (n : SegName). n.pass.att) e)))
     (equal_or_not a.pass.att b.pass.att))
     (λ no. inr (λ e. no (ap (λ (n : SegName). n.pass.inc) e))) (equal_or_not a.pass.inc b.pass.inc))
     (λ no. inr (λ e. no (ap (λ (n : SegName). n.seq) e))) (equal_or_not a.seq b.seq))
@@ -63,7 +64,8 @@ look : (name : SegName) (xs : List Segment) → ((s : Segment) × tables.In s xs
 look name [] = inr (λ s is e. is)
 look name (x ∷ xs) = ⊎_elim (λ e. inl (x, inl refl, e))
     (λ no. ⊎_elim (λ (f : (s : Segment) × tables.In s xs × (s.name ≡ name)). inl (f.0, inr f.1, f.2))
-    (λ none. inr (λ s is e. ⊎_elim (λ same. no (ap (λ (z : Segment). z.name) (sym same) ∙ e)) (λ later. none s later e) is)) (look name xs)) (decide x.name name)
+    (λ none. inr (λ s is e. ⊎_elim (λ same. no (ap (λ (z : Segment). z.name) (sym same) ∙ e)) (λ later. none s later e) is)) (look name xs))
+    (decide x.name name)
 
 -- a server that has a shelf
 record HasShelf (x : Option AnyNode) (shelf : ShelfState) : Type 0 where
@@ -105,7 +107,8 @@ module _ (base : Setting) (end w : World AnyNode) (servers : ℕ) (r : Role) (k 
   -- ---- the text of one segment
 
   -- whatever is of this name is a fragment of the one segment of the name, as it is cut for a group
-  module _ (law : OneNameOneText) (name : SegName) (of : name.log ≡ log_of c) (its : Segment) (only : (t : Segment) → tables.In t net.flown → t.name ≡ name → t ≡ its)
+  module _ (law : OneNameOneText) (name : SegName) (of : name.log ≡ log_of c) (its : Segment)
+      (only : (t : Segment) → tables.In t net.flown → t.name ≡ name → t ≡ its)
       (group : Group) (cut_so : (i : ℕ) → fragment_of g its i ≡ piece its group i) where
     one : OneText g net
     one = law g net st.moment
@@ -124,12 +127,15 @@ module _ (base : Setting) (end w : World AnyNode) (servers : ℕ) (r : Role) (k 
     seen_as : (packet : Packet) (m : Body) (to : NodeId) → WasSent w.sent packet → packet.to ≡ to → packet.body ≡ m
         → BodySeen g (asker_by r v) net packet.from to m
     seen_as packet m to was at is =
-        subst (BodySeen g (asker_by r v) net packet.from to) is (subst (λ t. BodySeen g (asker_by r v) net packet.from t packet.body) at (st.facts packet (was_sent w.sent packet was)))
+        subst (BodySeen g (asker_by r v) net packet.from to) is
+        (subst (λ t. BodySeen g (asker_by r v) net packet.from t packet.body) at (st.facts packet (was_sent w.sent packet was)))
 
     text : IsText w name its group
     text = record {
-      held = λ u shelf f at is. (let t = one.held u name f of (subst (λ (s : ShelfState). held_at s.held name ≡ Some f) (sym (shelf_is u shelf at)) is) in of_it f t.0 t.1 t.2 t.3);
-      stored = λ u packet m was to is e. (let t = one.stored u m.generation m.fragment (seen_as packet (body.Store m) (Server u) was to is (ours m.fragment.meta.name e)) in
+      held = λ u shelf f at is.
+          (let t = one.held u name f of (subst (λ (s : ShelfState). held_at s.held name ≡ Some f) (sym (shelf_is u shelf at)) is) in of_it f t.0 t.1 t.2 t.3);
+      stored = λ u packet m was to is e.
+          (let t = one.stored u m.generation m.fragment (seen_as packet (body.Store m) (Server u) was to is (ours m.fragment.meta.name e)) in
           of_it m.fragment t.0 t.1 (named_so m.fragment t.0 t.2 e) t.2);
       told = λ packet m was is e. (let t = one.told m.fragment (seen_as packet (body.Fragment m) packet.to was refl is (ours m.fragment.meta.name e)) in
           of_it m.fragment t.0 t.1 (named_so m.fragment t.0 t.2 e) t.2);
@@ -137,8 +143,10 @@ module _ (base : Setting) (end w : World AnyNode) (servers : ℕ) (r : Role) (k 
 
   -- ---- whole
 
-  module _ (law : LogsStayWhole) (texts : OneNameOneText) (exist : (id : ℕ) (group : Group) → group_at end id ≡ Some group → (place : ℕ) → place < length group.members
-      → (shelf : ShelfState) × (shelf_at w (server_of group.members place) ≡ Some shelf)) (name : SegName) (is : In (act.Filed name) told) (kept : NotDeleted w name) where
+  module _ (law : LogsStayWhole) (texts : OneNameOneText)
+      (exist : (id : ℕ) (group : Group) → group_at end id ≡ Some group → (place : ℕ) → place < length group.members
+      → (shelf : ShelfState) × (shelf_at w (server_of group.members place) ≡ Some shelf)) (name : SegName) (is : In (act.Filed name) told)
+      (kept : NotDeleted w name) where
     all : LogsWhole g net
     all = law g net st.moment
 
@@ -174,7 +182,8 @@ module _ (base : Setting) (end w : World AnyNode) (servers : ℕ) (r : Role) (k 
         let x = exist segment.group group grouped.1 place below in
         let same : net.shelves (server_of group.members place) ≡ x.0 = shelf_is (server_of group.members place) x.0 x.1 in
         subst (HoldsOrLost segment group place) (sym x.1)
-        (subst (λ (s : ShelfState). (held_at s.held segment.name ≡ Some (piece segment group place)) ⊎ (generation_of group.members place < s.generation)) same (members place below))
+        (subst (λ (s : ShelfState). (held_at s.held segment.name ≡ Some (piece segment group place)) ⊎ (generation_of group.members place < s.generation)) same
+        (members place below))
 
     -- it is the one segment of the name
     its_text : name.log ≡ log_of c → IsText w name segment group
@@ -191,13 +200,21 @@ module _ (base : Setting) (end w : World AnyNode) (servers : ℕ) (r : Role) (k 
     -- the segment of the name, where there is one
     abbrev picked : (s : Segment) × ((t : Segment) → tables.In t net.flown → t.name ≡ name → t ≡ s)
     picked = ⊎_elim (λ (f : (s : Segment) × tables.In s net.flown × (s.name ≡ name)). (f.0, λ t is e. (law g net st.moment).one t f.0 is f.1 (e ∙ sym f.2)))
-        (λ none. (record { name = name; prior = record { pass = record { inc = 0; att = 0 }; group = 0 }; group = 0; items = [] }, λ t is e. absurd (none t is e))) (look name net.flown)
+        (λ none. (
+          record { name = name; prior = record { pass = record { inc = 0; att = 0 }; group = 0 }; group = 0; items = [] },
+          λ t is e. absurd (none t is e),
+        )) (look name net.flown)
 
     abbrev segment_here : Segment
     segment_here = picked.0
 
     abbrev group_here : Group
-    group_here = record { id = segment_here.group; members = (g.stripe segment_here.group).members; parity = (g.stripe segment_here.group).parity; current = false }
+    group_here = record {
+      id = segment_here.group;
+      members = (g.stripe segment_here.group).members;
+      parity = (g.stripe segment_here.group).parity;
+      current = false;
+    }
 
     pub has_text : (segment : Segment) × (group : Group) × IsText w name segment group
     has_text = (segment_here, group_here, text law name of segment_here picked.1 group_here (λ i. refl))
@@ -210,6 +227,7 @@ module _ (base : Setting) (end w : World AnyNode) (servers : ℕ) (r : Role) (k 
       → IsServer servers (server_of group.members place)
   members_exist b at id group is place below =
       let seen : RegistrySeen g net b.board = st.seen Registry (any.Registry b) at in
-      let named : node_named w Registry ≡ Some (any.Registry b) = subst (λ cl. node_in w.nodes (place_of cl Registry) ≡ Some (any.Registry b)) (sym cluster) at in
+      let named : node_named w Registry ≡ Some (any.Registry b) =
+      subst (λ cl. node_in w.nodes (place_of cl Registry) ≡ Some (any.Registry b)) (sym cluster) at in
       let found = ap (λ o. group_in (groups_of o) id) (sym named) ∙ is in
       subst (λ n. IsServer n (server_of group.members place)) seen.size ((its_stripe b.board.groups seen.map id group found).exist place no_member below)

@@ -54,7 +54,8 @@ log_next s room k le = room_next s.end.seq k (and_first (has_room s.end.seq) (ha
 -- ---- the owner's turn
 
 -- after it the owner is the same, or the numbers up to the one after its end before have one after them
-module _ (law : FliesNext) (g : Setting) (n o : Net) (at : Moment g n) (run : Runs g n o) (flies : FliesInBoot n o) (owner : (o.owner ≡ n.owner) ⊎ NextFits n) (room : IsRoomy n) where
+module _ (law : FliesNext) (g : Setting) (n o : Net) (at : Moment g n) (run : Runs g n o) (flies : FliesInBoot n o) (owner : (o.owner ≡ n.owner) ⊎ NextFits n)
+    (room : IsRoomy n) where
   abbrev Fits : Segment → Type 0
   Fits s = (has_next s.name.seq ≡ true) ⊎ (s.name.seq ≤ next_number o.owner)
 
@@ -93,7 +94,8 @@ phase_next (clients.Opening l o) room k le =
     stage_next o.stage (and_second (list_all has_room o.known.promised.epochs) (stage_room o.stage) (and_second (has_room o.known.maps.version) _ room)) k le
 phase_next (clients.Serving s) room k le =
     log_next s.log
-    (and_first (log_room s.log) (epochs_room s.tokens) (and_second (has_room s.tokens.req) (log_room s.log && epochs_room s.tokens) (and_second (has_room s.maps.version) _ room))) k le
+    (and_first (log_room s.log) (epochs_room s.tokens)
+    (and_second (has_room s.tokens.req) (log_room s.log && epochs_room s.tokens) (and_second (has_room s.maps.version) _ room))) k le
 
 module _ (g : Setting) (c : ℕ) (w : Scene) where
   stage_owner : (k : Known) (last : ℕ) (at : stages.Stage) → SeesStage g c w k last at → w.net.owner ≡ owner_at at
@@ -130,7 +132,8 @@ cleaner_next : (p : CleanerPhase) → cleaner_events.phase_room p ≡ true → (
 cleaner_next (cleaners.Down l) room k le = first_next k le
 cleaner_next (cleaners.Opening l o) room k le =
     stage_next o.stage
-    (and_second (list_all has_room o.known.promised.epochs) (stage_room o.stage) (and_second (has_room o.known.maps.version) _ (and_second (lasting_room l) (opening_room o) room))) k le
+    (and_second (list_all has_room o.known.promised.epochs) (stage_room o.stage)
+    (and_second (has_room o.known.maps.version) _ (and_second (lasting_room l) (opening_room o) room))) k le
 cleaner_next (cleaners.Serving e) room k le =
     log_next e.log
     (and_first (log_room e.log) (list_all has_room e.promised.epochs)

@@ -87,8 +87,10 @@ cleaner_may part promised life _ h = tt
 
 said_by : (k : Cluster) (part : ℕ) (s : tokens.Scene) (from to : NodeId) (m : Body) → tokens.SentBy k part s from to m → MaySay from m
 said_by k part s (Client c) to m h = client_may part s.net.sent c (tokens.life_of_client s c) to m h.2
-said_by k part s (Manager j) to m h =
-    (manager_may part s.net.sent (tokens.epoch_now k part s) (tokens.life_of_manager s j) to m h.2, manager_bars part s.net.sent (tokens.epoch_now k part s) (tokens.life_of_manager s j) to m h.2)
+said_by k part s (Manager j) to m h = (
+  manager_may part s.net.sent (tokens.epoch_now k part s) (tokens.life_of_manager s j) to m h.2,
+  manager_bars part s.net.sent (tokens.epoch_now k part s) (tokens.life_of_manager s j) to m h.2,
+)
 said_by k part s (Server n) to m h = server_may m h
 said_by k part s Cleaner to m h = cleaner_may part s.net.promised (tokens.life_of_cleaner s) m h
 said_by k part s Registry to m h = tt
@@ -145,7 +147,8 @@ module _ (g : Setting) (r : Role) (is : IsOf g r) (w : Scene) where
 
   -- what a manager sends
   pub manager_apart : log_by r ≤ 9 → (j : ℕ) (to : NodeId) (m : Body) → Plain m → NoFence m → StoresItsOwn m → BodySeen g (asker_by r w) w.net (Manager j) to m
-  manager_apart small j (Server v) (body.Store m) plain bars own = λ mine. absurd (let e = of_owner m.fragment.meta.name.log.0 mine in let h = own in omega arith)
+  manager_apart small j (Server v) (body.Store m) plain bars own =
+      λ mine. absurd (let e = of_owner m.fragment.meta.name.log.0 mine in let h = own in omega arith)
   manager_apart small j (Client x) (body.Store m) plain bars own = tt
   manager_apart small j (Manager x) (body.Store m) plain bars own = tt
   manager_apart small j Cleaner (body.Store m) plain bars own = tt

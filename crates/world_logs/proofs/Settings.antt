@@ -39,7 +39,8 @@ module _ (base : Setting) (end : World AnyNode) (servers : ℕ) where
 numbered_below : (first id : ℕ) (gs : List Group) (group : Group) → IsNumbered first gs → find (λ (g : Group). g.id == id) gs ≡ Some group
     → group.id < first + length gs
 numbered_below first id [] group numbered is = absurd cc
-numbered_below first id (g ∷ gs) group numbered is = by_test (λ (o : Option Group). o ≡ Some group → group.id < first + length (g ∷ gs)) (g.id == id) (Some g) (find (λ (x : Group). x.id == id) gs)
+numbered_below first id (g ∷ gs) group numbered is =
+    by_test (λ (o : Option Group). o ≡ Some group → group.id < first + length (g ∷ gs)) (g.id == id) (Some g) (find (λ (x : Group). x.id == id) gs)
     (λ t e. let same : g.id ≡ group.id = ap (λ (o : Option Group). (unwrap_or o g).id) e in let n = numbered.0 in omega arith)
     (λ t e. let below = numbered_below (first + 1) id gs group numbered.1 e in omega arith) is
 

@@ -46,7 +46,8 @@ use Rattle.xfs_base.specs.declared.setup.Setup.{Setup}
 pub log_small : (c : ℕ) → 0 < c → c ≤ 8 → is_log c ≡ true
 log_small c some most = grind (arith, nat_tests)
 
-module _ (clients : ClientStarts) (owner : OwnerStarts) (servers : ServerStarts) (cleaners : CleanerStarts) (registries : RegistryStarts) (script : Script) (ok : IsSetup script.setup)
+module _ (clients : ClientStarts) (owner : OwnerStarts) (servers : ServerStarts) (cleaners : CleanerStarts) (registries : RegistryStarts) (script : Script)
+    (ok : IsSetup script.setup)
     (g : Setting) (r : Role) (is : IsOf g r) (size : script.setup.servers ≡ g.servers) (more : Type 0) (is_there : IsThere script.setup.clients more r)
     (named : NamesGroups g (groups.started script.setup.servers script.setup.groups)) where
   abbrev setup : Setup
@@ -68,7 +69,8 @@ module _ (clients : ClientStarts) (owner : OwnerStarts) (servers : ServerStarts)
   fits = map_fits map (registry_so []).map
 
   owner_so : (c : ℕ) → g.log ≡ record { 0 = c } → 0 < c → c ≤ setup.clients → (items : List Work) → OwnerSeen g first_scene c (first_client c setup items).phase
-  owner_so c its some most items = (let b : ClientBegins g c setup items = clients g c its (log_small c some (let m = ok.clients.1 in omega arith)) setup items in
+  owner_so c its some most items =
+      (let b : ClientBegins g c setup items = clients g c its (log_small c some (let m = ok.clients.1 in omega arith)) setup items in
       record { agrees = b.agrees; written = b.written fits; room = λ s among. absurd among })
 
   client_so : (q : Role) → IsOf g q → IsThere setup.clients more q → (d : ℕ) (items : List Work) → ClientAs g first_scene q d (first_client d setup items).phase
@@ -79,7 +81,8 @@ module _ (clients : ClientStarts) (owner : OwnerStarts) (servers : ServerStarts)
   cleaner_so (OfClient c) of items = cleaners g (opening g map) setup items
   cleaner_so OfCleaner of items = record { agrees = owner g of setup items fits; room = λ s among. absurd among }
 
-  starts : (name : NodeId) (p : ℕ) → place_of (cluster_of script.setup) name ≡ Some p → (items : List Work) → Seen g r first_scene name (any_start name setup items)
+  starts : (name : NodeId) (p : ℕ) → place_of (cluster_of script.setup) name ≡ Some p → (items : List Work)
+      → Seen g r first_scene name (any_start name setup items)
   starts (Client d) p at items = client_so r is is_there d items
   starts (Manager j) p at items = manager_begins j setup items (behind setup.clients setup.managers j p at).some
   starts (Server v) p at items = servers g (opening g map) v setup items refl (record { named = whole.named; cut = whole.cut })
@@ -95,7 +98,8 @@ module _ (clients : ClientStarts) (owner : OwnerStarts) (servers : ServerStarts)
       by : (o : Option ℕ) → place_of k name ≡ o → Seen g r first_scene name x
       by None at = (let clash : None ≡ Some x = sym (ap (node_in (first_nodes any_start script k)) at) ∙ here in absurd cc)
       by (Some p) at =
-          subst (Seen g r first_scene name) (one_node (any_start name setup (items_of script.lines name)) x (sym (first_stands script name p at) ∙ here)) (starts name p at (items_of script.lines name))
+          subst (Seen g r first_scene name) (one_node (any_start name setup (items_of script.lines name)) x (sym (first_stands script name p at) ∙ here))
+          (starts name p at (items_of script.lines name))
 
   pub start_stands : Stands g r first_scene k (first_nodes any_start script k) [] []
   start_stands = record {

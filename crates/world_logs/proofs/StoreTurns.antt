@@ -47,7 +47,8 @@ module _ (g : Setting) (r : Role) (is : IsOf g r) (w : Scene) (at : Moment g w.n
   facts : (p : Packet) → PacketSeen g (asker_by r w) w.net p → PacketSeen g (asker_by r w) next p
   facts p h = seen_later g (asker_by r w) w.net next later p.from p.to p.body h
 
-  client_as : (q : Role) (d : ℕ) (p : Phase) → next.inc ≡ w.net.inc → next.owner ≡ w.net.owner → next.flown ≡ w.net.flown → ClientAs g w q d p → ClientAs g after q d p
+  client_as : (q : Role) (d : ℕ) (p : Phase) → next.inc ≡ w.net.inc → next.owner ≡ w.net.owner → next.flown ≡ w.net.flown → ClientAs g w q d p
+      → ClientAs g after q d p
   client_as (OfClient c) d p inc owner flown h = λ e. (let o = h e in
       record { agrees = client_still g c w.net next w.asked later inc owner p o.agrees; written = o.written; room = room_still w.net next owner flown o.room })
   client_as OfCleaner d p inc owner flown h = tt
@@ -75,7 +76,8 @@ module _ (g : Setting) (r : Role) (is : IsOf g r) (w : Scene) (at : Moment g w.n
   server_turn v node what go = record {
     moment = moment_on g w.net go.next at go.runs;
     there = go.seen;
-    others = keeps g r is w at go.next go.runs (Server v) (ap (λ (n : Net). n.inc) go.rest) (ap (λ (n : Net). n.owner) go.rest) (ap (λ (n : Net). n.flown) go.rest) (λ u differs. go.shelves u (λ e. differs (ap Server e)))
+    others = keeps g r is w at go.next go.runs (Server v) (ap (λ (n : Net). n.inc) go.rest) (ap (λ (n : Net). n.owner) go.rest)
+        (ap (λ (n : Net). n.flown) go.rest) (λ u differs. go.shelves u (λ e. differs (ap Server e)))
         (λ differs. (ap (λ (n : Net). n.registry) go.rest, ap (λ (n : Net). n.low) go.rest));
     facts = facts g r is w at go.next go.runs;
     sends = go.sends;
@@ -89,7 +91,8 @@ module _ (g : Setting) (r : Role) (is : IsOf g r) (w : Scene) (at : Moment g w.n
   registry_turn node what go = record {
     moment = moment_on g w.net go.next at go.runs;
     there = go.seen;
-    others = keeps g r is w at go.next go.runs Registry (ap (λ (n : Net). n.inc) go.rest) (ap (λ (n : Net). n.owner) go.rest) (ap (λ (n : Net). n.flown) go.rest)
+    others = keeps g r is w at go.next go.runs Registry (ap (λ (n : Net). n.inc) go.rest) (ap (λ (n : Net). n.owner) go.rest)
+        (ap (λ (n : Net). n.flown) go.rest)
         (λ u differs. ap (λ (n : Net). n.shelves u) go.rest) (λ differs. absurd (differs refl));
     facts = facts g r is w at go.next go.runs;
     sends = go.sends;
@@ -105,7 +108,8 @@ module _ (g : Setting) (c : ℕ) (is : IsOf g (OfClient c)) (w : Scene) (at : Mo
   cleaner_turn node what go = record {
     moment = moment_on g w.net go.next at go.runs;
     there = go.seen;
-    others = keeps g (OfClient c) is w at go.next go.runs Cleaner (ap (λ (n : Net). n.inc) go.rest) (ap (λ (n : Net). n.owner) go.rest) (ap (λ (n : Net). n.flown) go.rest)
+    others = keeps g (OfClient c) is w at go.next go.runs Cleaner (ap (λ (n : Net). n.inc) go.rest) (ap (λ (n : Net). n.owner) go.rest)
+        (ap (λ (n : Net). n.flown) go.rest)
         (λ u differs. ap (λ (n : Net). n.shelves u) go.rest) (λ differs. (ap (λ (n : Net). n.registry) go.rest, ap (λ (n : Net). n.low) go.rest));
     facts = facts g (OfClient c) is w at go.next go.runs;
     sends = go.sends;

@@ -83,8 +83,10 @@ pub record Turn (g : Setting) (r : Role) (w v : Scene) (name : NodeId) (after : 
   pub files : (n : SegName) → In (act.Filed n) acts → tables.In n v.net.filed
   pub only : (n : SegName) → tables.In n v.net.dropped → tables.In n w.net.dropped ⊎ Deletes n packets
 
-module _ (g : Setting) (r : Role) (w v : Scene) (k : Cluster) (nodes : List AnyNode) (sent : List Packet) (told : List Act) (st : Stands g r w k nodes sent told)
-    (name : NodeId) (place clock : ℕ) (at : place_of k name ≡ Some place) (x y : AnyNode) (is : slice_get nodes place ≡ Some x) (packets : List Packet) (acts : List Act)
+module _ (g : Setting) (r : Role) (w v : Scene) (k : Cluster) (nodes : List AnyNode) (sent : List Packet) (told : List Act)
+    (st : Stands g r w k nodes sent told)
+    (name : NodeId) (place clock : ℕ) (at : place_of k name ≡ Some place) (x y : AnyNode) (is : slice_get nodes place ≡ Some x) (packets : List Packet)
+    (acts : List Act)
     (t : Turn g r w v name y packets acts) where
   abbrev nodes_now : List AnyNode
   nodes_now = slice_set nodes place y
@@ -95,7 +97,8 @@ module _ (g : Setting) (r : Role) (w v : Scene) (k : Cluster) (nodes : List AnyN
   seen : (other : NodeId) (z : AnyNode) → node_in nodes_now (place_of k other) ≡ Some z → Seen g r v other z
   seen other z here = ⊎_elim
       (λ same. subst (λ n. Seen g r v n z) (sym same)
-      (subst (λ q. Seen g r v name q) (one_node y z (sym (places.here k nodes name place at y x is) ∙ subst (λ n. node_in nodes_now (place_of k n) ≡ Some z) same here)) t.there))
+      (subst (λ q. Seen g r v name q)
+      (one_node y z (sym (places.here k nodes name place at y x is) ∙ subst (λ n. node_in nodes_now (place_of k n) ≡ Some z) same here)) t.there))
       (λ differs. all_keep g r w v name t.others other z differs (st.seen other z (sym (places.there k nodes name place at y other differs) ∙ here)))
       (same_or_other other name)
 
@@ -107,7 +110,9 @@ module _ (g : Setting) (r : Role) (w v : Scene) (k : Cluster) (nodes : List AnyN
     moment = t.moment;
     seen = seen;
     facts = λ q h. ⊎_elim (λ old. t.facts q (st.facts q old))
-        (λ new. at_clock clock (PacketSeen g (asker_by r v) v.net) (PacketSeen g (asker_by r v) v.net) (λ p s. s) packets t.sends q new) (in_append sent (map (sent_at clock) packets) q h);
+        (λ new. at_clock clock (PacketSeen g (asker_by r v) v.net) (PacketSeen g (asker_by r v) v.net) (λ p s. s) packets t.sends q new)
+        (in_append sent (map (sent_at clock) packets) q h);
     filed = λ n h. ⊎_elim (λ old. t.filed n (st.filed n old)) (λ new. t.files n new) (in_append told acts (act.Filed n) h);
-    deleted = λ n h. ⊎_elim (λ old. (let d = st.deleted n old in (d.0, in_before sent (map (sent_at clock) packets) d.0 d.1, d.2))) (λ new. deleted n new) (t.only n h);
+    deleted = λ n h. ⊎_elim (λ old. (let d = st.deleted n old in (d.0, in_before sent (map (sent_at clock) packets) d.0 d.1, d.2))) (λ new. deleted n new)
+        (t.only n h);
   }

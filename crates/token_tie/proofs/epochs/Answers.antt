@@ -2,4 +2,10 @@ use Rattle.token_tie.proofs.TakingOver.{supplies_newest, restart_shows, activati
 use Rattle.token_tie.proofs.epochs.Goals as goal
 
 pub returns : goal.returns
-returns c = record { supplies = supplies_newest; restart = restart_shows; activation_of_client = activation_shows; activation_of_slot = activation_manages; reports = reports_believed }
+returns c = record {
+  supplies = supplies_newest;
+  restart = restart_shows;
+  activation_of_client = activation_shows;
+  activation_of_slot = activation_manages;
+  reports = reports_believed;
+}

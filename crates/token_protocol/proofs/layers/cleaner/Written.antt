@@ -19,7 +19,8 @@ keeps w v (DropsWant who) versions idle written = record { written = written.wri
 keeps w v (DropsFetch who) versions idle written = record { written = written.written }
 keeps w v (Offers asked h k) versions idle written = record { written = written.written }
 keeps w v (Recalls who keep h) versions idle written = record { written = written.written }
-keeps w v (WritesFirst taken value h) versions idle written = record { written = λ v k0 k1. grind (arith, nat_tests, written.written v, idle.offer_client taken h.sent) }
+keeps w v (WritesFirst taken value h) versions idle written =
+    record { written = λ v k0 k1. grind (arith, nat_tests, written.written v, idle.offer_client taken h.sent) }
 keeps w v (Declines taken h) versions idle written = record { written = written.written }
 keeps w v (TakesAbsent taken h t) versions idle written = record { written = written.written }
 keeps w v (TakesSupply taken value h t) versions idle written = record { written = written.written }
@@ -39,8 +40,10 @@ keeps w v (Seals who h) versions idle written = record { written = written.writt
 keeps w v (Settles who h k) versions idle written = record { written = written.written }
 keeps w v (CrashesDirty who h) versions idle written = record { written = written.written }
 keeps w v (CrashesClean who h) versions idle written = record { written = written.written }
-keeps w v (RestartsAdopting who incarnation promised h k) versions idle written = record { written = λ v k0 k1. grind (arith, nat_tests, written.written v, versions.fallen_low who, versions.fallen_high who, versions.join_newest) }
-keeps w v (RestartsDiscarding who incarnation promised h) versions idle written = record { written = λ v k0 k1. grind (arith, nat_tests, written.written v, versions.fallen_low who, versions.fallen_high who, versions.join_newest) }
+keeps w v (RestartsAdopting who incarnation promised h k) versions idle written =
+    record { written = λ v k0 k1. grind (arith, nat_tests, written.written v, versions.fallen_low who, versions.fallen_high who, versions.join_newest) }
+keeps w v (RestartsDiscarding who incarnation promised h) versions idle written =
+    record { written = λ v k0 k1. grind (arith, nat_tests, written.written v, versions.fallen_low who, versions.fallen_high who, versions.join_newest) }
 keeps w v (Promises who epoch h) versions idle written = record { written = written.written }
 keeps w v (Reports who end h k) versions idle written = record { written = written.written }
 keeps w v (Activates epoch report applied e h k) versions idle written = record { written = written.written }

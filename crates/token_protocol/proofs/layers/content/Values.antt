@@ -32,7 +32,8 @@ pub record Values (w : World) : Type 0 where
   -- Where an offer has no place its version is absent.
   pub offer_absent : (g : Offer) → In g w.offers → g.entry.placed ≡ 0 → w.value_at g.entry.version ≡ 0
 
-write_first_keeps_values : (w : World) (taken : Offer) (value : ℕ) → MayTake w taken 2 → Bookkeeping w → Tokens w → Crash w → Logs w → Filing w → Versions w → Values w
+write_first_keeps_values : (w : World) (taken : Offer) (value : ℕ) → MayTake w taken 2 → Bookkeeping w → Tokens w → Crash w → Logs w → Filing w → Versions w
+    → Values w
     → Values (writes_first w taken value)
 write_first_keeps_values w taken value h book tokens crash logs filing versions values = record {
   absent_value = grind (arith, nat_tests, values.absent_value);
@@ -62,7 +63,8 @@ seal_with_keeps_values w who h book tokens crash logs filing versions values = r
   offer_absent = λ g k0 k1. grind (arith, nat_tests, values.offer_absent g);
 }
 
-restart_discarding_keeps_values : (w : World) (who incarnation promised : ℕ) → MayRestart w who incarnation promised → Bookkeeping w → Tokens w → Crash w → Logs w
+restart_discarding_keeps_values : (w : World) (who incarnation promised : ℕ) → MayRestart w who incarnation promised → Bookkeeping w → Tokens w → Crash w
+    → Logs w
     → Filing w → Versions w → Values w → Values (restarts_discarding w who incarnation promised)
 restart_discarding_keeps_values w who incarnation promised h book tokens crash logs filing versions values = record {
   absent_value = grind (arith, nat_tests, values.absent_value);
@@ -72,7 +74,8 @@ restart_discarding_keeps_values w who incarnation promised h book tokens crash l
   offer_absent = λ g k0 k1. grind (arith, nat_tests, values.offer_absent g);
 }
 
-seal_copy_keeps_values : (w : World) (who log segment : ℕ) → MaySealCopy w who → OriginalFiled w log segment → Bookkeeping w → Tokens w → Crash w → Logs w → Filing w
+seal_copy_keeps_values : (w : World) (who log segment : ℕ) → MaySealCopy w who → OriginalFiled w log segment → Bookkeeping w → Tokens w → Crash w → Logs w
+    → Filing w
     → Versions w → Values w → Values (seals_copy w who log segment)
 seal_copy_keeps_values w who log segment h k book tokens crash logs filing versions values = record {
   absent_value = grind (arith, nat_tests, values.absent_value);
@@ -99,7 +102,8 @@ keeps w v (DropsWant who) book tokens crash logs filing versions values = grind 
 keeps w v (DropsFetch who) book tokens crash logs filing versions values = grind (arith, nat_tests)
 keeps w v (Offers asked h k) book tokens crash logs filing versions values = grind (arith, nat_tests)
 keeps w v (Recalls who keep h) book tokens crash logs filing versions values = grind (arith, nat_tests)
-keeps w v (WritesFirst taken value h) book tokens crash logs filing versions values = write_first_keeps_values w taken value h book tokens crash logs filing versions values
+keeps w v (WritesFirst taken value h) book tokens crash logs filing versions values =
+    write_first_keeps_values w taken value h book tokens crash logs filing versions values
 keeps w v (Declines taken h) book tokens crash logs filing versions values = grind (arith, nat_tests)
 keeps w v (TakesAbsent taken h t) book tokens crash logs filing versions values = grind (arith, nat_tests)
 keeps w v (TakesSupply taken value h t) book tokens crash logs filing versions values = grind (arith, nat_tests)
@@ -120,11 +124,13 @@ keeps w v (Settles who h k) book tokens crash logs filing versions values = grin
 keeps w v (CrashesDirty who h) book tokens crash logs filing versions values = grind (arith, nat_tests)
 keeps w v (CrashesClean who h) book tokens crash logs filing versions values = grind (arith, nat_tests)
 keeps w v (RestartsAdopting who incarnation promised h k) book tokens crash logs filing versions values = grind (arith, nat_tests)
-keeps w v (RestartsDiscarding who incarnation promised h) book tokens crash logs filing versions values = restart_discarding_keeps_values w who incarnation promised h book tokens crash logs filing versions values
+keeps w v (RestartsDiscarding who incarnation promised h) book tokens crash logs filing versions values =
+    restart_discarding_keeps_values w who incarnation promised h book tokens crash logs filing versions values
 keeps w v (Promises who epoch h) book tokens crash logs filing versions values = grind (arith, nat_tests)
 keeps w v (Reports who end h k) book tokens crash logs filing versions values = grind (arith, nat_tests)
 keeps w v (Activates epoch report applied e h k) book tokens crash logs filing versions values = grind (arith, nat_tests)
-keeps w v (SealsCopy who log segment h k) book tokens crash logs filing versions values = seal_copy_keeps_values w who log segment h k book tokens crash logs filing versions values
+keeps w v (SealsCopy who log segment h k) book tokens crash logs filing versions values =
+    seal_copy_keeps_values w who log segment h k book tokens crash logs filing versions values
 keeps w v (SealsOther who h) book tokens crash logs filing versions values = grind (arith, nat_tests)
 keeps w v (SettlesCopy who h) book tokens crash logs filing versions values = grind (arith, nat_tests)
 keeps w v (DiscardsCopy who h) book tokens crash logs filing versions values = discard_copy_keeps_values w who h book tokens crash logs filing versions values

@@ -37,7 +37,8 @@ pub record Versions (w : World) : Type 0 where
   -- Its return may settle what was in flight, which is no newer than the newest version.
   pub fallen_high : (c : ℕ) → w.fallen c ≡ 1 → (w.cut_high c ≡ max (w.cut_low c) (flying_row w c).version) × (w.cut_high c ≤ w.newest)
 
-seal_with_keeps_versions : (w : World) (who : ℕ) → MaySealWith w who → Bookkeeping w → Tokens w → Crash w → Logs w → Filing w → Versions w → Versions (seals_with w who)
+seal_with_keeps_versions : (w : World) (who : ℕ) → MaySealWith w who → Bookkeeping w → Tokens w → Crash w → Logs w → Filing w → Versions w
+    → Versions (seals_with w who)
 seal_with_keeps_versions w who h book tokens crash logs filing versions = record {
   rows_newest = λ c q. grind (arith, nat_tests, versions.rows_newest c q);
   join_newest = grind (arith, nat_tests, versions.join_newest);
@@ -50,7 +51,8 @@ seal_with_keeps_versions w who h book tokens crash logs filing versions = record
   fallen_high = λ c k0. grind (arith, nat_tests, versions.fallen_high c);
 }
 
-settle_keeps_versions : (w : World) (who : ℕ) → MaySettle w who → SegmentFlying w who → Bookkeeping w → Tokens w → Crash w → Logs w → Filing w → Versions w → Versions (settles w who)
+settle_keeps_versions : (w : World) (who : ℕ) → MaySettle w who → SegmentFlying w who → Bookkeeping w → Tokens w → Crash w → Logs w → Filing w → Versions w
+    → Versions (settles w who)
 settle_keeps_versions w who h k book tokens crash logs filing versions = record {
   rows_newest = λ c q. grind (arith, nat_tests, versions.rows_newest c q);
   join_newest = grind (arith, nat_tests, versions.join_newest);
@@ -91,7 +93,8 @@ restart_discarding_keeps_versions w who incarnation promised h book tokens crash
   fallen_high = λ c k0. grind (arith, nat_tests, versions.fallen_high c);
 }
 
-seal_copy_keeps_versions : (w : World) (who log segment : ℕ) → MaySealCopy w who → OriginalFiled w log segment → Bookkeeping w → Tokens w → Crash w → Logs w → Filing w
+seal_copy_keeps_versions : (w : World) (who log segment : ℕ) → MaySealCopy w who → OriginalFiled w log segment → Bookkeeping w → Tokens w → Crash w → Logs w
+    → Filing w
     → Versions w → Versions (seals_copy w who log segment)
 seal_copy_keeps_versions w who log segment h k book tokens crash logs filing versions = record {
   rows_newest = λ c q. grind (arith, nat_tests, versions.rows_newest c q);
@@ -147,11 +150,13 @@ keeps w v (Settles who h k) book tokens crash logs filing versions = settle_keep
 keeps w v (CrashesDirty who h) book tokens crash logs filing versions = crash_dirty_keeps_versions w who h book tokens crash logs filing versions
 keeps w v (CrashesClean who h) book tokens crash logs filing versions = grind (arith, nat_tests)
 keeps w v (RestartsAdopting who incarnation promised h k) book tokens crash logs filing versions = grind (arith, nat_tests)
-keeps w v (RestartsDiscarding who incarnation promised h) book tokens crash logs filing versions = restart_discarding_keeps_versions w who incarnation promised h book tokens crash logs filing versions
+keeps w v (RestartsDiscarding who incarnation promised h) book tokens crash logs filing versions =
+    restart_discarding_keeps_versions w who incarnation promised h book tokens crash logs filing versions
 keeps w v (Promises who epoch h) book tokens crash logs filing versions = grind (arith, nat_tests)
 keeps w v (Reports who end h k) book tokens crash logs filing versions = grind (arith, nat_tests)
 keeps w v (Activates epoch report applied e h k) book tokens crash logs filing versions = grind (arith, nat_tests)
-keeps w v (SealsCopy who log segment h k) book tokens crash logs filing versions = seal_copy_keeps_versions w who log segment h k book tokens crash logs filing versions
+keeps w v (SealsCopy who log segment h k) book tokens crash logs filing versions =
+    seal_copy_keeps_versions w who log segment h k book tokens crash logs filing versions
 keeps w v (SealsOther who h) book tokens crash logs filing versions = grind (arith, nat_tests)
 keeps w v (SettlesCopy who h) book tokens crash logs filing versions = grind (arith, nat_tests)
 keeps w v (DiscardsCopy who h) book tokens crash logs filing versions = discard_copy_keeps_versions w who h book tokens crash logs filing versions

@@ -21,7 +21,8 @@ pub record Writers (w : World) : Type 0 where
   -- What someone else read, or what was synced, is filed.
   pub pinned_join : w.pinned ≤ w.join_version
 
-give_keeps_writers : (w : World) (answered : Recall) (end : ℕ) → MayGive w answered → SettledEnd w answered.client end → Bookkeeping w → Tokens w → Crash w → Versions w
+give_keeps_writers : (w : World) (answered : Recall) (end : ℕ) → MayGive w answered → SettledEnd w answered.client end → Bookkeeping w → Tokens w → Crash w
+    → Versions w
     → Writers w → Writers (gives w answered end)
 give_keeps_writers w answered end h k book tokens crash versions writers = grind (arith, nat_tests)
 

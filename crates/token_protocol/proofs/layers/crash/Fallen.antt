@@ -53,7 +53,8 @@ give_keeps_fallen w answered end h book tokens fallen = record {
   report_fallen = fallen.report_fallen;
 }
 
-give_again_keeps_fallen : (w : World) (answered : Recall) (end : ℕ) → MayGiveAgain w answered → Bookkeeping w → Tokens w → Fallen w → Fallen (gives_again w answered end)
+give_again_keeps_fallen : (w : World) (answered : Recall) (end : ℕ) → MayGiveAgain w answered → Bookkeeping w → Tokens w → Fallen w
+    → Fallen (gives_again w answered end)
 give_again_keeps_fallen w answered end h book tokens fallen = record {
   outsider_fallen = fallen.outsider_fallen;
   fallen_down = fallen.fallen_down;
@@ -75,7 +76,8 @@ crash_dirty_keeps_fallen : (w : World) (who : ℕ) → MayCrashDirty w who → B
 crash_dirty_keeps_fallen w who h book tokens fallen = record {
   outsider_fallen = λ c k0. grind (arith, nat_tests, fallen.outsider_fallen c);
   fallen_down = λ c k0. grind (arith, nat_tests, fallen.fallen_down c);
-  fallen_believed = λ c k0. grind (arith, nat_tests, fallen.fallen_believed c, tokens.believing.covers c, book.asking.dirty_owned c, tokens.believing.single c (suc c));
+  fallen_believed =
+      λ c k0. grind (arith, nat_tests, fallen.fallen_believed c, tokens.believing.covers c, book.asking.dirty_owned c, tokens.believing.single c (suc c));
   fallen_given = λ c x k0 k1 k2 k3. grind (
     arith,
     nat_tests,
@@ -125,7 +127,8 @@ report_keeps_fallen w who end h book tokens fallen = record {
   report_fallen = λ y k0 k1 k2. grind (arith, nat_tests, fallen.report_fallen y);
 }
 
-activate_keeps_fallen : (w : World) (epoch : ℕ) (report : ℕ → Report) (applied : ℕ → ℕ) (e : Entry) → MayActivate w epoch report → Bookkeeping w → Tokens w → Fallen w
+activate_keeps_fallen : (w : World) (epoch : ℕ) (report : ℕ → Report) (applied : ℕ → ℕ) (e : Entry) → MayActivate w epoch report → Bookkeeping w → Tokens w
+    → Fallen w
     → Fallen (activates w epoch report applied e)
 activate_keeps_fallen w epoch report applied e h book tokens fallen = record {
   outsider_fallen = λ c k0. grind (arith, nat_tests, fallen.outsider_fallen c);
@@ -171,8 +174,10 @@ keeps logs w v (Seals who h) book tokens fallen = grind (arith, nat_tests)
 keeps logs w v (Settles who h k) book tokens fallen = grind (arith, nat_tests)
 keeps logs w v (CrashesDirty who h) book tokens fallen = crash_dirty_keeps_fallen w who h book tokens fallen
 keeps logs w v (CrashesClean who h) book tokens fallen = grind (arith, nat_tests)
-keeps logs w v (RestartsAdopting who incarnation promised h k) book tokens fallen = restart_adopting_keeps_fallen w who incarnation promised h book tokens fallen
-keeps logs w v (RestartsDiscarding who incarnation promised h) book tokens fallen = restart_discarding_keeps_fallen w who incarnation promised h book tokens fallen
+keeps logs w v (RestartsAdopting who incarnation promised h k) book tokens fallen =
+    restart_adopting_keeps_fallen w who incarnation promised h book tokens fallen
+keeps logs w v (RestartsDiscarding who incarnation promised h) book tokens fallen =
+    restart_discarding_keeps_fallen w who incarnation promised h book tokens fallen
 keeps logs w v (Promises who epoch h) book tokens fallen = grind (arith, nat_tests)
 keeps logs w v (Reports who end h k) book tokens fallen = report_keeps_fallen w who end h book tokens fallen
 keeps logs w v (Activates epoch report applied e h k) book tokens fallen = activate_keeps_fallen w epoch report applied e h book tokens fallen

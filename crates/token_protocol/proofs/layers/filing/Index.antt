@@ -68,7 +68,8 @@ offer_keeps_index w asked h k book logs joined index = record {
   fetch_row = index.fetch_row;
 }
 
-take_place_keeps_index : (w : World) (taken : Offer) → MayTake w taken 1 → IsPlaced taken → Bookkeeping w → Logs w → Joined w → Index w → Index (takes_place w taken)
+take_place_keeps_index : (w : World) (taken : Offer) → MayTake w taken 1 → IsPlaced taken → Bookkeeping w → Logs w → Joined w → Index w
+    → Index (takes_place w taken)
 take_place_keeps_index w taken h t book logs joined index = record {
   index_rows = index.index_rows;
   index_join = index.index_join;
@@ -109,7 +110,8 @@ settle_keeps_index w who h k book logs joined index = record {
   fetch_row = λ c k0. grind (arith, nat_tests, index.fetch_row c);
 }
 
-restart_adopting_keeps_index : (w : World) (who incarnation promised : ℕ) → MayRestart w who incarnation promised → TailAdopted w who → Bookkeeping w → Logs w → Joined w
+restart_adopting_keeps_index : (w : World) (who incarnation promised : ℕ) → MayRestart w who incarnation promised → TailAdopted w who → Bookkeeping w → Logs w
+    → Joined w
     → Index w → Index (restarts_adopting w who incarnation promised)
 restart_adopting_keeps_index w who incarnation promised h k book logs joined index = record {
   index_rows = λ c q k0. grind (arith, nat_tests, index.index_rows c q);
@@ -120,7 +122,8 @@ restart_adopting_keeps_index w who incarnation promised h k book logs joined ind
   fetch_row = λ c k0. grind (arith, nat_tests, index.fetch_row c);
 }
 
-restart_discarding_keeps_index : (w : World) (who incarnation promised : ℕ) → MayRestart w who incarnation promised → Bookkeeping w → Logs w → Joined w → Index w
+restart_discarding_keeps_index : (w : World) (who incarnation promised : ℕ) → MayRestart w who incarnation promised → Bookkeeping w → Logs w → Joined w
+    → Index w
     → Index (restarts_discarding w who incarnation promised)
 restart_discarding_keeps_index w who incarnation promised h book logs joined index = record {
   index_rows = λ c q k0. grind (arith, nat_tests, index.index_rows c q);
@@ -131,7 +134,8 @@ restart_discarding_keeps_index w who incarnation promised h book logs joined ind
   fetch_row = λ c k0. grind (arith, nat_tests, index.fetch_row c);
 }
 
-activate_keeps_index : (w : World) (epoch : ℕ) (report : ℕ → Report) (applied : ℕ → ℕ) (e : Entry) → MayActivate w epoch report → IndexGathered w report applied e
+activate_keeps_index : (w : World) (epoch : ℕ) (report : ℕ → Report) (applied : ℕ → ℕ) (e : Entry) → MayActivate w epoch report
+    → IndexGathered w report applied e
     → Bookkeeping w → Logs w → Joined w → Index w → Index (activates w epoch report applied e)
 activate_keeps_index w epoch report applied e h k book logs joined index = record {
   index_rows = λ c q k0. grind (arith, nat_tests, index.index_rows c q);
@@ -193,8 +197,10 @@ keeps w v (Seals who h) book logs joined index = grind (arith, nat_tests)
 keeps w v (Settles who h k) book logs joined index = settle_keeps_index w who h k book logs joined index
 keeps w v (CrashesDirty who h) book logs joined index = grind (arith, nat_tests)
 keeps w v (CrashesClean who h) book logs joined index = grind (arith, nat_tests)
-keeps w v (RestartsAdopting who incarnation promised h k) book logs joined index = restart_adopting_keeps_index w who incarnation promised h k book logs joined index
-keeps w v (RestartsDiscarding who incarnation promised h) book logs joined index = restart_discarding_keeps_index w who incarnation promised h book logs joined index
+keeps w v (RestartsAdopting who incarnation promised h k) book logs joined index =
+    restart_adopting_keeps_index w who incarnation promised h k book logs joined index
+keeps w v (RestartsDiscarding who incarnation promised h) book logs joined index =
+    restart_discarding_keeps_index w who incarnation promised h book logs joined index
 keeps w v (Promises who epoch h) book logs joined index = grind (arith, nat_tests)
 keeps w v (Reports who end h k) book logs joined index = grind (arith, nat_tests)
 keeps w v (Activates epoch report applied e h k) book logs joined index = activate_keeps_index w epoch report applied e h k book logs joined index

@@ -18,7 +18,8 @@ pub record Joined (w : World) : Type 0 where
   -- The row that a cleaner has in flight is no newer than the join.
   pub copy_join : (c : ℕ) → w.members ≤ c → (flying_row w c).version ≤ w.join_version
   -- A filed row of a client has the join's version.
-  pub join_row : 0 < w.join_version → ((w.rows w.join_log w.join_segment).version ≡ w.join_version) × (w.join_segment ≤ w.end w.join_log) × (w.join_log < w.members)
+  pub join_row : 0 < w.join_version
+      → ((w.rows w.join_log w.join_segment).version ≡ w.join_version) × (w.join_segment ≤ w.end w.join_log) × (w.join_log < w.members)
 
 seal_with_keeps_joined : (w : World) (who : ℕ) → MaySealWith w who → Bookkeeping w → Logs w → Joined w → Joined (seals_with w who)
 seal_with_keeps_joined w who h book logs joined = record {

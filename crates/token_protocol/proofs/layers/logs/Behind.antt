@@ -32,7 +32,8 @@ pub record Behind (w : World) : Type 0 where
   -- Every row of who reports for a later epoch that it does not own is at or below the end that it named.
   pub unapplied_report : (y : Report) (q : ℕ) → In y w.reports → w.epoch < y.epoch → y.mode ≤ 1 → 0 < (w.rows y.client q).version → q ≤ y.end
 
-recall_keeps_behind : (w : World) (who keep : ℕ) → MayRecall keep → Bookkeeping w → Tokens w → Crash w → Rows w → Flight w → Behind w → Behind (recalls w who keep)
+recall_keeps_behind : (w : World) (who keep : ℕ) → MayRecall keep → Bookkeeping w → Tokens w → Crash w → Rows w → Flight w → Behind w
+    → Behind (recalls w who keep)
 recall_keeps_behind w who keep h book tokens crash rows flight behind = record {
   unapplied = behind.unapplied;
   unapplied_gave = λ x q k0 k1 k2. grind (arith, nat_tests, behind.unapplied_gave x q, book.stamps.gave_turn x k0);
@@ -40,7 +41,8 @@ recall_keeps_behind w who keep h book tokens crash rows flight behind = record {
   unapplied_report = behind.unapplied_report;
 }
 
-give_again_keeps_behind : (w : World) (answered : Recall) (end : ℕ) → MayGiveAgain w answered → SettledEnd w answered.client end → Bookkeeping w → Tokens w → Crash w
+give_again_keeps_behind : (w : World) (answered : Recall) (end : ℕ) → MayGiveAgain w answered → SettledEnd w answered.client end → Bookkeeping w → Tokens w
+    → Crash w
     → Rows w → Flight w → Behind w → Behind (gives_again w answered end)
 give_again_keeps_behind w answered end h k book tokens crash rows flight behind = record {
   unapplied = behind.unapplied;
@@ -63,7 +65,8 @@ note_keeps_behind w noted h book tokens crash rows flight behind = record {
   unapplied_report = behind.unapplied_report;
 }
 
-seal_with_keeps_behind : (w : World) (who : ℕ) → MaySealWith w who → Bookkeeping w → Tokens w → Crash w → Rows w → Flight w → Behind w → Behind (seals_with w who)
+seal_with_keeps_behind : (w : World) (who : ℕ) → MaySealWith w who → Bookkeeping w → Tokens w → Crash w → Rows w → Flight w → Behind w
+    → Behind (seals_with w who)
 seal_with_keeps_behind w who h book tokens crash rows flight behind = record {
   unapplied = λ c q k0 k1 k2 k3. grind (arith, nat_tests, behind.unapplied c q);
   unapplied_gave = λ x q k0 k1 k2. grind (
@@ -78,7 +81,8 @@ seal_with_keeps_behind w who h book tokens crash rows flight behind = record {
   unapplied_report = λ y q k0 k1 k2 k3. grind (arith, nat_tests, behind.unapplied_report y q);
 }
 
-restart_discarding_keeps_behind : (w : World) (who incarnation promised : ℕ) → MayRestart w who incarnation promised → Bookkeeping w → Tokens w → Crash w → Rows w
+restart_discarding_keeps_behind : (w : World) (who incarnation promised : ℕ) → MayRestart w who incarnation promised → Bookkeeping w → Tokens w → Crash w
+    → Rows w
     → Flight w → Behind w → Behind (restarts_discarding w who incarnation promised)
 restart_discarding_keeps_behind w who incarnation promised h book tokens crash rows flight behind = record {
   unapplied = λ c q k0 k1 k2 k3. grind (arith, nat_tests, behind.unapplied c q);
@@ -87,16 +91,19 @@ restart_discarding_keeps_behind w who incarnation promised h book tokens crash r
   unapplied_report = λ y q k0 k1 k2 k3. grind (arith, nat_tests, behind.unapplied_report y q);
 }
 
-activate_keeps_behind : (w : World) (epoch : ℕ) (report : ℕ → Report) (applied : ℕ → ℕ) (e : Entry) → MayActivate w epoch report → IndexGathered w report applied e
+activate_keeps_behind : (w : World) (epoch : ℕ) (report : ℕ → Report) (applied : ℕ → ℕ) (e : Entry) → MayActivate w epoch report
+    → IndexGathered w report applied e
     → Bookkeeping w → Tokens w → Crash w → Rows w → Flight w → Behind w → Behind (activates w epoch report applied e)
 activate_keeps_behind w epoch report applied e h k book tokens crash rows flight behind = record {
-  unapplied = λ c q k0 k1 k2 k3. grind (arith, nat_tests, behind.unapplied c q, h.sent c, h.sender c, h.asked c, behind.unapplied_report (report c) q, k.reported c);
+  unapplied = λ c q k0 k1 k2 k3. grind
+      (arith, nat_tests, behind.unapplied c q, h.sent c, h.sender c, h.asked c, behind.unapplied_report (report c) q, k.reported c);
   unapplied_gave = λ x q k0 k1 k2. grind (arith, nat_tests, behind.unapplied_gave x q);
   unapplied_want = λ p q k0 k1 k2 k3 k4. grind (arith, nat_tests, behind.unapplied_want p q);
   unapplied_report = λ y q k0 k1 k2 k3. grind (arith, nat_tests, behind.unapplied_report y q);
 }
 
-seal_copy_keeps_behind : (w : World) (who log segment : ℕ) → MaySealCopy w who → OriginalFiled w log segment → Bookkeeping w → Tokens w → Crash w → Rows w → Flight w
+seal_copy_keeps_behind : (w : World) (who log segment : ℕ) → MaySealCopy w who → OriginalFiled w log segment → Bookkeeping w → Tokens w → Crash w → Rows w
+    → Flight w
     → Behind w → Behind (seals_copy w who log segment)
 seal_copy_keeps_behind w who log segment h k book tokens crash rows flight behind = record {
   unapplied = λ c q k0 k1 k2 k3. grind (arith, nat_tests, behind.unapplied c q);
@@ -142,11 +149,14 @@ keeps w v (Settles who h k) book tokens crash rows flight behind = grind (arith,
 keeps w v (CrashesDirty who h) book tokens crash rows flight behind = grind (arith, nat_tests)
 keeps w v (CrashesClean who h) book tokens crash rows flight behind = grind (arith, nat_tests)
 keeps w v (RestartsAdopting who incarnation promised h k) book tokens crash rows flight behind = grind (arith, nat_tests)
-keeps w v (RestartsDiscarding who incarnation promised h) book tokens crash rows flight behind = restart_discarding_keeps_behind w who incarnation promised h book tokens crash rows flight behind
+keeps w v (RestartsDiscarding who incarnation promised h) book tokens crash rows flight behind =
+    restart_discarding_keeps_behind w who incarnation promised h book tokens crash rows flight behind
 keeps w v (Promises who epoch h) book tokens crash rows flight behind = grind (arith, nat_tests)
 keeps w v (Reports who end h k) book tokens crash rows flight behind = grind (arith, nat_tests)
-keeps w v (Activates epoch report applied e h k) book tokens crash rows flight behind = activate_keeps_behind w epoch report applied e h k book tokens crash rows flight behind
-keeps w v (SealsCopy who log segment h k) book tokens crash rows flight behind = seal_copy_keeps_behind w who log segment h k book tokens crash rows flight behind
+keeps w v (Activates epoch report applied e h k) book tokens crash rows flight behind =
+    activate_keeps_behind w epoch report applied e h k book tokens crash rows flight behind
+keeps w v (SealsCopy who log segment h k) book tokens crash rows flight behind =
+    seal_copy_keeps_behind w who log segment h k book tokens crash rows flight behind
 keeps w v (SealsOther who h) book tokens crash rows flight behind = grind (arith, nat_tests)
 keeps w v (SettlesCopy who h) book tokens crash rows flight behind = grind (arith, nat_tests)
 keeps w v (DiscardsCopy who h) book tokens crash rows flight behind = discard_copy_keeps_behind w who h book tokens crash rows flight behind

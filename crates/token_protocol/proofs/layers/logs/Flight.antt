@@ -15,7 +15,8 @@ pub record Flight (w : World) : Type 0 where
   pub settled_version : (c : ℕ) → (w.client c).settled ≤ (w.client c).version
   -- The row in flight is above the settled version and at most the present one, or its client fell with it and its return may still settle it.
   pub flight_row : (c : ℕ) → c < w.members → 0 < (flying_row w c).version
-      → (((w.client c).settled < (flying_row w c).version) × ((flying_row w c).version ≤ (w.client c).version)) ⊎ ((w.fallen c ≡ 1) × (w.cut_low c < (flying_row w c).version))
+      → (((w.client c).settled < (flying_row w c).version) × ((flying_row w c).version ≤ (w.client c).version))
+      ⊎ ((w.fallen c ≡ 1) × (w.cut_low c < (flying_row w c).version))
 
 pub keeps : (w v : World) → Step true w v → Bookkeeping w → Tokens w → Crash w → Rows w → Flight w → Flight v
 keeps w v (Asks who mode request end h k) book tokens crash rows flight = grind (arith, nat_tests)

@@ -108,7 +108,8 @@ keeps logs w v (RestartsAdopting who incarnation promised h k) book giving repor
 keeps logs w v (RestartsDiscarding who incarnation promised h) book giving reporting believing = grind (arith, nat_tests)
 keeps logs w v (Promises who epoch h) book giving reporting believing = grind (arith, nat_tests)
 keeps logs w v (Reports who end h k) book giving reporting believing = grind (arith, nat_tests)
-keeps logs w v (Activates epoch report applied e h k) book giving reporting believing = activate_keeps_believing w epoch report applied e h book giving reporting believing
+keeps logs w v (Activates epoch report applied e h k) book giving reporting believing =
+    activate_keeps_believing w epoch report applied e h book giving reporting believing
 keeps logs w v (SealsCopy who log segment h k) book giving reporting believing = grind (arith, nat_tests)
 keeps logs w v (SealsOther who h) book giving reporting believing = grind (arith, nat_tests)
 keeps logs w v (SettlesCopy who h) book giving reporting believing = grind (arith, nat_tests)

@@ -112,7 +112,8 @@ give_again_keeps_giving w answered end h book giving = record {
   recalled_fetch = giving.recalled_fetch;
   given_mode = λ x k0 k1. grind (arith, nat_tests, giving.given_mode x, kept w answered h.sent, giving.recalled answered h.sent h.equal);
   given_fetch = λ x k0 k1. grind (arith, nat_tests, giving.given_fetch x);
-  given_offer = λ x g k0 k1 k2 k3 k4. grind (arith, nat_tests, giving.given_offer x g, book.awaiting.offer_awaited g k1, book.stamps.recall_positive answered h.sent);
+  given_offer =
+      λ x g k0 k1 k2 k3 k4. grind (arith, nat_tests, giving.given_offer x g, book.awaiting.offer_awaited g k1, book.stamps.recall_positive answered h.sent);
 }
 
 pub keeps : (logs : Bool) (w v : World) → Step logs w v → Bookkeeping w → Giving w → Giving v

@@ -29,7 +29,8 @@ recall_keeps_reporting w who keep h book giving reporting = record {
   report_given = λ y x k0 k1 k2 k3 k4. grind (arith, nat_tests, reporting.report_given y x, book.stamps.gave_turn x k2);
 }
 
-give_keeps_reporting : (w : World) (answered : Recall) (end : ℕ) → MayGive w answered → Bookkeeping w → Giving w → Reporting w → Reporting (gives w answered end)
+give_keeps_reporting : (w : World) (answered : Recall) (end : ℕ) → MayGive w answered → Bookkeeping w → Giving w → Reporting w
+    → Reporting (gives w answered end)
 give_keeps_reporting w answered end h book giving reporting = grind (arith, nat_tests)
 
 give_again_keeps_reporting : (w : World) (answered : Recall) (end : ℕ) → MayGiveAgain w answered → Bookkeeping w → Giving w → Reporting w
