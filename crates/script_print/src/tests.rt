@@ -170,6 +170,21 @@ fn each_kind_of_bad_line(rt: HostRuntime) -> Mem<()> {
     for line in setup {
         assert!(rt; told(alloc, SETUP, line, false)? == bad(6, Kind::BadSetup));
     }
+    // an input has 20,000 lines and 1,048,576 bytes at most
+    let empty = many(alloc, b'\n', 19_995)?;
+    assert!(rt; told(alloc, SETUP, &empty, false)? == Ok(0));
+    let empty = many(alloc, b'\n', 19_996)?;
+    assert!(rt; told(alloc, SETUP, &empty, false)? == bad(20_001, Kind::TooLong));
+    let comment = many(alloc, b'#', 1_048_527)?;
+    assert!(rt; told(alloc, SETUP, &comment, false)? == Ok(0));
+    let comment = many(alloc, b'#', 1_048_528)?;
+    assert!(rt; told(alloc, SETUP, &comment, false)? == bad(6, Kind::TooLong));
+    Ok(())
+}
+
+#[test]
+fn groups_and_first_faults(rt: HostRuntime) -> Mem<()> {
+    let alloc = rt.alloc();
     let groups: [&[u8]; 8] = [
         b"group 1 2\n",
         b"group 1 2 3 4 5 6 7 8 9\n",
@@ -195,14 +210,5 @@ fn each_kind_of_bad_line(rt: HostRuntime) -> Mem<()> {
         told(alloc, SETUP, b"c1 bput 01 0 8193*\"a\"\n", false)? == bad(6, Kind::BadNumber)
     );
     assert!(rt; told(alloc, SETUP, b"c1 sync", false)? == Ok(1));
-    // an input has 20,000 lines and 1,048,576 bytes at most
-    let empty = many(alloc, b'\n', 19_995)?;
-    assert!(rt; told(alloc, SETUP, &empty, false)? == Ok(0));
-    let empty = many(alloc, b'\n', 19_996)?;
-    assert!(rt; told(alloc, SETUP, &empty, false)? == bad(20_001, Kind::TooLong));
-    let comment = many(alloc, b'#', 1_048_527)?;
-    assert!(rt; told(alloc, SETUP, &comment, false)? == Ok(0));
-    let comment = many(alloc, b'#', 1_048_528)?;
-    assert!(rt; told(alloc, SETUP, &comment, false)? == bad(6, Kind::TooLong));
     Ok(())
 }
