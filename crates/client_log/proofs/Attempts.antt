@@ -50,11 +50,14 @@ module _ (s : LogState) where
 
   flies_seal : Flies (on_seal s)
   unfolding on_seal
-  flies_seal = elim (is_idle s && nat_lt 0 (length s.dirty) && has_next s.end.seq) as (λ b. Flies (cond b (sealed s) (still s))) [ true ↦ begun_sealed s | false ↦ same s refl ]
+  flies_seal = elim (is_idle s && nat_lt 0 (length s.dirty) && has_next s.end.seq) as (λ b. Flies (cond b (sealed s) (still s)))
+      [ true ↦ begun_sealed s | false ↦ same s refl ]
 
   flies_parts : (items : List Item) → Flies (on_parts s items)
   unfolding on_parts
-  flies_parts items = elim (is_idle s && has_next s.end.seq && has_text items) as (λ b. Flies (cond b (writes s items) (still s))) [ true ↦ begun_writes s items | false ↦ same s refl ]
+  flies_parts items =
+      elim (is_idle s && has_next s.end.seq && has_text items) as (λ b. Flies (cond b (writes s items) (still s)))
+      [ true ↦ begun_writes s items | false ↦ same s refl ]
 
   -- f was in flight; g is it, perhaps with more noted
   module _ (t : LogState) (f g : FlightState) (was : s.flight ≡ Some f) (segment : g.segment ≡ f.segment) (group : g.group ≡ f.group) where
@@ -81,7 +84,8 @@ module _ (s : LogState) where
   flies_acked : (name : SegName) (index generation : ℕ) → Flies (on_acked s name index generation)
   unfolding on_acked
   flies_acked name index generation =
-      elim s.flight as (λ o. s.flight ≡ o → Flies (elim o [ None ↦ still s | Some f ↦ cond (is_of f name index generation) (looked_at s s (noting f index)) (still s) ])) [
+      elim s.flight as
+      (λ o. s.flight ≡ o → Flies (elim o [ None ↦ still s | Some f ↦ cond (is_of f name index generation) (looked_at s s (noting f index)) (still s) ])) [
         | None ↦ λ e. same s refl
         | Some f ↦ λ e. elim (is_of f name index generation) as (λ b. Flies (cond b (looked_at s s (noting f index)) (still s))) [
           | true ↦ flies_looked s f (noting f index) e refl refl
@@ -100,7 +104,8 @@ module _ (s : LogState) where
 
   flies_tick : Flies (on_tick s)
   unfolding on_tick
-  flies_tick = elim s.flight as (λ o. Flies (elim o [ None ↦ still s | Some f ↦ record { state = s; outs = all_sends f } ])) [ None ↦ same s refl | Some f ↦ same s refl ]
+  flies_tick = elim s.flight as (λ o. Flies (elim o [ None ↦ still s | Some f ↦ record { state = s; outs = all_sends f } ]))
+      [ None ↦ same s refl | Some f ↦ same s refl ]
 
 pub flies : (s : LogState) (input : In) → IfSome (transition s input).state.flight (Follows s (transition s input).state)
 flies s (Put block entry value) = flies_put s block (record { entry = entry; value = value })

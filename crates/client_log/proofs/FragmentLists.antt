@@ -19,9 +19,11 @@ length-pieces_from s place (p ∷ ps) = ap suc (length-pieces_from s (place + 1)
 
 pub length-pieces_over : (s : Segment) (g : Group) → IsCut (length g.members) g.parity → length (pieces_over s g) ≡ length g.members
 unfolding pieces_over
-length-pieces_over s g c = length-pieces_from s 0 (stripe_of (text_of s) (length g.members) g.parity) ∙ length-stripe_of (text_of s) (length g.members) g.parity c
+length-pieces_over s g c =
+    length-pieces_from s 0 (stripe_of (text_of s) (length g.members) g.parity) ∙ length-stripe_of (text_of s) (length g.members) g.parity c
 
-at_place : (s : Segment) (from : ℕ) (parts : List (List ℕ)) (i : ℕ) (d : Fragment) → i < length parts → get_or (pieces_from s from parts) i d ≡ record { meta = meta_of s (from + i); bytes = fragment_at parts i }
+at_place : (s : Segment) (from : ℕ) (parts : List (List ℕ)) (i : ℕ) (d : Fragment) → i < length parts
+    → get_or (pieces_from s from parts) i d ≡ record { meta = meta_of s (from + i); bytes = fragment_at parts i }
 at_place s from [] i d l = absurd (omega arith)
 at_place s from (p ∷ ps) zero d l =
     let e : from ≡ from + 0 = omega arith in
@@ -32,13 +34,16 @@ at_place s from (p ∷ ps) (suc i) d l =
     at_place s (from + 1) ps i d m ∙ ap (λ n. record { meta = meta_of s n; bytes = fragment_at ps i }) e
 
 -- the fragment at a place of the list is the segment's at that place
-pub get_or-pieces_over : (s : Segment) (g : Group) (i : ℕ) (d : Fragment) → IsCut (length g.members) g.parity → i < length g.members → get_or (pieces_over s g) i d ≡ piece s g i
+pub get_or-pieces_over : (s : Segment) (g : Group) (i : ℕ) (d : Fragment) → IsCut (length g.members) g.parity → i < length g.members
+    → get_or (pieces_over s g) i d ≡ piece s g i
 unfolding pieces_over piece
 get_or-pieces_over s g i d c l =
     let m : i < length (stripe_of (text_of s) (length g.members) g.parity) = omega (arith, length-stripe_of (text_of s) (length g.members) g.parity c) in
     let e : 0 + i ≡ i = omega arith in
-    at_place s 0 (stripe_of (text_of s) (length g.members) g.parity) i d m ∙ ap (λ n. record { meta = meta_of s n; bytes = fragment_at (stripe_of (text_of s) (length g.members) g.parity) i }) e
+    at_place s 0 (stripe_of (text_of s) (length g.members) g.parity) i d m
+    ∙ ap (λ n. record { meta = meta_of s n; bytes = fragment_at (stripe_of (text_of s) (length g.members) g.parity) i }) e
 
 -- what is sent of a place that isn't noted
-pub sent : (f : FlightState) (member : Member) (place : ℕ) (fragment : Fragment) → is_noted f.noted place ≡ false → fragment ≡ piece f.segment f.group place → Send fragment member ∷ [] ≡ send_at f member place
+pub sent : (f : FlightState) (member : Member) (place : ℕ) (fragment : Fragment) → is_noted f.noted place ≡ false → fragment ≡ piece f.segment f.group place
+    → Send fragment member ∷ [] ≡ send_at f member place
 sent f member place fragment off e = ap (λ x. Send x member ∷ []) e ∙ ap (λ b. cond b [] (Send (piece f.segment f.group place) member ∷ [])) (sym off)

@@ -32,16 +32,20 @@ all_append P [] ys h k = k
 all_append P (x ∷ xs) ys h k = (h.0, all_append P xs ys h.1 k)
 
 two_at_most : (before : ℕ) (block : BlockId) (change : Change) → length (change_items before block change) ≤ 2
-two_at_most before block change = elim change.value as (λ v. length (change_items before block (record { entry = change.entry; value = v })) ≤ 2) [ None ↦ omega arith | Some bytes ↦ omega arith ]
+two_at_most before block change =
+    elim change.value as (λ v. length (change_items before block (record { entry = change.entry; value = v })) ≤ 2)
+    [ None ↦ omega arith | Some bytes ↦ omega arith ]
 
 -- one change more
 pub builds_more : (items : List Item) (c : BlockId × Change) (rest all : List (BlockId × Change)) (more : List Item) → BuildsItems items (c ∷ rest) all
-    → more ≡ items ++ change_items (length items) c.0 c.1 → AllByRecursion (IsItem second_version) (change_items (length items) c.0 c.1) → BuildsItems more rest all
+    → more ≡ items ++ change_items (length items) c.0 c.1 → AllByRecursion (IsItem second_version) (change_items (length items) c.0 c.1)
+    → BuildsItems more rest all
 builds_more items c rest all more b e each =
     let added : List Item = change_items (length items) c.0 c.1 in
     let size : length more ≡ length items + length added = ap length e ∙ length-append items added in
     record {
-      made = ap (λ m. m ++ items_of (length more) rest) e ∙ append_assoc items added (items_of (length more) rest) ∙ ap (λ n. items ++ (added ++ items_of n rest)) size ∙ b.made;
+      made = ap (λ m. m ++ items_of (length more) rest) e ∙ append_assoc items added (items_of (length more) rest)
+          ∙ ap (λ n. items ++ (added ++ items_of n rest)) size ∙ b.made;
       each = subst (AllByRecursion (IsItem second_version)) (sym e) (all_append (IsItem second_version) items added b.each each);
       few = omega (arith, two_at_most (length items) c.0 c.1, b.few);
     }
@@ -49,7 +53,10 @@ builds_more items c rest all more b e each =
 deltas : (n : ℕ) (cs : List (BlockId × Change)) → deltas_in (items_of n cs) ≡ length cs
 deltas n [] = refl
 deltas n (c ∷ cs) =
-    elim c.1.value as (λ v. deltas_in (change_items n c.0 (record { entry = c.1.entry; value = v }) ++ items_of (n + length (change_items n c.0 (record { entry = c.1.entry; value = v }))) cs) ≡ suc (length cs)) [
+    elim c.1.value as
+    (λ v. deltas_in
+    (change_items n c.0 (record { entry = c.1.entry; value = v }) ++ items_of (n + length (change_items n c.0 (record { entry = c.1.entry; value = v }))) cs)
+    ≡ suc (length cs)) [
       | None ↦ omega (arith, deltas (n + 1) cs)
       | Some bytes ↦ omega (arith, deltas (n + 2) cs)
     ]
@@ -57,7 +64,10 @@ deltas n (c ∷ cs) =
 others : (n : ℕ) (cs : List (BlockId × Change)) → others_in (items_of n cs) ≤ length cs
 others n [] = omega arith
 others n (c ∷ cs) =
-    elim c.1.value as (λ v. others_in (change_items n c.0 (record { entry = c.1.entry; value = v }) ++ items_of (n + length (change_items n c.0 (record { entry = c.1.entry; value = v }))) cs) ≤ suc (length cs)) [
+    elim c.1.value as
+    (λ v. others_in
+    (change_items n c.0 (record { entry = c.1.entry; value = v }) ++ items_of (n + length (change_items n c.0 (record { entry = c.1.entry; value = v }))) cs)
+    ≤ suc (length cs)) [
       | None ↦ omega (arith, others (n + 1) cs)
       | Some bytes ↦ omega (arith, others (n + 2) cs)
     ]
@@ -65,12 +75,15 @@ others n (c ∷ cs) =
 keeps : (n : ℕ) (cs : List (BlockId × Change)) → KeepsRule None n (items_of n cs)
 keeps n [] = tt
 keeps n (c ∷ cs) =
-    elim c.1.value as (λ v. KeepsRule None n (change_items n c.0 (record { entry = c.1.entry; value = v }) ++ items_of (n + length (change_items n c.0 (record { entry = c.1.entry; value = v }))) cs)) [
+    elim c.1.value as
+    (λ v. KeepsRule None n
+    (change_items n c.0 (record { entry = c.1.entry; value = v }) ++ items_of (n + length (change_items n c.0 (record { entry = c.1.entry; value = v }))) cs)) [
       | None ↦ (refl, keeps (n + 1) cs)
       | Some bytes ↦ let e : n + 2 ≡ (n + 1) + 1 = omega arith in (refl, refl, subst (λ m. KeepsRule None m (items_of (n + 2) cs)) e (keeps (n + 2) cs))
     ]
 
-pub written_have_text : (items : List Item) (cs : List (BlockId × Change)) → length cs ≤ segment_blocks → items ≡ items_of 0 cs → AllByRecursion (IsItem second_version) items → HasText items
+pub written_have_text : (items : List Item) (cs : List (BlockId × Change)) → length cs ≤ segment_blocks → items ≡ items_of 0 cs
+    → AllByRecursion (IsItem second_version) items → HasText items
 written_have_text items cs few e each =
     subst HasText (sym e) (record {
       each = subst (AllByRecursion (IsItem second_version)) e each;
@@ -113,15 +126,18 @@ placed (Some p) block ver hop h = within_of 1 13 p.seg.name.log.0 h
 
 all_placed : (rows : List (BlockId × Entry)) → list_all (λ r. is_placed r.1.place) rows ≡ true → AllByRecursion IsRow rows
 all_placed [] h = tt
-all_placed (r ∷ rs) h =
-    (placed r.1.place r.0 r.1.ver r.1.hop (both_left (is_placed r.1.place) (list_all (λ r. is_placed r.1.place) rs) h), all_placed rs (both_right (is_placed r.1.place) (list_all (λ r. is_placed r.1.place) rs) h))
+all_placed (r ∷ rs) h = (
+  placed r.1.place r.0 r.1.ver r.1.hop (both_left (is_placed r.1.place) (list_all (λ r. is_placed r.1.place) rs) h),
+  all_placed rs (both_right (is_placed r.1.place) (list_all (λ r. is_placed r.1.place) rs) h),
+)
 
 item_of_test : (i : Item) → is_item i ≡ true → IsItem second_version i
 item_of_test (Block block None) h = false_is_not h
 item_of_test (Block block (Some bytes)) h = within_of 1 (longest second_version) (length bytes) h
 item_of_test (Delta block ver hop item) h = tt
 item_of_test (Part slot rows) h =
-    let rest : (is_row_count (length rows) && list_all (λ r. is_placed r.1.place) rows) ≡ true = both_right (nat_lt slot 8) (is_row_count (length rows) && list_all (λ r. is_placed r.1.place) rows) h in (
+    let rest : (is_row_count (length rows) && list_all (λ r. is_placed r.1.place) rows) ≡ true =
+    both_right (nat_lt slot 8) (is_row_count (length rows) && list_all (λ r. is_placed r.1.place) rows) h in (
       lt_of slot 8 (both_left (nat_lt slot 8) (is_row_count (length rows) && list_all (λ r. is_placed r.1.place) rows) h),
       within_of 1 128 (length rows) (both_left (is_row_count (length rows)) (list_all (λ r. is_placed r.1.place) rows) rest),
       all_placed rows (both_right (is_row_count (length rows)) (list_all (λ r. is_placed r.1.place) rows) rest),
@@ -132,13 +148,19 @@ all_items [] h = tt
 all_items (i ∷ is) h = (item_of_test i (both_left (is_item i) (list_all is_item is) h), all_items is (both_right (is_item i) (list_all is_item is) h))
 
 -- of the items from a number on, where no Delta is awaited, and where that of the item before is
-rules : (is : List Item) → ((n : ℕ) → keeps_rule None n is ≡ true → KeepsRule None n is) × ((block : BlockId) (n : ℕ) → keeps_rule (Some block) (n + 1) is ≡ true → KeepsRule (Some (record { block = block; item = n })) (n + 1) is)
+rules : (is : List Item)
+    → ((n : ℕ) → keeps_rule None n is ≡ true → KeepsRule None n is)
+    × ((block : BlockId) (n : ℕ) → keeps_rule (Some block) (n + 1) is ≡ true → KeepsRule (Some (record { block = block; item = n })) (n + 1) is)
 rules [] = (λ n h. tt, λ block n h. false_is_not h)
 rules (Block b value ∷ is) = (λ n h. (rules is).1 b n h, λ block n h. false_is_not h)
 rules (Delta b ver hop item ∷ is) = (
-  λ n h. (eq_of item no_item (both_left (item == no_item) (keeps_rule None (n + 1) is) h), (rules is).0 (n + 1) (both_right (item == no_item) (keeps_rule None (n + 1) is) h)),
+  λ n h. (
+    eq_of item no_item (both_left (item == no_item) (keeps_rule None (n + 1) is) h),
+    (rules is).0 (n + 1) (both_right (item == no_item) (keeps_rule None (n + 1) is) h),
+  ),
   λ block n h.
-      let here : (same_block b block && ((item + 1) == (n + 1))) ≡ true = both_left (same_block b block && ((item + 1) == (n + 1))) (keeps_rule None ((n + 1) + 1) is) h in (
+      let here : (same_block b block && ((item + 1) == (n + 1))) ≡ true =
+      both_left (same_block b block && ((item + 1) == (n + 1))) (keeps_rule None ((n + 1) + 1) is) h in (
         sym (same_block_exact b block (both_left (same_block b block) ((item + 1) == (n + 1)) here)),
         before_of item n (both_right (same_block b block) ((item + 1) == (n + 1)) here),
         (rules is).0 ((n + 1) + 1) (both_right (same_block b block && ((item + 1) == (n + 1))) (keeps_rule None ((n + 1) + 1) is) h),

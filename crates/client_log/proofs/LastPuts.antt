@@ -61,7 +61,8 @@ other_way a b h =
     ] refl
 
 module _ (b : BlockId) (c : Change) where
-  apart_head : (k : BlockId) → same_block k b ≡ false → (es : List (BlockId × Change)) → AllByRecursion (λ e. same_block k e.0 ≡ false) es → AllByRecursion (λ e. same_block k e.0 ≡ false) (insert_entry same_block es b c)
+  apart_head : (k : BlockId) → same_block k b ≡ false → (es : List (BlockId × Change)) → AllByRecursion (λ e. same_block k e.0 ≡ false) es
+      → AllByRecursion (λ e. same_block k e.0 ≡ false) (insert_entry same_block es b c)
   apart_head k h [] a = (h, tt)
   apart_head k h (e ∷ es) a =
       elim (same_block b e.0) as (λ t. AllByRecursion (λ x. same_block k x.0 ≡ false) (cond t ((e.0, c) ∷ es) (e ∷ insert_entry same_block es b c))) [
@@ -91,7 +92,10 @@ module _ (b : BlockId) (c : Change) where
     fresh_insert [] a f = (ap (λ t. cond t (Some c) (known b)) (same_block_itself b), tt)
     fresh_insert (d ∷ ds) a f =
         elim (same_block b d.0) as (λ t. same_block b d.0 ≡ t → Fresh now (cond t ((d.0, c) ∷ ds) (d ∷ insert_entry same_block ds b c))) [
-          | true ↦ λ e. (ap (λ t. cond t (Some c) (known d.0)) e, others_fresh ds (subst (λ k. AllByRecursion (λ x. same_block k x.0 ≡ false) ds) (same_block_exact b d.0 e) a.0) f.1)
+          | true ↦ λ e. (
+            ap (λ t. cond t (Some c) (known d.0)) e,
+            others_fresh ds (subst (λ k. AllByRecursion (λ x. same_block k x.0 ≡ false) ds) (same_block_exact b d.0 e) a.0) f.1,
+          )
           | false ↦ λ e. (ap (λ t. cond t (Some c) (known d.0)) e ∙ f.0, fresh_insert ds a.1 f.1)
         ] refl
 
@@ -119,24 +123,29 @@ kept_looked : (before t : LogState) (g : FlightState) → t.dirty ≡ before.dir
 unfolding looked_at
 kept_looked before t g e =
     elim (can_follow t g (fate_of t.groups g)) as (λ b. Kept before (cond b (followed t g (fate_of t.groups g)) (still before))) [
-      | true ↦ elim (kept_followed t g (fate_of t.groups g)) as (λ k. Kept before (followed t g (fate_of t.groups g))) [ inl h ↦ inl (h ∙ e) | inr h ↦ inr (h ∙ ap (drop segment_blocks) e) ]
+      | true ↦ elim (kept_followed t g (fate_of t.groups g)) as (λ k. Kept before (followed t g (fate_of t.groups g)))
+          [ inl h ↦ inl (h ∙ e) | inr h ↦ inr (h ∙ ap (drop segment_blocks) e) ]
       | false ↦ inl refl
     ]
 
 kept_seal : (s : LogState) → Kept s (on_seal s)
 unfolding on_seal
-kept_seal s = elim (is_idle s && nat_lt 0 (length s.dirty) && has_next s.end.seq) as (λ b. Kept s (cond b (sealed s) (still s))) [ true ↦ kept_sealed s | false ↦ inl refl ]
+kept_seal s =
+    elim (is_idle s && nat_lt 0 (length s.dirty) && has_next s.end.seq) as (λ b. Kept s (cond b (sealed s) (still s)))
+    [ true ↦ kept_sealed s | false ↦ inl refl ]
 
 kept_parts : (s : LogState) (items : List Item) → Kept s (on_parts s items)
 unfolding on_parts launched
-kept_parts s items = elim (is_idle s && has_next s.end.seq && has_text items) as (λ b. Kept s (cond b (writes s items) (still s))) [ true ↦ inl refl | false ↦ inl refl ]
+kept_parts s items =
+    elim (is_idle s && has_next s.end.seq && has_text items) as (λ b. Kept s (cond b (writes s items) (still s))) [ true ↦ inl refl | false ↦ inl refl ]
 
 kept_acked : (s : LogState) (name : SegName) (index generation : ℕ) → Kept s (on_acked s name index generation)
 unfolding on_acked
 kept_acked s name index generation =
     elim s.flight as (λ o. Kept s (elim o [ None ↦ still s | Some f ↦ cond (is_of f name index generation) (looked_at s s (noting f index)) (still s) ])) [
       | None ↦ inl refl
-      | Some f ↦ elim (is_of f name index generation) as (λ b. Kept s (cond b (looked_at s s (noting f index)) (still s))) [ true ↦ kept_looked s s (noting f index) refl | false ↦ inl refl ]
+      | Some f ↦ elim (is_of f name index generation) as (λ b. Kept s (cond b (looked_at s s (noting f index)) (still s)))
+          [ true ↦ kept_looked s s (noting f index) refl | false ↦ inl refl ]
     ]
 
 kept_maps : (s : LogState) (groups : GroupMapState) → Kept s (on_maps s groups)
@@ -147,7 +156,8 @@ kept_maps s groups =
 
 kept_tick : (s : LogState) → Kept s (on_tick s)
 unfolding on_tick
-kept_tick s = elim s.flight as (λ o. Kept s (elim o [ None ↦ still s | Some f ↦ record { state = s; outs = all_sends f } ])) [ None ↦ inl refl | Some f ↦ inl refl ]
+kept_tick s =
+    elim s.flight as (λ o. Kept s (elim o [ None ↦ still s | Some f ↦ record { state = s; outs = all_sends f } ])) [ None ↦ inl refl | Some f ↦ inl refl ]
 
 -- ---- over a history
 
@@ -157,7 +167,9 @@ record Waiting (known : BlockId → Option Change) (dirty : List (BlockId × Cha
 
 waiting_kept : (known : BlockId → Option Change) (t : LogState) (d : Done) → Kept t d → Waiting known t.dirty → Waiting known d.state.dirty
 waiting_kept known t d (inl e) w = subst (Waiting known) (sym e) w
-waiting_kept known t d (inr e) w = subst (Waiting known) (sym e) (record { fresh = all_drop (λ x. known x.0 ≡ Some x.1) segment_blocks t.dirty w.fresh; apart = apart_drop segment_blocks t.dirty w.apart })
+waiting_kept known t d (inr e) w =
+    subst (Waiting known) (sym e)
+    (record { fresh = all_drop (λ x. known x.0 ≡ Some x.1) segment_blocks t.dirty w.fresh; apart = apart_drop segment_blocks t.dirty w.apart })
 
 waiting_put : (b : BlockId) (c : Change) (known : BlockId → Option Change) (s : LogState) → Waiting known s.dirty → Waiting (now b c known) (waits s b c).dirty
 waiting_put b c known s w = record { fresh = fresh_insert b c known s.dirty w.apart w.fresh; apart = apart_insert b c s.dirty w.apart }
@@ -175,15 +187,26 @@ put_waits b c known s w =
 waiting : (start : LogState) → start.dirty ≡ [] → (history : List In) → Waiting (last_put start history) (state_after start history).dirty
 unfolding Apart
 waiting start e [] = subst (Waiting (last_put start [])) (sym e) (record { fresh = tt; apart = tt })
-waiting start e (Put block entry value ∷ earlier) = put_waits block (record { entry = entry; value = value }) (last_put start earlier) (state_after start earlier) (waiting start e earlier)
-waiting start e (Parts items ∷ earlier) = waiting_kept (last_put start earlier) (state_after start earlier) (on_parts (state_after start earlier) items) (kept_parts (state_after start earlier) items) (waiting start e earlier)
-waiting start e (Seal ∷ earlier) = waiting_kept (last_put start earlier) (state_after start earlier) (on_seal (state_after start earlier)) (kept_seal (state_after start earlier)) (waiting start e earlier)
+waiting start e (Put block entry value ∷ earlier) =
+    put_waits block (record { entry = entry; value = value }) (last_put start earlier) (state_after start earlier) (waiting start e earlier)
+waiting start e (Parts items ∷ earlier) =
+    waiting_kept (last_put start earlier) (state_after start earlier) (on_parts (state_after start earlier) items)
+    (kept_parts (state_after start earlier) items) (waiting start e earlier)
+waiting start e (Seal ∷ earlier) =
+    waiting_kept (last_put start earlier) (state_after start earlier) (on_seal (state_after start earlier)) (kept_seal (state_after start earlier))
+    (waiting start e earlier)
 waiting start e (Acked name index generation ∷ earlier) =
-    waiting_kept (last_put start earlier) (state_after start earlier) (on_acked (state_after start earlier) name index generation) (kept_acked (state_after start earlier) name index generation) (waiting start e earlier)
-waiting start e (Maps groups ∷ earlier) = waiting_kept (last_put start earlier) (state_after start earlier) (on_maps (state_after start earlier) groups) (kept_maps (state_after start earlier) groups) (waiting start e earlier)
-waiting start e (Tick ∷ earlier) = waiting_kept (last_put start earlier) (state_after start earlier) (on_tick (state_after start earlier)) (kept_tick (state_after start earlier)) (waiting start e earlier)
+    waiting_kept (last_put start earlier) (state_after start earlier) (on_acked (state_after start earlier) name index generation)
+    (kept_acked (state_after start earlier) name index generation) (waiting start e earlier)
+waiting start e (Maps groups ∷ earlier) =
+    waiting_kept (last_put start earlier) (state_after start earlier) (on_maps (state_after start earlier) groups)
+    (kept_maps (state_after start earlier) groups) (waiting start e earlier)
+waiting start e (Tick ∷ earlier) =
+    waiting_kept (last_put start earlier) (state_after start earlier) (on_tick (state_after start earlier)) (kept_tick (state_after start earlier))
+    (waiting start e earlier)
 
-pub last_waits : (log : LogId) (inc : ℕ) (end : End) (groups : GroupMapState) (history : List In) → AreLastPuts (started log inc end groups) history (state_after (started log inc end groups) history).dirty
+pub last_waits : (log : LogId) (inc : ℕ) (end : End) (groups : GroupMapState) (history : List In)
+    → AreLastPuts (started log inc end groups) history (state_after (started log inc end groups) history).dirty
 last_waits log inc end groups history = (waiting (started log inc end groups) refl history).fresh
 
 -- ---- what is sealed
@@ -210,7 +233,8 @@ module _ (s : LogState) (Held : List Item → Type 0) (same : (items : List Item
   unfolding if_full
   held_if_full t k h = elim (is_full t) as (λ b. Holds (cond b (sealed t) (still t))) [ true ↦ held_sealed t h | false ↦ k ]
 
-  held_looked : (t : LogState) (f g : FlightState) → s.flight ≡ Some f → g.segment.items ≡ f.segment.items → Held (items_of 0 (take segment_blocks t.dirty)) → Holds (looked_at s t g)
+  held_looked : (t : LogState) (f g : FlightState) → s.flight ≡ Some f → g.segment.items ≡ f.segment.items → Held (items_of 0 (take segment_blocks t.dirty))
+      → Holds (looked_at s t g)
   unfolding looked_at restriped launched settled
   held_looked t f g was e h =
       let again : Held g.segment.items = same g.segment.items (record { flight = f; was = was; same = e }) in
@@ -231,7 +255,8 @@ module _ (start : LogState) (empty : start.dirty ≡ []) (history : List In) whe
   known = last_put start history
 
   -- those that wait first, where they are what was put last
-  first_last : (input : In) (dirty : List (BlockId × Change)) → AreLastPuts start (input ∷ history) (take segment_blocks dirty) → HoldsLastPuts start history input (items_of 0 (take segment_blocks dirty))
+  first_last : (input : In) (dirty : List (BlockId × Change)) → AreLastPuts start (input ∷ history) (take segment_blocks dirty)
+      → HoldsLastPuts start history input (items_of 0 (take segment_blocks dirty))
   first_last input dirty h = inr (inr (record { changes = take segment_blocks dirty; last = h; written = refl }))
 
   known_first : Fresh known (take segment_blocks past.dirty)
@@ -240,13 +265,17 @@ module _ (start : LogState) (empty : start.dirty ≡ []) (history : List In) whe
   abbrev Seals : In → Done → Type 0
   Seals input d = IfSome d.state.flight (λ g. HoldsLastPuts start history input g.segment.items)
 
-  seals_put : (input : In) (b : BlockId) (c : Change) → ((can_go_on (waits past b c) ≡ true) → Fresh (now b c known) (take segment_blocks (waits past b c).dirty) → AreLastPuts start (input ∷ history) (take segment_blocks (waits past b c).dirty)) → Seals input (on_put past b c)
+  seals_put : (input : In) (b : BlockId) (c : Change)
+      → ((can_go_on (waits past b c) ≡ true) → Fresh (now b c known) (take segment_blocks (waits past b c).dirty)
+      → AreLastPuts start (input ∷ history) (take segment_blocks (waits past b c).dirty)) → Seals input (on_put past b c)
   unfolding on_put
   seals_put input b c last =
       let t : LogState = waits past b c in
-      let fresh : Fresh (now b c known) (take segment_blocks t.dirty) = all_take (λ x. now b c known x.0 ≡ Some x.1) segment_blocks t.dirty (waiting_put b c known past (waiting start empty history)).fresh in
+      let fresh : Fresh (now b c known) (take segment_blocks t.dirty) =
+      all_take (λ x. now b c known x.0 ≡ Some x.1) segment_blocks t.dirty (waiting_put b c known past (waiting start empty history)).fresh in
       elim (can_go_on t) as (λ g. can_go_on t ≡ g → Seals input (cond g (if_full t) (still past))) [
-        | true ↦ λ e. held_if_full past (HoldsLastPuts start history input) (λ items w. inl w) t (held_still past (HoldsLastPuts start history input) (λ items w. inl w) t refl) (first_last input t.dirty (last e fresh))
+        | true ↦ λ e. held_if_full past (HoldsLastPuts start history input) (λ items w. inl w) t
+            (held_still past (HoldsLastPuts start history input) (λ items w. inl w) t refl) (first_last input t.dirty (last e fresh))
         | false ↦ λ e. held_still past (HoldsLastPuts start history input) (λ items w. inl w) past refl
       ] refl
 
@@ -269,10 +298,13 @@ module _ (start : LogState) (empty : start.dirty ≡ []) (history : List In) whe
   seals_acked name index generation =
       let input : In = Acked name index generation in
       let quiet : Seals input (still past) = held_still past (HoldsLastPuts start history input) (λ items w. inl w) past refl in
-      elim past.flight as (λ o. past.flight ≡ o → Seals input (elim o [ None ↦ still past | Some f ↦ cond (is_of f name index generation) (looked_at past past (noting f index)) (still past) ])) [
+      elim past.flight as
+      (λ o. past.flight ≡ o
+      → Seals input (elim o [ None ↦ still past | Some f ↦ cond (is_of f name index generation) (looked_at past past (noting f index)) (still past) ])) [
         | None ↦ λ e. quiet
         | Some f ↦ λ e. elim (is_of f name index generation) as (λ b. Seals input (cond b (looked_at past past (noting f index)) (still past))) [
-          | true ↦ held_looked past (HoldsLastPuts start history input) (λ items w. inl w) past f (noting f index) e refl (first_last input past.dirty known_first)
+          | true ↦ held_looked past (HoldsLastPuts start history input) (λ items w. inl w) past f (noting f index) e refl
+              (first_last input past.dirty known_first)
           | false ↦ quiet
         ]
       ] refl
@@ -291,11 +323,13 @@ module _ (start : LogState) (empty : start.dirty ≡ []) (history : List In) whe
   unfolding on_tick
   seals_tick =
       let quiet : Seals Tick (still past) = held_still past (HoldsLastPuts start history Tick) (λ items w. inl w) past refl in
-      elim past.flight as (λ o. Seals Tick (elim o [ None ↦ still past | Some f ↦ record { state = past; outs = all_sends f } ])) [ None ↦ quiet | Some f ↦ quiet ]
+      elim past.flight as (λ o. Seals Tick (elim o [ None ↦ still past | Some f ↦ record { state = past; outs = all_sends f } ]))
+      [ None ↦ quiet | Some f ↦ quiet ]
 
   seals : (input : In) → Seals input (transition past input)
   seals (Put block entry value) = seals_put (Put block entry value) block (record { entry = entry; value = value }) (λ e fresh.
-      subst (λ g. AllByRecursion (λ x. cond g (now block (record { entry = entry; value = value }) known x.0) (known x.0) ≡ Some x.1) (take segment_blocks (waits past block (record { entry = entry; value = value })).dirty)) (sym e) fresh)
+      subst (λ g. AllByRecursion (λ x. cond g (now block (record { entry = entry; value = value }) known x.0) (known x.0) ≡ Some x.1)
+      (take segment_blocks (waits past block (record { entry = entry; value = value })).dirty)) (sym e) fresh)
   seals (Parts items) = seals_parts items
   seals Seal = seals_seal
   seals (Acked name index generation) = seals_acked name index generation

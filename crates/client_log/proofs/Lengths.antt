@@ -18,18 +18,25 @@ use Rattle.stripe_code.specs.Stripe.{IsCut, part_of, pieces, parities, stripe_of
 -- ---- a table
 
 -- a key that is there takes no room
-pub length-insert_entry : {K V : Type 0} (eq : K → K → Bool) (k : K) (v : V) (es : List (K × V)) → length (insert_entry eq es k v) ≡ cond (is_some (lookup (eq k) es)) (length es) (length es + 1)
+pub length-insert_entry : {K V : Type 0} (eq : K → K → Bool) (k : K) (v : V) (es : List (K × V))
+    → length (insert_entry eq es k v) ≡ cond (is_some (lookup (eq k) es)) (length es) (length es + 1)
 length-insert_entry eq k v [] = refl
 length-insert_entry eq k v (e ∷ es) =
-    elim (eq k e.0) as (λ b. length (cond b ((e.0, v) ∷ es) (e ∷ insert_entry eq es k v)) ≡ cond (is_some (cond b (Some e.1) (lookup (eq k) es))) (suc (length es)) (suc (length es) + 1)) [
+    elim (eq k e.0) as
+    (λ b. length (cond b ((e.0, v) ∷ es) (e ∷ insert_entry eq es k v)) ≡ cond (is_some (cond b (Some e.1) (lookup (eq k) es))) (suc (length es))
+    (suc (length es) + 1)) [
       | true ↦ refl
-      | false ↦ ap suc (length-insert_entry eq k v es) ∙ elim (is_some (lookup (eq k) es)) as (λ b. suc (cond b (length es) (length es + 1)) ≡ cond b (suc (length es)) (suc (length es) + 1)) [ true ↦ refl | false ↦ omega arith ]
+      | false ↦ ap suc (length-insert_entry eq k v es)
+          ∙ elim (is_some (lookup (eq k) es)) as (λ b. suc (cond b (length es) (length es + 1)) ≡ cond b (suc (length es)) (suc (length es) + 1))
+          [ true ↦ refl | false ↦ omega arith ]
     ]
 
-pub length-insert_present : {K V : Type 0} (eq : K → K → Bool) (k : K) (v : V) (es : List (K × V)) → is_some (lookup (eq k) es) ≡ true → length (insert_entry eq es k v) ≡ length es
+pub length-insert_present : {K V : Type 0} (eq : K → K → Bool) (k : K) (v : V) (es : List (K × V)) → is_some (lookup (eq k) es) ≡ true
+    → length (insert_entry eq es k v) ≡ length es
 length-insert_present eq k v es h = length-insert_entry eq k v es ∙ ap (λ b. cond b (length es) (length es + 1)) h
 
-pub length-insert_absent : {K V : Type 0} (eq : K → K → Bool) (k : K) (v : V) (es : List (K × V)) → is_some (lookup (eq k) es) ≡ false → length (insert_entry eq es k v) ≡ length es + 1
+pub length-insert_absent : {K V : Type 0} (eq : K → K → Bool) (k : K) (v : V) (es : List (K × V)) → is_some (lookup (eq k) es) ≡ false
+    → length (insert_entry eq es k v) ≡ length es + 1
 length-insert_absent eq k v es h = length-insert_entry eq k v es ∙ ap (λ b. cond b (length es) (length es + 1)) h
 
 -- ---- a stripe
@@ -49,7 +56,13 @@ pub length-stripe_of : (text : List ℕ) (n parity : ℕ) → IsCut n parity →
 unfolding stripe_of
 length-stripe_of text n parity c =
     let part : ℕ = part_of (length text) (n - parity) in
-    omega (arith, c.least, length-append (pieces (n - parity) part text) (parities parity part (pieces (n - parity) part text)), length-pieces (n - parity) part text, length-parities n parity part (pieces (n - parity) part text) c)
+    omega (
+      arith,
+      c.least,
+      length-append (pieces (n - parity) part text) (parities parity part (pieces (n - parity) part text)),
+      length-pieces (n - parity) part text,
+      length-parities n parity part (pieces (n - parity) part text) c,
+    )
 
 -- ---- a text
 

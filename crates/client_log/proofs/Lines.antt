@@ -46,9 +46,15 @@ record Goes (s : LogState) (d : Done) : Type 0 where
 goes_still : (s : LogState) → IsInLine s → Goes s (still s)
 goes_still s l = record { line = l; none = refl; ends = refl }
 
-goes_launched : (s : LogState) (name : SegName) (prior : Prior) (items : List Item) → IsNext s (flown name prior items (group_for s.groups s.log.0 name.seq)) → Goes s (launched s name prior items)
+goes_launched : (s : LogState) (name : SegName) (prior : Prior) (items : List Item) → IsNext s (flown name prior items (group_for s.groups s.log.0 name.seq))
+    → Goes s (launched s name prior items)
 unfolding launched
-goes_launched s name prior items n = record { line = record { log = n.log; seq = n.seq; inc = n.inc; prior = n.prior }; none = sends_settle_nothing (flown name prior items (group_for s.groups s.log.0 name.seq)); ends = refl }
+goes_launched s name prior items n =
+    record {
+      line = record { log = n.log; seq = n.seq; inc = n.inc; prior = n.prior };
+      none = sends_settle_nothing (flown name prior items (group_for s.groups s.log.0 name.seq));
+      ends = refl;
+    }
 
 goes_writes : (s : LogState) (items : List Item) → Goes s (writes s items)
 goes_writes s items = goes_launched s (next_name s) (prior_from s.end) items (record { log = refl; seq = refl; inc = refl; prior = refl })
@@ -78,7 +84,9 @@ steps_put : (s : LogState) (block : _) (change : Change) → IsInLine s → Step
 unfolding on_put
 steps_put s block change l =
     let t : LogState = waits s block change in
-    let lt : IsInLine t = elim s.flight as (λ o. IfSome o (IsNext s) → IfSome o (IsNext t)) [ None ↦ λ n. n | Some f ↦ λ n. record { log = n.log; seq = n.seq; inc = n.inc; prior = n.prior } ] l in
+    let lt : IsInLine t =
+    elim s.flight as (λ o. IfSome o (IsNext s) → IfSome o (IsNext t))
+    [ None ↦ λ n. n | Some f ↦ λ n. record { log = n.log; seq = n.seq; inc = n.inc; prior = n.prior } ] l in
     let g : Goes t (if_full t) = goes_if_full t lt in
     elim (can_go_on t) as (λ b. Steps s (cond b (if_full t) (still s))) [
       | true ↦ record { line = g.line; rises = inl (g.none, g.ends) }
@@ -87,16 +95,21 @@ steps_put s block change l =
 
 steps_seal : (s : LogState) → IsInLine s → Steps s (on_seal s)
 unfolding on_seal
-steps_seal s l = elim (is_idle s && nat_lt 0 (length s.dirty) && has_next s.end.seq) as (λ b. Steps s (cond b (sealed s) (still s))) [ true ↦ steps_of s (sealed s) (goes_sealed s) | false ↦ steps_still s l ]
+steps_seal s l =
+    elim (is_idle s && nat_lt 0 (length s.dirty) && has_next s.end.seq) as (λ b. Steps s (cond b (sealed s) (still s)))
+    [ true ↦ steps_of s (sealed s) (goes_sealed s) | false ↦ steps_still s l ]
 
 steps_parts : (s : LogState) (items : List Item) → IsInLine s → Steps s (on_parts s items)
 unfolding on_parts
-steps_parts s items l = elim (is_idle s && has_next s.end.seq && has_text items) as (λ b. Steps s (cond b (writes s items) (still s))) [ true ↦ steps_of s (writes s items) (goes_writes s items) | false ↦ steps_still s l ]
+steps_parts s items l =
+    elim (is_idle s && has_next s.end.seq && has_text items) as (λ b. Steps s (cond b (writes s items) (still s)))
+    [ true ↦ steps_of s (writes s items) (goes_writes s items) | false ↦ steps_still s l ]
 
 -- the groups do not matter to the line
 steps_restriped : (s : LogState) (f : FlightState) → IsNext s f → Goes s (restriped s f)
 unfolding restriped
-steps_restriped s f n = goes_launched s (next_attempt f.segment.name) f.segment.prior f.segment.items (record { log = n.log; seq = n.seq; inc = n.inc; prior = n.prior })
+steps_restriped s f n =
+    goes_launched s (next_attempt f.segment.name) f.segment.prior f.segment.items (record { log = n.log; seq = n.seq; inc = n.inc; prior = n.prior })
 
 steps_settled : (s : LogState) (f : FlightState) → IsNext s f → Steps s (settled s f)
 unfolding settled
@@ -127,7 +140,8 @@ steps_looked before s f e l n =
 steps_acked : (s : LogState) (name : SegName) (index generation : ℕ) → IsInLine s → Steps s (on_acked s name index generation)
 unfolding on_acked
 steps_acked s name index generation l =
-    elim s.flight as (λ o. IfSome o (IsNext s) → Steps s (elim o [ None ↦ still s | Some f ↦ cond (is_of f name index generation) (looked_at s s (noting f index)) (still s) ])) [
+    elim s.flight as
+    (λ o. IfSome o (IsNext s) → Steps s (elim o [ None ↦ still s | Some f ↦ cond (is_of f name index generation) (looked_at s s (noting f index)) (still s) ])) [
       | None ↦ λ m. steps_still s l
       | Some f ↦ λ m. elim (is_of f name index generation) as (λ b. Steps s (cond b (looked_at s s (noting f index)) (still s))) [
         | true ↦ steps_looked s s (noting f index) refl l (record { log = m.log; seq = m.seq; inc = m.inc; prior = m.prior })
@@ -164,5 +178,6 @@ pub in_line : (log : LogId) (inc : ℕ) (end : End) (groups : GroupMapState) (hi
 in_line log inc end groups [] = tt
 in_line log inc end groups (input ∷ earlier) = (step (state_after (started log inc end groups) earlier) input (in_line log inc end groups earlier)).line
 
-pub rises_by_one : (log : LogId) (inc : ℕ) (end : End) (groups : GroupMapState) (history : List In) (input : In) → EndRisesByOne (state_after (started log inc end groups) history) (transition (state_after (started log inc end groups) history) input)
+pub rises_by_one : (log : LogId) (inc : ℕ) (end : End) (groups : GroupMapState) (history : List In) (input : In)
+    → EndRisesByOne (state_after (started log inc end groups) history) (transition (state_after (started log inc end groups) history) input)
 rises_by_one log inc end groups history input = (step (state_after (started log inc end groups) history) input (in_line log inc end groups history)).rises

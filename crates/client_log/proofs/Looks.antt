@@ -25,7 +25,8 @@ can_follow-grounded s f index Restripe = refl
 can_follow-grounded s f index Settle = refl
 can_follow-grounded s f index Wait = refl
 
-can_follow-groups : (s : LogState) (groups : GroupMapState) (f : FlightState) (fate : Fate) → can_follow (grounded s) f fate ≡ can_follow (record s { groups = groups }) f fate
+can_follow-groups : (s : LogState) (groups : GroupMapState) (f : FlightState) (fate : Fate)
+    → can_follow (grounded s) f fate ≡ can_follow (record s { groups = groups }) f fate
 can_follow-groups s groups f Restripe = refl
 can_follow-groups s groups f Settle = refl
 can_follow-groups s groups f Wait = refl
@@ -38,7 +39,8 @@ module _ (s : LogState) (f : FlightState) (was : s.flight ≡ Some f) where
         ap (λ o. elim o [ None ↦ still s | Some g ↦ cond (is_of g name index generation) (looked_at s s (noting g index)) (still s) ]) was
         ∙ ap (λ b. cond b (looked_at s s (noting f index)) (still s)) of
 
-    pub acked_goes : (fate : Fate) → fate ≡ fate_of s.groups (noting f index) → can_follow (grounded s) f fate ≡ true → on_acked s name index generation ≡ followed (grounded s) (noting f index) fate
+    pub acked_goes : (fate : Fate) → fate ≡ fate_of s.groups (noting f index) → can_follow (grounded s) f fate ≡ true
+        → on_acked s name index generation ≡ followed (grounded s) (noting f index) fate
     unfolding looked_at
     acked_goes fate e can =
         acked_looks
@@ -46,14 +48,16 @@ module _ (s : LogState) (f : FlightState) (was : s.flight ≡ Some f) where
         ∙ ap (λ b. cond b (followed s (noting f index) fate) (still s)) (sym (can_follow-grounded s f index fate) ∙ can)
         ∙ sym (followed-grounded s (noting f index) fate)
 
-    pub acked_stays : (fate : Fate) → fate ≡ fate_of s.groups (noting f index) → can_follow (grounded s) f fate ≡ false → on_acked s name index generation ≡ still s
+    pub acked_stays : (fate : Fate) → fate ≡ fate_of s.groups (noting f index) → can_follow (grounded s) f fate ≡ false
+        → on_acked s name index generation ≡ still s
     unfolding looked_at
     acked_stays fate e can =
         acked_looks
         ∙ ap (λ x. cond (can_follow s (noting f index) x) (followed s (noting f index) x) (still s)) (sym e)
         ∙ ap (λ b. cond b (followed s (noting f index) fate) (still s)) (sym (can_follow-grounded s f index fate) ∙ can)
 
-  pub maps_goes : (groups : GroupMapState) (fate : Fate) → fate ≡ fate_of groups f → can_follow (grounded s) f fate ≡ true → on_maps s groups ≡ followed (record (grounded s) { groups = groups }) f fate
+  pub maps_goes : (groups : GroupMapState) (fate : Fate) → fate ≡ fate_of groups f → can_follow (grounded s) f fate ≡ true
+      → on_maps s groups ≡ followed (record (grounded s) { groups = groups }) f fate
   unfolding on_maps looked_at
   maps_goes groups fate e can =
       let t : LogState = record s { groups = groups } in

@@ -61,24 +61,28 @@ module _ (s : LogState) (input : In) where
 
   tell_seal : Tell (on_seal s).outs
   unfolding on_seal
-  tell_seal = elim (is_idle s && nat_lt 0 (length s.dirty) && has_next s.end.seq) as (λ b. Tell (cond b (sealed s) (still s)).outs) [ true ↦ tell_sealed s | false ↦ tt ]
+  tell_seal = elim (is_idle s && nat_lt 0 (length s.dirty) && has_next s.end.seq) as (λ b. Tell (cond b (sealed s) (still s)).outs)
+      [ true ↦ tell_sealed s | false ↦ tt ]
 
   tell_parts : (items : List Item) → Tell (on_parts s items).outs
   unfolding on_parts
   tell_parts items =
-      elim (is_idle s && has_next s.end.seq && has_text items) as (λ b. Tell (cond b (writes s items) (still s)).outs) [ true ↦ tell_launched s (next_name s) (prior_from s.end) items | false ↦ tt ]
+      elim (is_idle s && has_next s.end.seq && has_text items) as (λ b. Tell (cond b (writes s items) (still s)).outs)
+      [ true ↦ tell_launched s (next_name s) (prior_from s.end) items | false ↦ tt ]
 
   tell_settled : (t : LogState) (g : FlightState) → IsDue s input (end_from g.segment) (rows_of g.segment) → Tell (settled t g).outs
   unfolding settled
   tell_settled t g due = (due, tell_if_full (landed t g))
 
-  tell_followed : (t : LogState) (g : FlightState) (fate : Fate) → (fate ≡ Settle → IsDue s input (end_from g.segment) (rows_of g.segment)) → Tell (followed t g fate).outs
+  tell_followed : (t : LogState) (g : FlightState) (fate : Fate) → (fate ≡ Settle → IsDue s input (end_from g.segment) (rows_of g.segment))
+      → Tell (followed t g fate).outs
   unfolding restriped
   tell_followed t g Restripe due = tell_launched t (next_attempt g.segment.name) g.segment.prior g.segment.items
   tell_followed t g Settle due = tell_settled t g (due refl)
   tell_followed t g Wait due = tt
 
-  tell_looked : (before t : LogState) (g : FlightState) → (fate_of t.groups g ≡ Settle → IsDue s input (end_from g.segment) (rows_of g.segment)) → Tell (looked_at before t g).outs
+  tell_looked : (before t : LogState) (g : FlightState) → (fate_of t.groups g ≡ Settle → IsDue s input (end_from g.segment) (rows_of g.segment))
+      → Tell (looked_at before t g).outs
   unfolding looked_at
   tell_looked before t g due =
       elim (can_follow t g (fate_of t.groups g)) as (λ b. Tell (cond b (followed t g (fate_of t.groups g)) (still before)).outs) [
@@ -93,12 +97,17 @@ TellStep s input d = Tell s input d.outs
 tell_acked : (s : LogState) (name : SegName) (index generation : ℕ) → Tell s (Acked name index generation) (on_acked s name index generation).outs
 unfolding on_acked
 tell_acked s name index generation =
-    elim s.flight as (λ o. s.flight ≡ o → TellStep s (Acked name index generation) (elim o [ None ↦ still s | Some f ↦ cond (is_of f name index generation) (looked_at s s (noting f index)) (still s) ])) [
+    elim s.flight as
+    (λ o. s.flight ≡ o
+    → TellStep s (Acked name index generation)
+    (elim o [ None ↦ still s | Some f ↦ cond (is_of f name index generation) (looked_at s s (noting f index)) (still s) ])) [
       | None ↦ λ e. tt
-      | Some f ↦ λ e. elim (is_of f name index generation) as (λ b. Tell s (Acked name index generation) (cond b (looked_at s s (noting f index)) (still s)).outs) [
-        | true ↦ tell_looked s (Acked name index generation) s s (noting f index) (λ due. record { flight = f; was = e; is_end = refl; are_rows = refl; due = due })
-        | false ↦ tt
-      ]
+      | Some f ↦ λ e. elim (is_of f name index generation) as
+          (λ b. Tell s (Acked name index generation) (cond b (looked_at s s (noting f index)) (still s)).outs) [
+            | true ↦ tell_looked s (Acked name index generation) s s (noting f index)
+                (λ due. record { flight = f; was = e; is_end = refl; are_rows = refl; due = due })
+            | false ↦ tt
+          ]
     ] refl
 
 tell_maps : (s : LogState) (groups : GroupMapState) → Tell s (Maps groups) (on_maps s groups).outs
@@ -112,7 +121,9 @@ tell_maps s groups =
 
 tell_tick : (s : LogState) → Tell s Tick (on_tick s).outs
 unfolding on_tick all_sends
-tell_tick s = elim s.flight as (λ o. TellStep s Tick (elim o [ None ↦ still s | Some f ↦ record { state = s; outs = all_sends f } ])) [ None ↦ tt | Some f ↦ tell_sends s Tick f f.group.members 0 ]
+tell_tick s =
+    elim s.flight as (λ o. TellStep s Tick (elim o [ None ↦ still s | Some f ↦ record { state = s; outs = all_sends f } ]))
+    [ None ↦ tt | Some f ↦ tell_sends s Tick f f.group.members 0 ]
 
 pub tells_due : (s : LogState) (input : In) → AllByRecursion (TellsWhatIsDue s input) (transition s input).outs
 tells_due s (Put block entry value) = tell_put s (Put block entry value) block (record { entry = entry; value = value })

@@ -1,5 +1,5 @@
 //! What waits to be written, in the order of the first change.
-ghost use Rattle.std.specs.Prelude.{◌≡◌, [], take, drop, length, OnOk, IfOk, if◌then◌else◌};
+ghost use Rattle.std.specs.Prelude.{◌≡◌, ◌++◌, [], take, drop, length, OnOk, IfOk, if◌then◌else◌};
 ghost use Rattle.indexmap.specs.IndexMap.{insert_entry};
 ghost use Rattle.xfs_base.specs.Blocks.{same_block};
 ghost use Rattle.xfs_base.specs.Limits.{segment_blocks};
@@ -92,8 +92,15 @@ fn listed(alloc: Global, changes: IndexMap<BlockId, Change>) -> Mem<List<(BlockI
     ensures { IfOk result (λ listed. listed ≡ changes.entries) }
 {
     let mut blocks = List::new(alloc);
+    add_listed(&mut blocks, changes)?;
+    Ok(blocks)
+}
+
+fn add_listed(blocks: &mut List<(BlockId, Change)>, changes: IndexMap<BlockId, Change>) -> Mem<()>
+    ensures { OnOk result (blocks.new ≡ blocks.old ++ changes.entries) }
+{
     for (block, change) in changes {
         blocks.push((block, change))?;
     }
-    Ok(blocks)
+    Ok(())
 }

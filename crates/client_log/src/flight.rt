@@ -17,7 +17,7 @@ use std::marker::Model;
 use xfs_base::{Fragment, List, Mem, SegName};
 
 /// What becomes of a segment in flight.
-#[derive(Clone, Copy, Debug, PartialEq, Eq)]
+#[derive(Clone, Copy)]
 pub enum Fate {
     /// More of its members are lost than its group has parity: it is striped anew.
     Restripe,

@@ -4,7 +4,7 @@ ghost use Rattle.xfs_base.specs.Limits.{u32_end};
 ghost use Rattle.segment_format.specs.Format.{IsLog};
 ghost use Rattle.stripe_code.specs.Stripe.{IsCut};
 ghost use Rattle.client_log.specs.Texts.{HasText};
-ghost use Rattle.client_log.specs.Transition.{group_for, launched, writes, sealed, if_full, can_go_on, landed_at, can_follow, followed, settled, restriped, next_attempt, end_from, on_put, on_seal, on_parts, on_acked, on_maps, on_tick};
+ghost use Rattle.client_log.specs.Transition.{group_for, launched, writes, sealed, if_full, can_go_on, is_full, waits, landed_at, can_follow, followed, settled, restriped, next_attempt, end_from, on_put, on_seal, on_parts, on_acked, on_maps, on_tick};
 
 use crate::flight::{Fate, Flight};
 use crate::items::items_of;
@@ -17,7 +17,7 @@ use xfs_base::limits::SEGMENT_BLOCKS;
 use xfs_base::{BlockId, End, List, LogId, Mem, Pass, Prior, SegName};
 
 impl Log {
-    #[tactic(auto, unfolding(crate::specs::Transition::on_put, crate::specs::Transition::if_full))]
+    #[tactic(auto, unfolding(crate::specs::Transition::on_put))]
     pub(crate) fn on_put(
         &mut self,
         alloc: Global,
@@ -28,16 +28,20 @@ impl Log {
         ensures state { OnOk result (self.new ≡ (on_put self.old block change).state) }
         ensures outs { OnOk result (outs.new ≡ outs.old ++ (on_put self.old block change).outs) }
     {
-        let count = self.dirty.len_with(block, &change);
-        let is_full = self.flight.is_none() && SEGMENT_BLOCKS <= count;
-        if is_full && self.end.seq == u32::MAX {
+        if !self.can_put(block, &change) {
             return Ok(());
         }
         self.dirty.put(block, change)?;
-        if is_full {
-            self.seal(alloc, outs)?;
-        }
-        Ok(())
+        self.go_on(alloc, outs)
+    }
+
+    // Whether no number is at its end that rises once this waits.
+    fn can_put(&self, block: BlockId, change: &Change) -> bool
+        ensures { result ≡ can_go_on (waits self.now block change.now) }
+    {
+        let count = self.dirty.len_with(block, change);
+        let is_full = self.flight.is_none() && SEGMENT_BLOCKS <= count;
+        !is_full || self.end.seq < u32::MAX
     }
 
     #[tactic(auto, unfolding(crate::specs::Transition::on_seal))]
@@ -190,7 +194,6 @@ impl Log {
     }
 
     // Nothing is in flight behind this end.
-    #[tactic(auto, unfolding(crate::specs::Transition::if_full))]
     fn land(&mut self, alloc: Global, outs: &mut List<Out>, end: End) -> Mem<()>
         requires { IsTrue (can_go_on (landed_at self.old end)) }
         ensures state { OnOk result (self.new ≡ (if_full (landed_at self.old end)).state) }
@@ -198,10 +201,27 @@ impl Log {
     {
         self.end = end;
         self.flight = None;
-        if SEGMENT_BLOCKS <= self.dirty.len() {
-            self.seal(alloc, outs)?;
+        self.go_on(alloc, outs)
+    }
+
+    // A full log is sealed.
+    #[tactic(auto, unfolding(crate::specs::Transition::if_full))]
+    fn go_on(&mut self, alloc: Global, outs: &mut List<Out>) -> Mem<()>
+        requires { IsTrue (can_go_on self.old) }
+        ensures state { OnOk result (self.new ≡ (if_full self.old).state) }
+        ensures outs { OnOk result (outs.new ≡ outs.old ++ (if_full self.old).outs) }
+    {
+        if !self.is_full() {
+            return Ok(());
         }
-        Ok(())
+        self.seal(alloc, outs)
+    }
+
+    // Whether as many wait as a segment takes, and none is in flight.
+    fn is_full(&self) -> bool
+        ensures { result ≡ is_full self.now }
+    {
+        self.flight.is_none() && SEGMENT_BLOCKS <= self.dirty.len()
     }
 
     // The blocks that wait first are written.

@@ -6,7 +6,7 @@ use xfs_base::{Crosses, Ino};
 
 /// What an index number is of (the 1996 paper, "File Directories and Index Numbers": directories are
 /// ordinary files that map names to index numbers).
-#[derive(Clone, Copy, Debug, PartialEq, Eq)]
+#[derive(Clone, Copy)]
 pub enum Kind {
     /// A file.
     File,
@@ -15,7 +15,7 @@ pub enum Kind {
 }
 
 /// What a name leads to: a file or a directory, by its index number.
-#[derive(Clone, Copy, Debug, PartialEq, Eq)]
+#[derive(Clone, Copy)]
 pub struct Node {
     /// Which of both it is.
     pub kind: Kind,

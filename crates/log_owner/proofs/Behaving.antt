@@ -55,7 +55,8 @@ all_append P [] ys all more = more
 all_append P (x ∷ xs) ys all more = (all.0, all_append P xs ys all.1 more)
 
 -- what holds of the outs of each step holds of those of all
-all_steps : {S O A : Type 0} (step : S → A → Stepped S O) (P : O → Type 0) → ((s : S) (x : A) → AllByRecursion P (step s x).outs) → (s : S) (xs : List A) → AllByRecursion P (steps step s xs).outs
+all_steps : {S O A : Type 0} (step : S → A → Stepped S O) (P : O → Type 0) → ((s : S) (x : A) → AllByRecursion P (step s x).outs) → (s : S) (xs : List A)
+    → AllByRecursion P (steps step s xs).outs
 all_steps step P each s [] = tt
 all_steps step P each s (x ∷ xs) = all_append P (step s x).outs (steps step (step s x).state xs).outs (each s x) (all_steps step P each (step s x).state xs)
 
@@ -102,7 +103,8 @@ open_so k s (Some end) = record { does = all_append (MayDo k.owner) (map filed s
 log_so : (k : Known) (s : Settling) (r : Stepped LogState LogOut) → Moves k.owner (logged k s r)
 log_so k s r =
     let w : Stepped (Option End) Effect = written r.outs in
-    moves_after k.owner w.outs (opens k (record s { log = r.state }) w.state) (all_steps wrote_one (MayDo k.owner) (may_be_written k.owner) None r.outs) (open_so k (record s { log = r.state }) w.state)
+    moves_after k.owner w.outs (opens k (record s { log = r.state }) w.state) (all_steps wrote_one (MayDo k.owner) (may_be_written k.owner) None r.outs)
+    (open_so k (record s { log = r.state }) w.state)
 
 write_so : (k : Known) (s : Settling) (i : LogIn) → Moves k.owner (writes k s i)
 unfolding writes
@@ -130,7 +132,8 @@ step_so k q s r =
     let next : Scanning = record { scan = r.state; asked = sent.state.asked } in
     asked_so k.owner sent.state.questions (after sent.outs (follows k next sent.state.ended))
     (moves_after k.owner sent.outs (follows k next sent.state.ended)
-    (all_steps (said k.owner r.state.opening.low) (MayDo k.owner) (may_be_said k.owner r.state.opening.low) (record { asked = s.asked; questions = q; ended = None }) r.outs)
+    (all_steps (said k.owner r.state.opening.low) (MayDo k.owner) (may_be_said k.owner r.state.opening.low)
+    (record { asked = s.asked; questions = q; ended = None }) r.outs)
     (follow_so k next sent.state.ended))
 
 scan_so : (k : Known) (q : Questions) (s : Scanning) (i : In) → Behaves k.owner (scans_on k q s i)
@@ -143,7 +146,8 @@ scan_at_so k q i (stage.Settling s) = record { does = tt; stays_its = refl }
 
 -- ---- the events
 
-hear_so : (k : Known) (q : Questions) (s : Scanning) (news : News) (own : ℕ) (groups : Option GroupMapState) → Behaves k.owner (welcomed_with k q s news own groups)
+hear_so : (k : Known) (q : Questions) (s : Scanning) (news : News) (own : ℕ) (groups : Option GroupMapState)
+    → Behaves k.owner (welcomed_with k q s news own groups)
 hear_so k q s news own None = record { does = tt; stays_its = refl }
 hear_so k q s news own (Some groups) = scan_so _ q _ (input.Welcome own news.slots groups)
 
@@ -158,7 +162,8 @@ welcome_so o q w = by_stage o.stage
   where
     by_stage : (at : Stage) → Behaves o.known.owner (on_welcome (record o { stage = at }) q w)
     by_stage (stage.Scanning s) =
-        by_test (λ (x : Went). Behaves o.known.owner x) (is_meant o.known w) (welcomed_as o.known q s w.news (own_of s.asked w.ask)) (record { progress = at_scan o.known s; questions = q; effects = [] })
+        by_test (λ (x : Went). Behaves o.known.owner x) (is_meant o.known w) (welcomed_as o.known q s w.news (own_of s.asked w.ask))
+        (record { progress = at_scan o.known s; questions = q; effects = [] })
         (λ t. welcomed_so o.known q s w.news (own_of s.asked w.ask))
         (λ t. record { does = tt; stays_its = refl })
     by_stage (stage.Settling s) = record { does = tt; stays_its = refl }
@@ -175,7 +180,8 @@ news_so o q news =
     (λ t. regroup_so newer q news.groups o.stage)
     (λ t. dropped o q)
 
-by_server_so : (o : Opening) (q : Questions) (f : ℕ → Went) (server : Option ℕ) → ((n : ℕ) → Behaves o.known.owner (f n)) → Behaves o.known.owner (by_server o q f server)
+by_server_so : (o : Opening) (q : Questions) (f : ℕ → Went) (server : Option ℕ) → ((n : ℕ) → Behaves o.known.owner (f n))
+    → Behaves o.known.owner (by_server o q f server)
 by_server_so o q f None each = dropped o q
 by_server_so o q f (Some server) each = each server
 
@@ -215,8 +221,10 @@ unfolding on_body on_fenced on_found on_missing
 body_so o q from (body.Welcome w) = welcome_so o q w
 body_so o q from (body.MapNews news) = news_so o q news
 body_so o q from (body.Fenced f) = by_server_so o q (fenced_by o q f) (server_in from) (fenced_so o q f)
-body_so o q from (body.Fragment f) = by_server_so o q (found_by o q f) (server_in from) (λ n. answer_so o q (λ own. input.Got own n f.generation f.fragment) (own_in o.stage f.ask))
-body_so o q from (body.Missing m) = by_server_so o q (missing_by o q m) (server_in from) (λ n. answer_so o q (λ own. input.Missing own n m.generation) (own_in o.stage m.ask))
+body_so o q from (body.Fragment f) =
+    by_server_so o q (found_by o q f) (server_in from) (λ n. answer_so o q (λ own. input.Got own n f.generation f.fragment) (own_in o.stage f.ask))
+body_so o q from (body.Missing m) =
+    by_server_so o q (missing_by o q m) (server_in from) (λ n. answer_so o q (λ own. input.Missing own n m.generation) (own_in o.stage m.ask))
 body_so o q from (body.Stored s) = stored_so o q s
 body_so o q from (body.Want b) = dropped o q
 body_so o q from (body.Grant b) = dropped o q

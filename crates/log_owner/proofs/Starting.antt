@@ -22,7 +22,8 @@ first_said owner q =
       outs = hello owner.inc (next_ask q) ∷ [];
     }
 
-said_at_tick : (owner : Owner) (low : ℕ) (q : Questions) → scanned owner low nothing_asked q (transition (started owner.log owner.inc) Tick).outs ≡ first_said owner q
+said_at_tick : (owner : Owner) (low : ℕ) (q : Questions)
+    → scanned owner low nothing_asked q (transition (started owner.log owner.inc) Tick).outs ≡ first_said owner q
 unfolding said on_tick
 said_at_tick owner low q = refl
 

@@ -1,12 +1,14 @@
 //! What a scan has its node send, and how it ends.
-ghost use Rattle.std.specs.Prelude.{◌≡◌, ◌++◌, ◌∷◌, [], IfOk, OnOk};
+ghost use Rattle.std.specs.Prelude.{◌≡◌, ◌++◌, ◌∷◌, [], IfOk, OnOk, Some};
 ghost use Rattle.log_owner.specs.Opening.{said, scanned};
 ghost use Rattle.log_owner.specs.Sending.{fetch, fence_pass, fence};
+ghost use Rattle.xfs_base.specs.Steps.{steps};
 
 use crate::sending::send_hello;
 use log_scan::Out;
 use node_base::{Asked, Effects, Questions};
 use segment_format::Segment;
+use std::mem;
 use wire_msg::{Body, Fence, Fetch};
 use xfs_base::{End, List, LogId, Mem, NodeId, Pass, SegName};
 
@@ -79,14 +81,21 @@ impl Sent {
                 send_fetch(effects, server, name, ask)
             }
             Out::Chain { segments, end, .. } => {
-                self.ended = Some(Ended::Found(Chain { segments, end, low }));
+                self.end(Ended::Found(Chain { segments, end, low }));
                 Ok(())
             }
             Out::Lost { name } => {
-                self.ended = Some(Ended::Lost(name));
+                self.end(Ended::Lost(name));
                 Ok(())
             }
         }
+    }
+
+    // The scan ends so.
+    fn end(&mut self, ended: Ended)
+        ensures { self.new ≡ record self.old { ended = Some ended } }
+    {
+        drop(mem::replace(&mut self.ended, Some(ended)));
     }
 }
 
@@ -107,10 +116,29 @@ pub(crate) fn send_scanned(
         questions,
         ended: None,
     };
+    match send_outs(effects, owner, low, &mut sent, outs) {
+        Ok(()) => Ok(sent),
+        Err(error) => {
+            drop(sent);
+            Err(error)
+        }
+    }
+}
+
+fn send_outs(
+    effects: &mut Effects,
+    owner: Owner,
+    low: u32,
+    sent: &mut Sent,
+    outs: List<Out>,
+) -> Mem<()>
+    ensures state { OnOk result (sent.new ≡ (steps (said owner low) sent.old outs).state) }
+    ensures effects { OnOk result (effects.new ≡ effects.old ++ (steps (said owner low) sent.old outs).outs) }
+{
     for out in outs.into_vec() {
         sent.send(effects, owner, low, out)?;
     }
-    Ok(sent)
+    Ok(())
 }
 
 fn send_fence(effects: &mut Effects, owner: Owner, server: u8) -> Mem<()>

@@ -2,6 +2,8 @@
 ghost use Rattle.std.specs.Prelude.{◌≡◌, ◌++◌, IfOk, OnOk};
 ghost use Rattle.log_owner.specs.Opening.{scans, own_in, on_welcome, on_news, regrouped, on_fenced, fenced_by, is_fenced, on_found, found_by, on_missing, missing_by, on_stored};
 ghost use Rattle.log_owner.specs.Sending.{server_in};
+ghost use Rattle.log_scan.specs.declared.input.In.TheVariants.{Got};
+ghost use Rattle.node_base.specs.Maps.{taken};
 
 use crate::known::Known;
 use crate::opening::Stage;
@@ -54,9 +56,14 @@ impl Opening {
             return Ok(Progress::Opening(self));
         }
         let Opening { mut known, stage } = self;
-        let _newer = known.maps.take(alloc, news)?;
-        let groups = news.groups.copy(alloc)?;
-        known.regroup(alloc, effects, questions, stage, groups)
+        match known.regroup_maps(alloc, news) {
+            Ok(groups) => known.regroup(alloc, effects, questions, stage, groups),
+            Err(error) => {
+                drop(known);
+                drop(stage);
+                Err(error)
+            }
+        }
     }
 
     /// What a server holds of the log, in answer to the fence of this incarnation.
@@ -94,12 +101,21 @@ impl Opening {
         if !self.is_fenced(fenced) {
             return Ok(Progress::Opening(self));
         }
-        let input = In::Fenced {
-            server,
-            generation: fenced.generation,
-            held: fenced.held.copy(alloc)?,
-        };
-        self.scan(alloc, effects, questions, input)
+        let generation = fenced.generation;
+        match fenced.held.copy(alloc) {
+            Ok(held) => {
+                let input = In::Fenced {
+                    server,
+                    generation,
+                    held,
+                };
+                self.scan(alloc, effects, questions, input)
+            }
+            Err(error) => {
+                drop(self);
+                Err(error)
+            }
+        }
     }
 
     fn is_fenced(&self, fenced: &Fenced) -> bool
@@ -142,14 +158,38 @@ impl Opening {
     {
         match self.own(found.ask) {
             None => Ok(Progress::Opening(self)),
-            Some(ask) => {
+            Some(ask) => self.found(alloc, effects, questions, server, ask, found),
+        }
+    }
+
+    // The scan gets the fragment that it awaits.
+    fn found(
+        self,
+        alloc: Global,
+        effects: &mut Effects,
+        questions: &mut Questions,
+        server: u8,
+        ask: u32,
+        found: &Found,
+    ) -> Mem<Progress>
+        ensures progress { IfOk result (λ progress. progress ≡ (scans self questions.old (Got ask server found.now.generation found.now.fragment)).progress) }
+        ensures questions { OnOk result (questions.new ≡ (scans self questions.old (Got ask server found.now.generation found.now.fragment)).questions) }
+        ensures effects { OnOk result (effects.new ≡ effects.old ++ (scans self questions.old (Got ask server found.now.generation found.now.fragment)).effects) }
+    {
+        let generation = found.generation;
+        match found.fragment.copy(alloc) {
+            Ok(fragment) => {
                 let input = In::Got {
                     ask,
                     server,
-                    generation: found.generation,
-                    fragment: found.fragment.copy(alloc)?,
+                    generation,
+                    fragment,
                 };
                 self.scan(alloc, effects, questions, input)
+            }
+            Err(error) => {
+                drop(self);
+                Err(error)
             }
         }
     }
@@ -257,6 +297,15 @@ impl Opening {
 }
 
 impl Known {
+    // The groups of newer maps are taken; a copy of them.
+    fn regroup_maps(&mut self, alloc: Global, news: &News) -> Mem<GroupMap>
+        ensures known { OnOk result (self.new ≡ record self.old { maps = taken self.old.maps news.now }) }
+        ensures groups { IfOk result (λ groups. groups ≡ news.now.groups) }
+    {
+        let _newer = self.maps.take(alloc, news)?;
+        news.groups.copy(alloc)
+    }
+
     // The scan, or the log, takes newer groups.
     fn regroup(
         self,

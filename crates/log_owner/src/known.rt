@@ -1,7 +1,14 @@
 //! What an opening knows, and how it goes on from stage to stage.
-ghost use Rattle.std.specs.Prelude.{◌≡◌, ◌++◌, IfOk, OnOk};
-ghost use Rattle.log_owner.specs.Opening.{at_scan, at_log, opens, opened, writes, wrote_one, written, starts_log, settles, follows, scans_on, welcomed, welcomed_in, is_meant};
-ghost use Rattle.log_owner.specs.Opened.{files};
+ghost use Rattle.std.specs.Prelude.{◌≡◌, ◌++◌, [], IfOk, OnOk};
+ghost use Rattle.log_owner.specs.Opening.{at_scan, at_log, behind, nothing_asked, opens, opened, writes, wrote_one, written, scanned, starts_log, settles, follows, scans_on, welcomed, welcomed_in, is_meant};
+ghost use Rattle.log_owner.specs.Opened.{feed_of, files, names_in};
+ghost use Rattle.log_owner.specs.Promised.{promised_in};
+ghost use Rattle.client_log.specs.declared.input.In.TheVariants.{Parts};
+ghost use Rattle.client_log.specs.Transition as log_steps;
+ghost use Rattle.log_scan.specs.declared.input.In.TheVariants.{Welcome as Hears};
+ghost use Rattle.log_scan.specs.Transition as scan_steps;
+ghost use Rattle.node_base.specs.Maps.{taken};
+ghost use Rattle.segment_format.specs.Format.{IsLog};
 
 use crate::ended::{Chain, Ended, Sent, send_scanned};
 use crate::opened::{feed_of, file_all, names_in};
@@ -9,12 +16,14 @@ use crate::opening::{Scanning, Settling, Stage};
 use crate::sending::send_store;
 use crate::{Opened, Opening, Owner, Progress, Promised};
 use client_log::{In as LogIn, Log, Out};
+use delta_feed::Feed;
 use group_map::GroupMap;
-use log_scan::In;
+use log_scan::{In, Scan};
 use node_base::{Asked, Effects, Maps, Questions};
+use segment_format::Segment;
 use std::alloc::Global;
 use wire_msg::{News, Welcome};
-use xfs_base::{End, List, Mem, copy_each};
+use xfs_base::{End, List, LogId, Mem, SegName, copy_each};
 
 /// What an opening knows at each stage.
 #[derive(Drop)]
@@ -93,21 +102,60 @@ impl Known {
         ensures effects { OnOk result (effects.new ≡ effects.old ++ (welcomed self questions.old scanning news.now own).effects) }
     {
         let mut known = self;
-        let _newer = known.maps.take(alloc, news)?;
-        match known.maps.copy_groups(alloc)? {
-            None => Ok(known.scanning(scanning)),
-            Some(groups) => {
+        match known.take_maps(alloc, news) {
+            Ok(None) => Ok(known.scanning(scanning)),
+            Ok(Some(groups)) => {
                 known.promised = Promised::of(news.slots.as_slice());
+                known.hear_slots(alloc, effects, questions, scanning, news, own, groups)
+            }
+            Err(error) => {
+                drop(known);
+                drop(scanning);
+                Err(error)
+            }
+        }
+    }
+
+    // Takes the maps of news; a copy of the groups that are known then.
+    fn take_maps(&mut self, alloc: Global, news: &News) -> Mem<Option<GroupMap>>
+        ensures known { OnOk result (self.new ≡ record self.old { maps = taken self.old.maps news.now }) }
+        ensures groups { IfOk result (λ groups. groups ≡ (taken self.old.maps news.now).groups) }
+    {
+        let _newer = self.maps.take(alloc, news)?;
+        self.maps.copy_groups(alloc)
+    }
+
+    // The scan hears what the maps say of slots, and their groups.
+    fn hear_slots(
+        self,
+        alloc: Global,
+        effects: &mut Effects,
+        questions: &mut Questions,
+        scanning: Scanning,
+        news: &News,
+        own: u32,
+        groups: GroupMap,
+    ) -> Mem<Progress>
+        ensures progress { IfOk result (λ progress. progress ≡ (scans_on self questions.old (record scanning { asked = nothing_asked }) (Hears own news.now.slots groups)).progress) }
+        ensures questions { OnOk result (questions.new ≡ (scans_on self questions.old (record scanning { asked = nothing_asked }) (Hears own news.now.slots groups)).questions) }
+        ensures effects { OnOk result (effects.new ≡ effects.old ++ (scans_on self questions.old (record scanning { asked = nothing_asked }) (Hears own news.now.slots groups)).effects) }
+    {
+        let mut scanning = scanning;
+        scanning.asked = Asked::new();
+        match copy_each(alloc, &news.slots) {
+            Ok(news) => {
                 let input = In::Welcome {
                     ask: own,
-                    news: copy_each(alloc, &news.slots)?,
+                    news,
                     groups,
                 };
-                let answered = Scanning {
-                    scan: scanning.scan,
-                    asked: Asked::new(),
-                };
-                known.scan(alloc, effects, questions, answered, input)
+                self.scan(alloc, effects, questions, scanning, input)
+            }
+            Err(error) => {
+                drop(self);
+                drop(scanning);
+                drop(groups);
+                Err(error)
             }
         }
     }
@@ -127,14 +175,24 @@ impl Known {
         ensures effects { OnOk result (effects.new ≡ effects.old ++ (scans_on self questions.old scanning input).effects) }
     {
         let Scanning { mut scan, asked } = scanning;
-        let outs = scan.take(alloc, input)?;
-        let Sent {
-            asked,
-            questions: left,
-            ended,
-        } = send_scanned(effects, self.owner, scan.low(), asked, *questions, outs)?;
-        *questions = left;
-        self.follow(alloc, effects, Scanning { scan, asked }, ended)
+        match scan_one(
+            alloc, effects, self.owner, &mut scan, asked, *questions, input,
+        ) {
+            Ok(sent) => {
+                let Sent {
+                    asked,
+                    questions: left,
+                    ended,
+                } = sent;
+                *questions = left;
+                self.follow(alloc, effects, Scanning { scan, asked }, ended)
+            }
+            Err(error) => {
+                drop(self);
+                drop(scan);
+                Err(error)
+            }
+        }
     }
 
     // Goes on behind a scan that ended.
@@ -153,6 +211,8 @@ impl Known {
             None => Ok(self.scanning(scanning)),
             Some(Ended::Found(chain)) => self.settle(alloc, effects, scanning, chain),
             Some(Ended::Lost(seg)) => {
+                drop(self);
+                drop(scanning);
                 effects.lose(seg)?;
                 Ok(Progress::Lost(seg))
             }
@@ -170,9 +230,18 @@ impl Known {
         ensures progress { IfOk result (λ progress. progress ≡ (settles self scanning chain).state) }
         ensures effects { OnOk result (effects.new ≡ effects.old ++ (settles self scanning chain).outs) }
     {
-        match self.maps.copy_groups(alloc)? {
-            None => Ok(self.scanning(scanning)),
-            Some(groups) => self.start_log(alloc, effects, scanning, chain, groups),
+        match self.maps.copy_groups(alloc) {
+            Ok(Some(groups)) => self.start_log(alloc, effects, scanning, chain, groups),
+            Ok(None) => {
+                drop(chain);
+                Ok(self.scanning(scanning))
+            }
+            Err(error) => {
+                drop(self);
+                drop(scanning);
+                drop(chain);
+                Err(error)
+            }
         }
     }
 
@@ -187,17 +256,43 @@ impl Known {
         ensures progress { IfOk result (λ progress. progress ≡ (starts_log self scanning chain groups).state) }
         ensures effects { OnOk result (effects.new ≡ effects.old ++ (starts_log self scanning chain groups).outs) }
     {
-        let Chain { segments, end, low } = chain;
         let log = self.owner.log;
         if log.0 < 1 || 13 < log.0 {
+            drop(chain);
+            drop(groups);
             return Ok(self.scanning(scanning));
         }
-        let settling = Settling {
-            log: Log::start(alloc, log, self.owner.inc, end, groups)?,
-            chain: segments,
-            low,
-        };
-        self.write(alloc, effects, settling, LogIn::Parts(List::new(alloc)))
+        drop(scanning);
+        self.begin_log(alloc, effects, chain, groups)
+    }
+
+    fn begin_log(
+        self,
+        alloc: Global,
+        effects: &mut Effects,
+        chain: Chain,
+        groups: GroupMap,
+    ) -> Mem<Progress>
+        requires log { IsLog self.owner.log.0 }
+        ensures progress { IfOk result (λ progress. progress ≡ (writes self (behind self chain groups) (Parts [])).state) }
+        ensures effects { OnOk result (effects.new ≡ effects.old ++ (writes self (behind self chain groups) (Parts [])).outs) }
+    {
+        let Chain { segments, end, low } = chain;
+        match Log::start(alloc, self.owner.log, self.owner.inc, end, groups) {
+            Ok(log) => {
+                let settling = Settling {
+                    log,
+                    chain: segments,
+                    low,
+                };
+                self.write(alloc, effects, settling, LogIn::Parts(List::new(alloc)))
+            }
+            Err(error) => {
+                drop(self);
+                drop(segments);
+                Err(error)
+            }
+        }
     }
 
     /// Hands the log an input, and sends what it says. Once the first segment is settled the log is open.
@@ -217,9 +312,15 @@ impl Known {
             chain,
             low,
         } = settling;
-        let outs = log.take(alloc, input)?;
-        let settled = send_written(effects, outs)?;
-        self.go_on(alloc, effects, Settling { log, chain, low }, settled)
+        match write_one(alloc, effects, &mut log, input) {
+            Ok(settled) => self.go_on(alloc, effects, Settling { log, chain, low }, settled),
+            Err(error) => {
+                drop(self);
+                drop(log);
+                drop(chain);
+                Err(error)
+            }
+        }
     }
 
     fn go_on(
@@ -247,16 +348,75 @@ impl Known {
         ensures effects { OnOk result (effects.new ≡ effects.old ++ files self.owner.log settling.chain end) }
     {
         let Settling { log, chain, low } = settling;
-        let segments = chain.as_slice();
-        file_all(effects, self.owner.log, segments, end)?;
-        Ok(Opened {
-            maps: self.maps,
-            promised: self.promised,
-            log,
-            feed: feed_of(alloc, low, segments, end)?,
-            chain: names_in(alloc, segments)?,
-        })
+        let told = tell_opened(alloc, effects, self.owner.log, low, chain.as_slice(), end);
+        drop(chain);
+        match told {
+            Ok((feed, names)) => Ok(Opened {
+                maps: self.maps,
+                promised: self.promised,
+                log,
+                feed,
+                chain: names,
+            }),
+            Err(error) => {
+                drop(self);
+                drop(log);
+                Err(error)
+            }
+        }
     }
+}
+
+// Files the segments of a log that is open; its feed, and the names of the segments that were found.
+fn tell_opened(
+    alloc: Global,
+    effects: &mut Effects,
+    log: LogId,
+    low: u32,
+    segments: &[Segment],
+    end: End,
+) -> Mem<(Feed, List<SegName>)>
+    ensures feed { IfOk result (λ told. told.0 ≡ feed_of low segments.now end) }
+    ensures names { IfOk result (λ told. told.1 ≡ names_in segments.now) }
+    ensures effects { OnOk result (effects.new ≡ effects.old ++ files log segments.now end) }
+{
+    file_all(effects, log, segments, end)?;
+    let feed = feed_of(alloc, low, segments, end)?;
+    match names_in(alloc, segments) {
+        Ok(names) => Ok((feed, names)),
+        Err(error) => {
+            drop(feed);
+            Err(error)
+        }
+    }
+}
+
+/// The scan of a log takes an input, and what it says is sent.
+pub(crate) fn scan_one(
+    alloc: Global,
+    effects: &mut Effects,
+    owner: Owner,
+    scan: &mut Scan,
+    asked: Asked,
+    questions: Questions,
+    input: In,
+) -> Mem<Sent>
+    ensures scan { OnOk result (scan.new ≡ (scan_steps.transition scan.old input).state) }
+    ensures sent { IfOk result (λ sent. sent ≡ (scanned owner scan.new.opening.low asked questions (scan_steps.transition scan.old input).outs).state) }
+    ensures effects { OnOk result (effects.new ≡ effects.old ++ (scanned owner scan.new.opening.low asked questions (scan_steps.transition scan.old input).outs).outs) }
+{
+    let outs = scan.take(alloc, input)?;
+    send_scanned(effects, owner, scan.low(), asked, questions, outs)
+}
+
+// A log takes an input, and what it says is sent; the end of the log, where a segment is settled.
+fn write_one(alloc: Global, effects: &mut Effects, log: &mut Log, input: LogIn) -> Mem<Option<End>>
+    ensures log { OnOk result (log.new ≡ (log_steps.transition log.old input).state) }
+    ensures settled { IfOk result (λ settled. settled ≡ (written (log_steps.transition log.old input).outs).state) }
+    ensures effects { OnOk result (effects.new ≡ effects.old ++ (written (log_steps.transition log.old input).outs).outs) }
+{
+    let outs = log.take(alloc, input)?;
+    send_written(effects, outs)
 }
 
 // Sends what the log says, in order; the end of the log, where a segment is settled.

@@ -1,5 +1,6 @@
 //! How an opening ends.
-ghost use Rattle.std.specs.Prelude.{◌≡◌, ◌++◌, IfOk, OnOk, map};
+ghost use Rattle.std.specs.Prelude.{◌≡◌, ◌++◌, [], IfOk, OnOk, map};
+ghost use Rattle.delta_feed.specs.Transition.{settled};
 ghost use Rattle.log_owner.specs.Opened.{with_segment, fed, feed_of, filed, files, names_in};
 ghost use Rattle.log_owner.specs.Sending.{name_of};
 
@@ -44,11 +45,24 @@ pub(crate) fn feed_of(alloc: Global, low: u32, chain: &[Segment], end: End) -> M
     ensures { IfOk result (λ feed. feed ≡ feed_of low chain.now end) }
 {
     let mut feed = Feed::start(alloc, low.saturating_sub(1))?;
-    feed_all(alloc, &mut feed, chain)?;
+    match feed_upto(alloc, &mut feed, chain, end) {
+        Ok(()) => Ok(feed),
+        Err(error) => {
+            drop(feed);
+            Err(error)
+        }
+    }
+}
+
+// The feed is fed a chain and the segment after it.
+fn feed_upto(alloc: Global, feed: &mut Feed, chain: &[Segment], end: End) -> Mem<()>
+    ensures { OnOk result (feed.new ≡ settled (fed feed.old chain.now) end.seq []) }
+{
+    feed_all(alloc, feed, chain)?;
     let rows = List::new(alloc);
     let seq = end.seq;
-    let _outs = feed.take(alloc, In::Settled { seq, rows })?;
-    Ok(feed)
+    drop(feed.take(alloc, In::Settled { seq, rows })?);
+    Ok(())
 }
 
 fn feed_all(alloc: Global, feed: &mut Feed, chain: &[Segment]) -> Mem<()>
@@ -66,7 +80,7 @@ fn feed_one(alloc: Global, feed: &mut Feed, segment: &Segment) -> Mem<()>
 {
     let rows = rows_of(alloc, segment)?;
     let seq = segment.name.seq;
-    let _outs = feed.take(alloc, In::Settled { seq, rows })?;
+    drop(feed.take(alloc, In::Settled { seq, rows })?);
     Ok(())
 }
 

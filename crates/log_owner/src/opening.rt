@@ -108,9 +108,13 @@ impl Opening {
         if names_known_groups(&self.known.maps, &packet.body) {
             return self.hears(alloc, effects, questions, packet.from, &packet.body);
         }
-        let ask = questions.draw();
-        send_hello(effects, self.known.owner.inc, ask)?;
-        Ok(Progress::Opening(self))
+        match send_hello(effects, self.known.owner.inc, questions.draw()) {
+            Ok(()) => Ok(Progress::Opening(self)),
+            Err(error) => {
+                drop(self);
+                Err(error)
+            }
+        }
     }
 
     #[tactic(auto, unfolding(crate::specs::Opening::on_body))]

@@ -27,7 +27,8 @@ first_or_not true x xs = refl
 first_or_not false x xs = refl
 
 -- those kept so far and those to come are all
-pub kept_on : (p : Out → Bool) (x : Out) (xs items : List Out) → items ≡ x ∷ xs → (made more all : List Out) → more ≡ made ++ cond (p x) (x ∷ []) [] → made ++ filter p items ≡ all → more ++ filter p xs ≡ all
+pub kept_on : (p : Out → Bool) (x : Out) (xs items : List Out) → items ≡ x ∷ xs → (made more all : List Out) → more ≡ made ++ cond (p x) (x ∷ []) []
+    → made ++ filter p items ≡ all → more ++ filter p xs ≡ all
 kept_on p x xs items is made more all e h =
     ap (λ u. u ++ filter p xs) e ∙ append_assoc made (cond (p x) (x ∷ []) []) (filter p xs)
     ∙ ap (λ u. made ++ u) (first_or_not (p x) x (filter p xs)) ∙ sym (ap (λ ys. made ++ filter p ys) is) ∙ h

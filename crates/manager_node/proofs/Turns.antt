@@ -18,7 +18,8 @@ module _ {X : Type 0} where
         ap (λ s. (steps step s (drop (i + 1) xs)).state) now ∙ sym (ap (λ ys. (steps step a ys).state) (drop_more xs i d lt)) ∙ h
 
     -- what was done so far and what is to be done is all
-    pub effects_on : (made more all : List Effect) → more ≡ made ++ (step a (get_or xs i d)).outs → made ++ (steps step a (drop i xs)).outs ≡ all → more ++ (steps step b (drop (i + 1) xs)).outs ≡ all
+    pub effects_on : (made more all : List Effect) → more ≡ made ++ (step a (get_or xs i d)).outs → made ++ (steps step a (drop i xs)).outs ≡ all
+        → more ++ (steps step b (drop (i + 1) xs)).outs ≡ all
     effects_on made more all e h =
         let x = get_or xs i d in
         let rest = drop (i + 1) xs in

@@ -16,11 +16,16 @@ impl Actor for Manager {
         let node = NodeId::Manager(self.phase.lasting().number);
         let mut effects = Effects::new(alloc);
         let peers = self.peers;
-        let phase = self.happens(alloc, &mut effects, what)?;
-        match effects.into_parts(alloc, node) {
-            Ok((packets, acts)) => Ok((Manager { peers, phase }, packets, acts)),
+        match self.happens(alloc, &mut effects, what) {
+            Ok(phase) => match effects.into_parts(alloc, node) {
+                Ok((packets, acts)) => Ok((Manager { peers, phase }, packets, acts)),
+                Err(error) => {
+                    drop(phase);
+                    Err(error)
+                }
+            },
             Err(error) => {
-                drop(phase);
+                drop(effects);
                 Err(error)
             }
         }

@@ -1,6 +1,11 @@
 //! The next item of a manager begins.
-ghost use Rattle.std.specs.Prelude.{◌≡◌, ◌++◌, IfOk, OnOk};
-ghost use Rattle.manager_node.specs.Phases.{wish_of, crashes, restarts, down_wish, waiting_wish, serving_wish, begin_down, begin_waiting, begin_serving};
+ghost use Rattle.std.specs.Prelude.{◌≡◌, ◌++◌, ◌∷◌, [], IfOk, OnOk};
+ghost use Rattle.log_owner.specs.Sending as sending;
+ghost use Rattle.node_base.specs.declared.effects.Effect.TheVariants.{Answer as Answers};
+ghost use Rattle.version_model.specs.declared.answer.Answer.TheVariants.{Done};
+ghost use Rattle.manager_node.specs.Checkpoints as checkpoints;
+ghost use Rattle.manager_node.specs.Lasting.{with_answer};
+ghost use Rattle.manager_node.specs.Phases.{answers, serves, wish_of, crashes, restarts, down_wish, waiting_wish, serving_wish, begin_down, begin_waiting, begin_serving};
 
 use crate::lasting::Lasting;
 use crate::phase::Phase;
@@ -54,8 +59,7 @@ fn down_wish(effects: &mut Effects, lasting: Lasting, number: u32, wish: Wish) -
     match wish {
         Wish::Restart => restart(effects, lasting, number),
         Wish::Crash | Wish::Checkpoint => {
-            effects.answer(number, Answer::Down)?;
-            Ok(Phase::Down(lasting))
+            answer(effects, Phase::Down(lasting), number, Answer::Down)
         }
     }
 }
@@ -87,13 +91,14 @@ fn waiting_wish(
 {
     match wish {
         Wish::Crash => crash(effects, lasting, number),
-        Wish::Restart => {
-            effects.answer(number, Answer::Up)?;
-            Ok(Phase::Waiting(lasting, hello))
-        }
+        Wish::Restart => answer(effects, Phase::Waiting(lasting, hello), number, Answer::Up),
         Wish::Checkpoint => {
-            effects.answer(number, Answer::Count(0))?;
-            Ok(Phase::Waiting(lasting, hello))
+            answer(
+                effects,
+                Phase::Waiting(lasting, hello),
+                number,
+                Answer::Count(0),
+            )
         }
     }
 }
@@ -123,26 +128,69 @@ fn serving_wish(
     ensures effects { OnOk result (effects.new ≡ effects.old ++ (serving_wish serving number wish).outs) }
 {
     match wish {
-        Wish::Crash => crash(effects, serving.lasting, number),
-        Wish::Restart => {
-            // It is dropped by a call, here and below, so that each part of it is dropped in one proof.
-            match effects.answer(number, Answer::Up) {
-                Ok(()) => Ok(Phase::Serving(serving)),
-                Err(error) => {
-                    drop(serving);
-                    Err(error)
-                }
-            }
+        Wish::Crash => crash_serving(effects, serving, number),
+        Wish::Restart => answer(effects, Phase::Serving(serving), number, Answer::Up),
+        Wish::Checkpoint => begin_checkpoint(alloc, effects, serving, number),
+    }
+}
+
+// The item is answered at its begin, and nothing changes. What isn't held on is dropped by a call, here and
+// below, so that each part of it is dropped in one proof.
+fn answer(effects: &mut Effects, phase: Phase, number: u32, answer: Answer) -> Mem<Phase>
+    ensures state { IfOk result (λ after. after ≡ (answers phase number answer).state) }
+    ensures effects { OnOk result (effects.new ≡ effects.old ++ (answers phase number answer).outs) }
+{
+    match effects.answer(number, answer) {
+        Ok(()) => Ok(phase),
+        Err(error) => {
+            drop(phase);
+            Err(error)
         }
-        Wish::Checkpoint => {
-            let mut serving = serving;
-            match serving.on_checkpoint(alloc, effects, number) {
-                Ok(()) => Ok(Phase::Serving(serving)),
-                Err(error) => {
-                    drop(serving);
-                    Err(error)
-                }
-            }
+    }
+}
+
+fn crash_serving(effects: &mut Effects, serving: Serving, number: u32) -> Mem<Phase>
+    ensures state { IfOk result (λ phase. phase ≡ (crashes serving.lasting number).state) }
+    ensures effects { OnOk result (effects.new ≡ effects.old ++ (crashes serving.lasting number).outs) }
+{
+    crash(effects, what_outlives(serving), number)
+}
+
+fn what_outlives(serving: Serving) -> Lasting
+    ensures { result ≡ serving.lasting }
+{
+    let Serving {
+        lasting,
+        maps,
+        slots,
+        log,
+        writer,
+        checkpoint,
+        ..
+    } = serving;
+    drop(maps);
+    drop(slots);
+    drop(log);
+    drop(writer);
+    drop(checkpoint);
+    lasting
+}
+
+fn begin_checkpoint(
+    alloc: Global,
+    effects: &mut Effects,
+    serving: Serving,
+    number: u32,
+) -> Mem<Phase>
+    ensures state { IfOk result (λ phase. phase ≡ (serves (checkpoints.on_checkpoint serving number)).state) }
+    ensures effects { OnOk result (effects.new ≡ effects.old ++ (checkpoints.on_checkpoint serving number).outs) }
+{
+    let mut serving = serving;
+    match serving.on_checkpoint(alloc, effects, number) {
+        Ok(()) => Ok(Phase::Serving(serving)),
+        Err(error) => {
+            drop(serving);
+            Err(error)
         }
     }
 }
@@ -154,9 +202,23 @@ fn crash(effects: &mut Effects, lasting: Lasting, number: u32) -> Mem<Phase>
     ensures effects { OnOk result (effects.new ≡ effects.old ++ (crashes lasting number).outs) }
 {
     let mut lasting = lasting;
+    match cut(effects, &mut lasting, number) {
+        Ok(()) => Ok(Phase::Down(lasting)),
+        Err(error) => {
+            drop(lasting);
+            Err(error)
+        }
+    }
+}
+
+// The item that is open is cut, and that of the crash is answered.
+#[tactic(auto, unfolding(crate::specs::Phases::crashes))]
+fn cut(effects: &mut Effects, lasting: &mut Lasting, number: u32) -> Mem<()>
+    ensures lasting { OnOk result (lasting.new ≡ with_answer lasting.old) }
+    ensures effects { OnOk result (effects.new ≡ effects.old ++ (crashes lasting.old number).outs) }
+{
     lasting.answer(effects, Answer::Cut)?;
-    effects.answer(number, Answer::Done)?;
-    Ok(Phase::Down(lasting))
+    effects.answer(number, Answer::Done)
 }
 
 // The next incarnation begins: it asks for the maps.
@@ -168,7 +230,19 @@ fn restart(effects: &mut Effects, lasting: Lasting, number: u32) -> Mem<Phase>
     let mut lasting = lasting;
     lasting.inc = lasting.inc.saturating_add(1);
     let hello = lasting.questions.draw();
+    match greet(effects, lasting.inc, hello, number) {
+        Ok(()) => Ok(Phase::Waiting(lasting, hello)),
+        Err(error) => {
+            drop(lasting);
+            Err(error)
+        }
+    }
+}
+
+// The restart is answered, and the maps are asked for.
+fn greet(effects: &mut Effects, inc: u32, ask: u32, number: u32) -> Mem<()>
+    ensures { OnOk result (effects.new ≡ effects.old ++ (Answers number Done ∷ sending.hello inc ask ∷ [])) }
+{
     effects.answer(number, Answer::Done)?;
-    send_hello(effects, lasting.inc, hello)?;
-    Ok(Phase::Waiting(lasting, hello))
+    send_hello(effects, inc, ask)
 }

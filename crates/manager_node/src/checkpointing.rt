@@ -2,6 +2,8 @@
 ghost use Rattle.std.specs.Prelude.{◌≡◌, ◌++◌, ◌∷◌, [], OnOk, fold};
 ghost use Rattle.std.specs.List.{flat_map};
 ghost use Rattle.node_base.specs.declared.effects.Effect.TheVariants.{Send};
+ghost use Rattle.manager_node.specs.Numbers.{risen};
+ghost use Rattle.manager_node.specs.SlotTable.{named_at};
 ghost use Rattle.manager_node.specs.Checkpoints.{stored, sends_parts, gives_parts, awaiting, registers, asked, says, says_each, writer_takes, on_settled, log_says, log_says_each, writes, on_stored, no_more, writes_slot, begins_slot, next_from, next_slot, on_checkpoint, awaits, kept_in, stale_in, counted, on_ckpt_ack, told_again, tells_again};
 
 use crate::serving::Serving;
@@ -11,6 +13,7 @@ use log_owner::sending::send_store;
 use node_base::Effects;
 use segment_format::Item;
 use std::alloc::Global;
+use std::mem;
 use version_model::{Act, Answer};
 use wire_msg::{Body, CkptAck, CkptDone, Stored};
 use xfs_base::{End, List, Mem, NodeId};
@@ -37,11 +40,12 @@ impl Serving {
             return effects.answer(number, Answer::Busy);
         }
         self.lasting.items.wait(number);
-        self.checkpoint = Some(Checkpointing {
+        let job = Checkpointing {
             next: 0,
             count: 0,
             done: None,
-        });
+        };
+        drop(mem::replace(&mut self.checkpoint, Some(job)));
         self.next_slot(alloc, effects)
     }
 
@@ -78,9 +82,11 @@ impl Serving {
         };
         let outs = self.writer.take(alloc, input)?;
         if outs.is_empty() {
+            drop(outs);
             return Ok(());
         }
         count_all(&mut self.checkpoint, outs.as_slice());
+        drop(outs);
         self.next_slot(alloc, effects)
     }
 
@@ -145,10 +151,14 @@ impl Serving {
         match self.slots.next_active(next) {
             Some(slot) => {
                 let next = slot.saturating_add(1);
-                self.checkpoint = Some(Checkpointing { next, count, done });
+                let job = Checkpointing { next, count, done };
+                drop(mem::replace(&mut self.checkpoint, Some(job)));
                 self.begin_slot(alloc, effects, slot)
             }
-            None => self.lasting.answer(effects, Answer::Count(count)),
+            None => {
+                drop(done);
+                self.lasting.answer(effects, Answer::Count(count))
+            }
         }
     }
 
@@ -228,11 +238,27 @@ impl Serving {
         ensures state { OnOk result (self.new ≡ (registers self.old done).state) }
         ensures effects { OnOk result (effects.new ≡ effects.old ++ (registers self.old done).outs) }
     {
+        match self.tell_done(alloc, effects, &done) {
+            Ok(()) => {
+                await_answer(&mut self.checkpoint, done);
+                Ok(())
+            }
+            Err(error) => {
+                drop(done);
+                Err(error)
+            }
+        }
+    }
+
+    #[tactic(auto, unfolding(crate::specs::Checkpoints::registers))]
+    fn tell_done(&mut self, alloc: Global, effects: &mut Effects, done: &CkptDone) -> Mem<()>
+        ensures state { OnOk result (self.new ≡ record self.old { slots = named_at self.old.slots done.now.slot done.now.epoch done.now.parts; dones = risen self.old.dones }) }
+        ensures effects { OnOk result (effects.new ≡ effects.old ++ (registers self.old done.now).outs) }
+    {
         self.slots
             .name(done.slot, done.epoch, done.parts.copy(alloc)?);
         effects.send(NodeId::Registry, Body::CkptDone(done.copy(alloc)?))?;
         self.dones = self.dones.saturating_add(1);
-        await_answer(&mut self.checkpoint, done);
         Ok(())
     }
 
@@ -279,8 +305,9 @@ fn awaits(checkpoint: &Option<Checkpointing>, ask: u32) -> bool
 fn await_answer(checkpoint: &mut Option<Checkpointing>, done: CkptDone)
     ensures { checkpoint.new ≡ awaiting done checkpoint.old }
 {
-    if let Some(job) = checkpoint {
-        job.done = Some(done);
+    match checkpoint {
+        Some(job) => drop(mem::replace(&mut job.done, Some(done))),
+        None => drop(done),
     }
 }
 
@@ -309,7 +336,7 @@ fn count_kept(checkpoint: &mut Option<Checkpointing>)
 {
     if let Some(job) = checkpoint {
         job.count = job.count.saturating_add(1);
-        job.done = None;
+        drop(job.done.take());
     }
 }
 
@@ -317,7 +344,7 @@ fn end_waiting(checkpoint: &mut Option<Checkpointing>)
     ensures { checkpoint.new ≡ stale_in checkpoint.old }
 {
     if let Some(job) = checkpoint {
-        job.done = None;
+        drop(job.done.take());
     }
 }
 

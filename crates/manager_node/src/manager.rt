@@ -2,12 +2,17 @@
 ghost use Rattle.std.specs.Prelude.{◌≡◌, ◌++◌, IfOk, OnOk};
 ghost use Rattle.node_base.specs.Setups.{IsSetup};
 ghost use Rattle.manager_node.specs.Phases.{lasting_of, on_begin};
+ghost use Rattle.node_base.specs.Maps.{forgotten};
+ghost use Rattle.manager_node.specs.Serving as servings;
+ghost use Rattle.manager_node.specs.declared.phase.Phase.TheVariants.{Waiting};
+ghost use Rattle.manager_node.specs.Phases.{serves};
 ghost use Rattle.manager_node.specs.Events.{first_manager, takes_welcome, on_welcome, on_waiting, on_packet, on_deliver, on_time, on_event, happens};
 
 use crate::beginning::{begin_down, begin_serving, begin_waiting};
 use crate::lasting::Lasting;
 use crate::phase::Phase;
 use crate::serving::Serving;
+use group_map::GroupMap;
 use log_owner::sending::send_hello;
 use node_base::{Effects, Items, Maps, Peers, Questions, groups_of, is_well_formed};
 use std::alloc::Global;
@@ -127,16 +132,28 @@ fn on_packet(
         Phase::Waiting(lasting, hello) => {
             on_waiting(alloc, effects, peers, lasting, hello, &packet.body)
         }
-        Phase::Serving(serving) => {
-            let mut serving = serving;
-            // It is dropped by a call, here and below, so that each part of it is dropped in one proof.
-            match serving.hear(alloc, effects, peers.clients, packet) {
-                Ok(()) => Ok(Phase::Serving(serving)),
-                Err(error) => {
-                    drop(serving);
-                    Err(error)
-                }
-            }
+        Phase::Serving(serving) => hear(alloc, effects, peers, serving, packet),
+    }
+}
+
+// A packet comes to a manager that serves, which is dropped by a call, here and below, so that each part of
+// it is dropped in one proof.
+fn hear(
+    alloc: Global,
+    effects: &mut Effects,
+    peers: Peers,
+    serving: Serving,
+    packet: &Packet,
+) -> Mem<Phase>
+    ensures state { IfOk result (λ after. after ≡ (serves (servings.hears serving peers.clients packet.now)).state) }
+    ensures effects { OnOk result (effects.new ≡ effects.old ++ (servings.hears serving peers.clients packet.now).outs) }
+{
+    let mut serving = serving;
+    match serving.hear(alloc, effects, peers.clients, packet) {
+        Ok(()) => Ok(Phase::Serving(serving)),
+        Err(error) => {
+            drop(serving);
+            Err(error)
         }
     }
 }
@@ -182,13 +199,24 @@ fn on_welcome(
     if !takes_welcome(peers, &lasting, hello, welcome) {
         return Ok(Phase::Waiting(lasting, hello));
     }
-    let maps = Maps::forgotten(peers.servers);
-    let groups = welcome.news.groups.copy(alloc)?;
-    let mut serving = Serving::again(alloc, lasting, maps, groups)?;
+    let mut serving = again(alloc, peers, lasting, &welcome.news.groups)?;
     match serving.on_news(alloc, effects, peers.clients, &welcome.news) {
         Ok(()) => Ok(Phase::Serving(serving)),
         Err(error) => {
             drop(serving);
+            Err(error)
+        }
+    }
+}
+
+// A manager that has started again, and is about to take these groups.
+fn again(alloc: Global, peers: Peers, lasting: Lasting, groups: &GroupMap) -> Mem<Serving>
+    ensures { IfOk result (λ serving. serving ≡ servings.again lasting (forgotten peers.servers) groups.now) }
+{
+    match groups.copy(alloc) {
+        Ok(groups) => Serving::again(alloc, lasting, Maps::forgotten(peers.servers), groups),
+        Err(error) => {
+            drop(lasting);
             Err(error)
         }
     }
@@ -202,19 +230,36 @@ fn on_time(alloc: Global, effects: &mut Effects, phase: Phase) -> Mem<Phase>
 {
     match phase {
         Phase::Down(lasting) => Ok(Phase::Down(lasting)),
-        Phase::Waiting(lasting, hello) => {
-            send_hello(effects, lasting.inc, hello)?;
-            Ok(Phase::Waiting(lasting, hello))
+        Phase::Waiting(lasting, hello) => wait_on(effects, lasting, hello),
+        Phase::Serving(serving) => tick(alloc, effects, serving),
+    }
+}
+
+// The maps are asked for again.
+#[tactic(auto, unfolding(crate::specs::Events::on_time))]
+fn wait_on(effects: &mut Effects, lasting: Lasting, hello: u32) -> Mem<Phase>
+    ensures state { IfOk result (λ after. after ≡ Waiting lasting hello) }
+    ensures effects { OnOk result (effects.new ≡ effects.old ++ (on_time (Waiting lasting hello)).outs) }
+{
+    match send_hello(effects, lasting.inc, hello) {
+        Ok(()) => Ok(Phase::Waiting(lasting, hello)),
+        Err(error) => {
+            drop(lasting);
+            Err(error)
         }
-        Phase::Serving(serving) => {
-            let mut serving = serving;
-            match serving.on_tick(alloc, effects) {
-                Ok(()) => Ok(Phase::Serving(serving)),
-                Err(error) => {
-                    drop(serving);
-                    Err(error)
-                }
-            }
+    }
+}
+
+fn tick(alloc: Global, effects: &mut Effects, serving: Serving) -> Mem<Phase>
+    ensures state { IfOk result (λ after. after ≡ (serves (servings.on_tick serving)).state) }
+    ensures effects { OnOk result (effects.new ≡ effects.old ++ (servings.on_tick serving).outs) }
+{
+    let mut serving = serving;
+    match serving.on_tick(alloc, effects) {
+        Ok(()) => Ok(Phase::Serving(serving)),
+        Err(error) => {
+            drop(serving);
+            Err(error)
         }
     }
 }

@@ -1,7 +1,11 @@
 //! A manager that serves.
 ghost use Rattle.std.specs.Prelude.{◌≡◌, ◌++◌, ◌≤◌, IfOk, OnOk};
 ghost use Rattle.log_owner.specs.Sending.{server_in};
-ghost use Rattle.manager_node.specs.Serving.{begun, first, again, serving_room, client_in, fed_log, on_want, on_gave, on_deltas, on_check, on_usage_ask, takes, on_report, fetch_of, on_found, on_missing, regroups, hears_with, hears_slots, on_newer, on_news, on_fitting_news, on_welcome, asks_for_maps, on_body, hears, recalls_again, asks_again, on_tick};
+ghost use Rattle.segment_format.specs.Format.{IsLog};
+ghost use Rattle.checkpoint.specs.Transition as writers;
+ghost use Rattle.client_log.specs.LogState as logs;
+ghost use Rattle.manager_node.specs.SlotTable as tables;
+ghost use Rattle.manager_node.specs.Serving.{no_end, begun, first, again, serving_room, client_in, fed_log, on_want, on_gave, on_deltas, on_check, on_usage_ask, takes, on_report, fetch_of, on_found, on_missing, regroups, hears_with, hears_slots, on_newer, on_news, on_fitting_news, on_welcome, asks_for_maps, on_body, hears, recalls_again, asks_again, on_tick};
 
 use crate::checkpointing::Checkpointing;
 use crate::lasting::Lasting;
@@ -52,17 +56,31 @@ impl Serving {
         requires { 1 ≤ managers }
         ensures { IfOk result (λ serving. serving ≡ first lasting managers groups) }
     {
-        let slots = SlotTable::first(alloc, lasting.number, managers)?;
-        let maps = Maps::start(groups.copy(alloc)?);
-        Serving::begin(alloc, lasting, maps, slots, groups)
+        match first_slots(alloc, lasting.number, managers, &groups) {
+            Ok((slots, copy)) => {
+                Serving::begin(alloc, lasting, Maps::start(copy), slots, groups)
+            }
+            Err(error) => {
+                drop(lasting);
+                drop(groups);
+                Err(error)
+            }
+        }
     }
 
     /// A manager that has started again and is about to take these groups: it knows nothing of any slot.
     pub fn again(alloc: Global, lasting: Lasting, maps: Maps, groups: GroupMap) -> Mem<Serving>
         ensures { IfOk result (λ serving. serving ≡ again lasting maps groups) }
     {
-        let slots = SlotTable::unknown(alloc)?;
-        Serving::begin(alloc, lasting, maps, slots, groups)
+        match SlotTable::unknown(alloc) {
+            Ok(slots) => Serving::begin(alloc, lasting, maps, slots, groups),
+            Err(error) => {
+                drop(lasting);
+                drop(maps);
+                drop(groups);
+                Err(error)
+            }
+        }
     }
 
     // The log and the checkpoints begin.
@@ -75,17 +93,23 @@ impl Serving {
     ) -> Mem<Serving>
         ensures { IfOk result (λ serving. serving ≡ begun lasting maps slots groups) }
     {
-        let name = lasting.log();
-        let writer = Writer::start(alloc, name)?;
-        Ok(Serving {
-            maps,
-            slots,
-            log: Log::start(alloc, name, lasting.inc, NO_END, groups)?,
-            writer,
-            dones: 0,
-            checkpoint: None,
-            lasting,
-        })
+        match first_log(alloc, lasting.log(), lasting.inc, groups) {
+            Ok((log, writer)) => Ok(Serving {
+                lasting,
+                maps,
+                slots,
+                log,
+                writer,
+                dones: 0,
+                checkpoint: None,
+            }),
+            Err(error) => {
+                drop(lasting);
+                drop(maps);
+                drop(slots);
+                Err(error)
+            }
+        }
     }
 
     /// Whether no event can raise a counter past its end.
@@ -433,6 +457,43 @@ impl Serving {
     {
         let questions = &mut self.lasting.questions;
         self.slots.ask_again(alloc, effects, questions, polls)
+    }
+}
+
+// The slots at the start of a run, and a copy of the groups.
+fn first_slots(
+    alloc: Global,
+    number: u8,
+    managers: u8,
+    groups: &GroupMap,
+) -> Mem<(SlotTable, GroupMap)>
+    requires { 1 ≤ managers }
+    ensures slots { IfOk result (λ made. made.0 ≡ tables.first_table number managers) }
+    ensures groups { IfOk result (λ made. made.1 ≡ groups.now) }
+{
+    let slots = SlotTable::first(alloc, number, managers)?;
+    match groups.copy(alloc) {
+        Ok(copy) => Ok((slots, copy)),
+        Err(error) => {
+            drop(slots);
+            Err(error)
+        }
+    }
+}
+
+// The empty log of an incarnation, and what writes checkpoints to it.
+fn first_log(alloc: Global, name: LogId, inc: u32, groups: GroupMap) -> Mem<(Log, Writer)>
+    requires { IsLog name.0 }
+    ensures log { IfOk result (λ made. made.0 ≡ logs.started name inc no_end groups) }
+    ensures writer { IfOk result (λ made. made.1 ≡ writers.started name) }
+{
+    let log = Log::start(alloc, name, inc, NO_END, groups)?;
+    match Writer::start(alloc, name) {
+        Ok(writer) => Ok((log, writer)),
+        Err(error) => {
+            drop(log);
+            Err(error)
+        }
     }
 }
 

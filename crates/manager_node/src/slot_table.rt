@@ -1,6 +1,8 @@
 //! The slots of a manager.
 ghost use Rattle.std.specs.Prelude.{◌≡◌, ◌++◌, ◌≤◌, IfOk, OnOk, map, find, slice_get};
 ghost use Rattle.xfs_base.specs.Steps.{steps};
+ghost use Rattle.checkpoint.specs.Plan.{plan_of};
+ghost use Rattle.token_manager.specs.Index.{pages_of};
 ghost use Rattle.manager_node.specs.SlotTable.{first_phase, first_table, unknown_phase, unknown_table, table_has_room, is_active_at, is_next, next_active, on_want, on_gave, on_deltas, on_check, on_usage_ask, usage_in, recalls, recalls_all, next_of, begin_with, begin_in, begin_at, cleaned_phase, named_phase, cleaned_at, named_at};
 
 use crate::slot_phase::{Active, SlotPhase, first_active};
@@ -10,6 +12,7 @@ use manager_map::ManagerMap;
 use node_base::Effects;
 use std::alloc::Global;
 use std::marker::Model;
+use std::mem;
 use token_manager::Slot;
 use wire_msg::{Check, Deltas, Gave, UsageAsk, Want};
 use xfs_base::{Ino, List, LogId, Mem, SegRef};
@@ -199,8 +202,9 @@ impl SlotTable {
     pub fn name(&mut self, slot: u8, epoch: u32, parts: List<SegRef>)
         ensures { self.new ≡ named_at self.old slot epoch parts }
     {
-        if let Some(phase) = self.phases.get_mut(usize::from(slot)) {
-            name(phase, epoch, parts);
+        match self.phases.get_mut(usize::from(slot)) {
+            Some(phase) => name(phase, epoch, parts),
+            None => drop(parts),
         }
     }
 }
@@ -296,14 +300,27 @@ fn begin_in(alloc: Global, slot: u8, phase: &SlotPhase) -> Mem<Option<In>>
 fn begin_with(alloc: Global, slot: u8, active: &Active) -> Mem<In>
     ensures { IfOk result (λ input. input ≡ begin_with slot active.now) }
 {
-    let Plan { pages, parts } = plan_of(alloc, active.slot.pages(), active.parts.copy(alloc)?)?;
-    Ok(In::Begin {
-        slot,
-        epoch: active.slot.epoch(),
-        pages,
-        parts,
-        horizon: horizon_over(alloc, &active.slot, &LOGS)?,
-    })
+    let horizon = horizon_over(alloc, &active.slot, &LOGS)?;
+    match planned(alloc, active) {
+        Ok(Plan { pages, parts }) => Ok(In::Begin {
+            slot,
+            epoch: active.slot.epoch(),
+            pages,
+            parts,
+            horizon,
+        }),
+        Err(error) => {
+            drop(horizon);
+            Err(error)
+        }
+    }
+}
+
+fn planned(alloc: Global, active: &Active) -> Mem<Plan>
+    ensures { IfOk result (λ plan. plan ≡ plan_of (pages_of active.now.slot.index) active.now.parts) }
+{
+    let parts = active.parts.copy(alloc)?;
+    plan_of(alloc, active.slot.pages(), parts)
 }
 
 #[tactic(auto, unfolding(crate::specs::SlotTable::cleaned_phase))]
@@ -323,10 +340,12 @@ fn name(phase: &mut SlotPhase, epoch: u32, parts: List<SegRef>)
     match phase {
         SlotPhase::Active(active) => {
             if active.slot.epoch() == epoch {
-                active.parts = parts;
+                drop(mem::replace(&mut active.parts, parts));
+            } else {
+                drop(parts);
             }
         }
-        _ => {}
+        _ => drop(parts),
     }
 }
 

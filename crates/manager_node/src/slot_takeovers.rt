@@ -10,6 +10,7 @@ use crate::takeovers;
 use group_map::GroupMap;
 use node_base::{Effects, Questions};
 use std::alloc::Global;
+use std::mem;
 use wire_msg::Report;
 use xfs_base::{Mem, NodeId, SlotNews};
 
@@ -254,7 +255,8 @@ fn hear_of(
     if news.epoch <= phase.epoch() {
         return Ok(());
     }
-    *phase = takeovers::phase_of(alloc, ears.number, news, groups, ears.clients)?;
+    let next = takeovers::phase_of(alloc, ears.number, news, groups, ears.clients)?;
+    drop(mem::replace(phase, next));
     takeovers::take(
         alloc,
         effects,

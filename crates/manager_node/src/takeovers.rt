@@ -1,6 +1,7 @@
 //! How a manager takes slots over.
 ghost use Rattle.std.specs.Prelude.{◌≡◌, ◌++◌, ◌∷◌, [], IfOk, OnOk, All, filter};
 ghost use Rattle.takeover.specs.Course.{StartsSlot};
+ghost use Rattle.takeover.specs.TakeState.{started};
 ghost use Rattle.node_base.specs.Asking.{number_for, asked_as, drawn_for};
 ghost use Rattle.log_owner.specs.Sending.{fetch};
 ghost use Rattle.manager_node.specs.Takeovers.{asker, fetches, says, says_each, heard, takes, is_poll, is_wanted, kept_of, asks_again, on_report, phase_of, told_groups};
@@ -10,6 +11,7 @@ use group_map::GroupMap;
 use log_owner::send_fetch;
 use node_base::{Asked, Effects, Questions};
 use std::alloc::Global;
+use std::mem;
 use takeover::{In, Out, Take};
 use token_manager::Slot;
 use wire_msg::{Body, Poll, Report};
@@ -32,9 +34,22 @@ pub(crate) fn phase_of(
     }
     Ok(SlotPhase::Taking(Taking {
         epoch,
-        take: Take::start(alloc, news.copy(alloc)?, groups.copy(alloc)?, clients)?,
+        take: first_take(alloc, news, groups, clients)?,
         fetches: Asked::new(),
     }))
+}
+
+fn first_take(alloc: Global, news: &SlotNews, groups: &GroupMap, clients: u8) -> Mem<Take>
+    ensures { IfOk result (λ take. take ≡ started news.now groups.now clients) }
+{
+    let news = news.copy(alloc)?;
+    match groups.copy(alloc) {
+        Ok(groups) => Take::start(alloc, news, groups, clients),
+        Err(error) => {
+            drop(news);
+            Err(error)
+        }
+    }
 }
 
 /// A client or the cleaner says what it holds.
@@ -166,7 +181,10 @@ fn outs_of(alloc: Global, phase: &mut SlotPhase, input: In) -> Mem<List<Out>>
 {
     match phase {
         SlotPhase::Taking(taking) => taking.take.take(alloc, input),
-        _ => Ok(List::new(alloc)),
+        _ => {
+            drop(input);
+            Ok(List::new(alloc))
+        }
     }
 }
 
@@ -215,17 +233,23 @@ fn say(
             beliefs,
             applied,
         } => {
-            *phase = SlotPhase::Active(Active {
-                slot: Slot::start(alloc, epoch, index, beliefs, applied)?,
-                parts: List::new(alloc),
-            });
+            let slot = Slot::start(alloc, epoch, index, beliefs, applied)?;
+            let parts = List::new(alloc);
+            end(phase, SlotPhase::Active(Active { slot, parts }));
             Ok(())
         }
         Out::Lost { name: seg } => {
-            *phase = SlotPhase::Broken { epoch, seg };
+            end(phase, SlotPhase::Broken { epoch, seg });
             effects.lose(seg)
         }
     }
+}
+
+// A takeover ends so.
+fn end(phase: &mut SlotPhase, next: SlotPhase)
+    ensures { phase.new ≡ next }
+{
+    drop(mem::replace(phase, next));
 }
 
 fn fetch(

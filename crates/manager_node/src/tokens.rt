@@ -189,6 +189,7 @@ fn take(
     ensures effects { OnOk result (effects.new ≡ effects.old ++ (takes phase.old number input).outs) }
 {
     let SlotPhase::Active(active) = phase else {
+        drop(input);
         return Ok(());
     };
     let epoch = active.slot.epoch();

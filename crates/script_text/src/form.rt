@@ -8,7 +8,7 @@ ghost use Rattle.script_text.specs.Reading.{form_of};
 use crate::word::{Words, is};
 
 /// What a line asks for, by its words.
-#[derive(Clone, Copy, Debug, PartialEq, Eq)]
+#[derive(Clone, Copy)]
 pub enum Form {
     /// `cK bput INO BLK TEXT`
     Bput,
@@ -77,7 +77,7 @@ pub enum Form {
 }
 
 /// A part of a line.
-#[derive(Clone, Copy, Debug, PartialEq, Eq)]
+#[derive(Clone, Copy)]
 pub enum Part {
     /// The word `cl`.
     Cleaner,

@@ -5,7 +5,7 @@ use std::alloc::{AllocError, AllocFailed};
 use xfs_base::Crosses;
 
 /// Why the first bad line is bad. `docs/LANGUAGE.md` says when each kind comes.
-#[derive(Clone, Copy, Debug, PartialEq, Eq)]
+#[derive(Clone, Copy, PartialEq, Eq)]
 pub enum Kind {
     /// The setup is not whole, or a line of it is malformed.
     BadSetup,
@@ -26,7 +26,7 @@ pub enum Kind {
 }
 
 /// Why a line is not taken.
-#[derive(Clone, Copy, Debug, PartialEq, Eq)]
+#[derive(Clone, Copy)]
 pub enum LineError {
     /// It is bad, of this kind.
     Bad(Kind),
@@ -45,7 +45,7 @@ impl From<AllocError> for LineError {
 }
 
 /// Why `parse` gives no script.
-#[derive(Clone, Copy, Debug, PartialEq, Eq)]
+#[derive(Clone, Copy, PartialEq, Eq)]
 pub enum ScriptError {
     /// The first bad line, counted from 1, and why it is bad.
     Bad(u32, Kind),

@@ -3,7 +3,7 @@ use crate::Line;
 use xfs_base::{List, Setup};
 
 /// Which line may come next.
-#[derive(Clone, Copy, Debug, PartialEq, Eq)]
+#[derive(Clone, Copy)]
 pub enum Stage {
     /// `xfs 1`.
     Version,

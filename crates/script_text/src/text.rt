@@ -13,7 +13,7 @@ use std::alloc::Global;
 use xfs_base::{List, Mem, Text};
 
 /// What a byte between quotes is read as.
-#[derive(Clone, Copy, Debug, PartialEq, Eq)]
+#[derive(Clone, Copy)]
 pub enum Mark {
     /// A byte of the text.
     Plain,
@@ -26,7 +26,7 @@ pub enum Mark {
 }
 
 /// What a byte does to the text that is read.
-#[derive(Clone, Copy, Debug, PartialEq, Eq)]
+#[derive(Clone, Copy)]
 pub enum Turn {
     /// It adds a byte.
     Adds(u8),

@@ -22,7 +22,7 @@ use xfs_base::{Crosses, List, Mem, SegName, SegRef};
 const SLOTS: [u8; 8] = [0, 1, 2, 3, 4, 5, 6, 7];
 
 /// By what the candidates are chosen, the least first: live blocks, then log, number and pass.
-#[derive(Clone, Copy, Debug, PartialEq, Eq, PartialOrd, Ord)]
+#[derive(Clone, Copy, PartialEq, Eq, PartialOrd, Ord)]
 pub struct Rank {
     /// How many live blocks the segment has.
     pub live: u64,

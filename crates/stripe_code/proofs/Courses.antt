@@ -38,45 +38,56 @@ none_twice [] = refl
 none_twice (p ∷ pairs) = none_twice pairs
 
 -- the choice of the stage after a round that ended with pairs
-chosen : (parity : ℕ) (ended : List (List (ℕ × ℕ))) (pairs : List (ℕ × ℕ)) → Says parity (if are_gone parity (first_of ended) pairs then Doubted else Between) (pairs ∷ ended)
+chosen : (parity : ℕ) (ended : List (List (ℕ × ℕ))) (pairs : List (ℕ × ℕ))
+    → Says parity (if are_gone parity (first_of ended) pairs then Doubted else Between) (pairs ∷ ended)
 unfolding first_of
 chosen parity [] pairs =
-    let go : (t : Bool) → nat_lt parity (length (missing_twice [] pairs)) ≡ t → Says parity (if t then Doubted else Between) (pairs ∷ []) = λ t. elim t as (λ u. nat_lt parity (length (missing_twice [] pairs)) ≡ u → Says parity (if u then Doubted else Between) (pairs ∷ [])) [
+    let go : (t : Bool) → nat_lt parity (length (missing_twice [] pairs)) ≡ t → Says parity (if t then Doubted else Between) (pairs ∷ []) =
+    λ t. elim t as (λ u. nat_lt parity (length (missing_twice [] pairs)) ≡ u → Says parity (if u then Doubted else Between) (pairs ∷ [])) [
       | true ↦ λ e. absurd (let h = ltb-true parity (length (missing_twice [] pairs)) e in let none = none_twice pairs in omega arith)
       | false ↦ λ e m. m
     ] in
     go (nat_lt parity (length (missing_twice [] pairs))) refl
 chosen parity (before ∷ rest) pairs =
     let many = length (missing_twice before pairs) in
-    let go : (t : Bool) → nat_lt parity many ≡ t → Says parity (if t then Doubted else Between) (pairs ∷ before ∷ rest) = λ t. elim t as (λ u. nat_lt parity many ≡ u → Says parity (if u then Doubted else Between) (pairs ∷ before ∷ rest)) [
+    let go : (t : Bool) → nat_lt parity many ≡ t → Says parity (if t then Doubted else Between) (pairs ∷ before ∷ rest) =
+    λ t. elim t as (λ u. nat_lt parity many ≡ u → Says parity (if u then Doubted else Between) (pairs ∷ before ∷ rest)) [
       | true ↦ λ e. ltb-true parity many e
       | false ↦ λ e m. (let low : many ≤ parity = ltb-false parity many e in omega arith)
     ] in
     go (nat_lt parity many) refl
 
 module _ (spare : ℕ) where
-  ends_holds : (r : ReadingState) (ended : List (List (ℕ × ℕ))) (pairs : List (ℕ × ℕ)) → r.round.parity ≡ spare → r.kept ≡ first_of ended → Holds spare (after_step (ends r pairs) ended)
+  ends_holds : (r : ReadingState) (ended : List (List (ℕ × ℕ))) (pairs : List (ℕ × ℕ)) → r.round.parity ≡ spare → r.kept ≡ first_of ended
+      → Holds spare (after_step (ends r pairs) ended)
   unfolding first_of
   ends_holds r ended pairs same kept = record {
     same = same;
     kept = refl;
-    says = subst (λ (s : Stage). Says spare s (pairs ∷ ended)) (ap₂ (λ (p : ℕ) (before : List (ℕ × ℕ)). if are_gone p before pairs then Doubted else Between) (sym same) (sym kept)) (chosen spare ended pairs);
+    says = subst (λ (s : Stage). Says spare s (pairs ∷ ended))
+        (ap₂ (λ (p : ℕ) (before : List (ℕ × ℕ)). if are_gone p before pairs then Doubted else Between) (sym same) (sym kept)) (chosen spare ended pairs);
   }
 
-  read_holds : (r : ReadingState) (ended : List (List (ℕ × ℕ))) (o : Option Segment) → r.round.parity ≡ spare → r.kept ≡ first_of ended → Holds spare (after_step (read_as r o) ended)
+  read_holds : (r : ReadingState) (ended : List (List (ℕ × ℕ))) (o : Option Segment) → r.round.parity ≡ spare → r.kept ≡ first_of ended
+      → Holds spare (after_step (read_as r o) ended)
   read_holds r ended (Some s) same kept = record { same = same; kept = kept; says = tt }
   read_holds r ended None same kept = ends_holds r ended [] same kept
 
-  judged_holds : (r : ReadingState) (ended : List (List (ℕ × ℕ))) (groups : GroupMapState) (s : RoundState) → r.round.parity ≡ spare → r.kept ≡ first_of ended → Says spare r.stage ended → Holds spare (after_step (judged r groups s) ended)
+  judged_holds : (r : ReadingState) (ended : List (List (ℕ × ℕ))) (groups : GroupMapState) (s : RoundState) → r.round.parity ≡ spare → r.kept ≡ first_of ended
+      → Says spare r.stage ended → Holds spare (after_step (judged r groups s) ended)
   judged_holds r ended groups (round.Read bytes) same kept says = read_holds r ended (segment_found r.target groups (answer_of bytes)) same kept
   judged_holds r ended groups (round.Short pairs) same kept says = ends_holds r ended pairs same kept
   judged_holds r ended groups round.Waiting same kept says = record { same = same; kept = kept; says = says }
 
   parity-taken : (r : RoundSoFar) (server : ℕ) (told : Told) → (taken r server told).parity ≡ r.parity
   unfolding taken
-  parity-taken r server told = elim (has_answered r.answers server) as (λ t. (if t then r else record r { answers = r.answers ++ record { server = server; told = told } ∷ [] }).parity ≡ r.parity) [ true ↦ refl | false ↦ refl ]
+  parity-taken r server told =
+      elim (has_answered r.answers server) as
+      (λ t. (if t then r else record r { answers = r.answers ++ record { server = server; told = told } ∷ [] }).parity ≡ r.parity)
+      [ true ↦ refl | false ↦ refl ]
 
-  answer_holds : (c : Course) (groups : GroupMapState) (ask server : ℕ) (told : Told) → Holds spare c → Holds spare (after_step (on_answer c.reading groups ask server told) c.ended)
+  answer_holds : (c : Course) (groups : GroupMapState) (ask server : ℕ) (told : Told) → Holds spare c
+      → Holds spare (after_step (on_answer c.reading groups ask server told) c.ended)
   unfolding on_answer
   answer_holds c groups ask server told h =
       let r = c.reading in
@@ -87,7 +98,8 @@ module _ (spare : ℕ) where
         | false ↦ record { same = h.same; kept = h.kept; says = h.says }
       ]
 
-  goes_holds : (r : ReadingState) (ended : List (List (ℕ × ℕ))) (ask : ℕ) (stage : Stage) → r.stage ≡ stage → r.round.parity ≡ spare → r.kept ≡ first_of ended → Says spare stage ended → Holds spare (after_step (goes_on r ask stage) ended)
+  goes_holds : (r : ReadingState) (ended : List (List (ℕ × ℕ))) (ask : ℕ) (stage : Stage) → r.stage ≡ stage → r.round.parity ≡ spare → r.kept ≡ first_of ended
+      → Says spare stage ended → Holds spare (after_step (goes_on r ask stage) ended)
   goes_holds r ended ask Asking is same kept says = record { same = same; kept = kept; says = subst (λ (s : Stage). Says spare s ended) (sym is) says }
   goes_holds r ended ask Between is same kept says = record { same = same; kept = kept; says = tt }
   goes_holds r ended ask Doubted is same kept says = record { same = same; kept = kept; says = tt }
@@ -102,7 +114,8 @@ module _ (spare : ℕ) where
   course_holds c [] h = h
   course_holds c (e ∷ es) h = course_holds (after_step (transition c.reading e) c.ended) es (step_holds c e h)
 
-  decides : (r : ReadingState) (ended : List (List (ℕ × ℕ))) (ask : ℕ) (stage : Stage) → Says spare stage ended → Decides stage (goes_on r ask stage).next (MissedTwice spare ended)
+  decides : (r : ReadingState) (ended : List (List (ℕ × ℕ))) (ask : ℕ) (stage : Stage) → Says spare stage ended
+      → Decides stage (goes_on r ask stage).next (MissedTwice spare ended)
   decides r ended ask Asking says = refl
   decides r ended ask Between says = (refl, says)
   decides r ended ask Doubted says = (refl, says)

@@ -100,7 +100,8 @@ module _ (part : ℕ) (known : List (Option (List ℕ))) (ds : List (List ℕ)) 
   -- what is found at each number of missing ones, where the sums are what these added
   found_at : (gs : List (ℕ × List ℕ)) (p q : Option (List ℕ)) → Suffices (length gs) p q → Rises 0 8 gs
       → All (λ g. length g.1 ≡ part) gs → All (λ g. IsBytes g.1) gs
-      → IfSome p (λ f. rest_onto plain 0 f known ≡ sum_gone plain (zeros part) gs) → IfSome q (λ f. rest_onto weighted 0 f known ≡ sum_gone weighted (zeros part) gs)
+      → IfSome p (λ f. rest_onto plain 0 f known ≡ sum_gone plain (zeros part) gs)
+      → IfSome q (λ f. rest_onto weighted 0 f known ≡ sum_gone weighted (zeros part) gs)
       → recovered_at (map (λ g. g.0) gs) known p q ≡ map (λ g. g.1) gs
   found_at [] p q enough rises wide bytes first second = refl
   found_at (g ∷ []) None None enough rises wide bytes first second = elim enough [ ]
@@ -128,7 +129,8 @@ module _ (part : ℕ) (known : List (Option (List ℕ))) (ds : List (List ℕ)) 
       let many : length (missing_from 0 known) ≡ length gs = ap (λ (ns : List ℕ). length ns) places ∙ length-map gs (λ g. g.0) in
       let all : recovered_at (map (λ g. g.0) gs) known p q ≡ map (λ g. g.1) gs =
       found_at gs p q (subst (λ (n : ℕ). Suffices n p q) many enough) (gone_rises 0 8 known ds (omega arith))
-      (gone_has (λ f. length f ≡ part) 0 known ds long) (gone_has IsBytes 0 known ds bytes) (by_sum p plain (sum_onto plain 0 (zeros part) ds) plain_left first) (by_sum q weighted (sum_onto weighted 0 (zeros part) ds) weighted_left second) in
+      (gone_has (λ f. length f ≡ part) 0 known ds long) (gone_has IsBytes 0 known ds bytes) (by_sum p plain (sum_onto plain 0 (zeros part) ds) plain_left first)
+      (by_sum q weighted (sum_onto weighted 0 (zeros part) ds) weighted_left second) in
       ap (λ (ns : List ℕ). filled known (recovered_at ns known p q)) places ∙ ap (filled known) all ∙ filled-gone 0 known ds are
 
 -- ---- the whole
@@ -173,7 +175,8 @@ module _ (ps : List (Option (List ℕ))) (text : List ℕ) (bytes : IsBytes text
       let front : AreOf (take count ps) ds = subst (λ (k : ℕ). AreOf (take k ps) ds) (length-pieces count part text) (front_of ds qs ps are) in
       let within : length (take count ps) ≤ 8 = omega (arith, length-take count ps) in
       ap (λ (fs : List (List ℕ)). take (length text) (concat fs))
-      (found part (take count ps) ds front (pieces_long count part text) (part_at ps count) (part_at ps (count + 1)) within (pieces_bytes count part text bytes) enough first second)
+      (found part (take count ps) ds front (pieces_long count part text) (part_at ps count) (part_at ps (count + 1)) within
+      (pieces_bytes count part text bytes) enough first second)
       ∙ text_of_pieces count text some
 
   back : (count : ℕ) (qs : List (List ℕ)) → let ds = pieces count (part_of (length text) count) text in AreOf ps (ds ++ qs) → AreOf (drop count ps) qs
@@ -184,28 +187,40 @@ module _ (ps : List (Option (List ℕ))) (text : List ℕ) (bytes : IsBytes text
   at_first : (count : ℕ) → part_at (drop count ps) 0 ≡ part_at ps count
   at_first count = part_at-drop count 0 ps ∙ ap (part_at ps) (let e : count + 0 ≡ count = omega arith in e)
 
-  pub gives_back : (parity : ℕ) → IsCut (length ps) parity → AreOf ps (stripe_of text (length ps) parity) → length (missing_from 0 ps) ≤ parity → joined ps parity (length text) ≡ text
+  pub gives_back : (parity : ℕ) → IsCut (length ps) parity → AreOf ps (stripe_of text (length ps) parity) → length (missing_from 0 ps) ≤ parity
+      → joined ps parity (length text) ≡ text
   unfolding joined stripe_of is_none_count
   gives_back zero cut are few = absurd (let h = cut.some in omega arith)
   gives_back (suc zero) cut are few =
       let count = length ps - 1 in
       let there = one_there (drop count ps) _ (back count _ are) in
       let none : part_at ps (count + 1) ≡ None = sym (part_at-drop count 1 ps) ∙ there.1 in
-      let first = subst (λ (p : Option (List ℕ)). IfSome p (λ f. f ≡ sum_onto plain 0 (zeros (part_of (length text) count)) (pieces count (part_of (length text) count) text))) (at_first count) there.0 in
+      let first = subst
+      (λ (p : Option (List ℕ)). IfSome p (λ f. f ≡ sum_onto plain 0 (zeros (part_of (length text) count)) (pieces count (part_of (length text) count) text)))
+      (at_first count) there.0 in
       let split : length (missing_from 0 ps) ≡ length (missing_from 0 (take count ps)) + is_none_count (part_at ps count) =
-      length-missing 0 ps ∙ nones-split count ps ∙ ap₂ (λ (a b : ℕ). a + b) (sym (length-missing 0 (take count ps))) (there.2 ∙ ap is_none_count (at_first count)) in
+      length-missing 0 ps ∙ nones-split count ps
+      ∙ ap₂ (λ (a b : ℕ). a + b) (sym (length-missing 0 (take count ps))) (there.2 ∙ ap is_none_count (at_first count)) in
       let enough = suffices_one (length (missing_from 0 (take count ps))) (part_at ps count) (omega arith) in
       whole count 1 _ (omega (arith, cut.least)) (omega (arith, cut.least)) cut.most are
       (subst (λ (q : Option (List ℕ)). Suffices (length (missing_from 0 (take count ps))) (part_at ps count) q) (sym none) enough) first
-      (subst (λ (q : Option (List ℕ)). IfSome q (λ f. f ≡ sum_onto weighted 0 (zeros (part_of (length text) count)) (pieces count (part_of (length text) count) text))) (sym none) tt)
+      (subst (λ (q : Option (List ℕ)). IfSome q
+      (λ f. f ≡ sum_onto weighted 0 (zeros (part_of (length text) count)) (pieces count (part_of (length text) count) text))) (sym none) tt)
   gives_back (suc (suc zero)) cut are few =
       let count = length ps - 2 in
       let there = two_there (drop count ps) _ _ (back count _ are) in
       let next : part_at (drop count ps) 1 ≡ part_at ps (count + 1) = part_at-drop count 1 ps in
-      let first = subst (λ (p : Option (List ℕ)). IfSome p (λ f. f ≡ sum_onto plain 0 (zeros (part_of (length text) count)) (pieces count (part_of (length text) count) text))) (at_first count) there.0 in
-      let second = subst (λ (p : Option (List ℕ)). IfSome p (λ f. f ≡ sum_onto weighted 0 (zeros (part_of (length text) count)) (pieces count (part_of (length text) count) text))) next there.1 in
-      let split : length (missing_from 0 ps) ≡ length (missing_from 0 (take count ps)) + (is_none_count (part_at ps count) + is_none_count (part_at ps (count + 1))) =
-      length-missing 0 ps ∙ nones-split count ps ∙ ap₂ (λ (a b : ℕ). a + b) (sym (length-missing 0 (take count ps))) (there.2 ∙ ap₂ (λ (a b : ℕ). a + b) (ap is_none_count (at_first count)) (ap is_none_count next)) in
+      let first = subst
+      (λ (p : Option (List ℕ)). IfSome p (λ f. f ≡ sum_onto plain 0 (zeros (part_of (length text) count)) (pieces count (part_of (length text) count) text)))
+      (at_first count) there.0 in
+      let second = subst
+      (λ (p : Option (List ℕ)). IfSome p (λ f. f ≡ sum_onto weighted 0 (zeros (part_of (length text) count)) (pieces count (part_of (length text) count) text)))
+      next there.1 in
+      let split : length (missing_from 0 ps) ≡ length (missing_from 0 (take count ps)) +
+      (is_none_count (part_at ps count) + is_none_count (part_at ps (count + 1))) =
+      length-missing 0 ps ∙ nones-split count ps
+      ∙ ap₂ (λ (a b : ℕ). a + b) (sym (length-missing 0 (take count ps)))
+      (there.2 ∙ ap₂ (λ (a b : ℕ). a + b) (ap is_none_count (at_first count)) (ap is_none_count next)) in
       let enough = suffices_two (length (missing_from 0 (take count ps))) (part_at ps count) (part_at ps (count + 1)) (omega arith) in
       whole count 2 _ (omega (arith, cut.least)) (omega (arith, cut.least)) cut.most are enough first second
   gives_back (suc (suc (suc n))) cut are few = absurd (let h = cut.few in omega arith)

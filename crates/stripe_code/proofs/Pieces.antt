@@ -19,14 +19,18 @@ pub pieces_long : (count part : ℕ) (text : List ℕ) → All (λ f. length f �
 pieces_long zero part text = All-nil (λ (f : List ℕ). length f ≡ part)
 pieces_long (suc count) part text =
     let front : length (take part text) ≤ part = omega (arith, length-take part text) in
-    let long : length (padded part (take part text)) ≡ part = length-append (take part text) (zeros (part - length (take part text))) ∙ ap (λ (n : ℕ). length (take part text) + n) (length-replicate (part - length (take part text)) 0) ∙ omega arith in
-    All-cons (λ (f : List ℕ). length f ≡ part) (padded part (take part text)) (pieces count part (drop part text)) long (pieces_long count part (drop part text))
+    let long : length (padded part (take part text)) ≡ part =
+    length-append (take part text) (zeros (part - length (take part text)))
+    ∙ ap (λ (n : ℕ). length (take part text) + n) (length-replicate (part - length (take part text)) 0) ∙ omega arith in
+    All-cons (λ (f : List ℕ). length f ≡ part) (padded part (take part text)) (pieces count part (drop part text)) long
+    (pieces_long count part (drop part text))
 
 pub pieces_bytes : (count part : ℕ) (text : List ℕ) → IsBytes text → All IsBytes (pieces count part text)
 pieces_bytes zero part text bytes = All-nil IsBytes
 pieces_bytes (suc count) part text bytes =
     All-cons IsBytes (padded part (take part text)) (pieces count part (drop part text))
-    (All-append (λ byte. byte < 256) (take part text) (zeros (part - length (take part text))) (All-take (λ byte. byte < 256) part text bytes) (All-replicate (λ byte. byte < 256) (part - length (take part text)) 0 (omega arith)))
+    (All-append (λ byte. byte < 256) (take part text) (zeros (part - length (take part text))) (All-take (λ byte. byte < 256) part text bytes)
+    (All-replicate (λ byte. byte < 256) (part - length (take part text)) 0 (omega arith)))
     (pieces_bytes count part (drop part text) (All-drop (λ byte. byte < 256) part text bytes))
 
 long_padding : (m n k : ℕ) → k ≡ m + n → zeros m ++ zeros n ≡ zeros k
@@ -39,7 +43,8 @@ concat-pieces zero part (x ∷ text) within = absurd (let none : 0 * part ≡ 0 
 concat-pieces (suc count) part text within =
     let more : suc count * part ≡ part + count * part = suc-mul count part ∙ add_comm (count * part) part in
     let rest : length (drop part text) ≡ length text - part = length-drop part text in
-    let end : concat (pieces count part (drop part text)) ≡ drop part text ++ zeros (count * part - length (drop part text)) = concat-pieces count part (drop part text) (omega arith) in
+    let end : concat (pieces count part (drop part text)) ≡ drop part text ++ zeros (count * part - length (drop part text)) =
+    concat-pieces count part (drop part text) (omega arith) in
     let front = take part text in
     let front_long : length front ≡ min part (length text) = length-take part text in
     elim (cases_lt part (length text)) [
@@ -52,7 +57,8 @@ concat-pieces (suc count) part text within =
       | inr short ↦
           let whole : front ≡ text = take_all part text short in
           let over : drop part text ≡ [] = drop_all part text short in
-          let after : concat (pieces count part (drop part text)) ≡ zeros (count * part) = end ∙ ap (λ (a : List ℕ). a ++ zeros (count * part - length a)) over ∙ ap zeros (sub-zero (count * part)) in
+          let after : concat (pieces count part (drop part text)) ≡ zeros (count * part) =
+          end ∙ ap (λ (a : List ℕ). a ++ zeros (count * part - length a)) over ∙ ap zeros (sub-zero (count * part)) in
           ap₂ (λ (a b : List ℕ). a ++ b) (ap (padded part) whole) after ∙ append_assoc text (zeros (part - length text)) (zeros (count * part))
           ∙ ap (λ (a : List ℕ). text ++ a) (long_padding (part - length text) (count * part) (suc count * part - length text) (omega arith))
     ]
@@ -80,4 +86,5 @@ pieces_suffice len count some =
 pub text_of_pieces : (count : ℕ) (text : List ℕ) → 0 < count → take (length text) (concat (pieces count (part_of (length text) count) text)) ≡ text
 text_of_pieces count text some =
     let part = part_of (length text) count in
-    ap (take (length text)) (concat-pieces count part text (pieces_suffice (length text) count some)) ∙ take-append_seam text (zeros (count * part - length text))
+    ap (take (length text)) (concat-pieces count part text (pieces_suffice (length text) count some))
+    ∙ take-append_seam text (zeros (count * part - length text))

@@ -37,7 +37,8 @@ filled-gone i (Some f ∷ ps) (d ∷ ds) are = ap₂ (λ (g : List ℕ) (gs : Li
 pub gone_has : (P : List ℕ → Type 0) (i : ℕ) (ps : List (Option (List ℕ))) (ds : List (List ℕ)) → All P ds → All (λ g. P g.1) (gone_from i ps ds)
 gone_has P i [] ds all = All-nil (λ (g : ℕ × List ℕ). P g.1)
 gone_has P i (p ∷ ps) [] all = All-nil (λ (g : ℕ × List ℕ). P g.1)
-gone_has P i (None ∷ ps) (d ∷ ds) all = All-cons (λ (g : ℕ × List ℕ). P g.1) (i, d) (gone_from (i + 1) ps ds) (All-head P d ds all) (gone_has P (i + 1) ps ds (All-tail P d ds all))
+gone_has P i (None ∷ ps) (d ∷ ds) all =
+    All-cons (λ (g : ℕ × List ℕ). P g.1) (i, d) (gone_from (i + 1) ps ds) (All-head P d ds all) (gone_has P (i + 1) ps ds (All-tail P d ds all))
 gone_has P i (Some f ∷ ps) (d ∷ ds) all = gone_has P (i + 1) ps ds (All-tail P d ds all)
 
 -- places that rise, from one on and below another
@@ -73,7 +74,8 @@ module _ (adds : ℕ → List ℕ → List ℕ) (keeps : (i : ℕ) (f : List ℕ
       length-sum_onto part (i + 1) (xor_of s (adds i f)) fs (length-xor s (adds i f) (long ∙ sym here) ∙ long) (All-tail (λ f. length f ≡ part) f fs all)
 
   -- of a parity fragment, what is left once those that are there are taken out again
-  pub rest_is_gone : (part i : ℕ) (s : List ℕ) (ps : List (Option (List ℕ))) (ds : List (List ℕ)) → AreOf ps ds → length s ≡ part → All (λ f. length f ≡ part) ds
+  pub rest_is_gone : (part i : ℕ) (s : List ℕ) (ps : List (Option (List ℕ))) (ds : List (List ℕ)) → AreOf ps ds → length s ≡ part
+      → All (λ f. length f ≡ part) ds
       → rest_onto adds i (sum_onto adds i s ds) ps ≡ sum_gone adds s (gone_from i ps ds)
   rest_is_gone part i s [] [] are long all = refl
   rest_is_gone part i s [] (d ∷ ds) are long all = elim are [ ]
@@ -86,7 +88,8 @@ module _ (adds : ℕ → List ℕ → List ℕ) (keeps : (i : ℕ) (f : List ℕ
       let here : length (adds i d) ≡ part = keeps i d ∙ All-head (λ f. length f ≡ part) d ds all in
       let sum = sum_onto adds (i + 1) s ds in
       let long_sum : length sum ≡ part = length-sum_onto part (i + 1) s ds long others in
-      ap (λ (u : List ℕ). rest_onto adds (i + 1) u ps) (ap₂ xor_of (sum_more (i + 1) s (adds i d) ds) (ap (adds i) are.0) ∙ cancel sum (adds i d) (long_sum ∙ sym here))
+      ap (λ (u : List ℕ). rest_onto adds (i + 1) u ps)
+      (ap₂ xor_of (sum_more (i + 1) s (adds i d) ds) (ap (adds i) are.0) ∙ cancel sum (adds i d) (long_sum ∙ sym here))
       ∙ rest_is_gone part (i + 1) s ps ds are.1 long others
 
 -- ---- one or two that are missing
@@ -114,9 +117,11 @@ weights_differ a b less =
     ]
 
 -- the piece that the second parity fragment alone gives
-pub from_second : (part a : ℕ) (d : List ℕ) → a < 8 → length d ≡ part → IsBytes d → times (inverse_of (2 ^ a)) (sum_gone weighted (zeros part) ((a, d) ∷ [])) ≡ d
+pub from_second : (part a : ℕ) (d : List ℕ) → a < 8 → length d ≡ part → IsBytes d
+    → times (inverse_of (2 ^ a)) (sum_gone weighted (zeros part) ((a, d) ∷ [])) ≡ d
 from_second part a d low long bytes =
-    ap (times (inverse_of (2 ^ a))) (onto_zeros part (weighted a d) (length-times (2 ^ a) d ∙ long)) ∙ times_back (2 ^ a) d (power_some a) (power_byte a low) bytes
+    ap (times (inverse_of (2 ^ a))) (onto_zeros part (weighted a d) (length-times (2 ^ a) d ∙ long))
+    ∙ times_back (2 ^ a) d (power_some a) (power_byte a low) bytes
 
 -- the two pieces that both parity fragments give
 pub from_both : (part a b : ℕ) (d e : List ℕ) → a < b → b < 8 → length d ≡ part → length e ≡ part → IsBytes d
@@ -131,9 +136,11 @@ from_both part a b d e less low long_d long_e bytes =
     let long_z : length z ≡ part = length-times (2 ^ b) e ∙ long_e in
     let second_sum : xor_of (xor_of (zeros part) x) z ≡ xor_of x z = ap (λ (u : List ℕ). xor_of u z) (onto_zeros part x long_x) in
     let left : xor_of (xor_of x z) (times (2 ^ b) (xor_of d e)) ≡ times (bit_xor (2 ^ a) (2 ^ b)) d =
-    ap (xor_of (xor_of x z)) (times_sum (2 ^ b) d e ∙ comm y z) ∙ sym (assoc (xor_of x z) z y) ∙ ap (λ (u : List ℕ). xor_of u y) (cancel x z (long_x ∙ sym long_z)) ∙ sym (times_by_sum (2 ^ a) (2 ^ b) d) in
+    ap (xor_of (xor_of x z)) (times_sum (2 ^ b) d e ∙ comm y z) ∙ sym (assoc (xor_of x z) z y)
+    ∙ ap (λ (u : List ℕ). xor_of u y) (cancel x z (long_x ∙ sym long_z)) ∙ sym (times_by_sum (2 ^ a) (2 ^ b) d) in
     let byte : bit_xor (2 ^ a) (2 ^ b) < 256 = xor_lt 8 (2 ^ a) (2 ^ b) (power_byte a (omega arith)) (power_byte b low) in
-    let lower : lower_of a b (xor_of d e) (xor_of x z) ≡ d = ap (times (inverse_of (bit_xor (2 ^ a) (2 ^ b)))) left ∙ times_back (bit_xor (2 ^ a) (2 ^ b)) d (weights_differ a b less) byte bytes in
+    let lower : lower_of a b (xor_of d e) (xor_of x z) ≡ d =
+    ap (times (inverse_of (bit_xor (2 ^ a) (2 ^ b)))) left ∙ times_back (bit_xor (2 ^ a) (2 ^ b)) d (weights_differ a b less) byte bytes in
     let upper : xor_of (xor_of d e) d ≡ e = ap (λ (u : List ℕ). xor_of u d) (comm d e) ∙ cancel e d (long_e ∙ sym long_d) in
     ap₂ (both_of a b) plain_sum second_sum ∙ ap₂ (λ (f g : List ℕ). f ∷ g ∷ []) lower (ap (xor_of (xor_of d e)) lower ∙ upper)
 

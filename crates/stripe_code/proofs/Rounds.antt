@@ -24,12 +24,15 @@ both_right false b h = cc
 
 -- ---- the parts that are in are as long as joining asks
 
-bytes_long_more : (n count len index : ℕ) (told : Told) (others : Option (List ℕ)) → TellsPart n count len told → IfSome others (λ b. length b ≡ part_of len count)
+bytes_long_more : (n count len index : ℕ) (told : Told) (others : Option (List ℕ)) → TellsPart n count len told
+    → IfSome others (λ b. length b ≡ part_of len count)
     → IfSome (bytes_told index told others) (λ b. length b ≡ part_of len count)
 bytes_long_more n count len index (Missing g) others part long = long
-bytes_long_more n count len index (Held f) others part long = elim (f.meta.index == index) as (λ t. IfSome (if t then Some f.bytes else others) (λ b. length b ≡ part_of len count)) [ true ↦ part.long | false ↦ long ]
+bytes_long_more n count len index (Held f) others part long =
+    elim (f.meta.index == index) as (λ t. IfSome (if t then Some f.bytes else others) (λ b. length b ≡ part_of len count)) [ true ↦ part.long | false ↦ long ]
 
-bytes_long : (n count len index : ℕ) (answers : List Answer) → All (λ a. TellsPart n count len a.told) answers → IfSome (bytes_in index answers) (λ b. length b ≡ part_of len count)
+bytes_long : (n count len index : ℕ) (answers : List Answer) → All (λ a. TellsPart n count len a.told) answers
+    → IfSome (bytes_in index answers) (λ b. length b ≡ part_of len count)
 bytes_long n count len index [] all = tt
 bytes_long n count len index (a ∷ rest) all =
     bytes_long_more n count len index a.told (bytes_in index rest) (All-head (λ (b : Answer). TellsPart n count len b.told) a rest all)
@@ -71,33 +74,42 @@ none_in n count len (a ∷ rest) none =
     let here = none_told n count len a.told (len_in rest) none in
     All-cons (λ (b : Answer). TellsPart n count len b.told) a rest here.0 (none_in n count len rest here.1)
 
-new_part : (n count : ℕ) (before : Option ℕ) (f : Fragment) → (nat_lt f.meta.index n && says_as_before before f.meta.len && (length f.bytes == part_of f.meta.len count)) ≡ true
+new_part : (n count : ℕ) (before : Option ℕ) (f : Fragment)
+    → (nat_lt f.meta.index n && says_as_before before f.meta.len && (length f.bytes == part_of f.meta.len count)) ≡ true
     → IsPart n count (unwrap_or (or_else before (Some f.meta.len)) 0) f
 unfolding or_else
 new_part n count None f h =
     let front = both_left (nat_lt f.meta.index n && true) _ h in
-    record { index = ltb-true f.meta.index n (both_left (nat_lt f.meta.index n) _ front); says = refl; long = eqb-true (length f.bytes) (part_of f.meta.len count) (both_right (nat_lt f.meta.index n && true) _ h) }
+    record {
+      index = ltb-true f.meta.index n (both_left (nat_lt f.meta.index n) _ front);
+      says = refl;
+      long = eqb-true (length f.bytes) (part_of f.meta.len count) (both_right (nat_lt f.meta.index n && true) _ h);
+    }
 new_part n count (Some len) f h =
     let front = both_left (nat_lt f.meta.index n && (f.meta.len == len)) _ h in
     let same : f.meta.len ≡ len = eqb-true f.meta.len len (both_right (nat_lt f.meta.index n) _ front) in
     record {
       index = ltb-true f.meta.index n (both_left (nat_lt f.meta.index n) _ front);
       says = same;
-      long = eqb-true (length f.bytes) (part_of f.meta.len count) (both_right (nat_lt f.meta.index n && (f.meta.len == len)) _ h) ∙ ap (λ (k : ℕ). part_of k count) same;
+      long = eqb-true (length f.bytes) (part_of f.meta.len count) (both_right (nat_lt f.meta.index n && (f.meta.len == len)) _ h)
+          ∙ ap (λ (k : ℕ). part_of k count) same;
     }
 
-new_told : (r : RoundSoFar) (told : Told) → told_fits r told ≡ true → TellsPart r.n (count_of r) (unwrap_or (or_else (len_in r.answers) (len_told told None)) 0) told
+new_told : (r : RoundSoFar) (told : Told) → told_fits r told ≡ true
+    → TellsPart r.n (count_of r) (unwrap_or (or_else (len_in r.answers) (len_told told None)) 0) told
 new_told r (Held f) fit = new_part r.n (count_of r) (len_in r.answers) f fit
 new_told r (Missing g) fit = tt
 
-old_told : (n count : ℕ) (answers : List Answer) (more : Option ℕ) (before : Option ℕ) → len_in answers ≡ before → All (λ a. TellsPart n count (unwrap_or before 0) a.told) answers
+old_told : (n count : ℕ) (answers : List Answer) (more : Option ℕ) (before : Option ℕ) → len_in answers ≡ before
+    → All (λ a. TellsPart n count (unwrap_or before 0) a.told) answers
     → All (λ a. TellsPart n count (unwrap_or (or_else before more) 0) a.told) answers
 unfolding or_else
 old_told n count answers more None none all = none_in n count (unwrap_or more 0) answers none
 old_told n count answers more (Some len) is all = all
 
 -- one more answer that fits keeps a round a round
-pub pushed_is_round : (r : RoundSoFar) (server : ℕ) (told : Told) → IsRound r → told_fits r told ≡ true → IsRound (record r { answers = r.answers ++ record { server = server; told = told } ∷ [] })
+pub pushed_is_round : (r : RoundSoFar) (server : ℕ) (told : Told) → IsRound r → told_fits r told ≡ true
+    → IsRound (record r { answers = r.answers ++ record { server = server; told = told } ∷ [] })
 pushed_is_round r server told is fit =
     let a : Answer = record { server = server; told = told } in
     let more = len_told told None in
@@ -116,11 +128,13 @@ round_cut r ps is e =
     let many : length ps ≡ r.n = ap (λ (qs : List (Option (List ℕ))). length qs) e ∙ length-map-range_with_len (λ index. bytes_in index r.answers) 0 r.n in
     subst (λ (n : ℕ). IsCut n r.parity) (sym many) is.cut
 
-pub round_parts : (r : RoundSoFar) (ps : List (Option (List ℕ))) → IsRound r → ps ≡ parts_in r.n r.answers → HasLengths (part_of (unwrap_or (len_in r.answers) 0) (length ps - r.parity)) ps
+pub round_parts : (r : RoundSoFar) (ps : List (Option (List ℕ))) → IsRound r → ps ≡ parts_in r.n r.answers
+    → HasLengths (part_of (unwrap_or (len_in r.answers) 0) (length ps - r.parity)) ps
 round_parts r ps is e =
     let many : length ps ≡ r.n = ap (λ (qs : List (Option (List ℕ))). length qs) e ∙ length-map-range_with_len (λ index. bytes_in index r.answers) 0 r.n in
     let len = unwrap_or (len_in r.answers) 0 in
-    subst (λ (n : ℕ). HasLengths (part_of len (n - r.parity)) ps) (sym many) (subst (λ (qs : List (Option (List ℕ))). HasLengths (part_of len (count_of r)) qs) (sym e) (round_lengths r is))
+    subst (λ (n : ℕ). HasLengths (part_of len (n - r.parity)) ps) (sym many)
+    (subst (λ (qs : List (Option (List ℕ))). HasLengths (part_of len (count_of r)) qs) (sym e) (round_lengths r is))
 
 few_excess : (parity : ℕ) → 1 ≤ parity → parity ≤ 2 → (gone : List ℕ) → length gone ≤ parity → excess parity gone ≡ None
 few_excess zero some most gone few = absurd (omega arith)
@@ -145,10 +159,13 @@ some_more a b n e = omega arith
 missing_and_there : (i : ℕ) (ps : List (Option (List ℕ))) → length (missing_from i ps) + count_by is_some ps ≡ length ps
 missing_and_there i [] = refl
 missing_and_there i (None ∷ ps) = none_more (length (missing_from (i + 1) ps)) (count_by is_some ps) (length ps) (missing_and_there (i + 1) ps)
-missing_and_there i (Some f ∷ ps) = ap (λ (n : ℕ). length (missing_from (i + 1) ps) + n) (count_some f ps) ∙ some_more (length (missing_from (i + 1) ps)) (count_by is_some ps) (length ps) (missing_and_there (i + 1) ps)
+missing_and_there i (Some f ∷ ps) =
+    ap (λ (n : ℕ). length (missing_from (i + 1) ps) + n) (count_some f ps)
+    ∙ some_more (length (missing_from (i + 1) ps)) (count_by is_some ps) (length ps) (missing_and_there (i + 1) ps)
 
 -- where enough is in, no more is missing than the parity makes good
-pub enough_in : (r : RoundSoFar) (ps : List (Option (List ℕ))) → IsRound r → ps ≡ parts_in r.n r.answers → count_of r ≤ count_by is_some ps → excess r.parity (missing_from 0 ps) ≡ None
+pub enough_in : (r : RoundSoFar) (ps : List (Option (List ℕ))) → IsRound r → ps ≡ parts_in r.n r.answers → count_of r ≤ count_by is_some ps
+    → excess r.parity (missing_from 0 ps) ≡ None
 enough_in r ps is e enough =
     let many : length ps ≡ r.n = ap (λ (qs : List (Option (List ℕ))). length qs) e ∙ length-map-range_with_len (λ index. bytes_in index r.answers) 0 r.n in
     let all = missing_and_there 0 ps in

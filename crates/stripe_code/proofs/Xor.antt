@@ -57,4 +57,6 @@ times_by_sum a b (x ∷ xs) = ap₂ (λ (z : ℕ) (zs : List ℕ). z ∷ zs) (ad
 -- and is undone
 pub times_back : (by : ℕ) (xs : List ℕ) → 0 < by → by < 256 → IsBytes xs → times (inverse_of by) (times by xs) ≡ xs
 times_back by [] some fits bytes = refl
-times_back by (x ∷ xs) some fits bytes = ap₂ (λ (z : ℕ) (zs : List ℕ). z ∷ zs) (undone by x some fits (All-head (λ byte. byte < 256) x xs bytes)) (times_back by xs some fits (All-tail (λ byte. byte < 256) x xs bytes))
+times_back by (x ∷ xs) some fits bytes =
+    ap₂ (λ (z : ℕ) (zs : List ℕ). z ∷ zs) (undone by x some fits (All-head (λ byte. byte < 256) x xs bytes))
+    (times_back by xs some fits (All-tail (λ byte. byte < 256) x xs bytes))

@@ -44,7 +44,8 @@ servers_of group = map (λ m. m.server) group.members
 
 -- the first round begins
 abbrev pub begun : Target → Group → ℕ → ReadingState
-begun target group ask = record { target = target; ask = ask; kept = []; round = new_round (length group.members) group.parity (servers_of group); stage = Asking }
+begun target group ask =
+    record { target = target; ask = ask; kept = []; round = new_round (length group.members) group.parity (servers_of group); stage = Asking }
 
 abbrev pub is_asking : Stage → Bool
 is_asking Asking = true

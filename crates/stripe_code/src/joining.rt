@@ -1,9 +1,9 @@
 //! The text of a stripe, from those of its fragments that are there.
-ghost use Rattle.std.specs.Prelude.{◌≡◌, ◌⊎◌, ◌-◌, ◌≤◌, ◌<◌, ℕ, List as Seq, Some, None, IfOk, IfErr, OnOk, IfSome, length, take};
+ghost use Rattle.std.specs.Prelude.{◌≡◌, ◌⊎◌, ◌-◌, ◌≤◌, ◌<◌, ℕ, List as Seq, [], ◌∷◌, ◌++◌, Some, None, IfOk, IfErr, OnOk, IfSome, length, take};
 ghost use Rattle.std.specs.List.{concat};
 ghost use Rattle.parity_kernel.specs.Bytewise.{times};
 ghost use Rattle.stripe_code.specs.declared.joining.JoinError.TheVariants.{Memory};
-ghost use Rattle.stripe_code.specs.Joined.{HasLengths, AreOf, AreRising, missing_from, excess, part_at, rest_onto, one_gone, lower_of, two_gone, recovered_at, filled, joined};
+ghost use Rattle.stripe_code.specs.Joined.{HasLengths, AreOf, AreRising, missing_from, excess, part_at, rest_onto, one_gone, lower_of, both_of, two_gone, recovered_at, filled, joined};
 ghost use Rattle.stripe_code.specs.Stripe.{IsCut, IsBytes, part_of, plain, weighted, stripe_of};
 
 use crate::cutting::{added, part_len, xored, zeros_of};
@@ -214,22 +214,44 @@ fn recover_two(
     requires second { IfSome second.now (λ f. length f ≡ part) }
     ensures { IfOk result (λ found. found ≡ two_gone known.now a b first.now second.now) }
 {
-    let mut found = List::new(alloc);
     match (first, second) {
-        (Some(first), Some(second)) => {
-            let sum = plain_rest(alloc, first, known, part)?;
-            let weighted = weighted_rest(alloc, second, known, part)?;
-            let lower = lower_of_two(alloc, a, b, sum.as_slice(), weighted, part)?;
-            let upper = xored(sum, lower.as_slice());
-            found.push(lower)?;
-            found.push(upper)?;
-        }
-        _ => {
-            found.push(List::new(alloc))?;
-            found.push(List::new(alloc))?;
-        }
+        (Some(first), Some(second)) => both_of(alloc, known, a, b, first, second, part),
+        _ => pair_of(alloc, List::new(alloc), List::new(alloc)),
     }
-    Ok(found)
+}
+
+/// The two pieces, where both parity fragments are there.
+fn both_of(
+    alloc: Global,
+    known: &[Option<List<u8>>],
+    a: usize,
+    b: usize,
+    first: &List<u8>,
+    second: &List<u8>,
+    part: usize,
+) -> Mem<List<List<u8>>>
+    requires order { a < b }
+    requires places { b < 8 }
+    requires few { length known.now ≤ 8 }
+    requires known { HasLengths part known.now }
+    requires first { length first.now ≡ part }
+    requires second { length second.now ≡ part }
+    ensures { IfOk result (λ found. found ≡ both_of a b (rest_onto plain 0 first.now known.now) (rest_onto weighted 0 second.now known.now)) }
+{
+    let sum = plain_rest(alloc, first, known, part)?;
+    let weighted = weighted_rest(alloc, second, known, part)?;
+    let lower = lower_of_two(alloc, a, b, sum.as_slice(), weighted, part)?;
+    let upper = xored(sum, lower.as_slice());
+    pair_of(alloc, lower, upper)
+}
+
+fn pair_of(alloc: Global, first: List<u8>, second: List<u8>) -> Mem<List<List<u8>>>
+    ensures { IfOk result (λ pair. pair ≡ first ∷ second ∷ []) }
+{
+    let mut pair = List::new(alloc);
+    pair.push(first)?;
+    pair.push(second)?;
+    Ok(pair)
 }
 
 /// Of the two pieces that are missing the lower, from what they add to both parity fragments.
@@ -310,6 +332,14 @@ fn fill(alloc: Global, known: &[Option<List<u8>>], found: &[List<u8>], len: usiz
     ensures { IfOk result (λ text. text ≡ take len (concat (filled known.now found.now))) }
 {
     let mut text = Vec::new(alloc);
+    add_filled(&mut text, known, found)?;
+    text.truncate(len);
+    Ok(List::from_vec(text))
+}
+
+fn add_filled(text: &mut Vec<u8>, known: &[Option<List<u8>>], found: &[List<u8>]) -> Mem<()>
+    ensures { OnOk result (text.new.items ≡ text.old.items ++ concat (filled known.now found.now)) }
+{
     let mut rest = found;
     for fragment in known {
         match fragment {
@@ -322,6 +352,5 @@ fn fill(alloc: Global, known: &[Option<List<u8>>], found: &[List<u8>], len: usiz
             }
         }
     }
-    text.truncate(len);
-    Ok(List::from_vec(text))
+    Ok(())
 }

@@ -3,7 +3,7 @@ ghost use Rattle.std.specs.Prelude.{◌≡◌, ◌&&◌, IfOk, OnOk, length, map
 ghost use Rattle.std.specs.List.{list_any};
 ghost use Rattle.segment_format.specs.ReadingItems.{answer_of};
 ghost use Rattle.stripe_code.specs.Lost.{missing_twice, same_pair};
-ghost use Rattle.stripe_code.specs.Reading.{begun, to_ask, on_answer, on_confirmed, is_asking, counts, ends, name_fits, segment_found};
+ghost use Rattle.stripe_code.specs.Reading.{begun, to_ask, judged, read_as, on_answer, on_confirmed, is_asking, counts, ends, name_fits, segment_found};
 ghost use Rattle.stripe_code.specs.Round.{told_fits};
 ghost use Rattle.stripe_code.specs.Stripe.{IsCut};
 
@@ -15,7 +15,7 @@ use std::marker::Model;
 use xfs_base::{List, Mem};
 
 /// Where a reading stands.
-#[derive(Clone, Copy, Debug, PartialEq, Eq)]
+#[derive(Clone, Copy)]
 pub enum Stage {
     /// Servers are asked.
     Asking,
@@ -129,16 +129,36 @@ impl Reading {
         if !self.counts(ask, server, &told) {
             return Ok(Next::Wait);
         }
-        match self.round.take(alloc, server, told)? {
+        let stands = self.round.take(alloc, server, told)?;
+        self.judge(alloc, groups, stands)
+    }
+
+    /// What the reader does next where its round stands so.
+    fn judge(&mut self, alloc: Global, groups: &GroupMap, stands: RoundState) -> Mem<Next>
+        ensures state { OnOk result (self.new ≡ (judged self.old groups.now stands).state) }
+        ensures next { IfOk result (λ next. next ≡ (judged self.old groups.now stands).next) }
+    {
+        match stands {
             RoundState::Waiting => Ok(Next::Wait),
             RoundState::Short(pairs) => Ok(self.ends(pairs)),
-            RoundState::Read(bytes) => match found(alloc, &self.target, groups, bytes.as_slice())? {
-                Some(segment) => {
-                    self.stage = Stage::Over;
-                    Ok(Next::Read(segment))
-                }
-                None => Ok(self.ends(List::new(alloc))),
-            },
+            RoundState::Read(bytes) => {
+                let read = found(alloc, &self.target, groups, bytes.as_slice())?;
+                Ok(self.reads(alloc, read))
+            }
+        }
+    }
+
+    /// The text was of the segment, or else of another or of none.
+    fn reads(&mut self, alloc: Global, read: Option<Segment>) -> Next
+        ensures state { self.new ≡ (read_as self.old read).state }
+        ensures next { result ≡ (read_as self.old read).next }
+    {
+        match read {
+            Some(segment) => {
+                self.stage = Stage::Over;
+                Next::Read(segment)
+            }
+            None => self.ends(List::new(alloc)),
         }
     }
 

@@ -159,18 +159,27 @@ impl Round {
     }
 
     /// How the round stands.
-    #[tactic(auto, unfolding(crate::specs::Round::state_of))]
     fn state(&self, alloc: Global) -> Mem<RoundState>
         ensures { IfOk result (λ state. state ≡ state_of self.now) }
     {
         let parts = parts_of(alloc, self.answers.as_slice(), self.n)?;
-        if self.pieces() <= there(parts.as_slice()) {
-            let len = len_or_zero(self.answers.as_slice());
-            let text = joined_text(alloc, parts.as_slice(), self.parity, len)?;
+        self.state_by(alloc, parts.as_slice())
+    }
+
+    /// How the round stands where these parts are in.
+    #[tactic(auto, unfolding(crate::specs::Round::state_of))]
+    fn state_by(&self, alloc: Global, parts: &[Option<List<u8>>]) -> Mem<RoundState>
+        requires { parts.now ≡ parts_in self.now.n self.now.answers }
+        ensures { IfOk result (λ state. state ≡ state_of self.now) }
+    {
+        let answers = self.answers.as_slice();
+        if self.pieces() <= there(parts) {
+            let len = len_or_zero(answers);
+            let text = joined_text(alloc, parts, self.parity, len)?;
             return Ok(RoundState::Read(text));
         }
-        if all_answered(self.answers.as_slice(), self.servers.as_slice()) {
-            let pairs = missing_of(alloc, self.answers.as_slice())?;
+        if all_answered(answers, self.servers.as_slice()) {
+            let pairs = missing_of(alloc, answers)?;
             return Ok(RoundState::Short(pairs));
         }
         Ok(RoundState::Waiting)

@@ -7,7 +7,7 @@ use segment_format::{Item, Segment};
 use xfs_base::{BlockId, Prior, SegName, SegRef};
 
 /// An item of a segment that is to be a Block of one block.
-#[derive(Clone, Copy, Debug, PartialEq, Eq)]
+#[derive(Clone, Copy)]
 pub struct BlockAt {
     /// The number of the item in the segment, from 0.
     pub item: u16,
@@ -16,7 +16,7 @@ pub struct BlockAt {
 }
 
 /// What a reader looks for.
-#[derive(Clone, Copy, Debug, PartialEq, Eq)]
+#[derive(Clone, Copy)]
 pub struct Target {
     /// The segment, and the group over which it lies.
     pub seg: SegRef,

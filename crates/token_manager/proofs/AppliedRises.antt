@@ -33,14 +33,20 @@ Rises s r = (log : ℕ) → applied_of s.applied log ≤ applied_of r.state.appl
 
 rises-finished : (s : SlotState) (blocks : List BlockId) → Rises s (steps finished_at s blocks)
 rises-finished s blocks = steps_keep finished_at (λ t. (log : ℕ) → applied_of s.applied log ≤ applied_of t.applied log)
-    (λ t block so_far. by_finished_at (λ r. (log : ℕ) → applied_of s.applied log ≤ applied_of r.state.applied log) t block so_far (λ job is. so_far)) s blocks (λ log. omega arith)
+    (λ t block so_far. by_finished_at (λ r. (log : ℕ) → applied_of s.applied log ≤ applied_of r.state.applied log) t block so_far (λ job is. so_far)) s blocks
+    (λ log. omega arith)
 
 pub rises-transition : (s : SlotState) (input : In) → Rises s (transition s input)
-rises-transition s (Want client block inc req again mode end) = by_want (Rises s) s (want_of client block inc req again mode) end (λ log. omega arith) (λ _ _ log. omega arith) (λ _ log. omega arith)
-rises-transition s (Gave client block stamp end) = by_gave (Rises s) s client block stamp end (λ log. omega arith) (λ _ _ _ log. omega arith) (λ _ _ log. omega arith)
+rises-transition s (Want client block inc req again mode end) =
+    by_want (Rises s) s (want_of client block inc req again mode) end (λ log. omega arith) (λ _ _ log. omega arith) (λ _ log. omega arith)
+rises-transition s (Gave client block stamp end) =
+    by_gave (Rises s) s client block stamp end (λ log. omega arith) (λ _ _ _ log. omega arith) (λ _ _ log. omega arith)
 rises-transition s (Deltas log first upto rows) = by_deltas (Rises s) s log first upto rows (λ of. omega arith) (λ of. omega arith) (λ joins of.
-    let here : applied_of s.applied of ≤ applied_of (applied_upto s.applied log upto) of = rises s.applied (log.0 - 1) (of - 1) upto (leads_on _ first upto joins) in
-    let later : applied_of (applied_upto s.applied log upto) of ≤ applied_of (steps finished_at (with_deltas s log upto rows) (ready_blocks s.jobs (applied_upto s.applied log upto))).state.applied of = rises-finished (with_deltas s log upto rows) (ready_blocks s.jobs (applied_upto s.applied log upto)) of in
+    let here : applied_of s.applied of ≤ applied_of (applied_upto s.applied log upto) of =
+    rises s.applied (log.0 - 1) (of - 1) upto (leads_on _ first upto joins) in
+    let later : applied_of (applied_upto s.applied log upto) of ≤ applied_of
+    (steps finished_at (with_deltas s log upto rows) (ready_blocks s.jobs (applied_upto s.applied log upto))).state.applied of =
+    rises-finished (with_deltas s log upto rows) (ready_blocks s.jobs (applied_upto s.applied log upto)) of in
     omega arith)
 rises-transition s (Check block place) = λ log. omega arith
 rises-transition s Tick = λ log. omega arith
@@ -49,7 +55,8 @@ pub rises-all : (s : SlotState) (inputs : List In) → Rises s (steps transition
 rises-all s [] = λ log. omega arith
 rises-all s (i ∷ is) = λ log.
     let first : applied_of s.applied log ≤ applied_of (transition s i).state.applied log = rises-transition s i log in
-    let rest : applied_of (transition s i).state.applied log ≤ applied_of (state_after (transition s i).state is).applied log = rises-all (transition s i).state is log in
+    let rest : applied_of (transition s i).state.applied log ≤ applied_of (state_after (transition s i).state is).applied log =
+    rises-all (transition s i).state is log in
     omega arith
 
 -- ---- the counts
@@ -61,11 +68,17 @@ counted-finished : (s : SlotState) (blocks : List BlockId) → IsCounted s.index
 counted-finished = steps_keep finished_at (λ t. IsCounted t.index) (λ t block counted. by_finished_at Counted t block counted (λ _ _. counted))
 
 counted-transition : (s : SlotState) (input : In) → IsCounted s.index → Counted (transition s input)
-counted-transition s (Want client block inc req again mode end) counted = by_want Counted s (want_of client block inc req again mode) end counted (λ _ _. counted) (λ _. counted)
+counted-transition s (Want client block inc req again mode end) counted =
+    by_want Counted s (want_of client block inc req again mode) end counted (λ _ _. counted) (λ _. counted)
 counted-transition s (Gave client block stamp end) counted = by_gave Counted s client block stamp end counted (λ _ _ _. counted) (λ _ _. counted)
-counted-transition s (Deltas log first upto rows) counted = by_deltas Counted s log first upto rows counted counted (λ _. counted-finished (with_deltas s log upto rows) (ready_blocks s.jobs (applied_upto s.applied log upto)) (keeps-counted-all s.index rows counted))
+counted-transition s (Deltas log first upto rows) counted =
+    by_deltas Counted s log first upto rows counted counted
+    (λ _. counted-finished (with_deltas s log upto rows) (ready_blocks s.jobs (applied_upto s.applied log upto)) (keeps-counted-all s.index rows counted))
 counted-transition s (Check block place) counted = counted
 counted-transition s Tick counted = counted
 
-pub counted-all : (epoch : ℕ) (index : List (BlockId × Entry)) (beliefs : List (BlockId × ℕ × Mode)) (applied : List ℕ) (inputs : List In) → IsCounted (state_after (started epoch index beliefs applied) inputs).index
-counted-all epoch index beliefs applied inputs = steps_keep transition (λ t. IsCounted t.index) counted-transition (started epoch index beliefs applied) inputs (keeps-counted-all nothing_indexed index nothing_counted)
+pub counted-all : (epoch : ℕ) (index : List (BlockId × Entry)) (beliefs : List (BlockId × ℕ × Mode)) (applied : List ℕ) (inputs : List In)
+    → IsCounted (state_after (started epoch index beliefs applied) inputs).index
+counted-all epoch index beliefs applied inputs =
+    steps_keep transition (λ t. IsCounted t.index) counted-transition (started epoch index beliefs applied) inputs
+    (keeps-counted-all nothing_indexed index nothing_counted)

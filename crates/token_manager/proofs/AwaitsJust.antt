@@ -47,28 +47,38 @@ kept_put true x o apart = absurd (apart refl)
 kept_put false x o apart = omega arith
 
 -- of other blocks nobody has less than before
-pub more_elsewhere : (bs : List (Holder × Bool)) (want : Wanted) (q : Holder) → (q.block ≡ want.block → ⊥) → share (belief bs q) ≤ share (belief (want_met bs want) q)
+pub more_elsewhere : (bs : List (Holder × Bool)) (want : Wanted) (q : Holder) → (q.block ≡ want.block → ⊥)
+    → share (belief bs q) ≤ share (belief (want_met bs want) q)
 more_elsewhere bs want q other =
     let h = holder want.block want.client in
     let apart : eq_by_cmp holder_cmp q h ≡ true → ⊥ = apart_test q h (λ p. other (ap (λ (x : Holder). x.block) p)) in
     elim (is_own want.mode) as (λ t. share (belief bs q) ≤ share (belief (cond t (owned_by bs h) (held_by bs h)) q)) [
       | true ↦
-          let is : belief (owned_by bs h) q ≡ cond (eq_by_cmp holder_cmp q h) (Some true) (cond (same_block q.block h.block) None (belief bs q)) = lookup-insert_entry holder_cmp_total q h true (without_block bs h.block) ∙ ap (cond (eq_by_cmp holder_cmp q h) (Some true)) (belief-without_block q h.block bs) in
-          subst (λ o. share (belief bs q) ≤ share o) (sym is) (kept_cond (eq_by_cmp holder_cmp q h) (same_block q.block h.block) (belief bs q) apart (λ same. other (sym (same_block_exact q.block h.block same))))
+          let is : belief (owned_by bs h) q ≡ cond (eq_by_cmp holder_cmp q h) (Some true) (cond (same_block q.block h.block) None (belief bs q)) =
+          lookup-insert_entry holder_cmp_total q h true (without_block bs h.block)
+          ∙ ap (cond (eq_by_cmp holder_cmp q h) (Some true)) (belief-without_block q h.block bs) in
+          subst (λ o. share (belief bs q) ≤ share o) (sym is)
+          (kept_cond (eq_by_cmp holder_cmp q h) (same_block q.block h.block) (belief bs q) apart (λ same. other (sym (same_block_exact q.block h.block same))))
       | false ↦ elim (is_some (belief bs h)) as (λ t. share (belief bs q) ≤ share (belief (cond t bs (insert_entry holder_cmp bs h false)) q)) [
         | true ↦ omega arith
-        | false ↦ subst (λ o. share (belief bs q) ≤ share o) (sym (lookup-insert_entry holder_cmp_total q h false bs)) (kept_put (eq_by_cmp holder_cmp q h) (Some false) (belief bs q) apart)
+        | false ↦ subst (λ o. share (belief bs q) ≤ share o) (sym (lookup-insert_entry holder_cmp_total q h false bs))
+            (kept_put (eq_by_cmp holder_cmp q h) (Some false) (belief bs q) apart)
       ]
     ]
 
 -- nobody but the giver has less than before
-pub more_others : (bs : List (Holder × Bool)) (h q : Holder) (keep : Bool) → IsStrictlySortedBy holder_cmp (keys_of bs) → (q ≡ h → ⊥) → share (belief bs q) ≤ share (belief (given_up bs h keep) q)
+pub more_others : (bs : List (Holder × Bool)) (h q : Holder) (keep : Bool) → IsStrictlySortedBy holder_cmp (keys_of bs) → (q ≡ h → ⊥)
+    → share (belief bs q) ≤ share (belief (given_up bs h keep) q)
 more_others bs h q true sorted apart =
-    elim (is_some (belief bs h)) as (λ t. is_some (belief bs h) ≡ t → share (belief bs q) ≤ share (belief (cond t (set_value (is_at (holder_cmp h)) bs false) bs) q)) [
-      | true ↦ λ some. subst (λ o. share (belief bs q) ≤ share o) (sym (disowned bs h q some)) (kept_put (is_at (holder_cmp h) q) (Some false) (belief bs q) (λ same. apart (sym (tells_apart holder_cmp_exact h q same))))
+    elim (is_some (belief bs h)) as
+    (λ t. is_some (belief bs h) ≡ t → share (belief bs q) ≤ share (belief (cond t (set_value (is_at (holder_cmp h)) bs false) bs) q)) [
+      | true ↦ λ some. subst (λ o. share (belief bs q) ≤ share o) (sym (disowned bs h q some))
+          (kept_put (is_at (holder_cmp h) q) (Some false) (belief bs q) (λ same. apart (sym (tells_apart holder_cmp_exact h q same))))
       | false ↦ λ _. omega arith
     ] refl
-more_others bs h q false sorted apart = subst (λ o. share (belief bs q) ≤ share o) (sym (forgotten bs h q sorted)) (kept_put (is_at (holder_cmp h) q) None (belief bs q) (λ same. apart (sym (tells_apart holder_cmp_exact h q same))))
+more_others bs h q false sorted apart =
+    subst (λ o. share (belief bs q) ≤ share o) (sym (forgotten bs h q sorted))
+    (kept_put (is_at (holder_cmp h) q) None (belief bs q) (λ same. apart (sym (tells_apart holder_cmp_exact h q same))))
 
 -- ---- whom a want finds
 
@@ -97,30 +107,39 @@ three false y z p = absurd (cc)
 itself_not : (c : ℕ) → (c == c) ≡ false → ⊥
 itself_not c h = let same : (c == c) ≡ true = grind (arith, nat_tests) in false≢true (sym h ∙ same)
 
-others_from : (bs : List (Holder × Bool)) (block : BlockId) (asking c : ℕ) (owners : Bool) → IsStrictlySortedBy holder_cmp (keys_of bs) → Contains (others bs block asking owners) c → (c ≡ asking → ⊥) × (gives_way owners (belief bs (holder block c)) ≡ true)
+others_from : (bs : List (Holder × Bool)) (block : BlockId) (asking c : ℕ) (owners : Bool) → IsStrictlySortedBy holder_cmp (keys_of bs)
+    → Contains (others bs block asking owners) c → (c ≡ asking → ⊥) × (gives_way owners (belief bs (holder block c)) ≡ true)
 unfolding IsStrictlySortedBy
 others_from [] block asking c owners sorted has = absurd (contains_nothing c has)
 others_from (e ∷ es) block asking c owners sorted has =
     at (Passes e.0 e.1 block asking owners) refl has (λ h. others_from es block asking c owners sorted.1 h)
   where
-    later : (c ≡ asking → ⊥) × (gives_way owners (belief es (holder block c)) ≡ true) → (c ≡ asking → ⊥) × (gives_way owners (belief (e ∷ es) (holder block c)) ≡ true)
+    later : (c ≡ asking → ⊥) × (gives_way owners (belief es (holder block c)) ≡ true)
+        → (c ≡ asking → ⊥) × (gives_way owners (belief (e ∷ es) (holder block c)) ≡ true)
     later found = (
       found.0,
-      elim (is_at (holder_cmp (holder block c)) e.0) as (λ t. is_at (holder_cmp (holder block c)) e.0 ≡ t → gives_way owners (cond t (Some e.1) (belief es (holder block c))) ≡ true) [
-        | true ↦ λ same. absurd (no_way owners (belief es (holder block c)) (subst (λ h. belief es h ≡ None) (sym (tells_apart holder_cmp_exact (holder block c) e.0 same)) (nobody_below e.0 es sorted.0)) found.1)
-        | false ↦ λ _. found.1
-      ] refl,
+      elim (is_at (holder_cmp (holder block c)) e.0) as
+          (λ t. is_at (holder_cmp (holder block c)) e.0 ≡ t → gives_way owners (cond t (Some e.1) (belief es (holder block c))) ≡ true) [
+            | true ↦ λ same. absurd
+                (no_way owners (belief es (holder block c))
+                (subst (λ h. belief es h ≡ None) (sym (tells_apart holder_cmp_exact (holder block c) e.0 same)) (nobody_below e.0 es sorted.0)) found.1)
+            | false ↦ λ _. found.1
+          ] refl,
     )
 
     first : Passes e.0 e.1 block asking owners ≡ true → e.0.client ≡ c → (c ≡ asking → ⊥) × (gives_way owners (belief (e ∷ es) (holder block c)) ≡ true)
     first passes me =
         let parts = three (same_block e.0.block block) (e.0.client == asking) (e.1 || not owners) passes in
         let whole : holder block c ≡ e.0 = ap (λ b. holder b c) (same_block_exact e.0.block block parts.0) ∙ ap (holder e.0.block) (sym me) in
-        let same : is_at (holder_cmp (holder block c)) e.0 ≡ true = subst (λ h. eq_by_cmp holder_cmp (holder block c) h ≡ true) whole (holder_laws.refl (holder block c)) in
-        ((λ it. itself_not asking (subst (λ x. (x == asking) ≡ false) (me ∙ it) parts.1.0)), ap (λ t. gives_way owners (cond t (Some e.1) (belief es (holder block c)))) same ∙ parts.1.1)
+        let same : is_at (holder_cmp (holder block c)) e.0 ≡ true =
+        subst (λ h. eq_by_cmp holder_cmp (holder block c) h ≡ true) whole (holder_laws.refl (holder block c)) in (
+          (λ it. itself_not asking (subst (λ x. (x == asking) ≡ false) (me ∙ it) parts.1.0)),
+          ap (λ t. gives_way owners (cond t (Some e.1) (belief es (holder block c)))) same ∙ parts.1.1,
+        )
 
     at : (t : Bool) → Passes e.0 e.1 block asking owners ≡ t → Contains (cond t (e.0.client ∷ others es block asking owners) (others es block asking owners)) c
-        → (Contains (others es block asking owners) c → (c ≡ asking → ⊥) × (gives_way owners (belief es (holder block c)) ≡ true)) → (c ≡ asking → ⊥) × (gives_way owners (belief (e ∷ es) (holder block c)) ≡ true)
+        → (Contains (others es block asking owners) c → (c ≡ asking → ⊥) × (gives_way owners (belief es (holder block c)) ≡ true))
+        → (c ≡ asking → ⊥) × (gives_way owners (belief (e ∷ es) (holder block c)) ≡ true)
     at true passes h rest = ⊎_elim (first passes) (λ r. later (rest r)) (contains_cases e.0.client c (others es block asking owners) h)
     at false fails h rest = later (rest h)
 
@@ -129,15 +148,21 @@ abbrev pub Once : List ℕ → Type 0
 Once [] = Unit {0}
 Once (x ∷ xs) = (Contains xs x → ⊥) × Once xs
 
-pub others_once : (bs : List (Holder × Bool)) (block : BlockId) (asking : ℕ) (owners : Bool) → IsStrictlySortedBy holder_cmp (keys_of bs) → Once (others bs block asking owners)
+pub others_once : (bs : List (Holder × Bool)) (block : BlockId) (asking : ℕ) (owners : Bool) → IsStrictlySortedBy holder_cmp (keys_of bs)
+    → Once (others bs block asking owners)
 unfolding IsStrictlySortedBy
 others_once [] block asking owners sorted = tt
 others_once (e ∷ es) block asking owners sorted =
     let rest = others_once es block asking owners sorted.1 in
-    elim (Passes e.0 e.1 block asking owners) as (λ t. Passes e.0 e.1 block asking owners ≡ t → Once (cond t (e.0.client ∷ others es block asking owners) (others es block asking owners))) [
+    elim (Passes e.0 e.1 block asking owners) as
+    (λ t. Passes e.0 e.1 block asking owners ≡ t → Once (cond t (e.0.client ∷ others es block asking owners) (others es block asking owners))) [
       | true ↦ λ passes.
-          let parts = three (same_block e.0.block block) (e.0.client == asking) (e.1 || not owners) passes in
-          ((λ has. no_way owners (belief es (holder block e.0.client)) (subst (λ b. belief es (holder b e.0.client) ≡ None) (sym (same_block_exact e.0.block block parts.0)) (nobody_below e.0 es sorted.0)) (others_from es block asking e.0.client owners sorted.1 has).1), rest)
+          let parts = three (same_block e.0.block block) (e.0.client == asking) (e.1 || not owners) passes in (
+            (λ has. no_way owners (belief es (holder block e.0.client))
+                (subst (λ b. belief es (holder b e.0.client) ≡ None) (sym (same_block_exact e.0.block block parts.0)) (nobody_below e.0 es sorted.0))
+                (others_from es block asking e.0.client owners sorted.1 has).1),
+            rest,
+          )
       | false ↦ λ _. rest
     ] refl
 
@@ -150,19 +175,24 @@ OneEach (a ∷ rest) = (a.end ≡ None → Awaits rest a.client → ⊥) × OneE
 
 recalls-await : (epoch turn : ℕ) (keep : Bool) (cs : List ℕ) (c : ℕ) → Awaits (recalls epoch turn keep cs) c → Contains cs c
 recalls-await epoch turn keep [] c waits = absurd waits
-recalls-await epoch turn keep (x ∷ xs) c waits = ⊎_elim (λ p. subst (Contains (x ∷ xs)) p.0 (contains_first x xs)) (λ r. contains_rest x c xs (recalls-await epoch (turn + 1) keep xs c r)) waits
+recalls-await epoch turn keep (x ∷ xs) c waits =
+    ⊎_elim (λ p. subst (Contains (x ∷ xs)) p.0 (contains_first x xs)) (λ r. contains_rest x c xs (recalls-await epoch (turn + 1) keep xs c r)) waits
 
 recalls-once : (epoch turn : ℕ) (keep : Bool) (cs : List ℕ) → Once cs → OneEach (recalls epoch turn keep cs)
 recalls-once epoch turn keep [] once = tt
-recalls-once epoch turn keep (x ∷ xs) once = ((λ _ waits. once.0 (recalls-await epoch (turn + 1) keep xs x waits)), recalls-once epoch (turn + 1) keep xs once.1)
+recalls-once epoch turn keep (x ∷ xs) once =
+    ((λ _ waits. once.0 (recalls-await epoch (turn + 1) keep xs x waits)), recalls-once epoch (turn + 1) keep xs once.1)
 
-noted_head : (t : Bool) (a : Awaited) (end c : ℕ) → ((cond t (record a { end = Some end }) a).client ≡ c) × ((cond t (record a { end = Some end }) a).end ≡ None) → (t ≡ false) × ((a.client ≡ c) × (a.end ≡ None))
+noted_head : (t : Bool) (a : Awaited) (end c : ℕ)
+    → ((cond t (record a { end = Some end }) a).client ≡ c) × ((cond t (record a { end = Some end }) a).end ≡ None)
+    → (t ≡ false) × ((a.client ≡ c) × (a.end ≡ None))
 noted_head true a end c h = absurd (let e : Some end ≡ None = h.1 in cc)
 noted_head false a end c h = (refl, h)
 
 pub noted-awaits : (awaited : List Awaited) (client : ℕ) (stamp : Stamp) (end c : ℕ) → Awaits (noted awaited client stamp end) c → Awaits awaited c
 noted-awaits [] client stamp end c waits = waits
-noted-awaits (a ∷ rest) client stamp end c waits = ⊎_elim (λ h. inl (noted_head (answers client stamp a) a end c h).1) (λ r. inr (noted-awaits rest client stamp end c r)) waits
+noted-awaits (a ∷ rest) client stamp end c waits =
+    ⊎_elim (λ h. inl (noted_head (answers client stamp a) a end c h).1) (λ r. inr (noted-awaits rest client stamp end c r)) waits
 
 noted-once : (awaited : List Awaited) (client : ℕ) (stamp : Stamp) (end : ℕ) → OneEach awaited → OneEach (noted awaited client stamp end)
 noted-once [] client stamp end once = tt
@@ -184,20 +214,24 @@ pub any_awaits : (awaited : List Awaited) (client : ℕ) (stamp : Stamp) → lis
 any_awaits [] client stamp any = absurd (cc)
 any_awaits (a ∷ rest) client stamp any = at (answers client stamp a) refl any (any_awaits rest client stamp)
   where
-    at : (t : Bool) → answers client stamp a ≡ t → t || list_any (answers client stamp) rest ≡ true → (list_any (answers client stamp) rest ≡ true → Awaits rest client) → Awaits (a ∷ rest) client
+    at : (t : Bool) → answers client stamp a ≡ t → t || list_any (answers client stamp) rest ≡ true
+        → (list_any (answers client stamp) rest ≡ true → Awaits rest client) → Awaits (a ∷ rest) client
     at true is _ later = inl (answered client stamp a is)
     at false is any later = inr (later any)
 
 -- after its answer nothing is awaited of the client
-no_longer : (awaited : List Awaited) (client : ℕ) (stamp : Stamp) (end : ℕ) → OneEach awaited → list_any (answers client stamp) awaited ≡ true → Awaits (noted awaited client stamp end) client → ⊥
+no_longer : (awaited : List Awaited) (client : ℕ) (stamp : Stamp) (end : ℕ) → OneEach awaited → list_any (answers client stamp) awaited ≡ true
+    → Awaits (noted awaited client stamp end) client → ⊥
 no_longer [] client stamp end once any waits = waits
 no_longer (a ∷ rest) client stamp end once any waits = at (answers client stamp a) refl any waits (no_longer rest client stamp end once.1)
   where
-    at : (t : Bool) → answers client stamp a ≡ t → t || list_any (answers client stamp) rest ≡ true → Awaits (cond t (record a { end = Some end }) a ∷ noted rest client stamp end) client
+    at : (t : Bool) → answers client stamp a ≡ t → t || list_any (answers client stamp) rest ≡ true
+        → Awaits (cond t (record a { end = Some end }) a ∷ noted rest client stamp end) client
         → (list_any (answers client stamp) rest ≡ true → Awaits (noted rest client stamp end) client → ⊥) → ⊥
     at true is _ waits later =
         let a_is = answered client stamp a is in
-        ⊎_elim (λ h. let e : Some end ≡ None = h.1 in absurd (cc)) (λ r. once.0 a_is.1 (subst (Awaits rest) (sym a_is.0) (noted-awaits rest client stamp end client r))) waits
+        ⊎_elim (λ h. let e : Some end ≡ None = h.1 in absurd (cc))
+        (λ r. once.0 a_is.1 (subst (Awaits rest) (sym a_is.0) (noted-awaits rest client stamp end client r))) waits
     at false is any waits later = ⊎_elim (λ h. once.0 h.1 (subst (Awaits rest) (sym h.0) (any_awaits rest client stamp any))) (later any) waits
 
 -- ---- the state
@@ -209,7 +243,8 @@ record Exact (s : SlotState) : Type 0 where
 more_after : (r r' w : ℕ) → r ≤ r' → 2 < r + w → 2 < r' + w
 more_after r r' w less more = omega arith
 
-must_kept : (bs bs' : List (Holder × Bool)) (want : Wanted) (c : ℕ) → share_of bs want.block c ≤ share_of bs' want.block c → MustGiveWay bs want c → MustGiveWay bs' want c
+must_kept : (bs bs' : List (Holder × Bool)) (want : Wanted) (c : ℕ) → share_of bs want.block c ≤ share_of bs' want.block c → MustGiveWay bs want c
+    → MustGiveWay bs' want c
 must_kept bs bs' want c less way = (way.0, more_after (share_of bs want.block c) (share_of bs' want.block c) (wanted_share want.mode) less way.1)
 
 must_found : (t : Bool) (o : Option Bool) → gives_way (not t) o ≡ true → 2 < share o + cond t 2 1
@@ -223,7 +258,8 @@ other_holder : (h k : Holder) → (h.block ≡ k.block → ⊥) → h ≡ k → 
 other_holder h k other same = other (ap (λ (x : Holder). x.block) same)
 
 -- a want that waits for one block, where none waits for the other, waits for another block
-other_block : (jobs : List (BlockId × Job)) (block b : BlockId) (job : Job) → Waiting jobs → job_at jobs block ≡ None → job_at jobs b ≡ Some job → job.want.block ≡ block → ⊥
+other_block : (jobs : List (BlockId × Job)) (block b : BlockId) (job : Job) → Waiting jobs → job_at jobs block ≡ None → job_at jobs b ≡ Some job
+    → job.want.block ≡ block → ⊥
 other_block jobs block b job w none is same =
     let here : job_at jobs block ≡ Some job = subst (λ x. job_at jobs x ≡ Some job) (sym (w.own b job is) ∙ same) is in
     let clash : None ≡ Some job = sym none ∙ here in
@@ -231,17 +267,20 @@ other_block jobs block b job w none is same =
 
 exact-finished : (s : SlotState) (want : Wanted) → Waiting s.jobs → Exact s → job_at s.jobs want.block ≡ None → Exact (finished s want).state
 exact-finished s want w exact none = record {
-  only = λ block job is c waits. must_kept s.beliefs (want_met s.beliefs want) job.want c (more_elsewhere s.beliefs want (holder job.want.block c) (other_block s.jobs want.block block job w none is)) (exact.only block job is c waits);
+  only = λ block job is c waits. must_kept s.beliefs (want_met s.beliefs want) job.want c
+      (more_elsewhere s.beliefs want (holder job.want.block c) (other_block s.jobs want.block block job w none is)) (exact.only block job is c waits);
   once = exact.once;
 }
 
-exact-recalled : (s : SlotState) (job : Job) (turn : ℕ) → ((c : ℕ) → Awaits job.awaited c → MustGiveWay s.beliefs job.want c) → OneEach job.awaited → Exact s → Exact (record s { jobs = insert_entry block_cmp s.jobs job.want.block job; turn = turn })
+exact-recalled : (s : SlotState) (job : Job) (turn : ℕ) → ((c : ℕ) → Awaits job.awaited c → MustGiveWay s.beliefs job.want c) → OneEach job.awaited → Exact s
+    → Exact (record s { jobs = insert_entry block_cmp s.jobs job.want.block job; turn = turn })
 exact-recalled s job turn only once exact = record {
   only = λ b found is. at (eq_by_cmp block_cmp b job.want.block) b found (sym (lookup-insert_entry block_cmp_total b job.want.block job s.jobs) ∙ is);
   once = λ b found is. each (eq_by_cmp block_cmp b job.want.block) b found (sym (lookup-insert_entry block_cmp_total b job.want.block job s.jobs) ∙ is);
 }
   where
-    at : (t : Bool) (b : BlockId) (found : Job) → cond t (Some job) (job_at s.jobs b) ≡ Some found → (c : ℕ) → Awaits found.awaited c → MustGiveWay s.beliefs found.want c
+    at : (t : Bool) (b : BlockId) (found : Job) → cond t (Some job) (job_at s.jobs b) ≡ Some found → (c : ℕ) → Awaits found.awaited c
+        → MustGiveWay s.beliefs found.want c
     at true b found is = subst (λ (j : Job). (c : ℕ) → Awaits j.awaited c → MustGiveWay s.beliefs j.want c) (ap (λ (o : Option Job). unwrap_or o job) is) only
     at false b found is = exact.only b found is
 
@@ -256,21 +295,27 @@ exact-let_go s block w exact = record {
 }
 
 -- wants for other blocks lose nobody by an answer
-kept_given : (s : SlotState) (want : Wanted) (client : ℕ) (block b : BlockId) (job : Job) → Sound s → Exact s → job_at s.jobs b ≡ Some job → (job.want.block ≡ block → ⊥) → (c : ℕ) → Awaits job.awaited c → MustGiveWay (given s want client block).beliefs job.want c
+kept_given : (s : SlotState) (want : Wanted) (client : ℕ) (block b : BlockId) (job : Job) → Sound s → Exact s → job_at s.jobs b ≡ Some job
+    → (job.want.block ≡ block → ⊥) → (c : ℕ) → Awaits job.awaited c → MustGiveWay (given s want client block).beliefs job.want c
 kept_given s want client block b job sound exact is other c waits =
-    must_kept s.beliefs (given s want client block).beliefs job.want c (more_others s.beliefs (holder block client) (holder job.want.block c) (not (is_own want.mode)) sound.sorted (other_holder (holder job.want.block c) (holder block client) other)) (exact.only b job is c waits)
+    must_kept s.beliefs (given s want client block).beliefs job.want c
+    (more_others s.beliefs (holder block client) (holder job.want.block c) (not (is_own want.mode)) sound.sorted
+    (other_holder (holder job.want.block c) (holder block client) other)) (exact.only b job is c waits)
 
 exact-all_given : (s : SlotState) (want : Wanted) (client : ℕ) (block : BlockId) → Sound s → Exact s → Exact (all_given s client block want)
 exact-all_given s want client block sound exact =
     let w = sound.waiting in
     let removed = waiting-removed s.jobs block w in
-    let was : (b : BlockId) (job : Job) → job_at (without_job s.jobs block) b ≡ Some job → job_at s.jobs b ≡ Some job = λ b job is. was_there (eq_by_cmp block_cmp block b) (job_at s.jobs b) job (sym (after_removal s.jobs block b w.sorted) ∙ is) in
+    let was : (b : BlockId) (job : Job) → job_at (without_job s.jobs block) b ≡ Some job → job_at s.jobs b ≡ Some job =
+    λ b job is. was_there (eq_by_cmp block_cmp block b) (job_at s.jobs b) job (sym (after_removal s.jobs block b w.sorted) ∙ is) in
     record {
-      only = λ b job is. kept_given s want client block b job sound exact (was b job is) (other_block (without_job s.jobs block) block b job removed (gone s.jobs block w.sorted) is);
+      only = λ b job is. kept_given s want client block b job sound exact (was b job is)
+          (other_block (without_job s.jobs block) block b job removed (gone s.jobs block w.sorted) is);
       once = λ b job is. exact.once b job (was b job is);
     }
 
-exact-gave_one : (s : SlotState) (job : Job) (client : ℕ) (block : BlockId) (stamp : Stamp) (end : ℕ) → Sound s → Exact s → job_at s.jobs block ≡ Some job → list_any (answers client stamp) job.awaited ≡ true
+exact-gave_one : (s : SlotState) (job : Job) (client : ℕ) (block : BlockId) (stamp : Stamp) (end : ℕ) → Sound s → Exact s → job_at s.jobs block ≡ Some job
+    → list_any (answers client stamp) job.awaited ≡ true
     → Exact (gave_one s client block job.want (noted job.awaited client stamp end))
 exact-gave_one s job client block stamp end sound exact mine any = record {
   only = λ b found is. at (eq_by_cmp block_cmp b block) b found refl (sym (lookup-insert_entry block_cmp_total b block waits_on s.jobs) ∙ is);
@@ -282,24 +327,38 @@ exact-gave_one s job client block stamp end sound exact mine any = record {
 
     left : (c : ℕ) → Awaits (noted job.awaited client stamp end) c → MustGiveWay (given s job.want client block).beliefs job.want c
     left c waits =
-        let other : holder job.want.block c ≡ holder block client → ⊥ = λ p. no_longer job.awaited client stamp end (exact.once block job mine) any (subst (Awaits (noted job.awaited client stamp end)) (ap (λ (h : Holder). h.client) p) waits) in
-        must_kept s.beliefs (given s job.want client block).beliefs job.want c (more_others s.beliefs (holder block client) (holder job.want.block c) (not (is_own job.want.mode)) sound.sorted other) (exact.only block job mine c (noted-awaits job.awaited client stamp end c waits))
+        let other : holder job.want.block c ≡ holder block client → ⊥ =
+        λ p. no_longer job.awaited client stamp end (exact.once block job mine) any
+        (subst (Awaits (noted job.awaited client stamp end)) (ap (λ (h : Holder). h.client) p) waits) in
+        must_kept s.beliefs (given s job.want client block).beliefs job.want c
+        (more_others s.beliefs (holder block client) (holder job.want.block c) (not (is_own job.want.mode)) sound.sorted other)
+        (exact.only block job mine c (noted-awaits job.awaited client stamp end c waits))
 
-    at : (t : Bool) (b : BlockId) (found : Job) → eq_by_cmp block_cmp b block ≡ t → cond t (Some waits_on) (job_at s.jobs b) ≡ Some found → (c : ℕ) → Awaits found.awaited c → MustGiveWay (given s job.want client block).beliefs found.want c
-    at true b found _ is = subst (λ (j : Job). (c : ℕ) → Awaits j.awaited c → MustGiveWay (given s job.want client block).beliefs j.want c) (ap (λ (o : Option Job). unwrap_or o waits_on) is) left
+    at : (t : Bool) (b : BlockId) (found : Job) → eq_by_cmp block_cmp b block ≡ t → cond t (Some waits_on) (job_at s.jobs b) ≡ Some found → (c : ℕ)
+        → Awaits found.awaited c → MustGiveWay (given s job.want client block).beliefs found.want c
+    at true b found _ is =
+        subst (λ (j : Job). (c : ℕ) → Awaits j.awaited c → MustGiveWay (given s job.want client block).beliefs j.want c)
+        (ap (λ (o : Option Job). unwrap_or o waits_on) is) left
     at false b found apart is = kept_given s job.want client block b found sound exact is
         (λ same. false≢true (sym apart ∙ subst (λ x. eq_by_cmp block_cmp b x ≡ true) (sym (sound.waiting.own b found is) ∙ same) (block_laws.refl b)))
 
     each : (t : Bool) (b : BlockId) (found : Job) → cond t (Some waits_on) (job_at s.jobs b) ≡ Some found → OneEach found.awaited
-    each true b found is = subst (λ (j : Job). OneEach j.awaited) (ap (λ (o : Option Job). unwrap_or o waits_on) is) (noted-once job.awaited client stamp end (exact.once block job mine))
+    each true b found is =
+        subst (λ (j : Job). OneEach j.awaited) (ap (λ (o : Option Job). unwrap_or o waits_on) is)
+        (noted-once job.awaited client stamp end (exact.once block job mine))
     each false b found is = exact.once b found is
 
-exact-steps : (s : SlotState) (applied : List ℕ) (blocks : List BlockId) → Sound s → Exact s → ReadyAt s.jobs applied blocks → Exact (steps finished_at s blocks).state
+exact-steps : (s : SlotState) (applied : List ℕ) (blocks : List BlockId) → Sound s → Exact s → ReadyAt s.jobs applied blocks
+    → Exact (steps finished_at s blocks).state
 exact-steps s applied [] sound exact ready = exact
 exact-steps s applied (b ∷ bs) sound exact ready =
     let w = sound.waiting in
-    let one : Exact (finished_at s b).state = by_finished_at (λ r. Exact r.state) s b exact (λ job is. exact-finished (let_go s b) job.want (waiting-removed s.jobs b w) (exact-let_go s b w exact) (subst (λ x. job_at (without_job s.jobs b) x ≡ None) (sym (w.own b job is)) (gone s.jobs b w.sorted))) in
-    let next : Sound (finished_at s b).state = by_finished_at (λ r. Sound r.state) s b sound (λ job is. sound-answered s applied b job sound is (ready b (contains_first b bs) job is)) in
+    let one : Exact (finished_at s b).state =
+    by_finished_at (λ r. Exact r.state) s b exact
+    (λ job is. exact-finished (let_go s b) job.want (waiting-removed s.jobs b w) (exact-let_go s b w exact)
+    (subst (λ x. job_at (without_job s.jobs b) x ≡ None) (sym (w.own b job is)) (gone s.jobs b w.sorted))) in
+    let next : Sound (finished_at s b).state =
+    by_finished_at (λ r. Sound r.state) s b sound (λ job is. sound-answered s applied b job sound is (ready b (contains_first b bs) job is)) in
     exact-steps (finished_at s b).state applied bs next one (λ block has job is. ready block (contains_rest b block bs has) job (jobs_fewer s b block job w is))
 
 -- ---- the inputs
@@ -311,12 +370,15 @@ exact-transition s (Want client block inc req again mode end) sound exact =
     by_want (λ r. Exact r.state) s want end exact
     (λ going _. exact-finished s want sound.waiting exact (not_waiting (job_at s.jobs block) _ _ going))
     (λ _. exact-recalled s (record { want = want; awaited = recalls s.epoch s.turn owners (recalled_from s want) }) (s.turn + length (recalled_from s want))
-    (λ c waits. let found = others_from s.beliefs block client c owners sound.sorted (recalls-await s.epoch s.turn owners (recalled_from s want) c waits) in (found.0, must_found (is_own mode) (belief s.beliefs (holder block c)) found.1))
+    (λ c waits. let found = others_from s.beliefs block client c owners sound.sorted (recalls-await s.epoch s.turn owners (recalled_from s want) c waits) in
+    (found.0, must_found (is_own mode) (belief s.beliefs (holder block c)) found.1))
     (recalls-once s.epoch s.turn owners (recalled_from s want) (others_once s.beliefs block client owners sound.sorted)) exact)
 exact-transition s (Gave client block stamp end) sound exact =
     let w = sound.waiting in
     by_gave_answered (λ r. Exact r.state) s client block stamp end exact
-    (λ job is _. exact-finished (all_given s client block job.want) job.want (waiting-removed s.jobs block w) (exact-all_given s job.want client block sound exact) (subst (λ x. job_at (without_job s.jobs block) x ≡ None) (sym (w.own block job is)) (gone s.jobs block w.sorted)))
+    (λ job is _. exact-finished (all_given s client block job.want) job.want (waiting-removed s.jobs block w)
+    (exact-all_given s job.want client block sound exact)
+    (subst (λ x. job_at (without_job s.jobs block) x ≡ None) (sym (w.own block job is)) (gone s.jobs block w.sorted)))
     (λ job is any. exact-gave_one s job client block stamp end sound exact is any)
 exact-transition s (Deltas log first upto rows) sound exact =
     by_deltas (λ r. Exact r.state) s log first upto rows exact exact
@@ -327,11 +389,13 @@ exact-transition s (Deltas log first upto rows) sound exact =
 exact-transition s (Check block place) sound exact = exact
 exact-transition s Tick sound exact = exact
 
-pub guarded-all : (epoch : ℕ) (index : List (BlockId × Entry)) (beliefs : List (BlockId × ℕ × Mode)) (applied : List ℕ) (inputs : List In) → OwnsAlone (started epoch index beliefs applied).beliefs → IsGuarded (state_after (started epoch index beliefs applied) inputs)
+pub guarded-all : (epoch : ℕ) (index : List (BlockId × Entry)) (beliefs : List (BlockId × ℕ × Mode)) (applied : List ℕ) (inputs : List In)
+    → OwnsAlone (started epoch index beliefs applied).beliefs → IsGuarded (state_after (started epoch index beliefs applied) inputs)
 guarded-all epoch index beliefs applied inputs alone =
     let first : Exact (started epoch index beliefs applied) = record { only = λ block job is. absurd (cc); once = λ block job is. absurd (cc) } in
     let last : Sound (state_after (started epoch index beliefs applied) inputs) × Exact (state_after (started epoch index beliefs applied) inputs) =
-    steps_keep transition (λ t. Sound t × Exact t) (λ t input both. (sound-transition t input both.0, exact-transition t input both.0 both.1)) (started epoch index beliefs applied) inputs (sound-start epoch index beliefs applied alone, first)
+    steps_keep transition (λ t. Sound t × Exact t) (λ t input both. (sound-transition t input both.0, exact-transition t input both.0 both.1))
+    (started epoch index beliefs applied) inputs (sound-start epoch index beliefs applied alone, first)
     in
     record {
       alone = last.0.alone;

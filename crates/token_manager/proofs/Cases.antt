@@ -37,7 +37,8 @@ abbrev pub all_given : SlotState → ℕ → BlockId → Wanted → SlotState
 all_given s client block want = record (given s want client block) { jobs = without_job s.jobs block }
 
 pub by_gave : (Q : Done → Type 0) (s : SlotState) (client : ℕ) (block : BlockId) (stamp : Stamp) (end : ℕ) → Q (still s)
-    → ((job : Job) → job_at s.jobs block ≡ Some job → is_ready s.applied (noted job.awaited client stamp end) ≡ true → Q (finished (all_given s client block job.want) job.want))
+    → ((job : Job) → job_at s.jobs block ≡ Some job → is_ready s.applied (noted job.awaited client stamp end) ≡ true
+    → Q (finished (all_given s client block job.want) job.want))
     → ((job : Job) → job_at s.jobs block ≡ Some job → Q (still (gave_one s client block job.want (noted job.awaited client stamp end))))
     → Q (on_gave s client block stamp end)
 unfolding gave_noted
@@ -55,8 +56,10 @@ by_gave Q s client block stamp end same done noted_ = by_job (job_at s.jobs bloc
 
 -- the same, with the recall that is answered
 pub by_gave_answered : (Q : Done → Type 0) (s : SlotState) (client : ℕ) (block : BlockId) (stamp : Stamp) (end : ℕ) → Q (still s)
-    → ((job : Job) → job_at s.jobs block ≡ Some job → list_any (answers client stamp) job.awaited ≡ true → Q (finished (all_given s client block job.want) job.want))
-    → ((job : Job) → job_at s.jobs block ≡ Some job → list_any (answers client stamp) job.awaited ≡ true → Q (still (gave_one s client block job.want (noted job.awaited client stamp end))))
+    → ((job : Job) → job_at s.jobs block ≡ Some job → list_any (answers client stamp) job.awaited ≡ true
+    → Q (finished (all_given s client block job.want) job.want))
+    → ((job : Job) → job_at s.jobs block ≡ Some job → list_any (answers client stamp) job.awaited ≡ true
+    → Q (still (gave_one s client block job.want (noted job.awaited client stamp end))))
     → Q (on_gave s client block stamp end)
 unfolding gave_noted
 by_gave_answered Q s client block stamp end same done noted_ = by_job (job_at s.jobs block) refl
@@ -84,7 +87,8 @@ by_deltas Q s log first upto rows same told done =
 abbrev pub let_go : SlotState → BlockId → SlotState
 let_go s block = record s { jobs = without_job s.jobs block }
 
-pub by_finished_at : (Q : Done → Type 0) (s : SlotState) (block : BlockId) → Q (still s) → ((job : Job) → job_at s.jobs block ≡ Some job → Q (finished (let_go s block) job.want)) → Q (finished_at s block)
+pub by_finished_at : (Q : Done → Type 0) (s : SlotState) (block : BlockId) → Q (still s)
+    → ((job : Job) → job_at s.jobs block ≡ Some job → Q (finished (let_go s block) job.want)) → Q (finished_at s block)
 unfolding finished_at
 by_finished_at Q s block same done = by_job (job_at s.jobs block) refl
   where

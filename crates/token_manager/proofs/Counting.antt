@@ -48,34 +48,41 @@ is_end (Some end) seg = at_end (seg_cmp seg end) refl
 pub held_lives : (rows : List (BlockId × Entry)) (block : BlockId) (seg : SegName) → segment_of (entry_of rows block) ≡ Some seg → 0 < live_in seg rows
 held_lives [] block seg = λ held. absurd (cc)
 held_lives (r ∷ rs) block seg =
-    elim (is_at (block_cmp block) r.0) as (λ b. segment_of (unwrap_or (cond b (Some r.1) (lookup (is_at (block_cmp block)) rs)) no_entry) ≡ Some seg → 0 < blocks_at (segment_of r.1) seg + live_in seg rs) [
+    elim (is_at (block_cmp block) r.0) as
+    (λ b. segment_of (unwrap_or (cond b (Some r.1) (lookup (is_at (block_cmp block)) rs)) no_entry) ≡ Some seg
+    → 0 < blocks_at (segment_of r.1) seg + live_in seg rs) [
       | true ↦ λ held. let one : blocks_at (segment_of r.1) seg ≡ 1 = ap (λ end. blocks_at end seg) held ∙ one_at seg in omega arith
       | false ↦ λ held. let rest : 0 < live_in seg rs = held_lives rs block seg held in omega arith
     ]
 
 -- nothing is held of a block that is below all rows
-none_below : (block : BlockId) (rows : List (BlockId × Entry)) → AllByRecursion (λ y. block_cmp block y ≡ Less) (keys_of rows) → lookup (is_at (block_cmp block)) rows ≡ None
+none_below : (block : BlockId) (rows : List (BlockId × Entry)) → AllByRecursion (λ y. block_cmp block y ≡ Less) (keys_of rows)
+    → lookup (is_at (block_cmp block)) rows ≡ None
 none_below block [] below = refl
 none_below block (r ∷ rs) below = ap (λ o. cond (is_eq o) (Some r.1) (lookup (is_at (block_cmp block)) rs)) below.0 ∙ none_below block rs below.1
 
-below_rest : (block next : BlockId) (ks : List BlockId) → block_cmp block next ≡ Less → AllByRecursion (λ y. block_cmp next y ≡ Less) ks → AllByRecursion (λ y. block_cmp block y ≡ Less) ks
+below_rest : (block next : BlockId) (ks : List BlockId) → block_cmp block next ≡ Less → AllByRecursion (λ y. block_cmp next y ≡ Less) ks
+    → AllByRecursion (λ y. block_cmp block y ≡ Less) ks
 below_rest block next [] less below = tt
 below_rest block next (k ∷ ks) less below = (block_cmp_total.trans block next k less below.0, below_rest block next ks less below.1)
 
 -- an entry that is put in lives in its segment, and what it replaces no longer does
 live_in-insert : (seg : SegName) (block : BlockId) (entry : Entry) (rows : List (BlockId × Entry)) → IsStrictlySortedBy block_cmp (keys_of rows)
-    → live_in seg (insert_entry block_cmp rows block entry) + blocks_at (segment_of (entry_of rows block)) seg ≡ live_in seg rows + blocks_at (segment_of entry) seg
+    → live_in seg (insert_entry block_cmp rows block entry) + blocks_at (segment_of (entry_of rows block)) seg ≡ live_in seg rows + blocks_at
+    (segment_of entry) seg
 unfolding IsStrictlySortedBy
 live_in-insert seg block entry [] sorted = omega arith
 live_in-insert seg block entry (r ∷ rs) sorted =
     let at : Option Entry → ℕ = λ o. blocks_at (segment_of (unwrap_or o no_entry)) seg in
     let rest = lookup (is_at (block_cmp block)) rs in
     elim (block_cmp block r.0) as (λ o. block_cmp block r.0 ≡ o
-    → live_in seg (match_ordering o ((block, entry) ∷ r ∷ rs) ((r.0, entry) ∷ rs) (r ∷ insert_entry block_cmp rs block entry)) + at (cond (is_eq o) (Some r.1) rest)
+    → live_in seg (match_ordering o ((block, entry) ∷ r ∷ rs) ((r.0, entry) ∷ rs) (r ∷ insert_entry block_cmp rs block entry)) + at
+    (cond (is_eq o) (Some r.1) rest)
     ≡ live_in seg (r ∷ rs) + blocks_at (segment_of entry) seg) [
       | Less ↦ λ less. let none : at rest ≡ 0 = ap at (none_below block rs (below_rest block r.0 (keys_of rs) less sorted.0)) in omega arith
       | Equal ↦ λ _. omega arith
-      | Greater ↦ λ _. let more : live_in seg (insert_entry block_cmp rs block entry) + at rest ≡ live_in seg rs + blocks_at (segment_of entry) seg = live_in-insert seg block entry rs sorted.1 in omega arith
+      | Greater ↦ λ _. let more : live_in seg (insert_entry block_cmp rs block entry) + at rest ≡ live_in seg rs + blocks_at (segment_of entry) seg =
+          live_in-insert seg block entry rs sorted.1 in omega arith
     ] refl
 
 -- ---- one merge
@@ -89,13 +96,17 @@ keeps-counted i m counted =
     let held = segment_of (entry_of i.rows m.0) in
     let to = segment_of m.1 in
     let paged = put_newer (pages_of i) m.0 m.1 in
-    elim (is_newer m.1 (entry_of i.rows m.0)) as (λ b. IsCounted (record { rows = cond b (insert_entry block_cmp i.rows m.0 m.1) i.rows; usage = moved b i.usage held to; numbers = paged.numbers; pages = paged.pages })) [
+    elim (is_newer m.1 (entry_of i.rows m.0)) as
+    (λ b. IsCounted
+    (record { rows = cond b (insert_entry block_cmp i.rows m.0 m.1) i.rows; usage = moved b i.usage held to; numbers = paged.numbers; pages = paged.pages })) [
       | true ↦ record {
         sorted = sorted_insert block_cmp block_cmp_total m.0 m.1 i.rows counted.sorted;
         table = table_after_shift i.usage held to counted.table;
         counted = λ seg.
-            let shifted : count_of (after_shift i.usage held to) seg + blocks_at held seg ≡ count_of i.usage seg + blocks_at to seg = count_of-after_shift i.usage held to seg counted.table (held_counted i counted m.0) in
-            let lives : live_in seg (insert_entry block_cmp i.rows m.0 m.1) + blocks_at held seg ≡ live_in seg i.rows + blocks_at to seg = live_in-insert seg m.0 m.1 i.rows counted.sorted in
+            let shifted : count_of (after_shift i.usage held to) seg + blocks_at held seg ≡ count_of i.usage seg + blocks_at to seg =
+            count_of-after_shift i.usage held to seg counted.table (held_counted i counted m.0) in
+            let lives : live_in seg (insert_entry block_cmp i.rows m.0 m.1) + blocks_at held seg ≡ live_in seg i.rows + blocks_at to seg =
+            live_in-insert seg m.0 m.1 i.rows counted.sorted in
             let was : count_of i.usage seg ≡ live_in seg i.rows = counted.counted seg in
             omega arith;
       }
@@ -103,19 +114,22 @@ keeps-counted i m counted =
     ]
 
 -- a count rises by no more than the block that came
-grown : (i : Indexed) (m : BlockId × Entry) → IsCounted i → (seg : SegName) → count_of (indexed i m).usage seg ≤ count_of i.usage seg + blocks_at (segment_of m.1) seg
+grown : (i : Indexed) (m : BlockId × Entry) → IsCounted i → (seg : SegName)
+    → count_of (indexed i m).usage seg ≤ count_of i.usage seg + blocks_at (segment_of m.1) seg
 unfolding indexed
 grown i m counted seg =
     let held = segment_of (entry_of i.rows m.0) in
     let to = segment_of m.1 in
     elim (is_newer m.1 (entry_of i.rows m.0)) as (λ b. count_of (moved b i.usage held to) seg ≤ count_of i.usage seg + blocks_at to seg) [
-      | true ↦ let shifted : count_of (after_shift i.usage held to) seg + blocks_at held seg ≡ count_of i.usage seg + blocks_at to seg = count_of-after_shift i.usage held to seg counted.table (held_counted i counted m.0) in omega arith
+      | true ↦ let shifted : count_of (after_shift i.usage held to) seg + blocks_at held seg ≡ count_of i.usage seg + blocks_at to seg =
+          count_of-after_shift i.usage held to seg counted.table (held_counted i counted m.0) in omega arith
       | false ↦ omega arith
     ]
 
 -- ---- room for all
 
-pub fits_first : (usage : List (SegName × ℕ)) (m : BlockId × Entry) (ms : List (BlockId × Entry)) → Fits usage (m ∷ ms) → ForSome (segment_of m.1) (λ seg. count_of usage seg < 2 ^ 32 - 1)
+pub fits_first : (usage : List (SegName × ℕ)) (m : BlockId × Entry) (ms : List (BlockId × Entry)) → Fits usage (m ∷ ms)
+    → ForSome (segment_of m.1) (λ seg. count_of usage seg < 2 ^ 32 - 1)
 fits_first usage m ms fits = λ seg is.
     let one : blocks_at (segment_of m.1) seg ≡ 1 = ap (λ end. blocks_at end seg) is ∙ one_at seg in
     let room : count_of usage seg + (blocks_at (segment_of m.1) seg + live_in seg ms) < 2 ^ 32 = fits seg (omega arith) in
@@ -144,16 +158,20 @@ both true c h = (refl, h)
 both false c h = absurd (cc)
 
 -- the count of each segment of the rows can rise by so many
-can_rise-at : (more : ℕ) (usage : List (SegName × ℕ)) (rows : List (BlockId × Entry)) (seg : SegName) → has_room more usage rows ≡ true → 0 < live_in seg rows → more ≤ 2 ^ 32 - 1 - count_of usage seg
+can_rise-at : (more : ℕ) (usage : List (SegName × ℕ)) (rows : List (BlockId × Entry)) (seg : SegName) → has_room more usage rows ≡ true → 0 < live_in seg rows
+    → more ≤ 2 ^ 32 - 1 - count_of usage seg
 can_rise-at more usage [] seg room some = absurd (omega arith)
 can_rise-at more usage (r ∷ rs) seg room some =
     let halves = both (can_rise more usage (segment_of r.1)) (has_room more usage rs) room in
     at_row (blocks_at (segment_of r.1) seg) refl (can_rise-at more usage rs seg halves.1)
   where
-    at_row : (n : ℕ) → blocks_at (segment_of r.1) seg ≡ n → (0 < live_in seg rs → more ≤ 2 ^ 32 - 1 - count_of usage seg) → more ≤ 2 ^ 32 - 1 - count_of usage seg
+    at_row : (n : ℕ) → blocks_at (segment_of r.1) seg ≡ n → (0 < live_in seg rs → more ≤ 2 ^ 32 - 1 - count_of usage seg)
+        → more ≤ 2 ^ 32 - 1 - count_of usage seg
     at_row zero none rest = rest (omega arith)
     at_row (suc n) one rest =
-        let can : nat_le more (2 ^ 32 - 1 - count_of usage seg) ≡ true = sym (ap (can_rise more usage) (is_end (segment_of r.1) seg (omega arith))) ∙ (both (can_rise more usage (segment_of r.1)) (has_room more usage rs) room).0 in
+        let can : nat_le more (2 ^ 32 - 1 - count_of usage seg) ≡ true =
+        sym (ap (can_rise more usage) (is_end (segment_of r.1) seg (omega arith)))
+        ∙ (both (can_rise more usage (segment_of r.1)) (has_room more usage rs) room).0 in
         grind (arith, nat_tests)
 
 pub room_fits : (usage : List (SegName × ℕ)) (rows : List (BlockId × Entry)) → has_room (length rows) usage rows ≡ true → Fits usage rows
@@ -205,21 +223,27 @@ cleaned_indexed i p same = λ k. record { rows = (same k).rows; usage = i.usage;
 
 -- the pages of an index follow it
 pub pages-indexed : (i : Indexed) (m : BlockId × Entry) → pages_of (indexed i m) ≡ put_newer (pages_of i) m.0 m.1
-pages-indexed i m = sym (ap pages_of (is_indexed i m (put_newer (pages_of i) m.0 m.1) (moved (is_newer m.1 (entry_of i.rows m.0)) i.usage (segment_of (entry_of i.rows m.0)) (segment_of m.1)) refl refl))
+pages-indexed i m =
+    sym (ap pages_of
+    (is_indexed i m (put_newer (pages_of i) m.0 m.1)
+    (moved (is_newer m.1 (entry_of i.rows m.0)) i.usage (segment_of (entry_of i.rows m.0)) (segment_of m.1)) refl refl))
 
 pub pages-cleaned : (i : Indexed) → pages_of (cleaned_index i) ≡ cleaned (pages_of i)
 pages-cleaned i = sym (ap pages_of (cleaned_indexed i (cleaned (pages_of i)) refl))
 
-pub kept_indexed : (i : Indexed) (m : BlockId × Entry) (p : PagesState) → is_newer m.1 (entry_of i.rows m.0) ≡ false → p ≡ put_newer (pages_of i) m.0 m.1 → shown p i.usage ≡ indexed i m
+pub kept_indexed : (i : Indexed) (m : BlockId × Entry) (p : PagesState) → is_newer m.1 (entry_of i.rows m.0) ≡ false → p ≡ put_newer (pages_of i) m.0 m.1
+    → shown p i.usage ≡ indexed i m
 kept_indexed i m p old same =
     is_indexed i m p i.usage same (sym (ap (λ b. moved b i.usage (segment_of (entry_of i.rows m.0)) (segment_of m.1)) old))
 
-pub put_indexed : (i : Indexed) (m : BlockId × Entry) (p : PagesState) (usage : List (SegName × ℕ)) → is_newer m.1 (entry_of i.rows m.0) ≡ true → p ≡ put_newer (pages_of i) m.0 m.1
+pub put_indexed : (i : Indexed) (m : BlockId × Entry) (p : PagesState) (usage : List (SegName × ℕ)) → is_newer m.1 (entry_of i.rows m.0) ≡ true
+    → p ≡ put_newer (pages_of i) m.0 m.1
     → usage ≡ after_shift i.usage (segment_of (entry_of i.rows m.0)) (segment_of m.1) → shown p usage ≡ indexed i m
 put_indexed i m p usage newer same follows =
     is_indexed i m p usage same (follows ∙ sym (ap (λ b. moved b i.usage (segment_of (entry_of i.rows m.0)) (segment_of m.1)) newer))
 
-pub counted_as : (i : Indexed) (m : BlockId × Entry) (p : PagesState) (usage : List (SegName × ℕ)) → IsCounted i → shown p usage ≡ indexed i m → IsCounted (shown p usage)
+pub counted_as : (i : Indexed) (m : BlockId × Entry) (p : PagesState) (usage : List (SegName × ℕ)) → IsCounted i → shown p usage ≡ indexed i m
+    → IsCounted (shown p usage)
 counted_as i m p usage counted same = subst IsCounted (sym same) (keeps-counted i m counted)
 
 -- cleaned pages have the same rows
@@ -227,6 +251,8 @@ pub counted_clean : (i : Indexed) (p : PagesState) → p ≡ cleaned (pages_of i
 unfolding cleaned
 counted_clean i p same = same_rows i (shown p i.usage) (ap (λ (q : PagesState). q.rows) same) refl
 
-pub fits_next : (i j : Indexed) (rows : List (BlockId × Entry)) (k : ℕ) (d : BlockId × Entry) → IsCounted i → j ≡ indexed i (get_or rows k d) → k < length rows → Fits i.usage (drop k rows) → Fits j.usage (drop (k + 1) rows)
+pub fits_next : (i j : Indexed) (rows : List (BlockId × Entry)) (k : ℕ) (d : BlockId × Entry) → IsCounted i → j ≡ indexed i (get_or rows k d) → k < length rows
+    → Fits i.usage (drop k rows) → Fits j.usage (drop (k + 1) rows)
 fits_next i j rows k d counted next here fits =
-    subst (λ (n : Indexed). Fits n.usage (drop (k + 1) rows)) (sym next) (fits_more i (get_or rows k d) (drop (k + 1) rows) counted (subst (Fits i.usage) (drop_more rows k d here) fits))
+    subst (λ (n : Indexed). Fits n.usage (drop (k + 1) rows)) (sym next)
+    (fits_more i (get_or rows k d) (drop (k + 1) rows) counted (subst (Fits i.usage) (drop_more rows k d here) fits))

@@ -42,16 +42,20 @@ use Rattle.token_manager.proofs.JobsBarGrants.{Waiting, block_laws, after_remova
 abbrev IsInOrder : List (Holder × Bool) → Type 0
 IsInOrder bs = IsStrictlySortedBy holder_cmp (keys_of bs)
 
-below_filter : (h : Holder) (p : Holder × Bool → Bool) (es : List (Holder × Bool)) → AllByRecursion (λ y. holder_cmp h y ≡ Less) (keys_of es) → AllByRecursion (λ y. holder_cmp h y ≡ Less) (keys_of (filter p es))
+below_filter : (h : Holder) (p : Holder × Bool → Bool) (es : List (Holder × Bool)) → AllByRecursion (λ y. holder_cmp h y ≡ Less) (keys_of es)
+    → AllByRecursion (λ y. holder_cmp h y ≡ Less) (keys_of (filter p es))
 below_filter h p [] below = below
 below_filter h p (e ∷ es) below =
-    elim (p e) as (λ t. AllByRecursion (λ y. holder_cmp h y ≡ Less) (keys_of (cond t (e ∷ filter p es) (filter p es)))) [ true ↦ (below.0, below_filter h p es below.1) | false ↦ below_filter h p es below.1 ]
+    elim (p e) as (λ t. AllByRecursion (λ y. holder_cmp h y ≡ Less) (keys_of (cond t (e ∷ filter p es) (filter p es))))
+    [ true ↦ (below.0, below_filter h p es below.1) | false ↦ below_filter h p es below.1 ]
 
-sorted_filter : (p : Holder × Bool → Bool) (es : List (Holder × Bool)) → IsStrictlySortedBy holder_cmp (keys_of es) → IsStrictlySortedBy holder_cmp (keys_of (filter p es))
+sorted_filter : (p : Holder × Bool → Bool) (es : List (Holder × Bool)) → IsStrictlySortedBy holder_cmp (keys_of es)
+    → IsStrictlySortedBy holder_cmp (keys_of (filter p es))
 unfolding IsStrictlySortedBy
 sorted_filter p [] sorted = sorted
 sorted_filter p (e ∷ es) sorted =
-    elim (p e) as (λ t. IsStrictlySortedBy holder_cmp (keys_of (cond t (e ∷ filter p es) (filter p es)))) [ true ↦ (below_filter e.0 p es sorted.0, sorted_filter p es sorted.1) | false ↦ sorted_filter p es sorted.1 ]
+    elim (p e) as (λ t. IsStrictlySortedBy holder_cmp (keys_of (cond t (e ∷ filter p es) (filter p es))))
+    [ true ↦ (below_filter e.0 p es sorted.0, sorted_filter p es sorted.1) | false ↦ sorted_filter p es sorted.1 ]
 
 sorted-put : (bs : List (Holder × Bool)) (h : Holder) (owns : Bool) → IsInOrder bs → IsInOrder (insert_entry holder_cmp bs h owns)
 sorted-put bs h owns sorted = sorted_insert holder_cmp holder_cmp_total h owns bs sorted
@@ -61,7 +65,8 @@ sorted-want_met bs want sorted =
     let h = holder want.block want.client in
     elim (is_own want.mode) as (λ t. IsInOrder (cond t (owned_by bs h) (held_by bs h))) [
       | true ↦ sorted-put (without_block bs h.block) h true (sorted_filter (λ b. not (same_block b.0.block h.block)) bs sorted)
-      | false ↦ elim (is_some (belief bs h)) as (λ t. IsInOrder (cond t bs (insert_entry holder_cmp bs h false))) [ true ↦ sorted | false ↦ sorted-put bs h false sorted ]
+      | false ↦ elim (is_some (belief bs h)) as (λ t. IsInOrder (cond t bs (insert_entry holder_cmp bs h false)))
+          [ true ↦ sorted | false ↦ sorted-put bs h false sorted ]
     ]
 
 pub sorted-given_up : (bs : List (Holder × Bool)) (h : Holder) (keep : Bool) → IsInOrder bs → IsInOrder (given_up bs h keep)
@@ -76,7 +81,9 @@ sorted-all : (bs : List (Holder × Bool)) (list : List (BlockId × ℕ × Mode))
 unfolding believed
 sorted-all bs [] sorted = sorted
 sorted-all bs (b ∷ list) sorted =
-    sorted-all (believed bs b) list (elim (is_nothing b.2) as (λ t. IsInOrder (cond t bs (insert_entry holder_cmp bs (holder b.0 b.1) (is_own b.2)))) [ true ↦ sorted | false ↦ sorted-put bs (holder b.0 b.1) (is_own b.2) sorted ])
+    sorted-all (believed bs b) list
+    (elim (is_nothing b.2) as (λ t. IsInOrder (cond t bs (insert_entry holder_cmp bs (holder b.0 b.1) (is_own b.2))))
+    [ true ↦ sorted | false ↦ sorted-put bs (holder b.0 b.1) (is_own b.2) sorted ])
 
 -- ---- owners stay alone
 
@@ -95,12 +102,16 @@ with_asker mine was other before want (inr a) b c d = omega arith
 abbrev pub LeavesRoom : List (Holder × Bool) → Wanted → Type 0
 LeavesRoom bs want = (c : ℕ) → (c ≡ want.client → ⊥) → share_of bs want.block c + wanted_share want.mode ≤ 2
 
-alone-asker : (bs : List (Holder × Bool)) (want : Wanted) (block : BlockId) (c d : ℕ) → OwnsAlone bs → LeavesRoom bs want → (c ≡ d → ⊥) → holder block c ≡ holder want.block want.client → share_of (want_met bs want) block c + share_of (want_met bs want) block d ≤ 2
+alone-asker : (bs : List (Holder × Bool)) (want : Wanted) (block : BlockId) (c d : ℕ) → OwnsAlone bs → LeavesRoom bs want → (c ≡ d → ⊥)
+    → holder block c ≡ holder want.block want.client → share_of (want_met bs want) block c + share_of (want_met bs want) block d ≤ 2
 alone-asker bs want block c d alone room apart p =
     let same : block ≡ want.block = ap (λ (h : Holder). h.block) p in
     let me : c ≡ want.client = ap (λ (h : Holder). h.client) p in
-    let mine : (share_of (want_met bs want) block c ≤ wanted_share want.mode) ⊎ (share_of (want_met bs want) block c ≤ share_of bs block c) = subst (λ h. (share (belief (want_met bs want) h) ≤ wanted_share want.mode) ⊎ (share (belief (want_met bs want) h) ≤ share (belief bs h))) (sym p) (asker bs want) in
-    with_asker (share_of (want_met bs want) block c) (share_of bs block c) (share_of (want_met bs want) block d) (share_of bs block d) (wanted_share want.mode) mine
+    let mine : (share_of (want_met bs want) block c ≤ wanted_share want.mode) ⊎ (share_of (want_met bs want) block c ≤ share_of bs block c) =
+    subst (λ h. (share (belief (want_met bs want) h) ≤ wanted_share want.mode) ⊎ (share (belief (want_met bs want) h) ≤ share (belief bs h))) (sym p)
+    (asker bs want) in
+    with_asker (share_of (want_met bs want) block c) (share_of bs block c) (share_of (want_met bs want) block d) (share_of bs block d)
+    (wanted_share want.mode) mine
     (least bs want (holder block d) (λ q. apart (me ∙ sym (ap (λ (h : Holder). h.client) q))))
     (subst (λ b. share_of bs b d + wanted_share want.mode ≤ 2) (sym same) (room d (λ e. apart (me ∙ sym e))))
     (alone block c d apart)
@@ -118,7 +129,8 @@ alone-want_met bs want alone room block c d apart =
     (λ p. alone-asker bs want block c d alone room apart p)
     (λ c_apart. ⊎_elim
     (λ q. swapped (share_of (want_met bs want) block d) (share_of (want_met bs want) block c) (alone-asker bs want block d c alone room (λ e. apart (sym e)) q))
-    (λ d_apart. both_less _ _ (share_of bs block c) (share_of bs block d) (least bs want (holder block c) c_apart) (least bs want (holder block d) d_apart) (alone block c d apart))
+    (λ d_apart. both_less _ _ (share_of bs block c) (share_of bs block d) (least bs want (holder block c) c_apart) (least bs want (holder block d) d_apart)
+    (alone block c d apart))
     (decided (holder block d) h))
     (decided (holder block c) h)
 
@@ -126,7 +138,8 @@ alone-want_met bs want alone room block c d apart =
 
 -- the want awaits all who must give way
 abbrev pub AwaitsAll : List (Holder × Bool) → Job → Type 0
-AwaitsAll beliefs job = (client : ℕ) → (client ≡ job.want.client → ⊥) → 2 < share_of beliefs job.want.block client + wanted_share job.want.mode → Awaits job.awaited client
+AwaitsAll beliefs job =
+    (client : ℕ) → (client ≡ job.want.client → ⊥) → 2 < share_of beliefs job.want.block client + wanted_share job.want.mode → Awaits job.awaited client
 
 awaits-recalls : (epoch turn : ℕ) (keep : Bool) (cs : List ℕ) (c : ℕ) → Contains cs c → Awaits (recalls epoch turn keep cs) c
 awaits-recalls epoch turn keep [] c has = contains_nothing c has
@@ -136,11 +149,13 @@ pub equal_numbers : (c d : ℕ) → (c == d) ≡ true → c ≡ d
 equal_numbers c d same = grind (arith, nat_tests)
 
 -- an answer notes no recall of another client
-pub awaits-noted : (awaited : List Awaited) (client : ℕ) (stamp : Stamp) (end c : ℕ) → (c ≡ client → ⊥) → Awaits awaited c → Awaits (noted awaited client stamp end) c
+pub awaits-noted : (awaited : List Awaited) (client : ℕ) (stamp : Stamp) (end c : ℕ) → (c ≡ client → ⊥) → Awaits awaited c
+    → Awaits (noted awaited client stamp end) c
 awaits-noted [] client stamp end c apart waits = waits
 awaits-noted (a ∷ rest) client stamp end c apart waits =
     ⊎_elim
-    (λ here. inl (elim (answers client stamp a) as (λ t. answers client stamp a ≡ t → ((cond t (record a { end = Some end }) a).client ≡ c) × ((cond t (record a { end = Some end }) a).end ≡ None)) [
+    (λ here. inl (elim (answers client stamp a) as
+    (λ t. answers client stamp a ≡ t → ((cond t (record a { end = Some end }) a).client ≡ c) × ((cond t (record a { end = Some end }) a).end ≡ None)) [
       | true ↦ λ answered. absurd (apart (sym here.0 ∙ equal_numbers a.client client (of_client answered)))
       | false ↦ λ _. here
     ] refl))
@@ -155,12 +170,14 @@ pub ready_none : (applied : List ℕ) (awaited : List Awaited) (c : ℕ) → is_
 ready_none applied [] c ready waits = waits
 ready_none applied (a ∷ rest) c ready waits =
     ⊎_elim
-    (λ here. false≢true (subst (λ e. is_applied applied a.client e ≡ true) here.1 (and_first (is_applied applied a.client a.end) (is_ready applied rest) ready)))
+    (λ here. false≢true
+    (subst (λ e. is_applied applied a.client e ≡ true) here.1 (and_first (is_applied applied a.client a.end) (is_ready applied rest) ready)))
     (ready_none applied rest c (and_second (is_applied applied a.client a.end) (is_ready applied rest) ready))
     waits
 
 pub not_more : (n : ℕ) → (2 < n → ⊥) → n ≤ 2
-not_more n most = elim (nat_lt 2 n) as (λ t. nat_lt 2 n ≡ t → n ≤ 2) [ true ↦ λ more. absurd (most (grind (arith, nat_tests))) | false ↦ λ _. grind (arith, nat_tests) ] refl
+not_more n most =
+    elim (nat_lt 2 n) as (λ t. nat_lt 2 n ≡ t → n ≤ 2) [ true ↦ λ more. absurd (most (grind (arith, nat_tests))) | false ↦ λ _. grind (arith, nat_tests) ] refl
 
 pub no_first : (cs : List ℕ) (c : ℕ) → (length cs == 0) ≡ true → Contains cs c → ⊥
 no_first [] c none has = contains_nothing c has
@@ -169,8 +186,10 @@ no_first (x ∷ xs) c none has = let zero_long : length (x ∷ xs) ≡ 0 = equal
 more_before : (r' r w : ℕ) → r' ≤ r → 2 < r' + w → 2 < r + w
 more_before r' r w less more = omega arith
 
-awaits-less : (bs bs' : List (Holder × Bool)) (job : Job) → ((c : ℕ) → share_of bs' job.want.block c ≤ share_of bs job.want.block c) → AwaitsAll bs job → AwaitsAll bs' job
-awaits-less bs bs' job lower all c apart more = all c apart (more_before (share_of bs' job.want.block c) (share_of bs job.want.block c) (wanted_share job.want.mode) (lower c) more)
+awaits-less : (bs bs' : List (Holder × Bool)) (job : Job) → ((c : ℕ) → share_of bs' job.want.block c ≤ share_of bs job.want.block c) → AwaitsAll bs job
+    → AwaitsAll bs' job
+awaits-less bs bs' job lower all c apart more =
+    all c apart (more_before (share_of bs' job.want.block c) (share_of bs job.want.block c) (wanted_share job.want.mode) (lower c) more)
 
 -- ---- the state
 
@@ -185,7 +204,8 @@ sound-finished s want sound none room = record {
   sorted = sorted-want_met s.beliefs want sound.sorted;
   waiting = sound.waiting;
   alone = alone-want_met s.beliefs want sound.alone room;
-  awaits = λ block job is. awaits-less s.beliefs (want_met s.beliefs want) job (λ c. least s.beliefs want (holder job.want.block c) (λ p. other_block block job is (ap (λ (h : Holder). h.block) p))) (sound.awaits block job is);
+  awaits = λ block job is. awaits-less s.beliefs (want_met s.beliefs want) job
+      (λ c. least s.beliefs want (holder job.want.block c) (λ p. other_block block job is (ap (λ (h : Holder). h.block) p))) (sound.awaits block job is);
 }
   where
     other_block : (block : BlockId) (job : Job) → job_at s.jobs block ≡ Some job → job.want.block ≡ want.block → ⊥
@@ -195,7 +215,8 @@ sound-finished s want sound none room = record {
         absurd (cc)
 
 -- a want comes to wait, or waits on
-sound-put : (s : SlotState) (block : BlockId) (job : Job) (turn : ℕ) → job.want.block ≡ block → AwaitsAll s.beliefs job → Sound s → Sound (record s { jobs = insert_entry block_cmp s.jobs block job; turn = turn })
+sound-put : (s : SlotState) (block : BlockId) (job : Job) (turn : ℕ) → job.want.block ≡ block → AwaitsAll s.beliefs job → Sound s
+    → Sound (record s { jobs = insert_entry block_cmp s.jobs block job; turn = turn })
 sound-put s block job turn mine all sound = record {
   sorted = sound.sorted;
   waiting = waiting-put s.jobs block job mine sound.waiting;
@@ -213,7 +234,8 @@ sound-let_go s block sound = record {
   sorted = sound.sorted;
   waiting = waiting-removed s.jobs block sound.waiting;
   alone = sound.alone;
-  awaits = λ b job is. sound.awaits b job (was_there (eq_by_cmp block_cmp block b) (job_at s.jobs b) job (sym (after_removal s.jobs block b sound.waiting.sorted) ∙ is));
+  awaits = λ b job is. sound.awaits b job
+      (was_there (eq_by_cmp block_cmp block b) (job_at s.jobs b) job (sym (after_removal s.jobs block b sound.waiting.sorted) ∙ is));
 }
 
 -- a client gave a block up
@@ -224,8 +246,10 @@ sound-given s want client block sound =
     record {
       sorted = sorted-given_up s.beliefs h keep sound.sorted;
       waiting = sound.waiting;
-      alone = λ b c d apart. both_less _ _ (share_of s.beliefs b c) (share_of s.beliefs b d) (less s.beliefs h (holder b c) keep sound.sorted) (less s.beliefs h (holder b d) keep sound.sorted) (sound.alone b c d apart);
-      awaits = λ b job is. awaits-less s.beliefs (given_up s.beliefs h keep) job (λ c. less s.beliefs h (holder job.want.block c) keep sound.sorted) (sound.awaits b job is);
+      alone = λ b c d apart. both_less _ _ (share_of s.beliefs b c) (share_of s.beliefs b d) (less s.beliefs h (holder b c) keep sound.sorted)
+          (less s.beliefs h (holder b d) keep sound.sorted) (sound.alone b c d apart);
+      awaits = λ b job is. awaits-less s.beliefs (given_up s.beliefs h keep) job (λ c. less s.beliefs h (holder job.want.block c) keep sound.sorted)
+          (sound.awaits b job is);
     }
 
 -- after the answer the others are still awaited
@@ -235,8 +259,13 @@ awaits-given s job client block stamp end sound is c apart more =
     let h = holder block client in
     let mine : job.want.block ≡ block = sound.waiting.own block job is in
     let left : share_of (given s job.want client block).beliefs block client + wanted_share job.want.mode ≤ 2 = kept s.beliefs h job.want.mode sound.sorted in
-    let other : c ≡ client → ⊥ = λ same. clash (share_of (given s job.want client block).beliefs job.want.block c + wanted_share job.want.mode) more (subst (λ b. share_of (given s job.want client block).beliefs b c + wanted_share job.want.mode ≤ 2) (sym mine) (subst (λ x. share_of (given s job.want client block).beliefs block x + wanted_share job.want.mode ≤ 2) (sym same) left)) in
-    awaits-noted job.awaited client stamp end c other (awaits-less s.beliefs (given s job.want client block).beliefs job (λ x. less s.beliefs h (holder job.want.block x) (not (is_own job.want.mode)) sound.sorted) (sound.awaits block job is) c apart more)
+    let other : c ≡ client → ⊥ =
+    λ same. clash (share_of (given s job.want client block).beliefs job.want.block c + wanted_share job.want.mode) more
+    (subst (λ b. share_of (given s job.want client block).beliefs b c + wanted_share job.want.mode ≤ 2) (sym mine)
+    (subst (λ x. share_of (given s job.want client block).beliefs block x + wanted_share job.want.mode ≤ 2) (sym same) left)) in
+    awaits-noted job.awaited client stamp end c other
+    (awaits-less s.beliefs (given s job.want client block).beliefs job
+    (λ x. less s.beliefs h (holder job.want.block x) (not (is_own job.want.mode)) sound.sorted) (sound.awaits block job is) c apart more)
   where
     clash : (n : ℕ) → 2 < n → n ≤ 2 → ⊥
     clash n more most = omega arith
@@ -254,14 +283,17 @@ ReadyAt jobs applied blocks = (block : BlockId) → Contains blocks block → (j
 has_key : (jobs : List (BlockId × Job)) (applied : List ℕ) (block : BlockId) → Contains (ready_blocks jobs applied) block → Contains (keys_of jobs) block
 has_key [] applied block = λ has. has
 has_key (e ∷ es) applied block =
-    elim (is_ready applied e.1.awaited) as (λ t. Contains (cond t (e.0 ∷ ready_blocks es applied) (ready_blocks es applied)) block → Contains (keys_of (e ∷ es)) block) [
-      | true ↦ λ has. ⊎_elim (λ p. subst (Contains (keys_of (e ∷ es))) p (contains_first e.0 (keys_of es))) (λ r. contains_rest e.0 block (keys_of es) (has_key es applied block r)) (contains_cases e.0 block (ready_blocks es applied) has)
+    elim (is_ready applied e.1.awaited) as
+    (λ t. Contains (cond t (e.0 ∷ ready_blocks es applied) (ready_blocks es applied)) block → Contains (keys_of (e ∷ es)) block) [
+      | true ↦ λ has. ⊎_elim (λ p. subst (Contains (keys_of (e ∷ es))) p (contains_first e.0 (keys_of es)))
+          (λ r. contains_rest e.0 block (keys_of es) (has_key es applied block r)) (contains_cases e.0 block (ready_blocks es applied) has)
       | false ↦ λ has. contains_rest e.0 block (keys_of es) (has_key es applied block has)
     ]
 
 below_has : (first block : BlockId) (ks : List BlockId) → AllByRecursion (λ y. block_cmp first y ≡ Less) ks → Contains ks block → block_cmp first block ≡ Less
 below_has first block [] below has = absurd (contains_nothing block has)
-below_has first block (k ∷ ks) below has = ⊎_elim (λ p. subst (λ x. block_cmp first x ≡ Less) p below.0) (below_has first block ks below.1) (contains_cases k block ks has)
+below_has first block (k ∷ ks) below has =
+    ⊎_elim (λ p. subst (λ x. block_cmp first x ≡ Less) p below.0) (below_has first block ks below.1) (contains_cases k block ks has)
 
 -- a block above the first is not the first
 not_first : (first block : BlockId) → is_at (block_cmp block) first ≡ true → block_cmp first block ≡ Less → ⊥
@@ -270,34 +302,43 @@ not_first first block same below =
     let itself : is_eq (block_cmp first block) ≡ true = subst (λ x. is_eq (block_cmp first x) ≡ true) (sym one) (block_laws.refl first) in
     false≢true (sym (ap is_eq below) ∙ itself)
 
-pub ready_finds : (jobs : List (BlockId × Job)) (applied : List ℕ) → IsStrictlySortedBy block_cmp (keys_of jobs) → ReadyAt jobs applied (ready_blocks jobs applied)
+pub ready_finds : (jobs : List (BlockId × Job)) (applied : List ℕ) → IsStrictlySortedBy block_cmp (keys_of jobs)
+    → ReadyAt jobs applied (ready_blocks jobs applied)
 unfolding IsStrictlySortedBy
 ready_finds [] applied sorted block has job is = absurd (contains_nothing block has)
 ready_finds (e ∷ es) applied sorted block has job is =
     at (is_at (block_cmp block) e.0) refl is (is_ready applied e.1.awaited) refl has (λ h j. ready_finds es applied sorted.1 block h job j)
   where
-    at : (t : Bool) → is_at (block_cmp block) e.0 ≡ t → cond t (Some e.1) (job_at es block) ≡ Some job → (r : Bool) → is_ready applied e.1.awaited ≡ r → Contains (cond r (e.0 ∷ ready_blocks es applied) (ready_blocks es applied)) block
+    at : (t : Bool) → is_at (block_cmp block) e.0 ≡ t → cond t (Some e.1) (job_at es block) ≡ Some job → (r : Bool) → is_ready applied e.1.awaited ≡ r
+        → Contains (cond r (e.0 ∷ ready_blocks es applied) (ready_blocks es applied)) block
         → (Contains (ready_blocks es applied) block → job_at es block ≡ Some job → is_ready applied job.awaited ≡ true) → is_ready applied job.awaited ≡ true
     at true same found true ready h rest = subst (λ (j : Job). is_ready applied j.awaited ≡ true) (ap (λ (o : Option Job). unwrap_or o job) found) ready
     at true same found false ready h rest = absurd (not_first e.0 block same (below_has e.0 block (keys_of es) sorted.0 (has_key es applied block h)))
-    at false apart found true ready h rest = ⊎_elim (λ p. absurd (false≢true (sym apart ∙ subst (λ x. is_at (block_cmp block) x ≡ true) (sym p) (block_laws.refl block)))) (λ h. rest h found) (contains_cases e.0 block (ready_blocks es applied) h)
+    at false apart found true ready h rest =
+        ⊎_elim (λ p. absurd (false≢true (sym apart ∙ subst (λ x. is_at (block_cmp block) x ≡ true) (sym p) (block_laws.refl block)))) (λ h. rest h found)
+        (contains_cases e.0 block (ready_blocks es applied) h)
     at false apart found false ready h rest = rest h found
 
-pub sound-answered : (s : SlotState) (applied : List ℕ) (block : BlockId) (job : Job) → Sound s → job_at s.jobs block ≡ Some job → is_ready applied job.awaited ≡ true → Sound (finished (let_go s block) job.want).state
+pub sound-answered : (s : SlotState) (applied : List ℕ) (block : BlockId) (job : Job) → Sound s → job_at s.jobs block ≡ Some job
+    → is_ready applied job.awaited ≡ true → Sound (finished (let_go s block) job.want).state
 sound-answered s applied block job sound is ready =
     sound-finished (let_go s block) job.want (sound-let_go s block sound)
     (subst (λ x. job_at (without_job s.jobs block) x ≡ None) (sym (sound.waiting.own block job is)) (gone s.jobs block sound.waiting.sorted))
     (leaves_room s.beliefs applied job (sound.awaits block job is) ready)
 
-pub jobs_fewer : (s : SlotState) (block b : BlockId) (job : Job) → Waiting s.jobs → job_at (finished_at s block).state.jobs b ≡ Some job → job_at s.jobs b ≡ Some job
+pub jobs_fewer : (s : SlotState) (block b : BlockId) (job : Job) → Waiting s.jobs → job_at (finished_at s block).state.jobs b ≡ Some job
+    → job_at s.jobs b ≡ Some job
 jobs_fewer s block b job w = by_finished_at (λ r. job_at r.state.jobs b ≡ Some job → job_at s.jobs b ≡ Some job) s block (λ is. is)
     (λ _ _ is. was_there (eq_by_cmp block_cmp block b) (job_at s.jobs b) job (sym (after_removal s.jobs block b w.sorted) ∙ is))
 
-pub sound-steps : (s : SlotState) (applied : List ℕ) (blocks : List BlockId) → Sound s → ReadyAt s.jobs applied blocks → Sound (steps finished_at s blocks).state
+pub sound-steps : (s : SlotState) (applied : List ℕ) (blocks : List BlockId) → Sound s → ReadyAt s.jobs applied blocks
+    → Sound (steps finished_at s blocks).state
 sound-steps s applied [] sound ready = sound
 sound-steps s applied (b ∷ bs) sound ready =
-    let one : Sound (finished_at s b).state = by_finished_at (λ r. Sound r.state) s b sound (λ job is. sound-answered s applied b job sound is (ready b (contains_first b bs) job is)) in
-    sound-steps (finished_at s b).state applied bs one (λ block has job is. ready block (contains_rest b block bs has) job (jobs_fewer s b block job sound.waiting is))
+    let one : Sound (finished_at s b).state =
+    by_finished_at (λ r. Sound r.state) s b sound (λ job is. sound-answered s applied b job sound is (ready b (contains_first b bs) job is)) in
+    sound-steps (finished_at s b).state applied bs one
+    (λ block has job is. ready block (contains_rest b block bs has) job (jobs_fewer s b block job sound.waiting is))
 
 -- ---- the inputs
 
@@ -305,15 +346,20 @@ pub sound-transition : (s : SlotState) (input : In) → Sound s → Sound (trans
 sound-transition s (Want client block inc req again mode end) sound =
     let want = want_of client block inc req again mode in
     by_want (λ r. Sound r.state) s want end sound
-    (λ going none. sound-finished s want sound (not_waiting (job_at s.jobs block) _ _ going) (λ c apart. not_more _ (λ more. no_first (recalled_from s want) c none (found_by s.beliefs want c apart more))))
-    (λ _. sound-put s block (record { want = want; awaited = recalls s.epoch s.turn (not (is_own mode)) (recalled_from s want) }) (s.turn + length (recalled_from s want)) refl
+    (λ going none. sound-finished s want sound (not_waiting (job_at s.jobs block) _ _ going)
+    (λ c apart. not_more _ (λ more. no_first (recalled_from s want) c none (found_by s.beliefs want c apart more))))
+    (λ _. sound-put s block (record { want = want; awaited = recalls s.epoch s.turn (not (is_own mode)) (recalled_from s want) })
+    (s.turn + length (recalled_from s want)) refl
     (λ c apart more. awaits-recalls s.epoch s.turn (not (is_own mode)) (recalled_from s want) c (found_by s.beliefs want c apart more)) sound)
 sound-transition s (Gave client block stamp end) sound =
     by_gave (λ r. Sound r.state) s client block stamp end sound
-    (λ job is ready. sound-finished (all_given s client block job.want) job.want (sound-let_go (given s job.want client block) block (sound-given s job.want client block sound))
+    (λ job is ready. sound-finished (all_given s client block job.want) job.want
+    (sound-let_go (given s job.want client block) block (sound-given s job.want client block sound))
     (subst (λ x. job_at (without_job s.jobs block) x ≡ None) (sym (sound.waiting.own block job is)) (gone s.jobs block sound.waiting.sorted))
-    (leaves_room (given s job.want client block).beliefs s.applied (record { want = job.want; awaited = noted job.awaited client stamp end }) (awaits-given s job client block stamp end sound is) ready))
-    (λ job is. sound-put (given s job.want client block) block (record { want = job.want; awaited = noted job.awaited client stamp end }) s.turn (sound.waiting.own block job is) (awaits-given s job client block stamp end sound is) (sound-given s job.want client block sound))
+    (leaves_room (given s job.want client block).beliefs s.applied (record { want = job.want; awaited = noted job.awaited client stamp end })
+    (awaits-given s job client block stamp end sound is) ready))
+    (λ job is. sound-put (given s job.want client block) block (record { want = job.want; awaited = noted job.awaited client stamp end }) s.turn
+    (sound.waiting.own block job is) (awaits-given s job client block stamp end sound is) (sound-given s job.want client block sound))
 sound-transition s (Deltas log first upto rows) sound =
     by_deltas (λ r. Sound r.state) s log first upto rows sound sound
     (λ _. sound-steps (with_deltas s log upto rows) (applied_upto s.applied log upto) (ready_blocks s.jobs (applied_upto s.applied log upto))
@@ -326,7 +372,8 @@ no_beliefs : IsStrictlySortedBy holder_cmp []
 unfolding IsStrictlySortedBy
 no_beliefs = tt
 
-pub sound-start : (epoch : ℕ) (index : List (BlockId × Entry)) (beliefs : List (BlockId × ℕ × Mode)) (applied : List ℕ) → OwnsAlone (started epoch index beliefs applied).beliefs → Sound (started epoch index beliefs applied)
+pub sound-start : (epoch : ℕ) (index : List (BlockId × Entry)) (beliefs : List (BlockId × ℕ × Mode)) (applied : List ℕ)
+    → OwnsAlone (started epoch index beliefs applied).beliefs → Sound (started epoch index beliefs applied)
 sound-start epoch index beliefs applied alone = record {
   sorted = sorted-all [] beliefs no_beliefs;
   waiting = nobody_waits;

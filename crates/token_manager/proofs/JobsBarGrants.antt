@@ -45,7 +45,8 @@ gives_both b (Dead ∷ xs) ys g = gives_both b xs ys g
 sent_gives : (b block : BlockId) (awaited : List Awaited) → HandsOut b (sent block awaited) → ⊥
 sent_gives b block [] = λ g. g
 sent_gives b block (a ∷ rest) =
-    elim (is_some a.end) as (λ t. HandsOut b (cond t (sent block rest) (Recall a.client block a.stamp a.keep ∷ sent block rest)) → ⊥) [ true ↦ sent_gives b block rest | false ↦ sent_gives b block rest ]
+    elim (is_some a.end) as (λ t. HandsOut b (cond t (sent block rest) (Recall a.client block a.stamp a.keep ∷ sent block rest)) → ⊥)
+    [ true ↦ sent_gives b block rest | false ↦ sent_gives b block rest ]
 
 all_sent_gives : (b : BlockId) (jobs : List (BlockId × Job)) → HandsOut b (all_sent jobs) → ⊥
 all_sent_gives b [] g = g
@@ -64,9 +65,11 @@ block_laws = eq_by_cmp_equiv block_cmp_total
 abbrev IsSorted : List (BlockId × Job) → Type 0
 IsSorted jobs = IsStrictlySortedBy block_cmp (keys_of jobs)
 
-pub after_removal : (jobs : List (BlockId × Job)) (block b : BlockId) → IsSorted jobs → job_at (without_job jobs block) b ≡ cond (eq_by_cmp block_cmp block b) None (job_at jobs b)
+pub after_removal : (jobs : List (BlockId × Job)) (block b : BlockId) → IsSorted jobs
+    → job_at (without_job jobs block) b ≡ cond (eq_by_cmp block_cmp block b) None (job_at jobs b)
 after_removal jobs block b sorted =
-    lookup-remove_entry block_laws (is_at (block_cmp block)) (λ x y same. block_laws.congr block x y same) b jobs (IsDistinct-from_sorted block_cmp (keys_of jobs) sorted)
+    lookup-remove_entry block_laws (is_at (block_cmp block)) (λ x y same. block_laws.congr block x y same) b jobs
+    (IsDistinct-from_sorted block_cmp (keys_of jobs) sorted)
 
 pub gone : (jobs : List (BlockId × Job)) (block : BlockId) → IsSorted jobs → job_at (without_job jobs block) block ≡ None
 gone jobs block sorted = after_removal jobs block block sorted ∙ ap (λ t. cond t None (job_at jobs block)) (block_laws.refl block)
@@ -90,7 +93,8 @@ waiting-removed jobs block w = record {
   own = λ b job is. w.own b job (was_there (eq_by_cmp block_cmp block b) (job_at jobs b) job (sym (after_removal jobs block b w.sorted) ∙ is));
 }
 
-pub waiting-put : (jobs : List (BlockId × Job)) (block : BlockId) (job : Job) → job.want.block ≡ block → Waiting jobs → Waiting (insert_entry block_cmp jobs block job)
+pub waiting-put : (jobs : List (BlockId × Job)) (block : BlockId) (job : Job) → job.want.block ≡ block → Waiting jobs
+    → Waiting (insert_entry block_cmp jobs block job)
 waiting-put jobs block job mine w = record {
   sorted = sorted_insert block_cmp block_cmp_total block job jobs w.sorted;
   own = λ b found is. put_own b found (eq_by_cmp block_cmp b block) refl (sym (lookup-insert_entry block_cmp_total b block job jobs) ∙ is);
@@ -109,7 +113,8 @@ record Bars (s : SlotState) (r : Done) : Type 0 where
   none_more : (b : BlockId) → job_at s.jobs b ≡ None → job_at r.state.jobs b ≡ None
 
 -- a want that waited is answered
-bars-answered : (s t : SlotState) (block : BlockId) (job : Job) → Waiting s.jobs → job_at s.jobs block ≡ Some job → t.jobs ≡ without_job s.jobs block → Bars s (finished t job.want)
+bars-answered : (s t : SlotState) (block : BlockId) (job : Job) → Waiting s.jobs → job_at s.jobs block ≡ Some job → t.jobs ≡ without_job s.jobs block
+    → Bars s (finished t job.want)
 bars-answered s t block job w is jobs = record {
   given = λ b g.
       let one : job.want.block ≡ b = answer_gives t job.want (passers t job.want) b g in
@@ -171,7 +176,8 @@ barred-transition s (Gave client block stamp end) w =
     })
 barred-transition s (Deltas log first upto rows) w =
     by_deltas Barred s log first upto rows (barred s (still s) (bars-same s w)) (record { given = λ b g. absurd g; waiting = w })
-    (λ _. let bars = bars-steps (with_deltas s log upto rows) (ready_blocks s.jobs (applied_upto s.applied log upto)) w in record { given = bars.given; waiting = bars.waiting })
+    (λ _. let bars = bars-steps (with_deltas s log upto rows) (ready_blocks s.jobs (applied_upto s.applied log upto)) w in
+    record { given = bars.given; waiting = bars.waiting })
 barred-transition s (Check block place) w = record { given = λ b. gives_none (is_place (entry_at s block).place place) b; waiting = w }
   where
     gives_none : (t : Bool) (b : BlockId) → HandsOut b (cond t (Live (entry_at s block)) Dead ∷ []) → job_at s.jobs b ≡ None
@@ -186,6 +192,10 @@ nobody_waits = record { sorted = tt; own = λ b job is. absurd (cc) }
 waiting-all : (s : SlotState) (inputs : List In) → Waiting s.jobs → Waiting (state_after s inputs).jobs
 waiting-all = steps_keep transition (λ t. Waiting t.jobs) (λ t input w. (barred-transition t input w).waiting)
 
-pub barred-all : (epoch : ℕ) (index : List (BlockId × Entry)) (beliefs : List (BlockId × ℕ × Mode)) (applied : List ℕ) (inputs : List In) (input : In) (b : BlockId)
-    → HandsOut b (transition (state_after (started epoch index beliefs applied) inputs) input).outs → job_at (transition (state_after (started epoch index beliefs applied) inputs) input).state.jobs b ≡ None
-barred-all epoch index beliefs applied inputs input = (barred-transition (state_after (started epoch index beliefs applied) inputs) input (waiting-all (started epoch index beliefs applied) inputs nobody_waits)).given
+pub barred-all : (epoch : ℕ) (index : List (BlockId × Entry)) (beliefs : List (BlockId × ℕ × Mode)) (applied : List ℕ) (inputs : List In) (input : In)
+    (b : BlockId)
+    → HandsOut b (transition (state_after (started epoch index beliefs applied) inputs) input).outs
+    → job_at (transition (state_after (started epoch index beliefs applied) inputs) input).state.jobs b ≡ None
+barred-all epoch index beliefs applied inputs input =
+    (barred-transition (state_after (started epoch index beliefs applied) inputs) input
+    (waiting-all (started epoch index beliefs applied) inputs nobody_waits)).given

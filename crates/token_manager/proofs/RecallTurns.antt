@@ -28,15 +28,20 @@ use Rattle.token_manager.proofs.JobsBarGrants.{Waiting, after_removal, was_there
 -- ---- lists of recalls
 
 given-later : (epoch turn last : ℕ) (awaited : List Awaited) → turn ≤ last → All (IsGivenOut epoch turn) awaited → All (IsGivenOut epoch last) awaited
-given-later epoch turn last awaited less = All-weaker (IsGivenOut epoch turn) (IsGivenOut epoch last) (λ a g. record { of_epoch = g.of_epoch; from_1 = g.from_1; upto = let most : a.stamp.turn ≤ turn = g.upto in omega arith }) awaited
+given-later epoch turn last awaited less =
+    All-weaker (IsGivenOut epoch turn) (IsGivenOut epoch last)
+    (λ a g. record { of_epoch = g.of_epoch; from_1 = g.from_1; upto = let most : a.stamp.turn ≤ turn = g.upto in omega arith }) awaited
 
-given-recalls : (epoch turn last : ℕ) (keep : Bool) (clients : List ℕ) → turn + length clients ≤ last → All (IsGivenOut epoch last) (recalls epoch turn keep clients)
+given-recalls : (epoch turn last : ℕ) (keep : Bool) (clients : List ℕ) → turn + length clients ≤ last
+    → All (IsGivenOut epoch last) (recalls epoch turn keep clients)
 given-recalls epoch turn last keep [] less = All-nil (IsGivenOut epoch last)
 given-recalls epoch turn last keep (c ∷ cs) less =
-    All-cons (IsGivenOut epoch last) (record { client = c; stamp = record { epoch = epoch; turn = turn + 1 }; keep = keep; end = None }) (recalls epoch (turn + 1) keep cs)
+    All-cons (IsGivenOut epoch last) (record { client = c; stamp = record { epoch = epoch; turn = turn + 1 }; keep = keep; end = None })
+    (recalls epoch (turn + 1) keep cs)
     (record { of_epoch = refl; from_1 = omega arith; upto = omega arith }) (given-recalls epoch (turn + 1) last keep cs (omega arith))
 
-given-noted : (epoch turn : ℕ) (awaited : List Awaited) (client : ℕ) (stamp : Stamp) (end : ℕ) → All (IsGivenOut epoch turn) awaited → All (IsGivenOut epoch turn) (noted awaited client stamp end)
+given-noted : (epoch turn : ℕ) (awaited : List Awaited) (client : ℕ) (stamp : Stamp) (end : ℕ) → All (IsGivenOut epoch turn) awaited
+    → All (IsGivenOut epoch turn) (noted awaited client stamp end)
 given-noted epoch turn [] client stamp end given = given
 given-noted epoch turn (a ∷ rest) client stamp end given =
     let G : Awaited → Type 0 = IsGivenOut epoch turn in
@@ -54,7 +59,8 @@ record Stands (s : SlotState) : Type 0 where
 
 module _ (s : SlotState) (stands : Stands s) where
   -- once a want comes to wait, or its recalls change
-  given-put : (block : BlockId) (job : Job) (turn : ℕ) → s.turn ≤ turn → All (IsGivenOut s.epoch turn) job.awaited → (b : BlockId) (found : Job) → job_at (insert_entry block_cmp s.jobs block job) b ≡ Some found
+  given-put : (block : BlockId) (job : Job) (turn : ℕ) → s.turn ≤ turn → All (IsGivenOut s.epoch turn) job.awaited → (b : BlockId) (found : Job)
+      → job_at (insert_entry block_cmp s.jobs block job) b ≡ Some found
       → All (IsGivenOut s.epoch turn) found.awaited
   given-put block job turn less new b found is = at (eq_by_cmp block_cmp b block) (sym (lookup-insert_entry block_cmp_total b block job s.jobs) ∙ is)
     where
@@ -65,11 +71,13 @@ module _ (s : SlotState) (stands : Stands s) where
   -- once a want is answered
   given-removed : (block b : BlockId) (found : Job) → job_at (without_job s.jobs block) b ≡ Some found → All (IsGivenOut s.epoch (s.turn + 1)) found.awaited
   given-removed block b found is =
-      given-later s.epoch s.turn (s.turn + 1) found.awaited (omega arith) (stands.given b found (was_there (eq_by_cmp block_cmp block b) (job_at s.jobs b) found (sym (after_removal s.jobs block b stands.waiting.sorted) ∙ is)))
+      given-later s.epoch s.turn (s.turn + 1) found.awaited (omega arith)
+      (stands.given b found (was_there (eq_by_cmp block_cmp block b) (job_at s.jobs b) found (sym (after_removal s.jobs block b stands.waiting.sorted) ∙ is)))
 
   stands-finished_at : (block : BlockId) → Stands (finished_at s block).state
   stands-finished_at block =
-      by_finished_at (λ r. Stands r.state) s block stands (λ job is. record { waiting = waiting-removed s.jobs block stands.waiting; given = given-removed block })
+      by_finished_at (λ r. Stands r.state) s block stands
+      (λ job is. record { waiting = waiting-removed s.jobs block stands.waiting; given = given-removed block })
 
 stands-steps : (s : SlotState) (blocks : List BlockId) → Stands s → Stands (steps finished_at s blocks).state
 stands-steps = steps_keep finished_at Stands (λ t block stands. stands-finished_at t stands block)
@@ -81,7 +89,10 @@ stands-transition s (Want client block inc req again mode end) stands =
     let last : ℕ = s.turn + length clients in
     let job : Job = record { want = want; awaited = recalls s.epoch s.turn (not (is_own mode)) clients } in
     by_want (λ r. Stands r.state) s want end stands
-    (λ _ _. record { waiting = stands.waiting; given = λ b found is. given-later s.epoch s.turn (s.turn + 1) found.awaited (omega arith) (stands.given b found is) })
+    (λ _ _. record {
+      waiting = stands.waiting;
+      given = λ b found is. given-later s.epoch s.turn (s.turn + 1) found.awaited (omega arith) (stands.given b found is);
+    })
     (λ _. record {
       waiting = waiting-put s.jobs block job refl stands.waiting;
       given = given-put s stands block job last (omega arith) (given-recalls s.epoch s.turn last (not (is_own mode)) clients (omega arith));
@@ -97,10 +108,13 @@ stands-transition s (Gave client block stamp end) stands =
     })
 stands-transition s (Deltas log first upto rows) stands =
     by_deltas (λ r. Stands r.state) s log first upto rows stands stands
-    (λ _. stands-steps (with_deltas s log upto rows) (ready_blocks s.jobs (applied_upto s.applied log upto)) (record { waiting = stands.waiting; given = stands.given }))
+    (λ _. stands-steps (with_deltas s log upto rows) (ready_blocks s.jobs (applied_upto s.applied log upto))
+    (record { waiting = stands.waiting; given = stands.given }))
 stands-transition s (Check block place) stands = stands
 stands-transition s Tick stands = stands
 
-pub given-all : (epoch : ℕ) (index : List (BlockId × Entry)) (beliefs : List (BlockId × ℕ × Mode)) (applied : List ℕ) (inputs : List In) → RecallsAreGivenOut (state_after (started epoch index beliefs applied) inputs)
+pub given-all : (epoch : ℕ) (index : List (BlockId × Entry)) (beliefs : List (BlockId × ℕ × Mode)) (applied : List ℕ) (inputs : List In)
+    → RecallsAreGivenOut (state_after (started epoch index beliefs applied) inputs)
 given-all epoch index beliefs applied inputs =
-    (steps_keep transition Stands stands-transition (started epoch index beliefs applied) inputs (record { waiting = nobody_waits; given = λ b job is. absurd (cc) })).given
+    (steps_keep transition Stands stands-transition (started epoch index beliefs applied) inputs
+    (record { waiting = nobody_waits; given = λ b job is. absurd (cc) })).given

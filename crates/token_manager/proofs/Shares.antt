@@ -23,7 +23,9 @@ use Rattle.token_manager.specs.Beliefs.{holder_cmp, holder, others, without_bloc
 use Rattle.token_manager.specs.Laws.{share, share_of, wanted_share}
 
 pub holder_cmp_exact : CmpEqualImpliesEq holder_cmp
-holder_cmp_exact a b h = ap (λ (p : BlockId × ℕ). record { block = p.0; client = p.1 }) (exact_pairs block_cmp nat_cmp block_cmp_exact exact_unsigned (a.block, a.client) (b.block, b.client) h)
+holder_cmp_exact a b h =
+    ap (λ (p : BlockId × ℕ). record { block = p.0; client = p.1 })
+    (exact_pairs block_cmp nat_cmp block_cmp_exact exact_unsigned (a.block, a.client) (b.block, b.client) h)
 
 pub holder_cmp_total : IsTotalOrder holder_cmp
 holder_cmp_total = then_total (on_total (λ (h : Holder). h.block) block_cmp_total) (on_total (λ (h : Holder). h.client) nat_cmp_total)
@@ -41,7 +43,8 @@ dropped_from true true x below found so is = is
 dropped_from true false x below found so is = absurd (let f : false ≡ true = so refl in cc)
 dropped_from false of x below found so is = is
 
-kept_in : (at of : Bool) (x below found : Option Bool) → (at ≡ true → of ≡ false) → found ≡ cond of None below → cond at x found ≡ cond of None (cond at x below)
+kept_in : (at of : Bool) (x below found : Option Bool) → (at ≡ true → of ≡ false) → found ≡ cond of None below
+    → cond at x found ≡ cond of None (cond at x below)
 kept_in true true x below found so is = absurd (let f : true ≡ false = so refl in cc)
 kept_in true false x below found so is = refl
 kept_in false of x below found so is = is
@@ -53,14 +56,17 @@ never : (t : Bool) → nothing_held ≡ cond t nothing_held nothing_held
 never true = refl
 never false = refl
 
-pub belief-without_block : (q : Holder) (block : BlockId) (bs : List (Holder × Bool)) → belief (without_block bs block) q ≡ cond (same_block q.block block) None (belief bs q)
+pub belief-without_block : (q : Holder) (block : BlockId) (bs : List (Holder × Bool))
+    → belief (without_block bs block) q ≡ cond (same_block q.block block) None (belief bs q)
 belief-without_block q block [] = never (same_block q.block block)
 belief-without_block q block (e ∷ es) =
     let at = is_at (holder_cmp q) e.0 in
     let of = same_block q.block block in
     let rest = belief-without_block q block es in
     let one : at ≡ true → of ≡ same_block e.0.block block = λ same. ap (λ (h : Holder). same_block h.block block) (tells_apart holder_cmp_exact q e.0 same) in
-    elim (same_block e.0.block block) as (λ t. same_block e.0.block block ≡ t → belief (cond (not t) (e ∷ without_block es block) (without_block es block)) q ≡ cond of None (cond at (Some e.1) (belief es q))) [
+    elim (same_block e.0.block block) as
+    (λ t. same_block e.0.block block ≡ t
+    → belief (cond (not t) (e ∷ without_block es block) (without_block es block)) q ≡ cond of None (cond at (Some e.1) (belief es q))) [
       | true ↦ λ dropped. dropped_from at of (Some e.1) (belief es q) (belief (without_block es block) q) (λ same. one same ∙ dropped) rest
       | false ↦ λ kept. kept_in at of (Some e.1) (belief es q) (belief (without_block es block) q) (λ same. one same ∙ kept) rest
     ] refl
@@ -86,34 +92,49 @@ apart_test q h apart same = apart (tells_apart holder_cmp_exact q h same)
 
 least-owned_by : (bs : List (Holder × Bool)) (h q : Holder) → (q ≡ h → ⊥) → share (belief (owned_by bs h) q) ≤ share (belief bs q)
 least-owned_by bs h q apart =
-    let is : belief (owned_by bs h) q ≡ cond (eq_by_cmp holder_cmp q h) (Some true) (cond (same_block q.block h.block) None (belief bs q)) = lookup-insert_entry holder_cmp_total q h true (without_block bs h.block) ∙ ap (cond (eq_by_cmp holder_cmp q h) (Some true)) (belief-without_block q h.block bs) in
-    subst (λ o. share o ≤ share (belief bs q)) (sym is) (least_cond (eq_by_cmp holder_cmp q h) (same_block q.block h.block) (belief bs q) (apart_test q h apart))
+    let is : belief (owned_by bs h) q ≡ cond (eq_by_cmp holder_cmp q h) (Some true) (cond (same_block q.block h.block) None (belief bs q)) =
+    lookup-insert_entry holder_cmp_total q h true (without_block bs h.block)
+    ∙ ap (cond (eq_by_cmp holder_cmp q h) (Some true)) (belief-without_block q h.block bs) in
+    subst (λ o. share o ≤ share (belief bs q)) (sym is)
+    (least_cond (eq_by_cmp holder_cmp q h) (same_block q.block h.block) (belief bs q) (apart_test q h apart))
 
 least-held_by : (bs : List (Holder × Bool)) (h q : Holder) → (q ≡ h → ⊥) → share (belief (held_by bs h) q) ≤ share (belief bs q)
 least-held_by bs h q apart =
     elim (is_some (belief bs h)) as (λ t. share (belief (cond t bs (insert_entry holder_cmp bs h false)) q) ≤ share (belief bs q)) [
       | true ↦ omega arith
-      | false ↦ subst (λ o. share o ≤ share (belief bs q)) (sym (lookup-insert_entry holder_cmp_total q h false bs)) (least_put (eq_by_cmp holder_cmp q h) (belief bs q) (apart_test q h apart))
+      | false ↦ subst (λ o. share o ≤ share (belief bs q)) (sym (lookup-insert_entry holder_cmp_total q h false bs))
+          (least_put (eq_by_cmp holder_cmp q h) (belief bs q) (apart_test q h apart))
     ]
 
 -- nobody but the asker has more than before
-pub least : (bs : List (Holder × Bool)) (want : Wanted) (q : Holder) → (q ≡ holder want.block want.client → ⊥) → share (belief (want_met bs want) q) ≤ share (belief bs q)
+pub least : (bs : List (Holder × Bool)) (want : Wanted) (q : Holder) → (q ≡ holder want.block want.client → ⊥)
+    → share (belief (want_met bs want) q) ≤ share (belief bs q)
 least bs want q apart =
     let h = holder want.block want.client in
-    elim (is_own want.mode) as (λ t. share (belief (cond t (owned_by bs h) (held_by bs h)) q) ≤ share (belief bs q)) [ true ↦ least-owned_by bs h q apart | false ↦ least-held_by bs h q apart ]
+    elim (is_own want.mode) as (λ t. share (belief (cond t (owned_by bs h) (held_by bs h)) q) ≤ share (belief bs q))
+    [ true ↦ least-owned_by bs h q apart | false ↦ least-held_by bs h q apart ]
 
 asker-held_by : (bs : List (Holder × Bool)) (h : Holder) → (share (belief (held_by bs h) h) ≤ 1) ⊎ (share (belief (held_by bs h) h) ≤ share (belief bs h))
 asker-held_by bs h =
-    elim (is_some (belief bs h)) as (λ t. (share (belief (cond t bs (insert_entry holder_cmp bs h false)) h) ≤ 1) ⊎ (share (belief (cond t bs (insert_entry holder_cmp bs h false)) h) ≤ share (belief bs h))) [
+    elim (is_some (belief bs h)) as
+    (λ t. (share (belief (cond t bs (insert_entry holder_cmp bs h false)) h) ≤ 1)
+    ⊎ (share (belief (cond t bs (insert_entry holder_cmp bs h false)) h) ≤ share (belief bs h))) [
       | true ↦ inr (omega arith)
-      | false ↦ inl (let is : belief (insert_entry holder_cmp bs h false) h ≡ Some false = lookup-insert_entry holder_cmp_total h h false bs ∙ ap (λ t. cond t (Some false) (belief bs h)) (holder_laws.refl h) in let one : share (belief (insert_entry holder_cmp bs h false) h) ≡ 1 = ap share is in omega arith)
+      | false ↦ inl
+          (let is : belief (insert_entry holder_cmp bs h false) h ≡ Some false = lookup-insert_entry holder_cmp_total h h false bs
+          ∙ ap (λ t. cond t (Some false) (belief bs h)) (holder_laws.refl h) in let one : share (belief (insert_entry holder_cmp bs h false) h) ≡ 1 =
+          ap share is in omega arith)
     ]
 
 -- the asker has no more than it wanted_share, or than it had
-pub asker : (bs : List (Holder × Bool)) (want : Wanted) → let h = holder want.block want.client in (share (belief (want_met bs want) h) ≤ wanted_share want.mode) ⊎ (share (belief (want_met bs want) h) ≤ share (belief bs h))
+pub asker : (bs : List (Holder × Bool)) (want : Wanted) → let h =
+    holder want.block want.client in
+    (share (belief (want_met bs want) h) ≤ wanted_share want.mode) ⊎ (share (belief (want_met bs want) h) ≤ share (belief bs h))
 asker bs want =
     let h = holder want.block want.client in
-    elim (is_own want.mode) as (λ t. (share (belief (cond t (owned_by bs h) (held_by bs h)) h) ≤ cond t 2 1) ⊎ (share (belief (cond t (owned_by bs h) (held_by bs h)) h) ≤ share (belief bs h))) [
+    elim (is_own want.mode) as
+    (λ t. (share (belief (cond t (owned_by bs h) (held_by bs h)) h) ≤ cond t 2 1)
+    ⊎ (share (belief (cond t (owned_by bs h) (held_by bs h)) h) ≤ share (belief bs h))) [
       | true ↦ inl (share_at_most (belief (owned_by bs h) h))
       | false ↦ asker-held_by bs h
     ]
@@ -137,30 +158,39 @@ none_held : (o : Option Bool) → is_some o ≡ false → share o ≡ 0
 none_held None none = refl
 none_held (Some x) none = absurd (cc)
 
-pub disowned : (bs : List (Holder × Bool)) (h q : Holder) → IsSome (belief bs h) → belief (set_value (is_at (holder_cmp h)) bs false) q ≡ cond (is_at (holder_cmp h) q) (Some false) (belief bs q)
+pub disowned : (bs : List (Holder × Bool)) (h q : Holder) → IsSome (belief bs h)
+    → belief (set_value (is_at (holder_cmp h)) bs false) q ≡ cond (is_at (holder_cmp h) q) (Some false) (belief bs q)
 disowned bs h q some = lookup-set_value holder_laws (is_at (holder_cmp h)) (one_test h) q false bs some
 
-pub forgotten : (bs : List (Holder × Bool)) (h q : Holder) → IsStrictlySortedBy holder_cmp (keys_of bs) → belief (remove_entry (is_at (holder_cmp h)) bs) q ≡ cond (is_at (holder_cmp h) q) None (belief bs q)
+pub forgotten : (bs : List (Holder × Bool)) (h q : Holder) → IsStrictlySortedBy holder_cmp (keys_of bs)
+    → belief (remove_entry (is_at (holder_cmp h)) bs) q ≡ cond (is_at (holder_cmp h) q) None (belief bs q)
 forgotten bs h q sorted = lookup-remove_entry holder_laws (is_at (holder_cmp h)) (one_test h) q bs (IsDistinct-from_sorted holder_cmp (keys_of bs) sorted)
 
 -- nobody has more than before
-pub less : (bs : List (Holder × Bool)) (h q : Holder) (keep : Bool) → IsStrictlySortedBy holder_cmp (keys_of bs) → share (belief (given_up bs h keep) q) ≤ share (belief bs q)
+pub less : (bs : List (Holder × Bool)) (h q : Holder) (keep : Bool) → IsStrictlySortedBy holder_cmp (keys_of bs)
+    → share (belief (given_up bs h keep) q) ≤ share (belief bs q)
 less bs h q true sorted =
-    elim (is_some (belief bs h)) as (λ t. is_some (belief bs h) ≡ t → share (belief (cond t (set_value (is_at (holder_cmp h)) bs false) bs) q) ≤ share (belief bs q)) [
-      | true ↦ λ some. subst (λ o. share o ≤ share (belief bs q)) (sym (disowned bs h q some)) (lowered (is_at (holder_cmp h) q) (belief bs q) (λ same. subst (λ x. IsSome (belief bs x)) (tells_apart holder_cmp_exact h q same) some))
+    elim (is_some (belief bs h)) as
+    (λ t. is_some (belief bs h) ≡ t → share (belief (cond t (set_value (is_at (holder_cmp h)) bs false) bs) q) ≤ share (belief bs q)) [
+      | true ↦ λ some. subst (λ o. share o ≤ share (belief bs q)) (sym (disowned bs h q some))
+          (lowered (is_at (holder_cmp h) q) (belief bs q) (λ same. subst (λ x. IsSome (belief bs x)) (tells_apart holder_cmp_exact h q same) some))
       | false ↦ λ _. omega arith
     ] refl
 less bs h q false sorted = subst (λ o. share o ≤ share (belief bs q)) (sym (forgotten bs h q sorted)) (removed (is_at (holder_cmp h) q) (belief bs q))
 
 -- the giver has at most what it may keep
-pub kept : (bs : List (Holder × Bool)) (h : Holder) (mode : Mode) → IsStrictlySortedBy holder_cmp (keys_of bs) → share (belief (given_up bs h (not (is_own mode))) h) + wanted_share mode ≤ 2
+pub kept : (bs : List (Holder × Bool)) (h : Holder) (mode : Mode) → IsStrictlySortedBy holder_cmp (keys_of bs)
+    → share (belief (given_up bs h (not (is_own mode))) h) + wanted_share mode ≤ 2
 kept bs h mode sorted =
     elim (is_own mode) as (λ t. share (belief (given_up bs h (not t)) h) + cond t 2 1 ≤ 2) [
-      | true ↦ let gone : share (belief (remove_entry (is_at (holder_cmp h)) bs) h) ≡ 0 = ap share (forgotten bs h h sorted ∙ ap (λ t. cond t None (belief bs h)) (holder_laws.refl h)) in omega arith
-      | false ↦ elim (is_some (belief bs h)) as (λ t. is_some (belief bs h) ≡ t → share (belief (cond t (set_value (is_at (holder_cmp h)) bs false) bs) h) + 1 ≤ 2) [
-        | true ↦ λ some. let one : share (belief (set_value (is_at (holder_cmp h)) bs false) h) ≡ 1 = ap share (disowned bs h h some ∙ ap (λ t. cond t (Some false) (belief bs h)) (holder_laws.refl h)) in omega arith
-        | false ↦ λ none. let zero_ : share (belief bs h) ≡ 0 = none_held (belief bs h) none in omega arith
-      ] refl
+      | true ↦ let gone : share (belief (remove_entry (is_at (holder_cmp h)) bs) h) ≡ 0 =
+          ap share (forgotten bs h h sorted ∙ ap (λ t. cond t None (belief bs h)) (holder_laws.refl h)) in omega arith
+      | false ↦ elim (is_some (belief bs h)) as
+          (λ t. is_some (belief bs h) ≡ t → share (belief (cond t (set_value (is_at (holder_cmp h)) bs false) bs) h) + 1 ≤ 2) [
+            | true ↦ λ some. let one : share (belief (set_value (is_at (holder_cmp h)) bs false) h) ≡ 1 =
+                ap share (disowned bs h h some ∙ ap (λ t. cond t (Some false) (belief bs h)) (holder_laws.refl h)) in omega arith
+            | false ↦ λ none. let zero_ : share (belief bs h) ≡ 0 = none_held (belief bs h) none in omega arith
+          ] refl
     ]
 
 -- ---- whom a want finds
@@ -187,15 +217,20 @@ abbrev pub gives_way : Bool → Option Bool → Bool
 gives_way owners None = false
 gives_way owners (Some owns) = owns || not owners
 
-others_found : (bs : List (Holder × Bool)) (block : BlockId) (asking c : ℕ) (owners : Bool) → (c ≡ asking → ⊥) → gives_way owners (belief bs (holder block c)) ≡ true → Contains (others bs block asking owners) c
+others_found : (bs : List (Holder × Bool)) (block : BlockId) (asking c : ℕ) (owners : Bool) → (c ≡ asking → ⊥)
+    → gives_way owners (belief bs (holder block c)) ≡ true → Contains (others bs block asking owners) c
 others_found [] block asking c owners apart gives = absurd (cc)
 others_found (e ∷ es) block asking c owners apart gives =
     let h = holder block c in
     let test : Holder → Bool = λ k. same_block k.block block && not (k.client == asking) && (e.1 || not owners) in
     let rest = others es block asking owners in
-    let go : (at : Bool) → is_at (holder_cmp h) e.0 ≡ at → gives_way owners (cond at (Some e.1) (belief es h)) ≡ true → Contains (cond (test e.0) (e.0.client ∷ rest) rest) c = λ at.
-    elim at as (λ t. is_at (holder_cmp h) e.0 ≡ t → gives_way owners (cond t (Some e.1) (belief es h)) ≡ true → Contains (cond (test e.0) (e.0.client ∷ rest) rest) c) [
-      | true ↦ λ same way. subst (λ k. Contains (cond (test k) (k.client ∷ rest) rest) c) (tells_apart holder_cmp_exact h e.0 same) (found_first (test h) c rest (all_pass (same_block block block) (c == asking) (e.1 || not owners) (same_block_itself block) (other_number c asking apart) way))
+    let go : (at : Bool) → is_at (holder_cmp h) e.0 ≡ at → gives_way owners (cond at (Some e.1) (belief es h)) ≡ true
+    → Contains (cond (test e.0) (e.0.client ∷ rest) rest) c = λ at.
+    elim at as (λ t. is_at (holder_cmp h) e.0 ≡ t → gives_way owners (cond t (Some e.1) (belief es h)) ≡ true
+    → Contains (cond (test e.0) (e.0.client ∷ rest) rest) c) [
+      | true ↦ λ same way. subst (λ k. Contains (cond (test k) (k.client ∷ rest) rest) c) (tells_apart holder_cmp_exact h e.0 same)
+          (found_first (test h) c rest
+          (all_pass (same_block block block) (c == asking) (e.1 || not owners) (same_block_itself block) (other_number c asking apart) way))
       | false ↦ λ _ way. found_later (test e.0) e.0.client c rest (others_found es block asking c owners apart way)
     ]
     in
@@ -210,5 +245,7 @@ must false (Some true) more = refl
 must false (Some false) more = absurd (omega arith)
 
 -- who has more than a want leaves to others is found by it
-pub found_by : (bs : List (Holder × Bool)) (want : Wanted) (c : ℕ) → (c ≡ want.client → ⊥) → 2 < share_of bs want.block c + wanted_share want.mode → Contains (others bs want.block want.client (not (is_own want.mode))) c
-found_by bs want c apart more = others_found bs want.block want.client c (not (is_own want.mode)) apart (must (is_own want.mode) (belief bs (holder want.block c)) more)
+pub found_by : (bs : List (Holder × Bool)) (want : Wanted) (c : ℕ) → (c ≡ want.client → ⊥) → 2 < share_of bs want.block c + wanted_share want.mode
+    → Contains (others bs want.block want.client (not (is_own want.mode))) c
+found_by bs want c apart more =
+    others_found bs want.block want.client c (not (is_own want.mode)) apart (must (is_own want.mode) (belief bs (holder want.block c)) more)

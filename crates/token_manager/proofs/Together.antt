@@ -61,25 +61,34 @@ itself_reached : (h : Holder) → is_le (holder_cmp (holder h.block 0) h) ≡ tr
 itself_reached h = ap (λ o. is_le (ordering_then o (nat_cmp 0 h.client))) (tied_itself block_cmp_total h.block) ∙ zero_first h.client
 
 before_all : (block : BlockId) (h : Holder) → is_le (holder_cmp (holder block 0) h) ≡ false → same_block h.block block ≡ false
-before_all block h below = refuted (same_block h.block block) (λ same. false≢true (sym below ∙ ap (λ b. is_le (holder_cmp (holder b 0) h)) (same_block_exact h.block block same) ∙ itself_reached h))
+before_all block h below =
+    refuted (same_block h.block block)
+    (λ same. false≢true (sym below ∙ ap (λ b. is_le (holder_cmp (holder b 0) h)) (same_block_exact h.block block same) ∙ itself_reached h))
 
-past_all : (block : BlockId) (h k : Holder) → is_le (holder_cmp (holder block 0) h) ≡ true → same_block h.block block ≡ false → holder_cmp h k ≡ Less → same_block k.block block ≡ false
+past_all : (block : BlockId) (h k : Holder) → is_le (holder_cmp (holder block 0) h) ≡ true → same_block h.block block ≡ false → holder_cmp h k ≡ Less
+    → same_block k.block block ≡ false
 past_all block h k le past lt = refuted (same_block k.block block) (λ same.
     let is : block ≡ k.block = same_block_exact k.block block same in
-    let below : ordering_then (block_cmp h.block block) (nat_cmp h.client k.client) ≡ Less = ap (λ b. ordering_then (block_cmp h.block b) (nat_cmp h.client k.client)) is ∙ lt in
-    let tied : block_cmp h.block block ≡ Equal = met (block_cmp block h.block) (block_cmp h.block block) (nat_cmp 0 h.client) (nat_cmp h.client k.client) (block_cmp_total.antisymm block h.block) le below in
+    let below : ordering_then (block_cmp h.block block) (nat_cmp h.client k.client) ≡ Less =
+    ap (λ b. ordering_then (block_cmp h.block b) (nat_cmp h.client k.client)) is ∙ lt in
+    let tied : block_cmp h.block block ≡ Equal =
+    met (block_cmp block h.block) (block_cmp h.block block) (nat_cmp 0 h.client) (nat_cmp h.client k.client)
+    (block_cmp_total.antisymm block h.block) le below in
     false≢true (sym past ∙ ap (λ b. same_block h.block b) (sym (block_cmp_exact h.block block tied)) ∙ same_block_itself h.block))
 
-all_past : (block : BlockId) (h : Holder) (es : List (Holder × Bool)) → is_le (holder_cmp (holder block 0) h) ≡ true → same_block h.block block ≡ false → AllByRecursion (λ k. holder_cmp h k ≡ Less) (keys_of es) → NoneOf block es
+all_past : (block : BlockId) (h : Holder) (es : List (Holder × Bool)) → is_le (holder_cmp (holder block 0) h) ≡ true → same_block h.block block ≡ false
+    → AllByRecursion (λ k. holder_cmp h k ≡ Less) (keys_of es) → NoneOf block es
 all_past block h [] le past below = tt
 all_past block h (e ∷ es) le past below = (past_all block h e.0 le past below.0, all_past block h es le past below.1)
 
 -- where the walk starts past a block, nothing is believed of the block
-pub none_of : (block : BlockId) (es : List (Holder × Bool)) → IsStrictlySortedBy holder_cmp (keys_of es) → StartsPast block (filter (is_reached block) es) → NoneOf block es
+pub none_of : (block : BlockId) (es : List (Holder × Bool)) → IsStrictlySortedBy holder_cmp (keys_of es) → StartsPast block (filter (is_reached block) es)
+    → NoneOf block es
 unfolding IsStrictlySortedBy
 none_of block [] sorted starts = tt
 none_of block (e ∷ es) sorted starts =
-    elim (is_reached block e) as (λ t. is_reached block e ≡ t → StartsPast block (cond t (e ∷ filter (is_reached block) es) (filter (is_reached block) es)) → NoneOf block (e ∷ es)) [
+    elim (is_reached block e) as
+    (λ t. is_reached block e ≡ t → StartsPast block (cond t (e ∷ filter (is_reached block) es) (filter (is_reached block) es)) → NoneOf block (e ∷ es)) [
       | true ↦ λ le past. (past, all_past block e.0 es (reached _ true le) past sorted.0)
       | false ↦ λ lt rest. (before_all block e.0 (reached _ false lt), none_of block es sorted.1 rest)
     ] refl starts
@@ -91,10 +100,12 @@ without_none block (e ∷ es) h = ap (λ t. cond (not t) (e ∷ without_block es
 others_none : (block : BlockId) (client : ℕ) (owners : Bool) (es : List (Holder × Bool)) → NoneOf block es → others es block client owners ≡ []
 others_none block client owners [] h = refl
 others_none block client owners (e ∷ es) h =
-    ap (λ t. if t && not (e.0.client == client) && (e.1 || not owners) then e.0.client ∷ others es block client owners else others es block client owners) h.0 ∙ others_none block client owners es h.1
+    ap (λ t. if t && not (e.0.client == client) && (e.1 || not owners) then e.0.client ∷ others es block client owners else others es block client owners) h.0
+    ∙ others_none block client owners es h.1
 
 -- the walk lists all other clients of the block
-pub listed_is : (block : BlockId) (client : ℕ) (owners : Bool) (es : List (Holder × Bool)) → IsStrictlySortedBy holder_cmp (keys_of es) → listed (filter (is_reached block) es) block client owners ≡ others es block client owners
+pub listed_is : (block : BlockId) (client : ℕ) (owners : Bool) (es : List (Holder × Bool)) → IsStrictlySortedBy holder_cmp (keys_of es)
+    → listed (filter (is_reached block) es) block client owners ≡ others es block client owners
 unfolding IsStrictlySortedBy
 listed_is block client owners [] sorted = refl
 listed_is block client owners (e ∷ es) sorted =
@@ -102,18 +113,25 @@ listed_is block client owners (e ∷ es) sorted =
     let more = filter (is_reached block) es in
     let takes = not (e.0.client == client) && (e.1 || not owners) in
     elim (is_reached block e) as (λ t. is_reached block e ≡ t → listed (cond t (e ∷ more) more) block client owners ≡ others (e ∷ es) block client owners) [
-      | true ↦ λ le. elim (same_block e.0.block block) as (λ s. same_block e.0.block block ≡ s → (if s then (if takes then e.0.client ∷ listed more block client owners else listed more block client owners) else []) ≡ (if s && not (e.0.client == client) && (e.1 || not owners) then e.0.client ∷ others es block client owners else others es block client owners)) [
-        | true ↦ λ _. ap (λ r. if takes then e.0.client ∷ r else r) rest
-        | false ↦ λ past. sym (others_none block client owners es (all_past block e.0 es (reached _ true le) past sorted.0))
-      ] refl
-      | false ↦ λ lt. rest ∙ sym (ap (λ t. if t && not (e.0.client == client) && (e.1 || not owners) then e.0.client ∷ others es block client owners else others es block client owners) (before_all block e.0 (reached _ false lt)))
+      | true ↦ λ le. elim (same_block e.0.block block) as
+          (λ s. same_block e.0.block block ≡ s
+          → (if s then (if takes then e.0.client ∷ listed more block client owners else listed more block client owners) else []) ≡
+          (if s && not (e.0.client == client) && (e.1 || not owners) then e.0.client ∷ others es block client owners else others es block client owners)) [
+            | true ↦ λ _. ap (λ r. if takes then e.0.client ∷ r else r) rest
+            | false ↦ λ past. sym (others_none block client owners es (all_past block e.0 es (reached _ true le) past sorted.0))
+          ] refl
+      | false ↦ λ lt. rest
+          ∙ sym (ap (λ t. if t && not (e.0.client == client) &&
+          (e.1 || not owners) then e.0.client ∷ others es block client owners else others es block client owners) (before_all block e.0 (reached _ false lt)))
     ] refl
 
 -- a belief about a block that goes is no belief about another
-pub without_removed : (h : Holder) (block : BlockId) (es : List (Holder × Bool)) → same_block h.block block ≡ true → without_block (remove_entry (is_at (holder_cmp h)) es) block ≡ without_block es block
+pub without_removed : (h : Holder) (block : BlockId) (es : List (Holder × Bool)) → same_block h.block block ≡ true
+    → without_block (remove_entry (is_at (holder_cmp h)) es) block ≡ without_block es block
 without_removed h block [] same = refl
 without_removed h block (e ∷ es) same =
-    elim (is_at (holder_cmp h) e.0) as (λ t. is_at (holder_cmp h) e.0 ≡ t → without_block (cond t es (e ∷ remove_entry (is_at (holder_cmp h)) es)) block ≡ without_block (e ∷ es) block) [
+    elim (is_at (holder_cmp h) e.0) as
+    (λ t. is_at (holder_cmp h) e.0 ≡ t → without_block (cond t es (e ∷ remove_entry (is_at (holder_cmp h)) es)) block ≡ without_block (e ∷ es) block) [
       | true ↦ λ at.
           let here : same_block e.0.block block ≡ true = ap (λ k. same_block k.block block) (sym (tells_apart holder_cmp_exact h e.0 at)) ∙ same in
           sym (ap (λ t. cond (not t) (e ∷ without_block es block) (without_block es block)) here)

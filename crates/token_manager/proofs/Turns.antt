@@ -17,14 +17,17 @@ use Rattle.token_manager.proofs.Cases.{recalled_from, by_want, all_given, by_gav
 -- one list of outs after another
 takes_both : (epoch from at last : ℕ) (xs ys : List Out) → CountsTurns epoch from xs at → CountsTurns epoch at ys last → CountsTurns epoch from (xs ++ ys) last
 takes_both epoch from at last [] ys xs_take ys_take = subst (λ t. CountsTurns epoch t ys last) xs_take ys_take
-takes_both epoch from at last (Grant client block st inc req mode entry ∷ xs) ys xs_take ys_take = (xs_take.0, takes_both epoch (from + 1) at last xs ys xs_take.1 ys_take)
-takes_both epoch from at last (Forward client block st to inc req ver ∷ xs) ys xs_take ys_take = (xs_take.0, takes_both epoch (from + 1) at last xs ys xs_take.1 ys_take)
+takes_both epoch from at last (Grant client block st inc req mode entry ∷ xs) ys xs_take ys_take =
+    (xs_take.0, takes_both epoch (from + 1) at last xs ys xs_take.1 ys_take)
+takes_both epoch from at last (Forward client block st to inc req ver ∷ xs) ys xs_take ys_take =
+    (xs_take.0, takes_both epoch (from + 1) at last xs ys xs_take.1 ys_take)
 takes_both epoch from at last (Recall client block st keep ∷ xs) ys xs_take ys_take = (xs_take.0, takes_both epoch (from + 1) at last xs ys xs_take.1 ys_take)
 takes_both epoch from at last (Applied log upto ∷ xs) ys xs_take ys_take = takes_both epoch from at last xs ys xs_take ys_take
 takes_both epoch from at last (Live entry ∷ xs) ys xs_take ys_take = takes_both epoch from at last xs ys xs_take ys_take
 takes_both epoch from at last (Dead ∷ xs) ys xs_take ys_take = takes_both epoch from at last xs ys xs_take ys_take
 
-takes-recalls : (epoch turn : ℕ) (block : BlockId) (keep : Bool) (clients : List ℕ) → CountsTurns epoch turn (sent block (recalls epoch turn keep clients)) (turn + length clients)
+takes-recalls : (epoch turn : ℕ) (block : BlockId) (keep : Bool) (clients : List ℕ)
+    → CountsTurns epoch turn (sent block (recalls epoch turn keep clients)) (turn + length clients)
 takes-recalls epoch turn block keep [] = omega arith
 takes-recalls epoch turn block keep (c ∷ cs) =
     let same : turn + 1 + length cs ≡ turn + length (c ∷ cs) = omega arith in
@@ -39,7 +42,8 @@ takes-answer s want [] = (refl, refl)
 takes-answer s want (c ∷ cs) = (refl, refl)
 
 takes-finished_at : (s : SlotState) (block : BlockId) → Takes s (finished_at s block)
-takes-finished_at s block = by_finished_at (Takes s) s block (refl, refl) (λ job is. (refl, takes-answer (let_go s block) job.want (passers (let_go s block) job.want)))
+takes-finished_at s block =
+    by_finished_at (Takes s) s block (refl, refl) (λ job is. (refl, takes-answer (let_go s block) job.want (passers (let_go s block) job.want)))
 
 takes-steps : (s : SlotState) (blocks : List BlockId) → Takes s (steps finished_at s blocks)
 takes-steps s [] = (refl, refl)
@@ -55,9 +59,15 @@ takes-steps s (b ∷ bs) =
 pub takes-transition : (s : SlotState) (input : In) → IsNotTick input → Takes s (transition s input)
 takes-transition s (Want client block inc req again mode end) _ =
     let want = want_of client block inc req again mode in
-    by_want (Takes s) s want end (refl, refl) (λ _ _. (refl, takes-answer s want (passers s want))) (λ _. (refl, takes-recalls s.epoch s.turn block (not (is_own mode)) (recalled_from s want)))
-takes-transition s (Gave client block stamp end) _ = by_gave (Takes s) s client block stamp end (refl, refl) (λ job is ready. (refl, takes-answer (all_given s client block job.want) job.want (passers (all_given s client block job.want) job.want))) (λ _ _. (refl, refl))
-takes-transition s (Deltas log first upto rows) _ = by_deltas (Takes s) s log first upto rows (refl, refl) (refl, refl) (λ _. takes-steps (with_deltas s log upto rows) (ready_blocks s.jobs (applied_upto s.applied log upto)))
+    by_want (Takes s) s want end (refl, refl) (λ _ _. (refl, takes-answer s want (passers s want)))
+    (λ _. (refl, takes-recalls s.epoch s.turn block (not (is_own mode)) (recalled_from s want)))
+takes-transition s (Gave client block stamp end) _ =
+    by_gave (Takes s) s client block stamp end (refl, refl)
+    (λ job is ready. (refl, takes-answer (all_given s client block job.want) job.want (passers (all_given s client block job.want) job.want)))
+    (λ _ _. (refl, refl))
+takes-transition s (Deltas log first upto rows) _ =
+    by_deltas (Takes s) s log first upto rows (refl, refl) (refl, refl)
+    (λ _. takes-steps (with_deltas s log upto rows) (ready_blocks s.jobs (applied_upto s.applied log upto)))
 takes-transition s (Check block place) _ = (refl, takes-check (is_place (entry_at s block).place place))
   where
     takes-check : (b : Bool) → CountsTurns s.epoch s.turn (cond b (Live (entry_at s block)) Dead ∷ []) s.turn

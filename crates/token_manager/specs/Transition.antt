@@ -90,7 +90,11 @@ finish s want = if has_turns s.turn 1 then finished s want else still s
 -- the want waits; each of these clients gets a recall under a turn of its own
 abbrev pub recalled : SlotState → Wanted → List ℕ → Done
 recalled s want clients = record {
-  state = record s { jobs = insert_entry block_cmp s.jobs want.block (record { want = want; awaited = recalls s.epoch s.turn (not (is_own want.mode)) clients }); turn = s.turn + length clients };
+  state = record s {
+    jobs = insert_entry block_cmp s.jobs want.block
+        (record { want = want; awaited = recalls s.epoch s.turn (not (is_own want.mode)) clients });
+    turn = s.turn + length clients;
+  };
   outs = sent want.block (recalls s.epoch s.turn (not (is_own want.mode)) clients);
 }
 
@@ -124,7 +128,8 @@ gave_last s client block want = if has_turns s.turn 1 then finished (record (giv
 
 -- the recalls, with the answer noted; the want goes on waiting
 abbrev pub gave_one : SlotState → ℕ → BlockId → Wanted → List Awaited → SlotState
-gave_one s client block want awaited = record (given s want client block) { jobs = insert_entry block_cmp s.jobs block (record { want = want; awaited = awaited }) }
+gave_one s client block want awaited =
+    record (given s want client block) { jobs = insert_entry block_cmp s.jobs block (record { want = want; awaited = awaited }) }
 
 unfoldable pub gave_noted : SlotState → ℕ → BlockId → Wanted → List Awaited → Done
 gave_noted s client block want awaited = if is_ready s.applied awaited then gave_last s client block want else still (gave_one s client block want awaited)

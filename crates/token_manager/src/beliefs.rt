@@ -1,5 +1,5 @@
 //! Who is believed to hold each block.
-ghost use Rattle.std.specs.Prelude.{◌≡◌, OnOk, IfOk, IfSome, IfNone, []};
+ghost use Rattle.std.specs.Prelude.{◌≡◌, ◌==◌, ◌&&◌, ◌||◌, ◌++◌, not, OnOk, IfOk, IfSome, IfNone, []};
 ghost use Rattle.token_manager.specs.Beliefs.{holder, IsBelieved, others, without_block, owned_by, held_by, want_met, no_owner, given_up, believed, all_believed};
 
 use crate::job::{Holder, Wanted};
@@ -25,15 +25,35 @@ pub(crate) fn others(
     ensures { IfOk result (λ clients. clients ≡ others beliefs.now.entries block client owners) }
 {
     let mut clients = List::new(alloc);
+    add_others(&mut clients, beliefs, block, client, owners)?;
+    Ok(clients)
+}
+
+fn add_others(
+    clients: &mut List<u8>,
+    beliefs: &BTreeMap<Holder, bool>,
+    block: BlockId,
+    client: u8,
+    owners: bool,
+) -> Mem<()>
+    ensures { OnOk result (clients.new ≡ clients.old ++ others beliefs.now.entries block client owners) }
+{
     for (holder, owns) in beliefs.range(first_holder(block)..) {
         if holder.block != block {
             break;
         }
-        if holder.client != client && (*owns || !owners) {
+        if is_other(*holder, *owns, client, owners) {
             clients.push(holder.client)?;
         }
     }
-    Ok(clients)
+    Ok(())
+}
+
+// Whether who holds a block is another client, and one that owns it where only owners count.
+fn is_other(holder: Holder, owns: bool, client: u8, owners: bool) -> bool
+    ensures { result ≡ not (holder.client == client) && (owns || not owners) }
+{
+    holder.client != client && (owns || !owners)
 }
 
 // The first client that is believed to hold a block.

@@ -2,7 +2,7 @@
 use xfs_base::{BlockId, Crosses, List, Mode, Stamp};
 
 /// A client that may hold a block. The order is by block, then by client.
-#[derive(Clone, Copy, Debug, PartialEq, Eq, PartialOrd, Ord)]
+#[derive(Clone, Copy, PartialEq, Eq, PartialOrd, Ord)]
 pub struct Holder {
     /// The block.
     pub block: BlockId,
@@ -11,7 +11,7 @@ pub struct Holder {
 }
 
 /// What a client wants.
-#[derive(Clone, Copy, Debug, PartialEq, Eq)]
+#[derive(Clone, Copy)]
 pub struct Wanted {
     /// The number of the client.
     pub client: u8,
@@ -28,7 +28,7 @@ pub struct Wanted {
 }
 
 /// A recall that was sent.
-#[derive(Clone, Copy, Debug, PartialEq, Eq)]
+#[derive(Clone, Copy)]
 pub struct Awaited {
     /// The client from which the block is recalled.
     pub client: u8,

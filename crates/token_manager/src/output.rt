@@ -2,7 +2,7 @@
 use xfs_base::{BlockId, Crosses, Entry, LogId, Mode, Stamp};
 
 /// What a slot has its manager send. `client` is the number of the client to which it goes.
-#[derive(Clone, Copy, Debug, PartialEq, Eq)]
+#[derive(Clone, Copy)]
 pub enum Out {
     /// A client gets a block.
     Grant {

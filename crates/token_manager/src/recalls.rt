@@ -1,6 +1,8 @@
 //! The recalls of the wants that wait.
 ghost use Rattle.std.specs.Prelude.{◌≡◌, ℕ, ◌+◌, ◌^◌, ◌<◌, length, OnOk, IfOk, ◌++◌};
+ghost use Rattle.std.specs.BTreeMap.{insert_entry};
 ghost use Rattle.std.specs.List.{list_any};
+ghost use Rattle.xfs_base.specs.Blocks.{block_cmp};
 ghost use Rattle.token_manager.specs.Recalls.{recalls, sent, all_sent, answers, noted, applied_of, is_applied, is_ready, ready_blocks};
 
 use crate::job::{Awaited, Job};
@@ -48,6 +50,20 @@ pub(crate) fn send_recalls(outs: &mut List<Out>, block: BlockId, awaited: &[Awai
             })?;
         }
     }
+    Ok(())
+}
+
+// A want waits, and the recalls for it are sent.
+pub(crate) fn await_all(
+    jobs: &mut BTreeMap<BlockId, Job>,
+    outs: &mut List<Out>,
+    job: Job,
+) -> Mem<()>
+    ensures jobs { OnOk result (jobs.new.entries ≡ insert_entry block_cmp jobs.old.entries job.want.block job) }
+    ensures outs { OnOk result (outs.new ≡ outs.old ++ sent job.want.block job.awaited) }
+{
+    send_recalls(outs, job.want.block, job.awaited.as_slice())?;
+    jobs.insert(job.want.block, job)?;
     Ok(())
 }
 

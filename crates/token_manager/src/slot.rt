@@ -1,10 +1,11 @@
 //! One slot.
-ghost use Rattle.std.specs.Prelude.{◌≡◌, ℕ, ◌+◌, ◌^◌, ◌<◌, ◌≤◌, length, OnOk, IfOk, IsTrue, ◌++◌, []};
+ghost use Rattle.std.specs.Prelude.{◌≡◌, ℕ, ◌+◌, ◌^◌, ◌<◌, ◌≤◌, ◌==◌, ◌||◌, not, length, Some, OnOk, IfOk, IsTrue, ◌++◌, []};
+ghost use Rattle.xfs_base.specs.Modes.{is_own};
 ghost use Rattle.xfs_base.specs.Steps.{steps};
 ghost use Rattle.xfs_base.specs.declared.segment.SegName.{SegName};
 ghost use Rattle.token_manager.specs.Index.{pages_of, live_in, has_room};
 ghost use Rattle.token_manager.specs.Recalls.{applied_of, ready_blocks};
-ghost use Rattle.token_manager.specs.Transition.{started, cleaned, has_turns, passers, finished, recall_or_finish, recall, on_want, gave_last, gave_noted, on_gave, finished_at, is_followed, apply, apply_or_not, on_deltas, is_place, found, on_check, on_tick, transition};
+ghost use Rattle.token_manager.specs.Transition.{started, cleaned, has_turns, passers, answer, finished, recall_or_finish, recall, on_want, gave_last, gave_noted, on_gave, finished_at, is_followed, apply, apply_or_not, on_deltas, is_place, found, on_check, on_tick, transition};
 
 use crate::beliefs::{all_believed, give_up, meet_want, others};
 use crate::index::BlockIndex;
@@ -12,7 +13,7 @@ use crate::input::In;
 use crate::job::{Awaited, Holder, Job, Wanted};
 use crate::output::Out;
 use crate::recalls::{
-    applied_of, is_awaited, is_ready, noted, ready_blocks, recalls, send_all, send_recalls,
+    applied_of, await_all, is_awaited, is_ready, noted, ready_blocks, recalls, send_all,
 };
 use index_pages::Pages;
 use std::alloc::Global;
@@ -48,9 +49,9 @@ fn nine(list: &[u32]) -> [u32; 9]
     requires { length list.now ≡ 9 }
     ensures { result ≡ list.now }
 {
-    [
-        list[0], list[1], list[2], list[3], list[4], list[5], list[6], list[7], list[8],
-    ]
+    let mut nine = [0; 9];
+    nine.copy_from_slice(list);
+    nine
 }
 
 // Whether a place is this one.
@@ -58,13 +59,30 @@ fn is_place(at: Option<Place>, place: Place) -> bool
     ensures { result ≡ is_place at place }
 {
     match at {
-        Some(at) => {
-            at.seg.name.order(place.seg.name).is_eq()
-                && at.seg.group == place.seg.group
-                && at.item == place.item
-        }
+        Some(at) => is_at(at, place),
         None => false,
     }
+}
+
+fn is_at(at: Place, place: Place) -> bool
+    ensures { result ≡ is_place (Some at) place }
+{
+    let is_named = at.seg.name.order(place.seg.name).is_eq();
+    is_named && at.seg.group == place.seg.group && at.item == place.item
+}
+
+// Whether a want is answered from the log alone: it wants to write, or it was said before.
+fn is_served_alone(want: Wanted) -> bool
+    ensures { result ≡ is_own want.mode || not (want.again == 0) }
+{
+    want.mode.is_own() || want.again != 0
+}
+
+// Whether so many more turns can be given out.
+fn has_turns(turn: u64, count: usize) -> bool
+    ensures { result ≡ has_turns turn count }
+{
+    count as u64 <= u64::MAX - turn
 }
 
 // What the cleaner is told of an entry that it may have found at a place.
@@ -94,15 +112,30 @@ impl Slot {
         requires room { (seg : SegName) → live_in seg index < 2 ^ 32 }
         ensures { IfOk result (λ slot. slot ≡ started epoch index beliefs applied) }
     {
+        let applied = nine(applied.as_slice());
+        Slot::start_with(alloc, epoch, index.as_slice(), beliefs.as_slice(), applied)
+    }
+
+    fn start_with(
+        alloc: Global,
+        epoch: u32,
+        index: &[(BlockId, Entry)],
+        beliefs: &[(BlockId, u8, Mode)],
+        applied: [u32; 9],
+    ) -> Mem<Slot>
+        requires { (seg : SegName) → live_in seg index.now < 2 ^ 32 }
+        ensures { IfOk result (λ slot. slot ≡ started epoch index.now beliefs.now applied) }
+    {
+        let beliefs = all_believed(alloc, beliefs)?;
         let mut rows = BlockIndex::new(alloc);
-        rows.merge_all(alloc, index.as_slice())?;
+        rows.merge_all(alloc, index)?;
         Ok(Slot {
             epoch,
             index: rows,
-            beliefs: all_believed(alloc, beliefs.as_slice())?,
+            beliefs,
             jobs: BTreeMap::new(alloc),
             turn: 0,
-            applied: nine(applied.as_slice()),
+            applied,
         })
     }
 
@@ -168,6 +201,14 @@ impl Slot {
         ensures outs { IfOk result (λ outs. outs ≡ (transition self.old input).outs) }
     {
         let mut outs = List::new(alloc);
+        self.take_in(alloc, &mut outs, input)?;
+        Ok(outs)
+    }
+
+    fn take_in(&mut self, alloc: Global, outs: &mut List<Out>, input: In) -> Mem<()>
+        ensures state { OnOk result (self.new ≡ (transition self.old input).state) }
+        ensures outs { OnOk result (outs.new ≡ outs.old ++ (transition self.old input).outs) }
+    {
         match input {
             In::Want {
                 client,
@@ -186,30 +227,29 @@ impl Slot {
                     again,
                     mode,
                 };
-                self.on_want(alloc, &mut outs, want, end)?
+                self.on_want(alloc, outs, want, end)
             }
             In::Gave {
                 client,
                 block,
                 stamp,
                 end,
-            } => self.on_gave(alloc, &mut outs, client, block, stamp, end)?,
+            } => self.on_gave(alloc, outs, client, block, stamp, end),
             In::Deltas {
                 log,
                 first,
                 upto,
                 rows,
-            } => self.on_deltas(alloc, &mut outs, log, first, upto, rows.as_slice())?,
-            In::Check { block, place } => outs.push(found(self.index.get(block), place))?,
-            In::Tick => send_all(&mut outs, &self.jobs)?,
+            } => self.on_deltas(alloc, outs, log, first, upto, rows.as_slice()),
+            In::Check { block, place } => outs.push(found(self.index.get(block), place)),
+            In::Tick => send_all(outs, &self.jobs),
         }
-        Ok(outs)
     }
 
     fn passers(&self, alloc: Global, want: Wanted) -> Mem<List<u8>>
         ensures { IfOk result (λ clients. clients ≡ passers self.now want) }
     {
-        if want.mode.is_own() || want.again != 0 {
+        if is_served_alone(want) {
             return Ok(List::new(alloc));
         }
         others(alloc, &self.beliefs, want.block, want.client, false)
@@ -221,14 +261,32 @@ impl Slot {
         ensures state { OnOk result (self.new ≡ (finished self.old want).state) }
         ensures outs { OnOk result (outs.new ≡ outs.old ++ (finished self.old want).outs) }
     {
-        let passers = self.passers(alloc, want)?;
-        let entry = self.index.get(want.block);
+        let out = self.answered(alloc, want)?;
         self.turn += 1;
+        outs.push(out)?;
+        meet_want(&mut self.beliefs, want)
+    }
+
+    // What a want is answered under the next turn.
+    fn answered(&self, alloc: Global, want: Wanted) -> Mem<Out>
+        requires { IsTrue (has_turns self.now.turn 1) }
+        ensures { IfOk result (λ out. out ≡ answer self.now want (passers self.now want)) }
+    {
+        let passers = self.passers(alloc, want)?;
+        Ok(self.answer(want, passers.as_slice()))
+    }
+
+    // A word to the lowest client that can pass its copy on, else a grant.
+    fn answer(&self, want: Wanted, passers: &[u8]) -> Out
+        requires { IsTrue (has_turns self.now.turn 1) }
+        ensures { result ≡ answer self.now want passers.now }
+    {
+        let entry = self.index.get(want.block);
         let stamp = Stamp {
             epoch: self.epoch,
-            turn: self.turn,
+            turn: self.turn + 1,
         };
-        let out = match passers.as_slice().first() {
+        match passers.first() {
             Some(passer) => Out::Forward {
                 client: *passer,
                 block: want.block,
@@ -247,9 +305,7 @@ impl Slot {
                 mode: want.mode,
                 entry,
             },
-        };
-        outs.push(out)?;
-        meet_want(&mut self.beliefs, want)
+        }
     }
 
     fn on_want(&mut self, alloc: Global, outs: &mut List<Out>, want: Wanted, end: u32) -> Mem<()>
@@ -301,15 +357,12 @@ impl Slot {
         ensures state { OnOk result (self.new ≡ (recall self.old want clients.now).state) }
         ensures outs { OnOk result (outs.new ≡ outs.old ++ (recall self.old want clients.now).outs) }
     {
-        let count = clients.len() as u64;
-        if self.turn > u64::MAX - count {
+        if !has_turns(self.turn, clients.len()) {
             return Ok(());
         }
         let awaited = recalls(alloc, self.epoch, self.turn, !want.mode.is_own(), clients)?;
-        send_recalls(outs, want.block, awaited.as_slice())?;
-        self.turn += count;
-        self.jobs.insert(want.block, Job { want, awaited })?;
-        Ok(())
+        self.turn += clients.len() as u64;
+        await_all(&mut self.jobs, outs, Job { want, awaited })
     }
 
     fn on_gave(

@@ -19,5 +19,6 @@ returns c =
     let text = text_of c.args.segment.now in
     let parity = c.args.group.now.parity in
     let whole : c.in_ok-stripe.stripe ≡ stripe_of text (length c.args.group.now.members) parity =
-    c.in_ok-stripe.ensures ∙ ap (λ t. stripe_of t c.len.result parity) (c.as_slice.ensures ∙ c.in_ok-text.ensures.spelled) ∙ ap (λ n. stripe_of text n parity) c.len.ensures in
+    c.in_ok-stripe.ensures ∙ ap (λ t. stripe_of t c.len.result parity) (c.as_slice.ensures ∙ c.in_ok-text.ensures.spelled)
+    ∙ ap (λ n. stripe_of text n parity) c.len.ensures in
     subst (λ st. IfOk c.fragments_with.result (λ fs. fs ≡ pieces_from c.args.segment.now 0 st)) whole c.fragments_with.ensures

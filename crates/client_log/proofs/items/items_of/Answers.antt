@@ -9,7 +9,8 @@ pub loop-block-preserved : goal.loop-block-preserved
 loop-block-preserved c =
     let all = into_iter_items c.into_iter-block-iterator.result in
     builds_more c.loop-block.items (c.in-Some.block, c.in-Some.change) (into_iter_items c.next.new.self) all c.add_items.new.items
-    (subst (λ r. BuildsItems c.loop-block.items r all) c.in-Some.ensures.steps.0 c.loop-block.invariant) c.in_ok-add_items.ensures.added c.in_ok-add_items.ensures.each
+    (subst (λ r. BuildsItems c.loop-block.items r all) c.in-Some.ensures.steps.0 c.loop-block.invariant)
+    c.in_ok-add_items.ensures.added c.in_ok-add_items.ensures.each
 
 pub returns-clause-text : goal.returns-clause-text
 returns-clause-text c =

@@ -5,4 +5,5 @@ use Rattle.log_owner.proofs.sending.send_ranges.Given as goal
 
 -- what is sent so far, and the ranges to come, are all
 abbrev pub invariant-loop-out : goal.invariant-loop-out
-invariant-loop-out l = l.effects ++ map (range l.managers) (into_iter_items l.out-iterator) ≡ l.initial.effects ++ map (range l.managers) (into_iter_items l.initial.out-iterator)
+invariant-loop-out l =
+    l.effects ++ map (range l.managers) (into_iter_items l.out-iterator) ≡ l.initial.effects ++ map (range l.managers) (into_iter_items l.initial.out-iterator)

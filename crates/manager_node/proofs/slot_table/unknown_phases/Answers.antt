@@ -11,8 +11,10 @@ one_more done now rest all x is before = ap (λ n. n ++ rest) is ∙ append_asso
 pub loop-slot-preserved : goal.loop-slot-preserved
 loop-slot-preserved c =
     let here : c.loop-slot._slot-index < length c.args.slots.now = omega arith in
-    let more : map unknown_phase (drop c.loop-slot._slot-index c.args.slots.now) ≡ unknown_phase 0 ∷ map unknown_phase (drop (c.loop-slot._slot-index + 1) c.args.slots.now) =
+    let more : map unknown_phase (drop c.loop-slot._slot-index c.args.slots.now) ≡ unknown_phase 0 ∷ map unknown_phase
+    (drop (c.loop-slot._slot-index + 1) c.args.slots.now) =
     at_drop_more (map unknown_phase) c.args.slots.now c.loop-slot._slot-index 0 here
     in
-    one_more c.loop-slot.phases c.push.new.self (map unknown_phase (drop (c.loop-slot._slot-index + 1) c.args.slots.now)) (map unknown_phase c.args.slots.now) (unknown_phase 0)
+    one_more c.loop-slot.phases c.push.new.self (map unknown_phase (drop (c.loop-slot._slot-index + 1) c.args.slots.now)) (map unknown_phase c.args.slots.now)
+    (unknown_phase 0)
     c.in_ok-push.ensures.ok (ap (λ r. c.loop-slot.phases ++ r) (sym more) ∙ c.loop-slot.invariant)

@@ -7,4 +7,5 @@ use Rattle.manager_node.proofs.takeovers.ask_again.Goals as goal
 pub say_each-requires : goal.say_each-requires
 say_each-requires c =
     let told = c.in_ok-outs.outs in
-    All-same StartsSlot c.in_ok-outs-2.outs (filter (is_wanted c.args.polls) told) c.in_ok-outs-2.ensures (All-filter (is_wanted c.args.polls) StartsSlot told c.in_ok-outs.ensures.starts)
+    All-same StartsSlot c.in_ok-outs-2.outs (filter (is_wanted c.args.polls) told) c.in_ok-outs-2.ensures
+    (All-filter (is_wanted c.args.polls) StartsSlot told c.in_ok-outs.ensures.starts)

@@ -5,4 +5,5 @@ use Rattle.manager_node.proofs.takeovers.wanted.Given as goal
 
 -- those so far and those to come are all
 abbrev pub invariant-loop-out : goal.invariant-loop-out
-invariant-loop-out l = l.kept ++ filter (is_wanted l.polls) (into_iter_items l.out-iterator) ≡ filter (is_wanted l.polls) (into_iter_items l.initial.out-iterator)
+invariant-loop-out l =
+    l.kept ++ filter (is_wanted l.polls) (into_iter_items l.out-iterator) ≡ filter (is_wanted l.polls) (into_iter_items l.initial.out-iterator)

@@ -5,4 +5,5 @@ use Rattle.manager_node.proofs.tokens.answer_each.Given as goal
 
 -- what is sent so far and what is to be sent is all
 abbrev pub invariant-loop-out : goal.invariant-loop-out
-invariant-loop-out l = l.effects ++ flat_map (check_said l.check l.epoch) (drop l.out-index l.outs) ≡ l.initial.effects ++ flat_map (check_said l.check l.epoch) l.outs
+invariant-loop-out l =
+    l.effects ++ flat_map (check_said l.check l.epoch) (drop l.out-index l.outs) ≡ l.initial.effects ++ flat_map (check_said l.check l.epoch) l.outs

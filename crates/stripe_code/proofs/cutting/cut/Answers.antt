@@ -11,7 +11,8 @@ plain_sum-requires c =
 pub weighted_sum-requires-clause-few : goal.weighted_sum-requires-clause-few
 weighted_sum-requires-clause-few c =
     let many : length c.as_slice-then-parity-eq2.result.now ≡ c.args.n - c.from.result =
-    ap (λ (s : List (List ℕ)). length s) (c.as_slice-then-parity-eq2.ensures ∙ c.in_ok-stripe.ensures) ∙ length-pieces (c.args.n - c.from.result) c.part_len-part.result c.args.segment.now in
+    ap (λ (s : List (List ℕ)). length s) (c.as_slice-then-parity-eq2.ensures ∙ c.in_ok-stripe.ensures)
+    ∙ length-pieces (c.args.n - c.from.result) c.part_len-part.result c.args.segment.now in
     omega (arith, c.requires.most)
 
 pub weighted_sum-requires-clause-alike : goal.weighted_sum-requires-clause-alike

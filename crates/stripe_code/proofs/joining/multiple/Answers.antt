@@ -6,4 +6,5 @@ use Rattle.stripe_code.proofs.joining.multiple.Goals as goal
 pub returns-clause-times : goal.returns-clause-times
 returns-clause-times c =
     let products = times c.args.by c.args.of.now in
-    c.added.ensures.added ∙ ap (λ (z : List ℕ). xor_of z products) c.in_ok-start.ensures.zeros ∙ onto_zeros c.args.part products (length-times c.args.by c.args.of.now ∙ c.requires)
+    c.added.ensures.added ∙ ap (λ (z : List ℕ). xor_of z products) c.in_ok-start.ensures.zeros
+    ∙ onto_zeros c.args.part products (length-times c.args.by c.args.of.now ∙ c.requires)

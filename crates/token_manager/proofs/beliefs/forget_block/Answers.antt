@@ -7,4 +7,5 @@ use Rattle.token_manager.proofs.beliefs.forget_block.Goals as goal
 pub loop-holder-preserved : goal.loop-holder-preserved
 loop-holder-preserved c =
     let here = c.in-Some.ensures.found.0 in
-    ap (λ es. without_block es c.args.block) c.remove.ensures.entries ∙ without_removed c.in-Some.holder c.args.block c.loop-holder.beliefs.entries here ∙ c.loop-holder.invariant
+    ap (λ es. without_block es c.args.block) c.remove.ensures.entries ∙ without_removed c.in-Some.holder c.args.block c.loop-holder.beliefs.entries here
+    ∙ c.loop-holder.invariant

@@ -7,7 +7,12 @@ use Rattle.client_log.proofs.flight.Flight.send_at.Goals as goal
 pub bounds-as_slice-place : goal.bounds-as_slice-place
 bounds-as_slice-place c =
     let members : length c.self.inside.group.members ≡ length c.args.self.now.group.members = ap (λ (f : FlightState). length f.group.members) c.self.view_is in
-    omega (arith, ap length c.as_slice.ensures, ap length c.self.invariant.pieces, length-pieces_over c.self.inside.segment c.self.inside.group c.self.invariant.cut)
+    omega (
+      arith,
+      ap length c.as_slice.ensures,
+      ap length c.self.invariant.pieces,
+      length-pieces_over c.self.inside.segment c.self.inside.group c.self.invariant.cut,
+    )
 
 pub returns : goal.returns
 returns c =
@@ -17,4 +22,8 @@ returns c =
     let one : c.in_ok-fragment.fragment ≡ piece c.self.inside.segment c.self.inside.group c.args.place =
     c.in_ok-fragment.ensures ∙ c.index-as_slice-place.is ∙ ap (λ fs. get_or fs c.args.place c.index-as_slice-place.result) whole
     ∙ get_or-pieces_over c.self.inside.segment c.self.inside.group c.args.place c.index-as_slice-place.result c.self.invariant.cut (omega arith) in
-    rw (← c.self.view_is) (c.in_ok-push.ensures.ok ∙ ap (λ os. c.args.outs.now ++ os) (sent (record { segment = c.self.inside.segment; group = c.self.inside.group; noted = c.self.inside.noted }) c.args.member c.args.place c.in_ok-fragment.fragment off one))
+    rw (← c.self.view_is)
+    (c.in_ok-push.ensures.ok
+    ∙ ap (λ os. c.args.outs.now ++ os)
+    (sent (record { segment = c.self.inside.segment; group = c.self.inside.group; noted = c.self.inside.noted })
+    c.args.member c.args.place c.in_ok-fragment.fragment off one))

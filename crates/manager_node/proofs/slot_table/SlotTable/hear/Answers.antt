@@ -11,7 +11,9 @@ use Rattle.manager_node.proofs.slot_table.SlotTable.hear.Goals.{in-Some, in-None
 pub returns-clause-questions : goal.returns-clause-questions
 unfolding hears
 returns-clause-questions c =
-    let f : Option SlotPhase → Questions = λ o. (in_taken (table_asker c.args.self.now c.args.questions.now) (c.args.news.now.slot) (hears_of (hearer c.args.ears c.args.groups.now) c.args.news.now) o).state.questions in
+    let f : Option SlotPhase → Questions =
+    λ o. (in_taken (table_asker c.args.self.now c.args.questions.now) (c.args.news.now.slot)
+    (hears_of (hearer c.args.ears c.args.groups.now) c.args.news.now) o).state.questions in
     elim c.match-get_mut.branch [
       | in-Some w ↦ as_found f _ _ _ _ _ c.get_mut.ensures.item c.self.view_is c.from.ensures _ _ _ w.in-Some.is _ _ w.questions-is w.result-is w.hear_of.ensures.questions
       | in-None w ↦ as_missing f _ _ _ _ _ c.get_mut.ensures.item c.self.view_is c.from.ensures _ w.in-None.is _ _ w.questions-is refl
@@ -21,7 +23,9 @@ pub returns-clause-effects : goal.returns-clause-effects
 unfolding hears
 returns-clause-effects c =
     let made = c.args.effects.now in
-    let f : Option SlotPhase → List Effect = λ o. made ++ (in_taken (table_asker c.args.self.now c.args.questions.now) (c.args.news.now.slot) (hears_of (hearer c.args.ears c.args.groups.now) c.args.news.now) o).outs in
+    let f : Option SlotPhase → List Effect =
+    λ o. made ++ (in_taken (table_asker c.args.self.now c.args.questions.now) (c.args.news.now.slot)
+    (hears_of (hearer c.args.ears c.args.groups.now) c.args.news.now) o).outs in
     elim c.match-get_mut.branch [
       | in-Some w ↦ as_found f _ _ _ _ _ c.get_mut.ensures.item c.self.view_is c.from.ensures _ _ _ w.in-Some.is _ _ w.effects-is w.result-is w.hear_of.ensures.effects
       | in-None w ↦ as_missing f _ _ _ _ _ c.get_mut.ensures.item c.self.view_is c.from.ensures _ w.in-None.is _ _ w.effects-is (sym (append-nil made))

@@ -13,8 +13,11 @@ pub returns-clause-effects : goal.returns-clause-effects
 unfolding on_check
 returns-clause-effects c =
     let made = c.args.effects.now in
-    let f : Option SlotPhase → List Effect = λ o. made ++ (in_slot c.args.self.now (slot_of c.args.check.block.ino.0) (λ p. tokens.on_check p c.args.check) o).outs in
+    let f : Option SlotPhase → List Effect =
+    λ o. made ++ (in_slot c.args.self.now (slot_of c.args.check.block.ino.0) (λ p. tokens.on_check p c.args.check) o).outs in
     elim c.match-get_mut.branch [
-      | in-Some w ↦ as_found f _ _ _ _ _ c.get_mut.ensures.item c.self.view_is (c.from.ensures ∙ c.slot-slot.ensures) _ _ _ w.in-Some.is _ _ w.effects-is w.result-is w.on_check.ensures.effects
-      | in-None w ↦ as_missing f _ _ _ _ _ c.get_mut.ensures.item c.self.view_is (c.from.ensures ∙ c.slot-slot.ensures) _ w.in-None.is _ _ w.effects-is (sym (append-nil made))
+      | in-Some w ↦ as_found f _ _ _ _ _ c.get_mut.ensures.item c.self.view_is
+          (c.from.ensures ∙ c.slot-slot.ensures) _ _ _ w.in-Some.is _ _ w.effects-is w.result-is w.on_check.ensures.effects
+      | in-None w ↦ as_missing f _ _ _ _ _ c.get_mut.ensures.item c.self.view_is (c.from.ensures ∙ c.slot-slot.ensures) _ w.in-None.is _ _ w.effects-is
+          (sym (append-nil made))
     ]

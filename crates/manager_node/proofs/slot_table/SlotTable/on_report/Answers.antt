@@ -12,7 +12,9 @@ use Rattle.manager_node.proofs.slot_table.SlotTable.on_report.Goals.{in-Some, in
 pub returns-clause-questions : goal.returns-clause-questions
 unfolding on_report
 returns-clause-questions c =
-    let f : Option SlotPhase → Questions = λ o. (in_taken (table_asker c.args.self.now c.args.questions.now) (c.args.report.now.slot) (λ one. takeovers.on_report one c.args.from c.args.report.now) o).state.questions in
+    let f : Option SlotPhase → Questions =
+    λ o. (in_taken (table_asker c.args.self.now c.args.questions.now) (c.args.report.now.slot)
+    (λ one. takeovers.on_report one c.args.from c.args.report.now) o).state.questions in
     elim c.match-get_mut.branch [
       | in-Some w ↦ as_found f _ _ _ _ _ c.get_mut.ensures.item c.self.view_is c.from.ensures _ _ _ w.in-Some.is _ _ w.questions-is w.result-is w.on_report.ensures.questions
       | in-None w ↦ as_missing f _ _ _ _ _ c.get_mut.ensures.item c.self.view_is c.from.ensures _ w.in-None.is _ _ w.questions-is refl
@@ -22,7 +24,9 @@ pub returns-clause-effects : goal.returns-clause-effects
 unfolding on_report
 returns-clause-effects c =
     let made = c.args.effects.now in
-    let f : Option SlotPhase → List Effect = λ o. made ++ (in_taken (table_asker c.args.self.now c.args.questions.now) (c.args.report.now.slot) (λ one. takeovers.on_report one c.args.from c.args.report.now) o).outs in
+    let f : Option SlotPhase → List Effect =
+    λ o. made ++ (in_taken (table_asker c.args.self.now c.args.questions.now) (c.args.report.now.slot)
+    (λ one. takeovers.on_report one c.args.from c.args.report.now) o).outs in
     elim c.match-get_mut.branch [
       | in-Some w ↦ as_found f _ _ _ _ _ c.get_mut.ensures.item c.self.view_is c.from.ensures _ _ _ w.in-Some.is _ _ w.effects-is w.result-is w.on_report.ensures.effects
       | in-None w ↦ as_missing f _ _ _ _ _ c.get_mut.ensures.item c.self.view_is c.from.ensures _ w.in-None.is _ _ w.effects-is (sym (append-nil made))

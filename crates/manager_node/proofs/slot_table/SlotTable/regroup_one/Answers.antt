@@ -13,7 +13,9 @@ use Rattle.manager_node.proofs.slot_table.SlotTable.regroup_one.Goals.{in-Some, 
 pub returns-clause-questions : goal.returns-clause-questions
 unfolding takes
 returns-clause-questions c =
-    let f : Option SlotPhase → Questions = λ o. (in_taken (table_asker c.args.self.now c.args.questions.now) (c.args.slot) (λ one. takeovers.takes one c.args.slot (takeovers.told_groups c.args.groups.now)) o).state.questions in
+    let f : Option SlotPhase → Questions =
+    λ o. (in_taken (table_asker c.args.self.now c.args.questions.now) (c.args.slot)
+    (λ one. takeovers.takes one c.args.slot (takeovers.told_groups c.args.groups.now)) o).state.questions in
     elim c.match-get_mut.branch [
       | in-Some w ↦ as_found f _ _ _ _ _ c.get_mut.ensures.item c.self.view_is c.from.ensures _ _ _ w.in-Some.is _ _ w.questions-is w.result-is w.regroup.ensures.questions
       | in-None w ↦ as_missing f _ _ _ _ _ c.get_mut.ensures.item c.self.view_is c.from.ensures _ w.in-None.is _ _ w.questions-is refl
@@ -23,7 +25,9 @@ pub returns-clause-effects : goal.returns-clause-effects
 unfolding takes
 returns-clause-effects c =
     let made = c.args.effects.now in
-    let f : Option SlotPhase → List Effect = λ o. made ++ (in_taken (table_asker c.args.self.now c.args.questions.now) (c.args.slot) (λ one. takeovers.takes one c.args.slot (takeovers.told_groups c.args.groups.now)) o).outs in
+    let f : Option SlotPhase → List Effect =
+    λ o. made ++ (in_taken (table_asker c.args.self.now c.args.questions.now) (c.args.slot)
+    (λ one. takeovers.takes one c.args.slot (takeovers.told_groups c.args.groups.now)) o).outs in
     elim c.match-get_mut.branch [
       | in-Some w ↦ as_found f _ _ _ _ _ c.get_mut.ensures.item c.self.view_is c.from.ensures _ _ _ w.in-Some.is _ _ w.effects-is w.result-is w.regroup.ensures.effects
       | in-None w ↦ as_missing f _ _ _ _ _ c.get_mut.ensures.item c.self.view_is c.from.ensures _ w.in-None.is _ _ w.effects-is (sym (append-nil made))

@@ -2,7 +2,7 @@ use Rattle.std.proofs.Common.{◌≡◌, ◌++◌}
 use Rattle.std.specs.Vec.Iter.{into_iter_items}
 use Rattle.xfs_base.specs.Steps.{steps}
 use Rattle.log_owner.specs.Opening.{said}
-use Rattle.log_owner.proofs.ended.send_scanned.Given as goal
+use Rattle.log_owner.proofs.ended.send_outs.Given as goal
 
 -- what is said so far, and what is to come, is all
 abbrev pub invariant-loop-out : goal.invariant-loop-out
