@@ -26,7 +26,8 @@ only_zero bs (suc n) p l h e =
     let q : get_or (decimal (suc n)) 0 0 ≡ 48 = rw e at p in
     omega (arith, f, q)
 
-pub number_found : {E : Type 0} (bs : List ℕ) (r : Result ℕ E) (n : ℕ) → ParsesUnsigned 64 10 bs r → r ≡ Ok n → 0 < length bs → get_or bs 0 0 ≢ 43 → get_or bs 0 0 ≢ 48 → bs ≡ decimal n
+pub number_found : {E : Type 0} (bs : List ℕ) (r : Result ℕ E) (n : ℕ) → ParsesUnsigned 64 10 bs r → r ≡ Ok n → 0 < length bs → get_or bs 0 0 ≢ 43
+    → get_or bs 0 0 ≢ 48 → bs ≡ decimal n
 number_found bs r n h k l p z =
     let o = OkIff-at_ok r _ _ n (parse_plain own 64 bs r h p) k in
     let d : decimal (digits_value 10 bs) ≡ bs = decimal-digits_value own bs o.0.0 l (λ e. absurd (z e)) o.0.2 in
@@ -45,7 +46,8 @@ long_decimal n l =
     let t : nat_lt n 18446744073709551616 ≡ true = grind (arith, nat_tests) in
     rw (v, e, t) refl
 
-number_test : (w : List ℕ) (m : ℕ) (b t : Bool) → bytes_eq w (decimal m) ≡ b → nat_lt m 18446744073709551616 ≡ t → (b ≡ true → t ≡ true → ⊥) → (if b && t then Some m else None) ≡ None
+number_test : (w : List ℕ) (m : ℕ) (b t : Bool) → bytes_eq w (decimal m) ≡ b → nat_lt m 18446744073709551616 ≡ t → (b ≡ true → t ≡ true → ⊥)
+    → (if b && t then Some m else None) ≡ None
 number_test w m true true e f h = absurd (h refl refl)
 number_test w m true false e f h = refl
 number_test w m false t e f h = refl

@@ -9,5 +9,6 @@ use Rattle.audit.specs.Journal.{is_skipped, said, noted}
 pub said_act : (line : List ℕ) (act : Act) {t : Bool} → t ≡ false → t ≡ is_skipped line → read_act line ≡ Ok act → said line ≡ Ok (Some act)
 said_act line act f e h = rw (sym e ∙ f, h) refl
 
-pub noted_act : (j : Journal) (number n : ℕ) (act : Act) (acts : List Act) (lines : List ℕ) → acts ≡ j.acts ++ act ∷ [] → lines ≡ j.lines ++ n ∷ [] → n ≡ number → record { acts = acts; lines = lines } ≡ noted j number (Some act)
+pub noted_act : (j : Journal) (number n : ℕ) (act : Act) (acts : List Act) (lines : List ℕ) → acts ≡ j.acts ++ act ∷ [] → lines ≡ j.lines ++ n ∷ [] → n ≡ number
+    → record { acts = acts; lines = lines } ≡ noted j number (Some act)
 noted_act j number n act acts lines e f g = rw (e, f, g) refl

@@ -75,10 +75,12 @@ module _ (holds : SegRef → Rows) (k : Checkpointed) (c : IsCovered holds k) (q
     where
       at_known : IsKnown k c.calls q → cond (list_any (on_page q) k.pages.pages) now_held no_entry ≡ now_held
       at_known (inl none) = cond_none (list_any (on_page q) k.pages.pages) now_held none
-      at_known (inr (begun, fits)) = ap (λ t. cond t now_held no_entry) (ap (list_any (on_page q)) their_pages ∙ its_page q (puts_since_clean c.calls) (pages_begun c.calls) fits begun)
+      at_known (inr (begun, fits)) =
+          ap (λ t. cond t now_held no_entry) (ap (list_any (on_page q)) their_pages ∙ its_page q (puts_since_clean c.calls) (pages_begun c.calls) fits begun)
 
   -- the changed pages on what the parts hold
-  changed_join : Covers (join (rows_in holds k.parts) q) now_held (is_put_on c.calls q) → first_greatest (join (rows_in holds k.parts) q) (join (rows_of (changed_rows k.pages)) q) ≡ now_held
+  changed_join : Covers (join (rows_in holds k.parts) q) now_held (is_put_on c.calls q)
+      → first_greatest (join (rows_in holds k.parts) q) (join (rows_of (changed_rows k.pages)) q) ≡ now_held
   changed_join v =
       ap (first_greatest (join (rows_in holds k.parts) q)) (join-pages k.pages.rows q (c.held q) (filter is_changed k.pages.pages)) ∙ at_known (c.known q)
     where
@@ -89,23 +91,30 @@ module _ (holds : SegRef → Rows) (k : Checkpointed) (c : IsCovered holds k) (q
       at_known : IsKnown k c.calls q → first_greatest (join (rows_in holds k.parts) q) (cond found now_held no_entry) ≡ now_held
       at_known (inl none) = ap (first_greatest (join (rows_in holds k.parts) q)) (cond_none found now_held none) ∙ v.below
       at_known (inr (begun, fits)) =
-          elim (is_put_on c.calls q) as (λ t. is_put_on c.calls q ≡ t → first_greatest (join (rows_in holds k.parts) q) (cond found now_held no_entry) ≡ now_held) [
+          elim (is_put_on c.calls q) as
+          (λ t. is_put_on c.calls q ≡ t → first_greatest (join (rows_in holds k.parts) q) (cond found now_held no_entry) ≡ now_held) [
             | true ↦ λ on.
-                let there : found ≡ true = ap (λ ps. list_any (on_page q) (filter is_changed ps)) their_pages ∙ its_changed_page q (puts_since_clean c.calls) (pages_begun c.calls) fits on begun in
+                let there : found ≡ true =
+                ap (λ ps. list_any (on_page q) (filter is_changed ps)) their_pages
+                ∙ its_changed_page q (puts_since_clean c.calls) (pages_begun c.calls) fits on begun in
                 ap (λ t. first_greatest (join (rows_in holds k.parts) q) (cond t now_held no_entry)) there ∙ v.below
             | false ↦ λ off. unchanged found (v.same off)
           ] refl
 
-  written_joins : (segments : List SegRef) → rows_in holds segments ≡ rows_of (plan_of k.pages k.parts).pages → join (rows_in holds ((plan_of k.pages k.parts).parts ++ segments)) q ≡ now_held
+  written_joins : (segments : List SegRef) → rows_in holds segments ≡ rows_of (plan_of k.pages k.parts).pages
+      → join (rows_in holds ((plan_of k.pages k.parts).parts ++ segments)) q ≡ now_held
   written_joins segments =
       let anew : Plan = record { pages = all_rows k.pages; parts = [] } in
       let more : Plan = record { pages = changed_rows k.pages; parts = k.parts } in
-      elim (writes_all (length k.parts)) as (λ t. writes_all (length k.parts) ≡ t → rows_in holds segments ≡ rows_of (cond t anew more).pages → join (rows_in holds ((cond t anew more).parts ++ segments)) q ≡ now_held) [
+      elim (writes_all (length k.parts)) as
+      (λ t. writes_all (length k.parts) ≡ t → rows_in holds segments ≡ rows_of (cond t anew more).pages
+      → join (rows_in holds ((cond t anew more).parts ++ segments)) q ≡ now_held) [
         | true ↦ λ _ laid. ap (λ r. join r q) laid ∙ all_join
         | false ↦ λ few laid. at_parts few laid c.parts
       ] refl
     where
-      at_parts : writes_all (length k.parts) ≡ false → rows_in holds segments ≡ rows_of (changed_rows k.pages) → (k.parts ≡ []) ⊎ ((b : BlockId) → Covers (join (rows_in holds k.parts) b) (entry_of k.pages.rows b) (is_put_on c.calls b))
+      at_parts : writes_all (length k.parts) ≡ false → rows_in holds segments ≡ rows_of (changed_rows k.pages)
+          → (k.parts ≡ []) ⊎ ((b : BlockId) → Covers (join (rows_in holds k.parts) b) (entry_of k.pages.rows b) (is_put_on c.calls b))
           → join (rows_in holds (k.parts ++ segments)) q ≡ now_held
       at_parts few laid (inl none) = contrary (sym few ∙ ap (λ (ps : List SegRef). writes_all (length ps)) none)
       at_parts few laid (inr covers) =
@@ -118,13 +127,15 @@ made_more : (s : PagesState) (calls : List Call) (call : Call) → after_calls s
 made_more s [] call = refl
 made_more s (c ∷ cs) call = made_more (after_call s c) cs call
 
-covered_written : (holds : SegRef → Rows) (k : Checkpointed) (segments : List SegRef) → rows_in holds segments ≡ rows_of (plan_of k.pages k.parts).pages → IsCovered holds k → IsCovered holds (after_event k (Written segments))
+covered_written : (holds : SegRef → Rows) (k : Checkpointed) (segments : List SegRef) → rows_in holds segments ≡ rows_of (plan_of k.pages k.parts).pages
+    → IsCovered holds k → IsCovered holds (after_event k (Written segments))
 unfolding cleaned
 covered_written holds k segments laid c =
     record {
       calls = c.calls ++ Clean ∷ [];
       made = ap cleaned c.made ∙ sym (made_more no_pages c.calls Clean);
-      known = λ q. subst (λ fs. (entry_of k.pages.rows q ≡ no_entry) ⊎ ((list_any (same_block (first_block q)) fs ≡ true) × (q.blk < 2 ^ 32))) (sym (fold-append with_page [] c.calls (Clean ∷ []))) (c.known q);
+      known = λ q. subst (λ fs. (entry_of k.pages.rows q ≡ no_entry) ⊎ ((list_any (same_block (first_block q)) fs ≡ true) × (q.blk < 2 ^ 32)))
+          (sym (fold-append with_page [] c.calls (Clean ∷ []))) (c.known q);
       held = c.held;
       parts = inr (λ q.
           let joined = written_joins holds k c q segments laid in
@@ -139,7 +150,8 @@ rises joined old entry below newer =
       | false ↦ λ _ is. first_greatest-newer joined entry (subst (λ x. is_newer entry x ≡ true) (sym is) newer)
     ] refl below
 
-module _ (holds : SegRef → Rows) (k : Checkpointed) (c : IsCovered holds k) (block : BlockId) (entry : Entry) (fits : block.blk < 2 ^ 32) (newer : is_newer entry (entry_of k.pages.rows block) ≡ true) where
+module _ (holds : SegRef → Rows) (k : Checkpointed) (c : IsCovered holds k) (block : BlockId) (entry : Entry) (fits : block.blk < 2 ^ 32)
+    (newer : is_newer entry (entry_of k.pages.rows block) ≡ true) where
   abbrev firsts : List BlockId
   firsts = pages_begun c.calls
 
@@ -155,9 +167,13 @@ module _ (holds : SegRef → Rows) (k : Checkpointed) (c : IsCovered holds k) (b
 
   its_page_begun : list_any (same_block (first_block block)) (with_page firsts (Put block entry)) ≡ true
   its_page_begun =
-      elim (list_any (same_block (first_block block)) firsts) as (λ t. list_any (same_block (first_block block)) firsts ≡ t → list_any (same_block (first_block block)) (cond t firsts (firsts ++ first_block block ∷ [])) ≡ true) [
+      elim (list_any (same_block (first_block block)) firsts) as
+      (λ t. list_any (same_block (first_block block)) firsts ≡ t
+      → list_any (same_block (first_block block)) (cond t firsts (firsts ++ first_block block ∷ [])) ≡ true) [
         | true ↦ λ there. there
-        | false ↦ λ _. list_any-append (same_block (first_block block)) firsts (first_block block ∷ []) ∙ or_second (list_any (same_block (first_block block)) firsts) _ (or_first (same_block (first_block block) (first_block block)) false (same_block_itself (first_block block)))
+        | false ↦ λ _. list_any-append (same_block (first_block block)) firsts (first_block block ∷ [])
+            ∙ or_second (list_any (same_block (first_block block)) firsts) _
+            (or_first (same_block (first_block block) (first_block block)) false (same_block_itself (first_block block)))
       ] refl
 
   still_begun : (f : BlockId) → list_any (same_block f) firsts ≡ true → list_any (same_block f) (with_page firsts (Put block entry)) ≡ true
@@ -197,9 +213,11 @@ module _ (holds : SegRef → Rows) (k : Checkpointed) (c : IsCovered holds k) (b
   none_first false b h = refl
 
   own_on : put_on_now block ≡ true
-  own_on = is_on block ∙ or_second (is_put_on c.calls block) _ (or_first (same_block (first_block block) (first_block block)) false (same_block_itself (first_block block)))
+  own_on = is_on block
+      ∙ or_second (is_put_on c.calls block) _ (or_first (same_block (first_block block) (first_block block)) false (same_block_itself (first_block block)))
 
-  covers_now : (joined : BlockId → Entry) → ((q : BlockId) → Covers (joined q) (was q) (is_put_on c.calls q)) → (q : BlockId) → Covers (joined q) (cond (same_block q block) entry (was q)) (put_on_now q)
+  covers_now : (joined : BlockId → Entry) → ((q : BlockId) → Covers (joined q) (was q) (is_put_on c.calls q)) → (q : BlockId)
+      → Covers (joined q) (cond (same_block q block) entry (was q)) (put_on_now q)
   covers_now joined covers q =
       by_test (λ e. Covers (joined q) e (put_on_now q)) (same_block q block) entry (was q)
       (λ same. let is : block ≡ q = same_block_exact q block same in
@@ -212,7 +230,8 @@ module _ (holds : SegRef → Rows) (k : Checkpointed) (c : IsCovered holds k) (b
     calls = next;
     made = ap (λ s. put s block entry) c.made ∙ sym (made_more no_pages c.calls (Put block entry));
     known = λ q.
-        subst (λ fs. (entry_of (put k.pages block entry).rows q ≡ no_entry) ⊎ ((list_any (same_block (first_block q)) fs ≡ true) × (q.blk < 2 ^ 32))) (sym (fold-append with_page [] c.calls (Put block entry ∷ [])))
+        subst (λ fs. (entry_of (put k.pages block entry).rows q ≡ no_entry) ⊎ ((list_any (same_block (first_block q)) fs ≡ true) × (q.blk < 2 ^ 32)))
+        (sym (fold-append with_page [] c.calls (Put block entry ∷ [])))
         (subst (KnownAs q) (sym (is_now q)) (known_now q));
     held = λ q. subst (λ e. first_greatest no_entry e ≡ e) (sym (is_now q)) (held_now q);
     parts = parts_now c.parts;
@@ -222,26 +241,30 @@ module _ (holds : SegRef → Rows) (k : Checkpointed) (c : IsCovered holds k) (b
           → (k.parts ≡ []) ⊎ ((q : BlockId) → Covers (join (rows_in holds k.parts) q) (entry_of (put k.pages block entry).rows q) (is_put_on next q))
       parts_now (inl none) = inl none
       parts_now (inr covers) = inr (λ q.
-          subst (λ bs. Covers (join (rows_in holds k.parts) q) (entry_of (put k.pages block entry).rows q) (list_any (λ b. same_block (first_block b) (first_block q)) bs)) (sym (fold-append with_put [] c.calls (Put block entry ∷ [])))
+          subst (λ bs. Covers (join (rows_in holds k.parts) q) (entry_of (put k.pages block entry).rows q)
+          (list_any (λ b. same_block (first_block b) (first_block q)) bs)) (sym (fold-append with_put [] c.calls (Put block entry ∷ [])))
           (subst (λ e. Covers (join (rows_in holds k.parts) q) e (put_on_now q)) (sym (is_now q)) (covers_now (join (rows_in holds k.parts)) covers q)))
 
 covered_event : (holds : SegRef → Rows) (k : Checkpointed) (event : Event) → MayCome holds k event → IsCovered holds k → IsCovered holds (after_event k event)
 unfolding put_newer
 covered_event holds k (Merged block entry) fits c =
-    elim (is_newer entry (entry_of k.pages.rows block)) as (λ t. is_newer entry (entry_of k.pages.rows block) ≡ t → IsCovered holds (record { pages = cond t (put k.pages block entry) k.pages; parts = k.parts })) [
+    elim (is_newer entry (entry_of k.pages.rows block)) as
+    (λ t. is_newer entry (entry_of k.pages.rows block) ≡ t → IsCovered holds (record { pages = cond t (put k.pages block entry) k.pages; parts = k.parts })) [
       | true ↦ λ newer. covered_put holds k c block entry fits newer
       | false ↦ λ _. c
     ] refl
 covered_event holds k (Written segments) laid c = covered_written holds k segments laid c
 
-covered_events : (holds : SegRef → Rows) (k : Checkpointed) (events : List Event) → AllMayCome holds k events → IsCovered holds k → IsCovered holds (after_events k events)
+covered_events : (holds : SegRef → Rows) (k : Checkpointed) (events : List Event) → AllMayCome holds k events → IsCovered holds k
+    → IsCovered holds (after_events k events)
 covered_events holds k [] all c = c
 covered_events holds k (event ∷ events) all c = covered_events holds (after_event k event) events all.1 (covered_event holds k event all.0 c)
 
 nothing_covered : (holds : SegRef → Rows) → IsCovered holds nothing_checkpointed
 nothing_covered holds = record { calls = []; made = refl; known = λ q. inl refl; held = λ q. refl; parts = inl refl }
 
-pub is_the_index : (holds : SegRef → Rows) (events : List Event) (segments : List SegRef) (block : BlockId) → AllMayCome holds nothing_checkpointed events → MayCome holds (slot_after events) (Written segments)
+pub is_the_index : (holds : SegRef → Rows) (events : List Event) (segments : List SegRef) (block : BlockId) → AllMayCome holds nothing_checkpointed events
+    → MayCome holds (slot_after events) (Written segments)
     → join (rows_in holds (after_event (slot_after events) (Written segments)).parts) block ≡ entry_of (slot_after events).pages.rows block
 is_the_index holds events segments block all laid =
     written_joins holds (slot_after events) (covered_events holds nothing_checkpointed events all (nothing_covered holds)) block segments laid

@@ -65,7 +65,8 @@ module _ (holds : SegRef → Rows) (a : Asked) where
   goes_on s w given o = goes s w.slot w.epoch w.left w.parts w.horizon given o
 
   -- a segment settles that holds what was given out for it
-  settles : (s : WriterState) (work : Option WorkState) (given : Rows) (end : End) → (is_some work ≡ true → holds (part_at s.log end) ≡ given) → work ≡ s.work → Holds holds work given a
+  settles : (s : WriterState) (work : Option WorkState) (given : Rows) (end : End) → (is_some work ≡ true → holds (part_at s.log end) ≡ given) → work ≡ s.work
+      → Holds holds work given a
       → Good holds a given (settled s work end)
   settles s None given end is here h = (tt, subst (λ o. Holds holds o given a) here h)
   settles s (Some w) given end is here o =
@@ -73,7 +74,8 @@ module _ (holds : SegRef → Rows) (a : Asked) where
         slot = o.slot;
         epoch = o.epoch;
         horizon = o.horizon;
-        rows = ap (λ r. r ++ rows_of w.left) (rows_in-append holds w.parts (part_at s.log end ∷ []) ∙ ap (λ r. rows_in holds w.parts ++ r) (append-nil (holds (part_at s.log end)) ∙ is refl))
+        rows = ap (λ r. r ++ rows_of w.left)
+            (rows_in-append holds w.parts (part_at s.log end ∷ []) ∙ ap (λ r. rows_in holds w.parts ++ r) (append-nil (holds (part_at s.log end)) ∙ is refl))
             ∙ append_assoc (rows_in holds w.parts) given (rows_of w.left) ∙ o.rows;
       })
 
@@ -81,9 +83,12 @@ module _ (holds : SegRef → Rows) (a : Asked) where
   answers : (s : WriterState) (own : Option ℕ) (epoch number : ℕ) (given : Rows) → Holds holds s.work given a → Good holds a given (acked s own epoch number)
   answers s None epoch number given h = (tt, h)
   answers s (Some own) epoch number given h =
-      elim (not (number == s.number) || nat_lt epoch own) as (λ t. Good holds a given (cond t (still s) (record { state = record s { asked = None }; outs = answer own epoch ∷ [] }))) [
+      elim (not (number == s.number) || nat_lt epoch own) as
+      (λ t. Good holds a given (cond t (still s) (record { state = record s { asked = None }; outs = answer own epoch ∷ [] }))) [
         | true ↦ (tt, h)
-        | false ↦ elim (epoch == own) as (λ u. DoneAsAsked holds a (cond u Kept (Stale epoch) ∷ []) × Holds holds s.work (given_after given (cond u Kept (Stale epoch) ∷ [])) a) [ true ↦ (tt, h) | false ↦ (tt, h) ]
+        | false ↦ elim (epoch == own) as
+            (λ u. DoneAsAsked holds a (cond u Kept (Stale epoch) ∷ []) × Holds holds s.work (given_after given (cond u Kept (Stale epoch) ∷ [])) a)
+            [ true ↦ (tt, h) | false ↦ (tt, h) ]
       ]
 
 kept_one : (holds : SegRef → Rows) (r : Run) (input : In) → SettlesAsGiven holds r input → Holds holds r.state.work r.given r.asked
@@ -104,6 +109,7 @@ all_kept : (holds : SegRef → Rows) (r : Run) (inputs : List In) → AllSettleA
 all_kept holds r [] all h = h
 all_kept holds r (input ∷ inputs) all h = all_kept holds (after_input holds r input) inputs all.1 (kept_one holds r input all.0 h).1
 
-pub done_as_asked : (holds : SegRef → Rows) (log : LogId) (inputs : List In) (input : In) → AllSettleAsGiven holds (fresh log) inputs → SettlesAsGiven holds (run_of holds log inputs) input
+pub done_as_asked : (holds : SegRef → Rows) (log : LogId) (inputs : List In) (input : In) → AllSettleAsGiven holds (fresh log) inputs
+    → SettlesAsGiven holds (run_of holds log inputs) input
     → DoneAsAsked holds (after_input holds (run_of holds log inputs) input).asked (transition (run_of holds log inputs).state input).outs
 done_as_asked holds log inputs input all is = (kept_one holds (run_of holds log inputs) input is (all_kept holds (fresh log) inputs all tt)).0

@@ -47,9 +47,13 @@ indirect q = record { ino = q.ino; blk = 16 + (q.blk - 16) / 64 * 64 }
 on_direct : (q : BlockId) → is_direct q.blk ≡ true → list_any (same_block q) (blocks_run (direct q) 16 ++ record { ino = q.ino; blk = 4294967295 } ∷ []) ≡ true
 on_direct q is =
     list_any-append (same_block q) (blocks_run (direct q) 16) (record { ino = q.ino; blk = 4294967295 } ∷ [])
-    ∙ elim (nat_lt q.blk 16) as (λ t. nat_lt q.blk 16 ≡ t → (list_any (same_block q) (blocks_run (direct q) 16) || (same_block q (record { ino = q.ino; blk = 4294967295 }) || false)) ≡ true) [
-      | true ↦ λ low. let less : q.blk < 16 = grind (arith, nat_tests) in let at : q.blk ≡ 0 + q.blk = omega arith in or_first _ _ (in_run q (direct q) 16 q.blk refl at less)
-      | false ↦ λ high. let last : same_block q (record { ino = q.ino; blk = 4294967295 }) ≡ true = grind (arith, nat_tests) in or_second _ _ (or_first _ false last)
+    ∙ elim (nat_lt q.blk 16) as
+    (λ t. nat_lt q.blk 16 ≡ t
+    → (list_any (same_block q) (blocks_run (direct q) 16) || (same_block q (record { ino = q.ino; blk = 4294967295 }) || false)) ≡ true) [
+      | true ↦ λ low. let less : q.blk < 16 = grind (arith, nat_tests) in let at : q.blk ≡ 0 + q.blk =
+          omega arith in or_first _ _ (in_run q (direct q) 16 q.blk refl at less)
+      | false ↦ λ high. let last : same_block q (record { ino = q.ino; blk = 4294967295 }) ≡ true =
+          grind (arith, nat_tests) in or_second _ _ (or_first _ false last)
     ] refl
 
 on_indirect : (q : BlockId) → q.blk < 2 ^ 32 → is_direct q.blk ≡ false → list_any (same_block q) (blocks_on (indirect q)) ≡ true
@@ -60,7 +64,9 @@ on_indirect q fits is =
     let k : ℕ = q.blk - (16 + (q.blk - 16) / 64 * 64) in
     let blk : q.blk ≡ 16 + (q.blk - 16) / 64 * 64 + k = omega arith in
     let less : k < min 64 (4294967295 - (16 + (q.blk - 16) / 64 * 64)) = omega arith in
-    ap (λ t. list_any (same_block q) (cond t (blocks_run (indirect q) 16 ++ record { ino = q.ino; blk = 4294967295 } ∷ []) (blocks_run (indirect q) (min 64 (4294967295 - (indirect q).blk))))) start
+    ap (λ t. list_any (same_block q)
+    (cond t (blocks_run (indirect q) 16 ++ record { ino = q.ino; blk = 4294967295 } ∷ []) (blocks_run (indirect q) (min 64 (4294967295 - (indirect q).blk)))))
+    start
     ∙ in_run q (indirect q) (min 64 (4294967295 - (indirect q).blk)) k refl blk less
 
 in_page : (q : BlockId) → q.blk < 2 ^ 32 → list_any (same_block q) (blocks_on (first_block q)) ≡ true
@@ -77,21 +83,27 @@ abbrev is_changed : Page → Bool
 is_changed page = page.changed
 
 -- among these pages is that of the block
-pub its_page : (q : BlockId) (blocks firsts : List BlockId) → q.blk < 2 ^ 32 → list_any (same_block (first_block q)) firsts ≡ true → list_any (on_page q) (map (page_with blocks) firsts) ≡ true
+pub its_page : (q : BlockId) (blocks firsts : List BlockId) → q.blk < 2 ^ 32 → list_any (same_block (first_block q)) firsts ≡ true
+    → list_any (on_page q) (map (page_with blocks) firsts) ≡ true
 its_page q blocks [] fits there = there
 its_page q blocks (f ∷ fs) fits there =
-    elim (same_block (first_block q) f) as (λ t. same_block (first_block q) f ≡ t → (t || list_any (same_block (first_block q)) fs) ≡ true → (on_page q (page_with blocks f) || list_any (on_page q) (map (page_with blocks) fs)) ≡ true) [
+    elim (same_block (first_block q) f) as
+    (λ t. same_block (first_block q) f ≡ t → (t || list_any (same_block (first_block q)) fs) ≡ true
+    → (on_page q (page_with blocks f) || list_any (on_page q) (map (page_with blocks) fs)) ≡ true) [
       | true ↦ λ same _. or_first _ _ (ap (λ b. list_any (same_block q) (blocks_on b)) (same_block_exact (first_block q) f same) ∙ in_page q fits)
       | false ↦ λ _ rest. or_second (on_page q (page_with blocks f)) _ (its_page q blocks fs fits rest)
     ] refl there
 
 -- and where something was put on that page, it is among those that changed
-pub its_changed_page : (q : BlockId) (blocks firsts : List BlockId) → q.blk < 2 ^ 32 → list_any (λ b. same_block (first_block b) (first_block q)) blocks ≡ true → list_any (same_block (first_block q)) firsts ≡ true
+pub its_changed_page : (q : BlockId) (blocks firsts : List BlockId) → q.blk < 2 ^ 32 → list_any (λ b. same_block (first_block b) (first_block q)) blocks ≡ true
+    → list_any (same_block (first_block q)) firsts ≡ true
     → list_any (on_page q) (filter is_changed (map (page_with blocks) firsts)) ≡ true
 its_changed_page q blocks [] fits put there = there
 its_changed_page q blocks (f ∷ fs) fits put there =
     let rest = filter is_changed (map (page_with blocks) fs) in
-    elim (same_block (first_block q) f) as (λ t. same_block (first_block q) f ≡ t → (t || list_any (same_block (first_block q)) fs) ≡ true → list_any (on_page q) (cond ((page_with blocks f).changed) (page_with blocks f ∷ rest) rest) ≡ true) [
+    elim (same_block (first_block q) f) as
+    (λ t. same_block (first_block q) f ≡ t → (t || list_any (same_block (first_block q)) fs) ≡ true
+    → list_any (on_page q) (cond ((page_with blocks f).changed) (page_with blocks f ∷ rest) rest) ≡ true) [
       | true ↦ λ same _.
           let is : f ≡ first_block q = same_block_exact (first_block q) f same in
           let changed : true ≡ ((page_with blocks f).changed) = sym (ap (λ g. list_any (λ b. same_block (first_block b) g) blocks) is ∙ put) in
@@ -124,7 +136,8 @@ module _ (rows : List (BlockId × Entry)) (q : BlockId) (is : first_greatest no_
   join-row b (Some e) found =
       join-one (b, e) q
       ∙ elim (same_block q b) as (λ t. same_block q b ≡ t → cond t (first_greatest no_entry e) no_entry ≡ cond t (entry_of rows q) no_entry) [
-        | true ↦ λ same. let held_there : e ≡ entry_of rows q = sym (ap (entry_of rows) (sym (same_block_exact q b same)) ∙ ap (λ o. unwrap_or o no_entry) found) in ap (first_greatest no_entry) held_there ∙ is
+        | true ↦ λ same. let held_there : e ≡ entry_of rows q =
+            sym (ap (entry_of rows) (sym (same_block_exact q b same)) ∙ ap (λ o. unwrap_or o no_entry) found) in ap (first_greatest no_entry) held_there ∙ is
         | false ↦ λ _. refl
       ] refl
 

@@ -14,7 +14,8 @@ rest_then m [] = drop-nil m
 rest_then m (page ∷ left) = refl
 
 -- the items so far and those to come, once a page is given out
-items_more : (slot k : ℕ) (items next : List Item) (left rest : List Rows) (all : List Item) → k < 24 → next ≡ items ++ items_of slot (take 1 left) → rest ≡ drop 1 left
+items_more : (slot k : ℕ) (items next : List Item) (left rest : List Rows) (all : List Item) → k < 24 → next ≡ items ++ items_of slot (take 1 left)
+    → rest ≡ drop 1 left
     → items ++ items_of slot (take (24 - k) left) ≡ all → next ++ items_of slot (take (24 - (k + 1)) rest) ≡ all
 items_more slot k items next left rest all few is gone before =
     let one : 24 - k ≡ suc (24 - (k + 1)) = omega arith in

@@ -10,12 +10,14 @@ module _ {S O : Type 0} (step : S → ℕ → Stepped S O) (s t : S) (i n : ℕ)
       ap (λ count. steps step s (range_with_len i count)) left
 
   -- what is left leads to the same state as before the step
-  pub range_state : (end : S) → i < n → t ≡ (step s i).state → (steps step s (range_with_len i (n - i))).state ≡ end → (steps step t (range_with_len (i + 1) (n - (i + 1)))).state ≡ end
+  pub range_state : (end : S) → i < n → t ≡ (step s i).state → (steps step s (range_with_len i (n - i))).state ≡ end
+      → (steps step t (range_with_len (i + 1) (n - (i + 1)))).state ≡ end
   range_state end below now h =
       ap (λ u. (steps step u (range_with_len (i + 1) (n - (i + 1)))).state) now ∙ sym (ap (λ r. r.state) (first below)) ∙ h
 
   -- what was given and what is left to be given are the same as before the step
-  pub range_outs : (sent more all : List O) → i < n → t ≡ (step s i).state → more ≡ sent ++ (step s i).outs → sent ++ (steps step s (range_with_len i (n - i))).outs ≡ all → more ++ (steps step t (range_with_len (i + 1) (n - (i + 1)))).outs ≡ all
+  pub range_outs : (sent more all : List O) → i < n → t ≡ (step s i).state → more ≡ sent ++ (step s i).outs
+      → sent ++ (steps step s (range_with_len i (n - i))).outs ≡ all → more ++ (steps step t (range_with_len (i + 1) (n - (i + 1)))).outs ≡ all
   range_outs sent more all below now given h =
       let rest = range_with_len (i + 1) (n - (i + 1)) in
       ap (λ xs. xs ++ (steps step t rest).outs) given

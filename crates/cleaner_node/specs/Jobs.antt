@@ -80,7 +80,10 @@ abbrev pub asks_list : Emptying → Option Job → ℕ → Done
 asks_list e None server = still e
 asks_list e (Some job) server =
     let ask = ask_of job.lists e.lasting.questions in
-    record { state = with_job e (drawn_unless job.lists e.lasting.questions) (record job { lists = Some ask }); outs = Send (Server server) (body.List (record { ask = ask })) ∷ [] }
+    record {
+      state = with_job e (drawn_unless job.lists e.lasting.questions) (record job { lists = Some ask });
+      outs = Send (Server server) (body.List (record { ask = ask })) ∷ [];
+    }
 
 -- the manager of a slot is asked for its counts
 abbrev pub asks_usage : Emptying → Option Job → ℕ → Done
@@ -127,7 +130,10 @@ checks_block e block = checked_in e e.job block
 abbrev pub check_sent : Emptying → BlockId → Place → Option ℕ → Done
 check_sent e block place None = still e
 check_sent e block place (Some ask) =
-    record { state = e; outs = Send (manager_of e.promised.managers (slot_of block.ino.0)) (body.Check (record { block = block; place = place; ask = ask })) ∷ [] }
+    record {
+      state = e;
+      outs = Send (manager_of e.promised.managers (slot_of block.ino.0)) (body.Check (record { block = block; place = place; ask = ask })) ∷ [];
+    }
 
 -- the manager of a block is asked whether it lies at a place of the segment in hand
 unfoldable pub asks_check : Emptying → BlockId → Place → Done
@@ -182,7 +188,10 @@ dropped (Some hand) = Some (record hand { dropped = true })
 abbrev pub deletes : Emptying → Option Job → ℕ → SegName → Done
 deletes e None server name = still e
 deletes e (Some job) server name =
-    record { state = record e { job = Some (record job { hand = dropped job.hand }) }; outs = drops (is_whole job.hand) name ++ Send (Server server) (body.Delete (record { name = name })) ∷ [] }
+    record {
+      state = record e { job = Some (record job { hand = dropped job.hand }) };
+      outs = drops (is_whole job.hand) name ++ Send (Server server) (body.Delete (record { name = name })) ∷ [];
+    }
 
 -- the job is over, and its item is answered
 abbrev pub finishes : Emptying → ℕ → Done

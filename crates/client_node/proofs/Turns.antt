@@ -5,7 +5,8 @@ use Rattle.client_node.specs.Running.{runs_once, runs_upto}
 use Rattle.node_base.specs.declared.effects.Effect.{Effect}
 use Rattle.xfs_base.specs.Steps.{after}
 
-module _ (m n : ℕ) (s t : Serving) (made more : List Effect) (e : suc m ≡ n) (now : t ≡ (runs_once s).done.state) (out : more ≡ made ++ (runs_once s).done.outs) where
+module _ (m n : ℕ) (s t : Serving) (made more : List Effect) (e : suc m ≡ n) (now : t ≡ (runs_once s).done.state)
+    (out : more ≡ made ++ (runs_once s).done.outs) where
   -- where the call was answered, the turns that are left are made
   goes : (runs_once s).goes ≡ true → runs_upto n s ≡ after (runs_once s).done.outs (runs_upto m (runs_once s).done.state)
   unfolding runs_upto

@@ -102,7 +102,9 @@ is_want (Some asked) req = asked == req
 
 -- whether it is the open want that can't be served, in the promised epoch
 abbrev pub is_gone : Serving → Gone → Bool
-is_gone s g = (epoch_of s.tokens.epochs (slot_of g.block.ino.0) == g.epoch) && ((g.inc == s.lasting.inc) && is_want (option_map (λ want. want.req) (held_at s g.block).want) g.req)
+is_gone s g =
+    (epoch_of s.tokens.epochs (slot_of g.block.ino.0) == g.epoch) &&
+    ((g.inc == s.lasting.inc) && is_want (option_map (λ want. want.req) (held_at s g.block).want) g.req)
 
 -- Gone: a manager can't serve the block, and the call is answered so.
 unfoldable pub on_gone : Serving → Gone → Done
@@ -171,7 +173,9 @@ unfoldable pub renews : Serving → ℕ → ℕ → Serving
 renews s slot epoch = if nat_lt (epoch_of s.tokens.epochs slot) epoch then record s { feed = new_epoch s.feed slot } else s
 
 abbrev pub promised_by : Serving → ℕ → ℕ → ℕ → Stepped Serving Out
-promised_by s slot epoch manager = (let r = on_promise s.tokens slot epoch in record { state = ends_reading (record s { managers = manager_set s.managers slot manager; tokens = r.state }); outs = r.outs })
+promised_by s slot epoch manager =
+    (let r = on_promise s.tokens slot epoch in
+    record { state = ends_reading (record s { managers = manager_set s.managers slot manager; tokens = r.state }); outs = r.outs })
 
 -- the slot is promised to this epoch of this manager; what the tokens say
 unfoldable pub promises : Serving → ℕ → ℕ → ℕ → Stepped Serving Out
@@ -277,7 +281,8 @@ on_body s from (body.CkptAck m) = still s
 
 -- the maps are asked for, by a new question
 unfoldable pub asks_for_maps : Serving → Done
-asks_for_maps s = gives (record s { lasting = record s.lasting { questions = drawn s.lasting.questions } }) (hello s.lasting.inc (next_ask s.lasting.questions) ∷ [])
+asks_for_maps s =
+    gives (record s { lasting = record s.lasting { questions = drawn s.lasting.questions } }) (hello s.lasting.inc (next_ask s.lasting.questions) ∷ [])
 
 -- A packet: where it names a group that isn't known it is dropped, and the maps are asked for.
 unfoldable pub on_packet : Serving → Packet → Done

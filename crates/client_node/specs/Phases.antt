@@ -151,7 +151,8 @@ answers phase number a = record { state = phase; outs = Answers number a ∷ [] 
 
 abbrev pub begins_call : Serving → ℕ → Option Going → Done
 begins_call s number None = gives s (Answers number answer.Done ∷ [])
-begins_call s number (Some going) = (let d = goes_on (record s { lasting = record s.lasting { items = waiting s.lasting.items number } }) going in after d.outs (runs d.state))
+begins_call s number (Some going) =
+    (let d = goes_on (record s { lasting = record s.lasting { items = waiting s.lasting.items number } }) going in after d.outs (runs d.state))
 
 abbrev pub call_at : Serving → ℕ → Option Work → Option Going
 call_at s number None = None

@@ -82,7 +82,8 @@ call_of (work.ServerStart server) number self = None
 -- the open call stands so: it goes on, or its item is answered
 unfoldable pub goes_on : Serving → Going → Done
 goes_on s (On call) = still (record s { call = Some call })
-goes_on s (Ends answer) = gives (record s { lasting = record s.lasting { items = answered s.lasting.items } }) (answers_unanswered s.lasting.items.unanswered answer)
+goes_on s (Ends answer) =
+    gives (record s { lasting = record s.lasting { items = answered s.lasting.items } }) (answers_unanswered s.lasting.items.unanswered answer)
 
 -- one call on blocks of the open call: what it does, and whether it was answered
 pub record Ran : Type 0 where

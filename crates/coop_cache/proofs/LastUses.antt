@@ -48,7 +48,9 @@ unfolding IsRising
 left_out history zero bs r = All-nil (IsLeastUsed history bs)
 left_out history (suc n) [] r = All-nil (IsLeastUsed history [])
 left_out history (suc n) (b ∷ bs) r =
-    All-cons (IsLeastUsed history (drop n bs)) (Victim b) (map Victim (take n bs)) (all_of (λ c. last_use history b < last_use history c) (drop n bs) (dropped_all (λ c. last_use history b < last_use history c) n bs r.0)) (left_out history n bs r.1)
+    All-cons (IsLeastUsed history (drop n bs)) (Victim b) (map Victim (take n bs))
+    (all_of (λ c. last_use history b < last_use history c) (drop n bs) (dropped_all (λ c. last_use history b < last_use history c) n bs r.0))
+    (left_out history n bs r.1)
 
 -- some use of a block at the time n + 1, by numbers that were at most n
 module _ (f : BlockId → ℕ) (n : ℕ) (block : BlockId) (past : (b : BlockId) → f b ≤ n) where
@@ -75,7 +77,8 @@ module _ (f : BlockId → ℕ) (n : ℕ) (block : BlockId) (past : (b : BlockId)
   below_now : (bs : List BlockId) → AllByRecursion (λ c. used_now c < n + 1) (without block bs)
   below_now [] = tt
   below_now (b ∷ bs) =
-      elim (same_block block b) as (λ t. same_block block b ≡ t → AllByRecursion (λ c. used_now c < n + 1) (cond (not t) (b ∷ without block bs) (without block bs))) [
+      elim (same_block block b) as
+      (λ t. same_block block b ≡ t → AllByRecursion (λ c. used_now c < n + 1) (cond (not t) (b ∷ without block bs) (without block bs))) [
         | true ↦ λ e. below_now bs
         | false ↦ λ e. let here : f b < n + 1 = omega (arith, past b) in (subst (λ t. cond t (n + 1) (f b) < n + 1) (sym e) here, below_now bs)
       ] refl
@@ -102,12 +105,14 @@ module _ (f : BlockId → ℕ) (n : ℕ) (block : BlockId) (past : (b : BlockId)
 
   touch_rises : (s : CacheState) → IsRising f s.blocks → IsRising used_now (touched s block).blocks
   touch_rises s r =
-      elim (is_clean s block) as (λ t. is_clean s block ≡ t → IsRising used_now (cond t (record { blocks = used_last block s.blocks; capacity = s.capacity }) s).blocks) [
+      elim (is_clean s block) as
+      (λ t. is_clean s block ≡ t → IsRising used_now (cond t (record { blocks = used_last block s.blocks; capacity = s.capacity }) s).blocks) [
         | true ↦ λ e. used_rises s.blocks r
         | false ↦ λ e. unused_rises s.blocks e r
       ] refl
 
-taken_above : (f : BlockId → ℕ) (m : ℕ) (p : BlockId → Bool) (bs : List BlockId) → AllByRecursion (λ c. m < f c) bs → AllByRecursion (λ c. m < f c) (filter p bs)
+taken_above : (f : BlockId → ℕ) (m : ℕ) (p : BlockId → Bool) (bs : List BlockId) → AllByRecursion (λ c. m < f c) bs
+    → AllByRecursion (λ c. m < f c) (filter p bs)
 taken_above f m p [] h = h
 taken_above f m p (b ∷ bs) h =
     elim (p b) as (λ t. AllByRecursion (λ c. m < f c) (cond t (b ∷ filter p bs) (filter p bs))) [
@@ -127,8 +132,12 @@ taken_rises f p (b ∷ bs) r =
 -- no use is later than now
 past_use : (history : List In) (block : BlockId) → last_use history block ≤ length history
 past_use [] block = omega arith
-past_use (Clean used ∷ earlier) block = elim (same_block used block) as (λ t. cond t (length earlier + 1) (last_use earlier block) ≤ suc (length earlier)) [ true ↦ omega arith | false ↦ omega (arith, past_use earlier block) ]
-past_use (Touch used ∷ earlier) block = elim (same_block used block) as (λ t. cond t (length earlier + 1) (last_use earlier block) ≤ suc (length earlier)) [ true ↦ omega arith | false ↦ omega (arith, past_use earlier block) ]
+past_use (Clean used ∷ earlier) block =
+    elim (same_block used block) as (λ t. cond t (length earlier + 1) (last_use earlier block) ≤ suc (length earlier))
+    [ true ↦ omega arith | false ↦ omega (arith, past_use earlier block) ]
+past_use (Touch used ∷ earlier) block =
+    elim (same_block used block) as (λ t. cond t (length earlier + 1) (last_use earlier block) ≤ suc (length earlier))
+    [ true ↦ omega arith | false ↦ omega (arith, past_use earlier block) ]
 past_use (Dirty changed ∷ earlier) block = omega (arith, past_use earlier block)
 past_use (Gone gone ∷ earlier) block = omega (arith, past_use earlier block)
 
@@ -138,19 +147,25 @@ rising capacity [] = tt
 rising capacity (Clean block ∷ earlier) =
     let s : CacheState = state_after capacity earlier in
     let blocks : List BlockId = used_last block s.blocks in
-    dropped (last_use (Clean block ∷ earlier)) (excess s.capacity blocks) blocks (used_rises (last_use earlier) (length earlier) block (past_use earlier) s.blocks (rising capacity earlier))
-rising capacity (Touch block ∷ earlier) = touch_rises (last_use earlier) (length earlier) block (past_use earlier) (state_after capacity earlier) (rising capacity earlier)
-rising capacity (Dirty block ∷ earlier) = taken_rises (last_use earlier) (λ b. not (same_block block b)) (state_after capacity earlier).blocks (rising capacity earlier)
-rising capacity (Gone block ∷ earlier) = taken_rises (last_use earlier) (λ b. not (same_block block b)) (state_after capacity earlier).blocks (rising capacity earlier)
+    dropped (last_use (Clean block ∷ earlier)) (excess s.capacity blocks) blocks
+    (used_rises (last_use earlier) (length earlier) block (past_use earlier) s.blocks (rising capacity earlier))
+rising capacity (Touch block ∷ earlier) =
+    touch_rises (last_use earlier) (length earlier) block (past_use earlier) (state_after capacity earlier) (rising capacity earlier)
+rising capacity (Dirty block ∷ earlier) =
+    taken_rises (last_use earlier) (λ b. not (same_block block b)) (state_after capacity earlier).blocks (rising capacity earlier)
+rising capacity (Gone block ∷ earlier) =
+    taken_rises (last_use earlier) (λ b. not (same_block block b)) (state_after capacity earlier).blocks (rising capacity earlier)
 
 pub by_use : (capacity : ℕ) (history : List In) → IsByUse history (state_after capacity history).blocks
 by_use capacity history = pairs_of (last_use history) (state_after capacity history).blocks (rising capacity history)
 
-pub victims_least : (capacity : ℕ) (history : List In) (input : In) → All (IsLeastUsed (input ∷ history) (state_after capacity (input ∷ history)).blocks) (transition (state_after capacity history) input).outs
+pub victims_least : (capacity : ℕ) (history : List In) (input : In)
+    → All (IsLeastUsed (input ∷ history) (state_after capacity (input ∷ history)).blocks) (transition (state_after capacity history) input).outs
 victims_least capacity history (Clean block) =
     let s : CacheState = state_after capacity history in
     let blocks : List BlockId = used_last block s.blocks in
-    left_out (Clean block ∷ history) (excess s.capacity blocks) blocks (used_rises (last_use history) (length history) block (past_use history) s.blocks (rising capacity history))
+    left_out (Clean block ∷ history) (excess s.capacity blocks) blocks
+    (used_rises (last_use history) (length history) block (past_use history) s.blocks (rising capacity history))
 victims_least capacity history (Touch block) = All-nil (IsLeastUsed (Touch block ∷ history) (state_after capacity (Touch block ∷ history)).blocks)
 victims_least capacity history (Dirty block) = All-nil (IsLeastUsed (Dirty block ∷ history) (state_after capacity (Dirty block ∷ history)).blocks)
 victims_least capacity history (Gone block) = All-nil (IsLeastUsed (Gone block ∷ history) (state_after capacity (Gone block ∷ history)).blocks)
@@ -162,18 +177,22 @@ capacity_stays capacity [] = refl
 capacity_stays capacity (Clean block ∷ earlier) = capacity_stays capacity earlier
 capacity_stays capacity (Touch block ∷ earlier) =
     let s : CacheState = state_after capacity earlier in
-    elim (is_clean s block) as (λ t. (cond t (record { blocks = used_last block s.blocks; capacity = s.capacity }) s).capacity ≡ capacity) [ true ↦ capacity_stays capacity earlier | false ↦ capacity_stays capacity earlier ]
+    elim (is_clean s block) as (λ t. (cond t (record { blocks = used_last block s.blocks; capacity = s.capacity }) s).capacity ≡ capacity)
+    [ true ↦ capacity_stays capacity earlier | false ↦ capacity_stays capacity earlier ]
 capacity_stays capacity (Dirty block ∷ earlier) = capacity_stays capacity earlier
 capacity_stays capacity (Gone block ∷ earlier) = capacity_stays capacity earlier
 
 fewer : (p : BlockId → Bool) (bs : List BlockId) → length (filter p bs) ≤ length bs
 fewer p [] = omega arith
-fewer p (b ∷ bs) = elim (p b) as (λ t. length (cond t (b ∷ filter p bs) (filter p bs)) ≤ suc (length bs)) [ true ↦ omega (arith, fewer p bs) | false ↦ omega (arith, fewer p bs) ]
+fewer p (b ∷ bs) =
+    elim (p b) as (λ t. length (cond t (b ∷ filter p bs) (filter p bs)) ≤ suc (length bs))
+    [ true ↦ omega (arith, fewer p bs) | false ↦ omega (arith, fewer p bs) ]
 
 one_fewer : (block : BlockId) (bs : List BlockId) → list_any (same_block block) bs ≡ true → length (without block bs) + 1 ≤ length bs
 one_fewer block [] h = absurd (true≢false (sym h))
 one_fewer block (b ∷ bs) h =
-    elim (same_block block b) as (λ t. (t || list_any (same_block block) bs) ≡ true → length (cond (not t) (b ∷ without block bs) (without block bs)) + 1 ≤ suc (length bs)) [
+    elim (same_block block b) as
+    (λ t. (t || list_any (same_block block) bs) ≡ true → length (cond (not t) (b ∷ without block bs) (without block bs)) + 1 ≤ suc (length bs)) [
       | true ↦ λ e. omega (arith, fewer (λ c. not (same_block block c)) bs)
       | false ↦ λ e. omega (arith, one_fewer block bs e)
     ] h
@@ -186,9 +205,12 @@ capacity_kept capacity (Clean block ∷ earlier) =
     omega (arith, length-drop (excess s.capacity blocks) blocks, capacity_stays capacity earlier)
 capacity_kept capacity (Touch block ∷ earlier) =
     let s : CacheState = state_after capacity earlier in
-    elim (is_clean s block) as (λ t. is_clean s block ≡ t → length (cond t (record { blocks = used_last block s.blocks; capacity = s.capacity }) s).blocks ≤ capacity) [
+    elim (is_clean s block) as
+    (λ t. is_clean s block ≡ t → length (cond t (record { blocks = used_last block s.blocks; capacity = s.capacity }) s).blocks ≤ capacity) [
       | true ↦ λ e. omega (arith, one_fewer block s.blocks e, length-append (without block s.blocks) (block ∷ []), capacity_kept capacity earlier)
       | false ↦ λ e. capacity_kept capacity earlier
     ] refl
-capacity_kept capacity (Dirty block ∷ earlier) = omega (arith, fewer (λ b. not (same_block block b)) (state_after capacity earlier).blocks, capacity_kept capacity earlier)
-capacity_kept capacity (Gone block ∷ earlier) = omega (arith, fewer (λ b. not (same_block block b)) (state_after capacity earlier).blocks, capacity_kept capacity earlier)
+capacity_kept capacity (Dirty block ∷ earlier) =
+    omega (arith, fewer (λ b. not (same_block block b)) (state_after capacity earlier).blocks, capacity_kept capacity earlier)
+capacity_kept capacity (Gone block ∷ earlier) =
+    omega (arith, fewer (λ b. not (same_block block b)) (state_after capacity earlier).blocks, capacity_kept capacity earlier)

@@ -33,8 +33,11 @@ none_same block (b ∷ bs) h = ap (λ t. t || list_any (same_block block) bs) h.
 remove_key-without : (block : BlockId) (bs : List BlockId) → IsDistinct same_block bs → remove_key (same_block block) bs ≡ without block bs
 remove_key-without block [] d = refl
 remove_key-without block (b ∷ bs) d =
-    elim (same_block block b) as (λ t. same_block block b ≡ t → cond t bs (b ∷ remove_key (same_block block) bs) ≡ cond (not t) (b ∷ without block bs) (without block bs)) [
-      | true ↦ λ e. sym (without-absent block bs (subst (λ x. list_any (same_block x) bs ≡ false) (same_block_exact block b e) (none_same b bs (IsDistinct-head same_block b bs d))))
+    elim (same_block block b) as
+    (λ t. same_block block b ≡ t → cond t bs (b ∷ remove_key (same_block block) bs) ≡ cond (not t) (b ∷ without block bs) (without block bs)) [
+      | true ↦ λ e. sym
+          (without-absent block bs
+          (subst (λ x. list_any (same_block x) bs ≡ false) (same_block_exact block b e) (none_same b bs (IsDistinct-head same_block b bs d))))
       | false ↦ λ e. ap (λ r. b ∷ r) (remove_key-without block bs (IsDistinct-tail same_block b bs d))
     ] refl
 
@@ -47,7 +50,8 @@ filter-reverse p (b ∷ bs) =
       | false ↦ append-nil (reverse (filter p bs))
     ]
 
-pub reverse-remove_key : (block : BlockId) (bs : List BlockId) → IsDistinct same_block bs → reverse (remove_key (same_block block) bs) ≡ without block (reverse bs)
+pub reverse-remove_key : (block : BlockId) (bs : List BlockId) → IsDistinct same_block bs
+    → reverse (remove_key (same_block block) bs) ≡ without block (reverse bs)
 reverse-remove_key block bs d = ap reverse (remove_key-without block bs d) ∙ sym (filter-reverse (λ b. not (same_block block b)) bs)
 
 list_any-reverse : (p : BlockId → Bool) (bs : List BlockId) → list_any p (reverse bs) ≡ list_any p bs
@@ -58,7 +62,8 @@ reverse-take : (n : ℕ) (bs : List BlockId) → n ≤ length bs → reverse (ta
 reverse-take n bs h =
     let whole : reverse bs ≡ reverse (drop n bs) ++ reverse (take n bs) = ap reverse (sym (take-append-drop n bs)) ∙ reverse-append (take n bs) (drop n bs) in
     let size : length (reverse (drop n bs)) ≡ length bs - n = length-reverse (drop n bs) ∙ length-drop n bs in
-    sym (ap (drop (length bs - n)) whole ∙ ap (λ k. drop k (reverse (drop n bs) ++ reverse (take n bs))) (sym size) ∙ drop-append_seam (reverse (drop n bs)) (reverse (take n bs)))
+    sym (ap (drop (length bs - n)) whole ∙ ap (λ k. drop k (reverse (drop n bs) ++ reverse (take n bs))) (sym size)
+    ∙ drop-append_seam (reverse (drop n bs)) (reverse (take n bs)))
 
 -- the last of a full order is the first of the other
 last_one : (bs : List BlockId) (n : ℕ) → length bs ≤ n + 1 → option_to_list (slice_get bs n) ≡ take (length bs - n) (reverse bs)
@@ -69,21 +74,26 @@ last_one (b ∷ bs) (suc n) h =
     let fits : length bs ≤ n + 1 = omega arith in
     let within : length bs - n ≤ length (reverse bs) = omega (arith, length-reverse bs) in
     let less : suc (length bs) - suc n ≡ length bs - n = omega arith in
-    last_one bs n fits ∙ sym (take-append-le (length bs - n) (reverse bs) (b ∷ []) within) ∙ ap (take (length bs - n)) (sym (reverse-append (b ∷ []) bs)) ∙ ap (λ k. take k (reverse (b ∷ bs))) (sym less)
+    last_one bs n fits ∙ sym (take-append-le (length bs - n) (reverse bs) (b ∷ []) within) ∙ ap (take (length bs - n)) (sym (reverse-append (b ∷ []) bs))
+    ∙ ap (λ k. take k (reverse (b ∷ bs))) (sym less)
 
 -- how long the order is in which a block is the last
-length-used_last : (block : BlockId) (bs : List BlockId) → list_any (same_block block) bs ≡ true → IsDistinct same_block bs → length (used_last block (reverse bs)) ≡ length bs
+length-used_last : (block : BlockId) (bs : List BlockId) → list_any (same_block block) bs ≡ true → IsDistinct same_block bs
+    → length (used_last block (reverse bs)) ≡ length bs
 length-used_last block bs h d =
-    length-append (without block (reverse bs)) (block ∷ []) ∙ ap (λ n. n + 1) (ap length (sym (reverse-remove_key block bs d)) ∙ length-reverse (remove_key (same_block block) bs))
+    length-append (without block (reverse bs)) (block ∷ [])
+    ∙ ap (λ n. n + 1) (ap length (sym (reverse-remove_key block bs d)) ∙ length-reverse (remove_key (same_block block) bs))
     ∙ length-remove_key (same_block block) bs h
 
 module _ (capacity : ℕ) (block : BlockId) (bs : List BlockId) (some : 0 < capacity) (fits : length bs ≤ capacity) (d : IsDistinct same_block bs) where
   -- a block that is there: nothing is too many
-  there : list_any (same_block block) bs ≡ true → reverse (block ∷ remove_key (same_block block) bs) ≡ drop (excess capacity (used_last block (reverse bs))) (used_last block (reverse bs))
+  there : list_any (same_block block) bs ≡ true
+      → reverse (block ∷ remove_key (same_block block) bs) ≡ drop (excess capacity (used_last block (reverse bs))) (used_last block (reverse bs))
   there h =
       let size : length (used_last block (reverse bs)) ≡ length bs = length-used_last block bs h d in
       let none : excess capacity (used_last block (reverse bs)) ≡ 0 = omega arith in
-      reverse-append (block ∷ []) (remove_key (same_block block) bs) ∙ ap (λ r. r ++ block ∷ []) (reverse-remove_key block bs d) ∙ sym (ap (λ n. drop n (used_last block (reverse bs))) none)
+      reverse-append (block ∷ []) (remove_key (same_block block) bs) ∙ ap (λ r. r ++ block ∷ []) (reverse-remove_key block bs d)
+      ∙ sym (ap (λ n. drop n (used_last block (reverse bs))) none)
 
   -- a new block: where the cache is full, the first leaves
   new_last : list_any (same_block block) bs ≡ false → used_last block (reverse bs) ≡ reverse bs ++ block ∷ []
@@ -91,10 +101,12 @@ module _ (capacity : ℕ) (block : BlockId) (bs : List BlockId) (some : 0 < capa
 
   excess_new : list_any (same_block block) bs ≡ false → excess capacity (used_last block (reverse bs)) ≡ length bs - (capacity - 1)
   excess_new h =
-      let size : length (used_last block (reverse bs)) ≡ length bs + 1 = ap length (new_last h) ∙ length-append (reverse bs) (block ∷ []) ∙ ap (λ n. n + 1) (length-reverse bs) in
+      let size : length (used_last block (reverse bs)) ≡ length bs + 1 =
+      ap length (new_last h) ∙ length-append (reverse bs) (block ∷ []) ∙ ap (λ n. n + 1) (length-reverse bs) in
       omega arith
 
-  absent : list_any (same_block block) bs ≡ false → reverse (block ∷ take (capacity - 1) bs) ≡ drop (excess capacity (used_last block (reverse bs))) (used_last block (reverse bs))
+  absent : list_any (same_block block) bs ≡ false
+      → reverse (block ∷ take (capacity - 1) bs) ≡ drop (excess capacity (used_last block (reverse bs))) (used_last block (reverse bs))
   absent h =
       let size : length (reverse bs) ≡ length bs = length-reverse bs in
       let within : length bs - (capacity - 1) ≤ length (reverse bs) = omega arith in
@@ -110,17 +122,24 @@ module _ (capacity : ℕ) (block : BlockId) (bs : List BlockId) (some : 0 < capa
       ]
 
   -- what the order is once the block is cached
-  pub reverse-pushed : reverse (cond (list_any (same_block block) bs) (block ∷ remove_key (same_block block) bs) (block ∷ take (capacity - 1) bs)) ≡ drop (excess capacity (used_last block (reverse bs))) (used_last block (reverse bs))
+  pub reverse-pushed : reverse (cond (list_any (same_block block) bs) (block ∷ remove_key (same_block block) bs) (block ∷ take (capacity - 1) bs)) ≡ drop
+      (excess capacity (used_last block (reverse bs))) (used_last block (reverse bs))
   reverse-pushed =
-      elim (list_any (same_block block) bs) as (λ t. list_any (same_block block) bs ≡ t → reverse (cond t (block ∷ remove_key (same_block block) bs) (block ∷ take (capacity - 1) bs)) ≡ drop (excess capacity (used_last block (reverse bs))) (used_last block (reverse bs))) [
+      elim (list_any (same_block block) bs) as
+      (λ t. list_any (same_block block) bs ≡ t
+      → reverse (cond t (block ∷ remove_key (same_block block) bs) (block ∷ take (capacity - 1) bs)) ≡ drop (excess capacity (used_last block (reverse bs)))
+      (used_last block (reverse bs))) [
         | true ↦ λ h. there h
         | false ↦ λ h. absent h
       ] refl
 
   -- and what leaves for it
-  pub pushed_out : option_to_list (cond (list_any (same_block block) bs) None (slice_get bs (capacity - 1))) ≡ take (excess capacity (used_last block (reverse bs))) (used_last block (reverse bs))
+  pub pushed_out : option_to_list (cond (list_any (same_block block) bs) None (slice_get bs (capacity - 1))) ≡ take
+      (excess capacity (used_last block (reverse bs))) (used_last block (reverse bs))
   pushed_out =
-      elim (list_any (same_block block) bs) as (λ t. list_any (same_block block) bs ≡ t → option_to_list (cond t None (slice_get bs (capacity - 1))) ≡ take (excess capacity (used_last block (reverse bs))) (used_last block (reverse bs))) [
+      elim (list_any (same_block block) bs) as
+      (λ t. list_any (same_block block) bs ≡ t
+      → option_to_list (cond t None (slice_get bs (capacity - 1))) ≡ take (excess capacity (used_last block (reverse bs))) (used_last block (reverse bs))) [
         | true ↦ λ h.
             let size : length (used_last block (reverse bs)) ≡ length bs = length-used_last block bs h d in
             let none : excess capacity (used_last block (reverse bs)) ≡ 0 = omega arith in
@@ -133,11 +152,14 @@ module _ (capacity : ℕ) (block : BlockId) (bs : List BlockId) (some : 0 < capa
 
 -- what a use of a block makes of the order
 pub touched-promoted : (capacity : ℕ) (block : BlockId) (bs : List BlockId) → IsDistinct same_block bs
-    → record { blocks = reverse (cond (list_any (same_block block) bs) (block ∷ remove_key (same_block block) bs) bs); capacity = capacity } ≡ touched (record { blocks = reverse bs; capacity = capacity }) block
+    → record { blocks = reverse (cond (list_any (same_block block) bs) (block ∷ remove_key (same_block block) bs) bs); capacity = capacity } ≡ touched
+    (record { blocks = reverse bs; capacity = capacity }) block
 touched-promoted capacity block bs d =
-    let used : reverse (block ∷ remove_key (same_block block) bs) ≡ used_last block (reverse bs) = reverse-append (block ∷ []) (remove_key (same_block block) bs) ∙ ap (λ r. r ++ block ∷ []) (reverse-remove_key block bs d) in
+    let used : reverse (block ∷ remove_key (same_block block) bs) ≡ used_last block (reverse bs) =
+    reverse-append (block ∷ []) (remove_key (same_block block) bs) ∙ ap (λ r. r ++ block ∷ []) (reverse-remove_key block bs d) in
     let s : List BlockId → CacheState = λ ks. record { blocks = ks; capacity = capacity } in
-    elim (list_any (same_block block) bs) as (λ t. s (reverse (cond t (block ∷ remove_key (same_block block) bs) bs)) ≡ cond t (s (used_last block (reverse bs))) (s (reverse bs))) [
+    elim (list_any (same_block block) bs) as
+    (λ t. s (reverse (cond t (block ∷ remove_key (same_block block) bs) bs)) ≡ cond t (s (used_last block (reverse bs))) (s (reverse bs))) [
       | true ↦ ap s used
       | false ↦ refl
     ] ∙ ap (λ t. cond t (s (used_last block (reverse bs))) (s (reverse bs))) (sym (list_any-reverse (same_block block) bs))

@@ -22,17 +22,27 @@ greatest-max n least (m ∷ ns) = let rest : greatest (max n least) ns ≡ max n
 -- ---- one input
 
 kept_base : (s : FeedState) (input : In) → (transition s input).state.base ≡ s.base
-kept_base s (Settled seq rows) = by_test (λ (t : FeedState). t.base ≡ s.base) (nat_lt s.end seq) (record s { filed = s.filed ++ record { seq = seq; rows = rows } ∷ []; end = seq }) s (λ _. refl) (λ _. refl)
-kept_base s (Ack slot applied) = by_test (λ (t : FeedState). t.base ≡ s.base) (nat_lt slot 8 && nat_lt (acked_of s slot) applied) (record s { acked = set s.acked slot applied }) s (λ _. refl) (λ _. refl)
-kept_base s (NewEpoch slot) = by_test (λ (t : FeedState). t.base ≡ s.base) (nat_lt slot 8) (record s { acked = set s.acked slot s.base }) s (λ _. refl) (λ _. refl)
+kept_base s (Settled seq rows) =
+    by_test (λ (t : FeedState). t.base ≡ s.base) (nat_lt s.end seq) (record s { filed = s.filed ++ record { seq = seq; rows = rows } ∷ []; end = seq }) s
+    (λ _. refl) (λ _. refl)
+kept_base s (Ack slot applied) =
+    by_test (λ (t : FeedState). t.base ≡ s.base) (nat_lt slot 8 && nat_lt (acked_of s slot) applied) (record s { acked = set s.acked slot applied }) s
+    (λ _. refl) (λ _. refl)
+kept_base s (NewEpoch slot) =
+    by_test (λ (t : FeedState). t.base ≡ s.base) (nat_lt slot 8) (record s { acked = set s.acked slot s.base }) s (λ _. refl) (λ _. refl)
 kept_base s (Push slot) = refl
 kept_base s Tick = refl
 
 kept_eight : (s : FeedState) (input : In) → length s.acked ≡ 8 → length (transition s input).state.acked ≡ 8
-kept_eight s (Settled seq rows) eight = by_test (λ (t : FeedState). length t.acked ≡ 8) (nat_lt s.end seq) (record s { filed = s.filed ++ record { seq = seq; rows = rows } ∷ []; end = seq }) s (λ _. eight) (λ _. eight)
+kept_eight s (Settled seq rows) eight =
+    by_test (λ (t : FeedState). length t.acked ≡ 8) (nat_lt s.end seq) (record s { filed = s.filed ++ record { seq = seq; rows = rows } ∷ []; end = seq }) s
+    (λ _. eight) (λ _. eight)
 kept_eight s (Ack slot applied) eight =
-    by_test (λ (t : FeedState). length t.acked ≡ 8) (nat_lt slot 8 && nat_lt (acked_of s slot) applied) (record s { acked = set s.acked slot applied }) s (λ _. length-set s.acked slot applied ∙ eight) (λ _. eight)
-kept_eight s (NewEpoch slot) eight = by_test (λ (t : FeedState). length t.acked ≡ 8) (nat_lt slot 8) (record s { acked = set s.acked slot s.base }) s (λ _. length-set s.acked slot s.base ∙ eight) (λ _. eight)
+    by_test (λ (t : FeedState). length t.acked ≡ 8) (nat_lt slot 8 && nat_lt (acked_of s slot) applied) (record s { acked = set s.acked slot applied }) s
+    (λ _. length-set s.acked slot applied ∙ eight) (λ _. eight)
+kept_eight s (NewEpoch slot) eight =
+    by_test (λ (t : FeedState). length t.acked ≡ 8) (nat_lt slot 8) (record s { acked = set s.acked slot s.base }) s
+    (λ _. length-set s.acked slot s.base ∙ eight) (λ _. eight)
 kept_eight s (Push slot) eight = eight
 kept_eight s Tick eight = eight
 
@@ -56,17 +66,20 @@ module _ (slot : ℕ) (l : slot < 8) (s : FeedState) (eight : length s.acked ≡
 
   ack_other : (acker n : ℕ) → (acker == slot) ≡ false → now (acknowledged s acker n) ≡ now s
   ack_other acker n apart =
-      by_test (λ (t : FeedState). now t ≡ now s) (nat_lt acker 8 && nat_lt (acked_of s acker) n) (record s { acked = set s.acked acker n }) s (λ _. get_or-set_other s.acked acker slot n 0 (grind (arith, nat_tests))) (λ _. refl)
+      by_test (λ (t : FeedState). now t ≡ now s) (nat_lt acker 8 && nat_lt (acked_of s acker) n) (record s { acked = set s.acked acker n }) s
+      (λ _. get_or-set_other s.acked acker slot n 0 (grind (arith, nat_tests))) (λ _. refl)
 
   renew_own : (renewed : ℕ) → (renewed == slot) ≡ true → now (new_epoch s renewed) ≡ s.base
   renew_own renewed one =
       let is : renewed ≡ slot = grind (arith, nat_tests) in
       let p : nat_lt slot 8 ≡ true = grind (arith, nat_tests) in
-      ap (λ r. now (new_epoch s r)) is ∙ ap (λ t. now (cond t (record s { acked = set s.acked slot s.base }) s)) p ∙ get_or-set_same s.acked slot s.base 0 (rw eight l)
+      ap (λ r. now (new_epoch s r)) is ∙ ap (λ t. now (cond t (record s { acked = set s.acked slot s.base }) s)) p
+      ∙ get_or-set_same s.acked slot s.base 0 (rw eight l)
 
   renew_other : (renewed : ℕ) → (renewed == slot) ≡ false → now (new_epoch s renewed) ≡ now s
   renew_other renewed apart =
-      by_test (λ (t : FeedState). now t ≡ now s) (nat_lt renewed 8) (record s { acked = set s.acked renewed s.base }) s (λ _. get_or-set_other s.acked renewed slot s.base 0 (grind (arith, nat_tests))) (λ _. refl)
+      by_test (λ (t : FeedState). now t ≡ now s) (nat_lt renewed 8) (record s { acked = set s.acked renewed s.base }) s
+      (λ _. get_or-set_other s.acked renewed slot s.base 0 (grind (arith, nat_tests))) (λ _. refl)
 
 -- ---- many inputs, from any state
 
@@ -85,16 +98,19 @@ filed_after : (s : FeedState) (inputs : List In) → (later s inputs).filed ≡ 
 filed_after s [] = sym (append-nil s.filed)
 filed_after s (Settled seq rows ∷ is) =
     let f : FiledDeltas = record { seq = seq; rows = rows } in
-    elim (nat_lt s.end seq) as (λ t. (later (cond t (record s { filed = s.filed ++ f ∷ []; end = seq }) s) is).filed ≡ s.filed ++ cond t (f ∷ filed_by seq is) (filed_by s.end is)) [
+    elim (nat_lt s.end seq) as
+    (λ t. (later (cond t (record s { filed = s.filed ++ f ∷ []; end = seq }) s) is).filed ≡ s.filed ++ cond t (f ∷ filed_by seq is) (filed_by s.end is)) [
       | true ↦ filed_after (record s { filed = s.filed ++ f ∷ []; end = seq }) is ∙ append_assoc s.filed (f ∷ []) (filed_by seq is)
       | false ↦ filed_after s is
     ]
 filed_after s (Ack slot applied ∷ is) =
     filed_after (acknowledged s slot applied) is
-    ∙ by_test (λ (t : FeedState). t.filed ++ filed_by t.end is ≡ s.filed ++ filed_by s.end is) (nat_lt slot 8 && nat_lt (acked_of s slot) applied) (record s { acked = set s.acked slot applied }) s (λ _. refl) (λ _. refl)
+    ∙ by_test (λ (t : FeedState). t.filed ++ filed_by t.end is ≡ s.filed ++ filed_by s.end is) (nat_lt slot 8 && nat_lt (acked_of s slot) applied)
+    (record s { acked = set s.acked slot applied }) s (λ _. refl) (λ _. refl)
 filed_after s (NewEpoch slot ∷ is) =
     filed_after (new_epoch s slot) is
-    ∙ by_test (λ (t : FeedState). t.filed ++ filed_by t.end is ≡ s.filed ++ filed_by s.end is) (nat_lt slot 8) (record s { acked = set s.acked slot s.base }) s (λ _. refl) (λ _. refl)
+    ∙ by_test (λ (t : FeedState). t.filed ++ filed_by t.end is ≡ s.filed ++ filed_by s.end is) (nat_lt slot 8) (record s { acked = set s.acked slot s.base }) s
+    (λ _. refl) (λ _. refl)
 filed_after s (Push slot ∷ is) = filed_after s is
 filed_after s (Tick ∷ is) = filed_after s is
 
@@ -103,7 +119,8 @@ end_after s [] = refl
 end_after s (Settled seq rows ∷ is) =
     let numbers : List ℕ = settled_numbers is in
     let f : FiledDeltas = record { seq = seq; rows = rows } in
-    elim (nat_lt s.end seq) as (λ t. nat_lt s.end seq ≡ t → (later (cond t (record s { filed = s.filed ++ f ∷ []; end = seq }) s) is).end ≡ max seq (greatest s.end numbers)) [
+    elim (nat_lt s.end seq) as
+    (λ t. nat_lt s.end seq ≡ t → (later (cond t (record s { filed = s.filed ++ f ∷ []; end = seq }) s) is).end ≡ max seq (greatest s.end numbers)) [
       | true ↦ λ p.
           let less : s.end < seq = grind (arith, nat_tests) in
           let is_max : seq ≡ max seq s.end = omega (arith, less) in
@@ -115,10 +132,12 @@ end_after s (Settled seq rows ∷ is) =
     ] refl
 end_after s (Ack slot applied ∷ is) =
     end_after (acknowledged s slot applied) is
-    ∙ by_test (λ (t : FeedState). greatest t.end (settled_numbers is) ≡ greatest s.end (settled_numbers is)) (nat_lt slot 8 && nat_lt (acked_of s slot) applied) (record s { acked = set s.acked slot applied }) s (λ _. refl) (λ _. refl)
+    ∙ by_test (λ (t : FeedState). greatest t.end (settled_numbers is) ≡ greatest s.end (settled_numbers is)) (nat_lt slot 8 && nat_lt (acked_of s slot) applied)
+    (record s { acked = set s.acked slot applied }) s (λ _. refl) (λ _. refl)
 end_after s (NewEpoch slot ∷ is) =
     end_after (new_epoch s slot) is
-    ∙ by_test (λ (t : FeedState). greatest t.end (settled_numbers is) ≡ greatest s.end (settled_numbers is)) (nat_lt slot 8) (record s { acked = set s.acked slot s.base }) s (λ _. refl) (λ _. refl)
+    ∙ by_test (λ (t : FeedState). greatest t.end (settled_numbers is) ≡ greatest s.end (settled_numbers is)) (nat_lt slot 8)
+    (record s { acked = set s.acked slot s.base }) s (λ _. refl) (λ _. refl)
 end_after s (Push slot ∷ is) = end_after s is
 end_after s (Tick ∷ is) = end_after s is
 
@@ -143,20 +162,23 @@ acks_after : (slot : ℕ) → slot < 8 → (s : FeedState) → length s.acked �
 acks_after slot l s eight [] = refl
 acks_after slot l s eight (Settled seq rows ∷ is) =
     let more : FeedState = record s { filed = s.filed ++ record { seq = seq; rows = rows } ∷ []; end = seq } in
-    by_test (λ (t : FeedState). get_or (later t is).acked slot 0 ≡ greatest (cond (list_any (renews slot) is) s.base (get_or s.acked slot 0)) (acks_since slot is)) (nat_lt s.end seq) more s
+    by_test (λ (t : FeedState). get_or (later t is).acked slot 0 ≡ greatest (cond (list_any (renews slot) is) s.base (get_or s.acked slot 0))
+    (acks_since slot is)) (nat_lt s.end seq) more s
     (λ _. acks_after slot l more eight is) (λ _. acks_after slot l s eight is)
 acks_after slot l s eight (Ack acker n ∷ is) =
     let t : FeedState = acknowledged s acker n in
     let renewed : Bool = list_any (renews slot) is in
     acks_after slot l t (kept_eight s (Ack acker n) eight) is
     ∙ ap (λ b. greatest (cond renewed b (get_or t.acked slot 0)) (acks_since slot is)) (kept_base s (Ack acker n))
-    ∙ ack_counts (acker == slot) renewed s.base (get_or s.acked slot 0) (get_or t.acked slot 0) n (acks_since slot is) (ack_own slot l s eight acker n) (ack_other slot l s eight acker n)
+    ∙ ack_counts (acker == slot) renewed s.base (get_or s.acked slot 0) (get_or t.acked slot 0) n (acks_since slot is) (ack_own slot l s eight acker n)
+    (ack_other slot l s eight acker n)
 acks_after slot l s eight (NewEpoch other ∷ is) =
     let t : FeedState = new_epoch s other in
     let renewed : Bool = list_any (renews slot) is in
     acks_after slot l t (kept_eight s (NewEpoch other) eight) is
     ∙ ap (λ b. greatest (cond renewed b (get_or t.acked slot 0)) (acks_since slot is)) (kept_base s (NewEpoch other))
-    ∙ renewal_counts (other == slot) renewed s.base (get_or s.acked slot 0) (get_or t.acked slot 0) (acks_since slot is) (renew_own slot l s eight other) (renew_other slot l s eight other)
+    ∙ renewal_counts (other == slot) renewed s.base (get_or s.acked slot 0) (get_or t.acked slot 0) (acks_since slot is) (renew_own slot l s eight other)
+    (renew_other slot l s eight other)
 acks_after slot l s eight (Push asked ∷ is) = acks_after slot l s eight is
 acks_after slot l s eight (Tick ∷ is) = acks_after slot l s eight is
 
@@ -181,8 +203,10 @@ is_after base inputs = record {
   eight = eight_after (started base) inputs refl;
   acked_is = λ slot l.
       acks_after slot l (started base) refl inputs
-      ∙ ap (λ m. greatest m (acks_since slot inputs)) (either_base (list_any (renews slot) inputs) base (get_or (started base).acked slot 0) (get_or-replicate 8 slot base 0 l));
+      ∙ ap (λ m. greatest m (acks_since slot inputs))
+      (either_base (list_any (renews slot) inputs) base (get_or (started base).acked slot 0) (get_or-replicate 8 slot base 0 l));
 }
 
-pub acked_after : (base : ℕ) (inputs : List In) (s : FeedState) → IsAfter base inputs s → (slot : ℕ) → slot < 8 → acked_of s slot ≡ acknowledged_by base slot inputs
+pub acked_after : (base : ℕ) (inputs : List In) (s : FeedState) → IsAfter base inputs s → (slot : ℕ) → slot < 8
+    → acked_of s slot ≡ acknowledged_by base slot inputs
 acked_after base inputs s k slot l = acked_in s slot l ∙ k.acked_is slot l

@@ -18,7 +18,8 @@ again j k r =
     sym (first_greatest-assoc (first_greatest j k) j r) ∙ ap (λ x. first_greatest x r) (first_greatest-repeat j k) ∙ first_greatest-assoc j k r
 
 -- rising segments above a number say nothing up to it
-none_upto : (first upto low high : ℕ) (fs : List FiledDeltas) (q : BlockId) → upto ≤ low → IsRising low fs high → join (deltas_between first upto fs) q ≡ no_entry
+none_upto : (first upto low high : ℕ) (fs : List FiledDeltas) (q : BlockId) → upto ≤ low → IsRising low fs high
+    → join (deltas_between first upto fs) q ≡ no_entry
 none_upto first upto low high [] q h r = refl
 none_upto first upto low high (f ∷ fs) q h r =
     let outside : (nat_le first f.seq && nat_le f.seq upto) ≡ false = let l : low < f.seq = r.0 in grind (arith, nat_tests) in
@@ -31,14 +32,24 @@ module _ (base first applied upto : ℕ) (q : BlockId) (meets : first ≤ applie
   extend low (f ∷ fs) h r =
       let above : low < f.seq = r.0 in
       let below : f.seq ≤ upto = rising_below f.seq fs upto r.1 in
-      let rest : first_greatest (join (deltas_between (base + 1) applied fs) q) (join (deltas_between first upto fs) q) ≡ join (deltas_between (base + 1) upto fs) q = extend f.seq fs (omega (arith, h, above)) r.1 in
-      let all : join (deltas_between (base + 1) upto (f ∷ fs)) q ≡ first_greatest (join f.rows q) (join (deltas_between (base + 1) upto fs) q) = between_more (base + 1) upto f fs q (grind (arith, nat_tests)) in
-      elim (nat_le first f.seq) as (λ t. nat_le first f.seq ≡ t → first_greatest (join (deltas_between (base + 1) applied (f ∷ fs)) q) (join (deltas_between first upto (f ∷ fs)) q) ≡ join (deltas_between (base + 1) upto (f ∷ fs)) q) [
+      let rest : first_greatest (join (deltas_between (base + 1) applied fs) q) (join (deltas_between first upto fs) q) ≡ join
+      (deltas_between (base + 1) upto fs) q = extend f.seq fs (omega (arith, h, above)) r.1 in
+      let all : join (deltas_between (base + 1) upto (f ∷ fs)) q ≡ first_greatest (join f.rows q) (join (deltas_between (base + 1) upto fs) q) =
+      between_more (base + 1) upto f fs q (grind (arith, nat_tests)) in
+      elim (nat_le first f.seq) as
+      (λ t. nat_le first f.seq ≡ t
+      → first_greatest (join (deltas_between (base + 1) applied (f ∷ fs)) q) (join (deltas_between first upto (f ∷ fs)) q) ≡ join
+      (deltas_between (base + 1) upto (f ∷ fs)) q) [
         | true ↦ λ p.
-            let ranged : join (deltas_between first upto (f ∷ fs)) q ≡ first_greatest (join f.rows q) (join (deltas_between first upto fs) q) = between_more first upto f fs q (grind (arith, nat_tests)) in
-            elim (nat_le f.seq applied) as (λ u. nat_le f.seq applied ≡ u → first_greatest (join (deltas_between (base + 1) applied (f ∷ fs)) q) (join (deltas_between first upto (f ∷ fs)) q) ≡ join (deltas_between (base + 1) upto (f ∷ fs)) q) [
+            let ranged : join (deltas_between first upto (f ∷ fs)) q ≡ first_greatest (join f.rows q) (join (deltas_between first upto fs) q) =
+            between_more first upto f fs q (grind (arith, nat_tests)) in
+            elim (nat_le f.seq applied) as
+            (λ u. nat_le f.seq applied ≡ u
+            → first_greatest (join (deltas_between (base + 1) applied (f ∷ fs)) q) (join (deltas_between first upto (f ∷ fs)) q) ≡ join
+            (deltas_between (base + 1) upto (f ∷ fs)) q) [
               | true ↦ λ a.
-                  let known : join (deltas_between (base + 1) applied (f ∷ fs)) q ≡ first_greatest (join f.rows q) (join (deltas_between (base + 1) applied fs) q) = between_more (base + 1) applied f fs q (grind (arith, nat_tests)) in
+                  let known : join (deltas_between (base + 1) applied (f ∷ fs)) q ≡ first_greatest (join f.rows q)
+                  (join (deltas_between (base + 1) applied fs) q) = between_more (base + 1) applied f fs q (grind (arith, nat_tests)) in
                   ap (λ e. first_greatest e (join (deltas_between first upto (f ∷ fs)) q)) known
                   ∙ ap (first_greatest (first_greatest (join f.rows q) (join (deltas_between (base + 1) applied fs) q))) ranged
                   ∙ again (join f.rows q) (join (deltas_between (base + 1) applied fs) q) (join (deltas_between first upto fs) q)
@@ -46,15 +57,19 @@ module _ (base first applied upto : ℕ) (q : BlockId) (meets : first ≤ applie
               | false ↦ λ a.
                   let past : applied ≤ f.seq = grind (arith, nat_tests) in
                   let none : join (deltas_between (base + 1) applied fs) q ≡ no_entry = none_upto (base + 1) applied f.seq upto fs q past r.1 in
-                  ap (λ e. first_greatest e (join (deltas_between first upto (f ∷ fs)) q)) (between_same (base + 1) applied f fs q (grind (arith, nat_tests)) ∙ none)
+                  ap (λ e. first_greatest e (join (deltas_between first upto (f ∷ fs)) q))
+                  (between_same (base + 1) applied f fs q (grind (arith, nat_tests)) ∙ none)
                   ∙ none-join (deltas_between first upto (f ∷ fs)) q ∙ ranged
-                  ∙ ap (first_greatest (join f.rows q)) (sym (none-join (deltas_between first upto fs) q) ∙ ap (λ e. first_greatest e (join (deltas_between first upto fs) q)) (sym none) ∙ rest)
+                  ∙ ap (first_greatest (join f.rows q))
+                  (sym (none-join (deltas_between first upto fs) q) ∙ ap (λ e. first_greatest e (join (deltas_between first upto fs) q)) (sym none) ∙ rest)
                   ∙ sym all
             ] refl
         | false ↦ λ p.
-            let known : join (deltas_between (base + 1) applied (f ∷ fs)) q ≡ first_greatest (join f.rows q) (join (deltas_between (base + 1) applied fs) q) = between_more (base + 1) applied f fs q (grind (arith, nat_tests)) in
+            let known : join (deltas_between (base + 1) applied (f ∷ fs)) q ≡ first_greatest (join f.rows q) (join (deltas_between (base + 1) applied fs) q) =
+            between_more (base + 1) applied f fs q (grind (arith, nat_tests)) in
             ap (λ e. first_greatest e (join (deltas_between first upto (f ∷ fs)) q)) known
-            ∙ ap (first_greatest (first_greatest (join f.rows q) (join (deltas_between (base + 1) applied fs) q))) (between_same first upto f fs q (grind (arith, nat_tests)))
+            ∙ ap (first_greatest (first_greatest (join f.rows q) (join (deltas_between (base + 1) applied fs) q)))
+            (between_same first upto f fs q (grind (arith, nat_tests)))
             ∙ first_greatest-assoc (join f.rows q) (join (deltas_between (base + 1) applied fs) q) (join (deltas_between first upto fs) q)
             ∙ ap (first_greatest (join f.rows q)) rest ∙ sym all
       ] refl

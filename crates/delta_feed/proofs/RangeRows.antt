@@ -36,7 +36,9 @@ pub filed_rising : (base : ℕ) (inputs : List In) → IsRising base (filed_by b
 filed_rising base [] = omega arith
 filed_rising base (Settled seq rows ∷ is) =
     let numbers : List ℕ = settled_numbers is in
-    elim (nat_lt base seq) as (λ t. nat_lt base seq ≡ t → IsRising base (cond t (record { seq = seq; rows = rows } ∷ filed_by seq is) (filed_by base is)) (max seq (greatest base numbers))) [
+    elim (nat_lt base seq) as
+    (λ t. nat_lt base seq ≡ t
+    → IsRising base (cond t (record { seq = seq; rows = rows } ∷ filed_by seq is) (filed_by base is)) (max seq (greatest base numbers))) [
       | true ↦ λ p.
           let above : base < seq = grind (arith, nat_tests) in
           let is_max : seq ≡ max seq base = omega (arith, above) in
@@ -52,20 +54,28 @@ filed_rising base (Push slot ∷ is) = filed_rising base is
 filed_rising base (Tick ∷ is) = filed_rising base is
 
 -- a block's rows are all among those of its slot
-kept : (slot : ℕ) (q : BlockId) → slot_of q.ino.0 ≡ slot → (rows : List (BlockId × Entry)) → filter (λ (m : BlockId × Entry). same_block q m.0) (slot_rows slot rows) ≡ filter (λ (m : BlockId × Entry). same_block q m.0) rows
+kept : (slot : ℕ) (q : BlockId) → slot_of q.ino.0 ≡ slot → (rows : List (BlockId × Entry))
+    → filter (λ (m : BlockId × Entry). same_block q m.0) (slot_rows slot rows) ≡ filter (λ (m : BlockId × Entry). same_block q m.0) rows
 kept slot q at [] = refl
 kept slot q at (r ∷ rs) =
-    elim (same_block q r.0) as (λ t. same_block q r.0 ≡ t → filter (λ (m : BlockId × Entry). same_block q m.0) (slot_rows slot (r ∷ rs)) ≡ cond t (r ∷ filter (λ (m : BlockId × Entry). same_block q m.0) rs) (filter (λ (m : BlockId × Entry). same_block q m.0) rs)) [
+    elim (same_block q r.0) as
+    (λ t. same_block q r.0 ≡ t
+    → filter (λ (m : BlockId × Entry). same_block q m.0) (slot_rows slot (r ∷ rs)) ≡ cond t (r ∷ filter (λ (m : BlockId × Entry). same_block q m.0) rs)
+    (filter (λ (m : BlockId × Entry). same_block q m.0) rs)) [
       | true ↦ λ p.
           let same : slot_of r.0.ino.0 ≡ slot = ap (λ (b : BlockId). slot_of b.ino.0) (same_block_exact q r.0 p) ∙ at in
           let of_slot : (slot_of r.0.ino.0 == slot) ≡ true = grind (arith, nat_tests) in
           ap (λ u. filter (λ (m : BlockId × Entry). same_block q m.0) (cond u (r ∷ slot_rows slot rs) (slot_rows slot rs))) of_slot
-          ∙ ap (λ u. cond u (r ∷ filter (λ (m : BlockId × Entry). same_block q m.0) (slot_rows slot rs)) (filter (λ (m : BlockId × Entry). same_block q m.0) (slot_rows slot rs))) p
+          ∙ ap (λ u. cond u (r ∷ filter (λ (m : BlockId × Entry). same_block q m.0) (slot_rows slot rs))
+          (filter (λ (m : BlockId × Entry). same_block q m.0) (slot_rows slot rs))) p
           ∙ ap (λ ms. r ∷ ms) (kept slot q at rs)
-      | false ↦ λ p. elim (slot_of r.0.ino.0 == slot) as (λ u. filter (λ (m : BlockId × Entry). same_block q m.0) (cond u (r ∷ slot_rows slot rs) (slot_rows slot rs)) ≡ filter (λ (m : BlockId × Entry). same_block q m.0) rs) [
-        | true ↦ ap (λ u. cond u (r ∷ filter (λ (m : BlockId × Entry). same_block q m.0) (slot_rows slot rs)) (filter (λ (m : BlockId × Entry). same_block q m.0) (slot_rows slot rs))) p ∙ kept slot q at rs
-        | false ↦ kept slot q at rs
-      ]
+      | false ↦ λ p. elim (slot_of r.0.ino.0 == slot) as
+          (λ u. filter (λ (m : BlockId × Entry). same_block q m.0) (cond u (r ∷ slot_rows slot rs) (slot_rows slot rs)) ≡ filter
+          (λ (m : BlockId × Entry). same_block q m.0) rs) [
+            | true ↦ ap (λ u. cond u (r ∷ filter (λ (m : BlockId × Entry). same_block q m.0) (slot_rows slot rs))
+                (filter (λ (m : BlockId × Entry). same_block q m.0) (slot_rows slot rs))) p ∙ kept slot q at rs
+            | false ↦ kept slot q at rs
+          ]
     ] refl
 
 join-slot_rows : (slot : ℕ) (q : BlockId) → slot_of q.ino.0 ≡ slot → (rows : List (BlockId × Entry)) → join (slot_rows slot rows) q ≡ join rows q
@@ -73,9 +83,13 @@ join-slot_rows slot q at rows = ap (λ ms. fold first_greatest no_entry (map (λ
 
 -- what one more segment adds to a join
 join-between : (first upto : ℕ) (f : FiledDeltas) (fs : List FiledDeltas) (q : BlockId)
-    → join (deltas_between first upto (f ∷ fs)) q ≡ cond (nat_le first f.seq && nat_le f.seq upto) (first_greatest (join f.rows q) (join (deltas_between first upto fs) q)) (join (deltas_between first upto fs) q)
+    → join (deltas_between first upto (f ∷ fs)) q ≡ cond (nat_le first f.seq && nat_le f.seq upto)
+    (first_greatest (join f.rows q) (join (deltas_between first upto fs) q)) (join (deltas_between first upto fs) q)
 join-between first upto f fs q =
-    elim (nat_le first f.seq && nat_le f.seq upto) as (λ t. join (flat_map (λ (g : FiledDeltas). g.rows) (cond t (f ∷ filter (λ (g : FiledDeltas). nat_le first g.seq && nat_le g.seq upto) fs) (filter (λ (g : FiledDeltas). nat_le first g.seq && nat_le g.seq upto) fs))) q
+    elim (nat_le first f.seq && nat_le f.seq upto) as
+    (λ t. join (flat_map (λ (g : FiledDeltas). g.rows)
+    (cond t (f ∷ filter (λ (g : FiledDeltas). nat_le first g.seq && nat_le g.seq upto) fs)
+    (filter (λ (g : FiledDeltas). nat_le first g.seq && nat_le g.seq upto) fs))) q
     ≡ cond t (first_greatest (join f.rows q) (join (deltas_between first upto fs) q)) (join (deltas_between first upto fs) q)) [
       | true ↦ join-append f.rows (deltas_between first upto fs) q
       | false ↦ refl
@@ -83,19 +97,25 @@ join-between first upto f fs q =
 
 pub between_more : (first upto : ℕ) (f : FiledDeltas) (fs : List FiledDeltas) (q : BlockId) → (nat_le first f.seq && nat_le f.seq upto) ≡ true
     → join (deltas_between first upto (f ∷ fs)) q ≡ first_greatest (join f.rows q) (join (deltas_between first upto fs) q)
-between_more first upto f fs q p = join-between first upto f fs q ∙ ap (λ t. cond t (first_greatest (join f.rows q) (join (deltas_between first upto fs) q)) (join (deltas_between first upto fs) q)) p
+between_more first upto f fs q p =
+    join-between first upto f fs q
+    ∙ ap (λ t. cond t (first_greatest (join f.rows q) (join (deltas_between first upto fs) q)) (join (deltas_between first upto fs) q)) p
 
 pub between_same : (first upto : ℕ) (f : FiledDeltas) (fs : List FiledDeltas) (q : BlockId) → (nat_le first f.seq && nat_le f.seq upto) ≡ false
     → join (deltas_between first upto (f ∷ fs)) q ≡ join (deltas_between first upto fs) q
-between_same first upto f fs q p = join-between first upto f fs q ∙ ap (λ t. cond t (first_greatest (join f.rows q) (join (deltas_between first upto fs) q)) (join (deltas_between first upto fs) q)) p
+between_same first upto f fs q p =
+    join-between first upto f fs q
+    ∙ ap (λ t. cond t (first_greatest (join f.rows q) (join (deltas_between first upto fs) q)) (join (deltas_between first upto fs) q)) p
 
 pub join-rows_after : (slot acked end : ℕ) (q : BlockId) → slot_of q.ino.0 ≡ slot → (fs : List FiledDeltas) → All (λ f. f.seq ≤ end) fs
     → join (rows_after slot acked fs) q ≡ join (deltas_between (acked + 1) end fs) q
 join-rows_after slot acked end q at [] h = refl
 join-rows_after slot acked end q at (f ∷ fs) h =
     let bound : f.seq ≤ end = All-head (λ (g : FiledDeltas). g.seq ≤ end) f fs h in
-    let rest : join (rows_after slot acked fs) q ≡ join (deltas_between (acked + 1) end fs) q = join-rows_after slot acked end q at fs (All-tail (λ (g : FiledDeltas). g.seq ≤ end) f fs h) in
-    elim (nat_lt acked f.seq) as (λ t. nat_lt acked f.seq ≡ t → join (cond t (slot_rows slot f.rows) [] ++ rows_after slot acked fs) q ≡ join (deltas_between (acked + 1) end (f ∷ fs)) q) [
+    let rest : join (rows_after slot acked fs) q ≡ join (deltas_between (acked + 1) end fs) q =
+    join-rows_after slot acked end q at fs (All-tail (λ (g : FiledDeltas). g.seq ≤ end) f fs h) in
+    elim (nat_lt acked f.seq) as
+    (λ t. nat_lt acked f.seq ≡ t → join (cond t (slot_rows slot f.rows) [] ++ rows_after slot acked fs) q ≡ join (deltas_between (acked + 1) end (f ∷ fs)) q) [
       | true ↦ λ p.
           let within : (nat_le (acked + 1) f.seq && nat_le f.seq end) ≡ true = grind (arith, nat_tests) in
           join-append (slot_rows slot f.rows) (rows_after slot acked fs) q
@@ -109,7 +129,8 @@ join-rows_after slot acked end q at (f ∷ fs) h =
 
 own_rows : (slot : ℕ) (rows : List (BlockId × Entry)) → All (λ (row : BlockId × Entry). slot_of row.0.ino.0 ≡ slot) (slot_rows slot rows)
 own_rows slot rows =
-    All-weaker (λ (row : BlockId × Entry). (slot_of row.0.ino.0 == slot) ≡ true) (λ (row : BlockId × Entry). slot_of row.0.ino.0 ≡ slot) (λ row p. grind (arith, nat_tests))
+    All-weaker (λ (row : BlockId × Entry). (slot_of row.0.ino.0 == slot) ≡ true) (λ (row : BlockId × Entry). slot_of row.0.ino.0 ≡ slot)
+    (λ row p. grind (arith, nat_tests))
     (slot_rows slot rows) (filter_passes (λ (row : BlockId × Entry). slot_of row.0.ino.0 == slot) rows)
 
 pub own_rows_after : (slot acked : ℕ) (fs : List FiledDeltas) → All (λ (row : BlockId × Entry). slot_of row.0.ino.0 ≡ slot) (rows_after slot acked fs)

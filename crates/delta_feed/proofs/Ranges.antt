@@ -23,7 +23,9 @@ tells base h s slot k in_range some = record {
   begins = ap (λ n. n + 1) (acked_after base h s k slot in_range);
   ends = k.end_is;
   has_some = omega (arith, some);
-  joins = λ q at. rw (k.filed_is, k.end_is) (join-rows_after slot (acked_of s slot) (end_of base h) q at (filed_by base h) (rising_upto base (filed_by base h) (end_of base h) (filed_rising base h)));
+  joins = λ q at. rw (k.filed_is, k.end_is)
+      (join-rows_after slot (acked_of s slot) (end_of base h) q at (filed_by base h)
+      (rising_upto base (filed_by base h) (end_of base h) (filed_rising base h)));
   own = own_rows_after slot (acked_of s slot) s.filed;
 }
 
@@ -39,7 +41,8 @@ pushes_true base h s slot k =
 
 ticks_true : (base : ℕ) (h : List In) (s : FeedState) → IsAfter base h s → (slots : List ℕ) → All (IsTrueRange base h) (flat_map (pushed s) slots)
 ticks_true base h s k [] = All-nil (IsTrueRange base h)
-ticks_true base h s k (slot ∷ slots) = All-append (IsTrueRange base h) (pushed s slot) (flat_map (pushed s) slots) (pushes_true base h s slot k) (ticks_true base h s k slots)
+ticks_true base h s k (slot ∷ slots) =
+    All-append (IsTrueRange base h) (pushed s slot) (flat_map (pushed s) slots) (pushes_true base h s slot k) (ticks_true base h s k slots)
 
 pub ranges_true : (base : ℕ) (h : List In) (input : In) → All (IsTrueRange base h) (transition (state_after base h) input).outs
 ranges_true base h (Settled seq rows) = All-nil (IsTrueRange base h)
@@ -61,7 +64,8 @@ lacking_told base h s slot k in_range lacks =
           ∙ ap (λ e. Range slot (acknowledged_by base slot h + 1) e (rows_after slot (acked_of s slot) s.filed) ∷ []) k.end_is,
     )
 
-pub known_untold : (base : ℕ) (h : List In) (s : FeedState) (slot : ℕ) → IsAfter base h s → slot < 8 → end_of base h ≤ acknowledged_by base slot h → pushed s slot ≡ []
+pub known_untold : (base : ℕ) (h : List In) (s : FeedState) (slot : ℕ) → IsAfter base h s → slot < 8 → end_of base h ≤ acknowledged_by base slot h
+    → pushed s slot ≡ []
 unfolding pushed
 known_untold base h s slot k in_range knows =
     let acked : acked_of s slot ≡ acknowledged_by base slot h = acked_after base h s k slot in_range in

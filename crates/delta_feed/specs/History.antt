@@ -53,7 +53,8 @@ renews slot Tick = false
 abbrev pub acks_since : ℕ → List In → List ℕ
 acks_since slot [] = []
 acks_since slot (Settled seq rows ∷ later) = acks_since slot later
-acks_since slot (Ack acker applied ∷ later) = if (acker == slot) && not (list_any (renews slot) later) then applied ∷ acks_since slot later else acks_since slot later
+acks_since slot (Ack acker applied ∷ later) =
+    if (acker == slot) && not (list_any (renews slot) later) then applied ∷ acks_since slot later else acks_since slot later
 acks_since slot (NewEpoch renewed ∷ later) = acks_since slot later
 acks_since slot (Push asked ∷ later) = acks_since slot later
 acks_since slot (Tick ∷ later) = acks_since slot later

@@ -75,6 +75,7 @@ fold_below b a (e ∷ es) p h =
 pub fold-IsJoin : (es : List Entry) (found : Entry) → IsJoin es found → found ≡ fold first_greatest no_entry es
 fold-IsJoin es found (inl f) =
     sym (ap (fold first_greatest no_entry) f.stands ∙ fold-append first_greatest no_entry f.before (found ∷ f.after)
-    ∙ ap (λ x. fold first_greatest x f.after) (first_greatest-newer (fold first_greatest no_entry f.before) found (fold_below found no_entry f.before f.held f.above))
+    ∙ ap (λ x. fold first_greatest x f.after)
+    (first_greatest-newer (fold first_greatest no_entry f.before) found (fold_below found no_entry f.before f.held f.above))
     ∙ fold_stays found f.after f.unbeaten)
 fold-IsJoin es found (inr n) = n.0 ∙ sym (fold_stays no_entry es n.1)

@@ -17,7 +17,8 @@ use Rattle.delta_index.specs.Index.{entry_of, AllHeld, HoldsJust}
 use Rattle.delta_index.proofs.EntryAlgebra.{none_newer, newer_than_none}
 
 -- an entry that is above what is held may be put in
-pub AllHeld-insert : (rows : List (BlockId × Entry)) (block : BlockId) (entry : Entry) → AllHeld rows → is_newer entry (entry_of rows block) ≡ true → AllHeld (insert_entry block_cmp rows block entry)
+pub AllHeld-insert : (rows : List (BlockId × Entry)) (block : BlockId) (entry : Entry) → AllHeld rows → is_newer entry (entry_of rows block) ≡ true
+    → AllHeld (insert_entry block_cmp rows block entry)
 AllHeld-insert rows block entry held newer =
     All-values-insert_entry block_cmp block entry (λ e. IsTrue (is_newer e no_entry)) rows held (newer_than_none (entry_of rows block) entry newer)
 
@@ -28,7 +29,11 @@ found (Some x) entry e p = ap Some (sym e)
 
 pub holds_just : (rows : List (BlockId × Entry)) → IsStrictlySortedBy block_cmp (keys_of rows) → AllHeld rows → HoldsJust (entry_of rows) rows
 holds_just rows sorted held = λ block entry. (
-  λ c. let l : lookup (is_at (block_cmp block)) rows ≡ Some entry = lookup-from_Contains (eq_by_cmp_equiv block_cmp_total) block entry rows (IsDistinct-from_sorted block_cmp (keys_of rows) sorted) c in
-      (sym (ap (λ o. unwrap_or o no_entry) l), subst (λ o. IfSome o (λ e. IsTrue (is_newer e no_entry))) l (IfSome-lookup_from_All (λ e. IsTrue (is_newer e no_entry)) (is_at (block_cmp block)) rows held)),
+  λ c. let l : lookup (is_at (block_cmp block)) rows ≡ Some entry =
+      lookup-from_Contains (eq_by_cmp_equiv block_cmp_total) block entry rows (IsDistinct-from_sorted block_cmp (keys_of rows) sorted) c in (
+        sym (ap (λ o. unwrap_or o no_entry) l),
+        subst (λ o. IfSome o (λ e. IsTrue (is_newer e no_entry))) l
+            (IfSome-lookup_from_All (λ e. IsTrue (is_newer e no_entry)) (is_at (block_cmp block)) rows held),
+      ),
   λ h. Contains-from_lookup (tells_apart block_cmp_exact) block entry rows (found _ entry h.0 h.1),
 )

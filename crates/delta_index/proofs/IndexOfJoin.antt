@@ -26,9 +26,11 @@ record IsIndex (rows : List (BlockId × Entry)) : Type 0 where
 IsIndex-merged : (rows : List (BlockId × Entry)) (block : BlockId) (entry : Entry) → IsIndex rows → IsIndex (merged rows block entry)
 unfolding merged
 IsIndex-merged rows block entry i =
-    elim (is_newer entry (entry_of rows block)) as (λ t. is_newer entry (entry_of rows block) ≡ t → IsIndex (cond t (insert_entry block_cmp rows block entry) rows)) [
+    elim (is_newer entry (entry_of rows block)) as
+    (λ t. is_newer entry (entry_of rows block) ≡ t → IsIndex (cond t (insert_entry block_cmp rows block entry) rows)) [
       | true ↦ λ p. record {
-        in_order = subst (λ r. T (is_sorted block_cmp r)) (sym (insert_entry-put block_cmp block entry rows)) (is_sorted-put block_cmp block_cmp_total block entry rows i.in_order);
+        in_order = subst (λ r. T (is_sorted block_cmp r)) (sym (insert_entry-put block_cmp block entry rows))
+            (is_sorted-put block_cmp block_cmp_total block entry rows i.in_order);
         held = AllHeld-insert rows block entry i.held p;
       }
       | false ↦ λ p. i
@@ -39,7 +41,8 @@ IsIndex-merged_all rows [] i = i
 IsIndex-merged_all rows (m ∷ ms) i = IsIndex-merged_all (merged rows m.0 m.1) ms (IsIndex-merged rows m.0 m.1 i)
 
 -- what two look-ups gave, where what is held is above version 0 and hop 0
-same_found : (o p : Option Entry) → IfSome o (λ e. IsTrue (is_newer e no_entry)) → IfSome p (λ e. IsTrue (is_newer e no_entry)) → unwrap_or o no_entry ≡ unwrap_or p no_entry → o ≡ p
+same_found : (o p : Option Entry) → IfSome o (λ e. IsTrue (is_newer e no_entry)) → IfSome p (λ e. IsTrue (is_newer e no_entry))
+    → unwrap_or o no_entry ≡ unwrap_or p no_entry → o ≡ p
 same_found None None h k e = refl
 same_found None (Some y) h k e = absurd (false≢true (sym (none_newer no_entry) ∙ ap (λ x. is_newer x no_entry) e ∙ k))
 same_found (Some x) None h k e = absurd (false≢true (sym (none_newer no_entry) ∙ ap (λ x. is_newer x no_entry) (sym e) ∙ h))
@@ -58,7 +61,8 @@ same_rows rows others i j same =
 nothing : IsIndex []
 nothing = record { in_order = tt; held = All-nil (λ e. IsTrue (is_newer e no_entry)) }
 
-pub index_of_join : (merges others : List (BlockId × Entry)) → ((block : BlockId) → join merges block ≡ join others block) → merged_all [] merges ≡ merged_all [] others
+pub index_of_join : (merges others : List (BlockId × Entry)) → ((block : BlockId) → join merges block ≡ join others block)
+    → merged_all [] merges ≡ merged_all [] others
 index_of_join merges others same =
     same_rows (merged_all [] merges) (merged_all [] others) (IsIndex-merged_all [] merges nothing) (IsIndex-merged_all [] others nothing)
     (λ q. index_join merges q ∙ same q ∙ sym (index_join others q))

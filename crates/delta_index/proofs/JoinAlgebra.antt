@@ -40,7 +40,9 @@ join-cons m ms q = join-append (m ∷ []) ms q
 -- the join of one merge
 pub join-one : (m : BlockId × Entry) (q : BlockId) → join (m ∷ []) q ≡ cond (same_block q m.0) (first_greatest no_entry m.1) no_entry
 join-one m q =
-    elim (same_block q m.0) as (λ t. fold first_greatest no_entry (map (λ (n : BlockId × Entry). n.1) (cond t (m ∷ []) [])) ≡ cond t (first_greatest no_entry m.1) no_entry) [ true ↦ refl | false ↦ refl ]
+    elim (same_block q m.0) as
+    (λ t. fold first_greatest no_entry (map (λ (n : BlockId × Entry). n.1) (cond t (m ∷ []) [])) ≡ cond t (first_greatest no_entry m.1) no_entry)
+    [ true ↦ refl | false ↦ refl ]
 
 -- entries j, k, j and then r: the second j adds nothing
 again : (j k r : Entry) → first_greatest j (first_greatest k (first_greatest j r)) ≡ first_greatest j (first_greatest k r)
@@ -48,7 +50,8 @@ again j k r =
     sym (first_greatest-assoc j k (first_greatest j r)) ∙ sym (first_greatest-assoc (first_greatest j k) j r)
     ∙ ap (λ x. first_greatest x r) (first_greatest-repeat j k) ∙ first_greatest-assoc j k r
 
-pub join-repeat : (before between after : List (BlockId × Entry)) (m : BlockId × Entry) (q : BlockId) → join (before ++ m ∷ (between ++ m ∷ after)) q ≡ join (before ++ m ∷ (between ++ after)) q
+pub join-repeat : (before between after : List (BlockId × Entry)) (m : BlockId × Entry) (q : BlockId)
+    → join (before ++ m ∷ (between ++ m ∷ after)) q ≡ join (before ++ m ∷ (between ++ after)) q
 join-repeat before between after m q =
     let k : join (m ∷ (between ++ m ∷ after)) q ≡ join (m ∷ (between ++ after)) q =
     join-cons m (between ++ m ∷ after) q
@@ -59,7 +62,8 @@ join-repeat before between after m q =
     join-append before (m ∷ (between ++ m ∷ after)) q ∙ ap (first_greatest (join before q)) k ∙ sym (join-append before (m ∷ (between ++ after)) q)
 
 -- both after no entry, in either order
-swapped_after_none : (a b : Entry) → DiffersInRank a b → first_greatest (first_greatest no_entry a) (first_greatest no_entry b) ≡ first_greatest (first_greatest no_entry b) (first_greatest no_entry a)
+swapped_after_none : (a b : Entry) → DiffersInRank a b
+    → first_greatest (first_greatest no_entry a) (first_greatest no_entry b) ≡ first_greatest (first_greatest no_entry b) (first_greatest no_entry a)
 swapped_after_none a b d =
     none_between (first_greatest no_entry a) b ∙ first_greatest-assoc no_entry a b ∙ ap (first_greatest no_entry) (first_greatest-swap a b d)
     ∙ sym (first_greatest-assoc no_entry b a) ∙ sym (none_between (first_greatest no_entry b) a)
@@ -69,13 +73,15 @@ beside_none : (a : Entry) → first_greatest (first_greatest no_entry a) no_entr
 beside_none a = first_greatest-none (first_greatest no_entry a) ∙ sym (none_between no_entry a)
 
 swapped_ones : (m n : BlockId × Entry) (q : BlockId) → MayChangePlaces m n → (t u : Bool) → same_block q m.0 ≡ t → same_block q n.0 ≡ u
-    → first_greatest (cond t (first_greatest no_entry m.1) no_entry) (cond u (first_greatest no_entry n.1) no_entry) ≡ first_greatest (cond u (first_greatest no_entry n.1) no_entry) (cond t (first_greatest no_entry m.1) no_entry)
+    → first_greatest (cond t (first_greatest no_entry m.1) no_entry) (cond u (first_greatest no_entry n.1) no_entry) ≡ first_greatest
+    (cond u (first_greatest no_entry n.1) no_entry) (cond t (first_greatest no_entry m.1) no_entry)
 swapped_ones m n q may true true p r = swapped_after_none m.1 n.1 (may (same_block_exact q m.0 p ∙ sym (same_block_exact q n.0 r)))
 swapped_ones m n q may true false p r = beside_none m.1
 swapped_ones m n q may false true p r = sym (beside_none n.1)
 swapped_ones m n q may false false p r = refl
 
-pub join-swap : (before after : List (BlockId × Entry)) (m n : BlockId × Entry) (q : BlockId) → MayChangePlaces m n → join (before ++ m ∷ n ∷ after) q ≡ join (before ++ n ∷ m ∷ after) q
+pub join-swap : (before after : List (BlockId × Entry)) (m n : BlockId × Entry) (q : BlockId) → MayChangePlaces m n
+    → join (before ++ m ∷ n ∷ after) q ≡ join (before ++ n ∷ m ∷ after) q
 join-swap before after m n q may =
     let ones : first_greatest (join (m ∷ []) q) (join (n ∷ []) q) ≡ first_greatest (join (n ∷ []) q) (join (m ∷ []) q) =
     ap (λ x. first_greatest x (join (n ∷ []) q)) (join-one m q) ∙ ap (first_greatest _) (join-one n q)
@@ -83,7 +89,8 @@ join-swap before after m n q may =
     ∙ sym (ap (λ x. first_greatest x (join (m ∷ []) q)) (join-one n q) ∙ ap (first_greatest _) (join-one m q))
     in
     let pair : (x y : BlockId × Entry) → join (x ∷ y ∷ after) q ≡ first_greatest (first_greatest (join (x ∷ []) q) (join (y ∷ []) q)) (join after q) =
-    λ x y. join-cons x (y ∷ after) q ∙ ap (first_greatest (join (x ∷ []) q)) (join-cons y after q) ∙ sym (first_greatest-assoc (join (x ∷ []) q) (join (y ∷ []) q) (join after q))
+    λ x y. join-cons x (y ∷ after) q ∙ ap (first_greatest (join (x ∷ []) q)) (join-cons y after q)
+    ∙ sym (first_greatest-assoc (join (x ∷ []) q) (join (y ∷ []) q) (join after q))
     in
     join-append before (m ∷ n ∷ after) q
     ∙ ap (first_greatest (join before q)) (pair m n ∙ ap (λ x. first_greatest x (join after q)) ones ∙ sym (pair n m))

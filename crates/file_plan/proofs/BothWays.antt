@@ -47,14 +47,16 @@ byte_back k known = by (k == 1) (k == 2) refl refl known
     by false true e f h = let g : k ≡ 2 = grind (arith, nat_tests) in sym g
     by false false e f h = let w : false ≡ true = h in cc
 
-six : (k a b c d l : ℕ) (rest : List ℕ) → AreBytes (k ∷ a ∷ b ∷ c ∷ d ∷ l ∷ rest) → l ≤ length rest → is_kind_byte k ≡ true → is_good (take l rest) ≡ true → Front (k ∷ a ∷ b ∷ c ∷ d ∷ l ∷ rest)
+six : (k a b c d l : ℕ) (rest : List ℕ) → AreBytes (k ∷ a ∷ b ∷ c ∷ d ∷ l ∷ rest) → l ≤ length rest → is_kind_byte k ≡ true → is_good (take l rest) ≡ true
+    → Front (k ∷ a ∷ b ∷ c ∷ d ∷ l ∷ rest)
 six k a b c d l rest small within known good =
     let ha : a < 256 = small 1 in let hb : b < 256 = small 2 in let hc : c < 256 = small 3 in let hd : d < 256 = small 4 in
     record {
       text = ap (λ (bs : List ℕ). k ∷ a ∷ b ∷ c ∷ d ∷ l ∷ bs) (sym (take-append-drop l rest))
           ∙ ap (λ (n : ℕ). k ∷ a ∷ b ∷ c ∷ d ∷ n ∷ (take l rest ++ drop l rest)) (sym (length-take-le l rest within))
           ∙ ap (λ (bs : List ℕ). k ∷ (bs ++ length (take l rest) ∷ (take l rest ++ drop l rest))) (sym (four a b c d (four_small a b c d ha hb hc hd)))
-          ∙ ap (λ (n : ℕ). n ∷ (to_be_bytes w32 (from_be_bytes w32 (a ∷ b ∷ c ∷ d ∷ [])) ++ length (take l rest) ∷ (take l rest ++ drop l rest))) (sym (byte_back k known));
+          ∙ ap (λ (n : ℕ). n ∷ (to_be_bytes w32 (from_be_bytes w32 (a ∷ b ∷ c ∷ d ∷ [])) ++ length (take l rest) ∷ (take l rest ++ drop l rest)))
+          (sym (byte_back k known));
       row = record { good = good; ino = four_fit a b c d ha hb hc hd };
     }
 
@@ -68,7 +70,8 @@ front bytes small has =
     (good_first (is_kind_byte (get_or bytes 0 0)) _ (good_rest (nat_le (6 + name_length bytes) (length bytes)) _ has))
     (good_rest (is_kind_byte (get_or bytes 0 0)) _ (good_rest (nat_le (6 + name_length bytes) (length bytes)) _ has))
   where
-    by : (bytes : List ℕ) → AreBytes bytes → 6 + name_length bytes ≤ length bytes → is_kind_byte (get_or bytes 0 0) ≡ true → is_good (front_row bytes).0 ≡ true → Front bytes
+    by : (bytes : List ℕ) → AreBytes bytes → 6 + name_length bytes ≤ length bytes → is_kind_byte (get_or bytes 0 0) ≡ true → is_good (front_row bytes).0 ≡ true
+        → Front bytes
     by [] small long kind good = absurd (omega (arith, long))
     by (k ∷ []) small long kind good = absurd (omega (arith, long))
     by (k ∷ a ∷ []) small long kind good = absurd (omega (arith, long))
@@ -87,15 +90,19 @@ IsRead bytes rows = (bytes ≡ rows_text rows) × AllByRecursion IsRow rows
 none_read : (bytes : List ℕ) (rows : List Row) → Some rows ≡ None → IsRead bytes rows
 none_read bytes rows e = let no' : ⊥ = cc in absurd no'
 
-read_more : (bytes rest : List ℕ) (row : Row) → bytes ≡ row_text row ++ rest → IsRow row → (o : Option (List Row)) → ((more : List Row) → o ≡ Some more → IsRead rest more) → (rows : List Row) → with_row row o ≡ Some rows → IsRead bytes rows
+read_more : (bytes rest : List ℕ) (row : Row) → bytes ≡ row_text row ++ rest → IsRow row → (o : Option (List Row))
+    → ((more : List Row) → o ≡ Some more → IsRead rest more) → (rows : List Row) → with_row row o ≡ Some rows → IsRead bytes rows
 read_more bytes rest row text is None go rows e = none_read bytes rows (sym e)
 read_more bytes rest row text is (Some more) go rows e =
     let same : row ∷ more ≡ rows = cc in
     let g = go more refl in
     subst (IsRead bytes) same (text ∙ ap (λ (bs : List ℕ). row_text row ++ bs) g.0, (is, g.1))
 
-read_step : (bytes : List ℕ) (b : Bool) → has_row bytes ≡ b → AreBytes bytes → (o : Option (List Row)) → ((more : List Row) → o ≡ Some more → IsRead (drop (name_length bytes) (drop 6 bytes)) more) → (rows : List Row) → cond b (with_row (front_row bytes) o) None ≡ Some rows → IsRead bytes rows
-read_step bytes true has small o go rows e = let f = front bytes small has in read_more bytes (drop (name_length bytes) (drop 6 bytes)) (front_row bytes) f.text f.row o go rows e
+read_step : (bytes : List ℕ) (b : Bool) → has_row bytes ≡ b → AreBytes bytes → (o : Option (List Row))
+    → ((more : List Row) → o ≡ Some more → IsRead (drop (name_length bytes) (drop 6 bytes)) more) → (rows : List Row)
+    → cond b (with_row (front_row bytes) o) None ≡ Some rows → IsRead bytes rows
+read_step bytes true has small o go rows e = let f =
+    front bytes small has in read_more bytes (drop (name_length bytes) (drop 6 bytes)) (front_row bytes) f.text f.row o go rows e
 read_step bytes false has small o go rows e = none_read bytes rows (sym e)
 
 rows_read : (n : ℕ) (bytes : List ℕ) → AreBytes bytes → (rows : List Row) → rows_from n bytes ≡ Some rows → IsRead bytes rows
@@ -103,7 +110,8 @@ rows_read n [] small rows e = let same : [] ≡ rows = cc in subst (IsRead []) s
 rows_read zero (b ∷ bs) small rows e = none_read (b ∷ bs) rows (sym e)
 rows_read (suc n) (b ∷ bs) small rows e =
     let rest = drop (name_length (b ∷ bs)) (drop 6 (b ∷ bs)) in
-    read_step (b ∷ bs) (has_row (b ∷ bs)) refl small (rows_from n rest) (λ more h. rows_read n rest (drop_small (name_length (b ∷ bs)) (drop 6 (b ∷ bs)) (drop_small 6 (b ∷ bs) small)) more h) rows e
+    read_step (b ∷ bs) (has_row (b ∷ bs)) refl small (rows_from n rest)
+    (λ more h. rows_read n rest (drop_small (name_length (b ∷ bs)) (drop 6 (b ∷ bs)) (drop_small 6 (b ∷ bs) small)) more h) rows e
 
 ordered : (o : Option (List Row)) (rows : List Row) → in_order o ≡ Some rows → (o ≡ Some rows) × (is_sorted name_cmp rows ≡ true)
 ordered None rows e = let no' : ⊥ = cc in absurd no'
@@ -129,7 +137,8 @@ buckets_exact value rows stored = (bucket_form value rows stored, bucket_read va
 
 -- ---- sizes
 
-size_form : (bytes : List ℕ) (size : ℕ) (b c : Bool) → (length bytes == 8) ≡ b → nat_le (from_be_bytes w64 bytes) file_end ≡ c → AreBytes bytes → cond (b && c) (Some (from_be_bytes w64 bytes)) None ≡ Some size → IsSizeOf (Some bytes) size
+size_form : (bytes : List ℕ) (size : ℕ) (b c : Bool) → (length bytes == 8) ≡ b → nat_le (from_be_bytes w64 bytes) file_end ≡ c → AreBytes bytes
+    → cond (b && c) (Some (from_be_bytes w64 bytes)) None ≡ Some size → IsSizeOf (Some bytes) size
 size_form bytes size true true eight fit small e =
     let long : length bytes ≡ 8 = grind (arith, nat_tests) in
     let same : from_be_bytes w64 bytes ≡ size = cc in
@@ -145,7 +154,8 @@ form_of_size (Some (b ∷ bs)) size stored e = size_form (b ∷ bs) size (length
 size_read : (value : Content) (size : ℕ) → IsSizeOf value size → read_size value ≡ Some size
 size_read value size (inl h) = ap read_size h.0 ∙ ap Some (sym h.1)
 size_read value size (inr h) =
-    ap read_size h.0 ∙ ap (λ (m : ℕ). cond (nat_le m file_end) (Some m) None) (from_be_bytes-to_be_bytes_8 size (size_bound size h.1)) ∙ ap (λ (b : Bool). cond b (Some size) None) (at_most size file_end h.1)
+    ap read_size h.0 ∙ ap (λ (m : ℕ). cond (nat_le m file_end) (Some m) None) (from_be_bytes-to_be_bytes_8 size (size_bound size h.1))
+    ∙ ap (λ (b : Bool). cond b (Some size) None) (at_most size file_end h.1)
 
 pub sizes_exact : SizesAreExact
 sizes_exact value size stored = (form_of_size value size stored, size_read value size)

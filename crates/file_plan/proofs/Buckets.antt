@@ -67,7 +67,8 @@ rows_back (row ∷ rows) zero short all = absurd (omega (arith, short))
 rows_back (row ∷ rows) (suc n) short all =
     let e = length-append row.0 (rows_text rows) in
     let less : length (rows_text rows) ≤ n = omega (arith, e, short) in
-    ap (λ (b : Bool). cond b (with_row (front_row (rows_text (row ∷ rows))) (rows_from n (drop (length row.0) (row.0 ++ rows_text rows)))) None) (has_front row (rows_text rows) all.0.good)
+    ap (λ (b : Bool). cond b (with_row (front_row (rows_text (row ∷ rows))) (rows_from n (drop (length row.0) (row.0 ++ rows_text rows)))) None)
+    (has_front row (rows_text rows) all.0.good)
     ∙ ap (λ (r : Row). with_row r (rows_from n (drop (length row.0) (row.0 ++ rows_text rows)))) (front_is row (rows_text rows) all.0.ino)
     ∙ ap (λ (bytes : List ℕ). with_row row (rows_from n bytes)) (drop_at row.0 (rows_text rows) (length row.0) refl)
     ∙ ap (with_row row) (rows_back rows n less all.1)
@@ -85,7 +86,8 @@ forms : (kinds : Ino → Option Kind) (bucket : ℕ) (rows : List Row) → AllBy
 forms kinds bucket [] all = tt
 forms kinds bucket (row ∷ rows) all = (all.0.form, forms kinds bucket rows all.1)
 
-pub bucket_back : (kinds : Ino → Option Kind) (bucket : ℕ) (value : Content) (rows : List Row) → IsBucket kinds bucket value rows → read_bucket value ≡ Some rows
+pub bucket_back : (kinds : Ino → Option Kind) (bucket : ℕ) (value : Content) (rows : List Row) → IsBucket kinds bucket value rows
+    → read_bucket value ≡ Some rows
 bucket_back kinds bucket value rows is = bucket_read value rows (record { text = is.text; rising = is.rising; each = forms kinds bucket rows is.each })
 
 -- ---- what names lead to
@@ -105,7 +107,8 @@ pub name_itself : (a : Name) → eq_by_cmp name_cmp a a ≡ true
 name_itself a = ap is_eq (tied_itself name_total a)
 
 -- what holds of each entry holds of the one that a name leads to
-found_step : (P : Row → Type 0) (name : Name) (row : Row) (rest : Option Node) (t : Bool) → eq_by_cmp name_cmp name row.0 ≡ t → P row → IfSome rest (λ node. P (name, node)) → IfSome (cond t (Some row.1) rest) (λ node. P (name, node))
+found_step : (P : Row → Type 0) (name : Name) (row : Row) (rest : Option Node) (t : Bool) → eq_by_cmp name_cmp name row.0 ≡ t → P row
+    → IfSome rest (λ node. P (name, node)) → IfSome (cond t (Some row.1) rest) (λ node. P (name, node))
 found_step P name row rest true is here more = subst (λ (n : Name). P (n, row.1)) (sym (one_name name row.0 is)) here
 found_step P name row rest false is here more = more
 
@@ -115,30 +118,40 @@ named_each P name (row ∷ rows) all = found_step P name row (named name rows) (
 
 -- ---- an entry more
 
-pub named-insert : (q k : Name) (node : Node) (rows : List Row) → named q (insert_entry name_cmp rows k node) ≡ cond (eq_by_cmp name_cmp q k) (Some node) (named q rows)
+pub named-insert : (q k : Name) (node : Node) (rows : List Row)
+    → named q (insert_entry name_cmp rows k node) ≡ cond (eq_by_cmp name_cmp q k) (Some node) (named q rows)
 named-insert q k node rows = lookup-insert_entry name_total q k node rows
 
 pub rising-insert : (k : Name) (node : Node) (rows : List Row) → is_sorted name_cmp rows ≡ true → is_sorted name_cmp (insert_entry name_cmp rows k node) ≡ true
 rising-insert k node rows h =
-    ap (λ (rs : List Row). is_sorted name_cmp rs) (insert_entry-put name_cmp k node rows) ∙ from_T _ (is_sorted-put name_cmp name_total k node rows (is_T (is_sorted name_cmp rows) h))
+    ap (λ (rs : List Row). is_sorted name_cmp rs) (insert_entry-put name_cmp k node rows)
+    ∙ from_T _ (is_sorted-put name_cmp name_total k node rows (is_T (is_sorted name_cmp rows) h))
 
-pub all-insert : (P : Row → Type 0) (k : Name) (node : Node) (rows : List Row) → P (k, node) → AllByRecursion P rows → AllByRecursion P (insert_entry name_cmp rows k node)
+pub all-insert : (P : Row → Type 0) (k : Name) (node : Node) (rows : List Row) → P (k, node) → AllByRecursion P rows
+    → AllByRecursion P (insert_entry name_cmp rows k node)
 all-insert P k node [] here all = (here, tt)
 all-insert P k node (row ∷ rows) here all =
-    elim (name_cmp k row.0) as (λ (o : Ordering). name_cmp k row.0 ≡ o → AllByRecursion P (match_ordering o ((k, node) ∷ row ∷ rows) ((row.0, node) ∷ rows) (row ∷ insert_entry name_cmp rows k node))) [
+    elim (name_cmp k row.0) as
+    (λ (o : Ordering). name_cmp k row.0 ≡ o
+    → AllByRecursion P (match_ordering o ((k, node) ∷ row ∷ rows) ((row.0, node) ∷ rows) (row ∷ insert_entry name_cmp rows k node))) [
       | Less ↦ λ _. (here, all)
       | Equal ↦ λ e. (subst (λ (n : Name). P (n, node)) (one_name k row.0 (ap is_eq e)) here, all.1)
       | Greater ↦ λ _. (all.0, all-insert P k node rows here all.1)
     ] refl
 
 -- the bytes that an entry more takes
-pub length-insert : (k : Name) (node : Node) (rows : List Row) → named k rows ≡ None → length (rows_text (insert_entry name_cmp rows k node)) ≡ length (rows_text rows) + (6 + length k)
+pub length-insert : (k : Name) (node : Node) (rows : List Row) → named k rows ≡ None
+    → length (rows_text (insert_entry name_cmp rows k node)) ≡ length (rows_text rows) + (6 + length k)
 length-insert k node [] none = let nil : List ℕ = [] in let e = length-append k nil in omega (arith, e)
 length-insert k node (row ∷ rows) none =
-    elim (name_cmp k row.0) as (λ (o : Ordering). cond (is_eq o) (Some row.1) (named k rows) ≡ None → length (rows_text (match_ordering o ((k, node) ∷ row ∷ rows) ((row.0, node) ∷ rows) (row ∷ insert_entry name_cmp rows k node))) ≡ length (rows_text (row ∷ rows)) + (6 + length k)) [
+    elim (name_cmp k row.0) as
+    (λ (o : Ordering). cond (is_eq o) (Some row.1) (named k rows) ≡ None
+    → length (rows_text (match_ordering o ((k, node) ∷ row ∷ rows) ((row.0, node) ∷ rows) (row ∷ insert_entry name_cmp rows k node))) ≡ length
+    (rows_text (row ∷ rows)) + (6 + length k)) [
       | Less ↦ λ _. let e = length-append k (rows_text (row ∷ rows)) in omega (arith, e)
       | Equal ↦ λ h. let e : Some row.1 ≡ None = h in cc
-      | Greater ↦ λ h. let e = length-append row.0 (rows_text rows) in let f = length-append row.0 (rows_text (insert_entry name_cmp rows k node)) in omega (arith, e, f, length-insert k node rows h)
+      | Greater ↦ λ h. let e = length-append row.0 (rows_text rows) in let f =
+          length-append row.0 (rows_text (insert_entry name_cmp rows k node)) in omega (arith, e, f, length-insert k node rows h)
     ] none
 
 -- ---- an entry less
@@ -163,13 +176,15 @@ passed Greater row rest less none = absurd less
 pub none_below : (x q : Name) (rows : List Row) → q ≡ x → T (below_all name_cmp x rows) → named q rows ≡ None
 none_below x q [] same below = refl
 none_below x q (row ∷ rows) same below =
-    let less : T (is_lt (name_cmp q row.0)) = subst (λ (n : Name). T (is_lt (name_cmp n row.0))) (sym same) (first (is_lt (name_cmp x row.0)) (below_all name_cmp x rows) below) in
+    let less : T (is_lt (name_cmp q row.0)) =
+    subst (λ (n : Name). T (is_lt (name_cmp n row.0))) (sym same) (first (is_lt (name_cmp x row.0)) (below_all name_cmp x rows) below) in
     passed (name_cmp q row.0) row (named q rows) less (none_below x q rows same (second (is_lt (name_cmp x row.0)) (below_all name_cmp x rows) below))
 
 apart : (a b : Name) → a ≡ b → eq_by_cmp name_cmp a b ≡ false → true ≡ false
 apart a b same differ = sym (name_itself b) ∙ ap (λ (n : Name). eq_by_cmp name_cmp n b) (sym same) ∙ differ
 
-removed_step : (q k : Name) (row : Row) (rows : List Row) (less : Option Node) (t b c : Bool) → eq_by_cmp name_cmp k row.0 ≡ t → eq_by_cmp name_cmp q k ≡ b → eq_by_cmp name_cmp q row.0 ≡ c
+removed_step : (q k : Name) (row : Row) (rows : List Row) (less : Option Node) (t b c : Bool) → eq_by_cmp name_cmp k row.0 ≡ t → eq_by_cmp name_cmp q k ≡ b
+    → eq_by_cmp name_cmp q row.0 ≡ c
     → T (below_all name_cmp row.0 rows) → less ≡ cond b None (named q rows)
     → cond t (named q rows) (cond c (Some row.1) less) ≡ cond b None (cond c (Some row.1) (named q rows))
 removed_step q k row rows less true true c tk bk ck below h = none_below row.0 q rows (one_name q k bk ∙ one_name k row.0 tk) below
@@ -191,7 +206,8 @@ named-remove q k [] rising = none_either (eq_by_cmp name_cmp q k) None refl
 named-remove q k (row ∷ rows) rising =
     let below = first (below_all name_cmp row.0 rows) (is_sorted name_cmp rows) rising in
     let rest = named-remove q k rows (second (below_all name_cmp row.0 rows) (is_sorted name_cmp rows) rising) in
-    elim (eq_by_cmp name_cmp k row.0) as (λ (t : Bool). eq_by_cmp name_cmp k row.0 ≡ t → named q (cond t rows (row ∷ without k rows)) ≡ cond (eq_by_cmp name_cmp q k) None (named q (row ∷ rows))) [
+    elim (eq_by_cmp name_cmp k row.0) as
+    (λ (t : Bool). eq_by_cmp name_cmp k row.0 ≡ t → named q (cond t rows (row ∷ without k rows)) ≡ cond (eq_by_cmp name_cmp q k) None (named q (row ∷ rows))) [
       | true ↦ λ e. removed_step q k row rows (named q (without k rows)) true (eq_by_cmp name_cmp q k) (eq_by_cmp name_cmp q row.0) e refl refl below rest
       | false ↦ λ e. removed_step q k row rows (named q (without k rows)) false (eq_by_cmp name_cmp q k) (eq_by_cmp name_cmp q row.0) e refl refl below rest
     ] refl
@@ -201,7 +217,8 @@ below_removed x k [] h = h
 below_removed x k (row ∷ rows) h =
     elim (is_at (name_cmp k) row.0) as (λ t. T (below_all name_cmp x (cond t rows (row ∷ without k rows)))) [
       | true ↦ second (is_lt (name_cmp x row.0)) (below_all name_cmp x rows) h
-      | false ↦ both (is_lt (name_cmp x row.0)) _ (first (is_lt (name_cmp x row.0)) (below_all name_cmp x rows) h) (below_removed x k rows (second (is_lt (name_cmp x row.0)) (below_all name_cmp x rows) h))
+      | false ↦ both (is_lt (name_cmp x row.0)) _ (first (is_lt (name_cmp x row.0)) (below_all name_cmp x rows) h)
+          (below_removed x k rows (second (is_lt (name_cmp x row.0)) (below_all name_cmp x rows) h))
     ]
 
 pub rising-remove : (k : Name) (rows : List Row) → T (is_sorted name_cmp rows) → T (is_sorted name_cmp (without k rows))
@@ -217,4 +234,5 @@ rising-remove k (row ∷ rows) h =
 pub all-remove : (P : Row → Type 0) (k : Name) (rows : List Row) → AllByRecursion P rows → AllByRecursion P (without k rows)
 all-remove P k [] all = all
 all-remove P k (row ∷ rows) all =
-    elim (is_at (name_cmp k) row.0) as (λ t. AllByRecursion P (cond t rows (row ∷ without k rows))) [ true ↦ all.1 | false ↦ (all.0, all-remove P k rows all.1) ]
+    elim (is_at (name_cmp k) row.0) as (λ t. AllByRecursion P (cond t rows (row ∷ without k rows)))
+    [ true ↦ all.1 | false ↦ (all.0, all-remove P k rows all.1) ]

@@ -43,9 +43,11 @@ module _ (file : Ino) (end : ℕ) (Q : Post) (m : ℕ) where
 
   -- what more blocks need
   abbrev More : ℕ → Type 0
-  More n = (blk low : ℕ) (bytes : List ℕ) (w : World) → low < block_size → low + length bytes ≤ block_size * n → blk + n ≤ size_block → Later bytes (block_size * blk + low) w → Comes (twice n m) (filling file blk low bytes end) w Q
+  More n = (blk low : ℕ) (bytes : List ℕ) (w : World) → low < block_size → low + length bytes ≤ block_size * n → blk + n ≤ size_block
+      → Later bytes (block_size * blk + low) w → Comes (twice n m) (filling file blk low bytes end) w Q
 
-  whole : (n : ℕ) → More n → (blk : ℕ) (bytes : List ℕ) (w : World) → 0 < length bytes → block_size ≤ length bytes → 0 + length bytes ≤ block_size * suc n → blk + suc n ≤ size_block → Later bytes (block_size * blk + 0) w
+  whole : (n : ℕ) → More n → (blk : ℕ) (bytes : List ℕ) (w : World) → 0 < length bytes → block_size ≤ length bytes → 0 + length bytes ≤ block_size * suc n
+      → blk + suc n ≤ size_block → Later bytes (block_size * blk + 0) w
       → Comes (twice (suc n) m) (Fills file blk bytes end) w Q
   whole n more blk bytes w some full within room q =
       let data' : blk ≢ size_block = λ e. omega (arith, e, room) in
@@ -62,10 +64,12 @@ module _ (file : Ino) (end : ℕ) (Q : Post) (m : ℕ) where
       length-drop' : (bs : List ℕ) → length (drop block_size bs) ≡ length bs - block_size
       length-drop' bs = length-drop block_size bs
 
-      less : length (drop block_size bytes) ≡ length bytes - block_size → 0 + length bytes ≤ block_size * suc n → 0 + length (drop block_size bytes) ≤ block_size * n
+      less : length (drop block_size bytes) ≡ length bytes - block_size → 0 + length bytes ≤ block_size * suc n
+          → 0 + length (drop block_size bytes) ≤ block_size * n
       less e h = omega (arith, e, h)
 
-  part : (n : ℕ) → More n → (blk low : ℕ) (bytes : List ℕ) (w : World) → 0 < length bytes → low < block_size → low + length bytes ≤ block_size * suc n → blk + suc n ≤ size_block → Later bytes (block_size * blk + low) w
+  part : (n : ℕ) → More n → (blk low : ℕ) (bytes : List ℕ) (w : World) → 0 < length bytes → low < block_size → low + length bytes ≤ block_size * suc n
+      → blk + suc n ≤ size_block → Later bytes (block_size * blk + low) w
       → Comes (twice (suc n) m) (Takes file blk low bytes end) w Q
   part n more blk low bytes w some first within room q =
       let data' : blk ≢ size_block = λ e. omega (arith, e, room) in
@@ -80,11 +84,14 @@ module _ (file : Ino) (end : ℕ) (Q : Post) (m : ℕ) where
       (λ v f. q v (filled_more file blk low first data' bytes some w.value value (laid_over old low (take (block_size - low) bytes)) v.value f)))
 
   pub fills : (n : ℕ) → More n
-  fills n blk low [] w first within room q = more_steps m (twice n m) (Measures file (Raises end)) w Q (let e = twice_is n m in omega (arith, e)) (q w (filled_none file (block_size * blk + low) w.value))
+  fills n blk low [] w first within room q =
+      more_steps m (twice n m) (Measures file (Raises end)) w Q (let e = twice_is n m in omega (arith, e))
+      (q w (filled_none file (block_size * blk + low) w.value))
   fills zero blk low (b ∷ bs) w first within room q = absurd (omega (arith, within))
   fills (suc n) blk low (b ∷ bs) w first within room q = by (fills n) (low == 0) (nat_le block_size (length (b ∷ bs))) refl refl
     where
-      by : More n → (c d : Bool) → (low == 0) ≡ c → nat_le block_size (length (b ∷ bs)) ≡ d → Comes (twice (suc n) m) (cond (c && d) (Fills file blk (b ∷ bs) end) (Takes file blk low (b ∷ bs) end)) w Q
+      by : More n → (c d : Bool) → (low == 0) ≡ c → nat_le block_size (length (b ∷ bs)) ≡ d
+          → Comes (twice (suc n) m) (cond (c && d) (Fills file blk (b ∷ bs) end) (Takes file blk low (b ∷ bs) end)) w Q
       by more true true c d =
           let z : low ≡ 0 = grind (arith, nat_tests) in
           let full : block_size ≤ length (b ∷ bs) = grind (arith, nat_tests) in
@@ -96,7 +103,8 @@ module _ (file : Ino) (end : ℕ) (Q : Post) (m : ℕ) where
 -- ---- the file after it
 
 -- a byte of the file by its place, also past the file's end
-byte_of : (t : Table) (file : Ino) (size : ℕ) → IsFile t file size → (k : ℕ) → k / block_size ≢ size_block → get_or ((tree_of t).bytes file) k 0 ≡ byte_at t file k
+byte_of : (t : Table) (file : Ino) (size : ℕ) → IsFile t file size → (k : ℕ) → k / block_size ≢ size_block
+    → get_or ((tree_of t).bytes file) k 0 ≡ byte_at t file k
 byte_of t file size is k data' = ap (λ (n : ℕ). get_or (cells t file 0 n) k 0) (size_is t file size is) ∙ by (le_cases size k)
   where
     inside : k < size → get_or (cells t file 0 size) k 0 ≡ byte_at t file k
@@ -107,9 +115,11 @@ byte_of t file size is k data' = ap (λ (n : ℕ). get_or (cells t file 0 n) k 0
         let l = length-map-range_with_len (byte_at t file) 0 size in
         let blk = is.blocks (k / block_size) data' in
         let le' : length (cells t file 0 size) ≤ k = omega (arith, l, le) in
-        get_or_past (cells t file 0 size) k 0 le' ∙ sym (get_or_past (bytes_in (t file (k / block_size))) (k % block_size) 0 (short (eq_cases (length (bytes_in (t file (k / block_size)))) 0)))
+        get_or_past (cells t file 0 size) k 0 le'
+        ∙ sym (get_or_past (bytes_in (t file (k / block_size))) (k % block_size) 0 (short (eq_cases (length (bytes_in (t file (k / block_size)))) 0)))
       where
-        short : (length (bytes_in (t file (k / block_size))) ≡ 0) ⊎ (length (bytes_in (t file (k / block_size))) ≢ 0) → length (bytes_in (t file (k / block_size))) ≤ k % block_size
+        short : (length (bytes_in (t file (k / block_size))) ≡ 0) ⊎ (length (bytes_in (t file (k / block_size))) ≢ 0)
+            → length (bytes_in (t file (k / block_size))) ≤ k % block_size
         short (inl e) = omega (arith, e)
         short (inr e) = let g = (is.blocks (k / block_size) data').below (omega (arith, e)) in omega (arith, g, le)
 
@@ -122,7 +132,8 @@ byte_of t file size is k data' = ap (λ (n : ℕ). get_or (cells t file 0 n) k 0
         edge (inr e) = inside (omega (arith, le, e))
 
 -- the bytes of the file are the old ones with the new ones over them
-bytes_over : (t v u : Table) (file : Ino) (size later offset : ℕ) (new : List ℕ) → IsFile t file size → Filled file offset new t v → IsFile u file later → ((b : ℕ) → b ≢ size_block → u file b ≡ v file b)
+bytes_over : (t v u : Table) (file : Ino) (size later offset : ℕ) (new : List ℕ) → IsFile t file size → Filled file offset new t v → IsFile u file later
+    → ((b : ℕ) → b ≢ size_block → u file b ≡ v file b)
     → later ≡ max size (offset + length new) → (tree_of u).bytes file ≡ overlaid ((tree_of t).bytes file) offset new
 bytes_over t v u file size later offset new is filled now same both =
     ap (λ (n : ℕ). cells u file 0 n) (size_is u file later now)
@@ -151,19 +162,25 @@ bytes_over t v u file size later offset new is filled now same both =
 raised : (size end b : ℕ) (value : Content) → size ≤ end → IsBlock size b value → IsBlock end b value
 raised size end b value le is = record { short = is.short; below = λ some. let g = is.below some in omega (arith, g, le) }
 
-module _ (kinds : Ino → Option Kind) (w : World) (sound : Sound kinds w.value) (file : Ino) (k : kinds file ≡ Some kind.File) (size : ℕ) (is : IsFile w.value file size) where
-  put_meets_tree : (bytes : List ℕ) (u : Table) (later : ℕ) → ((i : Ino) (b : ℕ) → i ≢ file → u i b ≡ w.value i b) → IsFile u file later → (tree_of u).bytes file ≡ bytes
+module _ (kinds : Ino → Option Kind) (w : World) (sound : Sound kinds w.value) (file : Ino) (k : kinds file ≡ Some kind.File) (size : ℕ)
+    (is : IsFile w.value file size) where
+  put_meets_tree : (bytes : List ℕ) (u : Table) (later : ℕ) → ((i : Ino) (b : ℕ) → i ≢ file → u i b ≡ w.value i b) → IsFile u file later
+      → (tree_of u).bytes file ≡ bytes
       → Meets kinds w.value (answered (with_bytes (tree_of w.value) file bytes) Done) Done u
   put_meets_tree bytes u later others now same = record {
     said = refl;
     sound = sound_file kinds w.value sound file k u others later now;
-    held = record { entries = λ d q i. entries_file kinds w.value sound file k u others d q i; bytes = λ f i. bytes_file kinds w.value sound file k u others bytes same f };
+    held = record {
+      entries = λ d q i. entries_file kinds w.value sound file k u others d q i;
+      bytes = λ f i. bytes_file kinds w.value sound file k u others bytes same f;
+    };
     others = λ i b z. others_file kinds w.value sound file k u others i b z;
   }
 
   -- the size is read, and written where it grows
   grows : (offset : ℕ) (new : List ℕ) → 0 < length new → offset + length new ≤ file_end → (v : World) → Filled file offset new w.value v.value
-      → Comes 2 (Measures file (Raises (offset + length new))) v (Owes kinds w.value (answered (with_bytes (tree_of w.value) file (overlaid ((tree_of w.value).bytes file) offset new)) Done))
+      → Comes 2 (Measures file (Raises (offset + length new))) v
+      (Owes kinds w.value (answered (with_bytes (tree_of w.value) file (overlaid ((tree_of w.value).bytes file) offset new)) Done))
   grows offset new some fits v filled =
       measures_read v file size (ap read_size filled.sized ∙ stored_size w.value file size is) (Raises end) 1 Q (by (nat_le end size) refl)
     where
@@ -176,7 +193,8 @@ module _ (kinds : Ino → Option Kind) (w : World) (sound : Sound kinds w.value)
       by : (b : Bool) → nat_le end size ≡ b → Comes 1 (cond b (Ends Done) (Grows file end (v.ver file size_block))) v Q
       by true e =
           let le : offset + length new ≤ size = grind (arith, nat_tests) in
-          let now : IsFile v.value file size = record { stored = filled.sized ∙ is.stored; bound = is.bound; blocks = λ b n. filled.blocks size (λ _. le) b n (is.blocks b n) } in
+          let now : IsFile v.value file size =
+          record { stored = filled.sized ∙ is.stored; bound = is.bound; blocks = λ b n. filled.blocks size (λ _. le) b n (is.blocks b n) } in
           put_meets_tree (overlaid ((tree_of w.value).bytes file) offset new) v.value size filled.others now
           (bytes_over w.value v.value v.value file size size offset new is filled now (λ b n. refl) (omega (arith, le)))
       by false e =
@@ -185,18 +203,24 @@ module _ (kinds : Ino → Option Kind) (w : World) (sound : Sound kinds w.value)
           let now : IsFile u file end = record {
             stored = put_here v.value file size_block (size_content end);
             bound = fits;
-            blocks = λ b n. subst (IsBlock end b) (sym (put_beside v.value file size_block (size_content end) file b n)) (filled.blocks end (λ _. omega arith) b n (raised size end b (w.value file b) (omega (arith, le)) (is.blocks b n)));
+            blocks = λ b n. subst (IsBlock end b) (sym (put_beside v.value file size_block (size_content end) file b n))
+                (filled.blocks end (λ _. omega arith) b n (raised size end b (w.value file b) (omega (arith, le)) (is.blocks b n)));
           } in
-          written_at v file size_block (v.ver file size_block) (size_content end) (λ a x. Comes 0 (after_answer (Grows file end (v.ver file size_block)) a) x Q) refl
-          (put_meets_tree (overlaid ((tree_of w.value).bytes file) offset new) u end (λ i b h. put_other v.value file size_block (size_content end) i b h ∙ filled.others i b h) now
-          (bytes_over w.value v.value u file size end offset new is filled now (λ b n. put_beside v.value file size_block (size_content end) file b n) (omega (arith, le))))
+          written_at v file size_block (v.ver file size_block) (size_content end)
+          (λ a x. Comes 0 (after_answer (Grows file end (v.ver file size_block)) a) x Q) refl
+          (put_meets_tree (overlaid ((tree_of w.value).bytes file) offset new) u end
+          (λ i b h. put_other v.value file size_block (size_content end) i b h ∙ filled.others i b h) now
+          (bytes_over w.value v.value u file size end offset new is filled now (λ b n. put_beside v.value file size_block (size_content end) file b n)
+          (omega (arith, le))))
 
   pub puts : (offset : ℕ) (new : List ℕ) → offset + length new ≤ file_end
       → Comes (twice (blocks_of (length new) + 1) 2) (filling file (offset / block_size) (offset % block_size) new (end_of offset new)) w
       (Owes kinds w.value (answered (with_bytes (tree_of w.value) file (bytes_after ((tree_of w.value).bytes file) offset new)) Done))
   puts offset [] fits =
       more_steps 1 (twice (blocks_of 0 + 1) 2) (Measures file (Raises 0)) w Q (let e = twice_is (blocks_of 0 + 1) 2 in omega (arith, e))
-      (measures w file size is (Raises 0) 0 Q (subst (λ (b : Bool). Comes 0 (cond b (Ends Done) (Grows file 0 (w.ver file size_block))) w Q) (sym nothing) (put_meets_tree ((tree_of w.value).bytes file) w.value size (λ i b h. refl) is refl)))
+      (measures w file size is (Raises 0) 0 Q
+      (subst (λ (b : Bool). Comes 0 (cond b (Ends Done) (Grows file 0 (w.ver file size_block))) w Q) (sym nothing)
+      (put_meets_tree ((tree_of w.value).bytes file) w.value size (λ i b h. refl) is refl)))
     where
       Q : Post
       Q = Owes kinds w.value (answered (with_bytes (tree_of w.value) file ((tree_of w.value).bytes file)) Done)
@@ -208,7 +232,8 @@ module _ (kinds : Ino → Option Kind) (w : World) (sound : Sound kinds w.value)
       let within : offset % block_size + length (b ∷ bs) ≤ block_size * (blocks_of (length (b ∷ bs)) + 1) = omega (arith, first) in
       let room : offset / block_size + (blocks_of (length (b ∷ bs)) + 1) ≤ size_block = omega (arith, fits) in
       let whole_offset : block_size * (offset / block_size) + offset % block_size ≡ offset = omega arith in
-      fills file (offset + length (b ∷ bs)) (Owes kinds w.value (answered (with_bytes (tree_of w.value) file (overlaid ((tree_of w.value).bytes file) offset (b ∷ bs))) Done)) 2
+      fills file (offset + length (b ∷ bs))
+      (Owes kinds w.value (answered (with_bytes (tree_of w.value) file (overlaid ((tree_of w.value).bytes file) offset (b ∷ bs))) Done)) 2
       (blocks_of (length (b ∷ bs)) + 1) (offset / block_size) (offset % block_size) (b ∷ bs) w first within room
       (λ v f. grows offset (b ∷ bs) (omega arith) fits v (subst (λ (n : ℕ). Filled file n (b ∷ bs) w.value v.value) whole_offset f))
 
@@ -217,11 +242,15 @@ module _ (kinds : Ino → Option Kind) (w : World) (sound : Sound kinds w.value)
   steps = twice (blocks_of (length bytes) + 1) 2
 
   abbrev put_of : Node → Outcome
-  put_of node = cond (nat_lt file_end (offset + length bytes)) (refused (tree_of w.value) TooBig) (answered (with_bytes (tree_of w.value) node.ino (bytes_after ((tree_of w.value).bytes node.ino) offset bytes)) Done)
+  put_of node =
+      cond (nat_lt file_end (offset + length bytes)) (refused (tree_of w.value) TooBig)
+      (answered (with_bytes (tree_of w.value) node.ino (bytes_after ((tree_of w.value).bytes node.ino) offset bytes)) Done)
 
   put_sized : (node : Node) → kinds node.ino ≡ Some kind.File → (b : Bool) → nat_lt file_end (offset + length bytes) ≡ b
       → Comes steps (cond b (Ends (File TooBig)) (filling node.ino (offset / block_size) (offset % block_size) bytes (end_of offset bytes))) w
-      (Owes kinds w.value (cond b (refused (tree_of w.value) TooBig) (answered (with_bytes (tree_of w.value) node.ino (bytes_after ((tree_of w.value).bytes node.ino) offset bytes)) Done)))
+      (Owes kinds w.value
+      (cond b (refused (tree_of w.value) TooBig)
+      (answered (with_bytes (tree_of w.value) node.ino (bytes_after ((tree_of w.value).bytes node.ino) offset bytes)) Done)))
   put_sized node k true big = refuses_with kinds kinds w sound sound steps TooBig
   put_sized node k false small =
       let f = sound.files node.ino k in
@@ -231,7 +260,10 @@ module _ (kinds : Ino → Option Kind) (w : World) (sound : Sound kinds w.value)
       at_most n m h = grind (arith, nat_tests)
 
   put_node : (name : Name) (node : Node) (b : Bool) → is_directory node ≡ b → IsEntry kinds (bucket_number name) (name, node)
-      → Comes steps (cond b (Ends (File IsDir)) (cond (nat_lt file_end (offset + length bytes)) (Ends (File TooBig)) (filling node.ino (offset / block_size) (offset % block_size) bytes (end_of offset bytes)))) w
+      → Comes steps
+      (cond b (Ends (File IsDir))
+      (cond (nat_lt file_end (offset + length bytes)) (Ends (File TooBig))
+      (filling node.ino (offset / block_size) (offset % block_size) bytes (end_of offset bytes)))) w
       (Owes kinds w.value (cond b (refused (tree_of w.value) IsDir) (put_of node)))
   put_node name node true d entry = refuses_with kinds kinds w sound sound steps IsDir
   put_node name node false d entry = put_sized node (entry.kept ∙ ap Some (file_is node d)) (nat_lt file_end (offset + length bytes)) refl

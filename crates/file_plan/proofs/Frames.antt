@@ -86,11 +86,14 @@ module _ {X : Type 0} (f : Ino → ℕ → X) (ino : Ino) (blk : ℕ) (x : X) wh
       either false t e = refl
 
 -- a write over the version that was read is made
-pub written_at : (w : World) (ino : Ino) (blk ver : ℕ) (value : Content) (more : BlockAnswer → World → Type 0) → w.ver ino blk ≡ ver → more (Written (suc ver)) (write w ino blk value)
+pub written_at : (w : World) (ino : Ino) (blk ver : ℕ) (value : Content) (more : BlockAnswer → World → Type 0) → w.ver ino blk ≡ ver
+    → more (Written (suc ver)) (write w ino blk value)
     → more (serve w (PutAt (block_at ino blk) ver value)).answer (serve w (PutAt (block_at ino blk) ver value)).world
 written_at w ino blk ver value more same h = by (w.ver ino blk == ver) (ap (λ (n : ℕ). n == ver) same ∙ same_true ver)
   where
-    by : (b : Bool) → b ≡ true → (λ (s : Served). more s.answer s.world) (cond b (record { answer = Written (suc ver); world = write w ino blk value }) (record { answer = Changed; world = w }))
+    by : (b : Bool) → b ≡ true
+        → (λ (s : Served). more s.answer s.world)
+        (cond b (record { answer = Written (suc ver); world = write w ino blk value }) (record { answer = Changed; world = w }))
     by true e = h
     by false e = let g : false ≡ true = e in cc
 
@@ -98,7 +101,8 @@ written_at w ino blk ver value more same h = by (w.ver ino blk == ver) (ap (λ (
 
 pub bytes_same : (t u : Table) (file : Ino) → ((blk : ℕ) → u file blk ≡ t file blk) → (tree_of u).bytes file ≡ (tree_of t).bytes file
 bytes_same t u file same =
-    ap (λ (r : ℕ → Content). map (λ n. get_or (bytes_in (r (n / block_size))) (n % block_size) 0) (range_with_len 0 (unwrap_or (read_size (r size_block)) 0))) (λ i blk. same blk i)
+    ap (λ (r : ℕ → Content). map (λ n. get_or (bytes_in (r (n / block_size))) (n % block_size) 0) (range_with_len 0 (unwrap_or (read_size (r size_block)) 0)))
+    (λ i blk. same blk i)
 
 pub file_same : (t u : Table) (file : Ino) (size : ℕ) → ((blk : ℕ) → u file blk ≡ t file blk) → IsFile t file size → IsFile u file size
 file_same t u file size same is = record {
@@ -112,7 +116,8 @@ apart_kinds kinds a b m n p q h e = h (sym p ∙ ap kinds e ∙ q)
 
 -- ---- one bucket is written
 
-module _ (kinds : Ino → Option Kind) (t : Table) (sound : Sound kinds t) (dir : Ino) (is : kinds dir ≡ Some kind.Directory) (bucket : ℕ) (rows : List Row) (before : IsBucket kinds bucket (t dir bucket) rows)
+module _ (kinds : Ino → Option Kind) (t : Table) (sound : Sound kinds t) (dir : Ino) (is : kinds dir ≡ Some kind.Directory) (bucket : ℕ) (rows : List Row)
+    (before : IsBucket kinds bucket (t dir bucket) rows)
     (now : List Row) (after : IsBucket kinds bucket (content_of (rows_text now)) now) where
   abbrev pub with_rows : Table
   with_rows = put_at t dir bucket (content_of (rows_text now))
@@ -123,10 +128,19 @@ module _ (kinds : Ino → Option Kind) (t : Table) (sound : Sound kinds t) (dir 
   pub file_beside : (ino : Ino) (n : Option Kind) → kinds ino ≡ n → n ≢ Some kind.Directory → (blk : ℕ) → with_rows ino blk ≡ t ino blk
   file_beside ino n k other blk = put_other t dir bucket (content_of (rows_text now)) ino blk (apart_kinds kinds ino dir n (Some kind.Directory) k is other)
 
-  bucket_of : (d : Ino) (k : ℕ) → kinds d ≡ Some kind.Directory → k < 8 → (d ≡ dir) ⊎ (d ≢ dir) → (k ≡ bucket) ⊎ (k ≢ bucket) → (r : List Row) × IsBucket kinds k (with_rows d k) r
-  bucket_of d k i small (inl e) (inl g) = (now, subst (λ (d' : Ino). IsBucket kinds k (with_rows d' k) now) (sym e) (subst (λ (k' : ℕ). IsBucket kinds k' (with_rows dir k') now) (sym g) bucket_now))
-  bucket_of d k i small (inl e) (inr g) = let old = sound.directories d k i small in (old.0, subst (λ (v : Content). IsBucket kinds k v old.0) (sym (put_beside t dir bucket (content_of (rows_text now)) d k g)) old.1)
-  bucket_of d k i small (inr e) g = let old = sound.directories d k i small in (old.0, subst (λ (v : Content). IsBucket kinds k v old.0) (sym (put_other t dir bucket (content_of (rows_text now)) d k e)) old.1)
+  bucket_of : (d : Ino) (k : ℕ) → kinds d ≡ Some kind.Directory → k < 8 → (d ≡ dir) ⊎ (d ≢ dir) → (k ≡ bucket) ⊎ (k ≢ bucket)
+      → (r : List Row) × IsBucket kinds k (with_rows d k) r
+  bucket_of d k i small (inl e) (inl g) = (
+    now,
+    subst (λ (d' : Ino). IsBucket kinds k (with_rows d' k) now) (sym e)
+        (subst (λ (k' : ℕ). IsBucket kinds k' (with_rows dir k') now) (sym g) bucket_now),
+  )
+  bucket_of d k i small (inl e) (inr g) = let old =
+      sound.directories d k i small in
+      (old.0, subst (λ (v : Content). IsBucket kinds k v old.0) (sym (put_beside t dir bucket (content_of (rows_text now)) d k g)) old.1)
+  bucket_of d k i small (inr e) g = let old =
+      sound.directories d k i small in
+      (old.0, subst (λ (v : Content). IsBucket kinds k v old.0) (sym (put_other t dir bucket (content_of (rows_text now)) d k e)) old.1)
 
   pub sound_now : Sound kinds with_rows
   sound_now = record {
@@ -136,33 +150,40 @@ module _ (kinds : Ino → Option Kind) (t : Table) (sound : Sound kinds t) (dir 
   }
 
   -- what names lead to, where the bucket is as before but for one name
-  pub entries_now : (name : Name) (r : Option Node) → bucket_number name ≡ bucket → ((q : Name) → named q now ≡ cond (eq_by_cmp name_cmp q name) r (named q rows))
+  pub entries_now : (name : Name) (r : Option Node) → bucket_number name ≡ bucket
+      → ((q : Name) → named q now ≡ cond (eq_by_cmp name_cmp q name) r (named q rows))
       → (d : Ino) (q : Name) → (tree_of with_rows).entries d q ≡ (with_entry (tree_of t) dir name r).entries d q
   entries_now name r own change d q = by (ino_cases d dir) (eq_cases (bucket_number q) bucket)
     where
       value : Content
       value = content_of (rows_text now)
 
-      elsewhere : with_rows d (bucket_number q) ≡ t d (bucket_number q) → eq_by_cmp name_cmp q name ≡ false → (tree_of with_rows).entries d q ≡ (with_entry (tree_of t) dir name r).entries d q
+      elsewhere : with_rows d (bucket_number q) ≡ t d (bucket_number q) → eq_by_cmp name_cmp q name ≡ false
+          → (tree_of with_rows).entries d q ≡ (with_entry (tree_of t) dir name r).entries d q
       elsewhere same other = ap (λ (v : Content). named q (rows_of v)) same ∙ sym (never (same_ino d dir) (eq_by_cmp name_cmp q name) other)
         where
           never : (s b : Bool) → b ≡ false → cond (s && b) r ((tree_of t).entries d q) ≡ (tree_of t).entries d q
           never true b e = ap (λ (u : Bool). cond u r ((tree_of t).entries d q)) e
           never false b e = refl
 
-      otherwise : with_rows d (bucket_number q) ≡ t d (bucket_number q) → d ≢ dir → (tree_of with_rows).entries d q ≡ (with_entry (tree_of t) dir name r).entries d q
-      otherwise same other = ap (λ (v : Content). named q (rows_of v)) same ∙ sym (ap (λ (b : Bool). cond (b && eq_by_cmp name_cmp q name) r ((tree_of t).entries d q)) (ino_differs d dir other))
+      otherwise : with_rows d (bucket_number q) ≡ t d (bucket_number q) → d ≢ dir
+          → (tree_of with_rows).entries d q ≡ (with_entry (tree_of t) dir name r).entries d q
+      otherwise same other =
+          ap (λ (v : Content). named q (rows_of v)) same
+          ∙ sym (ap (λ (b : Bool). cond (b && eq_by_cmp name_cmp q name) r ((tree_of t).entries d q)) (ino_differs d dir other))
 
       differs : (b : Bool) → eq_by_cmp name_cmp q name ≡ b → bucket_number q ≢ bucket → b ≡ false
       differs true e h = absurd (h (ap bucket_number (one_name q name e) ∙ own))
       differs false e h = refl
 
-      by : (d ≡ dir) ⊎ (d ≢ dir) → (bucket_number q ≡ bucket) ⊎ (bucket_number q ≢ bucket) → (tree_of with_rows).entries d q ≡ (with_entry (tree_of t) dir name r).entries d q
+      by : (d ≡ dir) ⊎ (d ≢ dir) → (bucket_number q ≡ bucket) ⊎ (bucket_number q ≢ bucket)
+          → (tree_of with_rows).entries d q ≡ (with_entry (tree_of t) dir name r).entries d q
       by (inl e) (inl g) =
           let old = entries_are kinds t dir bucket rows before q g in
           ap (λ (d' : Ino). (tree_of with_rows).entries d' q) e ∙ entries_are kinds with_rows dir bucket now bucket_now q g ∙ change q
           ∙ ap (λ (o : Option Node). cond (eq_by_cmp name_cmp q name) r o) (sym old ∙ ap (λ (d' : Ino). (tree_of t).entries d' q) (sym e))
-          ∙ ap (λ (b : Bool). cond (b && eq_by_cmp name_cmp q name) r ((tree_of t).entries d q)) (sym (ino_itself dir) ∙ ap (λ (d' : Ino). same_ino d' dir) (sym e))
+          ∙ ap (λ (b : Bool). cond (b && eq_by_cmp name_cmp q name) r ((tree_of t).entries d q))
+          (sym (ino_itself dir) ∙ ap (λ (d' : Ino). same_ino d' dir) (sym e))
       by (inl e) (inr g) = elsewhere (put_beside t dir bucket value d (bucket_number q) g) (differs (eq_by_cmp name_cmp q name) refl g)
       by (inr e) g = otherwise (put_other t dir bucket value d (bucket_number q) e) e
 
@@ -173,12 +194,16 @@ length_content [] = refl
 length_content (b ∷ bs) = refl
 
 -- an entry more fits where the bucket has room
-pub room_is : (kinds : Ino → Option Kind) (t : Table) (dir : Ino) (name : Name) (rows : List Row) (node : Node) → IsBucket kinds (bucket_number name) (t dir (bucket_number name)) rows → named name rows ≡ None
+pub room_is : (kinds : Ino → Option Kind) (t : Table) (dir : Ino) (name : Name) (rows : List Row) (node : Node)
+    → IsBucket kinds (bucket_number name) (t dir (bucket_number name)) rows → named name rows ≡ None
     → fits (insert_entry name_cmp rows name node) ≡ has_room t dir name
 room_is kinds t dir name rows node is none =
-    ap (λ (n : ℕ). nat_le n block_size) (length-insert name node rows none ∙ ap (λ (n : ℕ). n + (6 + length name)) (sym (ap (λ (v : Content). length (bytes_in v)) is.text ∙ length_content (rows_text rows))))
+    ap (λ (n : ℕ). nat_le n block_size)
+    (length-insert name node rows none
+    ∙ ap (λ (n : ℕ). n + (6 + length name)) (sym (ap (λ (v : Content). length (bytes_in v)) is.text ∙ length_content (rows_text rows))))
 
-pub bucket_more : (kinds : Ino → Option Kind) (bucket : ℕ) (value : Content) (name : Name) (rows : List Row) (node : Node) → IsBucket kinds bucket value rows → IsEntry kinds bucket (name, node)
+pub bucket_more : (kinds : Ino → Option Kind) (bucket : ℕ) (value : Content) (name : Name) (rows : List Row) (node : Node) → IsBucket kinds bucket value rows
+    → IsEntry kinds bucket (name, node)
     → IsBucket kinds bucket (content_of (rows_text (insert_entry name_cmp rows name node))) (insert_entry name_cmp rows name node)
 bucket_more kinds bucket value name rows node is entry = record {
   text = refl;
@@ -205,16 +230,19 @@ kept_itself = kept_here
 kept_else : (kinds : Ino → Option Kind) (ino : Ino) (made : Kind) (i : Ino) → i ≢ ino → kept_as kinds ino made i ≡ kinds i
 kept_else kinds ino made i h = ap (λ (b : Bool). cond b (Some made) (kinds i)) (ino_differs i ino h)
 
-entry_kept : (kinds : Ino → Option Kind) (t : Table) (ino : Ino) (made : Kind) → IsFresh kinds t ino → (bucket : ℕ) (row : Row) → IsEntry kinds bucket row → IsEntry (kept_as kinds ino made) bucket row
+entry_kept : (kinds : Ino → Option Kind) (t : Table) (ino : Ino) (made : Kind) → IsFresh kinds t ino → (bucket : ℕ) (row : Row) → IsEntry kinds bucket row
+    → IsEntry (kept_as kinds ino made) bucket row
 entry_kept kinds t ino made fresh bucket row is = record {
   form = is.form;
   own = is.own;
   kept = kept_else kinds ino made row.1.ino (apart_kinds kinds row.1.ino ino (Some row.1.kind) None is.kept fresh.nobody (some_nobody row.1.kind)) ∙ is.kept;
 }
 
-entries_kept : (kinds : Ino → Option Kind) (t : Table) (ino : Ino) (made : Kind) → IsFresh kinds t ino → (bucket : ℕ) (rows : List Row) → AllByRecursion (IsEntry kinds bucket) rows → AllByRecursion (IsEntry (kept_as kinds ino made) bucket) rows
+entries_kept : (kinds : Ino → Option Kind) (t : Table) (ino : Ino) (made : Kind) → IsFresh kinds t ino → (bucket : ℕ) (rows : List Row)
+    → AllByRecursion (IsEntry kinds bucket) rows → AllByRecursion (IsEntry (kept_as kinds ino made) bucket) rows
 entries_kept kinds t ino made fresh bucket [] all = tt
-entries_kept kinds t ino made fresh bucket (row ∷ rows) all = (entry_kept kinds t ino made fresh bucket row all.0, entries_kept kinds t ino made fresh bucket rows all.1)
+entries_kept kinds t ino made fresh bucket (row ∷ rows) all =
+    (entry_kept kinds t ino made fresh bucket row all.0, entries_kept kinds t ino made fresh bucket rows all.1)
 
 pub no_file : (t : Table) (file : Ino) → ((blk : ℕ) → t file blk ≡ None) → IsFile t file 0
 no_file t file none = record {
@@ -225,12 +253,15 @@ no_file t file none = record {
 
 pub sound_kept : (kinds : Ino → Option Kind) (t : Table) (ino : Ino) (made : Kind) → Sound kinds t → IsFresh kinds t ino → Sound (kept_as kinds ino made) t
 sound_kept kinds t ino made sound fresh = record {
-  root_is_directory = kept_else kinds ino made root (apart_kinds kinds root ino (Some kind.Directory) None sound.root_is_directory fresh.nobody (some_nobody kind.Directory)) ∙ sound.root_is_directory;
+  root_is_directory =
+      kept_else kinds ino made root (apart_kinds kinds root ino (Some kind.Directory) None sound.root_is_directory fresh.nobody (some_nobody kind.Directory))
+      ∙ sound.root_is_directory;
   directories = λ d k i small. directory d k i small (ino_cases d ino);
   files = λ f i. file f i (ino_cases f ino);
 }
   where
-    directory : (d : Ino) (k : ℕ) → kept_as kinds ino made d ≡ Some kind.Directory → k < 8 → (d ≡ ino) ⊎ (d ≢ ino) → (rows : List Row) × IsBucket (kept_as kinds ino made) k (t d k) rows
+    directory : (d : Ino) (k : ℕ) → kept_as kinds ino made d ≡ Some kind.Directory → k < 8 → (d ≡ ino) ⊎ (d ≢ ino)
+        → (rows : List Row) × IsBucket (kept_as kinds ino made) k (t d k) rows
     directory d k i small (inl e) = ([], record { text = ap (λ (d' : Ino). t d' k) e ∙ fresh.unwritten k; rising = refl; each = tt })
     directory d k i small (inr e) =
         let old = sound.directories d k (sym (kept_else kinds ino made d e) ∙ i) small in

@@ -57,14 +57,17 @@ rests : (x : Next) (w : World) (Q R : Post) → ((given : Answer) (now : World) 
 rests (Reply answer) w Q R f h = f answer w h
 rests (Step call) w Q R f h = h
 
-goes : (x : Next) (w : World) (Q R : Post) (more later : BlockAnswer → World → Type 0) → ((given : Answer) (now : World) → Q given now → R given now) → ((a : BlockAnswer) (v : World) → more a v → later a v) → GoesOn x w Q more → GoesOn x w R later
+goes : (x : Next) (w : World) (Q R : Post) (more later : BlockAnswer → World → Type 0) → ((given : Answer) (now : World) → Q given now → R given now)
+    → ((a : BlockAnswer) (v : World) → more a v → later a v) → GoesOn x w Q more → GoesOn x w R later
 goes (Reply answer) w Q R more later f g h = f answer w h
 goes (Step call) w Q R more later f g h = g (serve w call).answer (serve w call).world h
 
-weaker : (p : List BlockAnswer → Next) (n : ℕ) (answers : List BlockAnswer) (w : World) (Q R : Post) → ((given : Answer) (now : World) → Q given now → R given now) → Replies p n answers w Q → Replies p n answers w R
+weaker : (p : List BlockAnswer → Next) (n : ℕ) (answers : List BlockAnswer) (w : World) (Q R : Post)
+    → ((given : Answer) (now : World) → Q given now → R given now) → Replies p n answers w Q → Replies p n answers w R
 weaker p zero answers w Q R f h = rests (p answers) w Q R f h
 weaker p (suc n) answers w Q R f h =
-    goes (p answers) w Q R (λ a v. Replies p n (answers ++ a ∷ []) v Q) (λ a v. Replies p n (answers ++ a ∷ []) v R) f (λ a v g. weaker p n (answers ++ a ∷ []) v Q R f g) h
+    goes (p answers) w Q R (λ a v. Replies p n (answers ++ a ∷ []) v Q) (λ a v. Replies p n (answers ++ a ∷ []) v R) f
+    (λ a v g. weaker p n (answers ++ a ∷ []) v Q R f g) h
 
 -- numbers of different items differ, and fit
 made_fits : (number client : ℕ) → number ≤ 20000 → client ≤ 8 → (made_by number client).0 < 2 ^ 32
@@ -101,8 +104,10 @@ kinds_else kinds ino (call.Ls path) i h = refl
 kinds_else kinds ino (call.Rm path) i h = refl
 kinds_else kinds ino (call.Mv from to) i h = refl
 
-still_fresh : (kinds : Ino → Option Kind) (t u : Table) (item : Item) → 1 ≤ item.client → item.client ≤ 8 → ((i : Ino) (b : ℕ) → kinds_after kinds (made_of item) item.call i ≡ None → u i b ≡ t i b)
-    → (items : List Item) → AreItems items → AllByRecursion (λ other. (other.number ≡ item.number) × (other.client ≡ item.client) → ⊥) items → AreFresh kinds t items → AreFresh (kinds_after kinds (made_of item) item.call) u items
+still_fresh : (kinds : Ino → Option Kind) (t u : Table) (item : Item) → 1 ≤ item.client → item.client ≤ 8
+    → ((i : Ino) (b : ℕ) → kinds_after kinds (made_of item) item.call i ≡ None → u i b ≡ t i b)
+    → (items : List Item) → AreItems items → AllByRecursion (λ other. (other.number ≡ item.number) × (other.client ≡ item.client) → ⊥) items
+    → AreFresh kinds t items → AreFresh (kinds_after kinds (made_of item) item.call) u items
 still_fresh kinds t u item lc hc others [] are apart fresh = tt
 still_fresh kinds t u item lc hc others (other ∷ items) are apart fresh =
     let differ = made_apart item.number item.client other.number other.client lc hc are.1 are.2 apart.0 in
@@ -111,7 +116,8 @@ still_fresh kinds t u item lc hc others (other ∷ items) are apart fresh =
       still_fresh kinds t u item lc hc others items are.4 apart.1 fresh.1,
     )
 
-all_meet : (items : List Item) (kinds : Ino → Option Kind) (w : World) → AreItems items → Sound kinds w.value → AreFresh kinds w.value items → AllMeet kinds w items
+all_meet : (items : List Item) (kinds : Ino → Option Kind) (w : World) → AreItems items → Sound kinds w.value → AreFresh kinds w.value items
+    → AllMeet kinds w items
 all_meet [] kinds w are sound fresh = sound
 all_meet (item ∷ items) kinds w are sound fresh =
     weaker (plan item.call item.number item.client) (most_steps item.call) [] w _ _

@@ -42,7 +42,8 @@ either false x y f g = g refl
 -- ---- what is read
 
 -- the entries that are read take as many bytes as they were read from
-is_read_more : (bytes : List ℕ) → has_row bytes ≡ true → (o : Option (List Row)) → ((more : List Row) → o ≡ Some more → length (rows_text more) ≡ length (rest_of_rows bytes)) → (rows : List Row)
+is_read_more : (bytes : List ℕ) → has_row bytes ≡ true → (o : Option (List Row))
+    → ((more : List Row) → o ≡ Some more → length (rows_text more) ≡ length (rest_of_rows bytes)) → (rows : List Row)
     → with_row (front_row bytes) o ≡ Some rows → length (rows_text rows) ≡ length bytes
 is_read_more bytes has None go rows e = let no' : ⊥ = cc in absurd no'
 is_read_more bytes has (Some more) go rows e =
@@ -55,7 +56,8 @@ is_read_more bytes has (Some more) go rows e =
     let f = length-append (take (name_length bytes) (drop 6 bytes)) (rows_text more) in
     subst (λ (rs : List Row). length (rows_text rs) ≡ length bytes) same (omega (arith, long, a, b, c, d, f))
 
-is_read_step : (bytes : List ℕ) (b : Bool) → has_row bytes ≡ b → (o : Option (List Row)) → ((more : List Row) → o ≡ Some more → length (rows_text more) ≡ length (rest_of_rows bytes)) → (rows : List Row)
+is_read_step : (bytes : List ℕ) (b : Bool) → has_row bytes ≡ b → (o : Option (List Row))
+    → ((more : List Row) → o ≡ Some more → length (rows_text more) ≡ length (rest_of_rows bytes)) → (rows : List Row)
     → cond b (with_row (front_row bytes) o) None ≡ Some rows → length (rows_text rows) ≡ length bytes
 is_read_step bytes true has o go rows e = is_read_more bytes has o go rows e
 is_read_step bytes false has o go rows e = let no' : ⊥ = cc in absurd no'
@@ -114,7 +116,8 @@ length_cut bytes low count =
 
 -- ---- places in a file
 
-in_filling : (ino : Ino) (blk low : ℕ) (bytes : List ℕ) (end : ℕ) → low < block_size → (0 < length bytes → block_size * blk + low + length bytes ≤ file_end) → IsInRange (filling ino blk low bytes end)
+in_filling : (ino : Ino) (blk low : ℕ) (bytes : List ℕ) (end : ℕ) → low < block_size → (0 < length bytes → block_size * blk + low + length bytes ≤ file_end)
+    → IsInRange (filling ino blk low bytes end)
 in_filling ino blk low [] end first last = tt
 in_filling ino blk low (b ∷ bs) end first last =
     let le : block_size * blk + low + length (b ∷ bs) ≤ file_end = last (omega arith) in
@@ -122,7 +125,8 @@ in_filling ino blk low (b ∷ bs) end first last =
     (λ _. record { some = omega arith; within = record { first = omega arith; last = omega (arith, le) } })
     (λ _. record { some = omega arith; within = record { first = first; last = le } })
 
-in_fetching : (ino : Ino) (blk low left : ℕ) (got : List ℕ) → low < block_size → (0 < left → block_size * blk + low + left ≤ file_end) → length got + left ≤ file_end → IsInRange (fetching ino blk low left got)
+in_fetching : (ino : Ino) (blk low left : ℕ) (got : List ℕ) → low < block_size → (0 < left → block_size * blk + low + left ≤ file_end)
+    → length got + left ≤ file_end → IsInRange (fetching ino blk low left got)
 in_fetching ino blk low zero got first last all = tt
 in_fetching ino blk low (suc left) got first last all = (record { first = first; last = last (omega arith) }, all)
 
@@ -143,12 +147,15 @@ in_measured ino (Cuts offset len) ver (Some size) le =
     in_fetching ino (offset / block_size) (offset % block_size) (min len (size - offset)) [] first (λ some. omega (arith, some, le)) all
 in_measured ino (Raises end) ver (Some size) le = either (nat_le end size) (Ends Done) (Grows ino end ver) (λ _. tt) (λ _. tt)
 in_measured ino Clears ver (Some size) le =
-    let few : 0 + blocks_of size ≤ 256 = omega (arith, le) in either (size == 0) (Ends Done) (emptying ino 0 (blocks_of size) ver) (λ _. tt) (λ _. in_emptying ino 0 (blocks_of size) ver few)
+    let few : 0 + blocks_of size ≤ 256 =
+    omega (arith, le) in either (size == 0) (Ends Done) (emptying ino 0 (blocks_of size) ver) (λ _. tt) (λ _. in_emptying ino 0 (blocks_of size) ver few)
 
 in_putting : (ino : Ino) (offset : ℕ) (bytes : List ℕ) → IsInRange (putting ino offset bytes)
 in_putting ino offset bytes =
-    either (nat_lt file_end (offset + length bytes)) (Ends (File TooBig)) (filling ino (offset / block_size) (offset % block_size) bytes (end_of offset bytes)) (λ _. tt)
-    (λ e. let le : offset + length bytes ≤ file_end = at_most (offset + length bytes) e in in_filling ino (offset / block_size) (offset % block_size) bytes (end_of offset bytes) (omega arith) (λ some. omega (arith, le)))
+    either (nat_lt file_end (offset + length bytes)) (Ends (File TooBig)) (filling ino (offset / block_size) (offset % block_size) bytes (end_of offset bytes))
+    (λ _. tt)
+    (λ e. let le : offset + length bytes ≤ file_end = at_most (offset + length bytes) e in
+    in_filling ino (offset / block_size) (offset % block_size) bytes (end_of offset bytes) (omega arith) (λ some. omega (arith, le)))
   where
     at_most : (n : ℕ) → nat_lt file_end n ≡ false → n ≤ file_end
     at_most n h = below file_end n h
@@ -182,7 +189,8 @@ module _ (dir : Ino) (name : Name) (ver : ℕ) (rows : List Row) (short : length
   in_entering : (node : Node) (job : Job) → IsInRange (entering dir name ver rows node job)
   in_entering node job =
       either (fits now) (Enters dir name ver now node.ino job) (Ends (File DirFull))
-      (λ e. let le : length (rows_text now) ≤ block_size = at_most (length (rows_text now)) block_size e in is_value (rows_text now) (omega (arith, le))) (λ _. tt)
+      (λ e. let le : length (rows_text now) ≤ block_size = at_most (length (rows_text now)) block_size e in is_value (rows_text now) (omega (arith, le)))
+      (λ _. tt)
     where
       now : List Row
       now = insert_entry name_cmp rows name node
@@ -198,11 +206,13 @@ module _ (dir : Ino) (name : Name) (ver : ℕ) (rows : List Row) (short : length
   in_at_entry (Puts offset bytes) node = in_putting node.ino offset bytes
   in_at_entry (Gets offset len) node = tt
   in_at_entry Sizes node = tt
-  in_at_entry Lists node = either (is_directory node) (gathering node.ino 0 8 []) (Ends (File NotDir)) (λ _. in_gathering node.ino 0 8 [] (omega arith)) (λ _. tt)
+  in_at_entry Lists node =
+      either (is_directory node) (gathering node.ino 0 8 []) (Ends (File NotDir)) (λ _. in_gathering node.ino 0 8 [] (omega arith)) (λ _. tt)
   in_at_entry Removes node = in_leaving node.ino Removes
   in_at_entry (Moves to) node = in_path to Exists (Links node dir name)
   in_at_entry (Links linked from old) node = tt
-  in_at_entry (Unlinks old) node = either (same_node old node) (leaving dir name ver rows node.ino (Unlinks old)) (Ends Done) (λ _. in_leaving node.ino (Unlinks old)) (λ _. tt)
+  in_at_entry (Unlinks old) node =
+      either (same_node old node) (leaving dir name ver rows node.ino (Unlinks old)) (Ends Done) (λ _. in_leaving node.ino (Unlinks old)) (λ _. tt)
 
   in_unfound : (job : Job) → IsInRange (unfound dir name ver rows job)
   in_unfound (Makes made) = in_entering made (Makes made)
@@ -217,7 +227,8 @@ module _ (dir : Ino) (name : Name) (ver : ℕ) (rows : List Row) (short : length
 
   in_looked_at : (job : Job) (o : Option Node) → IsInRange (looked_at dir name ver rows job o)
   in_looked_at job None = in_unfound job
-  in_looked_at job (Some node) = either (needs_file job && is_directory node) (Ends (File IsDir)) (at_entry dir name ver rows job node) (λ _. tt) (λ _. in_at_entry job node)
+  in_looked_at job (Some node) =
+      either (needs_file job && is_directory node) (Ends (File IsDir)) (at_entry dir name ver rows job node) (λ _. tt) (λ _. in_at_entry job node)
 
 in_looked : (dir : Ino) (name : Name) (ver : ℕ) (job : Job) (o : Option (List Row)) → Short o → IsInRange (looked dir name ver job o)
 in_looked dir name ver job None short = tt
@@ -250,7 +261,8 @@ in_got (Fetches ino blk low left got) ver value is h =
     let all = h.1 in
     let e = length-append got (cut_of (bytes_in value) low k) in
     let f = length_cut (bytes_in value) low k in
-    in_fetching ino (blk + 1) 0 (left - k) (got ++ cut_of (bytes_in value) low k) (omega arith) (λ some. omega (arith, first, last, some)) (omega (arith, all, e, f))
+    in_fetching ino (blk + 1) 0 (left - k) (got ++ cut_of (bytes_in value) low k) (omega arith) (λ some. omega (arith, first, last, some))
+    (omega (arith, all, e, f))
 in_got (Fills ino blk bytes end) ver value is h = h
 in_got (Takes ino blk low bytes end) ver value is h = h
 in_got (Patches ino blk low bytes end v old) ver value is h = h

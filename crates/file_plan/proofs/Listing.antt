@@ -50,9 +50,11 @@ rising-insert_all rows [] h = h
 rising-insert_all rows (row ∷ more) h = rising-insert_all (insert_entry name_cmp rows row.0 row.1) more (rising-insert row.0 row.1 rows h)
 
 -- what a name leads to, by the entries of its bucket
-pub entries_are : (kinds : Ino → Option Kind) (t : Table) (dir : Ino) (bucket : ℕ) (rows : List Row) → IsBucket kinds bucket (t dir bucket) rows → (name : Name) → bucket_number name ≡ bucket → (tree_of t).entries dir name ≡ named name rows
+pub entries_are : (kinds : Ino → Option Kind) (t : Table) (dir : Ino) (bucket : ℕ) (rows : List Row) → IsBucket kinds bucket (t dir bucket) rows → (name : Name)
+    → bucket_number name ≡ bucket → (tree_of t).entries dir name ≡ named name rows
 entries_are kinds t dir bucket rows is name own =
-    ap (λ (k : ℕ). named name (rows_of (t dir k))) own ∙ ap (λ (o : Option (List Row)). named name (unwrap_or o [])) (bucket_back kinds bucket (t dir bucket) rows is)
+    ap (λ (k : ℕ). named name (rows_of (t dir k))) own
+    ∙ ap (λ (o : Option (List Row)). named name (unwrap_or o [])) (bucket_back kinds bucket (t dir bucket) rows is)
 
 lt_true : (n m : ℕ) → n < m → nat_lt n m ≡ true
 lt_true n m h = grind (arith, nat_tests)
@@ -70,7 +72,8 @@ absent : (o : Option Node) (P : Type 0) → IfSome o (λ _. P) → (P → ⊥) �
 absent None P h no' = refl
 absent (Some node) P h no' = absurd (no' h)
 
-own_only : (kinds : Ino → Option Kind) (bucket : ℕ) (name : Name) (o : Option Node) → IfSome o (λ node. IsEntry kinds bucket (name, node)) → IfSome o (λ _. bucket_number name ≡ bucket)
+own_only : (kinds : Ino → Option Kind) (bucket : ℕ) (name : Name) (o : Option Node) → IfSome o (λ node. IsEntry kinds bucket (name, node))
+    → IfSome o (λ _. bucket_number name ≡ bucket)
 own_only kinds bucket name None h = tt
 own_only kinds bucket name (Some node) h = h.own
 
@@ -78,7 +81,8 @@ own_only kinds bucket name (Some node) h = h.own
 abbrev IsSoFar : Tree → Ino → ℕ → List Row → Type 0
 IsSoFar tree dir blk rows = (name : Name) → named name rows ≡ cond (nat_lt (bucket_number name) blk) (tree.entries dir name) None
 
-one_more : (kinds : Ino → Option Kind) (t : Table) (dir : Ino) (blk : ℕ) (rows more : List Row) → IsBucket kinds blk (t dir blk) more → IsSoFar (tree_of t) dir blk rows → IsSoFar (tree_of t) dir (blk + 1) (insert_all rows more)
+one_more : (kinds : Ino → Option Kind) (t : Table) (dir : Ino) (blk : ℕ) (rows more : List Row) → IsBucket kinds blk (t dir blk) more
+    → IsSoFar (tree_of t) dir blk rows → IsSoFar (tree_of t) dir (blk + 1) (insert_all rows more)
 one_more kinds t dir blk rows more is so_far name =
     let b = bucket_number name in
     let E = (tree_of t).entries dir name in
@@ -108,10 +112,20 @@ module _ (kinds later : Ino → Option Kind) (w : World) (sound : Sound kinds w.
   abbrev shows : Ino → Outcome
   shows dir = record { said = Shows dir; tree = tree_of w.value }
 
-  gathers : (dir : Ino) → kinds dir ≡ Some kind.Directory → (left blk : ℕ) (rows : List Row) → blk + left ≡ 8 → is_sorted name_cmp rows ≡ true → IsSoFar (tree_of w.value) dir blk rows
+  gathers : (dir : Ino) → kinds dir ≡ Some kind.Directory → (left blk : ℕ) (rows : List Row) → blk + left ≡ 8 → is_sorted name_cmp rows ≡ true
+      → IsSoFar (tree_of w.value) dir blk rows
       → Comes left (gathering dir blk left rows) w (Owes later w.value (shows dir))
   gathers dir is zero blk rows eight rising so_far = record {
-    said = (rows, record { rising = rising; all = λ name. let l : bucket_number name < blk = omega (arith, eight, bucket_small name) in so_far name ∙ ap (λ (t : Bool). cond t ((tree_of w.value).entries dir name) None) (lt_true (bucket_number name) blk l) }, refl);
+    said = (
+      rows,
+      record {
+        rising = rising;
+        all = λ name. let l : bucket_number name < blk =
+            omega (arith, eight, bucket_small name) in
+            so_far name ∙ ap (λ (t : Bool). cond t ((tree_of w.value).entries dir name) None) (lt_true (bucket_number name) blk l);
+      },
+      refl,
+    );
     sound = after;
     held = record { entries = λ d name i. refl; bytes = λ file i. refl };
     others = λ ino blk i. refl;
@@ -120,11 +134,13 @@ module _ (kinds later : Ino → Option Kind) (w : World) (sound : Sound kinds w.
       let small : blk < 8 = omega (arith, eight) in
       let b = sound.directories dir blk is small in
       let more : blk + 1 + left ≡ 8 = omega (arith, eight) in
-      subst (λ (o : Option (List Row)). Comes left (gathered dir blk left rows o) w (Owes later w.value (shows dir))) (sym (bucket_back kinds blk (w.value dir blk) b.0 b.1))
+      subst (λ (o : Option (List Row)). Comes left (gathered dir blk left rows o) w (Owes later w.value (shows dir)))
+      (sym (bucket_back kinds blk (w.value dir blk) b.0 b.1))
       (gathers dir is left (blk + 1) (insert_all rows b.0) more (rising-insert_all rows b.0 rising) (one_more kinds w.value dir blk rows b.0 b.1 so_far))
 
   nothing_yet : (dir : Ino) → IsSoFar (tree_of w.value) dir 0 []
-  nothing_yet dir name = let l : 0 ≤ bucket_number name = omega arith in ap (λ (t : Bool). cond t ((tree_of w.value).entries dir name) None) (sym (lt_false (bucket_number name) 0 l))
+  nothing_yet dir name = let l : 0 ≤ bucket_number name =
+      omega arith in ap (λ (t : Bool). cond t ((tree_of w.value).entries dir name) None) (sym (lt_false (bucket_number name) 0 l))
 
   gathers_all : (dir : Ino) → kinds dir ≡ Some kind.Directory → Comes 8 (gathering dir 0 8 []) w (Owes later w.value (shows dir))
   gathers_all dir is = gathers dir is 8 0 [] refl refl (nothing_yet dir)
@@ -143,7 +159,8 @@ module _ (kinds later : Ino → Option Kind) (w : World) (sound : Sound kinds w.
   lists [] good = gathers_all root sound.root_is_directory
   lists (name ∷ rest) good =
       by_path kinds later w sound after Lists 8 IsDir (λ dir last. shown_of (tree_of w.value) ((tree_of w.value).entries dir last)) (λ dir last is _.
-      looks kinds later w sound after Lists 8 (shown_of (tree_of w.value)) dir last is (λ rows bucket o e entry. list_found dir last rows (w.ver dir (bucket_number last)) o entry))
+      looks kinds later w sound after Lists 8 (shown_of (tree_of w.value)) dir last is
+      (λ rows bucket o e entry. list_found dir last rows (w.ver dir (bucket_number last)) o entry))
       (name ∷ rest) good
 
 pub ls_meets : (path : List Name) → MeetsTree (call.Ls path)

@@ -22,7 +22,8 @@ pub ended : (n : ℕ) (answer : Answer) (w : World) (Q : Post) → Q answer w �
 ended zero answer w Q q = q
 ended (suc n) answer w Q q = q
 
-goes : (x : Next) (w : World) (Q : Post) (more later : BlockAnswer → World → Type 0) → ((a : BlockAnswer) (v : World) → more a v → later a v) → GoesOn x w Q more → GoesOn x w Q later
+goes : (x : Next) (w : World) (Q : Post) (more later : BlockAnswer → World → Type 0) → ((a : BlockAnswer) (v : World) → more a v → later a v)
+    → GoesOn x w Q more → GoesOn x w Q later
 goes (Reply answer) w Q more later f h = h
 goes (Step call) w Q more later f h = f (serve w call).answer (serve w call).world h
 
@@ -36,17 +37,20 @@ more_steps zero (suc m) s w Q le h = rests_goes (next_call s) w Q (λ a v. Comes
 more_steps (suc n) zero s w Q le h = absurd (omega arith)
 more_steps (suc n) (suc m) s w Q le h =
     let less : n ≤ m = omega arith in
-    goes (next_call s) w Q (λ a v. Comes n (after_answer s a) v Q) (λ a v. Comes m (after_answer s a) v Q) (λ a v g. more_steps n m (after_answer s a) v Q less g) h
+    goes (next_call s) w Q (λ a v. Comes n (after_answer s a) v Q) (λ a v. Comes m (after_answer s a) v Q)
+    (λ a v g. more_steps n m (after_answer s a) v Q less g) h
 
 after_last : (s : PlanState) (answers : List BlockAnswer) (a : BlockAnswer) → after_all s (answers ++ a ∷ []) ≡ after_answer (after_all s answers) a
 after_last s [] a = refl
 after_last s (b ∷ answers) a = after_last (after_answer s b) answers a
 
 -- what holds state by state holds of the plan over the answers
-pub replies : (s : PlanState) (n : ℕ) (answers : List BlockAnswer) (w : World) (Q : Post) → Comes n (after_all s answers) w Q → Replies (λ as'. next_call (after_all s as')) n answers w Q
+pub replies : (s : PlanState) (n : ℕ) (answers : List BlockAnswer) (w : World) (Q : Post) → Comes n (after_all s answers) w Q
+    → Replies (λ as'. next_call (after_all s as')) n answers w Q
 replies s zero answers w Q h = h
 replies s (suc n) answers w Q h =
-    goes (next_call (after_all s answers)) w Q (λ a v. Comes n (after_answer (after_all s answers) a) v Q) (λ a v. Replies (λ as'. next_call (after_all s as')) n (answers ++ a ∷ []) v Q)
+    goes (next_call (after_all s answers)) w Q (λ a v. Comes n (after_answer (after_all s answers) a) v Q)
+    (λ a v. Replies (λ as'. next_call (after_all s as')) n (answers ++ a ∷ []) v Q)
     (λ a v g. replies s n (answers ++ a ∷ []) v Q (subst (λ (t : PlanState). Comes n t v Q) (sym (after_last s answers a)) g)) h
 
 -- n more steps after one for each name

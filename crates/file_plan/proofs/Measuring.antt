@@ -49,21 +49,27 @@ pub length_is : (t : Table) (file : Ino) (size : ℕ) → IsFile t file size →
 length_is t file size is = length-map-range_with_len (byte_at t file) 0 (size_of t file) ∙ size_is t file size is
 
 -- the size of a file is read
-pub measures : (w : World) (file : Ino) (size : ℕ) → IsFile w.value file size → (task : Task) (n : ℕ) (Q : Post) → Comes n (measured_as file task (w.ver file size_block) size) w Q → Comes (suc n) (Measures file task) w Q
-measures w file size is task n Q h = subst (λ (o : Option ℕ). Comes n (measured file task (w.ver file size_block) o) w Q) (sym (stored_size w.value file size is)) h
+pub measures : (w : World) (file : Ino) (size : ℕ) → IsFile w.value file size → (task : Task) (n : ℕ) (Q : Post)
+    → Comes n (measured_as file task (w.ver file size_block) size) w Q → Comes (suc n) (Measures file task) w Q
+measures w file size is task n Q h =
+    subst (λ (o : Option ℕ). Comes n (measured file task (w.ver file size_block) o) w Q) (sym (stored_size w.value file size is)) h
 
 module _ (kinds later : Ino → Option Kind) (w : World) (sound : Sound kinds w.value) (after : Sound later w.value) where
-  size_node : (dir : Ino) (name : Name) (rows : List Row) (ver : ℕ) (node : Node) (b : Bool) → is_directory node ≡ b → IsEntry kinds (bucket_number name) (name, node)
-      → Comes 1 (cond b (Ends (File IsDir)) (Measures node.ino Tells)) w (Owes later w.value (cond b (refused (tree_of w.value) IsDir) (answered (tree_of w.value) (Size (length ((tree_of w.value).bytes node.ino))))))
+  size_node : (dir : Ino) (name : Name) (rows : List Row) (ver : ℕ) (node : Node) (b : Bool) → is_directory node ≡ b
+      → IsEntry kinds (bucket_number name) (name, node)
+      → Comes 1 (cond b (Ends (File IsDir)) (Measures node.ino Tells)) w
+      (Owes later w.value (cond b (refused (tree_of w.value) IsDir) (answered (tree_of w.value) (Size (length ((tree_of w.value).bytes node.ino))))))
   size_node dir name rows ver node true is entry = refuses_with kinds later w sound after 1 IsDir
   size_node dir name rows ver node false is entry =
       let f = sound.files node.ino (entry.kept ∙ ap Some (file_is node is)) in
       let Q = Owes later w.value (answered (tree_of w.value) (Size (length ((tree_of w.value).bytes node.ino)))) in
       measures w node.ino f.0 f.1 Tells 0 Q
-      (ended 0 (Size f.0) w Q (unchanged_as later w.value (Size (length ((tree_of w.value).bytes node.ino))) (Size f.0) (ap Size (sym (length_is w.value node.ino f.0 f.1))) after))
+      (ended 0 (Size f.0) w Q
+      (unchanged_as later w.value (Size (length ((tree_of w.value).bytes node.ino))) (Size f.0) (ap Size (sym (length_is w.value node.ino f.0 f.1))) after))
 
   size_found : (dir : Ino) (name : Name) (rows : List Row) (ver : ℕ) (o : Option Node) → IfSome o (λ node. IsEntry kinds (bucket_number name) (name, node))
-      → Comes 1 (looked_at dir name ver rows Sizes o) w (Owes later w.value (of_file (tree_of w.value) (λ node. answered (tree_of w.value) (Size (length ((tree_of w.value).bytes node.ino)))) o))
+      → Comes 1 (looked_at dir name ver rows Sizes o) w
+      (Owes later w.value (of_file (tree_of w.value) (λ node. answered (tree_of w.value) (Size (length ((tree_of w.value).bytes node.ino)))) o))
   size_found dir name rows ver None entry = refuses_with kinds later w sound after 1 NoEntry
   size_found dir name rows ver (Some node) entry = size_node dir name rows ver node (is_directory node) refl entry
 
@@ -73,7 +79,8 @@ size_meets path kinds w number client sound fresh =
     replies (start (call.Size path) ino) (length path + 1) [] w _
     (named_first kinds kinds w sound sound (call.Size path) ino (length path + 1) (λ good.
     by_path kinds kinds w sound sound Sizes 1 IsDir (does_size (tree_of w.value)) (λ dir name is _.
-    looks kinds kinds w sound sound Sizes 1 (of_file (tree_of w.value) (λ node. answered (tree_of w.value) (Size (length ((tree_of w.value).bytes node.ino))))) dir name is
+    looks kinds kinds w sound sound Sizes 1
+    (of_file (tree_of w.value) (λ node. answered (tree_of w.value) (Size (length ((tree_of w.value).bytes node.ino))))) dir name is
     (λ rows bucket o e entry. size_found kinds kinds w sound sound dir name rows (w.ver dir (bucket_number name)) o entry))
     path good))
 
@@ -92,7 +99,8 @@ range_parts a zero l = ap (λ (n : ℕ). range_with_len a n) (zero_plus l) ∙ a
     plus_zero : (n : ℕ) → n ≡ n + zero
     plus_zero n = omega arith
 range_parts a (suc k) l =
-    ap (λ (n : ℕ). range_with_len a n) (suc_plus k l) ∙ ap (λ (r : List ℕ). a ∷ r) (range_parts (a + 1) k l) ∙ ap (λ (b : ℕ). a ∷ (range_with_len (a + 1) k ++ range_with_len b l)) (shift a k)
+    ap (λ (n : ℕ). range_with_len a n) (suc_plus k l) ∙ ap (λ (r : List ℕ). a ∷ r) (range_parts (a + 1) k l)
+    ∙ ap (λ (b : ℕ). a ∷ (range_with_len (a + 1) k ++ range_with_len b l)) (shift a k)
   where
     suc_plus : (m n : ℕ) → suc m + n ≡ suc (m + n)
     suc_plus m n = omega arith
@@ -111,13 +119,15 @@ padded_at (b ∷ bytes) n zero = refl
 padded_at (b ∷ bytes) n (suc i) = padded_at bytes n i
 
 -- a byte by its block and its place in the block
-pub byte_in : (t : Table) (file : Ino) (blk low i : ℕ) → low + i < block_size → byte_at t file (block_size * blk + low + i) ≡ get_or (bytes_in (t file blk)) (low + i) 0
+pub byte_in : (t : Table) (file : Ino) (blk low i : ℕ) → low + i < block_size
+    → byte_at t file (block_size * blk + low + i) ≡ get_or (bytes_in (t file blk)) (low + i) 0
 byte_in t file blk low i h =
     let d : (block_size * blk + low + i) / block_size ≡ blk = omega arith in
     let m : (block_size * blk + low + i) % block_size ≡ low + i = omega arith in
     ap (λ (k : ℕ). get_or (bytes_in (t file k)) ((block_size * blk + low + i) % block_size) 0) d ∙ ap (λ (j : ℕ). get_or (bytes_in (t file blk)) j 0) m
 
-pub cut_is : (t : Table) (file : Ino) (blk low count : ℕ) → low + count ≤ block_size → cut_of (bytes_in (t file blk)) low count ≡ cells t file (block_size * blk + low) count
+pub cut_is : (t : Table) (file : Ino) (blk low count : ℕ) → low + count ≤ block_size
+    → cut_of (bytes_in (t file blk)) low count ≡ cells t file (block_size * blk + low) count
 cut_is t file blk low count h =
     let bytes = bytes_in (t file blk) in
     let gap = count - (length bytes - low) in
@@ -141,9 +151,11 @@ cells_from : (t : Table) (file : Ino) (a b n : ℕ) → (0 < n → a ≡ b) → 
 cells_from t file a b zero same = refl
 cells_from t file a b (suc n) same = let e : a ≡ b = same (omega arith) in ap (λ (from : ℕ). cells t file from (suc n)) e
 
-fetch_step : (t : Table) (file : Ino) (a k l m b : ℕ) (got cut : List ℕ) → m ≡ k + l → cut ≡ cells t file a k → (0 < l → a + k ≡ b) → got ++ cells t file a m ≡ (got ++ cut) ++ cells t file b l
+fetch_step : (t : Table) (file : Ino) (a k l m b : ℕ) (got cut : List ℕ) → m ≡ k + l → cut ≡ cells t file a k → (0 < l → a + k ≡ b)
+    → got ++ cells t file a m ≡ (got ++ cut) ++ cells t file b l
 fetch_step t file a k l m b got cut em ec eb =
-    ap (λ (n : ℕ). got ++ cells t file a n) em ∙ ap (λ (bs : List ℕ). got ++ bs) (cells_parts t file a k l) ∙ ap (λ (bs : List ℕ). got ++ (cells t file a k ++ bs)) (cells_from t file (a + k) b l eb)
+    ap (λ (n : ℕ). got ++ cells t file a n) em ∙ ap (λ (bs : List ℕ). got ++ bs) (cells_parts t file a k l)
+    ∙ ap (λ (bs : List ℕ). got ++ (cells t file a k ++ bs)) (cells_from t file (a + k) b l eb)
     ∙ ap (λ (bs : List ℕ). got ++ (bs ++ cells t file b l)) (sym ec) ∙ sym (append_assoc got cut (cells t file b l))
 
 -- the wanted bytes are read block by block
@@ -161,10 +173,13 @@ fetches w file Q (suc n) blk low (suc left) got in_first within q =
     let rest : 0 + l ≤ block_size * n = omega (arith, within, in_first) in
     let eb : 0 < l → block_size * blk + low + k ≡ block_size * (blk + 1) + 0 = λ (some : 0 < l). omega (arith, in_first, some) in
     fetches w file Q n (blk + 1) 0 l (got ++ cut_of (bytes_in (w.value file blk)) low k) first rest
-    (subst (λ (bs : List ℕ). Q (Bytes bs) w) (fetch_step w.value file (block_size * blk + low) k l (suc left) (block_size * (blk + 1) + 0) got (cut_of (bytes_in (w.value file blk)) low k) em (cut_is w.value file blk low k fit) eb) q)
+    (subst (λ (bs : List ℕ). Q (Bytes bs) w)
+    (fetch_step w.value file (block_size * blk + low) k l (suc left) (block_size * (blk + 1) + 0) got (cut_of (bytes_in (w.value file blk)) low k) em
+    (cut_is w.value file blk low k fit) eb) q)
 
 take_cells : (t : Table) (file : Ino) (a n m : ℕ) → (n ≤ m) ⊎ (m ≤ n) → take n (cells t file a m) ≡ cells t file a (min n m)
-take_cells t file a n m (inl le) = let e : n ≡ min n m = omega (arith, le) in take-map-range_with_len (byte_at t file) a m n le ∙ ap (λ (k : ℕ). cells t file a k) e
+take_cells t file a n m (inl le) = let e : n ≡ min n m =
+    omega (arith, le) in take-map-range_with_len (byte_at t file) a m n le ∙ ap (λ (k : ℕ). cells t file a k) e
 take_cells t file a n m (inr le) =
     let e : m ≡ min n m = omega (arith, le) in let f = length-map-range_with_len (byte_at t file) a m in
     let g : length (cells t file a m) ≤ n = omega (arith, f, le) in take_all n (cells t file a m) g ∙ ap (λ (k : ℕ). cells t file a k) e
@@ -173,7 +188,8 @@ drop_cells : (t : Table) (file : Ino) (n m : ℕ) → (n ≤ m) ⊎ (m ≤ n) �
 drop_cells t file n m (inl le) =
     let e : m ≡ n + (m - n) = omega (arith, le) in
     let z : 0 + n ≡ n = omega arith in
-    ap (λ (k : ℕ). drop n (cells t file 0 k)) e ∙ ap (drop n) (cells_parts t file 0 n (m - n)) ∙ drop_at (cells t file 0 n) (cells t file (0 + n) (m - n)) n (length-map-range_with_len (byte_at t file) 0 n) ∙ ap (λ (a : ℕ). cells t file a (m - n)) z
+    ap (λ (k : ℕ). drop n (cells t file 0 k)) e ∙ ap (drop n) (cells_parts t file 0 n (m - n))
+    ∙ drop_at (cells t file 0 n) (cells t file (0 + n) (m - n)) n (length-map-range_with_len (byte_at t file) 0 n) ∙ ap (λ (a : ℕ). cells t file a (m - n)) z
 drop_cells t file n m (inr le) =
     let e : 0 ≡ m - n = omega (arith, le) in let f = length-map-range_with_len (byte_at t file) 0 m in
     let g : length (cells t file 0 m) ≤ n = omega (arith, f, le) in drop_all n (cells t file 0 m) g ∙ ap (λ (k : ℕ). cells t file n k) e
@@ -187,14 +203,16 @@ cut_bytes : (t : Table) (file : Ino) (size offset len : ℕ) → IsFile t file s
 cut_bytes t file size offset len is =
     let a : block_size * (offset / block_size) + offset % block_size ≡ offset = omega arith in
     ap (λ (from : ℕ). cells t file from (min len (size - offset))) a ∙ sym (take_cells t file offset len (size - offset) (le_cases len (size - offset)))
-    ∙ ap (take len) (sym (drop_cells t file offset size (le_cases offset size))) ∙ ap (λ (n : ℕ). take len (drop offset (cells t file 0 n))) (sym (size_is t file size is))
+    ∙ ap (take len) (sym (drop_cells t file offset size (le_cases offset size)))
+    ∙ ap (λ (n : ℕ). take len (drop offset (cells t file 0 n))) (sym (size_is t file size is))
 
 module _ (kinds later : Ino → Option Kind) (w : World) (sound : Sound kinds w.value) (after : Sound later w.value) where
   abbrev got_of : ℕ → ℕ → Node → Outcome
   got_of offset len node = answered (tree_of w.value) (Bytes (take len (drop offset ((tree_of w.value).bytes node.ino))))
 
   get_node : (offset len : ℕ) (name : Name) (node : Node) (b : Bool) → is_directory node ≡ b → IsEntry kinds (bucket_number name) (name, node)
-      → Comes (suc (blocks_of len + 1)) (cond b (Ends (File IsDir)) (Measures node.ino (Cuts offset len))) w (Owes later w.value (cond b (refused (tree_of w.value) IsDir) (got_of offset len node)))
+      → Comes (suc (blocks_of len + 1)) (cond b (Ends (File IsDir)) (Measures node.ino (Cuts offset len))) w
+      (Owes later w.value (cond b (refused (tree_of w.value) IsDir) (got_of offset len node)))
   get_node offset len name node true is entry = refuses_with kinds later w sound after (suc (blocks_of len + 1)) IsDir
   get_node offset len name node false is entry =
       let f = sound.files node.ino (entry.kept ∙ ap Some (file_is node is)) in
@@ -203,10 +221,13 @@ module _ (kinds later : Ino → Option Kind) (w : World) (sound : Sound kinds w.
       let fits : offset % block_size + min len (f.0 - offset) ≤ block_size * (blocks_of len + 1) = omega (arith, low) in
       measures w node.ino f.0 f.1 (Cuts offset len) (blocks_of len + 1) Q
       (fetches w node.ino Q (blocks_of len + 1) (offset / block_size) (offset % block_size) (min len (f.0 - offset)) [] low fits
-      (unchanged_as later w.value (Bytes (take len (drop offset ((tree_of w.value).bytes node.ino)))) _ (ap Bytes (cut_bytes w.value node.ino f.0 offset len f.1)) after))
+      (unchanged_as later w.value (Bytes (take len (drop offset ((tree_of w.value).bytes node.ino)))) _
+      (ap Bytes (cut_bytes w.value node.ino f.0 offset len f.1)) after))
 
-  get_found : (offset len : ℕ) (dir : Ino) (name : Name) (rows : List Row) (ver : ℕ) (o : Option Node) → IfSome o (λ node. IsEntry kinds (bucket_number name) (name, node))
-      → Comes (suc (blocks_of len + 1)) (looked_at dir name ver rows (Gets offset len) o) w (Owes later w.value (of_file (tree_of w.value) (got_of offset len) o))
+  get_found : (offset len : ℕ) (dir : Ino) (name : Name) (rows : List Row) (ver : ℕ) (o : Option Node)
+      → IfSome o (λ node. IsEntry kinds (bucket_number name) (name, node))
+      → Comes (suc (blocks_of len + 1)) (looked_at dir name ver rows (Gets offset len) o) w
+      (Owes later w.value (of_file (tree_of w.value) (got_of offset len) o))
   get_found offset len dir name rows ver None entry = refuses_with kinds later w sound after (suc (blocks_of len + 1)) NoEntry
   get_found offset len dir name rows ver (Some node) entry = get_node offset len name node (is_directory node) refl entry
 
@@ -216,10 +237,12 @@ get_meets path offset len kinds w number client sound fresh =
     replies (start (call.Get path offset len) ino) (length path + suc (blocks_of len + 1)) [] w _
     (named_first kinds kinds w sound sound (call.Get path offset len) ino (length path + suc (blocks_of len + 1)) (λ good.
     by_path kinds kinds w sound sound (Gets offset len) (suc (blocks_of len + 1)) IsDir (does_get (tree_of w.value) offset len) (λ dir name is _.
-    looks kinds kinds w sound sound (Gets offset len) (suc (blocks_of len + 1)) (of_file (tree_of w.value) (λ node. answered (tree_of w.value) (Bytes (take len (drop offset ((tree_of w.value).bytes node.ino)))))) dir name is
+    looks kinds kinds w sound sound (Gets offset len) (suc (blocks_of len + 1))
+    (of_file (tree_of w.value) (λ node. answered (tree_of w.value) (Bytes (take len (drop offset ((tree_of w.value).bytes node.ino)))))) dir name is
     (λ rows bucket o e entry. get_found kinds kinds w sound sound offset len dir name rows (w.ver dir (bucket_number name)) o entry))
     path good))
 
 -- the size is read where only the size block is known
-pub measures_read : (w : World) (file : Ino) (size : ℕ) → read_size (w.value file size_block) ≡ Some size → (task : Task) (n : ℕ) (Q : Post) → Comes n (measured_as file task (w.ver file size_block) size) w Q → Comes (suc n) (Measures file task) w Q
+pub measures_read : (w : World) (file : Ino) (size : ℕ) → read_size (w.value file size_block) ≡ Some size → (task : Task) (n : ℕ) (Q : Post)
+    → Comes n (measured_as file task (w.ver file size_block) size) w Q → Comes (suc n) (Measures file task) w Q
 measures_read w file size is task n Q h = subst (λ (o : Option ℕ). Comes n (measured file task (w.ver file size_block) o) w Q) (sym is) h

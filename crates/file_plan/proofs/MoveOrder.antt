@@ -118,10 +118,12 @@ module _ (A S : Type 0) where
   move_unfound dir name ver rows Removes h = absurd h
   move_unfound dir name ver rows (Moves to) h = tt
   move_unfound dir name ver rows (Links linked from old) h =
-      either (InMove A S) (fits (insert_entry name_cmp rows name linked)) (Enters dir name ver (insert_entry name_cmp rows name linked) linked.ino (Links linked from old)) (Ends (File DirFull)) (rows, refl) tt
+      either (InMove A S) (fits (insert_entry name_cmp rows name linked))
+      (Enters dir name ver (insert_entry name_cmp rows name linked) linked.ino (Links linked from old)) (Ends (File DirFull)) (rows, refl) tt
   move_unfound dir name ver rows (Unlinks old) h = tt
 
-  move_found : (dir : Ino) (name : Name) (ver : ℕ) (rows : List Row) (job : Job) (node : Node) → IsAtEntry S job → InMove A S (looked_at dir name ver rows job (Some node))
+  move_found : (dir : Ino) (name : Name) (ver : ℕ) (rows : List Row) (job : Job) (node : Node) → IsAtEntry S job
+      → InMove A S (looked_at dir name ver rows job (Some node))
   move_found dir name ver rows (Makes made) node h = absurd h
   move_found dir name ver rows (Puts offset bytes) node h = absurd h
   move_found dir name ver rows (Gets offset len) node h = absurd h
@@ -129,7 +131,8 @@ module _ (A S : Type 0) where
   move_found dir name ver rows Lists node h = absurd h
   move_found dir name ver rows Removes node h = absurd h
   move_found dir name ver rows (Moves to) node h =
-      either (InMove A S) (is_directory node) (Ends (File IsDir)) (walking_path to Exists (Links node dir name)) tt (move_path to Exists (Links node dir name) tt)
+      either (InMove A S) (is_directory node) (Ends (File IsDir)) (walking_path to Exists (Links node dir name)) tt
+      (move_path to Exists (Links node dir name) tt)
   move_found dir name ver rows (Links linked from old) node h = tt
   move_found dir name ver rows (Unlinks old) node h =
       either (InMove A S) (same_node old node) (leaving dir name ver rows node.ino (Unlinks old)) (Ends Done) (h, (rows, refl)) tt
@@ -223,7 +226,8 @@ module _ (A S B T : Type 0) (f : A → B) (g : S → T) where
       new (record { dir = dir; name = name; node = linked; rows = h.0; at = refl; text = ap (λ (rs : List Row). content_of (rows_text rs)) h.1 })
   move_entered dir name rows ino (Unlinks old) new h = tt
 
-  move_written : (s : PlanState) → ((block : BlockId) (ver : ℕ) (value : Content) → next_call s ≡ Step (PutAt block ver value) → PutsIn block value → B) → InMove A S s → InMove B T (on_written s)
+  move_written : (s : PlanState) → ((block : BlockId) (ver : ℕ) (value : Content) → next_call s ≡ Step (PutAt block ver value) → PutsIn block value → B)
+      → InMove A S s → InMove B T (on_written s)
   move_written (Ends answer) new h = tt
   move_written (Walks dir name onto rest job) new h = h
   move_written (Looks dir name job) new h = still_at_entry S T g job h
@@ -271,7 +275,8 @@ module _ (A S B T : Type 0) (f : A → B) (g : S → T) where
   move_synced (Closes ino v) new h = absurd h
   move_synced (Gathers dir blk left rows) new h = absurd h
 
-  move_after : (s : PlanState) (a : BlockAnswer) → ((made : ℕ) (block : BlockId) (ver : ℕ) (value : Content) → a ≡ Written made → next_call s ≡ Step (PutAt block ver value) → PutsIn block value → B)
+  move_after : (s : PlanState) (a : BlockAnswer)
+      → ((made : ℕ) (block : BlockId) (ver : ℕ) (value : Content) → a ≡ Written made → next_call s ≡ Step (PutAt block ver value) → PutsIn block value → B)
       → (a ≡ Synced → next_call s ≡ Step Sync → A → T) → InMove A S s → InMove B T (after_answer s a)
   move_after s (Got ver value) new settled h = move_got s ver value h
   move_after s (Written made) new settled h = move_written s (λ block ver value e t. new made block ver value refl e t) h
@@ -291,8 +296,19 @@ module _ (s0 : PlanState) where
   move_more : (answers : List BlockAnswer) (a : BlockAnswer) → Stands answers → Stands (answers ++ a ∷ [])
   move_more answers a h =
       subst (InMove (Added (answers ++ a ∷ [])) (Settled (answers ++ a ∷ []))) (sym (last answers a s0))
-      (move_after (Added answers) (Settled answers) (Added (answers ++ a ∷ [])) (Settled (answers ++ a ∷ [])) (written_more s0 PutsIn answers a) (settled_more s0 answers a) (after_all s0 answers) a
-      (λ made block ver value e f t. record { before = answers; later = []; block = block; over = ver; value = value; made = made; split = ap (λ (b : BlockAnswer). answers ++ b ∷ []) e; step = f; such = t })
+      (move_after (Added answers) (Settled answers) (Added (answers ++ a ∷ [])) (Settled (answers ++ a ∷ [])) (written_more s0 PutsIn answers a)
+      (settled_more s0 answers a) (after_all s0 answers) a
+      (λ made block ver value e f t. record {
+        before = answers;
+        later = [];
+        block = block;
+        over = ver;
+        value = value;
+        made = made;
+        split = ap (λ (b : BlockAnswer). answers ++ b ∷ []) e;
+        step = f;
+        such = t;
+      })
       (λ e f added. record { before = answers; later = []; split = ap (λ (b : BlockAnswer). answers ++ b ∷ []) e; step = f; entered = added }) h)
 
   move_all : (rest front : List BlockAnswer) → Stands front → Stands (front ++ rest)
@@ -318,7 +334,8 @@ move_put A S (Gathers dir blk left rows) block value e h = h
 
 -- the writes of a bucket
 move_write : (S : Type 0) (dir : Ino) (name : Name) (rows : List Row) (job : Job) → IsWriting S name rows job
-    → PutsIn (block_at dir (bucket_number name)) (content_of (rows_text rows)) ⊎ (TakesOut (block_at dir (bucket_number name)) (content_of (rows_text rows)) × S)
+    → PutsIn (block_at dir (bucket_number name)) (content_of (rows_text rows))
+    ⊎ (TakesOut (block_at dir (bucket_number name)) (content_of (rows_text rows)) × S)
 move_write S dir name rows (Makes made) h = absurd h
 move_write S dir name rows (Puts offset bytes) h = absurd h
 move_write S dir name rows (Gets offset len) h = absurd h
@@ -331,14 +348,17 @@ move_write S dir name rows (Links linked from old) h =
 move_write S dir name rows (Unlinks old) h =
     inr (record { dir = dir; name = name; rows = h.1.0; at = refl; text = ap (λ (rs : List Row). content_of (rows_text rs)) h.1.1 }, h.0)
 
-move_put_at : (A S : Type 0) (s : PlanState) (block : BlockId) (ver : ℕ) (value : Content) → next_call s ≡ Step (PutAt block ver value) → InMove A S s → PutsIn block value ⊎ (TakesOut block value × S)
+move_put_at : (A S : Type 0) (s : PlanState) (block : BlockId) (ver : ℕ) (value : Content) → next_call s ≡ Step (PutAt block ver value) → InMove A S s
+    → PutsIn block value ⊎ (TakesOut block value × S)
 move_put_at A S (Ends answer) block ver value e h = let no' : ⊥ = cc in absurd no'
 move_put_at A S (Walks dir name onto rest job) block ver value e h = let no' : ⊥ = cc in absurd no'
 move_put_at A S (Looks dir name job) block ver value e h = let no' : ⊥ = cc in absurd no'
 move_put_at A S (Enters dir name v rows ino job) block ver value e h =
     let at : block_at dir (bucket_number name) ≡ block = cc in
     let text : content_of (rows_text rows) ≡ value = cc in
-    subst (λ (b : BlockId). PutsIn b value ⊎ (TakesOut b value × S)) at (subst (λ (v : Content). PutsIn (block_at dir (bucket_number name)) v ⊎ (TakesOut (block_at dir (bucket_number name)) v × S)) text (move_write S dir name rows job h))
+    subst (λ (b : BlockId). PutsIn b value ⊎ (TakesOut b value × S)) at
+    (subst (λ (v : Content). PutsIn (block_at dir (bucket_number name)) v ⊎ (TakesOut (block_at dir (bucket_number name)) v × S)) text
+    (move_write S dir name rows job h))
 move_put_at A S (Syncs dir name node) block ver value e h = let no' : ⊥ = cc in absurd no'
 move_put_at A S (Measures ino task) block ver value e h = absurd h
 move_put_at A S (Fetches ino blk low left got) block ver value e h = absurd h
@@ -370,7 +390,8 @@ pub adds_before_it_removes : AddsBeforeItRemoves
 adds_before_it_removes from to number client answers block value =
     let s0 = start (call.Mv from to) (made_by number client) in
     let P = InMove (Added s0 []) (Settled s0 []) in
-    let begun = either P (names_are_good (call.Mv from to)) (start_named (call.Mv from to) (made_by number client)) (Ends (File BadName)) (move_path (Added s0 []) (Settled s0 []) from IsDir (Moves to) tt) tt in
+    let begun = either P (names_are_good (call.Mv from to)) (start_named (call.Mv from to) (made_by number client)) (Ends (File BadName))
+    (move_path (Added s0 []) (Settled s0 []) from IsDir (Moves to) tt) tt in
     let now = move_all s0 answers [] begun in (
       λ e. move_put (Added s0 answers) (Settled s0 answers) (after_all s0 answers) block value e now,
       λ ver e. move_put_at (Added s0 answers) (Settled s0 answers) (after_all s0 answers) block ver value e now,

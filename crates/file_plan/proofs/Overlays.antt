@@ -63,19 +63,22 @@ overlaid_at old at new i = by (le_cases at i) (le_cases (at + length new) i)
     before less =
         let f = front_length old at in
         let l : i < length front = omega (arith, f, less) in
-        get_or_append_left front (new ++ back) 0 i l ∙ padded_at (take at old) (at - length old) i ∙ get_or-take at old i 0 less ∙ sym (cell_below (get_or old i 0) i at new less)
+        get_or_append_left front (new ++ back) 0 i l ∙ padded_at (take at old) (at - length old) i ∙ get_or-take at old i 0 less
+        ∙ sym (cell_below (get_or old i 0) i at new less)
 
     within : at ≤ i → i < at + length new → get_or (front ++ (new ++ back)) i 0 ≡ cell (get_or old i 0) i at new
     within low high =
         let l : i - at < length new = omega (arith, low, high) in
-        get_or-append_right front (new ++ back) at i 0 (front_length old at) low ∙ get_or_append_left new back 0 (i - at) l ∙ sym (cell_in (get_or old i 0) i at new low high)
+        get_or-append_right front (new ++ back) at i 0 (front_length old at) low ∙ get_or_append_left new back 0 (i - at) l
+        ∙ sym (cell_in (get_or old i 0) i at new low high)
 
     after : at + length new ≤ i → get_or (front ++ (new ++ back)) i 0 ≡ cell (get_or old i 0) i at new
     after high =
         let low : at ≤ i = omega (arith, high) in
         let l : length new ≤ i - at = omega (arith, high) in
         let e : at + length new + (i - at - length new) ≡ i = omega (arith, high) in
-        get_or-append_right front (new ++ back) at i 0 (front_length old at) low ∙ get_or-append_right new back (length new) (i - at) 0 refl l ∙ get_or-drop (at + length new) old (i - at - length new) 0
+        get_or-append_right front (new ++ back) at i 0 (front_length old at) low ∙ get_or-append_right new back (length new) (i - at) 0 refl l
+        ∙ get_or-drop (at + length new) old (i - at - length new) 0
         ∙ ap (λ (k : ℕ). get_or old k 0) e ∙ sym (cell_past (get_or old i 0) i at new high)
 
     by : (at ≤ i) ⊎ (i ≤ at) → (at + length new ≤ i) ⊎ (i ≤ at + length new) → get_or (front ++ (new ++ back)) i 0 ≡ cell (get_or old i 0) i at new
@@ -112,7 +115,8 @@ laid_over old low piece = record {
 
 pub laid_whole : (old : Content) (piece : List ℕ) → length piece ≡ block_size → Laid old (Some piece) 0 piece
 laid_whole old piece whole = record {
-  bytes = λ j small. let l : j < 0 + length piece = omega (arith, whole, small) in let z : j ≡ j - 0 = omega arith in ap (λ (k : ℕ). get_or piece k 0) z ∙ sym (cell_in (get_or (bytes_in old) j 0) j 0 piece (omega arith) l);
+  bytes = λ j small. let l : j < 0 + length piece = omega (arith, whole, small) in let z : j ≡ j - 0 =
+      omega arith in ap (λ (k : ℕ). get_or piece k 0) z ∙ sym (cell_in (get_or (bytes_in old) j 0) j 0 piece (omega arith) l);
   bound = omega arith;
 }
 
@@ -120,7 +124,8 @@ laid_whole old piece whole = record {
 
 -- the file has the new bytes from `start` on, and its other bytes and its size as before
 pub record Filled (file : Ino) (start : ℕ) (new : List ℕ) (t u : Table) : Type 0 where
-  pub bytes : (b j : ℕ) → b ≢ size_block → j < block_size → get_or (bytes_in (u file b)) j 0 ≡ cell (get_or (bytes_in (t file b)) j 0) (block_size * b + j) start new
+  pub bytes : (b j : ℕ) → b ≢ size_block → j < block_size
+      → get_or (bytes_in (u file b)) j 0 ≡ cell (get_or (bytes_in (t file b)) j 0) (block_size * b + j) start new
   pub blocks : (m : ℕ) → (0 < length new → start + length new ≤ m) → (b : ℕ) → b ≢ size_block → IsBlock m b (t file b) → IsBlock m b (u file b)
   pub sized : u file size_block ≡ t file size_block
   pub others : (i : Ino) (b : ℕ) → i ≢ file → u i b ≡ t i b
@@ -142,8 +147,10 @@ filled_none file start t = record {
         edge (inr e) = sym (cell_below old i start [] (omega (arith, low, e)))
 
 -- one block, and then the rest
-module _ (file : Ino) (blk low : ℕ) (in_block : low < block_size) (data' : blk ≢ size_block) (new : List ℕ) (some : 0 < length new) (t : Table) (value : Content)
-    (laid : Laid (t file blk) value low (take (block_size - low) new)) (u : Table) (rest : Filled file (block_size * (blk + 1) + 0) (drop (block_size - low) new) (put_at t file blk value) u) where
+module _ (file : Ino) (blk low : ℕ) (in_block : low < block_size) (data' : blk ≢ size_block) (new : List ℕ) (some : 0 < length new) (t : Table)
+    (value : Content)
+    (laid : Laid (t file blk) value low (take (block_size - low) new)) (u : Table)
+    (rest : Filled file (block_size * (blk + 1) + 0) (drop (block_size - low) new) (put_at t file blk value) u) where
   piece_length : length (take (block_size - low) new) ≡ min (block_size - low) (length new)
   piece_length = length-take (block_size - low) new
 
@@ -151,14 +158,18 @@ module _ (file : Ino) (blk low : ℕ) (in_block : low < block_size) (data' : blk
   rest_length = length-drop (block_size - low) new
 
   -- in the block itself
-  block_itself : (j : ℕ) → j < block_size → get_or (bytes_in (u file blk)) j 0 ≡ cell (get_or (bytes_in (t file blk)) j 0) (block_size * blk + j) (block_size * blk + low) new
+  block_itself : (j : ℕ) → j < block_size
+      → get_or (bytes_in (u file blk)) j 0 ≡ cell (get_or (bytes_in (t file blk)) j 0) (block_size * blk + j) (block_size * blk + low) new
   block_itself j small =
       let old = get_or (bytes_in (t file blk)) j 0 in
       rest.bytes blk j data' small
-      ∙ cell_below (get_or (bytes_in (put_at t file blk value file blk)) j 0) (block_size * blk + j) (block_size * (blk + 1) + 0) (drop (block_size - low) new) (omega (arith, small))
-      ∙ ap (λ (v : Content). get_or (bytes_in v) j 0) (put_here t file blk value) ∙ laid.bytes j small ∙ moved old (le_cases low j) (le_cases (low + length new) j)
+      ∙ cell_below (get_or (bytes_in (put_at t file blk value file blk)) j 0) (block_size * blk + j) (block_size * (blk + 1) + 0) (drop (block_size - low) new)
+      (omega (arith, small))
+      ∙ ap (λ (v : Content). get_or (bytes_in v) j 0) (put_here t file blk value) ∙ laid.bytes j small
+      ∙ moved old (le_cases low j) (le_cases (low + length new) j)
     where
-      within : (old : ℕ) → low ≤ j → j < low + length new → cell old j low (take (block_size - low) new) ≡ cell old (block_size * blk + j) (block_size * blk + low) new
+      within : (old : ℕ) → low ≤ j → j < low + length new
+          → cell old j low (take (block_size - low) new) ≡ cell old (block_size * blk + j) (block_size * blk + low) new
       within old a b =
           let h : j < low + length (take (block_size - low) new) = omega (arith, piece_length, small, b) in
           let c : block_size * blk + low ≤ block_size * blk + j = omega (arith, a) in
@@ -179,11 +190,13 @@ module _ (file : Ino) (blk low : ℕ) (in_block : low < block_size) (data' : blk
           let c : block_size * blk + low + length new ≤ block_size * blk + j = omega (arith, b) in
           cell_past old j low (take (block_size - low) new) h ∙ sym (cell_past old (block_size * blk + j) (block_size * blk + low) new c)
 
-      moved : (old : ℕ) → (low ≤ j) ⊎ (j ≤ low) → (low + length new ≤ j) ⊎ (j ≤ low + length new) → cell old j low (take (block_size - low) new) ≡ cell old (block_size * blk + j) (block_size * blk + low) new
+      moved : (old : ℕ) → (low ≤ j) ⊎ (j ≤ low) → (low + length new ≤ j) ⊎ (j ≤ low + length new)
+          → cell old j low (take (block_size - low) new) ≡ cell old (block_size * blk + j) (block_size * blk + low) new
       moved old a (inl b) = past old b
       moved old (inl a) (inr b) = edge (eq_cases j (low + length new))
         where
-          edge : (j ≡ low + length new) ⊎ (j ≢ low + length new) → cell old j low (take (block_size - low) new) ≡ cell old (block_size * blk + j) (block_size * blk + low) new
+          edge : (j ≡ low + length new) ⊎ (j ≢ low + length new)
+              → cell old j low (take (block_size - low) new) ≡ cell old (block_size * blk + j) (block_size * blk + low) new
           edge (inl e) = past old (omega (arith, e))
           edge (inr e) = within old a (omega (arith, b, e))
       moved old (inr a) (inr b) = edge (eq_cases j low)
@@ -193,37 +206,50 @@ module _ (file : Ino) (blk low : ℕ) (in_block : low < block_size) (data' : blk
           edge (inr e) = below old (omega (arith, a, e))
 
   -- in another block
-  block_beside : (b j : ℕ) → b ≢ blk → b ≢ size_block → j < block_size → get_or (bytes_in (u file b)) j 0 ≡ cell (get_or (bytes_in (t file b)) j 0) (block_size * b + j) (block_size * blk + low) new
+  block_beside : (b j : ℕ) → b ≢ blk → b ≢ size_block → j < block_size
+      → get_or (bytes_in (u file b)) j 0 ≡ cell (get_or (bytes_in (t file b)) j 0) (block_size * b + j) (block_size * blk + low) new
   block_beside b j other n small =
       rest.bytes b j n small
-      ∙ ap (λ (v : Content). cell (get_or (bytes_in v) j 0) (block_size * b + j) (block_size * (blk + 1) + 0) (drop (block_size - low) new)) (put_beside t file blk value file b other)
+      ∙ ap (λ (v : Content). cell (get_or (bytes_in v) j 0) (block_size * b + j) (block_size * (blk + 1) + 0) (drop (block_size - low) new))
+      (put_beside t file blk value file b other)
       ∙ moved (get_or (bytes_in (t file b)) j 0) (le_cases b blk) (le_cases (block_size * blk + low + length new) (block_size * b + j))
     where
-      past : (old : ℕ) → blk < b → block_size * blk + low + length new ≤ block_size * b + j → cell old (block_size * b + j) (block_size * (blk + 1) + 0) (drop (block_size - low) new) ≡ cell old (block_size * b + j) (block_size * blk + low) new
+      past : (old : ℕ) → blk < b → block_size * blk + low + length new ≤ block_size * b + j
+          → cell old (block_size * b + j) (block_size * (blk + 1) + 0) (drop (block_size - low) new) ≡ cell old (block_size * b + j)
+          (block_size * blk + low) new
       past old a c =
           let d : block_size * (blk + 1) + 0 + length (drop (block_size - low) new) ≤ block_size * b + j = omega (arith, rest_length, a, c, in_block) in
-          cell_past old (block_size * b + j) (block_size * (blk + 1) + 0) (drop (block_size - low) new) d ∙ sym (cell_past old (block_size * b + j) (block_size * blk + low) new c)
+          cell_past old (block_size * b + j) (block_size * (blk + 1) + 0) (drop (block_size - low) new) d
+          ∙ sym (cell_past old (block_size * b + j) (block_size * blk + low) new c)
 
-      within : (old : ℕ) → blk < b → block_size * b + j < block_size * blk + low + length new → cell old (block_size * b + j) (block_size * (blk + 1) + 0) (drop (block_size - low) new) ≡ cell old (block_size * b + j) (block_size * blk + low) new
+      within : (old : ℕ) → blk < b → block_size * b + j < block_size * blk + low + length new
+          → cell old (block_size * b + j) (block_size * (blk + 1) + 0) (drop (block_size - low) new) ≡ cell old (block_size * b + j)
+          (block_size * blk + low) new
       within old a c =
           let d : block_size * (blk + 1) + 0 ≤ block_size * b + j = omega (arith, a) in
           let e : block_size * b + j < block_size * (blk + 1) + 0 + length (drop (block_size - low) new) = omega (arith, rest_length, a, c, in_block) in
           let f : block_size * blk + low ≤ block_size * b + j = omega (arith, a, in_block) in
-          let g : block_size - low + (block_size * b + j - (block_size * (blk + 1) + 0)) ≡ block_size * b + j - (block_size * blk + low) = omega (arith, a, in_block) in
-          cell_in old (block_size * b + j) (block_size * (blk + 1) + 0) (drop (block_size - low) new) d e ∙ get_or-drop (block_size - low) new (block_size * b + j - (block_size * (blk + 1) + 0)) 0
+          let g : block_size - low + (block_size * b + j - (block_size * (blk + 1) + 0)) ≡ block_size * b + j - (block_size * blk + low) =
+          omega (arith, a, in_block) in
+          cell_in old (block_size * b + j) (block_size * (blk + 1) + 0) (drop (block_size - low) new) d e
+          ∙ get_or-drop (block_size - low) new (block_size * b + j - (block_size * (blk + 1) + 0)) 0
           ∙ ap (λ (n : ℕ). get_or new n 0) g ∙ sym (cell_in old (block_size * b + j) (block_size * blk + low) new f c)
 
-      moved : (old : ℕ) → (b ≤ blk) ⊎ (blk ≤ b) → (block_size * blk + low + length new ≤ block_size * b + j) ⊎ (block_size * b + j ≤ block_size * blk + low + length new)
-          → cell old (block_size * b + j) (block_size * (blk + 1) + 0) (drop (block_size - low) new) ≡ cell old (block_size * b + j) (block_size * blk + low) new
+      moved : (old : ℕ) → (b ≤ blk) ⊎ (blk ≤ b)
+          → (block_size * blk + low + length new ≤ block_size * b + j) ⊎ (block_size * b + j ≤ block_size * blk + low + length new)
+          → cell old (block_size * b + j) (block_size * (blk + 1) + 0) (drop (block_size - low) new) ≡ cell old (block_size * b + j)
+          (block_size * blk + low) new
       moved old (inl a) c =
           let d : block_size * b + j < block_size * (blk + 1) + 0 = omega (arith, a, small, other) in
           let e : block_size * b + j < block_size * blk + low = omega (arith, a, small, other) in
-          cell_below old (block_size * b + j) (block_size * (blk + 1) + 0) (drop (block_size - low) new) d ∙ sym (cell_below old (block_size * b + j) (block_size * blk + low) new e)
+          cell_below old (block_size * b + j) (block_size * (blk + 1) + 0) (drop (block_size - low) new) d
+          ∙ sym (cell_below old (block_size * b + j) (block_size * blk + low) new e)
       moved old (inr a) (inl c) = past old (omega (arith, a, other)) c
       moved old (inr a) (inr c) = edge (eq_cases (block_size * b + j) (block_size * blk + low + length new))
         where
           edge : (block_size * b + j ≡ block_size * blk + low + length new) ⊎ (block_size * b + j ≢ block_size * blk + low + length new)
-              → cell old (block_size * b + j) (block_size * (blk + 1) + 0) (drop (block_size - low) new) ≡ cell old (block_size * b + j) (block_size * blk + low) new
+              → cell old (block_size * b + j) (block_size * (blk + 1) + 0) (drop (block_size - low) new) ≡ cell old (block_size * b + j)
+              (block_size * blk + low) new
           edge (inl e) = past old (omega (arith, a, other)) (omega (arith, e))
           edge (inr e) = within old (omega (arith, a, other)) (omega (arith, c, e))
 
@@ -233,7 +259,8 @@ module _ (file : Ino) (blk low : ℕ) (in_block : low < block_size) (data' : blk
     below = λ more. by more (eq_cases (length (bytes_in (t file blk))) 0);
   }
     where
-      by : 0 < length (bytes_in value) → (length (bytes_in (t file blk)) ≡ 0) ⊎ (length (bytes_in (t file blk)) ≢ 0) → block_size * blk + length (bytes_in value) ≤ m
+      by : 0 < length (bytes_in value) → (length (bytes_in (t file blk)) ≡ 0) ⊎ (length (bytes_in (t file blk)) ≢ 0)
+          → block_size * blk + length (bytes_in value) ≤ m
       by more (inl e) = omega (arith, piece_length, laid.bound, e, fits', more, some)
       by more (inr e) = let g = is.below (omega (arith, e)) in omega (arith, piece_length, laid.bound, g, fits', more, some)
 
@@ -245,13 +272,19 @@ module _ (file : Ino) (blk low : ℕ) (in_block : low < block_size) (data' : blk
     others = λ i b h. rest.others i b h ∙ put_other t file blk value i b h;
   }
     where
-      by : (b j : ℕ) → b ≢ size_block → j < block_size → (b ≡ blk) ⊎ (b ≢ blk) → get_or (bytes_in (u file b)) j 0 ≡ cell (get_or (bytes_in (t file b)) j 0) (block_size * b + j) (block_size * blk + low) new
-      by b j n small (inl e) = subst (λ (c : ℕ). get_or (bytes_in (u file c)) j 0 ≡ cell (get_or (bytes_in (t file c)) j 0) (block_size * c + j) (block_size * blk + low) new) (sym e) (block_itself j small)
+      by : (b j : ℕ) → b ≢ size_block → j < block_size → (b ≡ blk) ⊎ (b ≢ blk)
+          → get_or (bytes_in (u file b)) j 0 ≡ cell (get_or (bytes_in (t file b)) j 0) (block_size * b + j) (block_size * blk + low) new
+      by b j n small (inl e) =
+          subst (λ (c : ℕ). get_or (bytes_in (u file c)) j 0 ≡ cell (get_or (bytes_in (t file c)) j 0) (block_size * c + j) (block_size * blk + low) new)
+          (sym e) (block_itself j small)
       by b j n small (inr e) = block_beside b j e n small
 
-      block : (m : ℕ) → (0 < length new → block_size * blk + low + length new ≤ m) → (b : ℕ) → b ≢ size_block → IsBlock m b (t file b) → (b ≡ blk) ⊎ (b ≢ blk) → IsBlock m b (u file b)
+      block : (m : ℕ) → (0 < length new → block_size * blk + low + length new ≤ m) → (b : ℕ) → b ≢ size_block → IsBlock m b (t file b) → (b ≡ blk) ⊎ (b ≢ blk)
+          → IsBlock m b (u file b)
       block m below b n is (inl e) =
           rest.blocks m (λ more. omega (arith, rest_length, below some, more, in_block)) b n
-          (subst (λ (c : ℕ). IsBlock m c (put_at t file blk value file c)) (sym e) (subst (IsBlock m blk) (sym (put_here t file blk value)) (new_block m (below some) (subst (λ (c : ℕ). IsBlock m c (t file c)) e is))))
+          (subst (λ (c : ℕ). IsBlock m c (put_at t file blk value file c)) (sym e)
+          (subst (IsBlock m blk) (sym (put_here t file blk value)) (new_block m (below some) (subst (λ (c : ℕ). IsBlock m c (t file c)) e is))))
       block m below b n is (inr e) =
-          rest.blocks m (λ more. omega (arith, rest_length, below some, more, in_block)) b n (subst (IsBlock m b) (sym (put_beside t file blk value file b e)) is)
+          rest.blocks m (λ more. omega (arith, rest_length, below some, more, in_block)) b n
+          (subst (IsBlock m b) (sym (put_beside t file blk value file b e)) is)

@@ -11,16 +11,19 @@ use Rattle.file_plan.specs.Format.{content_of, is_kind_byte, name_length, front_
 
 -- ---- the entry at the front
 
-pub has_row_long : (bytes : List ℕ) → 6 + name_length bytes ≤ length bytes → has_row bytes ≡ (is_kind_byte (get_or bytes 0 0) && is_good (take (name_length bytes) (drop 6 bytes)))
+pub has_row_long : (bytes : List ℕ) → 6 + name_length bytes ≤ length bytes
+    → has_row bytes ≡ (is_kind_byte (get_or bytes 0 0) && is_good (take (name_length bytes) (drop 6 bytes)))
 unfolding has_row
-has_row_long bytes long = ap (λ (b : Bool). b && (is_kind_byte (get_or bytes 0 0) && is_good (front_row bytes).0)) (at_most (6 + name_length bytes) (length bytes) long)
+has_row_long bytes long =
+    ap (λ (b : Bool). b && (is_kind_byte (get_or bytes 0 0) && is_good (front_row bytes).0)) (at_most (6 + name_length bytes) (length bytes) long)
   where
     at_most : (n m : ℕ) → n ≤ m → nat_le n m ≡ true
     at_most n m h = grind (arith, nat_tests)
 
 pub has_row_short : (bytes : List ℕ) → length bytes < 6 + name_length bytes → has_row bytes ≡ false
 unfolding has_row
-has_row_short bytes short = ap (λ (b : Bool). b && (is_kind_byte (get_or bytes 0 0) && is_good (front_row bytes).0)) (too_long (6 + name_length bytes) (length bytes) short)
+has_row_short bytes short =
+    ap (λ (b : Bool). b && (is_kind_byte (get_or bytes 0 0) && is_good (front_row bytes).0)) (too_long (6 + name_length bytes) (length bytes) short)
   where
     too_long : (n m : ℕ) → m < n → nat_le n m ≡ false
     too_long n m h = grind (arith, nat_tests)
@@ -78,7 +81,8 @@ all_more : (rows : List Row) (row : Row) (o : Option (List Row)) → with_all (r
 all_more rows row None = refl
 all_more rows row (Some more) = ap Some (append_assoc rows (row ∷ []) more)
 
-front_step : (n : ℕ) (b : ℕ) (bs : List ℕ) (t : Bool) → has_row (b ∷ bs) ≡ t → rows_from (suc n) (b ∷ bs) ≡ cond t (with_row (front_row (b ∷ bs)) (rows_from n (rest_of_rows (b ∷ bs)))) None
+front_step : (n : ℕ) (b : ℕ) (bs : List ℕ) (t : Bool) → has_row (b ∷ bs) ≡ t
+    → rows_from (suc n) (b ∷ bs) ≡ cond t (with_row (front_row (b ∷ bs)) (rows_from n (rest_of_rows (b ∷ bs)))) None
 front_step n b bs t e = ap (λ (u : Bool). cond u (with_row (front_row (b ∷ bs)) (rows_from n (rest_of_rows (b ∷ bs)))) None) e
 
 pub rest_shorter : (bytes : List ℕ) → has_row bytes ≡ true → length (rest_of_rows bytes) < length bytes
@@ -88,11 +92,13 @@ rest_shorter bytes has =
     let f = length-drop 6 bytes in
     omega (arith, long, e, f)
 
-pub reads_more : (rows : List Row) (rest all : List ℕ) (row : Row) → has_row rest ≡ true → row ≡ front_row rest → Reads rows rest all → Reads (rows ++ row ∷ []) (rest_of_rows rest) all
+pub reads_more : (rows : List Row) (rest all : List ℕ) (row : Row) → has_row rest ≡ true → row ≡ front_row rest → Reads rows rest all
+    → Reads (rows ++ row ∷ []) (rest_of_rows rest) all
 reads_more rows [] all row has is r = let long = row_length [] has in absurd (omega (arith, long))
 reads_more rows (b ∷ bs) all row has is r = by r.most r.enough r.same
   where
-    by : (n : ℕ) → length (b ∷ bs) ≤ n → with_all rows (rows_from n (b ∷ bs)) ≡ rows_from (length all) all → Reads (rows ++ row ∷ []) (rest_of_rows (b ∷ bs)) all
+    by : (n : ℕ) → length (b ∷ bs) ≤ n → with_all rows (rows_from n (b ∷ bs)) ≡ rows_from (length all) all
+        → Reads (rows ++ row ∷ []) (rest_of_rows (b ∷ bs)) all
     by zero enough same = absurd (omega (arith, enough))
     by (suc n) enough same = record {
       most = n;
@@ -114,9 +120,11 @@ pub reads_all : (rows : List Row) (rest all : List ℕ) → length rest ≡ 0 �
 reads_all rows [] all none r = ap Some (sym (append-nil rows)) ∙ r.same
 reads_all rows (b ∷ bs) all none r = absurd (omega (arith, none))
 
-pub reads_step : (rows : List Row) (rest all : List ℕ) (row : Row) (now : List Row) (more : List ℕ) → has_row rest ≡ true → row ≡ front_row rest → now ≡ rows ++ row ∷ [] → more ≡ rest_of_rows rest → Reads rows rest all → Reads now more all
+pub reads_step : (rows : List Row) (rest all : List ℕ) (row : Row) (now : List Row) (more : List ℕ) → has_row rest ≡ true → row ≡ front_row rest
+    → now ≡ rows ++ row ∷ [] → more ≡ rest_of_rows rest → Reads rows rest all → Reads now more all
 reads_step rows rest all row now more has is e f r =
-    subst (λ (rs : List Row). Reads rs more all) (sym e) (subst (λ (bs : List ℕ). Reads (rows ++ row ∷ []) bs all) (sym f) (reads_more rows rest all row has is r))
+    subst (λ (rs : List Row). Reads rs more all) (sym e)
+    (subst (λ (bs : List ℕ). Reads (rows ++ row ∷ []) bs all) (sym f) (reads_more rows rest all row has is r))
 
 -- ---- names
 
@@ -127,7 +135,10 @@ no_name false name o e f h = cc
 -- a name has at most 60 bytes
 pub good_short : (name : List ℕ) → is_good name ≡ true → length name ≤ 60
 unfolding is_good
-good_short name good = by (length name) (second_true (nat_le 1 (length name)) (nat_le (length name) 60) (first_true (nat_le 1 (length name) && nat_le (length name) 60) _ (first_true (has_name_length name && list_all is_name_byte name) _ good)))
+good_short name good =
+    by (length name)
+    (second_true (nat_le 1 (length name)) (nat_le (length name) 60)
+    (first_true (nat_le 1 (length name) && nat_le (length name) 60) _ (first_true (has_name_length name && list_all is_name_byte name) _ good)))
   where
     by : (n : ℕ) → nat_le n 60 ≡ true → n ≤ 60
     by n h = grind (arith, nat_tests)
@@ -135,7 +146,8 @@ good_short name good = by (length name) (second_true (nat_le 1 (length name)) (n
 -- ---- values
 
 -- bytes that are a value are none that are refused
-pub bad_value : (bytes : List ℕ) (n : ℕ) → IsValue (content_of bytes) → false ≡ (length bytes == 0) → (n ≡ length bytes) × ((length bytes ≡ 0) ⊎ (max_value < length bytes)) → ⊥
+pub bad_value : (bytes : List ℕ) (n : ℕ) → IsValue (content_of bytes) → false ≡ (length bytes == 0)
+    → (n ≡ length bytes) × ((length bytes ≡ 0) ⊎ (max_value < length bytes)) → ⊥
 bad_value [] n is some h = let e : false ≡ true = some in cc
 bad_value (b ∷ bs) n is some h = by h.1
   where

@@ -92,7 +92,8 @@ module _ (H : Type 0) where
     where
       by : (p : Option Node) → InRemoval H (walked_to onto rest job p)
       by None = tt
-      by (Some node) = either (InRemoval H) (is_directory node) (walking node.ino onto rest job) (Ends (File NotDir)) (removal_walking node.ino onto rest job h) tt
+      by (Some node) =
+          either (InRemoval H) (is_directory node) (walking node.ino onto rest job) (Ends (File NotDir)) (removal_walking node.ino onto rest job h) tt
 
   removal_looked : (dir : Ino) (name : Name) (ver : ℕ) (o : Option (List Row)) → InRemoval H (looked dir name ver Removes o)
   removal_looked dir name ver None = tt
@@ -108,16 +109,19 @@ module _ (H : Type 0) where
 
   removal_measured : H → (ino : Ino) (ver : ℕ) (o : Option ℕ) → InRemoval H (measured ino Clears ver o)
   removal_measured h ino ver None = tt
-  removal_measured h ino ver (Some size) = either (InRemoval H) (size == 0) (Ends Done) (emptying ino 0 (blocks_of size) ver) tt (removal_emptying h ino 0 (blocks_of size) ver)
+  removal_measured h ino ver (Some size) =
+      either (InRemoval H) (size == 0) (Ends Done) (emptying ino 0 (blocks_of size) ver) tt (removal_emptying h ino 0 (blocks_of size) ver)
 
 module _ (H K : Type 0) (kept : H → K) where
   removal_got : (s : PlanState) (ver : ℕ) (value : Content) → InRemoval H s → InRemoval K (on_got s ver value)
   removal_got (Ends answer) ver value h = tt
   removal_got (Walks dir name onto rest job) ver value h = removal_walked K name onto rest job h (read_bucket value)
-  removal_got (Looks dir name job) ver value h = by_removal (λ j. InRemoval K (looked dir name ver j (read_bucket value))) (removal_looked K dir name ver (read_bucket value)) job h
+  removal_got (Looks dir name job) ver value h =
+      by_removal (λ j. InRemoval K (looked dir name ver j (read_bucket value))) (removal_looked K dir name ver (read_bucket value)) job h
   removal_got (Enters dir name v rows ino job) ver value h = h
   removal_got (Syncs dir name node) ver value h = absurd h
-  removal_got (Measures ino task) ver value h = by_clearing (λ t. InRemoval K (measured ino t ver (read_size value))) (removal_measured K (kept h.0) ino ver (read_size value)) task h.1
+  removal_got (Measures ino task) ver value h =
+      by_clearing (λ t. InRemoval K (measured ino t ver (read_size value))) (removal_measured K (kept h.0) ino ver (read_size value)) task h.1
   removal_got (Fetches ino blk low left got) ver value h = absurd h
   removal_got (Fills ino blk bytes end) ver value h = absurd h
   removal_got (Takes ino blk low bytes end) ver value h = absurd h
@@ -127,12 +131,14 @@ module _ (H K : Type 0) (kept : H → K) where
   removal_got (Closes ino v) ver value h = kept h
   removal_got (Gathers dir blk left rows) ver value h = absurd h
 
-  removal_written : (s : PlanState) → ((block : BlockId) (ver : ℕ) (value : Content) → next_call s ≡ Step (PutAt block ver value) → TakesOut block value → K) → InRemoval H s → InRemoval K (on_written s)
+  removal_written : (s : PlanState) → ((block : BlockId) (ver : ℕ) (value : Content) → next_call s ≡ Step (PutAt block ver value) → TakesOut block value → K)
+      → InRemoval H s → InRemoval K (on_written s)
   removal_written (Ends answer) new h = tt
   removal_written (Walks dir name onto rest job) new h = h
   removal_written (Looks dir name job) new h = h
   removal_written (Enters dir name v rows ino job) new h =
-      by_removal (λ j. InRemoval K (entered j ino)) (new _ v _ refl (record { dir = dir; name = name; rows = h.1.0; at = refl; text = ap (λ (rs : List Row). content_of (rows_text rs)) h.1.1 }), tt) job h.0
+      by_removal (λ j. InRemoval K (entered j ino))
+      (new _ v _ refl (record { dir = dir; name = name; rows = h.1.0; at = refl; text = ap (λ (rs : List Row). content_of (rows_text rs)) h.1.1 }), tt) job h.0
   removal_written (Syncs dir name node) new h = absurd h
   removal_written (Measures ino task) new h = (kept h.0, h.1)
   removal_written (Fetches ino blk low left got) new h = absurd h
@@ -192,7 +198,8 @@ module _ (H K : Type 0) (kept : H → K) where
   removal_synced (Closes ino v) h = kept h
   removal_synced (Gathers dir blk left rows) h = absurd h
 
-  removal_after : (s : PlanState) (a : BlockAnswer) → ((made : ℕ) (block : BlockId) (ver : ℕ) (value : Content) → a ≡ Written made → next_call s ≡ Step (PutAt block ver value) → TakesOut block value → K)
+  removal_after : (s : PlanState) (a : BlockAnswer)
+      → ((made : ℕ) (block : BlockId) (ver : ℕ) (value : Content) → a ≡ Written made → next_call s ≡ Step (PutAt block ver value) → TakesOut block value → K)
       → InRemoval H s → InRemoval K (after_answer s a)
   removal_after s (Got ver value) new h = removal_got s ver value h
   removal_after s (Written made) new h = removal_written s (λ block ver value e t. new made block ver value refl e t) h
@@ -203,16 +210,29 @@ module _ (s0 : PlanState) where
   abbrev TakenOut : List BlockAnswer → Type 0
   TakenOut answers = HasWritten (from_here s0) answers TakesOut
 
-  removal_more : (answers : List BlockAnswer) (a : BlockAnswer) → InRemoval (TakenOut answers) (after_all s0 answers) → InRemoval (TakenOut (answers ++ a ∷ [])) (after_all s0 (answers ++ a ∷ []))
+  removal_more : (answers : List BlockAnswer) (a : BlockAnswer) → InRemoval (TakenOut answers) (after_all s0 answers)
+      → InRemoval (TakenOut (answers ++ a ∷ [])) (after_all s0 (answers ++ a ∷ []))
   removal_more answers a h =
       subst (InRemoval (TakenOut (answers ++ a ∷ []))) (sym (last answers a s0))
       (removal_after (TakenOut answers) (TakenOut (answers ++ a ∷ [])) (written_more s0 TakesOut answers a) (after_all s0 answers) a
-      (λ made block ver value e f t. record { before = answers; later = []; block = block; over = ver; value = value; made = made; split = ap (λ (b : BlockAnswer). answers ++ b ∷ []) e; step = f; such = t }) h)
+      (λ made block ver value e f t. record {
+        before = answers;
+        later = [];
+        block = block;
+        over = ver;
+        value = value;
+        made = made;
+        split = ap (λ (b : BlockAnswer). answers ++ b ∷ []) e;
+        step = f;
+        such = t;
+      }) h)
 
-  removal_all : (rest front : List BlockAnswer) → InRemoval (TakenOut front) (after_all s0 front) → InRemoval (TakenOut (front ++ rest)) (after_all s0 (front ++ rest))
+  removal_all : (rest front : List BlockAnswer) → InRemoval (TakenOut front) (after_all s0 front)
+      → InRemoval (TakenOut (front ++ rest)) (after_all s0 (front ++ rest))
   removal_all [] front h = subst (λ (as' : List BlockAnswer). InRemoval (TakenOut as') (after_all s0 as')) (sym (append-nil front)) h
   removal_all (a ∷ rest) front h =
-      subst (λ (as' : List BlockAnswer). InRemoval (TakenOut as') (after_all s0 as')) (append_assoc front (a ∷ []) rest) (removal_all rest (front ++ a ∷ []) (removal_more front a h))
+      subst (λ (as' : List BlockAnswer). InRemoval (TakenOut as') (after_all s0 as')) (append_assoc front (a ∷ []) rest)
+      (removal_all rest (front ++ a ∷ []) (removal_more front a h))
 
 -- a whole block that a removal writes
 removal_put : (H : Type 0) (s : PlanState) (block : BlockId) (value : Content) → next_call s ≡ Step (Put block value) → InRemoval H s → H × (value ≡ None)
@@ -232,7 +252,8 @@ removal_put H (Closes ino v) block value e h = let no' : ⊥ = cc in absurd no'
 removal_put H (Gathers dir blk left rows) block value e h = absurd h
 
 -- a write of a removal over a version
-removal_put_at : (H : Type 0) (s : PlanState) (block : BlockId) (ver : ℕ) (value : Content) → next_call s ≡ Step (PutAt block ver value) → InRemoval H s → TakesOut block value ⊎ (H × (value ≡ None))
+removal_put_at : (H : Type 0) (s : PlanState) (block : BlockId) (ver : ℕ) (value : Content) → next_call s ≡ Step (PutAt block ver value) → InRemoval H s
+    → TakesOut block value ⊎ (H × (value ≡ None))
 removal_put_at H (Ends answer) block ver value e h = let no' : ⊥ = cc in absurd no'
 removal_put_at H (Walks dir name onto rest job) block ver value e h = let no' : ⊥ = cc in absurd no'
 removal_put_at H (Looks dir name job) block ver value e h = let no' : ⊥ = cc in absurd no'
@@ -259,7 +280,8 @@ pub removes_entry_first : RemovesEntryFirst
 removes_entry_first path number client answers block value =
     let s0 = start (call.Rm path) (made_by number client) in
     let P = InRemoval (TakenOut s0 []) in
-    let begun = either P (names_are_good (call.Rm path)) (start_named (call.Rm path) (made_by number client)) (Ends (File BadName)) (removal_path (TakenOut s0 []) path IsDir) tt in
+    let begun = either P (names_are_good (call.Rm path)) (start_named (call.Rm path) (made_by number client)) (Ends (File BadName))
+    (removal_path (TakenOut s0 []) path IsDir) tt in
     let now = removal_all s0 answers [] begun in (
       λ e. removal_put (TakenOut s0 answers) (after_all s0 answers) block value e now,
       λ ver e. removal_put_at (TakenOut s0 answers) (after_all s0 answers) block ver value e now,

@@ -70,7 +70,8 @@ one_more file blk left t u c = record {
 empties : (file : Ino) (ver : ℕ) (Q : Post) (left blk : ℕ) (w : World) → blk + left ≤ size_block → w.ver file size_block ≡ ver
     → ((v : World) → Cleared file blk left w.value v.value → Q Done v) → Comes (suc left) (emptying file blk left ver) w Q
 empties file ver Q zero blk w within same q =
-    written_at w file size_block ver None (λ a v. Comes 0 (after_answer (Closes file ver) a) v Q) same (q (write w file size_block None) (closed file blk w.value))
+    written_at w file size_block ver None (λ a v. Comes 0 (after_answer (Closes file ver) a) v Q) same
+    (q (write w file size_block None) (closed file blk w.value))
 empties file ver Q (suc left) blk w within same q =
     let less : blk + 1 + left ≤ size_block = omega (arith, within) in
     empties file ver Q left (blk + 1) (write w file blk None) less
@@ -104,7 +105,8 @@ emptied_by file size t u is c = record {
         edge b data' s within (inr e) = no_block b (u file b) (c.gone b (omega arith) (omega (arith, within, e)))
 
 -- a file's size is read, and its blocks and its size go
-clears : (w : World) (file : Ino) (size : ℕ) → IsFile w.value file size → (Q : Post) → ((v : World) → Emptied file w.value v.value → Q Done v) → Comes 258 (Measures file Clears) w Q
+clears : (w : World) (file : Ino) (size : ℕ) → IsFile w.value file size → (Q : Post) → ((v : World) → Emptied file w.value v.value → Q Done v)
+    → Comes 258 (Measures file Clears) w Q
 clears w file size is Q q = measures w file size is Clears 257 Q (by (size == 0) refl)
   where
     some : (size == 0) ≡ false → Comes 257 (emptying file 0 (blocks_of size) (w.ver file size_block)) w Q
@@ -122,7 +124,9 @@ clears w file size is Q q = measures w file size is Clears 257 Q (by (size == 0)
     by false e = some e
 
 module _ (kinds : Ino → Option Kind) (w : World) (sound : Sound kinds w.value) where
-  remove_node : (dir : Ino) → kinds dir ≡ Some kind.Directory → (name : Name) (rows : List Row) → IsBucket kinds (bucket_number name) (w.value dir (bucket_number name)) rows → (node : Node) (b : Bool) → is_directory node ≡ b → IsEntry kinds (bucket_number name) (name, node)
+  remove_node : (dir : Ino) → kinds dir ≡ Some kind.Directory → (name : Name) (rows : List Row)
+      → IsBucket kinds (bucket_number name) (w.value dir (bucket_number name)) rows → (node : Node) (b : Bool) → is_directory node ≡ b
+      → IsEntry kinds (bucket_number name) (name, node)
       → Comes 259 (cond b (Ends (File IsDir)) (leaving dir name (w.ver dir (bucket_number name)) rows node.ino Removes)) w
       (Owes kinds w.value (cond b (refused (tree_of w.value) IsDir) (answered (with_bytes (with_entry (tree_of w.value) dir name None) node.ino []) Done)))
   remove_node dir is name rows before node true d entry = refuses_with kinds kinds w sound sound 259 IsDir
@@ -135,21 +139,28 @@ module _ (kinds : Ino → Option Kind) (w : World) (sound : Sound kinds w.value)
       let k = entry.kept ∙ ap Some (file_is node d) in
       let s1 = sound_now kinds w.value sound dir is b rows before now next_one in
       let f = s1.files node.ino k in
-      enters w dir name (w.ver dir b) now node.ino Removes 258 (Owes kinds w.value (answered (with_bytes (with_entry (tree_of w.value) dir name None) node.ino []) Done)) refl
+      enters w dir name (w.ver dir b) now node.ino Removes 258
+      (Owes kinds w.value (answered (with_bytes (with_entry (tree_of w.value) dir name None) node.ino []) Done)) refl
       (clears w1 node.ino f.0 f.1 (Owes kinds w.value (answered (with_bytes (with_entry (tree_of w.value) dir name None) node.ino []) Done)) (λ v e. record {
         said = refl;
         sound = sound_file kinds w1.value s1 node.ino k v.value e.others 0 e.now;
         held = record {
           entries = λ d' q i. entries_file kinds w1.value s1 node.ino k v.value e.others d' q i
               ∙ entries_now kinds w.value sound dir is b rows before now next_one name None refl (λ r. named-remove r name rows (is_T _ before.rising)) d' q;
-          bytes = λ file i. bytes_file kinds w1.value s1 node.ino k v.value e.others [] (ap (λ (n : ℕ). cells v.value node.ino 0 n) (size_is v.value node.ino 0 e.now)) file
-              ∙ ap (λ (bytes : List ℕ). cond (same_ino file node.ino) [] bytes) (bytes_same w.value w1.value file (file_beside kinds w.value sound dir is b rows before now next_one file (Some kind.File) i file_directory));
+          bytes = λ file i. bytes_file kinds w1.value s1 node.ino k v.value e.others []
+              (ap (λ (n : ℕ). cells v.value node.ino 0 n) (size_is v.value node.ino 0 e.now)) file
+              ∙ ap (λ (bytes : List ℕ). cond (same_ino file node.ino) [] bytes)
+              (bytes_same w.value w1.value file (file_beside kinds w.value sound dir is b rows before now next_one file (Some kind.File) i file_directory));
         };
-        others = λ i blk z. others_file kinds w1.value s1 node.ino k v.value e.others i blk z ∙ file_beside kinds w.value sound dir is b rows before now next_one i None z (nobody_directory None refl) blk;
+        others = λ i blk z. others_file kinds w1.value s1 node.ino k v.value e.others i blk z
+            ∙ file_beside kinds w.value sound dir is b rows before now next_one i None z (nobody_directory None refl) blk;
       }))
 
-  remove_found : (dir : Ino) → kinds dir ≡ Some kind.Directory → (name : Name) (rows : List Row) → IsBucket kinds (bucket_number name) (w.value dir (bucket_number name)) rows → (o : Option Node) → IfSome o (λ node. IsEntry kinds (bucket_number name) (name, node))
-      → Comes 259 (looked_at dir name (w.ver dir (bucket_number name)) rows Removes o) w (Owes kinds w.value (of_file (tree_of w.value) (λ node. answered (with_bytes (with_entry (tree_of w.value) dir name None) node.ino []) Done) o))
+  remove_found : (dir : Ino) → kinds dir ≡ Some kind.Directory → (name : Name) (rows : List Row)
+      → IsBucket kinds (bucket_number name) (w.value dir (bucket_number name)) rows → (o : Option Node)
+      → IfSome o (λ node. IsEntry kinds (bucket_number name) (name, node))
+      → Comes 259 (looked_at dir name (w.ver dir (bucket_number name)) rows Removes o) w
+      (Owes kinds w.value (of_file (tree_of w.value) (λ node. answered (with_bytes (with_entry (tree_of w.value) dir name None) node.ino []) Done) o))
   remove_found dir is name rows before None entry = refuses_with kinds kinds w sound sound 259 NoEntry
   remove_found dir is name rows before (Some node) entry = remove_node dir is name rows before node (is_directory node) refl entry
 
@@ -159,6 +170,7 @@ rm_meets path kinds w number client sound fresh =
     replies (start (call.Rm path) ino) (length path + 259) [] w _
     (named_first kinds kinds w sound sound (call.Rm path) ino (length path + 259) (λ good.
     by_path kinds kinds w sound sound Removes 259 IsDir (does_remove (tree_of w.value)) (λ dir name is _.
-    looks kinds kinds w sound sound Removes 259 (of_file (tree_of w.value) (λ node. answered (with_bytes (with_entry (tree_of w.value) dir name None) node.ino []) Done)) dir name is
+    looks kinds kinds w sound sound Removes 259
+    (of_file (tree_of w.value) (λ node. answered (with_bytes (with_entry (tree_of w.value) dir name None) node.ino []) Done)) dir name is
     (λ rows before o e entry. remove_found kinds w sound dir is name rows before o entry))
     path good))

@@ -10,14 +10,17 @@ use Rattle.file_plan.specs.declared.node.Kind.{Kind}
 use Rattle.file_plan.specs.declared.node.Kind.TheVariants as kind
 use Rattle.file_plan.specs.Names.{same_ino}
 
-module _ (kinds : Ino → Option Kind) (t : Table) (sound : Sound kinds t) (file : Ino) (is : kinds file ≡ Some kind.File) (u : Table) (others : (i : Ino) (b : ℕ) → i ≢ file → u i b ≡ t i b) where
+module _ (kinds : Ino → Option Kind) (t : Table) (sound : Sound kinds t) (file : Ino) (is : kinds file ≡ Some kind.File) (u : Table)
+    (others : (i : Ino) (b : ℕ) → i ≢ file → u i b ≡ t i b) where
   elsewhere : (i : Ino) (n : Option Kind) → kinds i ≡ n → n ≢ Some kind.File → (b : ℕ) → u i b ≡ t i b
   elsewhere i n k other b = others i b (apart_kinds kinds i file n (Some kind.File) k is other)
 
   pub sound_file : (size : ℕ) → IsFile u file size → Sound kinds u
   sound_file size now = record {
     root_is_directory = sound.root_is_directory;
-    directories = λ d k i small. let old = sound.directories d k i small in (old.0, subst (λ (v : Content). IsBucket kinds k v old.0) (sym (elsewhere d (Some kind.Directory) i directory_file k)) old.1);
+    directories = λ d k i small. let old =
+        sound.directories d k i small in
+        (old.0, subst (λ (v : Content). IsBucket kinds k v old.0) (sym (elsewhere d (Some kind.Directory) i directory_file k)) old.1);
     files = λ f i. by f i (ino_cases f file);
   }
     where
@@ -32,7 +35,8 @@ module _ (kinds : Ino → Option Kind) (t : Table) (sound : Sound kinds t) (file
   bytes_file bytes now f = by (ino_cases f file)
     where
       by : (f ≡ file) ⊎ (f ≢ file) → (tree_of u).bytes f ≡ cond (same_ino f file) bytes ((tree_of t).bytes f)
-      by (inl e) = ap (λ (g : Ino). (tree_of u).bytes g) e ∙ now ∙ ap (λ (b : Bool). cond b bytes ((tree_of t).bytes f)) (sym (ino_itself file) ∙ ap (λ (g : Ino). same_ino g file) (sym e))
+      by (inl e) = ap (λ (g : Ino). (tree_of u).bytes g) e ∙ now
+          ∙ ap (λ (b : Bool). cond b bytes ((tree_of t).bytes f)) (sym (ino_itself file) ∙ ap (λ (g : Ino). same_ino g file) (sym e))
       by (inr e) = bytes_same t u f (λ b. others f b e) ∙ ap (λ (b : Bool). cond b bytes ((tree_of t).bytes f)) (sym (ino_differs f file e))
 
   pub others_file : (i : Ino) (b : ℕ) → kinds i ≡ None → u i b ≡ t i b

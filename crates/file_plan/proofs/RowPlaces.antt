@@ -21,8 +21,10 @@ abbrev pub put_from : List Row → Name → Node → ℕ → List Row
 put_from rows name node i = take i rows ++ insert_entry name_cmp (drop i rows) name node
 
 put_step : (row : Row) (rest : List Row) (name : Name) (node : Node) (o : Ordering) → name_cmp name row.0 ≡ o
-    → insert_entry name_cmp (row ∷ rest) name node ≡ match_ordering o ((name, node) ∷ row ∷ rest) ((row.0, node) ∷ rest) (row ∷ insert_entry name_cmp rest name node)
-put_step row rest name node o e = ap (λ (r : Ordering). match_ordering r ((name, node) ∷ row ∷ rest) ((row.0, node) ∷ rest) (row ∷ insert_entry name_cmp rest name node)) e
+    → insert_entry name_cmp (row ∷ rest) name node ≡ match_ordering o ((name, node) ∷ row ∷ rest) ((row.0, node) ∷ rest)
+    (row ∷ insert_entry name_cmp rest name node)
+put_step row rest name node o e =
+    ap (λ (r : Ordering). match_ordering r ((name, node) ∷ row ∷ rest) ((row.0, node) ∷ rest) (row ∷ insert_entry name_cmp rest name node)) e
 
 pub put_past : (rows : List Row) (name : Name) (node : Node) (i : ℕ) (row : Row) → i < length rows → row ≡ get_or rows i row → name_cmp name row.0 ≡ Greater
     → put_from rows name node i ≡ put_from rows name node (i + 1)
@@ -109,7 +111,8 @@ less_all x y (row ∷ rows) less below =
     both : (o : Ordering) (b : Bool) → o ≡ Less → T b → T (is_lt o && b)
     both o b e h = subst (λ (r : Ordering). T (is_lt r && b)) (sym e) h
 
-two_step : (o : Ordering) (x y : Name) (ys : List Row) (s : Bool) → name_cmp x y ≡ o → (is_lt o && below_all name_cmp x ys) && (below_all name_cmp y ys && s) ≡ (is_lt o && (below_all name_cmp y ys && s))
+two_step : (o : Ordering) (x y : Name) (ys : List Row) (s : Bool) → name_cmp x y ≡ o
+    → (is_lt o && below_all name_cmp x ys) && (below_all name_cmp y ys && s) ≡ (is_lt o && (below_all name_cmp y ys && s))
 two_step Equal x y ys s e = refl
 two_step Greater x y ys s e = refl
 two_step Less x y ys s e = by (below_all name_cmp y ys) refl

@@ -75,7 +75,8 @@ module _ (P : BlockId → ℕ → Type 0) where
 
   knows_filling : (ino : Ino) (blk low : ℕ) (bytes : List ℕ) (end : ℕ) → Knows P (filling ino blk low bytes end)
   knows_filling ino blk low [] end = tt
-  knows_filling ino blk low (b ∷ bs) end = knows_if ((low == 0) && nat_le block_size (length (b ∷ bs))) (Fills ino blk (b ∷ bs) end) (Takes ino blk low (b ∷ bs) end) tt tt
+  knows_filling ino blk low (b ∷ bs) end =
+      knows_if ((low == 0) && nat_le block_size (length (b ∷ bs))) (Fills ino blk (b ∷ bs) end) (Takes ino blk low (b ∷ bs) end) tt tt
 
   knows_fetching : (ino : Ino) (blk low left : ℕ) (got : List ℕ) → Knows P (fetching ino blk low left got)
   knows_fetching ino blk low zero got = tt
@@ -90,7 +91,8 @@ module _ (P : BlockId → ℕ → Type 0) where
   knows_measured ino Tells ver (Some size) p = tt
   knows_measured ino (Cuts offset len) ver (Some size) p = knows_fetching ino (offset / block_size) (offset % block_size) _ []
   knows_measured ino (Raises end) ver (Some size) p = knows_if (nat_le end size) (Ends Done) (Grows ino end ver) tt p
-  knows_measured ino Clears ver (Some size) p = knows_if (size == 0) (Ends Done) (emptying ino 0 (blocks_of size) ver) tt (knows_emptying ino 0 (blocks_of size) ver p)
+  knows_measured ino Clears ver (Some size) p =
+      knows_if (size == 0) (Ends Done) (emptying ino 0 (blocks_of size) ver) tt (knows_emptying ino 0 (blocks_of size) ver p)
 
   knows_gathering : (dir : Ino) (blk left : ℕ) (rows : List Row) → Knows P (gathering dir blk left rows)
   knows_gathering dir blk zero rows = tt
@@ -102,11 +104,14 @@ module _ (P : BlockId → ℕ → Type 0) where
 
   module _ (dir : Ino) (name : Name) (ver : ℕ) (p : P (block_at dir (bucket_number name)) ver) (rows : List Row) where
     knows_entering : (node : Node) (job : Job) → Knows P (entering dir name ver rows node job)
-    knows_entering node job = knows_if (fits (insert_entry name_cmp rows name node)) (Enters dir name ver (insert_entry name_cmp rows name node) node.ino job) (Ends (File DirFull)) p tt
+    knows_entering node job =
+        knows_if (fits (insert_entry name_cmp rows name node)) (Enters dir name ver (insert_entry name_cmp rows name node) node.ino job)
+        (Ends (File DirFull)) p tt
 
     knows_putting : (ino : Ino) (offset : ℕ) (bytes : List ℕ) → Knows P (putting ino offset bytes)
     knows_putting ino offset bytes =
-        knows_if (nat_lt file_end (offset + length bytes)) (Ends (File TooBig)) (filling ino (offset / block_size) (offset % block_size) bytes (end_of offset bytes)) tt
+        knows_if (nat_lt file_end (offset + length bytes)) (Ends (File TooBig))
+        (filling ino (offset / block_size) (offset % block_size) bytes (end_of offset bytes)) tt
         (knows_filling ino (offset / block_size) (offset % block_size) bytes (end_of offset bytes))
 
     knows_at_entry : (job : Job) (node : Node) → Knows P (at_entry dir name ver rows job node)
@@ -138,7 +143,8 @@ module _ (P : BlockId → ℕ → Type 0) where
     knows_looked_at job None = knows_unfound job
     knows_looked_at job (Some node) = knows_found job node
 
-  knows_looked : (dir : Ino) (name : Name) (ver : ℕ) → P (block_at dir (bucket_number name)) ver → (job : Job) (o : Option (List Row)) → Knows P (looked dir name ver job o)
+  knows_looked : (dir : Ino) (name : Name) (ver : ℕ) → P (block_at dir (bucket_number name)) ver → (job : Job) (o : Option (List Row))
+      → Knows P (looked dir name ver job o)
   knows_looked dir name ver p job None = tt
   knows_looked dir name ver p job (Some rows) = knows_looked_at dir name ver p rows job (named name rows)
 
@@ -155,7 +161,8 @@ module _ (P : BlockId → ℕ → Type 0) where
 
 -- what is known stays known, and what is read is known from then on
 module _ (P R : BlockId → ℕ → Type 0) (kept : (block : BlockId) (ver : ℕ) → P block ver → R block ver) where
-  on_got_knows : (s : PlanState) (ver : ℕ) (value : Content) → ((block : BlockId) → next_call s ≡ Step (Get block) → R block ver) → Knows P s → Knows R (on_got s ver value)
+  on_got_knows : (s : PlanState) (ver : ℕ) (value : Content) → ((block : BlockId) → next_call s ≡ Step (Get block) → R block ver) → Knows P s
+      → Knows R (on_got s ver value)
   on_got_knows (Ends answer) ver value new h = tt
   on_got_knows (Walks dir name onto rest job) ver value new h = knows_walked R name onto rest job _
   on_got_knows (Looks dir name job) ver value new h = knows_looked R dir name ver (new (block_at dir (bucket_number name)) refl) job _
@@ -219,7 +226,8 @@ module _ (P R : BlockId → ℕ → Type 0) (kept : (block : BlockId) (ver : ℕ
   on_synced_knows (Closes ino ver) h = kept _ _ h
   on_synced_knows (Gathers dir blk left rows) h = tt
 
-  after_knows : (s : PlanState) (a : BlockAnswer) → ((block : BlockId) (ver : ℕ) (old : Content) → next_call s ≡ Step (Get block) → a ≡ Got ver old → R block ver) → Knows P s → Knows R (after_answer s a)
+  after_knows : (s : PlanState) (a : BlockAnswer)
+      → ((block : BlockId) (ver : ℕ) (old : Content) → next_call s ≡ Step (Get block) → a ≡ Got ver old → R block ver) → Knows P s → Knows R (after_answer s a)
   after_knows s (Got ver value) new h = on_got_knows s ver value (λ block e. new block ver value e refl) h
   after_knows s (Written ver) new h = on_written_knows s h
   after_knows s Changed new h = on_changed_knows s h
@@ -235,7 +243,8 @@ module _ (s0 : PlanState) where
   last [] a s = refl
   last (b ∷ answers) a s = last answers a (after_answer s b)
 
-  one_more : (answers : List BlockAnswer) (a : BlockAnswer) → Knows (Read answers) (after_all s0 answers) → Knows (Read (answers ++ a ∷ [])) (after_all s0 (answers ++ a ∷ []))
+  one_more : (answers : List BlockAnswer) (a : BlockAnswer) → Knows (Read answers) (after_all s0 answers)
+      → Knows (Read (answers ++ a ∷ [])) (after_all s0 (answers ++ a ∷ []))
   one_more answers a h =
       subst (Knows (Read (answers ++ a ∷ []))) (sym (last answers a s0))
       (after_knows (Read answers) (Read (answers ++ a ∷ []))
@@ -245,23 +254,29 @@ module _ (s0 : PlanState) where
   all_known : (rest front : List BlockAnswer) → Knows (Read front) (after_all s0 front) → Knows (Read (front ++ rest)) (after_all s0 (front ++ rest))
   all_known [] front h = subst (λ (as' : List BlockAnswer). Knows (Read as') (after_all s0 as')) (sym (append-nil front)) h
   all_known (a ∷ rest) front h =
-      subst (λ (as' : List BlockAnswer). Knows (Read as') (after_all s0 as')) (append_assoc front (a ∷ []) rest) (all_known rest (front ++ a ∷ []) (one_more front a h))
+      subst (λ (as' : List BlockAnswer). Knows (Read as') (after_all s0 as')) (append_assoc front (a ∷ []) rest)
+      (all_known rest (front ++ a ∷ []) (one_more front a h))
 
 -- a state that writes over a version keeps that version
-named_known : (P : BlockId → ℕ → Type 0) (s : PlanState) (block : BlockId) (ver : ℕ) (value : Content) → next_call s ≡ Step (PutAt block ver value) → Knows P s → P block ver
+named_known : (P : BlockId → ℕ → Type 0) (s : PlanState) (block : BlockId) (ver : ℕ) (value : Content) → next_call s ≡ Step (PutAt block ver value) → Knows P s
+    → P block ver
 named_known P (Ends answer) block ver value e h = let no' : ⊥ = cc in absurd no'
 named_known P (Walks dir name onto rest job) block ver value e h = let no' : ⊥ = cc in absurd no'
 named_known P (Looks dir name job) block ver value e h = let no' : ⊥ = cc in absurd no'
-named_known P (Enters dir name v rows ino job) block ver value e h = let same : block_at dir (bucket_number name) ≡ block = cc in let at : v ≡ ver = cc in subst (λ (n : ℕ). P block n) at (subst (λ (b : BlockId). P b v) same h)
+named_known P (Enters dir name v rows ino job) block ver value e h = let same : block_at dir (bucket_number name) ≡ block = cc in let at : v ≡ ver =
+    cc in subst (λ (n : ℕ). P block n) at (subst (λ (b : BlockId). P b v) same h)
 named_known P (Syncs dir name node) block ver value e h = let no' : ⊥ = cc in absurd no'
 named_known P (Measures ino task) block ver value e h = let no' : ⊥ = cc in absurd no'
 named_known P (Fetches ino blk low left got) block ver value e h = let no' : ⊥ = cc in absurd no'
 named_known P (Fills ino blk bytes end) block ver value e h = let no' : ⊥ = cc in absurd no'
 named_known P (Takes ino blk low bytes end) block ver value e h = let no' : ⊥ = cc in absurd no'
-named_known P (Patches ino blk low bytes end v old) block ver value e h = let same : block_at ino blk ≡ block = cc in let at : v ≡ ver = cc in subst (λ (n : ℕ). P block n) at (subst (λ (b : BlockId). P b v) same h)
-named_known P (Grows ino end v) block ver value e h = let same : block_at ino size_block ≡ block = cc in let at : v ≡ ver = cc in subst (λ (n : ℕ). P block n) at (subst (λ (b : BlockId). P b v) same h)
+named_known P (Patches ino blk low bytes end v old) block ver value e h = let same : block_at ino blk ≡ block = cc in let at : v ≡ ver =
+    cc in subst (λ (n : ℕ). P block n) at (subst (λ (b : BlockId). P b v) same h)
+named_known P (Grows ino end v) block ver value e h = let same : block_at ino size_block ≡ block = cc in let at : v ≡ ver =
+    cc in subst (λ (n : ℕ). P block n) at (subst (λ (b : BlockId). P b v) same h)
 named_known P (Empties ino blk left v) block ver value e h = let no' : ⊥ = cc in absurd no'
-named_known P (Closes ino v) block ver value e h = let same : block_at ino size_block ≡ block = cc in let at : v ≡ ver = cc in subst (λ (n : ℕ). P block n) at (subst (λ (b : BlockId). P b v) same h)
+named_known P (Closes ino v) block ver value e h = let same : block_at ino size_block ≡ block = cc in let at : v ≡ ver =
+    cc in subst (λ (n : ℕ). P block n) at (subst (λ (b : BlockId). P b v) same h)
 named_known P (Gathers dir blk left rows) block ver value e h = let no' : ⊥ = cc in absurd no'
 
 knows_start : (P : BlockId → ℕ → Type 0) (c : FileCall) (ino : Ino) → Knows P (start_named c ino)
@@ -279,16 +294,20 @@ pub over_reads : WritesOverItsReads
 over_reads c number client answers block ver value e =
     let s0 = start c (made_by number client) in
     named_known (HasRead (plan c number client) answers) (after_all s0 answers) block ver value e
-    (all_known s0 answers [] (knows_if (Read s0 []) (names_are_good c) (start_named c (made_by number client)) (Ends (File BadName)) (knows_start (Read s0 []) c (made_by number client)) tt))
+    (all_known s0 answers []
+    (knows_if (Read s0 []) (names_are_good c) (start_named c (made_by number client)) (Ends (File BadName))
+    (knows_start (Read s0 []) c (made_by number client)) tt))
 
 -- ---- a refused write
 
 -- a state whose write was refused reads the block
-reads_next : (s : PlanState) (block : BlockId) (ver : ℕ) (value : Content) → next_call s ≡ Step (PutAt block ver value) → next_call (on_changed s) ≡ Step (Get block)
+reads_next : (s : PlanState) (block : BlockId) (ver : ℕ) (value : Content) → next_call s ≡ Step (PutAt block ver value)
+    → next_call (on_changed s) ≡ Step (Get block)
 reads_next (Ends answer) block ver value e = let no' : ⊥ = cc in absurd no'
 reads_next (Walks dir name onto rest job) block ver value e = let no' : ⊥ = cc in absurd no'
 reads_next (Looks dir name job) block ver value e = let no' : ⊥ = cc in absurd no'
-reads_next (Enters dir name v rows ino job) block ver value e = let same : block_at dir (bucket_number name) ≡ block = cc in ap (λ (b : BlockId). Step (Get b)) same
+reads_next (Enters dir name v rows ino job) block ver value e = let same : block_at dir (bucket_number name) ≡ block =
+    cc in ap (λ (b : BlockId). Step (Get b)) same
 reads_next (Syncs dir name node) block ver value e = let no' : ⊥ = cc in absurd no'
 reads_next (Measures ino task) block ver value e = let no' : ⊥ = cc in absurd no'
 reads_next (Fetches ino blk low left got) block ver value e = let no' : ⊥ = cc in absurd no'

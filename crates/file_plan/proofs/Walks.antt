@@ -27,7 +27,8 @@ bucket_small : (name : Name) → bucket_number name < 8
 bucket_small name = omega arith
 
 -- the entries of the bucket of a name
-pub bucket_at : (kinds : Ino → Option Kind) (t : Table) → Sound kinds t → (dir : Ino) (name : Name) → kinds dir ≡ Some kind.Directory → (rows : List Row) × IsBucket kinds (bucket_number name) (t dir (bucket_number name)) rows
+pub bucket_at : (kinds : Ino → Option Kind) (t : Table) → Sound kinds t → (dir : Ino) (name : Name) → kinds dir ≡ Some kind.Directory
+    → (rows : List Row) × IsBucket kinds (bucket_number name) (t dir (bucket_number name)) rows
 bucket_at kinds t sound dir name is = sound.directories dir (bucket_number name) is (bucket_small name)
 
 pub directory_is : (node : Node) → is_directory node ≡ true → node.kind ≡ kind.Directory
@@ -51,7 +52,8 @@ Placed kinds w job n Q (Fails fault) = Q (File fault) w
 
 step_into : (kinds : Ino → Option Kind) (w : World) (job : Job) (n m : ℕ) (Q : Post) (onto : Name) (rest : List Name) (more : Ino → Place)
     (go : (ino : Ino) → kinds ino ≡ Some kind.Directory → Placed kinds w job n Q (more ino) → Comes m (walking ino onto rest job) w Q)
-    (node : Node) (b : Bool) → is_directory node ≡ b → kinds node.ino ≡ Some node.kind → Placed kinds w job n Q (cond b (more node.ino) (Fails NotDir)) → Comes m (cond b (walking node.ino onto rest job) (Ends (File NotDir))) w Q
+    (node : Node) (b : Bool) → is_directory node ≡ b → kinds node.ino ≡ Some node.kind → Placed kinds w job n Q (cond b (more node.ino) (Fails NotDir))
+    → Comes m (cond b (walking node.ino onto rest job) (Ends (File NotDir))) w Q
 step_into kinds w job n m Q onto rest more go node true is kept h = go node.ino (kept ∙ ap Some (directory_is node is)) h
 step_into kinds w job n m Q onto rest more go node false is kept h = ended m (File NotDir) w Q h
 
@@ -74,15 +76,19 @@ good_rest true b h = h
 good_rest false b h = let w : false ≡ true = h in cc
 
 -- a path is walked as the tree has it
-pub walks : (kinds : Ino → Option Kind) (w : World) → Sound kinds w.value → (job : Job) (n : ℕ) (Q : Post) (dir : Ino) (name : Name) (rest : List Name) → kinds dir ≡ Some kind.Directory → list_all is_good (name ∷ rest) ≡ true
+pub walks : (kinds : Ino → Option Kind) (w : World) → Sound kinds w.value → (job : Job) (n : ℕ) (Q : Post) (dir : Ino) (name : Name) (rest : List Name)
+    → kinds dir ≡ Some kind.Directory → list_all is_good (name ∷ rest) ≡ true
     → Placed kinds w job n Q (place_of (tree_of w.value) dir name rest) → Comes (over rest n) (walking dir name rest job) w Q
 walks kinds w sound job n Q dir name [] is good h = h is (good_first (is_good name) true good)
 walks kinds w sound job n Q dir name (onto ∷ rest) is good h =
     let b = bucket_at kinds w.value sound dir name is in
     let e = bucket_back kinds (bucket_number name) (w.value dir (bucket_number name)) b.0 b.1 in
-    let kept = weaker (λ node. IsEntry kinds (bucket_number name) (name, node)) (λ node. kinds node.ino ≡ Some node.kind) (named name b.0) (λ node (entry : IsEntry kinds (bucket_number name) (name, node)). entry.kept) (named_each (IsEntry kinds (bucket_number name)) name b.0 b.1.each) in
-    subst (λ (o : Option (List Row)). Placed kinds w job n Q (placed (λ ino. place_of (tree_of w.value) ino onto rest) (named name (unwrap_or o []))) → Comes (over rest n) (walked name onto rest job o) w Q) (sym e)
-    (step_to kinds w job n (over rest n) Q onto rest (λ ino. place_of (tree_of w.value) ino onto rest) (λ ino i p. walks kinds w sound job n Q ino onto rest i (good_rest (is_good name) (list_all is_good (onto ∷ rest)) good) p) (named name b.0) kept) h
+    let kept = weaker (λ node. IsEntry kinds (bucket_number name) (name, node)) (λ node. kinds node.ino ≡ Some node.kind) (named name b.0)
+    (λ node (entry : IsEntry kinds (bucket_number name) (name, node)). entry.kept) (named_each (IsEntry kinds (bucket_number name)) name b.0 b.1.each) in
+    subst (λ (o : Option (List Row)). Placed kinds w job n Q (placed (λ ino. place_of (tree_of w.value) ino onto rest) (named name (unwrap_or o [])))
+    → Comes (over rest n) (walked name onto rest job o) w Q) (sym e)
+    (step_to kinds w job n (over rest n) Q onto rest (λ ino. place_of (tree_of w.value) ino onto rest)
+    (λ ino i p. walks kinds w sound job n Q ino onto rest i (good_rest (is_good name) (list_all is_good (onto ∷ rest)) good) p) (named name b.0) kept) h
 
 -- what is owed at the end of a call
 abbrev pub Owes : (Ino → Option Kind) → Table → Outcome → Post
@@ -90,17 +96,23 @@ Owes kinds before o given now = Meets kinds before o given now.value
 
 -- nothing changed
 pub unchanged : (kinds : Ino → Option Kind) (t : Table) (answer : Answer) → Sound kinds t → Meets kinds t (answered (tree_of t) answer) answer t
-unchanged kinds t answer sound = record { said = refl; sound = sound; held = record { entries = λ dir name is. refl; bytes = λ file is. refl }; others = λ ino blk is. refl }
+unchanged kinds t answer sound =
+    record { said = refl; sound = sound; held = record { entries = λ dir name is. refl; bytes = λ file is. refl }; others = λ ino blk is. refl }
 
-pub unchanged_as : (kinds : Ino → Option Kind) (t : Table) (answer given : Answer) → given ≡ answer → Sound kinds t → Meets kinds t (answered (tree_of t) answer) given t
-unchanged_as kinds t answer given same sound = record { said = same; sound = sound; held = record { entries = λ dir name is. refl; bytes = λ file is. refl }; others = λ ino blk is. refl }
+pub unchanged_as : (kinds : Ino → Option Kind) (t : Table) (answer given : Answer) → given ≡ answer → Sound kinds t
+    → Meets kinds t (answered (tree_of t) answer) given t
+unchanged_as kinds t answer given same sound =
+    record { said = same; sound = sound; held = record { entries = λ dir name is. refl; bytes = λ file is. refl }; others = λ ino blk is. refl }
 
 -- kinds are those before a call and later those after it
 module _ (kinds later : Ino → Option Kind) (w : World) (sound : Sound kinds w.value) (after : Sound later w.value) where
   pub by_path : (job : Job) (n : ℕ) (at_root : FileFault) (does : Ino → Name → Outcome)
-      → ((dir : Ino) (name : Name) → kinds dir ≡ Some kind.Directory → is_good name ≡ true → Comes (suc n) (Looks dir name job) w (Owes later w.value (does dir name)))
-      → (path : List Name) → list_all is_good path ≡ true → Comes (length path + n) (walking_path path at_root job) w (Owes later w.value (at_path (tree_of w.value) at_root does path))
-  by_path job n at_root does at [] good = ended (length {A = Name} [] + n) (File at_root) w (Owes later w.value (refused (tree_of w.value) at_root)) (unchanged later w.value (File at_root) after)
+      → ((dir : Ino) (name : Name) → kinds dir ≡ Some kind.Directory → is_good name ≡ true
+      → Comes (suc n) (Looks dir name job) w (Owes later w.value (does dir name)))
+      → (path : List Name) → list_all is_good path ≡ true
+      → Comes (length path + n) (walking_path path at_root job) w (Owes later w.value (at_path (tree_of w.value) at_root does path))
+  by_path job n at_root does at [] good =
+      ended (length {A = Name} [] + n) (File at_root) w (Owes later w.value (refused (tree_of w.value) at_root)) (unchanged later w.value (File at_root) after)
   by_path job n at_root does at (name ∷ rest) good =
       let Q = Owes later w.value (at_place (tree_of w.value) does (place_of (tree_of w.value) root name rest)) in
       let e = over_is rest (suc n) in
@@ -114,20 +126,26 @@ module _ (kinds later : Ino → Option Kind) (w : World) (sound : Sound kinds w.
 
   -- the last name's bucket is read; o is what the name leads to
   pub looks : (job : Job) (n : ℕ) (O : Option Node → Outcome) (dir : Ino) (name : Name) → kinds dir ≡ Some kind.Directory
-      → ((rows : List Row) → IsBucket kinds (bucket_number name) (w.value dir (bucket_number name)) rows → (o : Option Node) → named name rows ≡ o → IfSome o (λ node. IsEntry kinds (bucket_number name) (name, node))
+      → ((rows : List Row) → IsBucket kinds (bucket_number name) (w.value dir (bucket_number name)) rows → (o : Option Node) → named name rows ≡ o
+      → IfSome o (λ node. IsEntry kinds (bucket_number name) (name, node))
       → Comes n (looked_at dir name (w.ver dir (bucket_number name)) rows job o) w (Owes later w.value (O o)))
       → Comes (suc n) (Looks dir name job) w (Owes later w.value (O ((tree_of w.value).entries dir name)))
   looks job n O dir name is does =
       let b = bucket_at kinds w.value sound dir name is in
       let e = bucket_back kinds (bucket_number name) (w.value dir (bucket_number name)) b.0 b.1 in
-      subst (λ (o : Option (List Row)). Comes n (looked dir name (w.ver dir (bucket_number name)) job o) w (Owes later w.value (O (named name (unwrap_or o []))))) (sym e)
+      subst (λ (o : Option (List Row)). Comes n (looked dir name (w.ver dir (bucket_number name)) job o) w
+      (Owes later w.value (O (named name (unwrap_or o []))))) (sym e)
       (does b.0 b.1 (named name b.0) refl (named_each (IsEntry kinds (bucket_number name)) name b.0 b.1.each))
 
   -- the names are tested first
-  pub named_first : (c : FileCall) (ino : Ino) (m : ℕ) → (names_are_good c ≡ true → Comes m (start_named c ino) w (Owes later w.value (outcome_named w.value (tree_of w.value) c ino)))
+  pub named_first : (c : FileCall) (ino : Ino) (m : ℕ)
+      → (names_are_good c ≡ true → Comes m (start_named c ino) w (Owes later w.value (outcome_named w.value (tree_of w.value) c ino)))
       → Comes m (start c ino) w (Owes later w.value (outcome w.value c ino))
   named_first c ino m h =
-      elim (names_are_good c) as (λ (b : Bool). names_are_good c ≡ b → Comes m (cond b (start_named c ino) (Ends (File BadName))) w (Owes later w.value (cond b (outcome_named w.value (tree_of w.value) c ino) (refused (tree_of w.value) BadName)))) [
+      elim (names_are_good c) as
+      (λ (b : Bool). names_are_good c ≡ b
+      → Comes m (cond b (start_named c ino) (Ends (File BadName))) w
+      (Owes later w.value (cond b (outcome_named w.value (tree_of w.value) c ino) (refused (tree_of w.value) BadName)))) [
         | true ↦ λ e. h e
         | false ↦ λ _. ended m (File BadName) w (Owes later w.value (refused (tree_of w.value) BadName)) (unchanged later w.value (File BadName) after)
       ] refl

@@ -24,7 +24,8 @@ module _ (s0 : PlanState) where
   abbrev pub from_here : List BlockAnswer → Next
   from_here answers = next_call (after_all s0 answers)
 
-  pub written_more : (IsSuch : BlockId → Content → Type 0) (answers : List BlockAnswer) (a : BlockAnswer) → HasWritten from_here answers IsSuch → HasWritten from_here (answers ++ a ∷ []) IsSuch
+  pub written_more : (IsSuch : BlockId → Content → Type 0) (answers : List BlockAnswer) (a : BlockAnswer) → HasWritten from_here answers IsSuch
+      → HasWritten from_here (answers ++ a ∷ []) IsSuch
   written_more IsSuch answers a w = record {
     before = w.before;
     later = w.later ++ a ∷ [];

@@ -108,7 +108,8 @@ made_of item = made_by item.number item.client
 abbrev pub AreItems : List Item → Type 0
 AreItems [] = Unit {0}
 AreItems (item ∷ items) =
-    (item.number ≤ 20000) × (1 ≤ item.client) × (item.client ≤ 8) × AllByRecursion (λ other. (other.number ≡ item.number) × (other.client ≡ item.client) → ⊥) items × AreItems items
+    (item.number ≤ 20000) × (1 ≤ item.client) × (item.client ≤ 8)
+    × AllByRecursion (λ other. (other.number ≡ item.number) × (other.client ≡ item.client) → ⊥) items × AreItems items
 
 -- Each call replies as the tree has it that the calls before it left.
 abbrev pub AllMeet : (Ino → Option Kind) → World → List Item → Type 0

@@ -65,7 +65,8 @@ calls =
 
 abbrev pub told : List (Option Answer)
 told =
-    Some (Made 136) ∷ Some Done ∷ Some (Made 392) ∷ Some Done ∷ Some (Bytes (104 ∷ 105 ∷ [])) ∷ Some (File NoEntry) ∷ Some (Names ((100 ∷ 47 ∷ []) ∷ [])) ∷ Some Done
+    Some (Made 136) ∷ Some Done ∷ Some (Made 392) ∷ Some Done ∷ Some (Bytes (104 ∷ 105 ∷ [])) ∷ Some (File NoEntry) ∷ Some
+    (Names ((100 ∷ 47 ∷ []) ∷ [])) ∷ Some Done
     ∷ Some (Bytes (105 ∷ 0 ∷ 0 ∷ 33 ∷ [])) ∷ Some (File Exists) ∷ Some (File NotDir) ∷ Some (File IsDir) ∷ Some (File TooBig)
     ∷ Some (File BadName) ∷ Some Done ∷ Some (File NoEntry) ∷ Some (Names []) ∷ []
 

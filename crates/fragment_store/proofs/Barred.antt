@@ -24,7 +24,8 @@ put_in new (m ∷ ms) name h =
     elim (seg_cmp new m) as (λ o. Contains (match_ordering o (new ∷ m ∷ ms) (m ∷ ms) (m ∷ insert_key seg_cmp ms new)) name → With new (m ∷ ms) name) [
       | Less ↦ λ k. past new name [] (m ∷ ms) (With new (m ∷ ms) name) (λ e. inl e) (λ there. inr there) k
       | Equal ↦ λ k. inr k
-      | Greater ↦ λ k. past m name [] (insert_key seg_cmp ms new) (With new (m ∷ ms) name) (λ e. inr (subst (Contains (m ∷ ms)) e (contains_first m ms))) (λ there. later (put_in new ms name there)) k
+      | Greater ↦ λ k. past m name [] (insert_key seg_cmp ms new) (With new (m ∷ ms) name) (λ e. inr (subst (Contains (m ∷ ms)) e (contains_first m ms)))
+          (λ there. later (put_in new ms name there)) k
     ] h
   where
     later : With new ms name → With new (m ∷ ms) name
@@ -46,7 +47,9 @@ still_in new (m ∷ ms) name h =
     elim (seg_cmp new m) as (λ o. Contains (match_ordering o (new ∷ m ∷ ms) (m ∷ ms) (m ∷ insert_key seg_cmp ms new)) name) [
       | Less ↦ contains_rest new name (m ∷ ms) h
       | Equal ↦ h
-      | Greater ↦ past m name [] ms (Contains (m ∷ insert_key seg_cmp ms new) name) (λ e. subst (Contains (m ∷ insert_key seg_cmp ms new)) e (contains_first m (insert_key seg_cmp ms new))) (λ k. contains_rest m name (insert_key seg_cmp ms new) (still_in new ms name k)) h
+      | Greater ↦ past m name [] ms (Contains (m ∷ insert_key seg_cmp ms new) name)
+          (λ e. subst (Contains (m ∷ insert_key seg_cmp ms new)) e (contains_first m (insert_key seg_cmp ms new)))
+          (λ k. contains_rest m name (insert_key seg_cmp ms new) (still_in new ms name k)) h
     ]
 
 in_start : (start names : List SegName) (name : SegName) → Contains start name → Contains (fold (insert_key seg_cmp) start names) name
@@ -74,7 +77,9 @@ from_either start (n ∷ ns) name h = by (from_either (insert_key seg_cmp start 
 
 append_left : (xs ys : List SegName) (name : SegName) → Contains xs name → Contains (xs ++ ys) name
 append_left [] ys name h = absurd (contains_nothing name h)
-append_left (x ∷ xs) ys name h = past x name [] xs (Contains (x ∷ (xs ++ ys)) name) (λ e. subst (Contains (x ∷ (xs ++ ys))) e (contains_first x (xs ++ ys))) (λ k. contains_rest x name (xs ++ ys) (append_left xs ys name k)) h
+append_left (x ∷ xs) ys name h =
+    past x name [] xs (Contains (x ∷ (xs ++ ys)) name) (λ e. subst (Contains (x ∷ (xs ++ ys))) e (contains_first x (xs ++ ys)))
+    (λ k. contains_rest x name (xs ++ ys) (append_left xs ys name k)) h
 
 append_right : (xs ys : List SegName) (name : SegName) → Contains ys name → Contains (xs ++ ys) name
 append_right [] ys name h = h

@@ -35,43 +35,59 @@ pub lookup-entries : (name : SegName) (fs : List Fragment) → lookup (is_at (se
 lookup-entries name [] = refl
 lookup-entries name (f ∷ fs) = ap (cond (same_name name f.meta.name) (Some f)) (lookup-entries name fs)
 
-pub lookup-named : (es : List (SegName × Fragment)) (name : SegName) → es ≡ entries_of (values_of es) → lookup (is_at (seg_cmp name)) es ≡ held_at (values_of es) name
+pub lookup-named : (es : List (SegName × Fragment)) (name : SegName) → es ≡ entries_of (values_of es)
+    → lookup (is_at (seg_cmp name)) es ≡ held_at (values_of es) name
 lookup-named es name e = ap (lookup (is_at (seg_cmp name))) e ∙ lookup-entries name (values_of es)
 
-insert-entries : (f : Fragment) (fs : List Fragment) → held_at fs f.meta.name ≡ None → insert_entry seg_cmp (entries_of fs) f.meta.name f ≡ entries_of (with_fragment f fs)
+insert-entries : (f : Fragment) (fs : List Fragment) → held_at fs f.meta.name ≡ None
+    → insert_entry seg_cmp (entries_of fs) f.meta.name f ≡ entries_of (with_fragment f fs)
 insert-entries f [] h = refl
 insert-entries f (g ∷ gs) h =
-    elim (seg_cmp f.meta.name g.meta.name) as (λ o. cond (is_eq o) (Some g) (held_at gs f.meta.name) ≡ None → match_ordering o ((f.meta.name, f) ∷ (g.meta.name, g) ∷ entries_of gs) ((g.meta.name, f) ∷ entries_of gs) ((g.meta.name, g) ∷ insert_entry seg_cmp (entries_of gs) f.meta.name f) ≡ entries_of (cond (is_greater o) (g ∷ with_fragment f gs) (f ∷ g ∷ gs))) [
+    elim (seg_cmp f.meta.name g.meta.name) as
+    (λ o. cond (is_eq o) (Some g) (held_at gs f.meta.name) ≡ None
+    → match_ordering o ((f.meta.name, f) ∷ (g.meta.name, g) ∷ entries_of gs) ((g.meta.name, f) ∷ entries_of gs)
+    ((g.meta.name, g) ∷ insert_entry seg_cmp (entries_of gs) f.meta.name f) ≡ entries_of (cond (is_greater o) (g ∷ with_fragment f gs) (f ∷ g ∷ gs))) [
       | Less ↦ λ k. refl
       | Equal ↦ λ k. contrary (sym (ap is_some k))
       | Greater ↦ λ k. ap (λ es. (g.meta.name, g) ∷ es) (insert-entries f gs k)
     ] h
 
 -- nothing is removed where no name is this one
-keeps_all : (name : SegName) (fs : List Fragment) → AllByRecursion (λ n. same_name name n ≡ false) (keys_of (entries_of fs)) → filter (λ f. not (same_name name f.meta.name)) fs ≡ fs
+keeps_all : (name : SegName) (fs : List Fragment) → AllByRecursion (λ n. same_name name n ≡ false) (keys_of (entries_of fs))
+    → filter (λ f. not (same_name name f.meta.name)) fs ≡ fs
 keeps_all name [] h = refl
-keeps_all name (f ∷ fs) h = ap (λ b. cond (not b) (f ∷ filter (λ g. not (same_name name g.meta.name)) fs) (filter (λ g. not (same_name name g.meta.name)) fs)) h.0 ∙ ap (λ gs. f ∷ gs) (keeps_all name fs h.1)
+keeps_all name (f ∷ fs) h =
+    ap (λ b. cond (not b) (f ∷ filter (λ g. not (same_name name g.meta.name)) fs) (filter (λ g. not (same_name name g.meta.name)) fs)) h.0
+    ∙ ap (λ gs. f ∷ gs) (keeps_all name fs h.1)
 
-others : (name first : SegName) (names : List SegName) → name ≡ first → AllByRecursion (λ n. seg_cmp first n ≡ Less) names → AllByRecursion (λ n. same_name name n ≡ false) names
+others : (name first : SegName) (names : List SegName) → name ≡ first → AllByRecursion (λ n. seg_cmp first n ≡ Less) names
+    → AllByRecursion (λ n. same_name name n ≡ false) names
 others name first [] e h = tt
 others name first (n ∷ ns) e h = (ap (λ m. same_name m n) e ∙ ap is_eq h.0, others name first ns e h.1)
 
-remove-entries : (name : SegName) (fs : List Fragment) → IsStrictlySortedBy seg_cmp (keys_of (entries_of fs)) → remove_entry (is_at (seg_cmp name)) (entries_of fs) ≡ entries_of (filter (λ f. not (same_name name f.meta.name)) fs)
+remove-entries : (name : SegName) (fs : List Fragment) → IsStrictlySortedBy seg_cmp (keys_of (entries_of fs))
+    → remove_entry (is_at (seg_cmp name)) (entries_of fs) ≡ entries_of (filter (λ f. not (same_name name f.meta.name)) fs)
 unfolding IsStrictlySortedBy
 remove-entries name [] sorted = refl
 remove-entries name (f ∷ fs) sorted = by (remove-entries name fs sorted.1) (same_name name f.meta.name) refl
   where
-    by : remove_entry (is_at (seg_cmp name)) (entries_of fs) ≡ entries_of (filter (λ g. not (same_name name g.meta.name)) fs) → (t : Bool) → same_name name f.meta.name ≡ t → cond t (entries_of fs) ((f.meta.name, f) ∷ remove_entry (is_at (seg_cmp name)) (entries_of fs)) ≡ entries_of (cond (not t) (f ∷ filter (λ g. not (same_name name g.meta.name)) fs) (filter (λ g. not (same_name name g.meta.name)) fs))
+    by : remove_entry (is_at (seg_cmp name)) (entries_of fs) ≡ entries_of (filter (λ g. not (same_name name g.meta.name)) fs) → (t : Bool)
+        → same_name name f.meta.name ≡ t
+        → cond t (entries_of fs) ((f.meta.name, f) ∷ remove_entry (is_at (seg_cmp name)) (entries_of fs)) ≡ entries_of
+        (cond (not t) (f ∷ filter (λ g. not (same_name name g.meta.name)) fs) (filter (λ g. not (same_name name g.meta.name)) fs))
     by rest true e = ap entries_of (sym (keeps_all name fs (others name f.meta.name (keys_of (entries_of fs)) (one_name name f.meta.name e) sorted.0)))
     by rest false e = ap (λ es. (f.meta.name, f) ∷ es) rest
 
 -- ---- the table of a shelf after an insertion and after a removal
 
 module _ (es : List (SegName × Fragment)) (marks : List SegName) (h : IsShelf es marks) where
-  pub table_with : (f : Fragment) → lookup (is_at (seg_cmp f.meta.name)) es ≡ None → insert_entry seg_cmp es f.meta.name f ≡ entries_of (with_fragment f (values_of es))
-  table_with f none = ap (λ xs. insert_entry seg_cmp xs f.meta.name f) h.named ∙ insert-entries f (values_of es) (sym (lookup-named es f.meta.name h.named) ∙ none)
+  pub table_with : (f : Fragment) → lookup (is_at (seg_cmp f.meta.name)) es ≡ None
+      → insert_entry seg_cmp es f.meta.name f ≡ entries_of (with_fragment f (values_of es))
+  table_with f none =
+      ap (λ xs. insert_entry seg_cmp xs f.meta.name f) h.named ∙ insert-entries f (values_of es) (sym (lookup-named es f.meta.name h.named) ∙ none)
 
-  pub held-with : (f : Fragment) → lookup (is_at (seg_cmp f.meta.name)) es ≡ None → values_of (insert_entry seg_cmp es f.meta.name f) ≡ with_fragment f (values_of es)
+  pub held-with : (f : Fragment) → lookup (is_at (seg_cmp f.meta.name)) es ≡ None
+      → values_of (insert_entry seg_cmp es f.meta.name f) ≡ with_fragment f (values_of es)
   held-with f none = ap values_of (table_with f none) ∙ values-entries (with_fragment f (values_of es))
 
   pub IsShelf-with : (f : Fragment) → lookup (is_at (seg_cmp f.meta.name)) es ≡ None → IsShelf (insert_entry seg_cmp es f.meta.name f) marks
@@ -82,7 +98,9 @@ module _ (es : List (SegName × Fragment)) (marks : List SegName) (h : IsShelf e
   }
 
   table_without : (name : SegName) → remove_entry (is_at (seg_cmp name)) es ≡ entries_of (filter (λ f. not (same_name name f.meta.name)) (values_of es))
-  table_without name = ap (remove_entry (is_at (seg_cmp name))) h.named ∙ remove-entries name (values_of es) (subst (λ xs. IsStrictlySortedBy seg_cmp (keys_of xs)) h.named h.sorted)
+  table_without name =
+      ap (remove_entry (is_at (seg_cmp name))) h.named
+      ∙ remove-entries name (values_of es) (subst (λ xs. IsStrictlySortedBy seg_cmp (keys_of xs)) h.named h.sorted)
 
   pub held-without : (name : SegName) → values_of (remove_entry (is_at (seg_cmp name)) es) ≡ filter (λ f. not (same_name name f.meta.name)) (values_of es)
   held-without name = ap values_of (table_without name) ∙ values-entries (filter (λ f. not (same_name name f.meta.name)) (values_of es))

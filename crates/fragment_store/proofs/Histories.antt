@@ -39,7 +39,8 @@ not_below_itself : (a : Pass) → NotBelow a a
 not_below_itself a = ap is_greater (tied_itself pass_cmp_total a)
 
 not_below_through : (a b c : Pass) → NotBelow a b → NotBelow b c → NotBelow a c
-not_below_through a b c h k = greater-is_gt (pass_cmp a c) ∙ upto pass_cmp_total a b c (sym (greater-is_gt (pass_cmp a b)) ∙ h) (sym (greater-is_gt (pass_cmp b c)) ∙ k)
+not_below_through a b c h k =
+    greater-is_gt (pass_cmp a c) ∙ upto pass_cmp_total a b c (sym (greater-is_gt (pass_cmp a b)) ∙ h) (sym (greater-is_gt (pass_cmp b c)) ∙ k)
 
 reversed : (o : Ordering) → is_greater o ≡ true → is_greater (ordering_reverse o) ≡ false
 reversed Less h = contrary h
@@ -57,30 +58,39 @@ log_cmp_exact a b h = ap (λ (n : _). record { 0 = n }) (exact_unsigned a.0 b.0 
 abbrev Rises : ShelfState → LogId → ShelfState → Type 0
 Rises s log later = NotBelow (fence_of s.fences log) (fence_of later.fences log)
 
-rises_or_stays : (s : ShelfState) (log : LogId) (pass : Pass) (other : LogId) (t : Bool) → eq_by_cmp log_cmp other log ≡ t → is_greater (pass_cmp pass (fence_of s.fences log)) ≡ true → NotBelow (fence_of s.fences other) (cond t pass (fence_of s.fences other))
-rises_or_stays s log pass other true e h = not_below_greater (fence_of s.fences other) pass (ap (λ l. is_greater (pass_cmp pass (fence_of s.fences l))) (tells_apart log_cmp_exact other log e) ∙ h)
+rises_or_stays : (s : ShelfState) (log : LogId) (pass : Pass) (other : LogId) (t : Bool) → eq_by_cmp log_cmp other log ≡ t
+    → is_greater (pass_cmp pass (fence_of s.fences log)) ≡ true → NotBelow (fence_of s.fences other) (cond t pass (fence_of s.fences other))
+rises_or_stays s log pass other true e h =
+    not_below_greater (fence_of s.fences other) pass (ap (λ l. is_greater (pass_cmp pass (fence_of s.fences l))) (tells_apart log_cmp_exact other log e) ∙ h)
 rises_or_stays s log pass other false e h = not_below_itself (fence_of s.fences other)
 
 fence_rises : (s : ShelfState) (log : LogId) (pass : Pass) (other : LogId) → Rises s other (on_fence s log pass)
 fence_rises s log pass other =
     by_test (Rises s other) (is_greater (pass_cmp pass (fence_of s.fences log))) (record s { fences = insert_entry log_cmp s.fences log pass }) s
-    (λ h. subst (NotBelow (fence_of s.fences other)) (sym (fence_of-with s.fences log pass other)) (rises_or_stays s log pass other (eq_by_cmp log_cmp other log) refl h))
+    (λ h. subst (NotBelow (fence_of s.fences other)) (sym (fence_of-with s.fences log pass other))
+    (rises_or_stays s log pass other (eq_by_cmp log_cmp other log) refl h))
     (λ h. not_below_itself (fence_of s.fences other))
 
 kept_rises : (s : ShelfState) (f : Fragment) (log : LogId) → Rises s log (kept s f)
 kept_rises s f log =
-    by_test (Rises s log) (is_held s f.meta.name) s (record s { held = with_fragment f s.held }) (λ h. not_below_itself (fence_of s.fences log)) (λ h. not_below_itself (fence_of s.fences log))
+    by_test (Rises s log) (is_held s f.meta.name) s (record s { held = with_fragment f s.held }) (λ h. not_below_itself (fence_of s.fences log))
+    (λ h. not_below_itself (fence_of s.fences log))
 
 fence_after_call : (s : ShelfState) (c : Call) (log : LogId) → Rises s log (after_call s c)
-fence_after_call s (Store f generation) log = by_test (Rises s log) (is_none (store_refused s f.meta.name generation)) (kept s f) s (λ h. kept_rises s f log) (λ h. not_below_itself (fence_of s.fences log))
+fence_after_call s (Store f generation) log =
+    by_test (Rises s log) (is_none (store_refused s f.meta.name generation)) (kept s f) s (λ h. kept_rises s f log)
+    (λ h. not_below_itself (fence_of s.fences log))
 fence_after_call s (Fence log' pass) log = fence_rises s log' pass log
 fence_after_call s (Delete name) log = not_below_itself (fence_of s.fences log)
-fence_after_call s (Fill f) log = by_test (Rises s log) (is_marked s.marks f.meta.name) s (kept s f) (λ h. not_below_itself (fence_of s.fences log)) (λ h. kept_rises s f log)
+fence_after_call s (Fill f) log =
+    by_test (Rises s log) (is_marked s.marks f.meta.name) s (kept s f) (λ h. not_below_itself (fence_of s.fences log)) (λ h. kept_rises s f log)
 
-pub never_fall : (s : ShelfState) (calls : List Call) (log : LogId) → IsFalse (is_greater (pass_cmp (fence_of s.fences log) (fence_of (after_calls s calls).fences log)))
+pub never_fall : (s : ShelfState) (calls : List Call) (log : LogId)
+    → IsFalse (is_greater (pass_cmp (fence_of s.fences log) (fence_of (after_calls s calls).fences log)))
 never_fall s [] log = not_below_itself (fence_of s.fences log)
 never_fall s (c ∷ cs) log =
-    not_below_through (fence_of s.fences log) (fence_of (after_call s c).fences log) (fence_of (after_calls (after_call s c) cs).fences log) (fence_after_call s c log) (never_fall (after_call s c) cs log)
+    not_below_through (fence_of s.fences log) (fence_of (after_call s c).fences log) (fence_of (after_calls (after_call s c) cs).fences log)
+    (fence_after_call s c log) (never_fall (after_call s c) cs log)
 
 -- ---- marks
 
@@ -91,8 +101,11 @@ kept_marks : (s : ShelfState) (f : Fragment) (name : SegName) → StaysMarked s 
 kept_marks s f name = by_test (StaysMarked s name) (is_held s f.meta.name) s (record s { held = with_fragment f s.held }) (λ h m. m) (λ h m. m)
 
 marks_after_call : (s : ShelfState) (c : Call) (name : SegName) → StaysMarked s name (after_call s c)
-marks_after_call s (Store f generation) name = by_test (StaysMarked s name) (is_none (store_refused s f.meta.name generation)) (kept s f) s (λ h. kept_marks s f name) (λ h m. m)
-marks_after_call s (Fence log pass) name = by_test (StaysMarked s name) (is_greater (pass_cmp pass (fence_of s.fences log))) (record s { fences = insert_entry log_cmp s.fences log pass }) s (λ h m. m) (λ h m. m)
+marks_after_call s (Store f generation) name =
+    by_test (StaysMarked s name) (is_none (store_refused s f.meta.name generation)) (kept s f) s (λ h. kept_marks s f name) (λ h m. m)
+marks_after_call s (Fence log pass) name =
+    by_test (StaysMarked s name) (is_greater (pass_cmp pass (fence_of s.fences log))) (record s { fences = insert_entry log_cmp s.fences log pass }) s
+    (λ h m. m) (λ h m. m)
 marks_after_call s (Delete gone) name = λ m. is_marked-with s.marks gone name ∙ or_second (same_name name gone) (is_marked s.marks name) m
 marks_after_call s (Fill f) name = by_test (StaysMarked s name) (is_marked s.marks f.meta.name) s (kept s f) (λ h m. m) (λ h. kept_marks s f name)
 
@@ -106,30 +119,42 @@ abbrev HeldOrMarked : SegName → Fragment → ShelfState → Type 0
 HeldOrMarked name f s = (held_at s.held name ≡ Some f) ⊎ IsTrue (is_marked s.marks name)
 
 -- a fragment of another name comes
-beside : (s : ShelfState) (new : Fragment) (name : SegName) (f : Fragment) → held_at s.held new.meta.name ≡ None → held_at s.held name ≡ Some f → (t : Bool) → same_name name new.meta.name ≡ t → cond t (Some new) (held_at s.held name) ≡ Some f
-beside s new name f none h true e = contrary (sym (ap is_some none) ∙ (ap (λ n. is_some (held_at s.held n)) (sym (one_name name new.meta.name e)) ∙ ap is_some h))
+beside : (s : ShelfState) (new : Fragment) (name : SegName) (f : Fragment) → held_at s.held new.meta.name ≡ None → held_at s.held name ≡ Some f → (t : Bool)
+    → same_name name new.meta.name ≡ t → cond t (Some new) (held_at s.held name) ≡ Some f
+beside s new name f none h true e =
+    contrary (sym (ap is_some none) ∙ (ap (λ n. is_some (held_at s.held n)) (sym (one_name name new.meta.name e)) ∙ ap is_some h))
 beside s new name f none h false e = h
 
 kept_held : (s : ShelfState) (new : Fragment) (name : SegName) (f : Fragment) → held_at s.held name ≡ Some f → HeldOrMarked name f (kept s new)
 kept_held s new name f h =
     by_test (HeldOrMarked name f) (is_held s new.meta.name) s (record s { held = with_fragment new s.held }) (λ e. inl h)
-    (λ e. let none = none_held (held_at s.held new.meta.name) e in inl (held-with new s.held name none ∙ beside s new name f none h (same_name name new.meta.name) refl))
+    (λ e. let none = none_held (held_at s.held new.meta.name) e in
+    inl (held-with new s.held name none ∙ beside s new name f none h (same_name name new.meta.name) refl))
 
-deleted_or_held : (s : ShelfState) (gone name : SegName) (f : Fragment) → held_at s.held name ≡ Some f → (t : Bool) → same_name gone name ≡ t → HeldOrMarked name f (on_delete s gone)
-deleted_or_held s gone name f h true e = inr (is_marked-with s.marks gone name ∙ or_first (same_name name gone) (is_marked s.marks name) (same_back name gone ∙ e))
+deleted_or_held : (s : ShelfState) (gone name : SegName) (f : Fragment) → held_at s.held name ≡ Some f → (t : Bool) → same_name gone name ≡ t
+    → HeldOrMarked name f (on_delete s gone)
+deleted_or_held s gone name f h true e =
+    inr (is_marked-with s.marks gone name ∙ or_first (same_name name gone) (is_marked s.marks name) (same_back name gone ∙ e))
 deleted_or_held s gone name f h false e = inl (held-without gone s.held name ∙ ap (λ t. cond t None (held_at s.held name)) e ∙ h)
 
 held_after_call : (s : ShelfState) (c : Call) (name : SegName) (f : Fragment) → held_at s.held name ≡ Some f → HeldOrMarked name f (after_call s c)
-held_after_call s (Store new generation) name f h = by_test (HeldOrMarked name f) (is_none (store_refused s new.meta.name generation)) (kept s new) s (λ e. kept_held s new name f h) (λ e. inl h)
-held_after_call s (Fence log pass) name f h = by_test (HeldOrMarked name f) (is_greater (pass_cmp pass (fence_of s.fences log))) (record s { fences = insert_entry log_cmp s.fences log pass }) s (λ e. inl h) (λ e. inl h)
+held_after_call s (Store new generation) name f h =
+    by_test (HeldOrMarked name f) (is_none (store_refused s new.meta.name generation)) (kept s new) s (λ e. kept_held s new name f h) (λ e. inl h)
+held_after_call s (Fence log pass) name f h =
+    by_test (HeldOrMarked name f) (is_greater (pass_cmp pass (fence_of s.fences log))) (record s { fences = insert_entry log_cmp s.fences log pass }) s
+    (λ e. inl h) (λ e. inl h)
 held_after_call s (Delete gone) name f h = deleted_or_held s gone name f h (same_name gone name) refl
-held_after_call s (Fill new) name f h = by_test (HeldOrMarked name f) (is_marked s.marks new.meta.name) s (kept s new) (λ e. inl h) (λ e. kept_held s new name f h)
+held_after_call s (Fill new) name f h =
+    by_test (HeldOrMarked name f) (is_marked s.marks new.meta.name) s (kept s new) (λ e. inl h) (λ e. kept_held s new name f h)
 
-held_on : (s : ShelfState) (c : Call) (calls : List Call) (name : SegName) (f : Fragment) → ((h : held_at (after_call s c).held name ≡ Some f) → HeldOrMarked name f (after_calls (after_call s c) calls)) → HeldOrMarked name f (after_call s c) → HeldOrMarked name f (after_calls (after_call s c) calls)
+held_on : (s : ShelfState) (c : Call) (calls : List Call) (name : SegName) (f : Fragment)
+    → ((h : held_at (after_call s c).held name ≡ Some f) → HeldOrMarked name f (after_calls (after_call s c) calls)) → HeldOrMarked name f (after_call s c)
+    → HeldOrMarked name f (after_calls (after_call s c) calls)
 held_on s c calls name f more (inl h) = more h
 held_on s c calls name f more (inr m) = inr (marks_stay (after_call s c) calls name m)
 
-pub held_until_deleted : (s : ShelfState) (calls : List Call) (name : SegName) (f : Fragment) → held_at s.held name ≡ Some f → HeldOrMarked name f (after_calls s calls)
+pub held_until_deleted : (s : ShelfState) (calls : List Call) (name : SegName) (f : Fragment) → held_at s.held name ≡ Some f
+    → HeldOrMarked name f (after_calls s calls)
 held_until_deleted s [] name f h = inl h
 held_until_deleted s (c ∷ cs) name f h = held_on s c cs name f (λ k. held_until_deleted (after_call s c) cs name f k) (held_after_call s c name f h)
 
@@ -138,21 +163,24 @@ held_until_deleted s (c ∷ cs) name f h = held_on s c cs name f (λ k. held_unt
 abbrev Away : ShelfState → Type 0
 Away s = (name : SegName) → is_marked s.marks name ≡ true → held_at s.held name ≡ None
 
-apart : (s : ShelfState) (new : Fragment) (name : SegName) → is_marked s.marks new.meta.name ≡ false → is_marked s.marks name ≡ true → held_at s.held name ≡ None → (t : Bool) → same_name name new.meta.name ≡ t → cond t (Some new) (held_at s.held name) ≡ None
+apart : (s : ShelfState) (new : Fragment) (name : SegName) → is_marked s.marks new.meta.name ≡ false → is_marked s.marks name ≡ true
+    → held_at s.held name ≡ None → (t : Bool) → same_name name new.meta.name ≡ t → cond t (Some new) (held_at s.held name) ≡ None
 apart s new name unmarked marked none true e = contrary (sym unmarked ∙ (ap (is_marked s.marks) (sym (one_name name new.meta.name e)) ∙ marked))
 apart s new name unmarked marked none false e = none
 
 kept_away : (s : ShelfState) (new : Fragment) → is_marked s.marks new.meta.name ≡ false → Away s → Away (kept s new)
 kept_away s new unmarked away =
     by_test Away (is_held s new.meta.name) s (record s { held = with_fragment new s.held }) (λ e. away)
-    (λ e name m. held-with new s.held name (none_held (held_at s.held new.meta.name) e) ∙ apart s new name unmarked m (away name m) (same_name name new.meta.name) refl)
+    (λ e name m. held-with new s.held name (none_held (held_at s.held new.meta.name) e)
+    ∙ apart s new name unmarked m (away name m) (same_name name new.meta.name) refl)
 
 not_marked : {A : Type 0} (a b : Bool) (x y : A) (o : Option A) → is_none (cond a (Some x) (cond b (Some y) o)) ≡ true → b ≡ false
 not_marked true b x y o h = contrary h
 not_marked false true x y o h = contrary h
 not_marked false false x y o h = refl
 
-deleted_away : (s : ShelfState) (gone name : SegName) → Away s → (t : Bool) → same_name gone name ≡ t → (same_name name gone || is_marked s.marks name) ≡ true → cond t None (held_at s.held name) ≡ None
+deleted_away : (s : ShelfState) (gone name : SegName) → Away s → (t : Bool) → same_name gone name ≡ t → (same_name name gone || is_marked s.marks name) ≡ true
+    → cond t None (held_at s.held name) ≡ None
 deleted_away s gone name away true e m = refl
 deleted_away s gone name away false e m = away name (sym (ap (λ t. t || is_marked s.marks name) (same_back name gone ∙ e)) ∙ m)
 
@@ -161,13 +189,16 @@ away_after_call s (Store new generation) away =
     by_test Away (is_none (store_refused s new.meta.name generation)) (kept s new) s
     (λ e. kept_away s new (not_marked (not (nat_eq generation s.generation)) (is_marked s.marks new.meta.name) (WrongGeneration s.generation) Marked _ e) away)
     (λ e. away)
-away_after_call s (Fence log pass) away = by_test Away (is_greater (pass_cmp pass (fence_of s.fences log))) (record s { fences = insert_entry log_cmp s.fences log pass }) s (λ e. away) (λ e. away)
-away_after_call s (Delete gone) away = λ name m. held-without gone s.held name ∙ deleted_away s gone name away (same_name gone name) refl (sym (is_marked-with s.marks gone name) ∙ m)
+away_after_call s (Fence log pass) away =
+    by_test Away (is_greater (pass_cmp pass (fence_of s.fences log))) (record s { fences = insert_entry log_cmp s.fences log pass }) s (λ e. away) (λ e. away)
+away_after_call s (Delete gone) away =
+    λ name m. held-without gone s.held name ∙ deleted_away s gone name away (same_name gone name) refl (sym (is_marked-with s.marks gone name) ∙ m)
 away_after_call s (Fill new) away = by_test Away (is_marked s.marks new.meta.name) s (kept s new) (λ e. away) (λ e. kept_away s new e away)
 
 away_after_calls : (s : ShelfState) (calls : List Call) → Away s → Away (after_calls s calls)
 away_after_calls s [] away = away
 away_after_calls s (c ∷ cs) away = away_after_calls (after_call s c) cs (away_after_call s c away)
 
-pub deleted_stay_away : (calls : List Call) (name : SegName) → IsTrue (is_marked (after_calls new_shelf calls).marks name) → held_at (after_calls new_shelf calls).held name ≡ None
+pub deleted_stay_away : (calls : List Call) (name : SegName) → IsTrue (is_marked (after_calls new_shelf calls).marks name)
+    → held_at (after_calls new_shelf calls).held name ≡ None
 deleted_stay_away calls name m = away_after_calls new_shelf calls (λ n h. contrary h) name m

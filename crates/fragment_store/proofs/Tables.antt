@@ -27,23 +27,29 @@ one_of_two : (a b name : SegName) → same_name name a ≡ true → same_name na
 one_of_two a b name p q = ap (λ n. same_name n b) (sym (one_name name a p)) ∙ q
 
 -- a list with one more fragment, of a name that it hadn't
-pub held-with : (f : Fragment) (fs : List Fragment) (name : SegName) → held_at fs f.meta.name ≡ None → held_at (with_fragment f fs) name ≡ cond (same_name name f.meta.name) (Some f) (held_at fs name)
+pub held-with : (f : Fragment) (fs : List Fragment) (name : SegName) → held_at fs f.meta.name ≡ None
+    → held_at (with_fragment f fs) name ≡ cond (same_name name f.meta.name) (Some f) (held_at fs name)
 held-with f [] name none = refl
 held-with f (h ∷ hs) name none = by (is_greater (seg_cmp f.meta.name h.meta.name)) (same_name f.meta.name h.meta.name) refl none (λ k. held-with f hs name k)
   where
-    order : (s t : Bool) → same_name name h.meta.name ≡ s → same_name name f.meta.name ≡ t → same_name f.meta.name h.meta.name ≡ false → cond s (Some h) (cond t (Some f) (held_at hs name)) ≡ cond t (Some f) (cond s (Some h) (held_at hs name))
+    order : (s t : Bool) → same_name name h.meta.name ≡ s → same_name name f.meta.name ≡ t → same_name f.meta.name h.meta.name ≡ false
+        → cond s (Some h) (cond t (Some f) (held_at hs name)) ≡ cond t (Some f) (cond s (Some h) (held_at hs name))
     order false t a b e = refl
     order true false a b e = refl
     order true true a b e = contrary (sym e ∙ one_of_two f.meta.name h.meta.name name b a)
 
-    by : (t u : Bool) → same_name f.meta.name h.meta.name ≡ u → cond u (Some h) (held_at hs f.meta.name) ≡ None → (held_at hs f.meta.name ≡ None → held_at (with_fragment f hs) name ≡ cond (same_name name f.meta.name) (Some f) (held_at hs name))
-        → held_at (cond t (h ∷ with_fragment f hs) (f ∷ h ∷ hs)) name ≡ cond (same_name name f.meta.name) (Some f) (cond (same_name name h.meta.name) (Some h) (held_at hs name))
+    by : (t u : Bool) → same_name f.meta.name h.meta.name ≡ u → cond u (Some h) (held_at hs f.meta.name) ≡ None
+        → (held_at hs f.meta.name ≡ None → held_at (with_fragment f hs) name ≡ cond (same_name name f.meta.name) (Some f) (held_at hs name))
+        → held_at (cond t (h ∷ with_fragment f hs) (f ∷ h ∷ hs)) name ≡ cond (same_name name f.meta.name) (Some f)
+        (cond (same_name name h.meta.name) (Some h) (held_at hs name))
     by false u e k more = refl
     by true true e k more = contrary (sym (ap is_some k))
-    by true false e k more = ap (λ o. cond (same_name name h.meta.name) (Some h) o) (more k) ∙ order (same_name name h.meta.name) (same_name name f.meta.name) refl refl e
+    by true false e k more =
+        ap (λ o. cond (same_name name h.meta.name) (Some h) o) (more k) ∙ order (same_name name h.meta.name) (same_name name f.meta.name) refl refl e
 
 -- a list without the fragments of a name
-pub held-without : (gone : SegName) (fs : List Fragment) (name : SegName) → held_at (filter (λ f. not (same_name gone f.meta.name)) fs) name ≡ cond (same_name gone name) None (held_at fs name)
+pub held-without : (gone : SegName) (fs : List Fragment) (name : SegName)
+    → held_at (filter (λ f. not (same_name gone f.meta.name)) fs) name ≡ cond (same_name gone name) None (held_at fs name)
 held-without gone [] name = by (same_name gone name)
   where
     by : (t : Bool) → held_at [] name ≡ cond t None (held_at [] name)
@@ -54,8 +60,10 @@ held-without gone (h ∷ hs) name = by (same_name gone h.meta.name) (same_name n
     rest : List Fragment
     rest = filter (λ f. not (same_name gone f.meta.name)) hs
 
-    by : (s t u : Bool) → same_name gone h.meta.name ≡ s → same_name name h.meta.name ≡ t → same_name gone name ≡ u → held_at (filter (λ f. not (same_name gone f.meta.name)) hs) name ≡ cond u None (held_at hs name)
-        → held_at (cond (not s) (h ∷ filter (λ f. not (same_name gone f.meta.name)) hs) (filter (λ f. not (same_name gone f.meta.name)) hs)) name ≡ cond u None (cond t (Some h) (held_at hs name))
+    by : (s t u : Bool) → same_name gone h.meta.name ≡ s → same_name name h.meta.name ≡ t → same_name gone name ≡ u
+        → held_at (filter (λ f. not (same_name gone f.meta.name)) hs) name ≡ cond u None (held_at hs name)
+        → held_at (cond (not s) (h ∷ filter (λ f. not (same_name gone f.meta.name)) hs) (filter (λ f. not (same_name gone f.meta.name)) hs)) name ≡ cond u None
+        (cond t (Some h) (held_at hs name))
     by false false u a b c more = ap (λ t. cond t (Some h) (held_at (filter (λ f. not (same_name gone f.meta.name)) hs) name)) b ∙ more
     by false true false a b c more = ap (λ t. cond t (Some h) (held_at (filter (λ f. not (same_name gone f.meta.name)) hs) name)) b
     by false true true a b c more = contrary (sym a ∙ (ap (λ n. same_name n h.meta.name) (one_name gone name c) ∙ b))
@@ -72,7 +80,10 @@ or_cases false a b = refl
 pub is_marked-with : (marks : List SegName) (new name : SegName) → is_marked (insert_key seg_cmp marks new) name ≡ same_name name new || is_marked marks name
 is_marked-with [] new name = refl
 is_marked-with (m ∷ ms) new name =
-    elim (seg_cmp new m) as (λ o. is_eq (seg_cmp new m) ≡ is_eq o → list_any (same_name name) (match_ordering o (new ∷ m ∷ ms) (m ∷ ms) (m ∷ insert_key seg_cmp ms new)) ≡ same_name name new || (same_name name m || is_marked ms name)) [
+    elim (seg_cmp new m) as
+    (λ o. is_eq (seg_cmp new m) ≡ is_eq o
+    → list_any (same_name name) (match_ordering o (new ∷ m ∷ ms) (m ∷ ms) (m ∷ insert_key seg_cmp ms new)) ≡ same_name name new ||
+    (same_name name m || is_marked ms name)) [
       | Less ↦ λ e. refl
       | Equal ↦ λ e. twice (same_name name m) (same_name name new) (is_marked ms name) (ap (same_name name) (one_name new m e))
       | Greater ↦ λ e. ap (λ t. same_name name m || t) (is_marked-with ms new name) ∙ or_cases (same_name name new) (is_marked ms name) (same_name name m)
@@ -91,11 +102,13 @@ no_fence : Pass
 no_fence = record { inc = 0; att = 0 }
 
 -- the fence of each log once one is set
-pub fence_of-with : (fences : List (LogId × Pass)) (log : LogId) (pass : Pass) (other : LogId) → fence_of (insert_entry log_cmp fences log pass) other ≡ cond (eq_by_cmp log_cmp other log) pass (fence_of fences other)
+pub fence_of-with : (fences : List (LogId × Pass)) (log : LogId) (pass : Pass) (other : LogId)
+    → fence_of (insert_entry log_cmp fences log pass) other ≡ cond (eq_by_cmp log_cmp other log) pass (fence_of fences other)
 fence_of-with fences log pass other =
     ap (λ o. unwrap_or o (record { inc = 0; att = 0 })) (lookup-insert_entry log_cmp_total other log pass fences)
     ∙ out (eq_by_cmp log_cmp other log) (lookup (is_at (log_cmp other)) fences)
   where
-    out : (t : Bool) (o : Option Pass) → unwrap_or (cond t (Some pass) o) (record { inc = 0; att = 0 }) ≡ cond t pass (unwrap_or o (record { inc = 0; att = 0 }))
+    out : (t : Bool) (o : Option Pass)
+        → unwrap_or (cond t (Some pass) o) (record { inc = 0; att = 0 }) ≡ cond t pass (unwrap_or o (record { inc = 0; att = 0 }))
     out true o = refl
     out false o = refl

@@ -13,9 +13,12 @@ rises (g ∷ gs) zero (suc j) n l = omega arith
 rises (g ∷ gs) (suc i) zero n l = omega arith
 rises (g ∷ gs) (suc i) (suc j) n l = rises gs i j n l
 
-pub never_fall : (state : GroupMapState) (losses : List Loss) → MayLoseAll state losses → (server : ℕ) → generation_at state.generations server ≤ generation_at (after_losses state losses).generations server
+pub never_fall : (state : GroupMapState) (losses : List Loss) → MayLoseAll state losses → (server : ℕ)
+    → generation_at state.generations server ≤ generation_at (after_losses state losses).generations server
 never_fall state [] may server = omega arith
 never_fall state (l ∷ ls) may server =
-    let first : generation_at state.generations server ≤ generation_at (lost state l.server l.generation).generations server = rises state.generations (l.server - 1) (server - 1) l.generation may.0.newer in
-    let later : generation_at (lost state l.server l.generation).generations server ≤ generation_at (after_losses (lost state l.server l.generation) ls).generations server = never_fall (lost state l.server l.generation) ls may.1 server in
+    let first : generation_at state.generations server ≤ generation_at (lost state l.server l.generation).generations server =
+    rises state.generations (l.server - 1) (server - 1) l.generation may.0.newer in
+    let later : generation_at (lost state l.server l.generation).generations server ≤ generation_at
+    (after_losses (lost state l.server l.generation) ls).generations server = never_fall (lost state l.server l.generation) ls may.1 server in
     omega arith

@@ -31,18 +31,23 @@ find-below k (g ∷ gs) id l h =
 ids_from : (k : ℕ) (gs : List Group) (p : ℕ) → IsNumbered k gs → p < length (current_ids gs) → k ≤ slice_index (current_ids gs) p
 ids_from k [] p h l = absurd (omega arith)
 ids_from k (g ∷ gs) zero h l =
-    elim g.current as (λ c. 0 < length (map (λ (x : Group). x.id) (cond c (g ∷ filter (λ (x : Group). x.current) gs) (filter (λ (x : Group). x.current) gs))) → k ≤ slice_index (map (λ (x : Group). x.id) (cond c (g ∷ filter (λ (x : Group). x.current) gs) (filter (λ (x : Group). x.current) gs))) 0) [
+    elim g.current as
+    (λ c. 0 < length (map (λ (x : Group). x.id) (cond c (g ∷ filter (λ (x : Group). x.current) gs) (filter (λ (x : Group). x.current) gs)))
+    → k ≤ slice_index (map (λ (x : Group). x.id) (cond c (g ∷ filter (λ (x : Group). x.current) gs) (filter (λ (x : Group). x.current) gs))) 0) [
       | true ↦ λ m. omega (arith, h.0)
       | false ↦ λ m. omega (arith, ids_from (k + 1) gs 0 h.1 m)
     ] l
 ids_from k (g ∷ gs) (suc p) h l =
-    elim g.current as (λ c. suc p < length (map (λ (x : Group). x.id) (cond c (g ∷ filter (λ (x : Group). x.current) gs) (filter (λ (x : Group). x.current) gs))) → k ≤ slice_index (map (λ (x : Group). x.id) (cond c (g ∷ filter (λ (x : Group). x.current) gs) (filter (λ (x : Group). x.current) gs))) (suc p)) [
+    elim g.current as
+    (λ c. suc p < length (map (λ (x : Group). x.id) (cond c (g ∷ filter (λ (x : Group). x.current) gs) (filter (λ (x : Group). x.current) gs)))
+    → k ≤ slice_index (map (λ (x : Group). x.id) (cond c (g ∷ filter (λ (x : Group). x.current) gs) (filter (λ (x : Group). x.current) gs))) (suc p)) [
       | true ↦ λ m. let n : p < length (current_ids gs) = omega arith in omega (arith, ids_from (k + 1) gs p h.1 n)
       | false ↦ λ m. omega (arith, ids_from (k + 1) gs (suc p) h.1 m)
     ] l
 
 -- a group of a lower id is passed over
-passed : (g : Group) (gs : List Group) (id : ℕ) → g.id < id → IsSomeAnd (find (λ x. x.id == id) gs) (λ x. IsTrue x.current) → IsSomeAnd (find (λ x. x.id == id) (g ∷ gs)) (λ x. IsTrue x.current)
+passed : (g : Group) (gs : List Group) (id : ℕ) → g.id < id → IsSomeAnd (find (λ x. x.id == id) gs) (λ x. IsTrue x.current)
+    → IsSomeAnd (find (λ x. x.id == id) (g ∷ gs)) (λ x. IsTrue x.current)
 passed g gs id l h =
     let apart : (g.id == id) ≡ false = grind (arith, nat_tests) in
     subst (λ b. IsSomeAnd (cond b (Some g) (find (λ (x : Group). x.id == id) gs)) (λ x. IsTrue x.current)) (sym apart) h
@@ -53,17 +58,28 @@ found_here g gs e =
     subst (λ b. IsSomeAnd (cond b (Some g) (find (λ (x : Group). x.id == g.id) gs)) (λ x. IsTrue x.current)) (sym here) e
 
 -- each of the current ids is that of a current group
-pub IsCurrent-chosen : (k : ℕ) (gs : List Group) (p : ℕ) → IsNumbered k gs → p < length (current_ids gs) → IsSomeAnd (find (λ g. g.id == slice_index (current_ids gs) p) gs) (λ g. IsTrue g.current)
+pub IsCurrent-chosen : (k : ℕ) (gs : List Group) (p : ℕ) → IsNumbered k gs → p < length (current_ids gs)
+    → IsSomeAnd (find (λ g. g.id == slice_index (current_ids gs) p) gs) (λ g. IsTrue g.current)
 IsCurrent-chosen k [] p h l = absurd (omega arith)
 IsCurrent-chosen k (g ∷ gs) zero h l =
-    elim g.current as (λ c. g.current ≡ c → 0 < length (map (λ (x : Group). x.id) (cond c (g ∷ filter (λ (x : Group). x.current) gs) (filter (λ (x : Group). x.current) gs))) → IsSomeAnd (find (λ x. x.id == slice_index (map (λ (x : Group). x.id) (cond c (g ∷ filter (λ (x : Group). x.current) gs) (filter (λ (x : Group). x.current) gs))) 0) (g ∷ gs)) (λ x. IsTrue x.current)) [
+    elim g.current as
+    (λ c. g.current ≡ c → 0 < length (map (λ (x : Group). x.id) (cond c (g ∷ filter (λ (x : Group). x.current) gs) (filter (λ (x : Group). x.current) gs)))
+    → IsSomeAnd (find
+    (λ x. x.id == slice_index (map (λ (x : Group). x.id) (cond c (g ∷ filter (λ (x : Group). x.current) gs) (filter (λ (x : Group). x.current) gs))) 0)
+    (g ∷ gs)) (λ x. IsTrue x.current)) [
       | true ↦ λ e m. found_here g gs e
       | false ↦ λ e m. passed g gs (slice_index (current_ids gs) 0) (omega (arith, h.0, ids_from (k + 1) gs 0 h.1 m)) (IsCurrent-chosen (k + 1) gs 0 h.1 m)
     ] refl l
 IsCurrent-chosen k (g ∷ gs) (suc p) h l =
-    elim g.current as (λ c. suc p < length (map (λ (x : Group). x.id) (cond c (g ∷ filter (λ (x : Group). x.current) gs) (filter (λ (x : Group). x.current) gs))) → IsSomeAnd (find (λ x. x.id == slice_index (map (λ (x : Group). x.id) (cond c (g ∷ filter (λ (x : Group). x.current) gs) (filter (λ (x : Group). x.current) gs))) (suc p)) (g ∷ gs)) (λ x. IsTrue x.current)) [
-      | true ↦ λ m. let n : p < length (current_ids gs) = omega arith in passed g gs (slice_index (current_ids gs) p) (omega (arith, h.0, ids_from (k + 1) gs p h.1 n)) (IsCurrent-chosen (k + 1) gs p h.1 n)
-      | false ↦ λ m. passed g gs (slice_index (current_ids gs) (suc p)) (omega (arith, h.0, ids_from (k + 1) gs (suc p) h.1 m)) (IsCurrent-chosen (k + 1) gs (suc p) h.1 m)
+    elim g.current as
+    (λ c. suc p < length (map (λ (x : Group). x.id) (cond c (g ∷ filter (λ (x : Group). x.current) gs) (filter (λ (x : Group). x.current) gs)))
+    → IsSomeAnd (find
+    (λ x. x.id == slice_index (map (λ (x : Group). x.id) (cond c (g ∷ filter (λ (x : Group). x.current) gs) (filter (λ (x : Group). x.current) gs))) (suc p))
+    (g ∷ gs)) (λ x. IsTrue x.current)) [
+      | true ↦ λ m. let n : p < length (current_ids gs) =
+          omega arith in passed g gs (slice_index (current_ids gs) p) (omega (arith, h.0, ids_from (k + 1) gs p h.1 n)) (IsCurrent-chosen (k + 1) gs p h.1 n)
+      | false ↦ λ m. passed g gs (slice_index (current_ids gs) (suc p)) (omega (arith, h.0, ids_from (k + 1) gs (suc p) h.1 m))
+          (IsCurrent-chosen (k + 1) gs (suc p) h.1 m)
     ] l
 
 pub IsNumbered-retired : (server k : ℕ) (gs : List Group) → IsNumbered k gs → IsNumbered k (map (retired server) gs)

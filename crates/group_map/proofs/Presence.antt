@@ -21,7 +21,9 @@ OfNow generations l = All (IsNow generations) l.members
 
 now_present : (generations : List ℕ) (ms : List Member) → All (IsNow generations) (present_members generations ms)
 now_present generations [] = All-nil (IsNow generations)
-now_present generations (m ∷ ms) = All-cons (IsNow generations) (record { server = m.server; generation = generation_at generations m.server }) (present_members generations ms) refl (now_present generations ms)
+now_present generations (m ∷ ms) =
+    All-cons (IsNow generations) (record { server = m.server; generation = generation_at generations m.server }) (present_members generations ms) refl
+    (now_present generations ms)
 
 at_first : (n i : ℕ) → i < n → slice_index (replicate n 1) i ≡ 1
 at_first zero i l = absurd (omega arith)
@@ -33,7 +35,8 @@ now_first servers [] h = All-nil (IsNow (replicate servers 1))
 now_first servers (s ∷ ss) h =
     let lo : IsServer servers s = All-head (IsServer servers) s ss h in
     let below : s - 1 < servers = omega arith in
-    All-cons (IsNow (replicate servers 1)) (record { server = s; generation = 1 }) (first_members ss) (sym (at_first servers (s - 1) below)) (now_first servers ss (All-tail (IsServer servers) s ss h))
+    All-cons (IsNow (replicate servers 1)) (record { server = s; generation = 1 }) (first_members ss) (sym (at_first servers (s - 1) below))
+    (now_first servers ss (All-tail (IsServer servers) s ss h))
 
 now_layouts : (servers : ℕ) (gs : List GroupSetup) → All (λ g. All (IsServer servers) g.servers) gs → All (OfNow (replicate servers 1)) (map first_layout gs)
 now_layouts servers [] h = All-nil (OfNow (replicate servers 1))
@@ -45,9 +48,11 @@ now_layouts servers (g ∷ gs) h =
 present-numbered : (generations : List ℕ) (k : ℕ) (ls : List Layout) → All (OfNow generations) ls → All (IsPresent generations) (numbered k ls)
 present-numbered generations k [] h = All-nil (IsPresent generations)
 present-numbered generations k (l ∷ ls) h =
-    All-cons (IsPresent generations) (record { id = k; members = l.members; parity = l.parity; current = true }) (numbered (k + 1) ls) (λ c. All-head (OfNow generations) l ls h) (present-numbered generations (k + 1) ls (All-tail (OfNow generations) l ls h))
+    All-cons (IsPresent generations) (record { id = k; members = l.members; parity = l.parity; current = true }) (numbered (k + 1) ls)
+    (λ c. All-head (OfNow generations) l ls h) (present-numbered generations (k + 1) ls (All-tail (OfNow generations) l ls h))
 
-pub present-started : (servers : ℕ) (gs : List GroupSetup) → All (λ g. All (IsServer servers) g.servers) gs → All (IsPresent (replicate servers 1)) (numbered 1 (map first_layout gs))
+pub present-started : (servers : ℕ) (gs : List GroupSetup) → All (λ g. All (IsServer servers) g.servers) gs
+    → All (IsPresent (replicate servers 1)) (numbered 1 (map first_layout gs))
 present-started servers gs h = present-numbered (replicate servers 1) 1 (map first_layout gs) (now_layouts servers gs h)
 
 -- ---- a loss
@@ -69,26 +74,31 @@ and_not true true h = absurd cc
 and_not true false h = (refl, refl)
 and_not false b h = absurd cc
 
-now_spared : (servers server generation : ℕ) (generations : List ℕ) (ms : List Member) → IsServer servers server → list_any (λ m. m.server == server) ms ≡ false → All (λ m. IsServer servers m.server) ms → All (IsNow generations) ms → All (IsNow (generations_after generations server generation)) ms
+now_spared : (servers server generation : ℕ) (generations : List ℕ) (ms : List Member) → IsServer servers server → list_any (λ m. m.server == server) ms ≡ false
+    → All (λ m. IsServer servers m.server) ms → All (IsNow generations) ms → All (IsNow (generations_after generations server generation)) ms
 now_spared servers server generation generations [] s none exist h = All-nil (IsNow (generations_after generations server generation))
 now_spared servers server generation generations (m ∷ ms) s none exist h =
     let parts = or_false (m.server == server) (list_any (λ (x : Member). x.server == server) ms) none in
     let here : IsServer servers m.server = All-head (λ (x : Member). IsServer servers x.server) m ms exist in
     let apart : m.server ≢ server = grind (arith, nat_tests, parts.0) in
     let places : server - 1 ≢ m.server - 1 = omega (arith, s.0, here.0) in
-    let kept : generation_at (generations_after generations server generation) m.server ≡ generation_at generations m.server = set_other generations (server - 1) (m.server - 1) generation places in
+    let kept : generation_at (generations_after generations server generation) m.server ≡ generation_at generations m.server =
+    set_other generations (server - 1) (m.server - 1) generation places in
     All-cons (IsNow (generations_after generations server generation)) m ms (All-head (IsNow generations) m ms h ∙ sym kept)
-    (now_spared servers server generation generations ms s parts.1 (All-tail (λ (x : Member). IsServer servers x.server) m ms exist) (All-tail (IsNow generations) m ms h))
+    (now_spared servers server generation generations ms s parts.1 (All-tail (λ (x : Member). IsServer servers x.server) m ms exist)
+    (All-tail (IsNow generations) m ms h))
 
 abbrev HasStripe : ℕ → Group → Type 0
 HasStripe servers g = IsStripe servers g.parity g.members
 
-present-retired : (servers server generation : ℕ) (generations : List ℕ) (g : Group) → IsServer servers server → HasStripe servers g → IsPresent generations g → IsPresent (generations_after generations server generation) (retired server g)
+present-retired : (servers server generation : ℕ) (generations : List ℕ) (g : Group) → IsServer servers server → HasStripe servers g → IsPresent generations g
+    → IsPresent (generations_after generations server generation) (retired server g)
 present-retired servers server generation generations g s stripe h current =
     let parts = and_not g.current (has_server server g) current in
     now_spared servers server generation generations g.members s parts.1 stripe.exist (h parts.0)
 
-present-all_retired : (servers server generation : ℕ) (generations : List ℕ) (gs : List Group) → IsServer servers server → All (HasStripe servers) gs → All (IsPresent generations) gs → All (IsPresent (generations_after generations server generation)) (map (retired server) gs)
+present-all_retired : (servers server generation : ℕ) (generations : List ℕ) (gs : List Group) → IsServer servers server → All (HasStripe servers) gs
+    → All (IsPresent generations) gs → All (IsPresent (generations_after generations server generation)) (map (retired server) gs)
 present-all_retired servers server generation generations [] s stripes h = All-nil (IsPresent (generations_after generations server generation))
 present-all_retired servers server generation generations (g ∷ gs) s stripes h =
     All-cons (IsPresent (generations_after generations server generation)) (retired server g) (map (retired server) gs)
@@ -97,10 +107,14 @@ present-all_retired servers server generation generations (g ∷ gs) s stripes h
 
 now_following : (generations : List ℕ) (gs : List Group) → All (OfNow generations) (map (present_layout generations) gs)
 now_following generations [] = All-nil (OfNow generations)
-now_following generations (g ∷ gs) = All-cons (OfNow generations) (present_layout generations g) (map (present_layout generations) gs) (now_present generations g.members) (now_following generations gs)
+now_following generations (g ∷ gs) =
+    All-cons (OfNow generations) (present_layout generations g) (map (present_layout generations) gs) (now_present generations g.members)
+    (now_following generations gs)
 
-pub present-lost : (servers server generation k : ℕ) (generations : List ℕ) (gs : List Group) → IsServer servers server → All (HasStripe servers) gs → All (IsPresent generations) gs
-    → All (IsPresent (generations_after generations server generation)) (map (retired server) gs ++ numbered k (followers (generations_after generations server generation) server gs))
+pub present-lost : (servers server generation k : ℕ) (generations : List ℕ) (gs : List Group) → IsServer servers server → All (HasStripe servers) gs
+    → All (IsPresent generations) gs
+    → All (IsPresent (generations_after generations server generation))
+    (map (retired server) gs ++ numbered k (followers (generations_after generations server generation) server gs))
 present-lost servers server generation k generations gs s stripes h =
     let now : List ℕ = generations_after generations server generation in
     All-append (IsPresent now) (map (retired server) gs) (numbered k (followers now server gs))
@@ -116,5 +130,6 @@ found : (P : Group → Type 0) (test : Group → Bool) (gs : List Group) (g : Gr
 found P test [] g h e = absurd cc
 found P test (x ∷ xs) g h e = found_first P (test x) x g (find test xs) (All-head P x xs h) (λ f. found P test xs g (All-tail P x xs h) f) e
 
-pub is_present : (state : GroupMapState) (id : ℕ) (g : Group) → All (IsPresent state.generations) state.groups → group_of state id ≡ Some g → IsPresent state.generations g
+pub is_present : (state : GroupMapState) (id : ℕ) (g : Group) → All (IsPresent state.generations) state.groups → group_of state id ≡ Some g
+    → IsPresent state.generations g
 is_present state id g h e = found (IsPresent state.generations) (λ (x : Group). x.id == id) state.groups g h e

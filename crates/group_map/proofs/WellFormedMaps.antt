@@ -19,7 +19,9 @@ any_current-started : (gs : List GroupSetup) → 1 ≤ length gs → any_current
 any_current-started [] l = absurd (omega arith)
 any_current-started (g ∷ gs) l = refl
 
-pub IsGroupMap-started : (servers : ℕ) (gs : List GroupSetup) → 1 ≤ length gs → length gs ≤ 4294967295 → bad_size gs ≡ None → All (λ g. All (IsServer servers) g.servers) gs → All (λ g. IsDistinct nat_eq g.servers) gs → All (λ g. IsParity g.parity) gs → IsGroupMap (started servers gs)
+pub IsGroupMap-started : (servers : ℕ) (gs : List GroupSetup) → 1 ≤ length gs → length gs ≤ 4294967295 → bad_size gs ≡ None
+    → All (λ g. All (IsServer servers) g.servers) gs → All (λ g. IsDistinct nat_eq g.servers) gs → All (λ g. IsParity g.parity) gs
+    → IsGroupMap (started servers gs)
 IsGroupMap-started servers gs one few e exist differ parity = record {
   each_server = length-replicate servers 1;
   by_id = IsNumbered-numbered 1 (map first_layout gs);
@@ -29,16 +31,20 @@ IsGroupMap-started servers gs one few e exist differ parity = record {
   current = any_current-started gs one;
 }
 
-length-lost : (gs : List Group) (server k : ℕ) (generations : List ℕ) → length (map (retired server) gs ++ numbered k (followers generations server gs)) ≡ length gs + length (filter (is_hit server) gs)
+length-lost : (gs : List Group) (server k : ℕ) (generations : List ℕ)
+    → length (map (retired server) gs ++ numbered k (followers generations server gs)) ≡ length gs + length (filter (is_hit server) gs)
 length-lost gs server k generations = simp (length-append, length-map, length-numbered)
 
-by_id-lost : (gs : List Group) (server : ℕ) (generations : List ℕ) → IsNumbered 1 gs → IsNumbered 1 (map (retired server) gs ++ numbered (length gs + 1) (followers generations server gs))
+by_id-lost : (gs : List Group) (server : ℕ) (generations : List ℕ) → IsNumbered 1 gs
+    → IsNumbered 1 (map (retired server) gs ++ numbered (length gs + 1) (followers generations server gs))
 by_id-lost gs server generations h =
     let e : length gs + 1 ≡ 1 + length (map (retired server) gs) = simp length-map (omega arith) in
     IsNumbered-append 1 (map (retired server) gs) _ (IsNumbered-retired server 1 gs h)
-    (subst (λ n. IsNumbered n (numbered (length gs + 1) (followers generations server gs))) e (IsNumbered-numbered (length gs + 1) (followers generations server gs)))
+    (subst (λ n. IsNumbered n (numbered (length gs + 1) (followers generations server gs))) e
+    (IsNumbered-numbered (length gs + 1) (followers generations server gs)))
 
-pub IsGroupMap-lost : (state : GroupMapState) (server generation : ℕ) → IsServer state.servers server → length state.groups + length (filter (is_hit server) state.groups) ≤ 4294967295 → IsGroupMap state → IsGroupMap (lost state server generation)
+pub IsGroupMap-lost : (state : GroupMapState) (server generation : ℕ) → IsServer state.servers server
+    → length state.groups + length (filter (is_hit server) state.groups) ≤ 4294967295 → IsGroupMap state → IsGroupMap (lost state server generation)
 IsGroupMap-lost state server generation exists room h =
     let now : List ℕ = generations_after state.generations server generation in
     record {

@@ -72,5 +72,6 @@ abbrev pub lost : GroupMapState → ℕ → ℕ → GroupMapState
 lost state server generation = record {
   servers = state.servers;
   generations = generations_after state.generations server generation;
-  groups = map (retired server) state.groups ++ numbered (length state.groups + 1) (followers (generations_after state.generations server generation) server state.groups);
+  groups = map (retired server) state.groups
+      ++ numbered (length state.groups + 1) (followers (generations_after state.generations server generation) server state.groups);
 }

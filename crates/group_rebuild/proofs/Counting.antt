@@ -33,7 +33,8 @@ finished a b = Finished a b
 -- no question ends the rebuild
 no_end : (name : SegName) (ask : ℕ) (servers : List ℕ) (a b : ℕ) → Contains (fetches name ask servers) (Finished a b) → ⊥
 no_end name ask [] a b h = contains_nothing (finished a b) h
-no_end name ask (s ∷ ss) a b h = elim (contains_cases (Fetch s name ask) (finished a b) (fetches name ask ss) h) [ inl e ↦ absurd cc | inr k ↦ no_end name ask ss a b k ]
+no_end name ask (s ∷ ss) a b h =
+    elim (contains_cases (Fetch s name ask) (finished a b) (fetches name ask ss) h) [ inl e ↦ absurd cc | inr k ↦ no_end name ask ss a b k ]
 
 ends-go_on : (left : List Wanted) (r : ReadsState) (a b : ℕ) → Contains (go_on left r).outs (Finished a b) → a + b ≡ r.filled + r.gone + length left
 ends-go_on [] r a b h = elim (contains_cases (finished r.filled r.gone) (finished a b) [] h) [
@@ -59,7 +60,8 @@ names_in-judged r w round (Short pairs) le =
     all ∙ omega (arith, more)
 names_in-judged r w round Waiting le = omega arith
 
-ends-judged : (r : ReadsState) (w : Wanted) (round : RoundSoFar) (st : RoundState) (a b : ℕ) → in_all r ≤ u32_end → Contains (judged r w round st).outs (Finished a b) → a + b ≡ in_all r
+ends-judged : (r : ReadsState) (w : Wanted) (round : RoundSoFar) (st : RoundState) (a b : ℕ) → in_all r ≤ u32_end
+    → Contains (judged r w round st).outs (Finished a b) → a + b ≡ in_all r
 ends-judged r w round (Read text) a b le h =
     let more : one_more r.filled ≡ r.filled + 1 = one_more_is r.filled u32_end (omega (arith, le)) in
     let next = record r { filled = one_more r.filled } in
@@ -72,19 +74,23 @@ ends-judged r w round (Short pairs) a b le h =
     ends-go_on r.left (record r { gone = one_more r.gone }) a b h ∙ omega (arith, more)
 ends-judged r w round Waiting a b le h = absurd (contains_nothing (finished a b) h)
 
-names_in-answered : (r : ReadsState) (present : Option Present) (ask server : ℕ) (told : Told) → r.present ≡ present → names_in r ≤ u32_end → names_in (answered r present ask server told).state ≡ names_in r
+names_in-answered : (r : ReadsState) (present : Option Present) (ask server : ℕ) (told : Told) → r.present ≡ present → names_in r ≤ u32_end
+    → names_in (answered r present ask server told).state ≡ names_in r
 names_in-answered r None ask server told e le = refl
 names_in-answered r (Some p) ask server told e le =
     let all : names_in r ≡ in_all r = ap (λ o. r.filled + r.gone + count_of o + length r.left) e in
-    by_test (λ (st : Stepped ReadsState Out). names_in st.state ≡ names_in r) ((ask == r.ask) && counts p server told) (judged r p.wanted (taken p.round server told) (state_of (taken p.round server told))) (still r)
+    by_test (λ (st : Stepped ReadsState Out). names_in st.state ≡ names_in r) ((ask == r.ask) && counts p server told)
+    (judged r p.wanted (taken p.round server told) (state_of (taken p.round server told))) (still r)
     (λ t. names_in-judged r p.wanted (taken p.round server told) (state_of (taken p.round server told)) (omega (arith, all, le)) ∙ sym all)
     (λ t. refl)
 
-ends-answered : (r : ReadsState) (present : Option Present) (ask server : ℕ) (told : Told) (a b : ℕ) → r.present ≡ present → names_in r ≤ u32_end → Contains (answered r present ask server told).outs (Finished a b) → a + b ≡ names_in r
+ends-answered : (r : ReadsState) (present : Option Present) (ask server : ℕ) (told : Told) (a b : ℕ) → r.present ≡ present → names_in r ≤ u32_end
+    → Contains (answered r present ask server told).outs (Finished a b) → a + b ≡ names_in r
 ends-answered r None ask server told a b e le h = absurd (contains_nothing (finished a b) h)
 ends-answered r (Some p) ask server told a b e le h =
     let all : names_in r ≡ in_all r = ap (λ o. r.filled + r.gone + count_of o + length r.left) e in
-    by_test (λ (st : Stepped ReadsState Out). Contains st.outs (Finished a b) → a + b ≡ names_in r) ((ask == r.ask) && counts p server told) (judged r p.wanted (taken p.round server told) (state_of (taken p.round server told))) (still r)
+    by_test (λ (st : Stepped ReadsState Out). Contains st.outs (Finished a b) → a + b ≡ names_in r) ((ask == r.ask) && counts p server told)
+    (judged r p.wanted (taken p.round server told) (state_of (taken p.round server told))) (still r)
     (λ t k. ends-judged r p.wanted (taken p.round server told) (state_of (taken p.round server told)) a b (omega (arith, all, le)) k ∙ sym all)
     (λ t k. absurd (contains_nothing (finished a b) k))
     h
@@ -93,7 +99,8 @@ names_stay : (r : ReadsState) (ask server : ℕ) (told : Told) → names_in r �
 unfolding on_answer
 names_stay r ask server told le = names_in-answered r r.present ask server told refl le
 
-all_are_counted : (r : ReadsState) (ask server : ℕ) (told : Told) (a b : ℕ) → names_in r ≤ u32_end → Contains (on_answer r ask server told).outs (Finished a b) → a + b ≡ names_in r
+all_are_counted : (r : ReadsState) (ask server : ℕ) (told : Told) (a b : ℕ) → names_in r ≤ u32_end → Contains (on_answer r ask server told).outs (Finished a b)
+    → a + b ≡ names_in r
 unfolding on_answer
 all_are_counted r ask server told a b le h = ends-answered r r.present ask server told a b refl le h
 
@@ -115,7 +122,8 @@ names_are_counted wanted replies le =
     let first = names_begun wanted in
     names_stay_after (go_on wanted (at_first wanted)).state replies (omega (arith, first, le)) ∙ first
 
-pub all_are_finished : (wanted : List Wanted) (replies : List Reply) (ask server : ℕ) (told : Told) (a b : ℕ) → length wanted ≤ u32_end → Contains (on_answer (reading_after wanted replies) ask server told).outs (Finished a b) → a + b ≡ length wanted
+pub all_are_finished : (wanted : List Wanted) (replies : List Reply) (ask server : ℕ) (told : Told) (a b : ℕ) → length wanted ≤ u32_end
+    → Contains (on_answer (reading_after wanted replies) ask server told).outs (Finished a b) → a + b ≡ length wanted
 all_are_finished wanted replies ask server told a b le h =
     let all = names_are_counted wanted replies le in
     all_are_counted (reading_after wanted replies) ask server told a b (omega (arith, all, le)) h ∙ all

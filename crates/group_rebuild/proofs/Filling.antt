@@ -24,7 +24,8 @@ fill f = Fill f
 -- no question fills anything in
 no_fill : (name : SegName) (ask : ℕ) (servers : List ℕ) (f : Fragment) → Contains (fetches name ask servers) (Fill f) → ⊥
 no_fill name ask [] f h = contains_nothing (fill f) h
-no_fill name ask (s ∷ ss) f h = elim (contains_cases (Fetch s name ask) (fill f) (fetches name ask ss) h) [ inl e ↦ absurd cc | inr k ↦ no_fill name ask ss f k ]
+no_fill name ask (s ∷ ss) f h =
+    elim (contains_cases (Fetch s name ask) (fill f) (fetches name ask ss) h) [ inl e ↦ absurd cc | inr k ↦ no_fill name ask ss f k ]
 
 -- nor does the beginning of a round, or the end
 no_fill-go_on : (left : List Wanted) (r : ReadsState) (f : Fragment) → Contains (go_on left r).outs (Fill f) → ⊥
@@ -45,14 +46,18 @@ was_cut r w round (Read text) f h =
 was_cut r w round (Short pairs) f h = absurd (no_fill-go_on r.left (record r { gone = one_more r.gone }) f h)
 was_cut r w round Waiting f h = absurd (contains_nothing (fill f) h)
 
-from_answer : (r : ReadsState) (present : Option Present) (ask server : ℕ) (told : Told) (f : Fragment) → r.present ≡ present → Contains (answered r present ask server told).outs (Fill f) → IsFilledFrom r server told f
+from_answer : (r : ReadsState) (present : Option Present) (ask server : ℕ) (told : Told) (f : Fragment) → r.present ≡ present
+    → Contains (answered r present ask server told).outs (Fill f) → IsFilledFrom r server told f
 from_answer r None ask server told f e h = absurd (contains_nothing (fill f) h)
 from_answer r (Some p) ask server told f e h =
-    by_test (λ (st : Stepped ReadsState Out). Contains st.outs (Fill f) → IsFilledFrom r server told f) ((ask == r.ask) && counts p server told) (judged r p.wanted (taken p.round server told) (state_of (taken p.round server told))) (still r)
-    (λ t k. let was = was_cut r p.wanted (taken p.round server told) (state_of (taken p.round server told)) f k in record { present = p; is_read = e; text = was.0; read = was.1; cut = was.2 })
+    by_test (λ (st : Stepped ReadsState Out). Contains st.outs (Fill f) → IsFilledFrom r server told f) ((ask == r.ask) && counts p server told)
+    (judged r p.wanted (taken p.round server told) (state_of (taken p.round server told))) (still r)
+    (λ t k. let was = was_cut r p.wanted (taken p.round server told) (state_of (taken p.round server told)) f k in
+    record { present = p; is_read = e; text = was.0; read = was.1; cut = was.2 })
     (λ t k. absurd (contains_nothing (fill f) k))
     h
 
-pub filled_from : (r : ReadsState) (ask server : ℕ) (told : Told) (f : Fragment) → Contains (on_answer r ask server told).outs (Fill f) → IsFilledFrom r server told f
+pub filled_from : (r : ReadsState) (ask server : ℕ) (told : Told) (f : Fragment) → Contains (on_answer r ask server told).outs (Fill f)
+    → IsFilledFrom r server told f
 unfolding on_answer
 filled_from r ask server told f h = from_answer r r.present ask server told f refl h

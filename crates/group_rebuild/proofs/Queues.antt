@@ -9,7 +9,8 @@ use Rattle.group_rebuild.specs.Reads.{AreReads}
 use Rattle.group_rebuild.specs.Wanted.{IsWanted}
 
 -- one is read
-pub one_is_read : (left : List Wanted) (w : Wanted) (round : RoundSoFar) → All IsWanted left → IsWanted w → AreReads left (Some (record { wanted = w; round = round }))
+pub one_is_read : (left : List Wanted) (w : Wanted) (round : RoundSoFar) → All IsWanted left → IsWanted w
+    → AreReads left (Some (record { wanted = w; round = round }))
 one_is_read left w round all whole = record { all = all; now = now }
   where
     present : Present
@@ -19,7 +20,8 @@ one_is_read left w round all whole = record { all = all; now = now }
     now p e = let same : w ≡ p.wanted = cc in subst IsWanted same whole
 
 -- the first of the queue is read
-pub next_is_read : (items rest : List Wanted) (w : Wanted) (round : RoundSoFar) → items ≡ w ∷ rest → All IsWanted items → AreReads rest (Some (record { wanted = w; round = round }))
+pub next_is_read : (items rest : List Wanted) (w : Wanted) (round : RoundSoFar) → items ≡ w ∷ rest → All IsWanted items
+    → AreReads rest (Some (record { wanted = w; round = round }))
 next_is_read items rest w round is all =
     let whole : All IsWanted (w ∷ rest) = subst (All IsWanted) is all in
     one_is_read rest w round (All-tail IsWanted w rest whole) (All-head IsWanted w rest whole)

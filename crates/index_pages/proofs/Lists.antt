@@ -17,7 +17,8 @@ use Rattle.index_pages.specs.Pages.{PagesState, page_of, begun, row_of}
 use Rattle.std.proofs.lemmas.List.{length-take-le, length-map, get_or_at, set_at, drop_more, map_more, append_assoc, take_at, length_push}
 
 -- a list of which the items below a place are changed, with the one at that place changed too
-pub changed_more : {X : Type 0} (f : X → X) (old xs : List X) (i : ℕ) (d e : X) → i < length old → xs ≡ map f (take i old) ++ drop i old → e ≡ get_or xs i d → set xs i (f e) ≡ map f (take (i + 1) old) ++ drop (i + 1) old
+pub changed_more : {X : Type 0} (f : X → X) (old xs : List X) (i : ℕ) (d e : X) → i < length old → xs ≡ map f (take i old) ++ drop i old → e ≡ get_or xs i d
+    → set xs i (f e) ≡ map f (take (i + 1) old) ++ drop (i + 1) old
 changed_more f old xs i d e here is read =
     let rest : drop i old ≡ get_or old i d ∷ drop (i + 1) old = drop_more old i d here in
     let long : length (map f (take i old)) ≡ i = length-map (take i old) f ∙ length-take-le i old (omega arith) in
@@ -29,13 +30,17 @@ changed_more f old xs i d e here is read =
     ∙ ap (λ r. r ++ drop (i + 1) old) (sym (map_more f old i d here))
 
 -- what is put at a new key and then removed leaves the entries as they were
-pub remove-insert : {K X : Type 0} {R : K → K → Ordering} (total : IsTotalOrder R) (k : K) (v : X) (es : List (K × X)) → lookup (is_at (R k)) es ≡ None → remove_entry (is_at (R k)) (insert_entry R es k v) ≡ es
+pub remove-insert : {K X : Type 0} {R : K → K → Ordering} (total : IsTotalOrder R) (k : K) (v : X) (es : List (K × X)) → lookup (is_at (R k)) es ≡ None
+    → remove_entry (is_at (R k)) (insert_entry R es k v) ≡ es
 remove-insert {R = R} total k v [] absent = ap (λ o. cond (is_eq o) [] ((k, v) ∷ [])) (tied_itself total k)
 remove-insert {R = R} total k v (e ∷ es) absent =
-    elim (R k e.0) as (λ o. R k e.0 ≡ o → cond (is_eq o) (Some e.1) (lookup (is_at (R k)) es) ≡ None → remove_entry (is_at (R k)) (match_ordering o ((k, v) ∷ e ∷ es) ((e.0, v) ∷ es) (e ∷ insert_entry R es k v)) ≡ e ∷ es) [
+    elim (R k e.0) as
+    (λ o. R k e.0 ≡ o → cond (is_eq o) (Some e.1) (lookup (is_at (R k)) es) ≡ None
+    → remove_entry (is_at (R k)) (match_ordering o ((k, v) ∷ e ∷ es) ((e.0, v) ∷ es) (e ∷ insert_entry R es k v)) ≡ e ∷ es) [
       | Less ↦ λ p h. ap (λ o. cond (is_eq o) (e ∷ es) ((k, v) ∷ remove_entry (is_at (R k)) (e ∷ es))) (tied_itself total k)
       | Equal ↦ λ p h. cc
-      | Greater ↦ λ p h. ap (λ o. cond (is_eq o) (insert_entry R es k v) (e ∷ remove_entry (is_at (R k)) (insert_entry R es k v))) p ∙ ap (λ r. e ∷ r) (remove-insert total k v es h)
+      | Greater ↦ λ p h. ap (λ o. cond (is_eq o) (insert_entry R es k v) (e ∷ remove_entry (is_at (R k)) (insert_entry R es k v))) p
+          ∙ ap (λ r. e ∷ r) (remove-insert total k v es h)
     ] refl absent
 
 -- a list without the item that was appended
@@ -45,8 +50,10 @@ take_push xs y =
     ap (λ n. take n (xs ++ y ∷ [])) long ∙ take_at xs (y ∷ []) (length xs) refl
 
 -- a page that was begun and is taken back leaves all as it was
-pub undone : (old now : PagesState) (block : BlockId) (rows : List (BlockId × Entry)) (numbers : List (BlockId × ℕ)) (pages : List Page) → page_of old block ≡ None → now ≡ begun old block
-    → rows ≡ now.rows → numbers ≡ remove_entry (is_at (block_cmp (first_block block))) now.numbers → pages ≡ take (length now.pages - 1) now.pages → record { rows = rows; numbers = numbers; pages = pages } ≡ old
+pub undone : (old now : PagesState) (block : BlockId) (rows : List (BlockId × Entry)) (numbers : List (BlockId × ℕ)) (pages : List Page)
+    → page_of old block ≡ None → now ≡ begun old block
+    → rows ≡ now.rows → numbers ≡ remove_entry (is_at (block_cmp (first_block block))) now.numbers → pages ≡ take (length now.pages - 1) now.pages
+    → record { rows = rows; numbers = numbers; pages = pages } ≡ old
 undone old now block rows numbers pages absent is r n p =
     let same_rows : rows ≡ old.rows = r ∙ ap (λ (s : PagesState). s.rows) is in
     let same_numbers : numbers ≡ old.numbers = n ∙ ap (λ (s : PagesState). remove_entry (is_at (block_cmp (first_block block))) s.numbers) is
@@ -55,6 +62,7 @@ undone old now block rows numbers pages absent is r n p =
     λ i. record { rows = same_rows i; numbers = same_numbers i; pages = same_pages i }
 
 -- the rows so far and those to come, once a block is looked up
-pub row_more : (done now rest all : List (BlockId × Entry)) (block : BlockId) (found known : Option Entry) → found ≡ known → done ++ (row_of block found ++ rest) ≡ all → now ≡ done ++ row_of block known → now ++ rest ≡ all
+pub row_more : (done now rest all : List (BlockId × Entry)) (block : BlockId) (found known : Option Entry) → found ≡ known
+    → done ++ (row_of block found ++ rest) ≡ all → now ≡ done ++ row_of block known → now ++ rest ≡ all
 row_more done now rest all block found known same before is =
     ap (λ n. n ++ rest) is ∙ append_assoc done (row_of block known) rest ∙ ap (λ o. done ++ (row_of block o ++ rest)) (sym same) ∙ before

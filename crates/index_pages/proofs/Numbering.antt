@@ -67,12 +67,14 @@ any_place : (n : ℕ) (f : BlockId) (fs : List BlockId) → is_some (place_from 
 any_place n f [] = refl
 any_place n f (b ∷ bs) = any_step (same_block f b) n (place_from (n + 1) f bs) (list_any (same_block f) bs) (any_place (n + 1) f bs)
 
-place_step : (t u : Bool) (n k m : ℕ) (o p : Option ℕ) → (t ≡ true → u ≡ false) → k ≡ m → p ≡ cond u (Some k) o → cond t (Some n) p ≡ cond u (Some m) (cond t (Some n) o)
+place_step : (t u : Bool) (n k m : ℕ) (o p : Option ℕ) → (t ≡ true → u ≡ false) → k ≡ m → p ≡ cond u (Some k) o
+    → cond t (Some n) p ≡ cond u (Some m) (cond t (Some n) o)
 place_step true u n k m o p h e q = ap (λ v. cond v (Some m) (Some n)) (sym (h refl))
 place_step false u n k m o p h e q = q ∙ ap (λ x. cond u (Some x) o) e
 
 -- the place of a block once another is appended that wasn't there
-place_more : (n : ℕ) (f g : BlockId) (fs : List BlockId) → list_any (same_block g) fs ≡ false → place_from n f (fs ++ g ∷ []) ≡ cond (same_block f g) (Some (n + length fs)) (place_from n f fs)
+place_more : (n : ℕ) (f g : BlockId) (fs : List BlockId) → list_any (same_block g) fs ≡ false
+    → place_from n f (fs ++ g ∷ []) ≡ cond (same_block f g) (Some (n + length fs)) (place_from n f fs)
 place_more n f g [] absent = ap (λ k. cond (same_block f g) (Some k) None) (sym (add-zero n))
 place_more n f g (b ∷ bs) absent =
     let e : n + 1 + length bs ≡ n + length (b ∷ bs) = omega arith in
@@ -95,26 +97,30 @@ module _ (blocks : List BlockId) (block : BlockId) where
   same_page : (f : BlockId) → same_block (first_block block) f ≡ false → page_with blocks f ≡ page_with (blocks ++ block ∷ []) f
   same_page f other =
       ap (λ t. record { first = f; changed = t })
-      (sym (list_any-append (λ b. same_block (first_block b) f) blocks (block ∷ []) ∙ or_last_false (list_any (λ b. same_block (first_block b) f) blocks) (same_block (first_block block) f) other))
+      (sym (list_any-append (λ b. same_block (first_block b) f) blocks (block ∷ [])
+      ∙ or_last_false (list_any (λ b. same_block (first_block b) f) blocks) (same_block (first_block block) f) other))
 
   -- its own page has changed
   own_page : (f : BlockId) → same_block (first_block block) f ≡ true → changed_page block ≡ page_with (blocks ++ block ∷ []) f
   own_page f same =
       let flag : list_any (λ b. same_block (first_block b) f) (blocks ++ block ∷ []) ≡ true =
-      list_any-append (λ b. same_block (first_block b) f) blocks (block ∷ []) ∙ or_last_true (list_any (λ b. same_block (first_block b) f) blocks) (same_block (first_block block) f) same
+      list_any-append (λ b. same_block (first_block b) f) blocks (block ∷ [])
+      ∙ or_last_true (list_any (λ b. same_block (first_block b) f) blocks) (same_block (first_block block) f) same
       in
       let is : first_block block ≡ f = sym (same_block_exact (first_block block) f same) in
       let changed : true ≡ list_any (λ b. same_block (first_block b) f) (blocks ++ block ∷ []) = sym flag in
       λ i. record { first = is i; changed = changed i }
 
-  same_pages : (fs : List BlockId) → list_any (same_block (first_block block)) fs ≡ false → map (page_with blocks) fs ≡ map (page_with (blocks ++ block ∷ [])) fs
+  same_pages : (fs : List BlockId) → list_any (same_block (first_block block)) fs ≡ false
+      → map (page_with blocks) fs ≡ map (page_with (blocks ++ block ∷ [])) fs
   same_pages [] absent = refl
   same_pages (f ∷ fs) absent =
       let head = same_page f (or_none_first (same_block (first_block block) f) (list_any (same_block (first_block block)) fs) absent) in
       let rest = same_pages fs (or_none_second (same_block (first_block block) f) (list_any (same_block (first_block block)) fs) absent) in
       λ i. head i ∷ rest i
 
-  new_page : (fs : List BlockId) → list_any (same_block (first_block block)) fs ≡ false → map (page_with blocks) fs ++ changed_page block ∷ [] ≡ map (page_with (blocks ++ block ∷ [])) (fs ++ first_block block ∷ [])
+  new_page : (fs : List BlockId) → list_any (same_block (first_block block)) fs ≡ false
+      → map (page_with blocks) fs ++ changed_page block ∷ [] ≡ map (page_with (blocks ++ block ∷ [])) (fs ++ first_block block ∷ [])
   new_page [] absent = ap (λ p. p ∷ []) (own_page (first_block block) (same_block_itself (first_block block)))
   new_page (f ∷ fs) absent =
       let head = same_page f (or_none_first (same_block (first_block block) f) (list_any (same_block (first_block block)) fs) absent) in
@@ -128,7 +134,8 @@ module _ (blocks : List BlockId) (block : BlockId) where
   marked_page : (n m : ℕ) (fs : List BlockId) → IsApart fs → place_from n (first_block block) fs ≡ Some m → Marks fs n m
   marked_page n m [] apart found = cc
   marked_page n m (f ∷ fs) apart found =
-      elim (same_block (first_block block) f) as (λ t. same_block (first_block block) f ≡ t → cond t (Some n) (place_from (n + 1) (first_block block) fs) ≡ Some m → Marks (f ∷ fs) n m) [
+      elim (same_block (first_block block) f) as
+      (λ t. same_block (first_block block) f ≡ t → cond t (Some n) (place_from (n + 1) (first_block block) fs) ≡ Some m → Marks (f ∷ fs) n m) [
         | true ↦ λ p h. here p h
         | false ↦ λ p h. there p (marked_page (n + 1) m fs apart.1 h)
       ] refl found
@@ -155,7 +162,8 @@ clean_pages blocks (f ∷ fs) = ap (λ r. page_with [] f ∷ r) (clean_pages blo
 
 -- ---- the invariant
 
-kept_on : (s : PagesState) (firsts blocks : List BlockId) (block : BlockId) (entry : Entry) (m : ℕ) → IsNumbered s firsts blocks → place_from 0 (first_block block) firsts ≡ Some m → IsNumbered (put_on s m block entry) firsts (blocks ++ block ∷ [])
+kept_on : (s : PagesState) (firsts blocks : List BlockId) (block : BlockId) (entry : Entry) (m : ℕ) → IsNumbered s firsts blocks
+    → place_from 0 (first_block block) firsts ≡ Some m → IsNumbered (put_on s m block entry) firsts (blocks ++ block ∷ [])
 kept_on s firsts blocks block entry m i found =
     let marks = marked_page blocks block 0 m firsts i.apart found in
     record {
@@ -167,7 +175,8 @@ kept_on s firsts blocks block entry m i found =
     place : (w : Marks blocks block firsts 0 m) → m ≡ w.0
     place (k, e, r) = omega arith
 
-kept_anew : (s : PagesState) (firsts blocks : List BlockId) (block : BlockId) (entry : Entry) → IsNumbered s firsts blocks → list_any (same_block (first_block block)) firsts ≡ false → IsNumbered (put_anew s block entry) (firsts ++ first_block block ∷ []) (blocks ++ block ∷ [])
+kept_anew : (s : PagesState) (firsts blocks : List BlockId) (block : BlockId) (entry : Entry) → IsNumbered s firsts blocks
+    → list_any (same_block (first_block block)) firsts ≡ false → IsNumbered (put_anew s block entry) (firsts ++ first_block block ∷ []) (blocks ++ block ∷ [])
 kept_anew s firsts blocks block entry i absent =
     let count : length s.pages ≡ length firsts = ap length i.pages ∙ length-map firsts (page_with blocks) in
     record {
@@ -176,30 +185,37 @@ kept_anew s firsts blocks block entry i absent =
           ∙ ap (λ t. cond t (Some (length s.pages)) (lookup (is_at (block_cmp f)) s.numbers)) (same_block-eq f (first_block block))
           ∙ ap (λ n. cond (same_block f (first_block block)) (Some n) (lookup (is_at (block_cmp f)) s.numbers)) count
           ∙ ap (cond (same_block f (first_block block)) (Some (length firsts))) (i.numbers f)
-          ∙ sym (place_more 0 f (first_block block) firsts absent ∙ ap (λ n. cond (same_block f (first_block block)) (Some n) (place_from 0 f firsts)) (zero_more (length firsts)));
+          ∙ sym (place_more 0 f (first_block block) firsts absent
+          ∙ ap (λ n. cond (same_block f (first_block block)) (Some n) (place_from 0 f firsts)) (zero_more (length firsts)));
       apart = apart_more (first_block block) firsts i.apart absent;
     }
   where
     zero_more : (n : ℕ) → 0 + n ≡ n
     zero_more n = omega arith
 
-kept_put : (s : PagesState) (firsts blocks : List BlockId) (block : BlockId) (entry : Entry) → IsNumbered s firsts blocks → IsNumbered (put s block entry) (with_page firsts (Put block entry)) (blocks ++ block ∷ [])
+kept_put : (s : PagesState) (firsts blocks : List BlockId) (block : BlockId) (entry : Entry) → IsNumbered s firsts blocks
+    → IsNumbered (put s block entry) (with_page firsts (Put block entry)) (blocks ++ block ∷ [])
 unfolding put
 kept_put s firsts blocks block entry i =
     elim (page_of s block) as (λ o. page_of s block ≡ o → IsNumbered (put_at o s block entry) (with_page firsts (Put block entry)) (blocks ++ block ∷ [])) [
       | Some m ↦ λ p. let found : place_from 0 (first_block block) firsts ≡ Some m = sym (i.numbers (first_block block)) ∙ p in
           let there : true ≡ list_any (same_block (first_block block)) firsts = ap is_some (sym found) ∙ any_place 0 (first_block block) firsts in
-          subst (λ t. IsNumbered (put_on s m block entry) (cond t firsts (firsts ++ first_block block ∷ [])) (blocks ++ block ∷ [])) there (kept_on s firsts blocks block entry m i found)
-      | None ↦ λ p. let absent : false ≡ list_any (same_block (first_block block)) firsts = ap is_some (sym p ∙ i.numbers (first_block block)) ∙ any_place 0 (first_block block) firsts in
-          subst (λ t. IsNumbered (put_anew s block entry) (cond t firsts (firsts ++ first_block block ∷ [])) (blocks ++ block ∷ [])) absent (kept_anew s firsts blocks block entry i (sym absent))
+          subst (λ t. IsNumbered (put_on s m block entry) (cond t firsts (firsts ++ first_block block ∷ [])) (blocks ++ block ∷ [])) there
+          (kept_on s firsts blocks block entry m i found)
+      | None ↦ λ p. let absent : false ≡ list_any (same_block (first_block block)) firsts =
+          ap is_some (sym p ∙ i.numbers (first_block block)) ∙ any_place 0 (first_block block) firsts in
+          subst (λ t. IsNumbered (put_anew s block entry) (cond t firsts (firsts ++ first_block block ∷ [])) (blocks ++ block ∷ [])) absent
+          (kept_anew s firsts blocks block entry i (sym absent))
     ] refl
 
-kept_one : (s : PagesState) (firsts blocks : List BlockId) (call : Call) → IsNumbered s firsts blocks → IsNumbered (after_call s call) (with_page firsts call) (with_put blocks call)
+kept_one : (s : PagesState) (firsts blocks : List BlockId) (call : Call) → IsNumbered s firsts blocks
+    → IsNumbered (after_call s call) (with_page firsts call) (with_put blocks call)
 unfolding cleaned
 kept_one s firsts blocks (Put block entry) i = kept_put s firsts blocks block entry i
 kept_one s firsts blocks Clean i = record { pages = ap (map clean_page) i.pages ∙ clean_pages blocks firsts; numbers = i.numbers; apart = i.apart }
 
-kept : (s : PagesState) (firsts blocks : List BlockId) (calls : List Call) → IsNumbered s firsts blocks → IsNumbered (after_calls s calls) (fold with_page firsts calls) (fold with_put blocks calls)
+kept : (s : PagesState) (firsts blocks : List BlockId) (calls : List Call) → IsNumbered s firsts blocks
+    → IsNumbered (after_calls s calls) (fold with_page firsts calls) (fold with_put blocks calls)
 kept s firsts blocks [] i = i
 kept s firsts blocks (call ∷ calls) i = kept (after_call s call) (with_page firsts call) (with_put blocks call) calls (kept_one s firsts blocks call i)
 

@@ -20,7 +20,8 @@ unwrap_or-cond true x o = refl
 unwrap_or-cond false x o = refl
 
 -- what rows hold of a block once an entry is put
-pub entry_of-insert : (rows : List (BlockId × Entry)) (block : BlockId) (entry : Entry) (q : BlockId) → entry_of (insert_entry block_cmp rows block entry) q ≡ cond (same_block q block) entry (entry_of rows q)
+pub entry_of-insert : (rows : List (BlockId × Entry)) (block : BlockId) (entry : Entry) (q : BlockId)
+    → entry_of (insert_entry block_cmp rows block entry) q ≡ cond (same_block q block) entry (entry_of rows q)
 entry_of-insert rows block entry q =
     ap (λ o. unwrap_or o no_entry) (lookup-insert_entry block_cmp_total q block entry rows)
     ∙ unwrap_or-cond (eq_by_cmp block_cmp q block) entry (lookup (is_at (block_cmp q)) rows)

@@ -42,7 +42,8 @@ foot_more : (e : End) (ss : List Segment) (s : Segment) → foot e (ss ++ s ∷ 
 foot_more e [] s = refl
 foot_more e (t ∷ ss) s = foot_more (end_below t) ss s
 
-linked_more : (log : LogId) (e : End) (ss : List Segment) (s : Segment) → AreLinked log e ss → s.name ≡ name_at log (foot e ss) → 1 ≤ (foot e ss).seq → AreLinked log e (ss ++ s ∷ [])
+linked_more : (log : LogId) (e : End) (ss : List Segment) (s : Segment) → AreLinked log e ss → s.name ≡ name_at log (foot e ss) → 1 ≤ (foot e ss).seq
+    → AreLinked log e (ss ++ s ∷ [])
 linked_more log e [] s linked name some = (name, some, tt)
 linked_more log e (t ∷ ss) s linked name some = (linked.0, linked.1, linked_more log (end_below t) ss s linked.2 name some)
 
@@ -59,7 +60,8 @@ all_append P (x ∷ xs) ys all more = (all.0, all_append P xs ys all.1 more)
 
 all_reverse : {X : Type 0} (P : X → Type 0) (xs : List X) → AllByRecursion P xs → AllByRecursion P (reverse xs)
 all_reverse P [] all = tt
-all_reverse P (x ∷ xs) all = subst (AllByRecursion P) (sym (reverse-append (x ∷ []) xs)) (all_append P (reverse xs) (x ∷ []) (all_reverse P xs all.1) (all.0, tt))
+all_reverse P (x ∷ xs) all =
+    subst (AllByRecursion P) (sym (reverse-append (x ∷ []) xs)) (all_append P (reverse xs) (x ∷ []) (all_reverse P xs all.1) (all.0, tt))
 
 -- ---- what is kept true
 
@@ -167,7 +169,8 @@ module _ (log : LogId) where
         keeps_follows (with_segment b s) (so_far_more b s back.so_far back.some (name ∙ ap (λ t. t.seg.name) back.looks))
     keeps_goes_on b r next.Lost back name = record { opening = is; stage = tt; outs = (tt, tt) }
 
-    keeps_step : (b : Backward) (r : ReadingState) (step : reading.Step) → IsBack log b (Some r) → KeepsTarget r step → Keeps log (goes_on o b step.state step.next)
+    keeps_step : (b : Backward) (r : ReadingState) (step : reading.Step) → IsBack log b (Some r) → KeepsTarget r step
+        → Keeps log (goes_on o b step.state step.next)
     keeps_step b r step back k =
         keeps_goes_on b step.state step.next (record { so_far = back.so_far; some = back.some; looks = k.same ∙ back.looks })
         (subst (λ t. ReadsName t.seg.name step.next) (sym k.same) k.name)
@@ -201,10 +204,12 @@ module _ (log : LogId) where
   keeps_welcomed o (Reads b r) least is st = keeps_confirms (rises o least) (risen o least is) b r st
   keeps_welcomed o Over least is st = keeps_stay o is Over tt
 
-  keeps_on_welcome : (o : Opening) (stage : Stage) (ask : ℕ) (news : List SlotNews) (groups : GroupMapState) → IsOpening log o → IsStage log stage → Keeps log (on_welcome o stage ask news groups)
+  keeps_on_welcome : (o : Opening) (stage : Stage) (ask : ℕ) (news : List SlotNews) (groups : GroupMapState) → IsOpening log o → IsStage log stage
+      → Keeps log (on_welcome o stage ask news groups)
   unfolding on_welcome
   keeps_on_welcome o stage ask news groups is st =
-      by_test (λ (d : Done). Keeps log d) ((ask == o.ask) && (can_ask o && awaits_welcome stage)) (welcomed (record o { groups = Some groups }) stage (least_horizon o.log.0 news)) (stays o stage)
+      by_test (λ (d : Done). Keeps log d) ((ask == o.ask) && (can_ask o && awaits_welcome stage))
+      (welcomed (record o { groups = Some groups }) stage (least_horizon o.log.0 news)) (stays o stage)
       (λ t. keeps_welcomed (record o { groups = Some groups }) stage (least_horizon o.log.0 news) (record { of_log = is.of_log; low = is.low }) st)
       (λ t. keeps_stay o is stage st)
 
@@ -226,11 +231,13 @@ module _ (log : LogId) where
   keeps_on_fenced o (Reads b r) l is st = keeps_stay o is (Reads b r) st
   keeps_on_fenced o Over l is st = keeps_stay o is Over tt
 
-  keeps_heard_with : (o : Opening) (b : Backward) (r : ReadingState) (groups : Option GroupMapState) (ask server : ℕ) (t : Told) → IsOpening log o → IsBack log b (Some r) → Keeps log (heard_with o b r groups ask server t)
+  keeps_heard_with : (o : Opening) (b : Backward) (r : ReadingState) (groups : Option GroupMapState) (ask server : ℕ) (t : Told) → IsOpening log o
+      → IsBack log b (Some r) → Keeps log (heard_with o b r groups ask server t)
   keeps_heard_with o b r None ask server t is back = keeps_stay o is (Reads b (Some r)) back
   keeps_heard_with o b r (Some groups) ask server t is back = keeps_step o is b r (on_answer r groups ask server t) back (answered_keeps r groups ask server t)
 
-  keeps_heard : (o : Opening) (b : Backward) (r : Option ReadingState) (ask server : ℕ) (t : Told) → IsOpening log o → IsBack log b r → Keeps log (heard o b r ask server t)
+  keeps_heard : (o : Opening) (b : Backward) (r : Option ReadingState) (ask server : ℕ) (t : Told) → IsOpening log o → IsBack log b r
+      → Keeps log (heard o b r ask server t)
   keeps_heard o b None ask server t is back = keeps_stay o is (Reads b None) back
   keeps_heard o b (Some r) ask server t is back =
       by_test (λ (d : Done). Keeps log d) (can_ask o) (heard_with o b r o.groups ask server t) (stays o (Reads b (Some r)))
@@ -247,7 +254,9 @@ module _ (log : LogId) where
 
   again_tells : (o : Opening) (r : Option ReadingState) → AllByRecursion (TellsLinked log) (asked_again o r)
   again_tells o None = (tt, tt)
-  again_tells o (Some r) = by_test (AllByRecursion (TellsLinked log)) (is_asking r.stage) (fetches r) (Hello o.ask ∷ []) (λ t. fetches_tell r.target.seg.name r.ask (to_ask r)) (λ t. (tt, tt))
+  again_tells o (Some r) =
+      by_test (AllByRecursion (TellsLinked log)) (is_asking r.stage) (fetches r) (Hello o.ask ∷ []) (λ t. fetches_tell r.target.seg.name r.ask (to_ask r))
+      (λ t. (tt, tt))
 
   tick_tells : (o : Opening) (stage : Stage) → AllByRecursion (TellsLinked log) (on_tick o stage)
   unfolding on_tick
@@ -279,7 +288,8 @@ module _ (log : LogId) where
       let k = keeps_takes before.opening before.stage input r.opening r.stage in
       record { opening = k.opening; stage = k.stage }
 
-pub all_linked : (log : LogId) (inc : ℕ) (history : List In) (input : In) → AllByRecursion (TellsLinked log) (transition (state_after (started log inc) history) input).outs
+pub all_linked : (log : LogId) (inc : ℕ) (history : List In) (input : In)
+    → AllByRecursion (TellsLinked log) (transition (state_after (started log inc) history) input).outs
 all_linked log inc history input =
     let before = state_after (started log inc) history in
     let r = reached log inc history in

@@ -13,19 +13,23 @@ use Rattle.log_scan.proofs.Newest.{newest_append}
 
 -- ---- servers, counted up from the one after i
 
-pub servers_step : (p : ℕ → Bool) (front : List ℕ) (i n : ℕ) → i < n → front ++ filter p (range_with_len (i + 1) (n - i)) ≡ (front ++ cond (p (i + 1)) ((i + 1) ∷ []) []) ++ filter p (range_with_len (i + 1 + 1) (n - (i + 1)))
+pub servers_step : (p : ℕ → Bool) (front : List ℕ) (i n : ℕ) → i < n
+    → front ++ filter p (range_with_len (i + 1) (n - i)) ≡ (front ++ cond (p (i + 1)) ((i + 1) ∷ []) []) ++ filter p (range_with_len (i + 1 + 1) (n - (i + 1)))
 servers_step p front i n lt =
     let k : n - i ≡ suc (n - (i + 1)) = omega arith in
     ap (λ m. front ++ filter p (range_with_len (i + 1) m)) k ∙ by (p (i + 1))
   where
-    by : (t : Bool) → front ++ cond t ((i + 1) ∷ filter p (range_with_len (i + 1 + 1) (n - (i + 1)))) (filter p (range_with_len (i + 1 + 1) (n - (i + 1)))) ≡ (front ++ cond t ((i + 1) ∷ []) []) ++ filter p (range_with_len (i + 1 + 1) (n - (i + 1)))
+    by : (t : Bool)
+        → front ++ cond t ((i + 1) ∷ filter p (range_with_len (i + 1 + 1) (n - (i + 1)))) (filter p (range_with_len (i + 1 + 1) (n - (i + 1)))) ≡
+        (front ++ cond t ((i + 1) ∷ []) []) ++ filter p (range_with_len (i + 1 + 1) (n - (i + 1)))
     by true = sym (append_assoc front ((i + 1) ∷ []) (filter p (range_with_len (i + 1 + 1) (n - (i + 1)))))
     by false = sym (append_assoc front [] (filter p (range_with_len (i + 1 + 1) (n - (i + 1)))))
 
 -- ---- the newest so far
 
 -- with what one list adds
-pub list_step : (best more : Option FragMeta) (low : ℕ) (lists : List Listing) (i : ℕ) (d : Listing) → i < length lists → more ≡ newest (option_to_list best ++ above low (get_or lists i d).held)
+pub list_step : (best more : Option FragMeta) (low : ℕ) (lists : List Listing) (i : ℕ) (d : Listing) → i < length lists
+    → more ≡ newest (option_to_list best ++ above low (get_or lists i d).held)
     → newest (option_to_list more ++ counting low (drop (i + 1) lists)) ≡ newest (option_to_list best ++ counting low (drop i lists))
 list_step best more low lists i d lt h =
     let here = above low (get_or lists i d).held in
@@ -36,7 +40,8 @@ list_step best more low lists i d lt h =
     ∙ sym (ap (λ ms. newest (option_to_list best ++ ms)) (at_drop_more (counting low) lists i d lt))
 
 -- with the next of a list, where it counts
-pub meta_step : (best more : Option FragMeta) (low : ℕ) (metas : List FragMeta) (i : ℕ) (d : FragMeta) → i < length metas → nat_le low (get_or metas i d).name.seq ≡ true → more ≡ newest (option_to_list best ++ get_or metas i d ∷ [])
+pub meta_step : (best more : Option FragMeta) (low : ℕ) (metas : List FragMeta) (i : ℕ) (d : FragMeta) → i < length metas
+    → nat_le low (get_or metas i d).name.seq ≡ true → more ≡ newest (option_to_list best ++ get_or metas i d ∷ [])
     → newest (option_to_list more ++ above low (drop (i + 1) metas)) ≡ newest (option_to_list best ++ above low (drop i metas))
 meta_step best more low metas i d lt counts h =
     let here = get_or metas i d in
@@ -48,7 +53,8 @@ meta_step best more low metas i d lt counts h =
     ∙ sym (ap (λ ms. newest (option_to_list best ++ ms)) (at_drop_more (above low) metas i d lt))
 
 -- and where it doesn't
-pub meta_skip : (best : Option FragMeta) (low : ℕ) (metas : List FragMeta) (i : ℕ) (d : FragMeta) → i < length metas → nat_le low (get_or metas i d).name.seq ≡ false
+pub meta_skip : (best : Option FragMeta) (low : ℕ) (metas : List FragMeta) (i : ℕ) (d : FragMeta) → i < length metas
+    → nat_le low (get_or metas i d).name.seq ≡ false
     → newest (option_to_list best ++ above low (drop (i + 1) metas)) ≡ newest (option_to_list best ++ above low (drop i metas))
 meta_skip best low metas i d lt below =
     let here = get_or metas i d in
@@ -65,6 +71,8 @@ least_bound log (s ∷ ss) = (let rest = least_bound log ss in omega (arith, res
 min_in_turn : (a b c : ℕ) → min (min a b) c ≡ min a (min b c)
 min_in_turn a b c = omega arith
 
-pub least_step : (least log : ℕ) (slots : List SlotNews) (i : ℕ) (d : SlotNews) → i < length slots → min (min least (horizon_of log (get_or slots i d))) (least_horizon log (drop (i + 1) slots)) ≡ min least (least_horizon log (drop i slots))
+pub least_step : (least log : ℕ) (slots : List SlotNews) (i : ℕ) (d : SlotNews) → i < length slots
+    → min (min least (horizon_of log (get_or slots i d))) (least_horizon log (drop (i + 1) slots)) ≡ min least (least_horizon log (drop i slots))
 least_step least log slots i d lt =
-    min_in_turn least (horizon_of log (get_or slots i d)) (least_horizon log (drop (i + 1) slots)) ∙ sym (ap (min least) (at_drop_more (least_horizon log) slots i d lt))
+    min_in_turn least (horizon_of log (get_or slots i d)) (least_horizon log (drop (i + 1) slots))
+    ∙ sym (ap (min least) (at_drop_more (least_horizon log) slots i d lt))

@@ -73,12 +73,14 @@ newer_second : (b m : FragMeta) (ms : List FragMeta) → is_newer m b ≡ true �
 newer_second b m ms h =
     ap (λ t. cond (not (is_newer b b || (t || any_newer ms b))) (Some b) (find (λ x. not (any_newer (b ∷ m ∷ ms) x)) (m ∷ ms))) h
     ∙ ap (λ t. cond (not t) (Some b) (find (λ x. not (any_newer (b ∷ m ∷ ms) x)) (m ∷ ms))) (or_right (is_newer b b) true refl)
-    ∙ find_same (λ x. not (any_newer (b ∷ m ∷ ms) x)) (λ x. not (any_newer (m ∷ ms) x)) (λ x. ap not (first_idle b m x (any_newer ms x) (not_newer_back m b h))) (m ∷ ms)
+    ∙ find_same (λ x. not (any_newer (b ∷ m ∷ ms) x)) (λ x. not (any_newer (m ∷ ms) x)) (λ x. ap not (first_idle b m x (any_newer ms x) (not_newer_back m b h)))
+    (m ∷ ms)
 
 -- the second is no newer: it is passed over
 module _ (b m : FragMeta) (ms : List FragMeta) (h : is_newer m b ≡ false) where
   -- whether it is newer than the first decides
-  decided : (t : Bool) → any_newer ms b ≡ t → cond (not t) (Some b) (find (λ x. not (any_newer (b ∷ m ∷ ms) x)) (m ∷ ms)) ≡ cond (not t) (Some b) (find (λ x. not (any_newer (b ∷ ms) x)) ms)
+  decided : (t : Bool) → any_newer ms b ≡ t
+      → cond (not t) (Some b) (find (λ x. not (any_newer (b ∷ m ∷ ms) x)) (m ∷ ms)) ≡ cond (not t) (Some b) (find (λ x. not (any_newer (b ∷ ms) x)) ms)
   decided false e = refl
   decided true e = ap (λ s. cond (not s) (Some m) (find (λ x. not (any_newer (b ∷ m ∷ ms) x)) ms)) passed
       ∙ find_same (λ x. not (any_newer (b ∷ m ∷ ms) x)) (λ x. not (any_newer (b ∷ ms) x)) (λ x. ap not (second_idle b m x (any_newer ms x) h)) ms
@@ -89,11 +91,13 @@ module _ (b m : FragMeta) (ms : List FragMeta) (h : is_newer m b ≡ false) wher
       some false k = sym (none_too (λ other. is_newer other m) (λ other. is_newer other b) (λ other l. not_newer_through other m b l h) ms k) ∙ e
 
       passed : any_newer (b ∷ m ∷ ms) m ≡ true
-      passed = ap (λ t. is_newer b m || (is_newer m m || t)) (some (any_newer ms m) refl) ∙ or_right (is_newer b m) (is_newer m m || true) (or_right (is_newer m m) true refl)
+      passed = ap (λ t. is_newer b m || (is_newer m m || t)) (some (any_newer ms m) refl)
+          ∙ or_right (is_newer b m) (is_newer m m || true) (or_right (is_newer m m) true refl)
 
   older_second : newest (b ∷ m ∷ ms) ≡ newest (b ∷ ms)
   older_second =
-      ap (λ t. cond (not t) (Some b) (find (λ x. not (any_newer (b ∷ m ∷ ms) x)) (m ∷ ms))) (second_idle b m b (any_newer ms b) h ∙ ap (λ t. t || any_newer ms b) (not_newer_itself b))
+      ap (λ t. cond (not t) (Some b) (find (λ x. not (any_newer (b ∷ m ∷ ms) x)) (m ∷ ms)))
+      (second_idle b m b (any_newer ms b) h ∙ ap (λ t. t || any_newer ms b) (not_newer_itself b))
       ∙ decided (any_newer ms b) refl
       ∙ sym (ap (λ t. cond (not (t || any_newer ms b)) (Some b) (find (λ x. not (any_newer (b ∷ ms) x)) ms)) (not_newer_itself b))
 
@@ -102,7 +106,8 @@ pub search_is : (b : FragMeta) (ms : List FragMeta) → Some (search b ms) ≡ n
 search_is b [] = sym (ap (λ t. cond (not (t || false)) (Some b) None) (not_newer_itself b))
 search_is b (m ∷ ms) = by (is_newer m b) refl (search_is m ms) (search_is b ms)
   where
-    by : (t : Bool) → is_newer m b ≡ t → Some (search m ms) ≡ newest (m ∷ ms) → Some (search b ms) ≡ newest (b ∷ ms) → Some (search (cond t m b) ms) ≡ newest (b ∷ m ∷ ms)
+    by : (t : Bool) → is_newer m b ≡ t → Some (search m ms) ≡ newest (m ∷ ms) → Some (search b ms) ≡ newest (b ∷ ms)
+        → Some (search (cond t m b) ms) ≡ newest (b ∷ m ∷ ms)
     by true e second first = second ∙ sym (newer_second b m ms e)
     by false e second first = first ∙ sym (older_second b m ms e)
 

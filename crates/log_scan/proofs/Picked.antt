@@ -64,7 +64,8 @@ in_both q (x ∷ xs) ys none =
     record { front = ap (λ t. t || list_any q xs) first.0 ∙ rest.front; back = rest.back }
 
 -- no list has one that counts and passes the test
-fails_in_list : (q : FragMeta → Bool) (low : ℕ) (lists : List Listing) (l : Listing) → list_any q (counting low lists) ≡ false → Contains lists l → list_any q (above low l.held) ≡ false
+fails_in_list : (q : FragMeta → Bool) (low : ℕ) (lists : List Listing) (l : Listing) → list_any q (counting low lists) ≡ false → Contains lists l
+    → list_any q (above low l.held) ≡ false
 fails_in_list q low [] l none has = absurd (contains_nothing l has)
 fails_in_list q low (k ∷ ks) l none has =
     let both = in_both q (above low k.held) (counting low ks) none in
@@ -111,5 +112,6 @@ picked_is low lists picked h =
       counts = it.among;
       first = λ l m has held counts.
           no_newer_in_numbers m picked
-          (fails_filtered (λ other. is_newer other picked) (λ m. nat_le low m.name.seq) l.held m (fails_in_list (λ other. is_newer other picked) low lists l none has) held (le-leb low m.name.seq counts));
+          (fails_filtered (λ other. is_newer other picked) (λ m. nat_le low m.name.seq) l.held m
+          (fails_in_list (λ other. is_newer other picked) low lists l none has) held (le-leb low m.name.seq counts));
     }

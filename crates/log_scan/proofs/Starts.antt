@@ -98,7 +98,8 @@ module _ (Q : End → Type 0) (A : List Listing → Type 0) where
 
   from_confirms : (o : Opening) (b : Backward) (r : Option ReadingState) → Q b.start → From (confirms o b r)
   unfolding confirms
-  from_confirms o b r q = by_test From (is_bottom o.low b.next) (goes o Over (chain_of b ∷ [])) (confirms_by o b r) (λ t. from_chain o b q) (λ t. from_confirms_by o b r q)
+  from_confirms o b r q =
+      by_test From (is_bottom o.low b.next) (goes o Over (chain_of b ∷ [])) (confirms_by o b r) (λ t. from_chain o b q) (λ t. from_confirms_by o b r q)
 
   from_picks_at : (o : Opening) (lists : List Listing) (start : Option End) → A lists → ((e : End) → start ≡ Some e → Q e) → From (picks_at o lists start)
   from_picks_at o lists None a q = from_anew o (Asks lists) a
@@ -115,7 +116,8 @@ module _ (Q : End → Type 0) (A : List Listing → Type 0) where
       (λ t. from_anew o (Asks lists) (a (none_left (awaited o.groups lists) t)))
       (λ t. from_stays o (Gathers lists) tt)
 
-  from_fenced : (o : Opening) (stage : Stage) (l : Listing) → ((lists : List Listing) → awaited o.groups lists ≡ [] → A lists) → Stands stage → From (on_fenced o stage l)
+  from_fenced : (o : Opening) (stage : Stage) (l : Listing) → ((lists : List Listing) → awaited o.groups lists ≡ [] → A lists) → Stands stage
+      → From (on_fenced o stage l)
   unfolding on_fenced
   from_fenced o Hails l a q = from_stays o Hails tt
   from_fenced o (Gathers lists) l a q =
@@ -126,7 +128,8 @@ module _ (Q : End → Type 0) (A : List Listing → Type 0) where
   from_fenced o (Reads b r) l a q = from_stays o (Reads b r) q
   from_fenced o Over l a q = from_stays o Over tt
 
-  from_heard_with : (o : Opening) (b : Backward) (r : ReadingState) (groups : Option GroupMapState) (ask server : ℕ) (t : Told) → Q b.start → From (heard_with o b r groups ask server t)
+  from_heard_with : (o : Opening) (b : Backward) (r : ReadingState) (groups : Option GroupMapState) (ask server : ℕ) (t : Told) → Q b.start
+      → From (heard_with o b r groups ask server t)
   from_heard_with o b r None ask server t q = from_stays o (Reads b (Some r)) q
   from_heard_with o b r (Some groups) ask server t q = (let step = on_answer r groups ask server t in from_goes_on o b step.state step.next q)
 
@@ -147,7 +150,8 @@ module _ (Q : End → Type 0) (A : List Listing → Type 0) where
 
   again_says : (o : Opening) (r : Option ReadingState) → AllByRecursion Says (asked_again o r)
   again_says o None = (tt, tt)
-  again_says o (Some r) = by_test (AllByRecursion Says) (is_asking r.stage) (fetches r) (Hello o.ask ∷ []) (λ t. fetches_say r.target.seg.name r.ask (to_ask r)) (λ t. (tt, tt))
+  again_says o (Some r) =
+      by_test (AllByRecursion Says) (is_asking r.stage) (fetches r) (Hello o.ask ∷ []) (λ t. fetches_say r.target.seg.name r.ask (to_ask r)) (λ t. (tt, tt))
 
   tick_says : (o : Opening) (stage : Stage) → AllByRecursion Says (on_tick o stage)
   unfolding on_tick
@@ -170,26 +174,36 @@ stands o (Reads b r) input = refl
 stands o Over input = tt
 
 module _ (o : Opening) (ask : ℕ) (news : List SlotNews) (groups : GroupMapState) where
-  from_welcomed : (stage : Stage) → From (IsStartFrom o stage (Welcome ask news groups)) (AreIn o stage) (welcomed (record o { groups = Some groups }) stage (least_horizon o.log.0 news))
+  from_welcomed : (stage : Stage)
+      → From (IsStartFrom o stage (Welcome ask news groups)) (AreIn o stage) (welcomed (record o { groups = Some groups }) stage (least_horizon o.log.0 news))
   from_welcomed Hails = record { stage = tt; outs = fences_say (IsStartFrom o Hails (Welcome ask news groups)) (AreIn o Hails) (awaited (Some groups) []) }
   from_welcomed (Gathers lists) = record { stage = tt; outs = tt }
-  from_welcomed (Asks lists) = from_picks (IsStartFrom o (Asks lists) (Welcome ask news groups)) (AreIn o (Asks lists)) (rises (record o { groups = Some groups }) (least_horizon o.log.0 news)) lists (inl refl) (λ e h. h)
-  from_welcomed (Reads b r) = from_confirms (IsStartFrom o (Reads b r) (Welcome ask news groups)) (AreIn o (Reads b r)) (rises (record o { groups = Some groups }) (least_horizon o.log.0 news)) b r refl
+  from_welcomed (Asks lists) =
+      from_picks (IsStartFrom o (Asks lists) (Welcome ask news groups)) (AreIn o (Asks lists))
+      (rises (record o { groups = Some groups }) (least_horizon o.log.0 news)) lists (inl refl) (λ e h. h)
+  from_welcomed (Reads b r) =
+      from_confirms (IsStartFrom o (Reads b r) (Welcome ask news groups)) (AreIn o (Reads b r))
+      (rises (record o { groups = Some groups }) (least_horizon o.log.0 news)) b r refl
   from_welcomed Over = record { stage = tt; outs = tt }
 
   from_welcome : (stage : Stage) → From (IsStartFrom o stage (Welcome ask news groups)) (AreIn o stage) (on_welcome o stage ask news groups)
   unfolding on_welcome
   from_welcome stage =
-      by_test (From (IsStartFrom o stage (Welcome ask news groups)) (AreIn o stage)) ((ask == o.ask) && (can_ask o && awaits_welcome stage)) (welcomed (record o { groups = Some groups }) stage (least_horizon o.log.0 news)) (stays o stage)
+      by_test (From (IsStartFrom o stage (Welcome ask news groups)) (AreIn o stage)) ((ask == o.ask) && (can_ask o && awaits_welcome stage))
+      (welcomed (record o { groups = Some groups }) stage (least_horizon o.log.0 news)) (stays o stage)
       (λ t. from_welcomed stage)
       (λ t. from_stays (IsStartFrom o stage (Welcome ask news groups)) (AreIn o stage) o stage (stands o stage (Welcome ask news groups)))
 
 from_takes : (o : Opening) (stage : Stage) (input : In) → From (IsStartFrom o stage input) (AreIn o stage) (takes o stage input)
 from_takes o stage (Welcome ask news groups) = from_welcome o ask news groups stage
 from_takes o stage (Fenced server generation held) =
-    from_fenced (IsStartFrom o stage (Fenced server generation held)) (AreIn o stage) o stage (record { server = server; generation = generation; held = held }) (λ lists e. inr e) (stands o stage (Fenced server generation held))
-from_takes o stage (Got ask server generation fragment) = from_told (IsStartFrom o stage (Got ask server generation fragment)) (AreIn o stage) o stage ask server _ (stands o stage (Got ask server generation fragment))
-from_takes o stage (Missing ask server generation) = from_told (IsStartFrom o stage (Missing ask server generation)) (AreIn o stage) o stage ask server _ (stands o stage (Missing ask server generation))
+    from_fenced (IsStartFrom o stage (Fenced server generation held)) (AreIn o stage) o stage (record { server = server; generation = generation; held = held })
+    (λ lists e. inr e) (stands o stage (Fenced server generation held))
+from_takes o stage (Got ask server generation fragment) =
+    from_told (IsStartFrom o stage (Got ask server generation fragment)) (AreIn o stage) o stage ask server _
+    (stands o stage (Got ask server generation fragment))
+from_takes o stage (Missing ask server generation) =
+    from_told (IsStartFrom o stage (Missing ask server generation)) (AreIn o stage) o stage ask server _ (stands o stage (Missing ask server generation))
 from_takes o stage (Maps groups) = record { stage = stands o stage (Maps groups); outs = tt }
 from_takes o stage Tick = record { stage = stands o stage Tick; outs = tick_says (IsStartFrom o stage Tick) (AreIn o stage) o stage }
 
@@ -209,7 +223,8 @@ as_told s input (Fetch server name ask) q = tt
 as_told s input (Chain segments end prior) q = q
 as_told s input (Lost name) q = tt
 
-all_told : (s : ScanState) (input : In) (outs : List Out) → AllByRecursion (Says (IsStartFrom s.opening s.stage input) (AreIn s.opening s.stage)) outs → AllByRecursion (TellsStart s input) outs
+all_told : (s : ScanState) (input : In) (outs : List Out) → AllByRecursion (Says (IsStartFrom s.opening s.stage input) (AreIn s.opening s.stage)) outs
+    → AllByRecursion (TellsStart s input) outs
 all_told s input [] q = tt
 all_told s input (out ∷ outs) q = (as_told s input out q.0, all_told s input outs q.1)
 

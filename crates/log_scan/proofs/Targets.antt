@@ -43,7 +43,10 @@ pub record KeepsTarget (r : ReadingState) (step : Step) : Type 0 where
 as_found : (r : ReadingState) (groups : GroupMapState) (s : Segment) → KeepsTarget r (read_as r (cond (is_target r.target groups s) (Some s) None))
 as_found r groups s =
     by_test (λ (o : Option Segment). KeepsTarget r (read_as r o)) (is_target r.target groups s) (Some s) None
-    (λ t. record { same = refl; name = one_name r.target.seg.name s.name (and_first (same_name r.target.seg.name s.name) (is_known groups s.prior && has_block r.target.block s) t) })
+    (λ t. record {
+      same = refl;
+      name = one_name r.target.seg.name s.name (and_first (same_name r.target.seg.name s.name) (is_known groups s.prior && has_block r.target.block s) t);
+    })
     (λ t. record { same = refl; name = tt })
 
 as_answered : (r : ReadingState) (groups : GroupMapState) (a : Result Segment SegError) → KeepsTarget r (read_as r (segment_found r.target groups a))
@@ -58,8 +61,10 @@ as_judged r groups round.Waiting = record { same = refl; name = tt }
 pub answered_keeps : (r : ReadingState) (groups : GroupMapState) (ask server : ℕ) (told : Told) → KeepsTarget r (on_answer r groups ask server told)
 unfolding on_answer
 answered_keeps r groups ask server told =
-    by_test (λ (step : Step). KeepsTarget r step) (counts r ask server told) (judged (record r { round = taken r.round server told }) groups (state_of (taken r.round server told))) (record { state = r; next = Wait })
-    (λ t. (let k = as_judged (record r { round = taken r.round server told }) groups (state_of (taken r.round server told)) in record { same = k.same; name = k.name }))
+    by_test (λ (step : Step). KeepsTarget r step) (counts r ask server told)
+    (judged (record r { round = taken r.round server told }) groups (state_of (taken r.round server told))) (record { state = r; next = Wait })
+    (λ t. (let k = as_judged (record r { round = taken r.round server told }) groups (state_of (taken r.round server told)) in
+    record { same = k.same; name = k.name }))
     (λ t. record { same = refl; name = tt })
 
 confirmed_by : (r : ReadingState) (ask : ℕ) (stage : Stage) → KeepsTarget r (goes_on r ask stage)

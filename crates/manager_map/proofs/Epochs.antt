@@ -31,7 +31,8 @@ next_entry_follows entry manager =
       | false ↦ follows_itself entry
     ]
 
-set_follows : (slots : List SlotEntry) (at slot : ℕ) (entry : SlotEntry) → Follows (entry_at slots at) entry → Follows (entry_at slots slot) (entry_at (slice_set slots at entry) slot)
+set_follows : (slots : List SlotEntry) (at slot : ℕ) (entry : SlotEntry) → Follows (entry_at slots at) entry
+    → Follows (entry_at slots slot) (entry_at (slice_set slots at entry) slot)
 set_follows [] at slot entry follows = follows_itself _
 set_follows (x ∷ xs) zero zero entry follows = follows
 set_follows (x ∷ xs) zero (suc slot) entry follows = follows_itself _
@@ -43,7 +44,8 @@ pub moves_follow : (slots : List SlotEntry) (moves : List Move) (slot : ℕ) →
 moves_follow slots [] slot = follows_itself _
 moves_follow slots (move ∷ moves) slot =
     let next = after_move slots move.slot move.manager in
-    let one : Follows (entry_at slots slot) (entry_at next slot) = set_follows slots move.slot slot _ (next_entry_follows (entry_at slots move.slot) move.manager) in
+    let one : Follows (entry_at slots slot) (entry_at next slot) =
+    set_follows slots move.slot slot _ (next_entry_follows (entry_at slots move.slot) move.manager) in
     follows_both (entry_at slots slot) (entry_at next slot) _ one (moves_follow next moves slot)
 
 -- ---- the epoch counts the moves
@@ -69,7 +71,8 @@ move_epoch slots move slot within small =
     ∙ at_slot (move.slot == slot) refl
   where
     at_slot : (same : Bool) → (move.slot == slot) ≡ same
-        → cond same (next_entry (entry_at slots move.slot) move.manager).epoch (entry_at slots slot).epoch ≡ min ((entry_at slots slot).epoch + cond same 1 0) (2 ^ 32 - 1)
+        → cond same (next_entry (entry_at slots move.slot) move.manager).epoch (entry_at slots slot).epoch ≡ min ((entry_at slots slot).epoch + cond same 1 0)
+        (2 ^ 32 - 1)
     at_slot true is =
         let one : move.slot ≡ slot = grind (arith, nat_tests) in
         ap (λ at. (next_entry (entry_at slots at) move.manager).epoch) one ∙ next_entry_epoch (entry_at slots slot) move.manager small
@@ -87,8 +90,10 @@ moves_epoch slots (move ∷ moves) slot within small =
     let one = move_epoch slots move slot within small in
     let long : length next ≡ length slots = length-set slots move.slot _ in
     let more = moves_epoch next moves slot (omega arith) (omega arith) in
-    let count : moves_of slot (move ∷ moves) ≡ cond (move.slot == slot) 1 0 + moves_of slot moves = sum_by-cons (λ (m : Move). cond (m.slot == slot) 1 0) move moves in
-    more ∙ sums (entry_at slots slot).epoch (entry_at next slot).epoch (cond (move.slot == slot) 1 0) (moves_of slot moves) (moves_of slot (move ∷ moves)) (2 ^ 32 - 1) one count
+    let count : moves_of slot (move ∷ moves) ≡ cond (move.slot == slot) 1 0 + moves_of slot moves =
+    sum_by-cons (λ (m : Move). cond (m.slot == slot) 1 0) move moves in
+    more ∙ sums (entry_at slots slot).epoch (entry_at next slot).epoch (cond (move.slot == slot) 1 0) (moves_of slot moves) (moves_of slot (move ∷ moves))
+    (2 ^ 32 - 1) one count
 
 -- every slot starts under epoch 1
 pub start_epoch : (managers : ℕ) (slot : ℕ) → slot < 8 → (entry_at (start_entries managers) slot).epoch ≡ 1

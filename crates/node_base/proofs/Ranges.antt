@@ -4,7 +4,8 @@ use Rattle.std.specs.List.{range_with_len}
 
 module _ {X : Type 0} where
   -- the number that comes, and those after it
-  pub map_step : (f : ℕ → X) (front more : List X) (i n : ℕ) → i < n → more ≡ front ++ f i ∷ [] → more ++ map f (range_with_len (i + 1) (n - (i + 1))) ≡ front ++ map f (range_with_len i (n - i))
+  pub map_step : (f : ℕ → X) (front more : List X) (i n : ℕ) → i < n → more ≡ front ++ f i ∷ []
+      → more ++ map f (range_with_len (i + 1) (n - (i + 1))) ≡ front ++ map f (range_with_len i (n - i))
   map_step f front more i n lt e =
       let k : n - i ≡ suc (n - (i + 1)) = omega arith in
       let rest = map f (range_with_len (i + 1) (n - (i + 1))) in

@@ -31,8 +31,10 @@ none_equal n (m ∷ ns) h = (first_fails (nat_eq n m) (list_any (nat_eq n) ns) h
 distinct : (ns : List ℕ) → are_distinct ns ≡ true → IsDistinct nat_eq ns
 unfolding IsDistinct
 distinct [] h = tt
-distinct (n ∷ ns) h =
-    (none_equal n ns (not_true (list_any (nat_eq n) ns) (and_first (not (list_any (nat_eq n) ns)) (are_distinct ns) h)), distinct ns (and_second (not (list_any (nat_eq n) ns)) (are_distinct ns) h))
+distinct (n ∷ ns) h = (
+  none_equal n ns (not_true (list_any (nat_eq n) ns) (and_first (not (list_any (nat_eq n) ns)) (are_distinct ns) h)),
+  distinct ns (and_second (not (list_any (nat_eq n) ns)) (are_distinct ns) h),
+)
 
 -- the parts of a group
 module _ (servers : ℕ) (g : GroupSetup) (h : is_group servers g ≡ true) where
@@ -40,7 +42,8 @@ module _ (servers : ℕ) (g : GroupSetup) (h : is_group servers g ≡ true) wher
   named = and_first (list_all (is_within 1 servers) g.servers && are_distinct g.servers) (is_within 1 2 g.parity && is_group_size g.parity (length g.servers)) h
 
   sized : (is_within 1 2 g.parity && is_group_size g.parity (length g.servers)) ≡ true
-  sized = and_second (list_all (is_within 1 servers) g.servers && are_distinct g.servers) (is_within 1 2 g.parity && is_group_size g.parity (length g.servers)) h
+  sized = and_second (list_all (is_within 1 servers) g.servers && are_distinct g.servers)
+      (is_within 1 2 g.parity && is_group_size g.parity (length g.servers)) h
 
   group_exist : All (IsServer servers) g.servers
   group_exist k d lt = within 1 servers _ (AllPass-from_list_all (is_within 1 servers) g.servers (and_first _ (are_distinct g.servers) named) k d lt)

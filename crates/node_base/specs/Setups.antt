@@ -30,7 +30,8 @@ are_distinct (n ∷ ns) = not (list_any (nat_eq n) ns) && are_distinct ns
 
 -- a group of servers that exist and differ, as many as its parity allows
 abbrev pub is_group : ℕ → GroupSetup → Bool
-is_group servers g = (list_all (is_within 1 servers) g.servers && are_distinct g.servers) && (is_within 1 2 g.parity && is_group_size g.parity (length g.servers))
+is_group servers g =
+    (list_all (is_within 1 servers) g.servers && are_distinct g.servers) && (is_within 1 2 g.parity && is_group_size g.parity (length g.servers))
 
 -- there are as many nodes of each kind as there may be
 abbrev pub has_nodes : Setup → Bool

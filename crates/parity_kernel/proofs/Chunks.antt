@@ -31,12 +31,16 @@ module _ (f : ℕ → ℕ → ℕ) where
 
   -- the n bytes of one vector more are done
   pub chunk_more : (xs ys : List ℕ) (i n : ℕ) → i + n ≤ length xs → length xs ≡ length ys
-      → let now = put_chunk i xs (zip2 f (chunk i n xs) (chunk i n ys)) in take (i + n) now ++ zip2 f (drop (i + n) now) (drop (i + n) ys) ≡ take i xs ++ zip2 f (drop i xs) (drop i ys)
+      → let now = put_chunk i xs (zip2 f (chunk i n xs) (chunk i n ys)) in
+      take (i + n) now ++ zip2 f (drop (i + n) now) (drop (i + n) ys) ≡ take i xs ++ zip2 f (drop i xs) (drop i ys)
   chunk_more xs ys i n room long =
       let done = zip2 f (chunk i n xs) (chunk i n ys) in
       let now = put_chunk i xs done in
-      let count : length done ≡ n = length-zip2 f (chunk i n xs) (chunk i n ys) (length-chunk i n xs room ∙ sym (length-chunk i n ys (omega arith))) ∙ length-chunk i n xs room in
+      let count : length done ≡ n =
+      length-zip2 f (chunk i n xs) (chunk i n ys) (length-chunk i n xs room ∙ sym (length-chunk i n ys (omega arith))) ∙ length-chunk i n xs room in
       let front : take (i + n) now ≡ take i xs ++ done = take_more_put_chunk i xs done (i + n) (omega arith) room in
-      let back : drop (i + n) now ≡ drop n (drop i xs) = sym (drop-drop n i now) ∙ ap (λ (k : ℕ). drop k (drop i now)) (sym count) ∙ drop_put i xs done ∙ ap (λ (k : ℕ). drop k (drop i xs)) count in
+      let back : drop (i + n) now ≡ drop n (drop i xs) =
+      sym (drop-drop n i now) ∙ ap (λ (k : ℕ). drop k (drop i now)) (sym count) ∙ drop_put i xs done ∙ ap (λ (k : ℕ). drop k (drop i xs)) count in
       let rest : drop (i + n) ys ≡ drop n (drop i ys) = sym (drop-drop n i ys) in
-      ap₂ (λ (a b : List ℕ). a ++ b) front (ap₂ (zip2 f) back rest) ∙ append_assoc (take i xs) done _ ∙ ap (λ (zs : List ℕ). take i xs ++ zs) (sym (zip2-split n (drop i xs) (drop i ys)))
+      ap₂ (λ (a b : List ℕ). a ++ b) front (ap₂ (zip2 f) back rest) ∙ append_assoc (take i xs) done _
+      ∙ ap (λ (zs : List ℕ). take i xs ++ zs) (sym (zip2-split n (drop i xs) (drop i ys)))

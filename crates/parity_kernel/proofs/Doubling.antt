@@ -18,7 +18,9 @@ at_byte x =
 
 -- the vector's operations on so many lanes
 abbrev pub by_lanes : List ℕ → ℕ → List ℕ
-by_lanes v n = zip2 bit_xor (zip2 (λ a b. (a + b) % 256) v v) (sel_l (map (top 7) (zip2 (λ a b. cond (eqb a b) 255 0) (zip2 bit_and v (replicate n 128)) (replicate n 128))) (replicate n 29) (replicate n 0))
+by_lanes v n =
+    zip2 bit_xor (zip2 (λ a b. (a + b) % 256) v v)
+    (sel_l (map (top 7) (zip2 (λ a b. cond (eqb a b) 255 0) (zip2 bit_and v (replicate n 128)) (replicate n 128))) (replicate n 29) (replicate n 0))
 
 pub lanes_doubled : (v : List ℕ) → by_lanes v (length v) ≡ map doubled v
 lanes_doubled [] = refl

@@ -11,7 +11,8 @@ use Rattle.parity_kernel.specs.Field.{doubled, product, product_of, inverse_of, 
 
 pub swapped : (a b c d : ℕ) → bit_xor (bit_xor a b) (bit_xor c d) ≡ bit_xor (bit_xor a c) (bit_xor b d)
 swapped a b c d =
-    xor_assoc a b (bit_xor c d) ∙ ap (λ (x : ℕ). bit_xor a x) (sym (xor_assoc b c d) ∙ ap (λ (x : ℕ). bit_xor x d) (xor_comm b c) ∙ xor_assoc c b d) ∙ sym (xor_assoc a c (bit_xor b d))
+    xor_assoc a b (bit_xor c d) ∙ ap (λ (x : ℕ). bit_xor a x) (sym (xor_assoc b c d) ∙ ap (λ (x : ℕ). bit_xor x d) (xor_comm b c) ∙ xor_assoc c b d)
+    ∙ sym (xor_assoc a c (bit_xor b d))
 
 a_bit : (n : ℕ) → (n % 2 ≡ 0) ⊎ (n % 2 ≡ 1)
 a_bit n = grind arith

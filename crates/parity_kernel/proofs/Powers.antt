@@ -23,7 +23,9 @@ unfolding product_of doubled_times
 product_more zero by x = xor_zero_r (by % 2 * x) ∙ ap (λ (z : ℕ). z % 2 * x) (sym (div-one by))
 product_more (suc n) by x =
     let one_more : 1 + n ≡ suc n = omega arith in
-    ap (bit_xor (by % 2 * x)) (product_more n (by / 2) (doubled x) ∙ ap (λ (z : ℕ). bit_xor (product_of n (by / 2) (doubled x)) (z % 2 * doubled_times n (doubled x))) (shr-shr by 1 n ∙ ap (λ (k : ℕ). by / 2 ^ k) one_more))
+    ap (bit_xor (by % 2 * x))
+    (product_more n (by / 2) (doubled x)
+    ∙ ap (λ (z : ℕ). bit_xor (product_of n (by / 2) (doubled x)) (z % 2 * doubled_times n (doubled x))) (shr-shr by 1 n ∙ ap (λ (k : ℕ). by / 2 ^ k) one_more))
     ∙ sym (xor_assoc (by % 2 * x) (product_of n (by / 2) (doubled x)) _)
 
 product_none : (m x : ℕ) → product_of m 0 x ≡ 0
@@ -50,7 +52,8 @@ pub turn_set : (n by x : ℕ) → by / 2 ^ n % 2 ≡ 1 → bit_xor (product_of n
 turn_set n by x set =
     let next : suc n ≡ n + 1 = omega arith in
     let once : 1 * doubled_times n x ≡ doubled_times n x = omega arith in
-    sym (ap (λ (k : ℕ). product_of k by x) (sym next) ∙ product_more n by x ∙ ap (bit_xor (product_of n by x)) (ap (λ (b : ℕ). b * doubled_times n x) set ∙ once))
+    sym (ap (λ (k : ℕ). product_of k by x) (sym next) ∙ product_more n by x
+    ∙ ap (bit_xor (product_of n by x)) (ap (λ (b : ℕ). b * doubled_times n x) set ∙ once))
 
 pub turn_clear : (n by x : ℕ) → (by / 2 ^ n % 2 ≡ 1 → ⊥) → product_of n by x ≡ product_of (n + 1) by x
 turn_clear n by x clear =
@@ -90,7 +93,8 @@ unfolding doubled_times
 undoubled [] = refl
 undoubled (x ∷ xs) = ap (λ (ys : List ℕ). x ∷ ys) (undoubled xs)
 
-pub turn_set_each : (n by : ℕ) (xs : List ℕ) → by / 2 ^ n % 2 ≡ 1 → zip2 bit_xor (map (product_of n by) xs) (map (doubled_times n) xs) ≡ map (product_of (n + 1) by) xs
+pub turn_set_each : (n by : ℕ) (xs : List ℕ) → by / 2 ^ n % 2 ≡ 1
+    → zip2 bit_xor (map (product_of n by) xs) (map (doubled_times n) xs) ≡ map (product_of (n + 1) by) xs
 turn_set_each n by [] set = refl
 turn_set_each n by (x ∷ xs) set = ap₂ (λ (y : ℕ) (ys : List ℕ). y ∷ ys) (turn_set n by x set) (turn_set_each n by xs set)
 

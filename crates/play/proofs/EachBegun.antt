@@ -62,13 +62,15 @@ module _ {N : Type 0} (step : N → Do → NodeStep N) where
       goes_on_begins count (goes_by step p going) ∙ comes_begins (with_schedule p going.state) going.next
 
   -- a line begins the item that it is
-  opens_begins : (p : Player N) (work : Work) (actor : Option NodeId) (rest : List NodeId) → begun_by (opens_for step p work actor) ++ rest ≡ begun_by p ++ cons_option actor rest
+  opens_begins : (p : Player N) (work : Work) (actor : Option NodeId) (rest : List NodeId)
+      → begun_by (opens_for step p work actor) ++ rest ≡ begun_by p ++ cons_option actor rest
   unfolding begins
   opens_begins p work None rest = refl
   opens_begins p work (Some node) rest =
       ap (λ nodes. nodes ++ rest) (happens_begins (with_one_more p) (events.Begin node)) ∙ append_assoc (begun_by p) (node ∷ []) rest
 
-  line_begins : (p : Player N) (line : Line) (rest : List NodeId) → begun_by (plays_line step p line) ++ rest ≡ begun_by p ++ cons_option (actor_of line.work) rest
+  line_begins : (p : Player N) (line : Line) (rest : List NodeId)
+      → begun_by (plays_line step p line) ++ rest ≡ begun_by p ++ cons_option (actor_of line.work) rest
   unfolding plays_line opens goes_out
   line_begins p line rest =
       let q = opens_for step p line.work (actor_of line.work) in
@@ -80,12 +82,16 @@ module _ {N : Type 0} (step : N → Do → NodeStep N) where
 
 -- the items of one node among them
 for_one : (node : NodeId) (actor : Option NodeId) (actors : List NodeId)
-    → length (filter (λ begun. same_node begun node) (cons_option actor actors)) ≡ cond (is_for_actor node actor) 1 0 + length (filter (λ begun. same_node begun node) actors)
+    → length (filter (λ begun. same_node begun node) (cons_option actor actors)) ≡ cond (is_for_actor node actor) 1 0 + length
+    (filter (λ begun. same_node begun node) actors)
 for_one node None actors = omega arith
-for_one node (Some actor) actors = elim (same_node actor node) as (λ t. length (cond t (actor ∷ filter (λ begun. same_node begun node) actors) (filter (λ begun. same_node begun node) actors)) ≡ cond t 1 0 + length (filter (λ begun. same_node begun node) actors)) [
-  | true ↦ omega arith
-  | false ↦ omega arith
-]
+for_one node (Some actor) actors =
+    elim (same_node actor node) as
+    (λ t. length (cond t (actor ∷ filter (λ begun. same_node begun node) actors) (filter (λ begun. same_node begun node) actors)) ≡ cond t 1 0 + length
+    (filter (λ begun. same_node begun node) actors)) [
+      | true ↦ omega arith
+      | false ↦ omega arith
+    ]
 
 for_each : (node : NodeId) (lines : List Line) → length (filter (λ begun. same_node begun node) (actors_of lines)) ≡ length (items_of lines node)
 for_each node [] = refl

@@ -92,7 +92,8 @@ module _ {N : Type 0} (step : N → Do → NodeStep N) where
 
   -- ---- so the line is done once nothing is left
 
-  pub goes_by_falls : (p : Player N) → is_done (goes p.unanswered p.schedule).next ≡ false → suc (left (goes_by step p (goes p.unanswered p.schedule)).schedule) ≡ left p.schedule
+  pub goes_by_falls : (p : Player N) → is_done (goes p.unanswered p.schedule).next ≡ false
+      → suc (left (goes_by step p (goes p.unanswered p.schedule)).schedule) ≡ left p.schedule
   goes_by_falls p more =
       let going = goes p.unanswered p.schedule in
       ap suc (comes_keeps (with_schedule p going.state) going.next) ∙ (goes_falls p.unanswered p.schedule).0 more
@@ -104,7 +105,8 @@ module _ {N : Type 0} (step : N → Do → NodeStep N) where
 
   -- one thing happens, and then the rest
   pub goes_on_more : (p : Player N) → is_done (goes p.unanswered p.schedule).next ≡ false
-      → goes_on step (left (goes_by step p (goes p.unanswered p.schedule)).schedule) (goes_by step p (goes p.unanswered p.schedule)) ≡ goes_on step (left p.schedule) p
+      → goes_on step (left (goes_by step p (goes p.unanswered p.schedule)).schedule) (goes_by step p (goes p.unanswered p.schedule)) ≡ goes_on step
+      (left p.schedule) p
   unfolding goes_on
   goes_on_more p more = ap (λ count. goes_on step count p) (goes_by_falls p more)
 

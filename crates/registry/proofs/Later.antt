@@ -37,7 +37,8 @@ are_itself es = record { epochs = λ slot. omega arith; one_manager = λ slot sa
 are_both : (a b c : List SlotEntry) → AreLater a b → AreLater b c → AreLater a c
 are_both a b c ab bc = record {
   epochs = λ slot. omega (arith, ab.epochs slot, bc.epochs slot);
-  one_manager = λ slot same. bc.one_manager slot (omega (arith, ab.epochs slot, bc.epochs slot)) ∙ ab.one_manager slot (omega (arith, ab.epochs slot, bc.epochs slot));
+  one_manager =
+      λ slot same. bc.one_manager slot (omega (arith, ab.epochs slot, bc.epochs slot)) ∙ ab.one_manager slot (omega (arith, ab.epochs slot, bc.epochs slot));
 }
 
 are_moved : (es : List SlotEntry) (slot manager : ℕ) → AreLater es (after_move es slot manager)
@@ -58,7 +59,8 @@ are_raised_one manager es slot =
 are_raised : (manager : ℕ) (es : List SlotEntry) (slots : List ℕ) → AreLater es (fold (raise_one manager) es slots)
 are_raised manager es [] = are_itself es
 are_raised manager es (slot ∷ slots) =
-    are_both es (raise_one manager es slot) (fold (raise_one manager) (raise_one manager es slot) slots) (are_raised_one manager es slot) (are_raised manager (raise_one manager es slot) slots)
+    are_both es (raise_one manager es slot) (fold (raise_one manager) (raise_one manager es slot) slots) (are_raised_one manager es slot)
+    (are_raised manager (raise_one manager es slot) slots)
 
 -- ---- horizons
 
@@ -81,17 +83,20 @@ lower_numbers kept horizon h log below =
     let all : list_all (λ place. nat_le (slice_index kept place) (slice_index horizon place)) (range_with_len 0 9) ≡ true =
     and_second (length horizon == 9) (list_all (λ place. nat_le (slice_index kept place) (slice_index horizon place)) places) h
     in
-    let here : nat_le (slice_index kept log) (slice_index horizon log) ≡ true = all_places (λ place. nat_le (slice_index kept place) (slice_index horizon place)) 0 9 log all (omega arith) (omega arith) in
+    let here : nat_le (slice_index kept log) (slice_index horizon log) ≡ true =
+    all_places (λ place. nat_le (slice_index kept place) (slice_index horizon place)) 0 9 log all (omega arith) (omega arith) in
     grind (arith, nat_tests)
 
-set_horizon : (cs : List Checkpoint) (at slot log : ℕ) (c : Checkpoint) → slice_index (horizon_at cs at) log ≤ slice_index c.horizon log → slice_index (horizon_at cs slot) log ≤ slice_index (horizon_at (slice_set cs at c) slot) log
+set_horizon : (cs : List Checkpoint) (at slot log : ℕ) (c : Checkpoint) → slice_index (horizon_at cs at) log ≤ slice_index c.horizon log
+    → slice_index (horizon_at cs slot) log ≤ slice_index (horizon_at (slice_set cs at c) slot) log
 set_horizon [] at slot log c h = omega arith
 set_horizon (x ∷ xs) zero zero log c h = h
 set_horizon (x ∷ xs) zero (suc slot) log c h = omega arith
 set_horizon (x ∷ xs) (suc at) zero log c h = omega arith
 set_horizon (x ∷ xs) (suc at) (suc slot) log c h = set_horizon xs at slot log c h
 
-kept_horizon : (cs : List Checkpoint) (slot : ℕ) (horizon : List ℕ) → covers_kept cs slot horizon ≡ true → (log : ℕ) → log < 9 → slice_index (horizon_at cs slot) log ≤ slice_index horizon log
+kept_horizon : (cs : List Checkpoint) (slot : ℕ) (horizon : List ℕ) → covers_kept cs slot horizon ≡ true → (log : ℕ) → log < 9
+    → slice_index (horizon_at cs slot) log ≤ slice_index horizon log
 kept_horizon [] slot horizon h = contrary h
 kept_horizon (c ∷ cs) zero horizon h = lower_numbers c.horizon horizon h
 kept_horizon (c ∷ cs) (suc slot) horizon h = kept_horizon cs slot horizon h
@@ -106,7 +111,8 @@ inc_put incs manager inc q =
     at true = refl
     at false = refl
 
-inc_rises : (incs : List (ℕ × ℕ)) (manager inc q : ℕ) → nat_lt (inc_of incs manager) inc ≡ true → inc_of incs q ≤ inc_of (insert_entry nat_cmp incs manager inc) q
+inc_rises : (incs : List (ℕ × ℕ)) (manager inc q : ℕ) → nat_lt (inc_of incs manager) inc ≡ true
+    → inc_of incs q ≤ inc_of (insert_entry nat_cmp incs manager inc) q
 inc_rises incs manager inc q newer =
     subst (λ n. inc_of incs q ≤ n) (sym (inc_put incs manager inc q)) (at (eq_by_cmp nat_cmp q manager) refl)
   where
@@ -127,10 +133,12 @@ generation_rises (g ∷ gs) zero (suc j) n l = omega arith
 generation_rises (g ∷ gs) (suc i) zero n l = omega arith
 generation_rises (g ∷ gs) (suc i) (suc j) n l = generation_rises gs i j n l
 
-newer_generation : (groups : GroupMapState) (server generation : ℕ) → may_lose groups server generation ≡ true → generation_at groups.generations server < generation
+newer_generation : (groups : GroupMapState) (server generation : ℕ) → may_lose groups server generation ≡ true
+    → generation_at groups.generations server < generation
 newer_generation groups server generation h = at ((server == 0) || nat_lt groups.servers server) h
   where
-    at : (t : Bool) → cond t false (nat_lt (generation_at groups.generations server) generation && has_room groups) ≡ true → generation_at groups.generations server < generation
+    at : (t : Bool) → cond t false (nat_lt (generation_at groups.generations server) generation && has_room groups) ≡ true
+        → generation_at groups.generations server < generation
     at true h = contrary h
     at false h =
         let less : nat_lt (generation_at groups.generations server) generation ≡ true = and_first _ (has_room groups) h in
@@ -160,7 +168,8 @@ later_both a b c ab bc = record {
 
 later_restarted : (s : BoardState) (manager inc : ℕ) → hears_manager s manager inc ≡ true → IsLater s (manager_restarted s manager inc)
 later_restarted s manager inc hears =
-    let newer : nat_lt (inc_of s.incs manager) inc ≡ true = and_first (nat_lt (inc_of s.incs manager) inc) (can_rise manager s.entries) (and_second (nat_lt s.version 4294967295) _ hears) in
+    let newer : nat_lt (inc_of s.incs manager) inc ≡ true =
+    and_first (nat_lt (inc_of s.incs manager) inc) (can_rise manager s.entries) (and_second (nat_lt s.version 4294967295) _ hears) in
     record {
       version = omega arith;
       one_state = λ same. absurd (omega arith);
@@ -177,7 +186,9 @@ later_lost s server generation hears = record {
   slots = are_itself s.entries;
   horizons = λ slot log below. omega arith;
   incarnations = λ manager. omega arith;
-  generations = λ q. generation_rises s.groups.generations (server - 1) (q - 1) generation (newer_generation s.groups server generation (and_second (nat_lt s.version 4294967295) (may_lose s.groups server generation) hears));
+  generations =
+      λ q. generation_rises s.groups.generations (server - 1) (q - 1) generation
+      (newer_generation s.groups server generation (and_second (nat_lt s.version 4294967295) (may_lose s.groups server generation) hears));
 }
 
 later_moved : (s : BoardState) (slot manager : ℕ) → IsLater s (moved s slot manager)
@@ -190,12 +201,14 @@ later_moved s slot manager = record {
   generations = λ server. omega arith;
 }
 
-later_checkpointed : (s : BoardState) (slot : ℕ) (parts : List SegRef) (horizon : List ℕ) → covers_kept s.checkpoints slot horizon ≡ true → IsLater s (checkpointed s slot parts horizon)
+later_checkpointed : (s : BoardState) (slot : ℕ) (parts : List SegRef) (horizon : List ℕ) → covers_kept s.checkpoints slot horizon ≡ true
+    → IsLater s (checkpointed s slot parts horizon)
 later_checkpointed s slot parts horizon covers = record {
   version = omega arith;
   one_state = λ same. absurd (omega arith);
   slots = are_itself s.entries;
-  horizons = λ q log below. set_horizon s.checkpoints slot q log (record { parts = parts; horizon = horizon }) (kept_horizon s.checkpoints slot horizon covers log below);
+  horizons = λ q log below. set_horizon s.checkpoints slot q log (record { parts = parts; horizon = horizon })
+      (kept_horizon s.checkpoints slot horizon covers log below);
   incarnations = λ manager. omega arith;
   generations = λ server. omega arith;
 }
@@ -208,27 +221,37 @@ module _ (s : BoardState) where
 
   later_manager : (manager inc : ℕ) → Leads (manager_hello s manager inc)
   unfolding manager_hello
-  later_manager manager inc = by_test Leads (hears_manager s manager inc) (record { state = manager_restarted s manager inc; outs = _ }) (record { state = s; outs = [] }) (λ h. later_restarted s manager inc h) (λ _. later_itself s)
+  later_manager manager inc =
+      by_test Leads (hears_manager s manager inc) (record { state = manager_restarted s manager inc; outs = _ }) (record { state = s; outs = [] })
+      (λ h. later_restarted s manager inc h) (λ _. later_itself s)
 
   later_server : (server generation : ℕ) → Leads (server_hello s server generation)
   unfolding server_hello
-  later_server server generation = by_test Leads (hears_server s server generation) (record { state = server_lost s server generation; outs = _ }) (record { state = s; outs = [] }) (λ h. later_lost s server generation h) (λ _. later_itself s)
+  later_server server generation =
+      by_test Leads (hears_server s server generation) (record { state = server_lost s server generation; outs = _ }) (record { state = s; outs = [] })
+      (λ h. later_lost s server generation h) (λ _. later_itself s)
 
   later_reassign : (slot manager : ℕ) → Leads (reassign s slot manager)
   unfolding reassign
-  later_reassign slot manager = by_test Leads (can_move s slot) (record { state = moved s slot manager; outs = _ }) (record { state = s; outs = [] }) (λ _. later_moved s slot manager) (λ _. later_itself s)
+  later_reassign slot manager =
+      by_test Leads (can_move s slot) (record { state = moved s slot manager; outs = _ }) (record { state = s; outs = [] }) (λ _. later_moved s slot manager)
+      (λ _. later_itself s)
 
-  later_keep : (slot epoch : ℕ) (parts : List SegRef) (horizon : List ℕ) → covers_kept s.checkpoints slot horizon ≡ true → Leads (keep s slot epoch parts horizon)
+  later_keep : (slot epoch : ℕ) (parts : List SegRef) (horizon : List ℕ) → covers_kept s.checkpoints slot horizon ≡ true
+      → Leads (keep s slot epoch parts horizon)
   unfolding keep
   later_keep slot epoch parts horizon covers =
-      by_test Leads (s.version == 4294967295) (record { state = s; outs = [] }) (record { state = checkpointed s slot parts horizon; outs = _ }) (λ _. later_itself s) (λ _. later_checkpointed s slot parts horizon covers)
+      by_test Leads (s.version == 4294967295) (record { state = s; outs = [] }) (record { state = checkpointed s slot parts horizon; outs = _ })
+      (λ _. later_itself s) (λ _. later_checkpointed s slot parts horizon covers)
 
   later_done : (slot epoch : ℕ) (parts : List SegRef) (horizon : List ℕ) → Leads (done s slot epoch parts horizon)
   unfolding done
   later_done slot epoch parts horizon =
-      by_test Leads (nat_lt 7 slot) (record { state = s; outs = [] }) (cond (is_kept s slot epoch horizon) (keep s slot epoch parts horizon) (record { state = s; outs = _ })) (λ _. later_itself s)
+      by_test Leads (nat_lt 7 slot) (record { state = s; outs = [] })
+      (cond (is_kept s slot epoch horizon) (keep s slot epoch parts horizon) (record { state = s; outs = _ })) (λ _. later_itself s)
       (λ _. by_test Leads (is_kept s slot epoch horizon) (keep s slot epoch parts horizon) (record { state = s; outs = _ })
-      (λ h. later_keep slot epoch parts horizon (and_second ((entry_of s.entries slot).epoch == epoch) (covers_kept s.checkpoints slot horizon) h)) (λ _. later_itself s))
+      (λ h. later_keep slot epoch parts horizon (and_second ((entry_of s.entries slot).epoch == epoch) (covers_kept s.checkpoints slot horizon) h))
+      (λ _. later_itself s))
 
   later_step : (input : In) → Leads (transition s input)
   later_step (Hello (Client n) inc) = later_itself s

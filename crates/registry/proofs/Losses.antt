@@ -26,29 +26,35 @@ filter_short p (x ∷ xs) =
 twice : (a b n m : ℕ) → a ≤ n → b ≤ a → n + n ≤ m → a + b ≤ m
 twice a b n m few short room = omega arith
 
-room_for : (groups : GroupMapState) (server : ℕ) → IsGroupMap groups → has_room groups ≡ true → length groups.groups + length (filter (is_hit server) groups.groups) ≤ 4294967295
+room_for : (groups : GroupMapState) (server : ℕ) → IsGroupMap groups → has_room groups ≡ true
+    → length groups.groups + length (filter (is_hit server) groups.groups) ≤ 4294967295
 room_for groups server is room =
-    let none : is_some (slice_get groups.groups 2147483647) ≡ false = ap is_some (sym (find-numbered 1 groups.groups 2147483647 is.by_id)) ∙ not_true (is_some (group_of groups 2147483648)) room in
-    twice (length groups.groups) (length (filter (is_hit server) groups.groups)) 2147483647 4294967295 (few_or_there groups.groups 2147483647 none) (filter_short (is_hit server) groups.groups) (lit≤ tt)
+    let none : is_some (slice_get groups.groups 2147483647) ≡ false =
+    ap is_some (sym (find-numbered 1 groups.groups 2147483647 is.by_id)) ∙ not_true (is_some (group_of groups 2147483648)) room in
+    twice (length groups.groups) (length (filter (is_hit server) groups.groups)) 2147483647 4294967295 (few_or_there groups.groups 2147483647 none)
+    (filter_short (is_hit server) groups.groups) (lit≤ tt)
 
 module _ (groups : GroupMapState) (server generation : ℕ) (may : may_lose groups server generation ≡ true) where
   pub loss_exists : IsServer groups.servers server
   loss_exists = at ((server == 0) || nat_lt groups.servers server) refl may
     where
-      at : (t : Bool) → ((server == 0) || nat_lt groups.servers server) ≡ t → cond t false (nat_lt (generation_at groups.generations server) generation && has_room groups) ≡ true → IsServer groups.servers server
+      at : (t : Bool) → ((server == 0) || nat_lt groups.servers server) ≡ t
+          → cond t false (nat_lt (generation_at groups.generations server) generation && has_room groups) ≡ true → IsServer groups.servers server
       at true is h = contrary h
       at false is h = (grind (arith, nat_tests), grind (arith, nat_tests))
 
   known : (nat_lt (generation_at groups.generations server) generation && has_room groups) ≡ true
   known = at ((server == 0) || nat_lt groups.servers server) may
     where
-      at : (t : Bool) → cond t false (nat_lt (generation_at groups.generations server) generation && has_room groups) ≡ true → (nat_lt (generation_at groups.generations server) generation && has_room groups) ≡ true
+      at : (t : Bool) → cond t false (nat_lt (generation_at groups.generations server) generation && has_room groups) ≡ true
+          → (nat_lt (generation_at groups.generations server) generation && has_room groups) ≡ true
       at true h = contrary h
       at false h = h
 
   pub loss_newer : generation_at groups.generations server < generation
   loss_newer =
-      let less : nat_lt (generation_at groups.generations server) generation ≡ true = and_first (nat_lt (generation_at groups.generations server) generation) (has_room groups) known in
+      let less : nat_lt (generation_at groups.generations server) generation ≡ true =
+      and_first (nat_lt (generation_at groups.generations server) generation) (has_room groups) known in
       grind (arith, nat_tests)
 
   pub loss_room : IsGroupMap groups → length groups.groups + length (filter (is_hit server) groups.groups) ≤ 4294967295

@@ -15,7 +15,8 @@ entry_of entries slot = entry_at entries (slot_of slot)
 
 -- the slot is given to its manager again, where that is this one
 unfoldable pub raise_one : ℕ → List SlotEntry → ℕ → List SlotEntry
-raise_one manager entries slot = if (entry_of entries slot).manager == manager then (if nat_lt 7 slot then entries else after_move entries slot manager) else entries
+raise_one manager entries slot =
+    if (entry_of entries slot).manager == manager then (if nat_lt 7 slot then entries else after_move entries slot manager) else entries
 
 -- each slot of this manager is given to it again
 abbrev pub raised : ℕ → List SlotEntry → List SlotEntry

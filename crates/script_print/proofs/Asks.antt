@@ -43,7 +43,8 @@ pub lines_lack : (bytes : List ℕ) → AllByRecursion (λ l. Lacks 10 l) (lines
 lines_lack [] = tt
 lines_lack (b ∷ bytes) = at_feed (lines_lack bytes) (b == 10) refl
   where
-    at_feed : AllByRecursion (λ l. Lacks 10 l) (lines bytes) → (t : Bool) → (b == 10) ≡ t → AllByRecursion (λ l. Lacks 10 l) (if t then [] ∷ lines bytes else onto_first b (lines bytes))
+    at_feed : AllByRecursion (λ l. Lacks 10 l) (lines bytes) → (t : Bool) → (b == 10) ≡ t
+        → AllByRecursion (λ l. Lacks 10 l) (if t then [] ∷ lines bytes else onto_first b (lines bytes))
     at_feed a true e = (tt, a)
     at_feed a false e = feed_onto b (lines bytes) (eqb-false b 10 e) a
 

@@ -29,7 +29,8 @@ pub lacks_test : (m : ℕ) (bs : List ℕ) → list_all (λ b. not (b == m)) bs 
 lacks_test m [] e = tt
 lacks_test m (b ∷ bs) e = at_tests (λ f. lacks_test m bs f) (b == m) refl e
   where
-    at_tests : (list_all (λ x. not (x == m)) bs ≡ true → Lacks m bs) → (t : Bool) → (b == m) ≡ t → (not t && list_all (λ x. not (x == m)) bs) ≡ true → Lacks m (b ∷ bs)
+    at_tests : (list_all (λ x. not (x == m)) bs ≡ true → Lacks m bs) → (t : Bool) → (b == m) ≡ t → (not t && list_all (λ x. not (x == m)) bs) ≡ true
+        → Lacks m (b ∷ bs)
     at_tests h true f g = absurd (grind (arith, g))
     at_tests h false f g = (eqb-false b m f, h g)
 
@@ -67,7 +68,8 @@ decimal_short n h = length-decimal-le 10 n (omega arith) (omega arith) (wide n h
 pub byte_written : (b : ℕ) → b < 256 → WritesByte b (byte_text b)
 byte_written b l = at_tests (is_plain b) (b == 34) (b == 92) refl refl refl
   where
-    at_tests : (p q s : Bool) → is_plain b ≡ p → (b == 34) ≡ q → (b == 92) ≡ s → WritesByte b (if p then b ∷ [] else if q || s then 92 ∷ b ∷ [] else 92 ∷ 120 ∷ hex_digit (b / 16) ∷ hex_digit (b % 16) ∷ [])
+    at_tests : (p q s : Bool) → is_plain b ≡ p → (b == 34) ≡ q → (b == 92) ≡ s
+        → WritesByte b (if p then b ∷ [] else if q || s then 92 ∷ b ∷ [] else 92 ∷ 120 ∷ hex_digit (b / 16) ∷ hex_digit (b % 16) ∷ [])
     at_tests true q s e f g = inl (e, refl)
     at_tests false true s e f g = let h = eqb-true b 34 f in inr (inl (h, ap (λ x. 92 ∷ x ∷ []) h))
     at_tests false false true e f g = let h = eqb-true b 92 g in inr (inr (inl (h, ap (λ x. 92 ∷ x ∷ []) h)))
@@ -112,11 +114,13 @@ byte_lacks b = at_tests (is_plain b) (b == 34) (b == 92) refl refl refl
     plain_lacks : (c : ℕ) → is_plain c ≡ true → c ≡ 10 → ⊥
     plain_lacks c e f = grind (arith, nat_tests, e, f)
 
-    at_tests : (p q s : Bool) → is_plain b ≡ p → (b == 34) ≡ q → (b == 92) ≡ s → Lacks 10 (if p then b ∷ [] else if q || s then 92 ∷ b ∷ [] else 92 ∷ 120 ∷ hex_digit (b / 16) ∷ hex_digit (b % 16) ∷ [])
+    at_tests : (p q s : Bool) → is_plain b ≡ p → (b == 34) ≡ q → (b == 92) ≡ s
+        → Lacks 10 (if p then b ∷ [] else if q || s then 92 ∷ b ∷ [] else 92 ∷ 120 ∷ hex_digit (b / 16) ∷ hex_digit (b % 16) ∷ [])
     at_tests true q s e f g = (plain_lacks b e, tt)
     at_tests false true s e f g = let h = eqb-true b 34 f in ((λ x. omega (arith, x)), ((λ x. omega (arith, x, h)), tt))
     at_tests false false true e f g = let h = eqb-true b 92 g in ((λ x. omega (arith, x)), ((λ x. omega (arith, x, h)), tt))
-    at_tests false false false e f g = ((λ x. omega (arith, x)), ((λ x. omega (arith, x)), (hex_lacks (b / 16) (nat_lt (b / 16) 10), (hex_lacks (b % 16) (nat_lt (b % 16) 10), tt))))
+    at_tests false false false e f g =
+        ((λ x. omega (arith, x)), ((λ x. omega (arith, x)), (hex_lacks (b / 16) (nat_lt (b / 16) 10), (hex_lacks (b % 16) (nat_lt (b % 16) 10), tt))))
 
 body_lacks : (text : List ℕ) → Lacks 10 (text_body text)
 body_lacks [] = tt

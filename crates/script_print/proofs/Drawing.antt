@@ -25,11 +25,18 @@ use Rattle.script_print.proofs.Extracts.{IsSetup, AreAsked, Whole}
 use Rattle.script_print.proofs.Printings.{whole_spelled}
 
 -- what holds of each list of works that a turn may make holds of what it makes
-turn_all : (P : List Work → Type 0) (turn : ℕ) (d : Draws) → P (works.Bput (client_of d) (block_of d) (Some (decimal turn)) ∷ []) → P (works.Bget (client_of d) (block_of d) ∷ []) → P (works.Sync (client_of d) ∷ []) → P (fall_of (nodes.Client (client_of d))) → P (fall_of (nodes.Manager (manager_of d))) → P (works.Checkpoint (manager_of d) ∷ []) → P (works.Clean 2 ∷ []) → P (works.Lose (server_of d) ∷ works.Rebuild (server_of d) ∷ []) → P (turn_works turn d)
+turn_all : (P : List Work → Type 0) (turn : ℕ) (d : Draws) → P (works.Bput (client_of d) (block_of d) (Some (decimal turn)) ∷ [])
+    → P (works.Bget (client_of d) (block_of d) ∷ []) → P (works.Sync (client_of d) ∷ []) → P (fall_of (nodes.Client (client_of d)))
+    → P (fall_of (nodes.Manager (manager_of d))) → P (works.Checkpoint (manager_of d) ∷ []) → P (works.Clean 2 ∷ [])
+    → P (works.Lose (server_of d) ∷ works.Rebuild (server_of d) ∷ []) → P (turn_works turn d)
 turn_all P turn d put get sync client manager check clean lose =
     at_kind (nat_lt (d.kind % 16) 6) (nat_lt (d.kind % 16) 12) (d.kind % 16 == 12) (d.kind % 16 == 13) (d.kind % 16 == 14) (d.file % 3 == 0) (d.file % 3 == 1)
   where
-    at_kind : (t u v w x y z : Bool) → P (if t then works.Bput (client_of d) (block_of d) (Some (decimal turn)) ∷ [] else if u then works.Bget (client_of d) (block_of d) ∷ [] else if v then works.Sync (client_of d) ∷ [] else if w then fall_of (nodes.Client (client_of d)) else if x then fall_of (nodes.Manager (manager_of d)) else if y then works.Checkpoint (manager_of d) ∷ [] else if z then works.Clean 2 ∷ [] else works.Lose (server_of d) ∷ works.Rebuild (server_of d) ∷ [])
+    at_kind : (t u v w x y z : Bool)
+        → P (if t then works.Bput (client_of d) (block_of d) (Some (decimal turn)) ∷ [] else if u then works.Bget (client_of d)
+        (block_of d) ∷ [] else if v then works.Sync (client_of d) ∷ [] else if w then fall_of (nodes.Client (client_of d)) else if x then fall_of
+        (nodes.Manager (manager_of d)) else if y then works.Checkpoint (manager_of d) ∷ [] else if z then works.Clean 2 ∷ [] else works.Lose
+        (server_of d) ∷ works.Rebuild (server_of d) ∷ [])
     at_kind true u v w x y z = put
     at_kind false true v w x y z = get
     at_kind false false true w x y z = sync
@@ -40,7 +47,8 @@ turn_all P turn d put get sync client manager check clean lose =
     at_kind false false false false false false false = lose
 
 pub turn_few : (turn : ℕ) (d : Draws) → length (turn_works turn d) ≤ 2
-turn_few turn d = turn_all (λ ws. length ws ≤ 2) turn d (omega arith) (omega arith) (omega arith) (omega arith) (omega arith) (omega arith) (omega arith) (omega arith)
+turn_few turn d =
+    turn_all (λ ws. length ws ≤ 2) turn d (omega arith) (omega arith) (omega arith) (omega arith) (omega arith) (omega arith) (omega arith) (omega arith)
 
 -- numbered works
 numbered_join : (n : ℕ) (a b : List Work) → numbered n (a ++ b) ≡ numbered n a ++ numbered (n + length a) b
@@ -54,10 +62,14 @@ numbered_length n [] = refl
 numbered_length n (w ∷ ws) = let e = numbered_length (n + 1) ws in omega (arith, e)
 
 new_length : (lines new : List Line) (made : List Work) → new ≡ lines ++ numbered (8 + length lines) made → length new ≡ length lines + length made
-new_length lines new made e = ap length e ∙ length-append lines (numbered (8 + length lines) made) ∙ ap (λ n. length lines + n) (numbered_length (8 + length lines) made)
+new_length lines new made e =
+    ap length e ∙ length-append lines (numbered (8 + length lines) made) ∙ ap (λ n. length lines + n) (numbered_length (8 + length lines) made)
 
 -- a turn of the loop
-turn_same : (lines new whole : List Line) (turns turn x : ℕ) → turn < turns → lines ++ numbered (8 + length lines) (works_from (turns - turn) (turn + 1) x) ≡ whole → new ≡ lines ++ numbered (8 + length lines) (turn_works (turn + 1) (draws_from x)) → new ++ numbered (8 + length new) (works_from (turns - (turn + 1)) (turn + 1 + 1) (draws_from x).left) ≡ whole
+turn_same : (lines new whole : List Line) (turns turn x : ℕ) → turn < turns
+    → lines ++ numbered (8 + length lines) (works_from (turns - turn) (turn + 1) x) ≡ whole
+    → new ≡ lines ++ numbered (8 + length lines) (turn_works (turn + 1) (draws_from x))
+    → new ++ numbered (8 + length new) (works_from (turns - (turn + 1)) (turn + 1 + 1) (draws_from x).left) ≡ whole
 turn_same lines new whole turns turn x l h e =
     let made = turn_works (turn + 1) (draws_from x) in
     let rest = works_from (turns - (turn + 1)) (turn + 1 + 1) (draws_from x).left in
@@ -65,25 +77,33 @@ turn_same lines new whole turns turn x l h e =
     let b : works_from (turns - turn) (turn + 1) x ≡ made ++ rest = ap (λ n. works_from n (turn + 1) x) a in
     let c : length new ≡ length lines + length made = new_length lines new made e in
     let f : 8 + length new ≡ 8 + length lines + length made = omega (arith, c) in
-    let g : numbered (8 + length lines) (works_from (turns - turn) (turn + 1) x) ≡ numbered (8 + length lines) made ++ numbered (8 + length lines + length made) rest = ap (λ ws. numbered (8 + length lines) ws) b ∙ numbered_join (8 + length lines) made rest in
+    let g : numbered (8 + length lines) (works_from (turns - turn) (turn + 1) x) ≡ numbered (8 + length lines) made
+    ++ numbered (8 + length lines + length made) rest = ap (λ ws. numbered (8 + length lines) ws) b ∙ numbered_join (8 + length lines) made rest in
     ap (λ n. new ++ numbered n rest) f
     ∙ ap (λ y. y ++ numbered (8 + length lines + length made) rest) e
     ∙ append_assoc lines (numbered (8 + length lines) made) (numbered (8 + length lines + length made) rest)
     ∙ ap (λ y. lines ++ y) (sym g)
     ∙ h
 
-pub turn_kept : (lines new whole : List Line) (turns turn x : ℕ) (d : Draws) → d ≡ draws_from x → turn < turns → lines ++ numbered (8 + length lines) (works_from (turns - turn) (turn + 1) x) ≡ whole → new ≡ lines ++ numbered (8 + length lines) (turn_works (turn + 1) d) → new ++ numbered (8 + length new) (works_from (turns - (turn + 1)) (turn + 1 + 1) d.left) ≡ whole
+pub turn_kept : (lines new whole : List Line) (turns turn x : ℕ) (d : Draws) → d ≡ draws_from x → turn < turns
+    → lines ++ numbered (8 + length lines) (works_from (turns - turn) (turn + 1) x) ≡ whole
+    → new ≡ lines ++ numbered (8 + length lines) (turn_works (turn + 1) d)
+    → new ++ numbered (8 + length new) (works_from (turns - (turn + 1)) (turn + 1 + 1) d.left) ≡ whole
 turn_kept lines new whole turns turn x d k l h e =
-    let f : new ≡ lines ++ numbered (8 + length lines) (turn_works (turn + 1) (draws_from x)) = e ∙ ap (λ (y : Draws). lines ++ numbered (8 + length lines) (turn_works (turn + 1) y)) k in
-    ap (λ (y : Draws). new ++ numbered (8 + length new) (works_from (turns - (turn + 1)) (turn + 1 + 1) y.left)) k ∙ turn_same lines new whole turns turn x l h f
+    let f : new ≡ lines ++ numbered (8 + length lines) (turn_works (turn + 1) (draws_from x)) =
+    e ∙ ap (λ (y : Draws). lines ++ numbered (8 + length lines) (turn_works (turn + 1) y)) k in
+    ap (λ (y : Draws). new ++ numbered (8 + length new) (works_from (turns - (turn + 1)) (turn + 1 + 1) y.left)) k
+    ∙ turn_same lines new whole turns turn x l h f
 
-pub few_kept : (lines new : List Line) (turn : ℕ) (d : Draws) → length lines ≤ 2 * turn → new ≡ lines ++ numbered (8 + length lines) (turn_works (turn + 1) d) → length new ≤ 2 * (turn + 1)
+pub few_kept : (lines new : List Line) (turn : ℕ) (d : Draws) → length lines ≤ 2 * turn → new ≡ lines ++ numbered (8 + length lines) (turn_works (turn + 1) d)
+    → length new ≤ 2 * (turn + 1)
 few_kept lines new turn d h e =
     let c : length new ≡ length lines + length (turn_works (turn + 1) d) = new_length lines new (turn_works (turn + 1) d) e in
     let f : length (turn_works (turn + 1) d) ≤ 2 = turn_few (turn + 1) d in
     omega (arith, c, f, h)
 
-pub turns_done : (lines whole : List Line) (turns turn t x : ℕ) → turns ≤ turn → lines ++ numbered (8 + length lines) (works_from (turns - turn) t x) ≡ whole → lines ≡ whole
+pub turns_done : (lines whole : List Line) (turns turn t x : ℕ) → turns ≤ turn → lines ++ numbered (8 + length lines) (works_from (turns - turn) t x) ≡ whole
+    → lines ≡ whole
 turns_done lines whole turns turn t x l h =
     let a : turns - turn ≡ 0 = omega (arith, l) in
     sym (append-nil lines) ∙ ap (λ n. lines ++ numbered (8 + length lines) (works_from n t x)) (sym a) ∙ h
@@ -117,7 +137,8 @@ two_long k v h l =
     let e : length (decimal k ++ 32 ∷ v) ≡ length (decimal k) + length (32 ∷ v) = length-append (decimal k) (32 ∷ v) in
     omega (arith, d, e, l)
 
-put_drawn : (k a s b turn : ℕ) → k < 4 → turn < 2 ^ 32 → IsDrawn (works.Bput (k + 1) (record { ino = record { 0 = 128 * (1 + a % 8) + s % 8 }; blk = b % 16 }) (Some (decimal turn)))
+put_drawn : (k a s b turn : ℕ) → k < 4 → turn < 2 ^ 32
+    → IsDrawn (works.Bput (k + 1) (record { ino = record { 0 = 128 * (1 + a % 8) + s % 8 }; blk = b % 16 }) (Some (decimal turn)))
 put_drawn k a s b turn h t =
     let ino = 128 * (1 + a % 8) + s % 8 in
     let text = decimal turn in
@@ -128,14 +149,30 @@ put_drawn k a s b turn h t =
     let two : length (decimal (b % 16)) ≤ 10 = decimal_short (b % 16) (omega arith) in
     let body : length (text_body text) ≤ 4 * length text = body_short text in
     let e1 : length (text_body text ++ 34 ∷ []) ≡ length (text_body text) + 1 = length-append (text_body text) (34 ∷ []) in
-    let e2 : length (decimal (b % 16) ++ 32 ∷ quoted (text_body text)) ≡ length (decimal (b % 16)) + length (32 ∷ quoted (text_body text)) = length-append (decimal (b % 16)) (32 ∷ quoted (text_body text)) in
-    let e3 : length (decimal ino ++ 32 ∷ (decimal (b % 16) ++ 32 ∷ quoted (text_body text))) ≡ length (decimal ino) + length (32 ∷ (decimal (b % 16) ++ 32 ∷ quoted (text_body text))) = length-append (decimal ino) (32 ∷ (decimal (b % 16) ++ 32 ∷ quoted (text_body text))) in
-    let e4 : length (decimal (k + 1) ++ 32 ∷ (codes "bput" ++ 32 ∷ (decimal ino ++ 32 ∷ (decimal (b % 16) ++ 32 ∷ quoted (text_body text))))) ≡ length (decimal (k + 1)) + length (32 ∷ (codes "bput" ++ 32 ∷ (decimal ino ++ 32 ∷ (decimal (b % 16) ++ 32 ∷ quoted (text_body text))))) = length-append (decimal (k + 1)) (32 ∷ (codes "bput" ++ 32 ∷ (decimal ino ++ 32 ∷ (decimal (b % 16) ++ 32 ∷ quoted (text_body text))))) in
+    let e2 : length (decimal (b % 16) ++ 32 ∷ quoted (text_body text)) ≡ length (decimal (b % 16)) + length (32 ∷ quoted (text_body text)) =
+    length-append (decimal (b % 16)) (32 ∷ quoted (text_body text)) in
+    let e3 : length (decimal ino ++ 32 ∷ (decimal (b % 16) ++ 32 ∷ quoted (text_body text))) ≡ length (decimal ino) + length
+    (32 ∷ (decimal (b % 16) ++ 32 ∷ quoted (text_body text))) = length-append (decimal ino) (32 ∷ (decimal (b % 16) ++ 32 ∷ quoted (text_body text))) in
+    let e4 : length (decimal (k + 1) ++ 32 ∷ (codes "bput" ++ 32 ∷ (decimal ino ++ 32 ∷ (decimal (b % 16) ++ 32 ∷ quoted (text_body text))))) ≡ length
+    (decimal (k + 1)) + length (32 ∷ (codes "bput" ++ 32 ∷ (decimal ino ++ 32 ∷ (decimal (b % 16) ++ 32 ∷ quoted (text_body text))))) =
+    length-append (decimal (k + 1)) (32 ∷ (codes "bput" ++ 32 ∷ (decimal ino ++ 32 ∷ (decimal (b % 16) ++ 32 ∷ quoted (text_body text))))) in
     record {
       asked = λ room l. record {
         form = form.Bput;
         meanings = (k + 1, (tt, (ino, (b % 16, (text, tt)))));
-        fits = ((99 ∷ decimal (k + 1), ((omega (arith, h), refl), (omega arith, omega (arith, h))), tt), (([], (tt, tt), tt), ((decimal ino, (((omega arith, refl), raw_ino a s), tt), tt), ((decimal (b % 16), (((omega arith, refl), omega arith, omega arith), tt), tt), ((quoted (text_body text), ((text_spelled text (decimal_bytes turn t), some), omega (arith, n, l)), tt), tt)))));
+        fits = (
+          (99 ∷ decimal (k + 1), ((omega (arith, h), refl), (omega arith, omega (arith, h))), tt),
+          (
+            ([], (tt, tt), tt),
+            (
+              (decimal ino, (((omega arith, refl), raw_ino a s), tt), tt),
+              (
+                (decimal (b % 16), (((omega arith, refl), omega arith, omega arith), tt), tt),
+                ((quoted (text_body text), ((text_spelled text (decimal_bytes turn t), some), omega (arith, n, l)), tt), tt),
+              ),
+            ),
+          ),
+        );
         meant = refl;
         time = omega arith;
         alone = λ x. refl;
@@ -150,12 +187,23 @@ get_drawn k a s b h =
     let node : length (decimal (k + 1)) ≤ 10 = decimal_short (k + 1) (omega (arith, h)) in
     let two : length (decimal (b % 16)) ≤ 10 = decimal_short (b % 16) (omega arith) in
     let rest : length (decimal ino ++ 32 ∷ decimal (b % 16)) ≤ 21 = two_long ino (decimal (b % 16)) (omega arith) two in
-    let e : length (decimal (k + 1) ++ 32 ∷ (codes "bget" ++ 32 ∷ (decimal ino ++ 32 ∷ decimal (b % 16)))) ≡ length (decimal (k + 1)) + length (32 ∷ (codes "bget" ++ 32 ∷ (decimal ino ++ 32 ∷ decimal (b % 16)))) = length-append (decimal (k + 1)) (32 ∷ (codes "bget" ++ 32 ∷ (decimal ino ++ 32 ∷ decimal (b % 16)))) in
+    let e : length (decimal (k + 1) ++ 32 ∷ (codes "bget" ++ 32 ∷ (decimal ino ++ 32 ∷ decimal (b % 16)))) ≡ length (decimal (k + 1)) + length
+    (32 ∷ (codes "bget" ++ 32 ∷ (decimal ino ++ 32 ∷ decimal (b % 16)))) =
+    length-append (decimal (k + 1)) (32 ∷ (codes "bget" ++ 32 ∷ (decimal ino ++ 32 ∷ decimal (b % 16)))) in
     record {
       asked = λ room l. record {
         form = form.Bget;
         meanings = (k + 1, (tt, (ino, (b % 16, tt))));
-        fits = ((99 ∷ decimal (k + 1), ((omega (arith, h), refl), (omega arith, omega (arith, h))), tt), (([], (tt, tt), tt), ((decimal ino, (((omega arith, refl), omega arith, omega arith), tt), tt), ((decimal (b % 16), (((omega arith, refl), omega arith, omega arith), tt), tt), tt))));
+        fits = (
+          (99 ∷ decimal (k + 1), ((omega (arith, h), refl), (omega arith, omega (arith, h))), tt),
+          (
+            ([], (tt, tt), tt),
+            (
+              (decimal ino, (((omega arith, refl), omega arith, omega arith), tt), tt),
+              ((decimal (b % 16), (((omega arith, refl), omega arith, omega arith), tt), tt), tt),
+            ),
+          ),
+        );
         meant = refl;
         time = omega arith;
         alone = λ x. refl;
@@ -172,7 +220,14 @@ order_long letter k verb h l =
 
 sync_drawn : (k : ℕ) → k < 4 → IsDrawn (works.Sync (k + 1))
 sync_drawn k h = record {
-  asked = λ room l. record { form = form.Sync; meanings = (k + 1, (tt, tt)); fits = ((99 ∷ decimal (k + 1), ((omega (arith, h), refl), (omega arith, omega (arith, h))), tt), (([], (tt, tt), tt), tt)); meant = refl; time = omega arith; alone = λ x. refl };
+  asked = λ room l. record {
+    form = form.Sync;
+    meanings = (k + 1, (tt, tt));
+    fits = ((99 ∷ decimal (k + 1), ((omega (arith, h), refl), (omega arith, omega (arith, h))), tt), (([], (tt, tt), tt), tt));
+    meant = refl;
+    time = omega arith;
+    alone = λ x. refl;
+  };
   size = omega arith;
   short = order_long 99 (k + 1) (codes "sync") (omega (arith, h)) (omega arith);
 }
@@ -180,13 +235,27 @@ sync_drawn k h = record {
 client_fall : (k : ℕ) → k < 4 → AreDrawn (fall_of (nodes.Client (k + 1)))
 client_fall k h = (
   record {
-    asked = λ room l. record { form = form.ClientCrash; meanings = (k + 1, (tt, tt)); fits = ((99 ∷ decimal (k + 1), ((omega (arith, h), refl), (omega arith, omega (arith, h))), tt), (([], (tt, tt), tt), tt)); meant = refl; time = omega arith; alone = λ x. refl };
+    asked = λ room l. record {
+      form = form.ClientCrash;
+      meanings = (k + 1, (tt, tt));
+      fits = ((99 ∷ decimal (k + 1), ((omega (arith, h), refl), (omega arith, omega (arith, h))), tt), (([], (tt, tt), tt), tt));
+      meant = refl;
+      time = omega arith;
+      alone = λ x. refl;
+    };
     size = omega arith;
     short = order_long 99 (k + 1) (codes "crash") (omega (arith, h)) (omega arith);
   },
   (
     record {
-      asked = λ room l. record { form = form.ClientRestart; meanings = (k + 1, (tt, tt)); fits = ((99 ∷ decimal (k + 1), ((omega (arith, h), refl), (omega arith, omega (arith, h))), tt), (([], (tt, tt), tt), tt)); meant = refl; time = omega arith; alone = λ x. refl };
+      asked = λ room l. record {
+        form = form.ClientRestart;
+        meanings = (k + 1, (tt, tt));
+        fits = ((99 ∷ decimal (k + 1), ((omega (arith, h), refl), (omega arith, omega (arith, h))), tt), (([], (tt, tt), tt), tt));
+        meant = refl;
+        time = omega arith;
+        alone = λ x. refl;
+      };
       size = omega arith;
       short = order_long 99 (k + 1) (codes "restart") (omega (arith, h)) (omega arith);
     },
@@ -197,13 +266,27 @@ client_fall k h = (
 manager_fall : (k : ℕ) → k < 2 → AreDrawn (fall_of (nodes.Manager (k + 1)))
 manager_fall k h = (
   record {
-    asked = λ room l. record { form = form.ManagerCrash; meanings = (k + 1, (tt, tt)); fits = ((109 ∷ decimal (k + 1), ((omega (arith, h), refl), (omega arith, omega (arith, h))), tt), (([], (tt, tt), tt), tt)); meant = refl; time = omega arith; alone = λ x. refl };
+    asked = λ room l. record {
+      form = form.ManagerCrash;
+      meanings = (k + 1, (tt, tt));
+      fits = ((109 ∷ decimal (k + 1), ((omega (arith, h), refl), (omega arith, omega (arith, h))), tt), (([], (tt, tt), tt), tt));
+      meant = refl;
+      time = omega arith;
+      alone = λ x. refl;
+    };
     size = omega arith;
     short = order_long 109 (k + 1) (codes "crash") (omega (arith, h)) (omega arith);
   },
   (
     record {
-      asked = λ room l. record { form = form.ManagerRestart; meanings = (k + 1, (tt, tt)); fits = ((109 ∷ decimal (k + 1), ((omega (arith, h), refl), (omega arith, omega (arith, h))), tt), (([], (tt, tt), tt), tt)); meant = refl; time = omega arith; alone = λ x. refl };
+      asked = λ room l. record {
+        form = form.ManagerRestart;
+        meanings = (k + 1, (tt, tt));
+        fits = ((109 ∷ decimal (k + 1), ((omega (arith, h), refl), (omega arith, omega (arith, h))), tt), (([], (tt, tt), tt), tt));
+        meant = refl;
+        time = omega arith;
+        alone = λ x. refl;
+      };
       size = omega arith;
       short = order_long 109 (k + 1) (codes "restart") (omega (arith, h)) (omega arith);
     },
@@ -213,7 +296,14 @@ manager_fall k h = (
 
 check_drawn : (k : ℕ) → k < 2 → IsDrawn (works.Checkpoint (k + 1))
 check_drawn k h = record {
-  asked = λ room l. record { form = form.Checkpoint; meanings = (k + 1, (tt, tt)); fits = ((109 ∷ decimal (k + 1), ((omega (arith, h), refl), (omega arith, omega (arith, h))), tt), (([], (tt, tt), tt), tt)); meant = refl; time = omega arith; alone = λ x. refl };
+  asked = λ room l. record {
+    form = form.Checkpoint;
+    meanings = (k + 1, (tt, tt));
+    fits = ((109 ∷ decimal (k + 1), ((omega (arith, h), refl), (omega arith, omega (arith, h))), tt), (([], (tt, tt), tt), tt));
+    meant = refl;
+    time = omega arith;
+    alone = λ x. refl;
+  };
   size = omega arith;
   short = order_long 109 (k + 1) (codes "checkpoint") (omega (arith, h)) (omega arith);
 }
@@ -222,7 +312,14 @@ clean_drawn : IsDrawn (works.Clean 2)
 clean_drawn =
     let d : length (decimal 2) ≤ 10 = decimal_short 2 (omega arith) in
     record {
-      asked = λ room l. record { form = form.Clean; meanings = (tt, (tt, (2, tt))); fits = (([], (tt, tt), tt), (([], (tt, tt), tt), ((decimal 2, (((omega arith, refl), omega arith, omega arith), tt), tt), tt))); meant = refl; time = omega arith; alone = λ x. refl };
+      asked = λ room l. record {
+        form = form.Clean;
+        meanings = (tt, (tt, (2, tt)));
+        fits = (([], (tt, tt), tt), (([], (tt, tt), tt), ((decimal 2, (((omega arith, refl), omega arith, omega arith), tt), tt), tt)));
+        meant = refl;
+        time = omega arith;
+        alone = λ x. refl;
+      };
       size = omega arith;
       short = omega (arith, d);
     }
@@ -230,13 +327,27 @@ clean_drawn =
 lose_drawn : (k : ℕ) → k < 6 → AreDrawn (works.Lose (k + 1) ∷ works.Rebuild (k + 1) ∷ [])
 lose_drawn k h = (
   record {
-    asked = λ room l. record { form = form.Lose; meanings = (k + 1, (tt, tt)); fits = ((115 ∷ decimal (k + 1), ((omega (arith, h), refl), (omega arith, omega (arith, h))), tt), (([], (tt, tt), tt), tt)); meant = refl; time = omega arith; alone = λ x. refl };
+    asked = λ room l. record {
+      form = form.Lose;
+      meanings = (k + 1, (tt, tt));
+      fits = ((115 ∷ decimal (k + 1), ((omega (arith, h), refl), (omega arith, omega (arith, h))), tt), (([], (tt, tt), tt), tt));
+      meant = refl;
+      time = omega arith;
+      alone = λ x. refl;
+    };
     size = omega arith;
     short = order_long 115 (k + 1) (codes "lose") (omega (arith, h)) (omega arith);
   },
   (
     record {
-      asked = λ room l. record { form = form.Rebuild; meanings = (k + 1, (tt, tt)); fits = ((115 ∷ decimal (k + 1), ((omega (arith, h), refl), (omega arith, omega (arith, h))), tt), (([], (tt, tt), tt), tt)); meant = refl; time = omega arith; alone = λ x. refl };
+      asked = λ room l. record {
+        form = form.Rebuild;
+        meanings = (k + 1, (tt, tt));
+        fits = ((115 ∷ decimal (k + 1), ((omega (arith, h), refl), (omega arith, omega (arith, h))), tt), (([], (tt, tt), tt), tt));
+        meant = refl;
+        time = omega arith;
+        alone = λ x. refl;
+      };
       size = omega arith;
       short = order_long 115 (k + 1) (codes "rebuild") (omega (arith, h)) (omega arith);
     },
@@ -249,7 +360,9 @@ turn_drawn turn d t =
     let c : d.node % 4 < 4 = omega arith in
     let m : d.node % 2 < 2 = omega arith in
     let s : d.block % 6 < 6 = omega arith in
-    turn_all AreDrawn turn d (put_drawn (d.node % 4) d.file d.slot d.block turn c t, tt) (get_drawn (d.node % 4) d.file d.slot d.block c, tt) (sync_drawn (d.node % 4) c, tt) (client_fall (d.node % 4) c) (manager_fall (d.node % 2) m) (check_drawn (d.node % 2) m, tt) (clean_drawn, tt) (lose_drawn (d.block % 6) s)
+    turn_all AreDrawn turn d (put_drawn (d.node % 4) d.file d.slot d.block turn c t, tt) (get_drawn (d.node % 4) d.file d.slot d.block c, tt)
+    (sync_drawn (d.node % 4) c, tt) (client_fall (d.node % 4) c) (manager_fall (d.node % 2) m) (check_drawn (d.node % 2) m, tt) (clean_drawn, tt)
+    (lose_drawn (d.block % 6) s)
 
 drawn_join : (xs ys : List Work) → AreDrawn xs → AreDrawn ys → AreDrawn (xs ++ ys)
 drawn_join [] ys a b = b
@@ -257,22 +370,30 @@ drawn_join (x ∷ xs) ys a b = (a.0, drawn_join xs ys a.1 b)
 
 works_drawn : (n turn x : ℕ) → turn + n ≤ 4000000 → AreDrawn (works_from n turn x)
 works_drawn zero turn x h = tt
-works_drawn (suc n) turn x h = drawn_join (turn_works turn (draws_from x)) (works_from n (turn + 1) (draws_from x).left) (turn_drawn turn (draws_from x) (omega (arith, h))) (works_drawn n (turn + 1) (draws_from x).left (omega (arith, h)))
+works_drawn (suc n) turn x h =
+    drawn_join (turn_works turn (draws_from x)) (works_from n (turn + 1) (draws_from x).left) (turn_drawn turn (draws_from x) (omega (arith, h)))
+    (works_drawn n (turn + 1) (draws_from x).left (omega (arith, h)))
 
 works_few : (n turn x : ℕ) → length (works_from n turn x) ≤ 2 * n
 works_few zero turn x = omega arith
 works_few (suc n) turn x =
     let a : length (turn_works turn (draws_from x)) ≤ 2 = turn_few turn (draws_from x) in
     let b : length (works_from n (turn + 1) (draws_from x).left) ≤ 2 * n = works_few n (turn + 1) (draws_from x).left in
-    let e : length (turn_works turn (draws_from x) ++ works_from n (turn + 1) (draws_from x).left) ≡ length (turn_works turn (draws_from x)) + length (works_from n (turn + 1) (draws_from x).left) = length-append (turn_works turn (draws_from x)) (works_from n (turn + 1) (draws_from x).left) in
+    let e : length (turn_works turn (draws_from x) ++ works_from n (turn + 1) (draws_from x).left) ≡ length (turn_works turn (draws_from x)) + length
+    (works_from n (turn + 1) (draws_from x).left) = length-append (turn_works turn (draws_from x)) (works_from n (turn + 1) (draws_from x).left) in
     omega (arith, a, b, e)
 
 -- numbered works are asked for, and their text is short
-numbered_asked : (ws : List Work) (before room : ℕ) → AreDrawn ws → 10 + 10 * length ws ≤ room → before + length ws ≤ 20000 → AreAsked generated_setup before room (numbered (before + 1) ws)
+numbered_asked : (ws : List Work) (before room : ℕ) → AreDrawn ws → 10 + 10 * length ws ≤ room → before + length ws ≤ 20000
+    → AreAsked generated_setup before room (numbered (before + 1) ws)
 numbered_asked [] before room a h k = tt
 numbered_asked (w ∷ ws) before room a h k =
-    let s : text_size w ≤ 10 = a.0.size in
-    (omega arith, omega (arith, k), a.0.asked room (omega (arith, h)), numbered_asked ws (before + 1) (room - text_size w) a.1 (omega (arith, h, s)) (omega (arith, k)))
+    let s : text_size w ≤ 10 = a.0.size in (
+      omega arith,
+      omega (arith, k),
+      a.0.asked room (omega (arith, h)),
+      numbered_asked ws (before + 1) (room - text_size w) a.1 (omega (arith, h, s)) (omega (arith, k)),
+    )
 
 no_gap : (before : ℕ) → before + 1 - before - 1 ≡ 0
 no_gap before = omega arith
@@ -294,7 +415,29 @@ setup_is = record {
   clients = (omega arith, omega arith);
   managers = (omega arith, omega arith);
   servers = (omega arith, omega arith);
-  groups = ((record { enough = omega arith; few = omega arith; known = ((omega arith, omega arith, omega arith), ((omega arith, omega arith, omega arith), ((omega arith, omega arith, omega arith), tt))); differ = (((λ e. omega (arith, e)), ((λ e. omega (arith, e)), tt)), (((λ e. omega (arith, e)), tt), (tt, tt))) }, inl refl), ((record { enough = omega arith; few = omega arith; known = ((omega arith, omega arith, omega arith), ((omega arith, omega arith, omega arith), ((omega arith, omega arith, omega arith), tt))); differ = (((λ e. omega (arith, e)), ((λ e. omega (arith, e)), tt)), (((λ e. omega (arith, e)), tt), (tt, tt))) }, inl refl), tt));
+  groups = (
+    (
+      record {
+        enough = omega arith;
+        few = omega arith;
+        known = ((omega arith, omega arith, omega arith), ((omega arith, omega arith, omega arith), ((omega arith, omega arith, omega arith), tt)));
+        differ = (((λ e. omega (arith, e)), ((λ e. omega (arith, e)), tt)), (((λ e. omega (arith, e)), tt), (tt, tt)));
+      },
+      inl refl,
+    ),
+    (
+      (
+        record {
+          enough = omega arith;
+          few = omega arith;
+          known = ((omega arith, omega arith, omega arith), ((omega arith, omega arith, omega arith), ((omega arith, omega arith, omega arith), tt)));
+          differ = (((λ e. omega (arith, e)), ((λ e. omega (arith, e)), tt)), (((λ e. omega (arith, e)), tt), (tt, tt)));
+        },
+        inl refl,
+      ),
+      tt,
+    ),
+  );
   some = omega arith;
   few = omega arith;
   cache = (omega arith, omega arith);
@@ -304,10 +447,22 @@ drawn_whole : (number n : ℕ) → n ≤ 2000 → Whole (generated number n)
 drawn_whole number n h =
     let ws = works_from n 1 (number % 2147483648) in
     let f : length ws ≤ 2 * n = works_few n 1 (number % 2147483648) in
-    record { setup = setup_is; asked = numbered_asked ws 7 67108864 (works_drawn n 1 (number % 2147483648) (omega (arith, h))) (omega (arith, f, h)) (omega (arith, f, h)) }
+    record {
+      setup = setup_is;
+      asked = numbered_asked ws 7 67108864 (works_drawn n 1 (number % 2147483648) (omega (arith, h))) (omega (arith, f, h)) (omega (arith, f, h));
+    }
 
 head_length : length (ended (setup_lines generated_setup)) ≡ 69
-head_length = rw (decimal_digit 1 (omega arith), decimal_digit 2 (omega arith), decimal_digit 3 (omega arith), decimal_digit 4 (omega arith), decimal_digit 5 (omega arith), decimal_digit 6 (omega arith), decimal_digit 8 (omega arith)) refl
+head_length =
+    rw (
+      decimal_digit 1 (omega arith),
+      decimal_digit 2 (omega arith),
+      decimal_digit 3 (omega arith),
+      decimal_digit 4 (omega arith),
+      decimal_digit 5 (omega arith),
+      decimal_digit 6 (omega arith),
+      decimal_digit 8 (omega arith),
+    ) refl
 
 drawn_short : (number n : ℕ) → n ≤ 2000 → length (printed (generated number n)) ≤ 1048576
 drawn_short number n h =
@@ -316,10 +471,12 @@ drawn_short number n h =
     let head = ended (setup_lines generated_setup) in
     let a : length head ≡ 69 = head_length in
     let t : length (items_text 7 (numbered 8 ws)) ≤ 101 * length ws = text_short ws 7 (works_drawn n 1 (number % 2147483648) (omega (arith, h))) in
-    let e : length (head ++ items_text 7 (numbered 8 ws)) ≡ length head + length (items_text 7 (numbered 8 ws)) = length-append head (items_text 7 (numbered 8 ws)) in
+    let e : length (head ++ items_text 7 (numbered 8 ws)) ≡ length head + length (items_text 7 (numbered 8 ws)) =
+    length-append head (items_text 7 (numbered 8 ws)) in
     omega (arith, a, t, e, f, h)
 
-pub drawn_again : {E : Type 0} (number n : ℕ) → n ≤ 2000 → (r : Result Script E) → IfOk r (λ s. s ≡ generated number n) → IfOk r (λ s. IsScriptOf false (printed s) s)
+pub drawn_again : {E : Type 0} (number n : ℕ) → n ≤ 2000 → (r : Result Script E) → IfOk r (λ s. s ≡ generated number n)
+    → IfOk r (λ s. IsScriptOf false (printed s) s)
 drawn_again number n h (Ok s) e =
     let P : Script → Type 0 = λ x. IsScriptOf false (printed x) x in
     subst P (sym e) (whole_spelled (generated number n) (drawn_whole number n h) (drawn_short number n h))

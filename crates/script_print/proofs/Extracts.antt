@@ -56,7 +56,8 @@ within total n end h = not_above n (λ l. h (inl l))
     not_above m k = omega (arith, k)
 
 -- an item, and the lines behind it
-item_rest : (n before : ℕ) (l : List ℕ) (p q : Place) (s : Script) → before < n → n ≤ 20000 → Lacks 10 l → AddsItem n p (words l) q → Rest s q n → Rest s p before
+item_rest : (n before : ℕ) (l : List ℕ) (p q : Place) (s : Script) → before < n → n ≤ 20000 → Lacks 10 l → AddsItem n p (words l) q → Rest s q n
+    → Rest s p before
 item_rest n before l p q s b m k (whole, other, after, work, i, e) r =
     let made : Place = record p { stage = stage.Items; room = p.room - text_size work; items = p.items ++ item_at n after work ∷ [] } in
     let P : Place → Type 0 = λ x. Rest s x n in
@@ -71,7 +72,8 @@ item_rest n before l p q s b m k (whole, other, after, work, i, e) r =
 items_stage : (n : ℕ) (l : List ℕ) (p q : Place) → AddsItem n p (words l) q → q.stage ≡ stage.Items
 items_stage n l p q (whole, other, after, work, i, e) = ap (λ (x : Place). x.stage) e
 
-rest_of : (live : Bool) (total n at : ℕ) (ls : List (List ℕ)) (p : Place) (s : Script) (before : ℕ) → p.stage ≡ stage.Items → before < n → AllByRecursion (λ l. Lacks 10 l) ls → Accepts live total n at ls p s → Rest s p before
+rest_of : (live : Bool) (total n at : ℕ) (ls : List (List ℕ)) (p : Place) (s : Script) (before : ℕ) → p.stage ≡ stage.Items → before < n
+    → AllByRecursion (λ l. Lacks 10 l) ls → Accepts live total n at ls p s → Rest s p before
 rest_of live total n at [] p s before st b k a = record {
   items = [];
   lines = ap (λ (x : Script). x.lines) a.2 ∙ sym (append-nil p.items);
@@ -79,7 +81,8 @@ rest_of live total n at [] p s before st b k a = record {
   asked = tt;
 }
 rest_of live total n at (l ∷ ls) p s before st b k a =
-    at_line (λ c. rest_of live total (n + 1) (at + (length l + 1)) ls a.1 s before c (omega (arith, b)) k.1 a.3) (λ c. rest_of live total (n + 1) (at + (length l + 1)) ls a.1 s n c (omega arith) k.1 a.3) a.2
+    at_line (λ c. rest_of live total (n + 1) (at + (length l + 1)) ls a.1 s before c (omega (arith, b)) k.1 a.3)
+    (λ c. rest_of live total (n + 1) (at + (length l + 1)) ls a.1 s n c (omega arith) k.1 a.3) a.2
   where
     at_line : (a.1.stage ≡ stage.Items → Rest s a.1 before) → (a.1.stage ≡ stage.Items → Rest s a.1 n) → Leads n l p a.1 → Rest s p before
     at_line h g (inl (silent, e)) =
@@ -93,8 +96,10 @@ rest_of live total n at (l ∷ ls) p s before st b k a =
 -- how many lines a setup is printed in
 pub lines_count : (s : Setup) → length (setup_lines s) ≡ 4 + (length s.groups + (length (cache_lines s.cache) + length (acts_lines s.acts)))
 lines_count s =
-    let a : length (map group_line s.groups ++ (cache_lines s.cache ++ acts_lines s.acts)) ≡ length (map group_line s.groups) + length (cache_lines s.cache ++ acts_lines s.acts) = length-append (map group_line s.groups) (cache_lines s.cache ++ acts_lines s.acts) in
-    let b : length (cache_lines s.cache ++ acts_lines s.acts) ≡ length (cache_lines s.cache) + length (acts_lines s.acts) = length-append (cache_lines s.cache) (acts_lines s.acts) in
+    let a : length (map group_line s.groups ++ (cache_lines s.cache ++ acts_lines s.acts)) ≡ length (map group_line s.groups) + length
+    (cache_lines s.cache ++ acts_lines s.acts) = length-append (map group_line s.groups) (cache_lines s.cache ++ acts_lines s.acts) in
+    let b : length (cache_lines s.cache ++ acts_lines s.acts) ≡ length (cache_lines s.cache) + length (acts_lines s.acts) =
+    length-append (cache_lines s.cache) (acts_lines s.acts) in
     let d : length (map group_line s.groups) ≡ length s.groups = length-map s.groups group_line in
     omega (arith, a, b, d)
 
@@ -145,27 +150,44 @@ group_named : (servers : ℕ) (ws : List (List ℕ)) (g : GroupSetup) → NamesG
 group_named servers ws g (i, inl h) = (i, inl h.0)
 group_named servers ws g (i, inr h) = (i, inr h.0)
 
-with_group : (n : ℕ) (s : Setup) (g : GroupSetup) → IsBetween 1 8 s.clients → IsBetween 1 4 s.managers → IsBetween 3 12 s.servers → IsBetween 1 1024 s.cache → AreNamed s.servers s.groups → length s.groups < 8 → IsNamed s.servers g → 4 + (length s.groups + (length (cache_lines s.cache) + length (acts_lines s.acts))) < n → Sound stage.Groups (n + 1) (record s { groups = s.groups ++ g ∷ [] })
+with_group : (n : ℕ) (s : Setup) (g : GroupSetup) → IsBetween 1 8 s.clients → IsBetween 1 4 s.managers → IsBetween 3 12 s.servers → IsBetween 1 1024 s.cache
+    → AreNamed s.servers s.groups → length s.groups < 8 → IsNamed s.servers g
+    → 4 + (length s.groups + (length (cache_lines s.cache) + length (acts_lines s.acts))) < n
+    → Sound stage.Groups (n + 1) (record s { groups = s.groups ++ g ∷ [] })
 with_group n s g c m v k a few h b =
     let t : Setup = record s { groups = s.groups ++ g ∷ [] } in
     let e : length (s.groups ++ g ∷ []) ≡ length s.groups + 1 = length-append s.groups (g ∷ []) in
-    let d : length (setup_lines t) ≡ 4 + (length t.groups + (length (cache_lines s.cache) + length (acts_lines s.acts))) = lines_count t in
-    (omega (arith, e, d, b), record { clients = c; managers = m; servers = v; groups = named_more s.servers s.groups g a h; some = omega (arith, e); few = omega (arith, e, few); cache = k })
+    let d : length (setup_lines t) ≡ 4 + (length t.groups + (length (cache_lines s.cache) + length (acts_lines s.acts))) = lines_count t in (
+      omega (arith, e, d, b),
+      record {
+        clients = c;
+        managers = m;
+        servers = v;
+        groups = named_more s.servers s.groups g a h;
+        some = omega (arith, e);
+        few = omega (arith, e, few);
+        cache = k;
+      },
+    )
 
 with_cache : (n k : ℕ) (s : Setup) → (length (setup_lines s) < n) × IsSetup s → IsBetween 1 1024 k → Sound stage.Cached (n + 1) (record s { cache = k })
 with_cache n k s (b, i) h =
     let t : Setup = record s { cache = k } in
     let d : length (setup_lines s) ≡ 4 + (length s.groups + (length (cache_lines s.cache) + length (acts_lines s.acts))) = lines_count s in
     let e : length (setup_lines t) ≡ 4 + (length s.groups + (length (cache_lines k) + length (acts_lines s.acts))) = lines_count t in
-    let f : length (cache_lines k) ≤ 1 = cache_few k in
-    (omega (arith, b, d, e, f), record { clients = i.clients; managers = i.managers; servers = i.servers; groups = i.groups; some = i.some; few = i.few; cache = h })
+    let f : length (cache_lines k) ≤ 1 = cache_few k in (
+      omega (arith, b, d, e, f),
+      record { clients = i.clients; managers = i.managers; servers = i.servers; groups = i.groups; some = i.some; few = i.few; cache = h },
+    )
 
 with_acts : (n : ℕ) (s : Setup) → (length (setup_lines s) < n) × IsSetup s → Sound stage.Items (n + 1) (record s { acts = true })
 with_acts n s (b, i) =
     let t : Setup = record s { acts = true } in
     let d : length (setup_lines s) ≡ 4 + (length s.groups + (length (cache_lines s.cache) + length (acts_lines s.acts))) = lines_count s in
-    let e : length (setup_lines t) ≡ 4 + (length s.groups + (length (cache_lines s.cache) + 1)) = lines_count t in
-    (omega (arith, b, d, e), record { clients = i.clients; managers = i.managers; servers = i.servers; groups = i.groups; some = i.some; few = i.few; cache = i.cache })
+    let e : length (setup_lines t) ≡ 4 + (length s.groups + (length (cache_lines s.cache) + 1)) = lines_count t in (
+      omega (arith, b, d, e),
+      record { clients = i.clients; managers = i.managers; servers = i.servers; groups = i.groups; some = i.some; few = i.few; cache = i.cache },
+    )
 
 -- what is known behind a line of the setup
 record Kept (n : ℕ) (p q : Place) : Type 0 where
@@ -178,10 +200,14 @@ kept n p q st s e h =
     let P : Place → Type 0 = λ x. Kept n p x in
     subst P (sym e) (record { sound = h; items = refl; room = refl })
 
-group_kept : (n : ℕ) (p q : Place) (ws : List (List ℕ)) → IsBetween 1 8 p.setup.clients → IsBetween 1 4 p.setup.managers → IsBetween 3 12 p.setup.servers → IsBetween 1 1024 p.setup.cache → AreNamed p.setup.servers p.setup.groups → 4 + (length p.setup.groups + (length (cache_lines p.setup.cache) + length (acts_lines p.setup.acts))) < n → AddsGroup p ws q → Kept (n + 1) p q
-group_kept n p q ws c m v k a b (g, names, few, e) = kept (n + 1) p q stage.Groups _ e (with_group n p.setup g c m v k a few (group_named p.setup.servers ws g names) b)
+group_kept : (n : ℕ) (p q : Place) (ws : List (List ℕ)) → IsBetween 1 8 p.setup.clients → IsBetween 1 4 p.setup.managers → IsBetween 3 12 p.setup.servers
+    → IsBetween 1 1024 p.setup.cache → AreNamed p.setup.servers p.setup.groups
+    → 4 + (length p.setup.groups + (length (cache_lines p.setup.cache) + length (acts_lines p.setup.acts))) < n → AddsGroup p ws q → Kept (n + 1) p q
+group_kept n p q ws c m v k a b (g, names, few, e) =
+    kept (n + 1) p q stage.Groups _ e (with_group n p.setup g c m v k a few (group_named p.setup.servers ws g names) b)
 
-bare_count : (s : Setup) → IsBare s → (IsBetween 1 1024 s.cache) × AreNamed s.servers s.groups × (length s.groups + (length (cache_lines s.cache) + length (acts_lines s.acts)) ≡ 0)
+bare_count : (s : Setup) → IsBare s
+    → (IsBetween 1 1024 s.cache) × AreNamed s.servers s.groups × (length s.groups + (length (cache_lines s.cache) + length (acts_lines s.acts)) ≡ 0)
 bare_count s (g, c, a) =
     let P : List GroupSetup → Type 0 = λ x. AreNamed s.servers x in
     let Q : ℕ → Type 0 = λ x. length (cache_lines x) ≡ 0 in
@@ -197,7 +223,8 @@ setup_step stage.Clients n p q ws h (m, g, e) = kept (n + 1) p q stage.Managers 
 setup_step stage.Managers n p q ws h (m, g, e) = kept (n + 1) p q stage.Servers _ e (omega (arith, h.0), h.1, h.2, (g.1, g.2))
 setup_step stage.Servers n p q ws h (m, g, e) = kept (n + 1) p q stage.FirstGroup _ e (omega (arith, h.0), h.1, h.2, h.3, (g.1, g.2))
 setup_step stage.FirstGroup n p q ws h a = let b = bare_count p.setup h.1 in group_kept n p q ws h.2 h.3 h.4 b.0 b.1 (omega (arith, h.0, b.2)) a
-setup_step stage.Groups n p q ws (b, i) (inl a) = let d = lines_count p.setup in group_kept n p q ws i.clients i.managers i.servers i.cache i.groups (omega (arith, b, d)) a
+setup_step stage.Groups n p q ws (b, i) (inl a) = let d =
+    lines_count p.setup in group_kept n p q ws i.clients i.managers i.servers i.cache i.groups (omega (arith, b, d)) a
 setup_step stage.Groups n p q ws (b, i) (inr (inl (m, g, e))) = kept (n + 1) p q stage.Cached _ e (with_cache n m p.setup (b, i) (g.1, g.2))
 setup_step stage.Groups n p q ws (b, i) (inr (inr (w, e))) = kept (n + 1) p q stage.Items _ e (with_acts n p.setup (b, i))
 setup_step stage.Cached n p q ws (b, i) (w, e) = kept (n + 1) p q stage.Items _ e (with_acts n p.setup (b, i))
@@ -217,10 +244,12 @@ from_rest s p i e f r =
     let S : List Line → Type 0 = λ x. AreAsked p.setup (length (setup_lines p.setup)) 67108864 x in
     record { setup = subst P (sym r.setup) i; asked = subst Q (sym r.setup) (subst S (sym g) (subst R f r.asked)) }
 
-whole_of : (live : Bool) (total n at : ℕ) (ls : List (List ℕ)) (p : Place) (s : Script) → Sound p.stage n p.setup → p.items ≡ [] → p.room ≡ 67108864 → AllByRecursion (λ l. Lacks 10 l) ls → Accepts live total n at ls p s → Whole s
+whole_of : (live : Bool) (total n at : ℕ) (ls : List (List ℕ)) (p : Place) (s : Script) → Sound p.stage n p.setup → p.items ≡ [] → p.room ≡ 67108864
+    → AllByRecursion (λ l. Lacks 10 l) ls → Accepts live total n at ls p s → Whole s
 whole_of live total n at [] p s h e f k a =
     let w = whole_sound p.stage n p.setup a.0 h in
-    from_rest s p w.1 e f (record { items = []; lines = ap (λ (x : Script). x.lines) a.2 ∙ sym (append-nil p.items); setup = ap (λ (x : Script). x.setup) a.2; asked = tt })
+    from_rest s p w.1 e f
+    (record { items = []; lines = ap (λ (x : Script). x.lines) a.2 ∙ sym (append-nil p.items); setup = ap (λ (x : Script). x.setup) a.2; asked = tt })
 whole_of live total n at (l ∷ ls) p s h e f k a =
     at_line (λ b c d. whole_of live total (n + 1) (at + (length l + 1)) ls a.1 s b c d k.1 a.3) a.2
   where
@@ -237,5 +266,6 @@ whole_of live total n at (l ∷ ls) p s h e f k a =
         from_rest s p w.1 e f (item_rest n (length (setup_lines p.setup)) l p a.1 s w.0 (within total n (at + (length l + 1)) a.0) k.0 i r)
 
 -- what is known of a script that some bytes spell
-pub script_whole : (live : Bool) (total : ℕ) (ls : List (List ℕ)) (s : Script) → AllByRecursion (λ l. Lacks 10 l) ls → Accepts live total 1 0 ls start s → Whole s
+pub script_whole : (live : Bool) (total : ℕ) (ls : List (List ℕ)) (s : Script) → AllByRecursion (λ l. Lacks 10 l) ls → Accepts live total 1 0 ls start s
+    → Whole s
 script_whole live total ls s k a = whole_of live total 1 0 ls start s (omega arith, (refl, refl, refl)) refl refl k a

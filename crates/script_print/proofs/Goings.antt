@@ -29,7 +29,8 @@ pub empty_lines : (n k : ℕ) (p : Place) → Goes n (empties k) p p
 empty_lines n zero p = refl
 empty_lines n (suc k) p = (p, inl (refl, refl), empty_lines (n + 1) k p)
 
-pub accepts : (total n at : ℕ) (ls : List (List ℕ)) (p q : Place) → total ≤ 1048576 → n + length ls ≤ 20001 → Goes n ls p q → is_whole q.stage ≡ true → Accepts false total n at ls p (record { setup = q.setup; lines = q.items })
+pub accepts : (total n at : ℕ) (ls : List (List ℕ)) (p q : Place) → total ≤ 1048576 → n + length ls ≤ 20001 → Goes n ls p q → is_whole q.stage ≡ true
+    → Accepts false total n at ls p (record { setup = q.setup; lines = q.items })
 accepts total n at [] p q t m g w =
     let P : Place → Type 0 = λ x. Accepts false total n at [] x (record { setup = q.setup; lines = q.items }) in
     subst P (sym g) (w, refl, refl)

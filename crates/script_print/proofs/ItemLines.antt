@@ -19,7 +19,9 @@ use Rattle.script_print.proofs.LineReads.{AllFit, texts_last, node_first, line_r
 
 -- what holds of each form
 abbrev is_regular : Form → Bool
-is_regular f = texts_last (parts f) && node_first (parts f) && list_all (λ b. not (b == 32)) (verb f) && list_all (λ b. not (b == 10)) (verb f) && nat_lt 0 (length (parts f))
+is_regular f =
+    texts_last (parts f) && node_first (parts f) && list_all (λ b. not (b == 32)) (verb f) && list_all (λ b. not (b == 10)) (verb f) && nat_lt 0
+    (length (parts f))
 
 regular : (f : Form) → is_regular f ≡ true
 regular Bput = refl
@@ -103,7 +105,8 @@ record Regular (f : Form) : Type 0 where
 
 form_regular : (f : Form) → Regular f
 form_regular f =
-    let a = and_parts (texts_last (parts f) && node_first (parts f) && list_all (λ b. not (b == 32)) (verb f) && list_all (λ b. not (b == 10)) (verb f)) (nat_lt 0 (length (parts f))) (regular f) in
+    let a = and_parts (texts_last (parts f) && node_first (parts f) && list_all (λ b. not (b == 32)) (verb f) && list_all (λ b. not (b == 10)) (verb f))
+    (nat_lt 0 (length (parts f))) (regular f) in
     let b = and_parts (texts_last (parts f) && node_first (parts f) && list_all (λ b. not (b == 32)) (verb f)) (list_all (λ b. not (b == 10)) (verb f)) a.0 in
     let d = and_parts (texts_last (parts f) && node_first (parts f)) (list_all (λ b. not (b == 32)) (verb f)) b.0 in
     let e = and_parts (texts_last (parts f)) (node_first (parts f)) d.0 in
@@ -163,11 +166,14 @@ plain_reads c work a =
 
 timed_words : (n : ℕ) (line : List ℕ) → n < 2 ^ 32 → words ((codes "after " ++ (decimal n ++ 32 ∷ [])) ++ line) ≡ codes "after" ∷ decimal n ∷ words line
 timed_words n line h =
-    let e : (codes "after " ++ (decimal n ++ 32 ∷ [])) ++ line ≡ codes "after" ++ 32 ∷ (decimal n ++ 32 ∷ line) = ap (λ x. codes "after " ++ x) (append_assoc (decimal n) (32 ∷ []) line) in
-    ap words e ∙ parted_cut 32 (codes "after") (decimal n ++ 32 ∷ line) (lacks_test 32 (codes "after") refl) ∙ ap (λ x. codes "after" ∷ x) (parted_cut 32 (decimal n) line (decimal_lacks 32 n (omega arith) h))
+    let e : (codes "after " ++ (decimal n ++ 32 ∷ [])) ++ line ≡ codes "after" ++ 32 ∷ (decimal n ++ 32 ∷ line) =
+    ap (λ x. codes "after " ++ x) (append_assoc (decimal n) (32 ∷ []) line) in
+    ap words e ∙ parted_cut 32 (codes "after") (decimal n ++ 32 ∷ line) (lacks_test 32 (codes "after") refl)
+    ∙ ap (λ x. codes "after" ∷ x) (parted_cut 32 (decimal n) line (decimal_lacks 32 n (omega arith) h))
 
 -- behind `after N`
-timed_reads : (c : Context) (after : ℕ) (work : Work) (a : IsAsked c after work) → is_net a.form ≡ false → Reads c ((codes "after " ++ (decimal after ++ 32 ∷ [])) ++ form_line a.form a.meanings) after work
+timed_reads : (c : Context) (after : ℕ) (work : Work) (a : IsAsked c after work) → is_net a.form ≡ false
+    → Reads c ((codes "after " ++ (decimal after ++ 32 ∷ [])) ++ form_line a.form a.meanings) after work
 timed_reads c after work a n =
     let g = form_regular a.form in
     let r = line_reads c (parts a.form) (verb a.form) a.meanings g.some g.last g.no_space a.fits in
@@ -189,7 +195,10 @@ timed_reads c after work a n =
       loud = refl;
       item = ap (λ ws. is_setup_word (first ws)) e;
       is = subst P (sym e) i;
-      lacks = lacks_join 10 (codes "after " ++ (decimal after ++ 32 ∷ [])) (form_line a.form a.meanings) (lacks_join 10 (codes "after ") (decimal after ++ 32 ∷ []) (lacks_test 10 (codes "after ") refl) (lacks_join 10 (decimal after) (32 ∷ []) (decimal_lacks 10 after (omega arith) a.time) (lacks_test 10 (32 ∷ []) refl))) (line_lacks c (parts a.form) (verb a.form) a.meanings g.no_feed a.fits);
+      lacks = lacks_join 10 (codes "after " ++ (decimal after ++ 32 ∷ [])) (form_line a.form a.meanings)
+          (lacks_join 10 (codes "after ") (decimal after ++ 32 ∷ []) (lacks_test 10 (codes "after ") refl)
+          (lacks_join 10 (decimal after) (32 ∷ []) (decimal_lacks 10 after (omega arith) a.time) (lacks_test 10 (32 ∷ []) refl)))
+          (line_lacks c (parts a.form) (verb a.form) a.meanings g.no_feed a.fits);
     }
   where
     below : (m : ℕ) → m < 2 ^ 32 → m ≤ 4294967295
@@ -199,8 +208,11 @@ timed_reads c after work a n =
 pub item_reads : (c : Context) (after : ℕ) (work : Work) → IsAsked c after work → Reads c (item_line after work) after work
 item_reads c after work a = at_zero (after == 0) refl
   where
-    line_at : (t : Bool) → (after == 0) ≡ t → item_line after work ≡ (if t then [] else codes "after " ++ (decimal after ++ 32 ∷ [])) ++ form_line a.form a.meanings
-    line_at t e = ap (λ x. (if x then [] else codes "after " ++ (decimal after ++ 32 ∷ [])) ++ work_line work) e ∙ ap (λ x. (if t then [] else codes "after " ++ (decimal after ++ 32 ∷ [])) ++ x) (line_is a.form a.meanings work a.meant)
+    line_at : (t : Bool) → (after == 0) ≡ t
+        → item_line after work ≡ (if t then [] else codes "after " ++ (decimal after ++ 32 ∷ [])) ++ form_line a.form a.meanings
+    line_at t e =
+        ap (λ x. (if x then [] else codes "after " ++ (decimal after ++ 32 ∷ [])) ++ work_line work) e
+        ∙ ap (λ x. (if t then [] else codes "after " ++ (decimal after ++ 32 ∷ [])) ++ x) (line_is a.form a.meanings work a.meant)
 
     not_net : (t : Bool) → is_net a.form ≡ t → (after == 0) ≡ false → t ≡ false
     not_net true e f = absurd (eqb-false after 0 f (a.alone e))

@@ -46,13 +46,15 @@ not_true : (a b : Bool) → (not a && b) ≡ true → (a ≡ false) × (b ≡ tr
 not_true true b e = absurd (grind (arith, e))
 not_true false b e = (refl, e)
 
-has_step : (verb : List ℕ) (p : Part) (ps : List Part) (ws : List (List ℕ)) (w : List ℕ) (rest : List (List ℕ)) → is_end ws ≡ false → piece_of p ws ≡ w → behind_part p ws ≡ rest → looks p verb w ≡ true → has_words verb ps rest ≡ true → has_words verb (p ∷ ps) ws ≡ true
+has_step : (verb : List ℕ) (p : Part) (ps : List Part) (ws : List (List ℕ)) (w : List ℕ) (rest : List (List ℕ)) → is_end ws ≡ false → piece_of p ws ≡ w
+    → behind_part p ws ≡ rest → looks p verb w ≡ true → has_words verb ps rest ≡ true → has_words verb (p ∷ ps) ws ≡ true
 has_step verb p ps ws w rest a b d e f =
     let g : looks p verb (piece_of p ws) ≡ true = ap (λ x. looks p verb x) b ∙ e in
     let h : has_words verb ps (behind_part p ws) ≡ true = ap (λ x. has_words verb ps x) d ∙ f in
     rw (a, g, h) refl
 
-mean_step : (c : Context) (p : Part) (ps : List Part) (ws : List (List ℕ)) (w : List ℕ) (rest : List (List ℕ)) (v : Meanings (p ∷ ps)) → piece_of p ws ≡ w → behind_part p ws ≡ rest → Means c p w v.0 → Mean c ps rest v.1 → Mean c (p ∷ ps) ws v
+mean_step : (c : Context) (p : Part) (ps : List Part) (ws : List (List ℕ)) (w : List ℕ) (rest : List (List ℕ)) (v : Meanings (p ∷ ps)) → piece_of p ws ≡ w
+    → behind_part p ws ≡ rest → Means c p w v.0 → Mean c ps rest v.1 → Mean c (p ∷ ps) ws v
 mean_step c p ps ws w rest v b d m n =
     let P : List ℕ → Type 0 = λ x. Means c p x v.0 in
     let Q : List (List ℕ) → Type 0 = λ x. Mean c ps x v.1 in
@@ -62,15 +64,19 @@ mean_step c p ps ws w rest v b d m n =
 abbrev line_of : (ps : List Part) → List ℕ → Meanings ps → List ℕ
 line_of ps verb v = joined 32 (spellings ps verb v)
 
-cut_line : (c : Context) (p q : Part) (ps : List Part) (verb : List ℕ) (v : Meanings (p ∷ q ∷ ps)) → is_text p ≡ false → Lacks 32 verb → Fits c p v.0 → words (line_of (p ∷ q ∷ ps) verb v) ≡ spelling p verb v.0 ∷ words (line_of (q ∷ ps) verb v.1)
+cut_line : (c : Context) (p q : Part) (ps : List Part) (verb : List ℕ) (v : Meanings (p ∷ q ∷ ps)) → is_text p ≡ false → Lacks 32 verb → Fits c p v.0
+    → words (line_of (p ∷ q ∷ ps) verb v) ≡ spelling p verb v.0 ∷ words (line_of (q ∷ ps) verb v.1)
 cut_line c p q ps verb v t l f = parted_cut 32 (spelling p verb v.0) (line_of (q ∷ ps) verb v.1) (lacks_space c p verb v.0 t l f)
 
-pub line_reads : (c : Context) (ps : List Part) (verb : List ℕ) (v : Meanings ps) → 0 < length ps → texts_last ps ≡ true → Lacks 32 verb → AllFit c ps v → (has_words verb ps (words (line_of ps verb v)) ≡ true) × Mean c ps (words (line_of ps verb v)) v
+pub line_reads : (c : Context) (ps : List Part) (verb : List ℕ) (v : Meanings ps) → 0 < length ps → texts_last ps ≡ true → Lacks 32 verb → AllFit c ps v
+    → (has_words verb ps (words (line_of ps verb v)) ≡ true) × Mean c ps (words (line_of ps verb v)) v
 line_reads c [] verb v n t l f = absurd (omega (arith, n))
 line_reads c (p ∷ []) verb v n t l f =
     let w = spelling p verb v.0 in
-    let e = last_piece p w (λ s. lacks_space c p verb v.0 s l f.0) in
-    (has_step verb p [] (words w) w [] (not_end 32 w) e.0 e.1 (looks_spelling c p verb v.0 f.0) refl, mean_step c p [] (words w) w [] v e.0 e.1 (means_spelling c p verb v.0 f.0) tt)
+    let e = last_piece p w (λ s. lacks_space c p verb v.0 s l f.0) in (
+      has_step verb p [] (words w) w [] (not_end 32 w) e.0 e.1 (looks_spelling c p verb v.0 f.0) refl,
+      mean_step c p [] (words w) w [] v e.0 e.1 (means_spelling c p verb v.0 f.0) tt,
+    )
 line_reads c (p ∷ q ∷ ps) verb v n t l f =
     let s = not_true (is_text p) (texts_last (q ∷ ps)) t in
     let rest = words (line_of (q ∷ ps) verb v.1) in
@@ -78,13 +84,17 @@ line_reads c (p ∷ q ∷ ps) verb v n t l f =
     let r = line_reads c (q ∷ ps) verb v.1 (omega arith) s.1 l f.1 in
     let e = word_piece p w rest s.0 in
     let P : List (List ℕ) → Type 0 = λ ws. (has_words verb (p ∷ q ∷ ps) ws ≡ true) × Mean c (p ∷ q ∷ ps) ws v in
-    subst P (sym (cut_line c p q ps verb v s.0 l f.0)) (has_step verb p (q ∷ ps) (w ∷ rest) w rest refl e.0 e.1 (looks_spelling c p verb v.0 f.0) r.0, mean_step c p (q ∷ ps) (w ∷ rest) w rest v e.0 e.1 (means_spelling c p verb v.0 f.0) r.1)
+    subst P (sym (cut_line c p q ps verb v s.0 l f.0)) (
+      has_step verb p (q ∷ ps) (w ∷ rest) w rest refl e.0 e.1 (looks_spelling c p verb v.0 f.0) r.0,
+      mean_step c p (q ∷ ps) (w ∷ rest) w rest v e.0 e.1 (means_spelling c p verb v.0 f.0) r.1,
+    )
 
 pub line_lacks : (c : Context) (ps : List Part) (verb : List ℕ) (v : Meanings ps) → Lacks 10 verb → AllFit c ps v → Lacks 10 (line_of ps verb v)
 line_lacks c [] verb v l f = tt
 line_lacks c (p ∷ []) verb v l f = lacks_feed c p verb v.0 l f.0
 line_lacks c (p ∷ q ∷ ps) verb v l f =
-    lacks_join 10 (spelling p verb v.0) (32 ∷ line_of (q ∷ ps) verb v.1) (lacks_feed c p verb v.0 l f.0) ((λ e. omega (arith, e)), line_lacks c (q ∷ ps) verb v.1 l f.1)
+    lacks_join 10 (spelling p verb v.0) (32 ∷ line_of (q ∷ ps) verb v.1) (lacks_feed c p verb v.0 l f.0)
+    ((λ e. omega (arith, e)), line_lacks c (q ∷ ps) verb v.1 l f.1)
 
 -- a node is neither `after` nor a word that begins a line of the setup, nor does it begin a silent line
 record IsNodeWord (w rest : List ℕ) : Type 0 where
@@ -148,7 +158,8 @@ pub record Begins (line : List ℕ) : Type 0 where
   pub item : is_setup_word (first (words line)) ≡ false
   pub loud : is_silent line ≡ false
 
-pub line_begins : (c : Context) (ps : List Part) (verb : List ℕ) (v : Meanings ps) → node_first ps ≡ true → Lacks 32 verb → AllFit c ps v → Begins (line_of ps verb v)
+pub line_begins : (c : Context) (ps : List Part) (verb : List ℕ) (v : Meanings ps) → node_first ps ≡ true → Lacks 32 verb → AllFit c ps v
+    → Begins (line_of ps verb v)
 line_begins c [] verb v n l f = absurd (grind (arith, n))
 line_begins c (p ∷ []) verb v n l f = absurd (grind (arith, n))
 line_begins c (p ∷ q ∷ ps) verb v n l f =

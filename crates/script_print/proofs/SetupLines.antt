@@ -60,11 +60,15 @@ word_lacks m p false a b = a
 
 group_words : (servers : ℕ) (g : GroupSetup) → IsNamed servers g → words (group_line g) ≡ group_word g.parity ∷ map decimal g.servers
 group_words servers g h =
-    words_joined (group_word g.parity) (map decimal g.servers) (word_lacks 32 g.parity (g.parity == 2) (lacks_test 32 (codes "group") refl) (lacks_test 32 (codes "group2") refl)) (numbers_lack 32 g.servers (omega arith) (group_small servers g h))
+    words_joined (group_word g.parity) (map decimal g.servers)
+    (word_lacks 32 g.parity (g.parity == 2) (lacks_test 32 (codes "group") refl) (lacks_test 32 (codes "group2") refl))
+    (numbers_lack 32 g.servers (omega arith) (group_small servers g h))
 
 group_lacks : (servers : ℕ) (g : GroupSetup) → IsNamed servers g → Lacks 10 (group_line g)
 group_lacks servers g h =
-    joined_lacks (group_word g.parity) (map decimal g.servers) (word_lacks 10 g.parity (g.parity == 2) (lacks_test 10 (codes "group") refl) (lacks_test 10 (codes "group2") refl)) (numbers_lack 10 g.servers (omega arith) (group_small servers g h))
+    joined_lacks (group_word g.parity) (map decimal g.servers)
+    (word_lacks 10 g.parity (g.parity == 2) (lacks_test 10 (codes "group") refl) (lacks_test 10 (codes "group2") refl))
+    (numbers_lack 10 g.servers (omega arith) (group_small servers g h))
 
 names_group : (servers : ℕ) (g : GroupSetup) → IsNamed servers g → NamesGroup servers (words (group_line g)) g
 names_group servers g h = (h.0, at_parity h.1)
@@ -72,7 +76,9 @@ names_group servers g h = (h.0, at_parity h.1)
     word_at : (p : ℕ) → g.parity ≡ p → words (group_line g) ≡ group_word p ∷ map decimal g.servers
     word_at p e = group_words servers g h ∙ ap (λ x. group_word x ∷ map decimal g.servers) e
 
-    at_parity : (g.parity ≡ 1) ⊎ (g.parity ≡ 2) → ((g.parity ≡ 1) × (words (group_line g) ≡ codes "group" ∷ map decimal g.servers)) ⊎ ((g.parity ≡ 2) × (words (group_line g) ≡ codes "group2" ∷ map decimal g.servers))
+    at_parity : (g.parity ≡ 1) ⊎ (g.parity ≡ 2)
+        → ((g.parity ≡ 1) × (words (group_line g) ≡ codes "group" ∷ map decimal g.servers))
+        ⊎ ((g.parity ≡ 2) × (words (group_line g) ≡ codes "group2" ∷ map decimal g.servers))
     at_parity (inl e) = inl (e, word_at 1 e)
     at_parity (inr e) = inr (e, word_at 2 e)
 
@@ -86,20 +92,31 @@ group_loud w (n ∷ ns) false = refl
 abbrev grouped : Setup → List GroupSetup → Setup
 grouped s gs = record s { groups = gs }
 
-more_groups : (n : ℕ) (gs done : List GroupSetup) (s : Setup) → AreNamed s.servers gs → length done + length gs ≤ 8 → Goes n (map group_line gs) (place stage.Groups (grouped s done)) (place stage.Groups (grouped s (done ++ gs)))
+more_groups : (n : ℕ) (gs done : List GroupSetup) (s : Setup) → AreNamed s.servers gs → length done + length gs ≤ 8
+    → Goes n (map group_line gs) (place stage.Groups (grouped s done)) (place stage.Groups (grouped s (done ++ gs)))
 more_groups n [] done s a m = ap (λ x. place stage.Groups (grouped s x)) (sym (append-nil done))
 more_groups n (g ∷ gs) done s a m =
     let q : Place = place stage.Groups (grouped s (done ++ g ∷ [])) in
     let e : length (done ++ g ∷ []) ≡ length done + 1 = length-append done (g ∷ []) in
-    let r : Goes (n + 1) (map group_line gs) q (place stage.Groups (grouped s ((done ++ g ∷ []) ++ gs))) = more_groups (n + 1) gs (done ++ g ∷ []) s a.1 (omega (arith, e, m)) in
-    let P : List GroupSetup → Type 0 = λ x. Goes (n + 1) (map group_line gs) q (place stage.Groups (grouped s x)) in
-    (q, adds n (group_line g) (place stage.Groups (grouped s done)) q (group_loud [] (map decimal g.servers) (g.parity == 2)) (inl (g, names_group s.servers g a.0, omega (arith, m), refl)), subst P (append_assoc done (g ∷ []) gs) r)
+    let r : Goes (n + 1) (map group_line gs) q (place stage.Groups (grouped s ((done ++ g ∷ []) ++ gs))) =
+    more_groups (n + 1) gs (done ++ g ∷ []) s a.1 (omega (arith, e, m)) in
+    let P : List GroupSetup → Type 0 = λ x. Goes (n + 1) (map group_line gs) q (place stage.Groups (grouped s x)) in (
+      q,
+      adds n (group_line g) (place stage.Groups (grouped s done)) q (group_loud [] (map decimal g.servers) (g.parity == 2))
+          (inl (g, names_group s.servers g a.0, omega (arith, m), refl)),
+      subst P (append_assoc done (g ∷ []) gs) r,
+    )
 
-all_groups : (n : ℕ) (gs : List GroupSetup) (s : Setup) → AreNamed s.servers gs → 0 < length gs → length gs ≤ 8 → Goes n (map group_line gs) (place stage.FirstGroup (grouped s [])) (place stage.Groups (grouped s gs))
+all_groups : (n : ℕ) (gs : List GroupSetup) (s : Setup) → AreNamed s.servers gs → 0 < length gs → length gs ≤ 8
+    → Goes n (map group_line gs) (place stage.FirstGroup (grouped s [])) (place stage.Groups (grouped s gs))
 all_groups n [] s a l m = absurd (omega (arith, l))
 all_groups n (g ∷ gs) s a l m =
-    let q : Place = place stage.Groups (grouped s (g ∷ [])) in
-    (q, adds n (group_line g) (place stage.FirstGroup (grouped s [])) q (group_loud [] (map decimal g.servers) (g.parity == 2)) (g, names_group s.servers g a.0, omega arith, refl), more_groups (n + 1) gs (g ∷ []) s a.1 (omega (arith, m)))
+    let q : Place = place stage.Groups (grouped s (g ∷ [])) in (
+      q,
+      adds n (group_line g) (place stage.FirstGroup (grouped s [])) q (group_loud [] (map decimal g.servers) (g.parity == 2))
+          (g, names_group s.servers g a.0, omega arith, refl),
+      more_groups (n + 1) gs (g ∷ []) s a.1 (omega (arith, m)),
+    )
 
 -- where a setup ends
 pub record End (n : ℕ) (ls : List (List ℕ)) (p : Place) (s : Setup) : Type 0 where
@@ -107,7 +124,8 @@ pub record End (n : ℕ) (ls : List (List ℕ)) (p : Place) (s : Setup) : Type 0
   pub goes : Goes n ls p (place last s)
   pub whole : is_whole last ≡ true
 
-acts_end : (n : ℕ) (st : Stage) (s : Setup) (acts : Bool) → ((st ≡ stage.Groups) ⊎ (st ≡ stage.Cached)) → s.acts ≡ false → End n (acts_lines acts) (place st s) (record s { acts = acts })
+acts_end : (n : ℕ) (st : Stage) (s : Setup) (acts : Bool) → ((st ≡ stage.Groups) ⊎ (st ≡ stage.Cached)) → s.acts ≡ false
+    → End n (acts_lines acts) (place st s) (record s { acts = acts })
 acts_end n st s false w e = record {
   last = st;
   goes = ap (λ x. place st (record s { acts = x })) e;
@@ -119,7 +137,11 @@ acts_end n st s false w e = record {
     at_stage (inr f) = ap is_whole f
 acts_end n st s true w e = record {
   last = stage.Items;
-  goes = (place stage.Items (record s { acts = true }), adds n (codes "acts") (place st s) (place stage.Items (record s { acts = true })) refl (at_stage w), refl);
+  goes = (
+    place stage.Items (record s { acts = true }),
+    adds n (codes "acts") (place st s) (place stage.Items (record s { acts = true })) refl (at_stage w),
+    refl,
+  );
   whole = refl;
 }
   where
@@ -131,10 +153,12 @@ acts_end n st s true w e = record {
         let P : Stage → Type 0 = λ x. AddsSetup x (place x s) (words (codes "acts")) (place stage.Items (record s { acts = true })) in
         subst P (sym f) (refl, refl)
 
-cache_end : (n k : ℕ) (s : Setup) (acts : Bool) → s.cache ≡ 64 → s.acts ≡ false → IsBetween 1 1024 k → End n (cache_lines k ++ acts_lines acts) (place stage.Groups s) (record s { cache = k; acts = acts })
+cache_end : (n k : ℕ) (s : Setup) (acts : Bool) → s.cache ≡ 64 → s.acts ≡ false → IsBetween 1 1024 k
+    → End n (cache_lines k ++ acts_lines acts) (place stage.Groups s) (record s { cache = k; acts = acts })
 cache_end n k s acts c e b = at_test (k == 64) refl
   where
-    at_test : (t : Bool) → (k == 64) ≡ t → End n ((if t then [] else gives (codes "cache") k ∷ []) ++ acts_lines acts) (place stage.Groups s) (record s { cache = k; acts = acts })
+    at_test : (t : Bool) → (k == 64) ≡ t
+        → End n ((if t then [] else gives (codes "cache") k ∷ []) ++ acts_lines acts) (place stage.Groups s) (record s { cache = k; acts = acts })
     at_test true f =
         let g : s.cache ≡ k = c ∙ sym (eqb-true k 64 f) in
         let P : ℕ → Type 0 = λ x. End n (acts_lines acts) (place stage.Groups s) (record s { cache = x; acts = acts }) in
@@ -142,8 +166,13 @@ cache_end n k s acts c e b = at_test (k == 64) refl
     at_test false f =
         let q : Place = place stage.Cached (record s { cache = k }) in
         let r = acts_end (n + 1) stage.Cached (record s { cache = k }) acts (inr refl) e in
-        let i : words (gives (codes "cache") k) ≡ codes "cache" ∷ decimal k ∷ [] = given_words (codes "cache") k (lacks_test 32 (codes "cache") refl) (omega (arith, b)) in
-        record { last = r.last; goes = (q, adds n (gives (codes "cache") k) (place stage.Groups s) q refl (inr (inl (k, (i, b.0, b.1), refl))), r.goes); whole = r.whole }
+        let i : words (gives (codes "cache") k) ≡ codes "cache" ∷ decimal k ∷ [] =
+        given_words (codes "cache") k (lacks_test 32 (codes "cache") refl) (omega (arith, b)) in
+        record {
+          last = r.last;
+          goes = (q, adds n (gives (codes "cache") k) (place stage.Groups s) q refl (inr (inl (k, (i, b.0, b.1), refl))), r.goes);
+          whole = r.whole;
+        }
 
 -- the whole setup
 pub setup_goes : (s : Setup) → IsSetup s → End 1 (setup_lines s) start s
@@ -153,12 +182,16 @@ setup_goes s h =
     let s2 : Setup = record s1 { managers = s.managers } in
     let s3 : Setup = record s2 { servers = s.servers } in
     let w0 : words (gives (codes "xfs") 1) ≡ codes "xfs" ∷ decimal 1 ∷ [] = given_words (codes "xfs") 1 (lacks_test 32 (codes "xfs") refl) (omega arith) in
-    let w1 : words (gives (codes "clients") s.clients) ≡ codes "clients" ∷ decimal s.clients ∷ [] = given_words (codes "clients") s.clients (lacks_test 32 (codes "clients") refl) (omega (arith, h.clients)) in
-    let w2 : words (gives (codes "managers") s.managers) ≡ codes "managers" ∷ decimal s.managers ∷ [] = given_words (codes "managers") s.managers (lacks_test 32 (codes "managers") refl) (omega (arith, h.managers)) in
-    let w3 : words (gives (codes "servers") s.servers) ≡ codes "servers" ∷ decimal s.servers ∷ [] = given_words (codes "servers") s.servers (lacks_test 32 (codes "servers") refl) (omega (arith, h.servers)) in
+    let w1 : words (gives (codes "clients") s.clients) ≡ codes "clients" ∷ decimal s.clients ∷ [] =
+    given_words (codes "clients") s.clients (lacks_test 32 (codes "clients") refl) (omega (arith, h.clients)) in
+    let w2 : words (gives (codes "managers") s.managers) ≡ codes "managers" ∷ decimal s.managers ∷ [] =
+    given_words (codes "managers") s.managers (lacks_test 32 (codes "managers") refl) (omega (arith, h.managers)) in
+    let w3 : words (gives (codes "servers") s.servers) ≡ codes "servers" ∷ decimal s.servers ∷ [] =
+    given_words (codes "servers") s.servers (lacks_test 32 (codes "servers") refl) (omega (arith, h.servers)) in
     let g = all_groups 5 s.groups s3 h.groups h.some h.few in
     let r = cache_end (5 + length (map group_line s.groups)) s.cache (grouped s3 s.groups) s.acts refl refl h.cache in
-    let t = goes_on 5 (5 + length (map group_line s.groups)) (map group_line s.groups) (cache_lines s.cache ++ acts_lines s.acts) (place stage.FirstGroup s3) (place stage.Groups (grouped s3 s.groups)) (place r.last s) refl g r.goes in
+    let t = goes_on 5 (5 + length (map group_line s.groups)) (map group_line s.groups) (cache_lines s.cache ++ acts_lines s.acts) (place stage.FirstGroup s3)
+    (place stage.Groups (grouped s3 s.groups)) (place r.last s) refl g r.goes in
     record {
       last = r.last;
       goes = (
@@ -169,8 +202,14 @@ setup_goes s h =
           adds 2 (gives (codes "clients") s.clients) (place stage.Clients s0) (place stage.Managers s1) refl (s.clients, (w1, h.clients.0, h.clients.1), refl),
           (
             place stage.Servers s2,
-            adds 3 (gives (codes "managers") s.managers) (place stage.Managers s1) (place stage.Servers s2) refl (s.managers, (w2, h.managers.0, h.managers.1), refl),
-            (place stage.FirstGroup s3, adds 4 (gives (codes "servers") s.servers) (place stage.Servers s2) (place stage.FirstGroup s3) refl (s.servers, (w3, h.servers.0, h.servers.1), refl), t),
+            adds 3 (gives (codes "managers") s.managers) (place stage.Managers s1) (place stage.Servers s2) refl
+                (s.managers, (w2, h.managers.0, h.managers.1), refl),
+            (
+              place stage.FirstGroup s3,
+              adds 4 (gives (codes "servers") s.servers) (place stage.Servers s2) (place stage.FirstGroup s3) refl
+                  (s.servers, (w3, h.servers.0, h.servers.1), refl),
+              t,
+            ),
           ),
         ),
       );
@@ -202,7 +241,8 @@ setup_lacks s h = (
       given_lacks (codes "managers") s.managers (lacks_test 10 (codes "managers") refl) (omega (arith, h.managers)),
       (
         given_lacks (codes "servers") s.servers (lacks_test 10 (codes "servers") refl) (omega (arith, h.servers)),
-        all_both (λ l. Lacks 10 l) (map group_line s.groups) (cache_lines s.cache ++ acts_lines s.acts) (groups_lack s.servers s.groups h.groups) (all_both (λ l. Lacks 10 l) (cache_lines s.cache) (acts_lines s.acts) (cache_lack s.cache (omega (arith, h.cache))) (acts_lack s.acts)),
+        all_both (λ l. Lacks 10 l) (map group_line s.groups) (cache_lines s.cache ++ acts_lines s.acts) (groups_lack s.servers s.groups h.groups)
+            (all_both (λ l. Lacks 10 l) (cache_lines s.cache) (acts_lines s.acts) (cache_lack s.cache (omega (arith, h.cache))) (acts_lack s.acts)),
       ),
     ),
   ),

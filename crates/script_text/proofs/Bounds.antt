@@ -35,7 +35,8 @@ not_many total n end h = not_above n (λ l. h (inl l))
     not_above : (m : ℕ) → (20000 < m → ⊥) → m ≤ 20000
     not_above m k = omega (arith, k)
 
-few_from : (live : Bool) (total n at : ℕ) (ls : List (List ℕ)) (p : Place) (s : Script) → n ≤ 20001 → Accepts live total n at ls p s → length s.lines + n ≤ length p.items + 20001
+few_from : (live : Bool) (total n at : ℕ) (ls : List (List ℕ)) (p : Place) (s : Script) → n ≤ 20001 → Accepts live total n at ls p s
+    → length s.lines + n ≤ length p.items + 20001
 few_from live total n at [] p s h a =
     let f : length s.lines ≡ length p.items = ap (λ (x : Script). length x.lines) a.2 in
     omega (arith, f, h)

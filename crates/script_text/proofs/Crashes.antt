@@ -49,7 +49,8 @@ any_same : (ns : List NodeId) (m node : NodeId) → list_any (λ n. same_node n 
 any_same [] m node e f = absurd (grind (arith, e))
 any_same (n ∷ ns) m node e f = at_test (λ h. any_same ns m node h f) (same_node n m) refl e
   where
-    at_test : (list_any (λ x. same_node x m) ns ≡ true → list_any (λ x. same_node x node) ns ≡ true) → (t : Bool) → same_node n m ≡ t → (t || list_any (λ x. same_node x m) ns) ≡ true → (same_node n node || list_any (λ x. same_node x node) ns) ≡ true
+    at_test : (list_any (λ x. same_node x m) ns ≡ true → list_any (λ x. same_node x node) ns ≡ true) → (t : Bool) → same_node n m ≡ t
+        → (t || list_any (λ x. same_node x m) ns) ≡ true → (same_node n node || list_any (λ x. same_node x node) ns) ≡ true
     at_test i true g h =
         let k : same_node n node ≡ true = ap (λ x. same_node x node) (same_is n m g) ∙ f in
         rw k refl
@@ -58,11 +59,13 @@ any_same (n ∷ ns) m node e f = at_test (λ h. any_same ns m node h f) (same_no
 with_any : (ns : List NodeId) (m node : NodeId) → list_any (λ n. same_node n node) (with_node ns m) ≡ (same_node m node || list_any (λ n. same_node n node) ns)
 with_any ns m node = at_test (list_any (λ n. same_node n m) ns) refl
   where
-    absorbed : (t : Bool) → same_node m node ≡ t → list_any (λ n. same_node n m) ns ≡ true → list_any (λ n. same_node n node) ns ≡ (t || list_any (λ n. same_node n node) ns)
+    absorbed : (t : Bool) → same_node m node ≡ t → list_any (λ n. same_node n m) ns ≡ true
+        → list_any (λ n. same_node n node) ns ≡ (t || list_any (λ n. same_node n node) ns)
     absorbed true e f = any_same ns m node f e
     absorbed false e f = refl
 
-    at_test : (t : Bool) → list_any (λ n. same_node n m) ns ≡ t → list_any (λ n. same_node n node) (if t then ns else ns ++ m ∷ []) ≡ (same_node m node || list_any (λ n. same_node n node) ns)
+    at_test : (t : Bool) → list_any (λ n. same_node n m) ns ≡ t
+        → list_any (λ n. same_node n node) (if t then ns else ns ++ m ∷ []) ≡ (same_node m node || list_any (λ n. same_node n node) ns)
     at_test true e = absorbed (same_node m node) refl e
     at_test false e =
         list_any-append (λ n. same_node n node) ns (m ∷ [])
@@ -77,7 +80,8 @@ pub record Kept (items : List Line) (restarted : List NodeId) (found : Option �
 pub none_kept : (items : List Line) → items ≡ [] → Kept items [] None
 none_kept items e = record { nodes = λ node. ap (λ xs. list_any (λ (l : Line). restarts node l.work) xs) (sym e); first = ap unclosed (sym e) }
 
-nodes_after : (w : Work) (ns : List NodeId) (node : NodeId) → list_any (λ n. same_node n node) (after_work ns w) ≡ (restarts node w || list_any (λ n. same_node n node) ns)
+nodes_after : (w : Work) (ns : List NodeId) (node : NodeId)
+    → list_any (λ n. same_node n node) (after_work ns w) ≡ (restarts node w || list_any (λ n. same_node n node) ns)
 nodes_after (works.Restart m) ns node = with_any ns m node
 nodes_after (works.Bput a b c) ns node = refl
 nodes_after (works.Bget a b) ns node = refl
@@ -100,7 +104,8 @@ nodes_after (works.BoardStart a) ns node = refl
 nodes_after (works.ServerStop a b) ns node = refl
 nodes_after (works.ServerStart a) ns node = refl
 
-crash_kept : (w : Work) (number : ℕ) (items : List Line) (ns : List NodeId) (found : Option ℕ) → Kept items ns found → crash_before w number ns found ≡ (if is_unclosed w items then Some number else unclosed items)
+crash_kept : (w : Work) (number : ℕ) (items : List Line) (ns : List NodeId) (found : Option ℕ) → Kept items ns found
+    → crash_before w number ns found ≡ (if is_unclosed w items then Some number else unclosed items)
 crash_kept (works.Crash m) number items ns found k =
     let e : list_any (λ n. same_node n m) ns ≡ list_any (λ l. restarts m l.work) items = k.nodes m in
     ap (λ b. if b then found else Some number) e ∙ turned (list_any (λ l. restarts m l.work) items)
@@ -129,13 +134,15 @@ crash_kept (works.BoardStart a) number items ns found k = k.first
 crash_kept (works.ServerStop a b) number items ns found k = k.first
 crash_kept (works.ServerStart a) number items ns found k = k.first
 
-pub one_kept : (l : Line) (items : List Line) (ns : List NodeId) (found : Option ℕ) → Kept items ns found → Kept (l ∷ items) (after_work ns l.work) (found_before l ns found)
+pub one_kept : (l : Line) (items : List Line) (ns : List NodeId) (found : Option ℕ) → Kept items ns found
+    → Kept (l ∷ items) (after_work ns l.work) (found_before l ns found)
 one_kept l items ns found k = record {
   nodes = λ node. nodes_after l.work ns node ∙ ap (λ b. restarts node l.work || b) (k.nodes node);
   first = crash_kept l.work l.number items ns found k;
 }
 
-pub step_kept : (items : List Line) (i : ℕ) (l : Line) (ns : List NodeId) (found : Option ℕ) → i < length items → l ≡ get_or items i l → Kept (drop (i + 1) items) ns found → Kept (drop i items) (after_work ns l.work) (found_before l ns found)
+pub step_kept : (items : List Line) (i : ℕ) (l : Line) (ns : List NodeId) (found : Option ℕ) → i < length items → l ≡ get_or items i l
+    → Kept (drop (i + 1) items) ns found → Kept (drop i items) (after_work ns l.work) (found_before l ns found)
 step_kept items i l ns found h e k =
     let d : drop i items ≡ l ∷ drop (i + 1) items = rw (add-one, drop-cons items i l) (ap (λ x. x ∷ drop (suc i) items) (sym e)) in
     rw d (one_kept l (drop (i + 1) items) ns found k)

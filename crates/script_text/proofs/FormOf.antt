@@ -95,7 +95,8 @@ fixed_kind : (w t : List ℕ) → bytes_eq w t ≡ true → kind_of_word w ≡ k
 fixed_kind w t e = ap kind_of_word ((bytes_eq-Decides w t).0 e)
 
 -- the first two words of a line with the words of these parts
-words_verb : (v : List ℕ) (p : Part) (rest : List Part) (ws : List (List ℕ)) → behind_part p ws ≡ behind ws → has_words v (p ∷ part.Verb ∷ rest) ws ≡ true → first (behind ws) ≡ v
+words_verb : (v : List ℕ) (p : Part) (rest : List Part) (ws : List (List ℕ)) → behind_part p ws ≡ behind ws → has_words v (p ∷ part.Verb ∷ rest) ws ≡ true
+    → first (behind ws) ≡ v
 words_verb v p rest ws h e =
     let a = and_right (not (is_end ws) && looks p v (piece_of p ws)) (has_words v (part.Verb ∷ rest) (behind_part p ws)) e in
     let b : has_words v (part.Verb ∷ rest) (behind ws) ≡ true = rw h at a in
@@ -385,7 +386,8 @@ form_is ws f h = at_option (form_of ws) refl
     at_option None e = absurd (no_form ws e f h)
     at_option (Some g) e = ap Some (one_form g f ws (form_found ws g e) h)
 
-pub form_there : (ws : List (List ℕ)) (i : ℕ) (d : Form) → position (λ f. has_words (verb f) (parts f) ws) all_forms ≡ Some i → i < 32 → Some (get_or all_forms i d) ≡ form_of ws
+pub form_there : (ws : List (List ℕ)) (i : ℕ) (d : Form) → position (λ f. has_words (verb f) (parts f) ws) all_forms ≡ Some i → i < 32
+    → Some (get_or all_forms i d) ≡ form_of ws
 unfolding form_of
 form_there ws i d e l = sym (slice_get-get_or all_forms i d l) ∙ ap form_at (sym e)
 

@@ -52,11 +52,15 @@ parts_err : (c : Context) (ps : List Part) (ws : List (List ℕ)) (k : Kind) →
 parts_err c [] ws k e = absurd (not_err tt k e)
 parts_err c (p ∷ ps) ws k e = at_first (λ f. parts_err c ps (behind_part p ws) k f) (bind_err (read_part c p (piece_of p ws)) (behind_first c p ps ws) k e)
   where
-    at_rest : (read_parts c ps (behind_part p ws) ≡ Err k → FirstFault c ps (behind_part p ws) k) → (x : Meaning p) → read_part c p (piece_of p ws) ≡ Ok x → (read_parts c ps (behind_part p ws) ≡ Err k) ⊎ ((vs : Meanings ps) × (read_parts c ps (behind_part p ws) ≡ Ok vs) × (good {X = Meanings (p ∷ ps)} (x, vs) ≡ Err k)) → FirstFault c (p ∷ ps) ws k
+    at_rest : (read_parts c ps (behind_part p ws) ≡ Err k → FirstFault c ps (behind_part p ws) k) → (x : Meaning p) → read_part c p (piece_of p ws) ≡ Ok x
+        → (read_parts c ps (behind_part p ws) ≡ Err k)
+        ⊎ ((vs : Meanings ps) × (read_parts c ps (behind_part p ws) ≡ Ok vs) × (good {X = Meanings (p ∷ ps)} (x, vs) ≡ Err k)) → FirstFault c (p ∷ ps) ws k
     at_rest h x r (inl f) = inr (x, read_means c p (piece_of p ws) x r, h f)
     at_rest h x r (inr f) = absurd (not_err (x, f.0) k f.2)
 
-    at_first : (read_parts c ps (behind_part p ws) ≡ Err k → FirstFault c ps (behind_part p ws) k) → (read_part c p (piece_of p ws) ≡ Err k) ⊎ ((x : Meaning p) × (read_part c p (piece_of p ws) ≡ Ok x) × (behind_first c p ps ws x ≡ bad k)) → FirstFault c (p ∷ ps) ws k
+    at_first : (read_parts c ps (behind_part p ws) ≡ Err k → FirstFault c ps (behind_part p ws) k)
+        → (read_part c p (piece_of p ws) ≡ Err k) ⊎ ((x : Meaning p) × (read_part c p (piece_of p ws) ≡ Ok x) × (behind_first c p ps ws x ≡ bad k))
+        → FirstFault c (p ∷ ps) ws k
     at_first h (inl f) = inl (read_fault c p (piece_of p ws) k f)
     at_first h (inr f) = at_rest h f.0 f.1 (bind_err (read_parts c ps (behind_part p ws)) (λ vs. Ok (f.0, vs)) k f.2)
 
@@ -90,16 +94,22 @@ form_ok ws f e =
 
 form_good : (ws : List (List ℕ)) (f : Form) → IsOfForm ws f → form_in ws ≡ Ok f
 form_good ws f (h, n) =
-    bind_good (or_fault BadWord (form_of (untimed ws))) (λ g. if is_timed ws && is_net g then Err BadWord else Ok g) f (ap (λ o. or_fault BadWord o) (form_is (untimed ws) f h))
+    bind_good (or_fault BadWord (form_of (untimed ws))) (λ g. if is_timed ws && is_net g then Err BadWord else Ok g) f
+    (ap (λ o. or_fault BadWord o) (form_is (untimed ws) f h))
     ∙ ap (λ t. if t then Err BadWord else Ok f) n
 
 form_err : (ws : List (List ℕ)) (k : Kind) → form_in ws ≡ Err k → ((f : Form) → IsOfForm ws f → ⊥) × (k ≡ BadWord)
-form_err ws k e = ((λ f h. not_err f k (sym (form_good ws f h) ∙ e)), word (bind_err (or_fault BadWord (form_of (untimed ws))) (λ g. if is_timed ws && is_net g then Err BadWord else Ok g) k e))
+form_err ws k e = (
+  (λ f h. not_err f k (sym (form_good ws f h) ∙ e)),
+  word (bind_err (or_fault BadWord (form_of (untimed ws))) (λ g. if is_timed ws && is_net g then Err BadWord else Ok g) k e),
+)
   where
-    word : (or_fault BadWord (form_of (untimed ws)) ≡ Err k) ⊎ ((g : Form) × (or_fault BadWord (form_of (untimed ws)) ≡ Ok g) × ((if is_timed ws && is_net g then Err BadWord else Ok g) ≡ Err k)) → k ≡ BadWord
+    word : (or_fault BadWord (form_of (untimed ws)) ≡ Err k)
+        ⊎ ((g : Form) × (or_fault BadWord (form_of (untimed ws)) ≡ Ok g) × ((if is_timed ws && is_net g then Err BadWord else Ok g) ≡ Err k)) → k ≡ BadWord
     word (inl f) = of_judge (judge_err BadWord BadWord (λ (x : Form). true) (form_of (untimed ws)) k f)
       where
-        of_judge : ((form_of (untimed ws) ≡ None) × (k ≡ BadWord)) ⊎ ((x : Form) × (form_of (untimed ws) ≡ Some x) × (true ≡ false) × (k ≡ BadWord)) → k ≡ BadWord
+        of_judge : ((form_of (untimed ws) ≡ None) × (k ≡ BadWord)) ⊎ ((x : Form) × (form_of (untimed ws) ≡ Some x) × (true ≡ false) × (k ≡ BadWord))
+            → k ≡ BadWord
         of_judge (inl j) = j.1
         of_judge (inr j) = j.3
     word (inr f) = (if_err (is_timed ws && is_net f.0) f.0 k f.2).1
@@ -129,7 +139,8 @@ time_bad c true w k e f = fault_read c a_time w k f
 time_bad c false w k e f = absurd (grind (arith, e))
 
 -- the work of a form
-work_ok : (c : Context) (f : Form) (ws : List (List ℕ)) (w : Work) → read_work c f ws ≡ Ok w → (v : Meanings (parts f)) × Mean c (parts f) ws v × (w ≡ work_of f v)
+work_ok : (c : Context) (f : Form) (ws : List (List ℕ)) (w : Work) → read_work c f ws ≡ Ok w
+    → (v : Meanings (parts f)) × Mean c (parts f) ws v × (w ≡ work_of f v)
 work_ok c f ws w e =
     let a = bind_ok (read_parts c (parts f) ws) (λ v. Ok (work_of f v)) w e in
     (a.0, parts_ok c (parts f) ws a.0 a.1, sym (of_ok (work_of f a.0) w a.2))
@@ -137,7 +148,8 @@ work_ok c f ws w e =
 work_err : (c : Context) (f : Form) (ws : List (List ℕ)) (k : Kind) → read_work c f ws ≡ Err k → FirstFault c (parts f) ws k
 work_err c f ws k e = at_parts (bind_err (read_parts c (parts f) ws) (λ v. Ok (work_of f v)) k e)
   where
-    at_parts : (read_parts c (parts f) ws ≡ Err k) ⊎ ((v : Meanings (parts f)) × (read_parts c (parts f) ws ≡ Ok v) × (good (work_of f v) ≡ Err k)) → FirstFault c (parts f) ws k
+    at_parts : (read_parts c (parts f) ws ≡ Err k) ⊎ ((v : Meanings (parts f)) × (read_parts c (parts f) ws ≡ Ok v) × (good (work_of f v) ≡ Err k))
+        → FirstFault c (parts f) ws k
     at_parts (inl g) = parts_err c (parts f) ws k g
     at_parts (inr g) = absurd (not_err (work_of f g.0) k g.2)
 
@@ -167,7 +179,8 @@ item_ok c ws i e =
     } in
     subst P q r
 
-pub item_good : (c : Context) (ws : List (List ℕ)) (after : ℕ) (work : Work) → IsItem c ws after work → read_item c ws ≡ Ok (record { after = after; work = work })
+pub item_good : (c : Context) (ws : List (List ℕ)) (after : ℕ) (work : Work) → IsItem c ws after work
+    → read_item c ws ≡ Ok (record { after = after; work = work })
 item_good c ws after work i =
     let w : read_work c i.form (untimed ws) ≡ Ok work =
     bind_good (read_parts c (parts i.form) (untimed ws)) (λ v. Ok (work_of i.form v)) i.meanings (parts_good c (parts i.form) (untimed ws) i.meanings i.spelled)
@@ -179,7 +192,9 @@ item_good c ws after work i =
 pub item_err : (c : Context) (ws : List (List ℕ)) (k : Kind) → read_item c ws ≡ Err k → IsBadItem c ws k
 item_err c ws k e = at_form (bind_err (form_in ws) (behind_form c ws) k e)
   where
-    at_work : (f : Form) (n : ℕ) → form_in ws ≡ Ok f → read_after ws ≡ Ok n → (read_work c f (untimed ws) ≡ Err k) ⊎ ((w : Work) × (read_work c f (untimed ws) ≡ Ok w) × (good {X = Item} (record { after = n; work = w }) ≡ Err k)) → IsBadItem c ws k
+    at_work : (f : Form) (n : ℕ) → form_in ws ≡ Ok f → read_after ws ≡ Ok n
+        → (read_work c f (untimed ws) ≡ Err k) ⊎ ((w : Work) × (read_work c f (untimed ws) ≡ Ok w) × (good {X = Item} (record { after = n; work = w }) ≡ Err k))
+        → IsBadItem c ws k
     at_work f n g h (inl x) = inr (f, form_ok ws f g, inr (n, time_ok c (is_timed ws) (first (behind ws)) n h, work_err c f (untimed ws) k x))
     at_work f n g h (inr x) = absurd (not_err (record { after = n; work = x.0 }) k x.2)
 
@@ -199,18 +214,21 @@ item_bad c ws k (inr (f, g, inl (t, h))) =
 item_bad c ws k (inr (f, g, inr (n, m, h))) =
     bind_good (form_in ws) (behind_form c ws) f (form_good ws f g)
     ∙ bind_good (read_after ws) (behind_time c ws f) n (time_good c (is_timed ws) (first (behind ws)) n m)
-    ∙ bind_bad (read_work c f (untimed ws)) (λ x. Ok (record { after = n; work = x })) k (bind_bad (read_parts c (parts f) (untimed ws)) (λ v. Ok (work_of f v)) k (parts_bad c (parts f) (untimed ws) k h))
+    ∙ bind_bad (read_work c f (untimed ws)) (λ x. Ok (record { after = n; work = x })) k
+    (bind_bad (read_parts c (parts f) (untimed ws)) (λ v. Ok (work_of f v)) k (parts_bad c (parts f) (untimed ws) k h))
 
 -- a part that is read before others that are not, and a part that is not read
 abbrev with_first : (p : Part) (ps : List Part) → Meaning p → Meanings ps → Result (Meanings (p ∷ ps)) Kind
 with_first p ps v vs = Ok (v, vs)
 
-pub part_then_err : (c : Context) (p : Part) (ps : List Part) (ws : List (List ℕ)) (x : Meaning p) (k : Kind) → read_part c p (piece_of p ws) ≡ Ok x → read_parts c ps (behind_part p ws) ≡ Err k → read_parts c (p ∷ ps) ws ≡ Err k
+pub part_then_err : (c : Context) (p : Part) (ps : List Part) (ws : List (List ℕ)) (x : Meaning p) (k : Kind) → read_part c p (piece_of p ws) ≡ Ok x
+    → read_parts c ps (behind_part p ws) ≡ Err k → read_parts c (p ∷ ps) ws ≡ Err k
 part_then_err c p ps ws x k e f =
     bind_good (read_part c p (piece_of p ws)) (behind_first c p ps ws) x e
     ∙ bind_bad (read_parts c ps (behind_part p ws)) (with_first p ps x) k f
 
-pub part_err : (c : Context) (p : Part) (ps : List Part) (ws : List (List ℕ)) (k : Kind) → read_part c p (piece_of p ws) ≡ Err k → read_parts c (p ∷ ps) ws ≡ Err k
+pub part_err : (c : Context) (p : Part) (ps : List Part) (ws : List (List ℕ)) (k : Kind) → read_part c p (piece_of p ws) ≡ Err k
+    → read_parts c (p ∷ ps) ws ≡ Err k
 part_err c p ps ws k e = bind_bad (read_part c p (piece_of p ws)) (behind_first c p ps ws) k e
 
 pub work_bad : (c : Context) (f : Form) (ws : List (List ℕ)) (k : Kind) → read_parts c (parts f) ws ≡ Err k → read_work c f ws ≡ Err k

@@ -37,7 +37,8 @@ judge_past : {X : Type 0} (l k : Kind) (x : X) (b : Bool) → (if b then good x 
 judge_past l k x true e = absurd cc
 judge_past l k x false e = (refl, cc)
 
-pub judge_err : {X : Type 0} (f l : Kind) (p : X → Bool) (o : Option X) (k : Kind) → judge f l p o ≡ Err k → ((o ≡ None) × (k ≡ f)) ⊎ ((x : X) × (o ≡ Some x) × (p x ≡ false) × (k ≡ l))
+pub judge_err : {X : Type 0} (f l : Kind) (p : X → Bool) (o : Option X) (k : Kind) → judge f l p o ≡ Err k
+    → ((o ≡ None) × (k ≡ f)) ⊎ ((x : X) × (o ≡ Some x) × (p x ≡ false) × (k ≡ l))
 judge_err f l p None k e = inl (refl, cc)
 judge_err f l p (Some x) k e = let s = judge_past l k x (p x) e in inr (x, refl, s.0, s.1)
 

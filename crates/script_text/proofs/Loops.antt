@@ -32,21 +32,25 @@ repeat_more count i piece l =
     let e : count - i ≡ suc (count - (i + 1)) = omega arith in
     ap (λ k. repeat k piece) e
 
-pub repeat_step : (text piece whole : List ℕ) (count i : ℕ) → i < count → text ++ repeat (count - i) piece ≡ whole → (text ++ piece) ++ repeat (count - (i + 1)) piece ≡ whole
+pub repeat_step : (text piece whole : List ℕ) (count i : ℕ) → i < count → text ++ repeat (count - i) piece ≡ whole
+    → (text ++ piece) ++ repeat (count - (i + 1)) piece ≡ whole
 repeat_step text piece whole count i l e =
     append_assoc text piece (repeat (count - (i + 1)) piece) ∙ ap (λ x. text ++ x) (sym (repeat_more count i piece l)) ∙ e
 
-pub repeat_over : (text piece whole : List ℕ) (count i most : ℕ) → i < count → text ++ repeat (count - i) piece ≡ whole → most < length text + length piece → within most whole ≡ Err TooLong
+pub repeat_over : (text piece whole : List ℕ) (count i most : ℕ) → i < count → text ++ repeat (count - i) piece ≡ whole → most < length text + length piece
+    → within most whole ≡ Err TooLong
 repeat_over text piece whole count i most l e m =
     let f : whole ≡ (text ++ piece) ++ repeat (count - (i + 1)) piece = sym (repeat_step text piece whole count i l e) in
     let g : length whole ≡ (length text + length piece) + length (repeat (count - (i + 1)) piece) =
-    ap length f ∙ length-append (text ++ piece) (repeat (count - (i + 1)) piece) ∙ ap (λ x. x + length (repeat (count - (i + 1)) piece)) (length-append text piece) in
+    ap length f ∙ length-append (text ++ piece) (repeat (count - (i + 1)) piece)
+    ∙ ap (λ x. x + length (repeat (count - (i + 1)) piece)) (length-append text piece) in
     long (length whole) most (omega (arith, g, m))
   where
     long : (n most : ℕ) → most < n → (if nat_le n most then good whole else bad TooLong) ≡ Err TooLong
     long n most h = let t : nat_le n most ≡ false = grind (arith, nat_tests, h) in rw t refl
 
-pub repeat_done : (text piece whole : List ℕ) (count i most : ℕ) → count ≤ i → text ++ repeat (count - i) piece ≡ whole → length text ≤ most → within most whole ≡ Ok text
+pub repeat_done : (text piece whole : List ℕ) (count i most : ℕ) → count ≤ i → text ++ repeat (count - i) piece ≡ whole → length text ≤ most
+    → within most whole ≡ Ok text
 repeat_done text piece whole count i most l e m =
     let z : count - i ≡ 0 = omega arith in
     let f : text ≡ whole = sym (append-nil text) ∙ ap (λ k. text ++ repeat k piece) (sym z) ∙ e in
@@ -54,20 +58,24 @@ repeat_done text piece whole count i most l e m =
     rw (← f) (rw t refl)
 
 -- names of a path
-pub names_step : (whole names : List (List ℕ)) (rest name after : List ℕ) → names ++ parted 47 rest ≡ whole → rest ≡ name ++ 47 ∷ after → Lacks 47 name → (names ++ name ∷ []) ++ parted 47 after ≡ whole
+pub names_step : (whole names : List (List ℕ)) (rest name after : List ℕ) → names ++ parted 47 rest ≡ whole → rest ≡ name ++ 47 ∷ after → Lacks 47 name
+    → (names ++ name ∷ []) ++ parted 47 after ≡ whole
 names_step whole names rest name after e f h =
     append_assoc names (name ∷ []) (parted 47 after) ∙ ap (λ x. names ++ x) (sym (ap (λ x. parted 47 x) f ∙ parted_cut 47 name after h)) ∙ e
 
-pub names_over : (whole names : List (List ℕ)) (rest : List ℕ) → names ++ parted 47 rest ≡ whole → 16 ≤ length names → (if are_few whole then good whole else bad TooLong) ≡ Err TooLong
+pub names_over : (whole names : List (List ℕ)) (rest : List ℕ) → names ++ parted 47 rest ≡ whole → 16 ≤ length names
+    → (if are_few whole then good whole else bad TooLong) ≡ Err TooLong
 names_over whole names rest e l =
     let s = some_parts 47 rest in
-    let g : length whole ≡ length names + length (s.0 ∷ s.1) = ap length (sym e) ∙ length-append names (parted 47 rest) ∙ ap (λ x. length names + length x) s.2 in
+    let g : length whole ≡ length names + length (s.0 ∷ s.1) =
+    ap length (sym e) ∙ length-append names (parted 47 rest) ∙ ap (λ x. length names + length x) s.2 in
     long (length whole) (omega (arith, g, l))
   where
     long : (n : ℕ) → 16 < n → (if nat_le n 16 then good whole else bad TooLong) ≡ Err TooLong
     long n h = let t : nat_le n 16 ≡ false = grind (arith, nat_tests, h) in rw t refl
 
-pub names_done : (whole names : List (List ℕ)) (rest : List ℕ) → names ++ parted 47 rest ≡ whole → Lacks 47 rest → length names < 16 → (if are_few whole then good whole else bad TooLong) ≡ good (names ++ rest ∷ [])
+pub names_done : (whole names : List (List ℕ)) (rest : List ℕ) → names ++ parted 47 rest ≡ whole → Lacks 47 rest → length names < 16
+    → (if are_few whole then good whole else bad TooLong) ≡ good (names ++ rest ∷ [])
 names_done whole names rest e h l =
     let f : names ++ rest ∷ [] ≡ whole = ap (λ x. names ++ x) (sym (parted_whole 47 rest h)) ∙ e in
     let g : length (names ++ rest ∷ []) ≡ length names + 1 = length-append names (rest ∷ []) in
@@ -76,7 +84,8 @@ names_done whole names rest e h l =
     rw (← f) (rw t refl)
 
 -- the parts of a line
-pub words_ended : (v : List ℕ) (ps : List Part) (i : ℕ) (ws : List (List ℕ)) (r : Bool) → i < length ps → has_words v (drop i ps) ws ≡ r → is_end ws ≡ true → false ≡ r
+pub words_ended : (v : List ℕ) (ps : List Part) (i : ℕ) (ws : List (List ℕ)) (r : Bool) → i < length ps → has_words v (drop i ps) ws ≡ r → is_end ws ≡ true
+    → false ≡ r
 words_ended v ps i ws r l h f =
     let p : Part = get_or ps i part.Verb in
     let d : drop i ps ≡ p ∷ drop (i + 1) ps = rw (add-one, drop-cons ps i part.Verb) refl in
@@ -84,7 +93,8 @@ words_ended v ps i ws r l h f =
     ap (λ t. not t && looks p v (piece_of p ws) && has_words v (drop (i + 1) ps) (behind_part p ws)) (sym f) ∙ g
 
 -- the names so far, with one more
-pub names_kept : (whole names new : List (List ℕ)) (rest name item after : List ℕ) → names ++ parted 47 rest ≡ whole → rest ≡ name ++ 47 ∷ after → Lacks 47 name → new ≡ names ++ item ∷ [] → item ≡ name → new ++ parted 47 after ≡ whole
+pub names_kept : (whole names new : List (List ℕ)) (rest name item after : List ℕ) → names ++ parted 47 rest ≡ whole → rest ≡ name ++ 47 ∷ after → Lacks 47 name
+    → new ≡ names ++ item ∷ [] → item ≡ name → new ++ parted 47 after ≡ whole
 names_kept whole names new rest name item after e f h g i =
     ap (λ x. x ++ parted 47 after) (g ∙ ap (λ x. names ++ x ∷ []) i) ∙ names_step whole names rest name after e f h
 
@@ -93,12 +103,14 @@ few_more names new item e l =
     let g : length new ≡ length names + 1 = ap length e ∙ length-append names (item ∷ []) in
     omega (arith, g, l)
 
-pub names_all : (whole names new : List (List ℕ)) (rest item : List ℕ) → names ++ parted 47 rest ≡ whole → Lacks 47 rest → length names < 16 → new ≡ names ++ item ∷ [] → item ≡ rest → (if are_few whole then good whole else bad TooLong) ≡ good new
+pub names_all : (whole names new : List (List ℕ)) (rest item : List ℕ) → names ++ parted 47 rest ≡ whole → Lacks 47 rest → length names < 16
+    → new ≡ names ++ item ∷ [] → item ≡ rest → (if are_few whole then good whole else bad TooLong) ≡ good new
 names_all whole names new rest item e h l g i =
     names_done whole names rest e h l ∙ ap (λ x. good x) (sym (g ∙ ap (λ x. names ++ x ∷ []) i))
 
 -- the text so far, once more
-pub repeat_kept : (text piece new whole : List ℕ) (count i : ℕ) → i < count → text ++ repeat (count - i) piece ≡ whole → new ≡ text ++ piece → new ++ repeat (count - (i + 1)) piece ≡ whole
+pub repeat_kept : (text piece new whole : List ℕ) (count i : ℕ) → i < count → text ++ repeat (count - i) piece ≡ whole → new ≡ text ++ piece
+    → new ++ repeat (count - (i + 1)) piece ≡ whole
 repeat_kept text piece new whole count i l e g = ap (λ x. x ++ repeat (count - (i + 1)) piece) g ∙ repeat_step text piece whole count i l e
 
 pub short_more : (text piece new : List ℕ) (most : ℕ) → new ≡ text ++ piece → length text + length piece ≤ most → length new ≤ most
@@ -115,7 +127,8 @@ pub servers_none : (s : ℕ) (taken : List ℕ) (ws : List (List ℕ)) → is_en
 servers_none s taken [] e f = absurd (grind (arith, e))
 servers_none s taken (w ∷ ws) e f = ap (λ (o : Option ℕ). elim o [ None ↦ None | Some x ↦ servers_from s (taken ++ x ∷ []) ws ]) f
 
-pub servers_some : (s n : ℕ) (taken new : List ℕ) (ws : List (List ℕ)) → is_end ws ≡ false → new_server s taken (first ws) ≡ Some n → new ≡ taken ++ n ∷ [] → servers_from s new (behind ws) ≡ servers_from s taken ws
+pub servers_some : (s n : ℕ) (taken new : List ℕ) (ws : List (List ℕ)) → is_end ws ≡ false → new_server s taken (first ws) ≡ Some n → new ≡ taken ++ n ∷ []
+    → servers_from s new (behind ws) ≡ servers_from s taken ws
 servers_some s n taken new [] e f g = absurd (grind (arith, e))
 servers_some s n taken new (w ∷ ws) e f g =
     ap (λ x. servers_from s x ws) g ∙ sym (ap (λ (o : Option ℕ). elim o [ None ↦ None | Some x ↦ servers_from s (taken ++ x ∷ []) ws ]) f)

@@ -23,7 +23,8 @@ pub parted_whole : (m : ℕ) (a : List ℕ) → Lacks m a → parted m a ≡ a �
 parted_whole m [] h = refl
 parted_whole m (x ∷ a) h = onto x a (x == m) (parted m a) [] (ne_eqb x m h.0) (parted_whole m a h.1)
 
-some_step : (x : ℕ) (t : Bool) (ps : List (List ℕ)) (w : List ℕ) (ws : List (List ℕ)) → ps ≡ w ∷ ws → (v : List ℕ) × (vs : List (List ℕ)) × ((if t then [] ∷ ps else onto_first x ps) ≡ v ∷ vs)
+some_step : (x : ℕ) (t : Bool) (ps : List (List ℕ)) (w : List ℕ) (ws : List (List ℕ)) → ps ≡ w ∷ ws
+    → (v : List ℕ) × (vs : List (List ℕ)) × ((if t then [] ∷ ps else onto_first x ps) ≡ v ∷ vs)
 some_step x true ps w ws e = ([], ps, refl)
 some_step x false ps w ws e = (x ∷ w, ws, ap (λ q. onto_first x q) e)
 
@@ -36,7 +37,8 @@ joined_onto : (m x : ℕ) (w : List ℕ) (ws : List (List ℕ)) → joined m ((x
 joined_onto m x w [] = refl
 joined_onto m x w (v ∷ ws) = refl
 
-joined_step : (m x : ℕ) (bs : List ℕ) (t : Bool) (ps : List (List ℕ)) (w : List ℕ) (ws : List (List ℕ)) → (t ≡ true → x ≡ m) → ps ≡ w ∷ ws → joined m ps ≡ bs → joined m (if t then [] ∷ ps else onto_first x ps) ≡ x ∷ bs
+joined_step : (m x : ℕ) (bs : List ℕ) (t : Bool) (ps : List (List ℕ)) (w : List ℕ) (ws : List (List ℕ)) → (t ≡ true → x ≡ m) → ps ≡ w ∷ ws → joined m ps ≡ bs
+    → joined m (if t then [] ∷ ps else onto_first x ps) ≡ x ∷ bs
 joined_step m x bs true ps w ws h e j =
     let f : joined m (w ∷ ws) ≡ bs = rw e at j in
     rw (e, h refl, f) refl

@@ -89,7 +89,8 @@ node_spelled l m w (n, e) =
     rw e (rw t (number_decimal m n))
 
 -- texts
-some_at : (e : Bool) (o : Option Repeated) (t : List ℕ) → some_text e o ≡ Some t → (p : Repeated) × (o ≡ Some p) × (t ≡ repeat p.count p.text) × (e ≡ false → 0 < length t)
+some_at : (e : Bool) (o : Option Repeated) (t : List ℕ) → some_text e o ≡ Some t
+    → (p : Repeated) × (o ≡ Some p) × (t ≡ repeat p.count p.text) × (e ≡ false → 0 < length t)
 some_at e None t f = absurd (grind (arith, f))
 some_at true (Some p) t f = (p, refl, grind (arith, f), λ i. absurd (grind (arith, i)))
 some_at false (Some p) t f = at_length (length (repeat p.count p.text) == 0) refl f
@@ -97,7 +98,8 @@ some_at false (Some p) t f = at_length (length (repeat p.count p.text) == 0) ref
     not_zero : (n : ℕ) → (n == 0) ≡ false → 0 < n
     not_zero n h = grind (arith, nat_tests, h)
 
-    at_length : (b : Bool) → (length (repeat p.count p.text) == 0) ≡ b → (if b then None else Some (repeat p.count p.text)) ≡ Some t → (q : Repeated) × (Some p ≡ Some q) × (t ≡ repeat q.count q.text) × (false ≡ false → 0 < length t)
+    at_length : (b : Bool) → (length (repeat p.count p.text) == 0) ≡ b → (if b then None else Some (repeat p.count p.text)) ≡ Some t
+        → (q : Repeated) × (Some p ≡ Some q) × (t ≡ repeat q.count q.text) × (false ≡ false → 0 < length t)
     at_length true g k = absurd (grind (arith, k))
     at_length false g k =
         let s : t ≡ repeat p.count p.text = grind (arith, k) in
@@ -128,7 +130,8 @@ parted_lack : (bs : List ℕ) → AllByRecursion (Lacks 47) (parted 47 bs)
 parted_lack [] = (tt, tt)
 parted_lack (b ∷ bs) = at_slash (parted_lack bs) (b == 47) refl
   where
-    at_slash : AllByRecursion (Lacks 47) (parted 47 bs) → (t : Bool) → (b == 47) ≡ t → AllByRecursion (Lacks 47) (if t then [] ∷ parted 47 bs else onto_first b (parted 47 bs))
+    at_slash : AllByRecursion (Lacks 47) (parted 47 bs) → (t : Bool) → (b == 47) ≡ t
+        → AllByRecursion (Lacks 47) (if t then [] ∷ parted 47 bs else onto_first b (parted 47 bs))
     at_slash h true e = (tt, h)
     at_slash h false e = lack_onto b (parted 47 bs) (eqb-false b 47 e) h
 
@@ -141,7 +144,8 @@ slashed_parted (b ∷ bs) =
     let s = some_parts 47 bs in
     at_slash (slashed_parted bs) (b == 47) s.0 s.1 s.2 refl
   where
-    at_slash : slashed (parted 47 bs) ≡ 47 ∷ bs → (t : Bool) (p : List ℕ) (ps : List (List ℕ)) → parted 47 bs ≡ p ∷ ps → (b == 47) ≡ t → slashed (if t then [] ∷ parted 47 bs else onto_first b (parted 47 bs)) ≡ 47 ∷ b ∷ bs
+    at_slash : slashed (parted 47 bs) ≡ 47 ∷ bs → (t : Bool) (p : List ℕ) (ps : List (List ℕ)) → parted 47 bs ≡ p ∷ ps → (b == 47) ≡ t
+        → slashed (if t then [] ∷ parted 47 bs else onto_first b (parted 47 bs)) ≡ 47 ∷ b ∷ bs
     at_slash h true p ps f e = ap (λ x. 47 ∷ x) h ∙ ap (λ x. 47 ∷ x ∷ bs) (sym (eqb-true b 47 e))
     at_slash h false p ps f e = ap (λ x. slashed (onto_first b x)) f ∙ slashed_onto b p ps bs (ap slashed (sym f) ∙ h)
 
@@ -301,7 +305,8 @@ true_false t e f = let g : true ≡ false = sym e ∙ f in cc
 pub read_fault : (c : Context) (p : Part) (w : List ℕ) (k : Kind) → read_part c p w ≡ Err k → IsFault c p w k
 read_fault c p w k e = of_judge (judge_err (form_fault p) (limit_fault p) (is_within c p) (spelled_by p w) k e)
   where
-    of_judge : ((spelled_by p w ≡ None) × (k ≡ form_fault p)) ⊎ ((v : Meaning p) × (spelled_by p w ≡ Some v) × (is_within c p v ≡ false) × (k ≡ limit_fault p)) → IsFault c p w k
+    of_judge : ((spelled_by p w ≡ None) × (k ≡ form_fault p)) ⊎ ((v : Meaning p) × (spelled_by p w ≡ Some v) × (is_within c p v ≡ false) × (k ≡ limit_fault p))
+        → IsFault c p w k
     of_judge (inl j) = inl (λ v s. none_some (spelled_by p w) v j.0 (part_spelled p w v s), j.1)
     of_judge (inr j) = inr (j.0, part_read p w j.0 j.1, λ h. true_false (is_within c p j.0) (within_test c p j.0 h) j.2, j.3)
 

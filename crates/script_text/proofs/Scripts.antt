@@ -66,7 +66,8 @@ other_err n p ws k e = at_test (free p ws) refl e
     err_of : (i j : Kind) → bad {X = Place} i ≡ bad j → j ≡ i
     err_of i j e = cc
 
-    at_item : free p ws ≡ true → (read_item (at_place p) ws ≡ Err k) ⊎ ((i : Item) × (read_item (at_place p) ws ≡ Ok i) × (good (behind_item n p i) ≡ bad k)) → BadOther p ws k
+    at_item : free p ws ≡ true → (read_item (at_place p) ws ≡ Err k) ⊎ ((i : Item) × (read_item (at_place p) ws ≡ Ok i) × (good (behind_item n p i) ≡ bad k))
+        → BadOther p ws k
     at_item f (inl x) = inr (f, item_err (at_place p) ws k x)
     at_item f (inr x) = absurd (not_err (behind_item n p x.0) k x.2)
 
@@ -156,7 +157,8 @@ past_true total n end e = at_tests (nat_lt 20000 n) (nat_lt 1048576 total) (nat_
     lt_true : (a b : ℕ) → nat_lt a b ≡ true → a < b
     lt_true a b e = grind (arith, nat_tests, e)
 
-    at_tests : (a b c : Bool) → nat_lt 20000 n ≡ a → nat_lt 1048576 total ≡ b → nat_lt 1048576 end ≡ c → (a || b && c) ≡ true → IsPast (record { total = total; number = n; end = end })
+    at_tests : (a b c : Bool) → nat_lt 20000 n ≡ a → nat_lt 1048576 total ≡ b → nat_lt 1048576 end ≡ c → (a || b && c) ≡ true
+        → IsPast (record { total = total; number = n; end = end })
     at_tests true b c f g h e = inl (lt_true _ _ f)
     at_tests false true true f g h e = inr (lt_true _ _ g, lt_true _ _ h)
     at_tests false true false f g h e = absurd (grind (arith, e))
@@ -214,18 +216,22 @@ ok_no_fault : (s : Script) (f : Fault) → done s ≡ failed f → ⊥
 ok_no_fault s f e = cc
 
 -- the end
-end_ok : (live : Bool) (n : ℕ) (p : Place) (s : Script) → script_at live n p ≡ Ok s → (is_whole p.stage ≡ true) × (open_crash live p.items ≡ None) × (s ≡ record { setup = p.setup; lines = p.items })
+end_ok : (live : Bool) (n : ℕ) (p : Place) (s : Script) → script_at live n p ≡ Ok s
+    → (is_whole p.stage ≡ true) × (open_crash live p.items ≡ None) × (s ≡ record { setup = p.setup; lines = p.items })
 end_ok live n p s e = at_whole (is_whole p.stage) refl e
   where
-    at_crash : (o : Option ℕ) → open_crash live p.items ≡ o → is_whole p.stage ≡ true → by_crash p o ≡ Ok s → (is_whole p.stage ≡ true) × (open_crash live p.items ≡ None) × (s ≡ record { setup = p.setup; lines = p.items })
+    at_crash : (o : Option ℕ) → open_crash live p.items ≡ o → is_whole p.stage ≡ true → by_crash p o ≡ Ok s
+        → (is_whole p.stage ≡ true) × (open_crash live p.items ≡ None) × (s ≡ record { setup = p.setup; lines = p.items })
     at_crash None f w g = (w, f, sym (script_of (record { setup = p.setup; lines = p.items }) s g))
     at_crash (Some m) f w g = absurd (ok_no_fault s (fault m Unclosed) (sym g))
 
-    at_whole : (t : Bool) → is_whole p.stage ≡ t → (if t then by_crash p (open_crash live p.items) else Err (fault n BadSetup)) ≡ Ok s → (is_whole p.stage ≡ true) × (open_crash live p.items ≡ None) × (s ≡ record { setup = p.setup; lines = p.items })
+    at_whole : (t : Bool) → is_whole p.stage ≡ t → (if t then by_crash p (open_crash live p.items) else Err (fault n BadSetup)) ≡ Ok s
+        → (is_whole p.stage ≡ true) × (open_crash live p.items ≡ None) × (s ≡ record { setup = p.setup; lines = p.items })
     at_whole true f g = at_crash (open_crash live p.items) refl f g
     at_whole false f g = absurd (ok_no_fault s (fault n BadSetup) (sym g))
 
-end_good : (live : Bool) (n : ℕ) (p : Place) → is_whole p.stage ≡ true → open_crash live p.items ≡ None → script_at live n p ≡ Ok (record { setup = p.setup; lines = p.items })
+end_good : (live : Bool) (n : ℕ) (p : Place) → is_whole p.stage ≡ true → open_crash live p.items ≡ None
+    → script_at live n p ≡ Ok (record { setup = p.setup; lines = p.items })
 end_good live n p w e = rw (w, e) refl
 
 end_open : (live : Bool) (n m : ℕ) (p : Place) → is_whole p.stage ≡ true → open_crash live p.items ≡ Some m → script_at live n p ≡ Err (fault m Unclosed)
@@ -261,30 +267,40 @@ next live total n at l ls r = elim r [ Ok q ↦ read_lines live total (n + 1) (a
 abbrev within : ℕ → ℕ → List ℕ → Place → Bool → Result Place Kind
 within n at l p t = if t then Err TooLong else read_line n l p
 
-pub lines_ok : (live : Bool) (total n at : ℕ) (ls : List (List ℕ)) (p : Place) (s : Script) → read_lines live total n at ls p ≡ Ok s → Accepts live total n at ls p s
+pub lines_ok : (live : Bool) (total n at : ℕ) (ls : List (List ℕ)) (p : Place) (s : Script) → read_lines live total n at ls p ≡ Ok s
+    → Accepts live total n at ls p s
 lines_ok live total n at [] p s e = end_ok live n p s e
-lines_ok live total n at (l ∷ ls) p s e = at_test (λ q h. lines_ok live total (n + 1) (at + (length l + 1)) ls q s h) (is_past total n (at + (length l + 1))) refl e
+lines_ok live total n at (l ∷ ls) p s e =
+    at_test (λ q h. lines_ok live total (n + 1) (at + (length l + 1)) ls q s h) (is_past total n (at + (length l + 1))) refl e
   where
-    at_line : ((q : Place) → read_lines live total (n + 1) (at + (length l + 1)) ls q ≡ Ok s → Accepts live total (n + 1) (at + (length l + 1)) ls q s) → is_past total n (at + (length l + 1)) ≡ false → (r : Result Place Kind) → read_line n l p ≡ r → next live total n at l ls r ≡ Ok s → Accepts live total n at (l ∷ ls) p s
+    at_line : ((q : Place) → read_lines live total (n + 1) (at + (length l + 1)) ls q ≡ Ok s → Accepts live total (n + 1) (at + (length l + 1)) ls q s)
+        → is_past total n (at + (length l + 1)) ≡ false → (r : Result Place Kind) → read_line n l p ≡ r → next live total n at l ls r ≡ Ok s
+        → Accepts live total n at (l ∷ ls) p s
     at_line i f (Ok q) g h = (past_false total n (at + (length l + 1)) f, q, line_ok n l p q g, i q h)
     at_line i f (Err k) g h = absurd (ok_no_fault s (fault n k) (sym h))
 
-    at_test : ((q : Place) → read_lines live total (n + 1) (at + (length l + 1)) ls q ≡ Ok s → Accepts live total (n + 1) (at + (length l + 1)) ls q s) → (t : Bool) → is_past total n (at + (length l + 1)) ≡ t → next live total n at l ls (within n at l p t) ≡ Ok s → Accepts live total n at (l ∷ ls) p s
+    at_test : ((q : Place) → read_lines live total (n + 1) (at + (length l + 1)) ls q ≡ Ok s → Accepts live total (n + 1) (at + (length l + 1)) ls q s)
+        → (t : Bool) → is_past total n (at + (length l + 1)) ≡ t → next live total n at l ls (within n at l p t) ≡ Ok s → Accepts live total n at (l ∷ ls) p s
     at_test i true f g = absurd (ok_no_fault s (fault n TooLong) (sym g))
     at_test i false f g = at_line i f (read_line n l p) refl g
 
-pub lines_good : (live : Bool) (total n at : ℕ) (ls : List (List ℕ)) (p : Place) (s : Script) → Accepts live total n at ls p s → read_lines live total n at ls p ≡ Ok s
+pub lines_good : (live : Bool) (total n at : ℕ) (ls : List (List ℕ)) (p : Place) (s : Script) → Accepts live total n at ls p s
+    → read_lines live total n at ls p ≡ Ok s
 lines_good live total n at [] p s (w, e, f) = end_good live n p w e ∙ ap (λ x. done x) (sym f)
 lines_good live total n at (l ∷ ls) p s (h, q, a, b) =
     ap (λ t. next live total n at l ls (within n at l p t)) (not_past total n (at + (length l + 1)) h)
     ∙ ap (λ r. next live total n at l ls r) (line_good n l p q a)
     ∙ lines_good live total (n + 1) (at + (length l + 1)) ls q s b
 
-pub lines_err : (live : Bool) (total n at : ℕ) (ls : List (List ℕ)) (p : Place) (m : ℕ) (k : Kind) → read_lines live total n at ls p ≡ Err (fault m k) → Refuses live total n at ls p m k
+pub lines_err : (live : Bool) (total n at : ℕ) (ls : List (List ℕ)) (p : Place) (m : ℕ) (k : Kind) → read_lines live total n at ls p ≡ Err (fault m k)
+    → Refuses live total n at ls p m k
 lines_err live total n at [] p m k e = end_err live n m k p e
-lines_err live total n at (l ∷ ls) p m k e = at_test (λ q h. lines_err live total (n + 1) (at + (length l + 1)) ls q m k h) (is_past total n (at + (length l + 1))) refl e
+lines_err live total n at (l ∷ ls) p m k e =
+    at_test (λ q h. lines_err live total (n + 1) (at + (length l + 1)) ls q m k h) (is_past total n (at + (length l + 1))) refl e
   where
-    at_line : ((q : Place) → read_lines live total (n + 1) (at + (length l + 1)) ls q ≡ Err (fault m k) → Refuses live total (n + 1) (at + (length l + 1)) ls q m k) → is_past total n (at + (length l + 1)) ≡ false → (r : Result Place Kind) → read_line n l p ≡ r → next live total n at l ls r ≡ Err (fault m k) → Refuses live total n at (l ∷ ls) p m k
+    at_line : ((q : Place) → read_lines live total (n + 1) (at + (length l + 1)) ls q ≡ Err (fault m k)
+        → Refuses live total (n + 1) (at + (length l + 1)) ls q m k) → is_past total n (at + (length l + 1)) ≡ false → (r : Result Place Kind)
+        → read_line n l p ≡ r → next live total n at l ls r ≡ Err (fault m k) → Refuses live total n at (l ∷ ls) p m k
     at_line i f (Ok q) g h = inr (inr (past_false total n (at + (length l + 1)) f, q, line_ok n l p q g, i q h))
     at_line i f (Err j) g h =
         let x = fault_of (fault n j) (fault m k) h in
@@ -292,7 +308,9 @@ lines_err live total n at (l ∷ ls) p m k e = at_test (λ q h. lines_err live t
         let P : Kind → Type 0 = λ y. IsBad l p y in
         inr (inl (past_false total n (at + (length l + 1)) f, subst P j_k (line_err n l p j g), sym (ap (λ y. y.line) x)))
 
-    at_test : ((q : Place) → read_lines live total (n + 1) (at + (length l + 1)) ls q ≡ Err (fault m k) → Refuses live total (n + 1) (at + (length l + 1)) ls q m k) → (t : Bool) → is_past total n (at + (length l + 1)) ≡ t → next live total n at l ls (within n at l p t) ≡ Err (fault m k) → Refuses live total n at (l ∷ ls) p m k
+    at_test : ((q : Place) → read_lines live total (n + 1) (at + (length l + 1)) ls q ≡ Err (fault m k)
+        → Refuses live total (n + 1) (at + (length l + 1)) ls q m k) → (t : Bool) → is_past total n (at + (length l + 1)) ≡ t
+        → next live total n at l ls (within n at l p t) ≡ Err (fault m k) → Refuses live total n at (l ∷ ls) p m k
     at_test i true f g =
         let x = fault_of (fault n TooLong) (fault m k) g in
         inl (past_true total n (at + (length l + 1)) f, sym (ap (λ y. y.line) x), sym (ap (λ y. y.kind) x))
@@ -301,7 +319,8 @@ lines_err live total n at (l ∷ ls) p m k e = at_test (λ q h. lines_err live t
 same_fault : (n m : ℕ) (j k : Kind) → m ≡ n → k ≡ j → failed (fault n j) ≡ failed (fault m k)
 same_fault n m j k e f = rw (e, f) refl
 
-pub lines_bad : (live : Bool) (total n at : ℕ) (ls : List (List ℕ)) (p : Place) (m : ℕ) (k : Kind) → Refuses live total n at ls p m k → read_lines live total n at ls p ≡ Err (fault m k)
+pub lines_bad : (live : Bool) (total n at : ℕ) (ls : List (List ℕ)) (p : Place) (m : ℕ) (k : Kind) → Refuses live total n at ls p m k
+    → read_lines live total n at ls p ≡ Err (fault m k)
 lines_bad live total n at [] p m k (inl (w, e, f)) = end_part live n p w ∙ same_fault n m BadSetup k e f
 lines_bad live total n at [] p m k (inr (w, e, f)) = end_open live n m p w e ∙ same_fault m m Unclosed k refl f
 lines_bad live total n at (l ∷ ls) p m k (inl (h, e, f)) =
@@ -343,11 +362,13 @@ never_both live bytes s m k a b = ok_no_fault s (fault m k) (sym (script_good li
 pub always_one : (live : Bool) (bytes : List ℕ) → ((s : Script) × IsScriptOf live bytes s) ⊎ ((m : ℕ) × (k : Kind) × IsFirstBad live bytes m k)
 always_one live bytes = at_result (read_script live bytes) refl
   where
-    at_result : (r : Result Script Fault) → read_script live bytes ≡ r → ((s : Script) × IsScriptOf live bytes s) ⊎ ((m : ℕ) × (k : Kind) × IsFirstBad live bytes m k)
+    at_result : (r : Result Script Fault) → read_script live bytes ≡ r
+        → ((s : Script) × IsScriptOf live bytes s) ⊎ ((m : ℕ) × (k : Kind) × IsFirstBad live bytes m k)
     at_result (Ok s) e = inl (s, script_ok live bytes s e)
     at_result (Err f) e = inr (f.line, f.kind, script_err live bytes f.line f.kind e)
 
 -- a line that is not taken refuses the whole
-pub refuses_here : (live : Bool) (total n at : ℕ) (l : List ℕ) (ls : List (List ℕ)) (p : Place) (e : LineError) (r : Result Script Fault) → Fails e (read_at total n (at + (length l + 1)) l p) → read_lines live total n at (l ∷ ls) p ≡ r → Faults (refused n e) r
+pub refuses_here : (live : Bool) (total n at : ℕ) (l : List ℕ) (ls : List (List ℕ)) (p : Place) (e : LineError) (r : Result Script Fault)
+    → Fails e (read_at total n (at + (length l + 1)) l p) → read_lines live total n at (l ∷ ls) p ≡ r → Faults (refused n e) r
 refuses_here live total n at l ls p (line_errors.Bad k) r f g = sym g ∙ ap (λ x. next live total n at l ls x) f
 refuses_here live total n at l ls p line_errors.Memory r f g = tt

@@ -24,7 +24,8 @@ two_words (w ∷ []) e f = absurd (grind (arith, e))
 two_words (w ∷ v ∷ []) e f = refl
 two_words (w ∷ v ∷ u ∷ ws) e f = absurd (grind (arith, f))
 
-for_tests : (name : List ℕ) (a b n : ℕ) (ws : List (List ℕ)) (s t u : Bool) → bytes_eq (first ws) name ≡ s → is_end (behind ws) ≡ t → is_end (behind (behind ws)) ≡ u → (if s && not t && u then number_in a b (first (behind ws)) else None) ≡ Some n → SaysNumber name a b ws n
+for_tests : (name : List ℕ) (a b n : ℕ) (ws : List (List ℕ)) (s t u : Bool) → bytes_eq (first ws) name ≡ s → is_end (behind ws) ≡ t
+    → is_end (behind (behind ws)) ≡ u → (if s && not t && u then number_in a b (first (behind ws)) else None) ≡ Some n → SaysNumber name a b ws n
 for_tests name a b n ws true false true e f g h =
     let x = number_read a b n (first (behind ws)) h in
     let y = (bytes_eq-Decides (first ws) name).0 e in
@@ -49,7 +50,8 @@ taken_not : (s : ℕ) (taken : List ℕ) → list_any (λ t. t == s) taken ≡ f
 taken_not s [] e = tt
 taken_not s (t ∷ ts) e = at_tests (λ g. taken_not s ts g) (t == s) (list_any (λ u. u == s) ts) refl refl e
   where
-    at_tests : (list_any (λ u. u == s) ts ≡ false → AllByRecursion (λ u. u ≢ s) ts) → (a b : Bool) → (t == s) ≡ a → list_any (λ u. u == s) ts ≡ b → (a || b) ≡ false → AllByRecursion (λ u. u ≢ s) (t ∷ ts)
+    at_tests : (list_any (λ u. u == s) ts ≡ false → AllByRecursion (λ u. u ≢ s) ts) → (a b : Bool) → (t == s) ≡ a → list_any (λ u. u == s) ts ≡ b
+        → (a || b) ≡ false → AllByRecursion (λ u. u ≢ s) (t ∷ ts)
     at_tests i false false f g h = (eqb-false t s f, i g)
     at_tests i false true f g h = absurd (grind (arith, h))
     at_tests i true b f g h = absurd (grind (arith, h))
@@ -86,7 +88,8 @@ record Servers (servers : ℕ) (taken : List ℕ) (ws : List (List ℕ)) (group 
   all : group ≡ taken ++ more
   spelled : ws ≡ map decimal more
 
-new_at : (servers n s : ℕ) (taken : List ℕ) (t : Bool) → list_any (λ x. x == n) taken ≡ t → (if t then None else Some n) ≡ Some s → (n ≡ s) × (list_any (λ x. x == s) taken ≡ false)
+new_at : (servers n s : ℕ) (taken : List ℕ) (t : Bool) → list_any (λ x. x == n) taken ≡ t → (if t then None else Some n) ≡ Some s
+    → (n ≡ s) × (list_any (λ x. x == s) taken ≡ false)
 new_at servers n s taken true e f = absurd (grind (arith, f))
 new_at servers n s taken false e f =
     let g : n ≡ s = grind (arith, f) in
@@ -111,13 +114,17 @@ pub record Taken (servers : ℕ) (taken : List ℕ) : Type 0 where
   known : AllByRecursion (Known servers) taken
   differ : AreDifferent taken
 
-from_read : (servers : ℕ) (taken : List ℕ) (ws : List (List ℕ)) (group : List ℕ) → Taken servers taken → servers_from servers taken ws ≡ Some group → Servers servers taken ws group × Taken servers group
+from_read : (servers : ℕ) (taken : List ℕ) (ws : List (List ℕ)) (group : List ℕ) → Taken servers taken → servers_from servers taken ws ≡ Some group
+    → Servers servers taken ws group × Taken servers group
 from_read servers taken [] group t e =
     let f : taken ≡ group = grind (arith, e) in
     (record { more = []; all = sym f ∙ sym (append-nil taken); spelled = refl }, subst (λ g. Taken servers g) f t)
 from_read servers taken (w ∷ ws) group t e = at_server (λ s u g. from_read servers (taken ++ s ∷ []) ws group u g) (new_server servers taken w) refl e
   where
-    at_server : ((s : ℕ) → Taken servers (taken ++ s ∷ []) → servers_from servers (taken ++ s ∷ []) ws ≡ Some group → Servers servers (taken ++ s ∷ []) ws group × Taken servers group) → (o : Option ℕ) → new_server servers taken w ≡ o → (elim o [ None ↦ None | Some s ↦ servers_from servers (taken ++ s ∷ []) ws ]) ≡ Some group → Servers servers taken (w ∷ ws) group × Taken servers group
+    at_server : ((s : ℕ) → Taken servers (taken ++ s ∷ []) → servers_from servers (taken ++ s ∷ []) ws ≡ Some group
+        → Servers servers (taken ++ s ∷ []) ws group × Taken servers group) → (o : Option ℕ) → new_server servers taken w ≡ o
+        → (elim o [ None ↦ None | Some s ↦ servers_from servers (taken ++ s ∷ []) ws ]) ≡ Some group
+        → Servers servers taken (w ∷ ws) group × Taken servers group
     at_server i None f g = absurd (grind (arith, g))
     at_server i (Some s) f g =
         let n = new_read servers s taken w f in
@@ -131,7 +138,8 @@ from_read servers taken (w ∷ ws) group t e = at_server (λ s u g. from_read se
           r.1,
         )
 
-from_given : (servers : ℕ) (taken more : List ℕ) → AllByRecursion (Known servers) (taken ++ more) → AreDifferent (taken ++ more) → servers_from servers taken (map decimal more) ≡ Some (taken ++ more)
+from_given : (servers : ℕ) (taken more : List ℕ) → AllByRecursion (Known servers) (taken ++ more) → AreDifferent (taken ++ more)
+    → servers_from servers taken (map decimal more) ≡ Some (taken ++ more)
 from_given servers taken [] k d = ap Some (sym (append-nil taken))
 from_given servers taken (s ∷ more) k d =
     let e : taken ++ s ∷ more ≡ (taken ++ s ∷ []) ++ more = sym (append_assoc taken (s ∷ []) more) in
@@ -139,14 +147,17 @@ from_given servers taken (s ∷ more) k d =
     let r = from_given servers (taken ++ s ∷ []) more (subst (λ x. AllByRecursion (Known servers) x) e k) (subst AreDifferent e d) in
     ap (λ (o : Option ℕ). elim o [ None ↦ None | Some x ↦ servers_from servers (taken ++ x ∷ []) (map decimal more) ]) n ∙ r ∙ ap Some (sym e)
 
-enough_read : (parity : ℕ) (o : Option (List ℕ)) (g : GroupSetup) → enough_for parity o ≡ Some g → (o ≡ Some g.servers) × (g.parity ≡ parity) × (parity + 2 ≤ length g.servers) × (length g.servers ≤ 8)
+enough_read : (parity : ℕ) (o : Option (List ℕ)) (g : GroupSetup) → enough_for parity o ≡ Some g
+    → (o ≡ Some g.servers) × (g.parity ≡ parity) × (parity + 2 ≤ length g.servers) × (length g.servers ≤ 8)
 enough_read parity None g e = absurd (grind (arith, e))
 enough_read parity (Some group) g e = at_tests (nat_le (parity + 2) (length group)) (nat_le (length group) 8) refl refl e
   where
     le_true : (a b : ℕ) → nat_le a b ≡ true → a ≤ b
     le_true a b e = grind (arith, nat_tests, e)
 
-    at_tests : (t u : Bool) → nat_le (parity + 2) (length group) ≡ t → nat_le (length group) 8 ≡ u → (if t && u then Some (record { servers = group; parity = parity }) else None) ≡ Some g → (Some group ≡ Some g.servers) × (g.parity ≡ parity) × (parity + 2 ≤ length g.servers) × (length g.servers ≤ 8)
+    at_tests : (t u : Bool) → nat_le (parity + 2) (length group) ≡ t → nat_le (length group) 8 ≡ u
+        → (if t && u then Some (record { servers = group; parity = parity }) else None) ≡ Some g
+        → (Some group ≡ Some g.servers) × (g.parity ≡ parity) × (parity + 2 ≤ length g.servers) × (length g.servers ≤ 8)
     at_tests true true a b h =
         let made : GroupSetup = record { servers = group; parity = parity } in
         let q : made ≡ g = some_same made g h in
@@ -159,7 +170,9 @@ enough_read parity (Some group) g e = at_tests (nat_le (parity + 2) (length grou
     at_tests false u a b h = absurd (grind (arith, h))
 
 -- a group behind its name
-named_read : (servers parity : ℕ) (name : List ℕ) (ws : List (List ℕ)) (g : GroupSetup) → bytes_eq (first ws) name ≡ true → 0 < length name → enough_for parity (servers_from servers [] (behind ws)) ≡ Some g → (ws ≡ name ∷ map decimal g.servers) × (g.parity ≡ parity) × IsGroup servers g.parity g.servers
+named_read : (servers parity : ℕ) (name : List ℕ) (ws : List (List ℕ)) (g : GroupSetup) → bytes_eq (first ws) name ≡ true → 0 < length name
+    → enough_for parity (servers_from servers [] (behind ws)) ≡ Some g
+    → (ws ≡ name ∷ map decimal g.servers) × (g.parity ≡ parity) × IsGroup servers g.parity g.servers
 named_read servers parity name ws g e l h =
     let a = enough_read parity (servers_from servers [] (behind ws)) g h in
     let none : Taken servers [] = record { known = tt; differ = tt } in
@@ -183,12 +196,15 @@ named_read servers parity name ws g e l h =
 group_read : (servers : ℕ) (ws : List (List ℕ)) (g : GroupSetup) → group_of servers ws ≡ Some g → NamesGroup servers ws g
 group_read servers ws g e = at_tests (bytes_eq (first ws) (codes "group")) (bytes_eq (first ws) (codes "group2")) refl refl e
   where
-    at_tests : (t u : Bool) → bytes_eq (first ws) (codes "group") ≡ t → bytes_eq (first ws) (codes "group2") ≡ u → (if t then enough_for 1 (servers_from servers [] (behind ws)) else if u then enough_for 2 (servers_from servers [] (behind ws)) else None) ≡ Some g → NamesGroup servers ws g
+    at_tests : (t u : Bool) → bytes_eq (first ws) (codes "group") ≡ t → bytes_eq (first ws) (codes "group2") ≡ u
+        → (if t then enough_for 1 (servers_from servers [] (behind ws)) else if u then enough_for 2 (servers_from servers [] (behind ws)) else None) ≡ Some g
+        → NamesGroup servers ws g
     at_tests true u a b h = let r = named_read servers 1 (codes "group") ws g a (omega arith) h in (r.2, inl (r.1, r.0))
     at_tests false true a b h = let r = named_read servers 2 (codes "group2") ws g b (omega arith) h in (r.2, inr (r.1, r.0))
     at_tests false false a b h = absurd (grind (arith, h))
 
-enough_given : (parity : ℕ) (g : GroupSetup) → g.parity ≡ parity → parity + 2 ≤ length g.servers → length g.servers ≤ 8 → enough_for parity (Some g.servers) ≡ Some g
+enough_given : (parity : ℕ) (g : GroupSetup) → g.parity ≡ parity → parity + 2 ≤ length g.servers → length g.servers ≤ 8
+    → enough_for parity (Some g.servers) ≡ Some g
 enough_given parity g e l u =
     let t : nat_le (parity + 2) (length g.servers) ≡ true = le_test _ _ l in
     let s : nat_le (length g.servers) 8 ≡ true = le_test _ _ u in
@@ -197,7 +213,8 @@ enough_given parity g e l u =
     le_test : (a b : ℕ) → a ≤ b → nat_le a b ≡ true
     le_test a b e = grind (arith, nat_tests, e)
 
-servers_given : (servers parity : ℕ) (g : GroupSetup) → g.parity ≡ parity → IsGroup servers g.parity g.servers → enough_for parity (servers_from servers [] (map decimal g.servers)) ≡ Some g
+servers_given : (servers parity : ℕ) (g : GroupSetup) → g.parity ≡ parity → IsGroup servers g.parity g.servers
+    → enough_for parity (servers_from servers [] (map decimal g.servers)) ≡ Some g
 servers_given servers parity g e i =
     ap (λ o. enough_for parity o) (from_given servers [] g.servers i.known i.differ)
     ∙ enough_given parity g e (rw e at i.enough) i.few
@@ -220,7 +237,8 @@ group_said_read p ws s e = at_test (nat_lt (length p.setup.groups) 8) refl e
     lt_true : (a b : ℕ) → nat_lt a b ≡ true → a < b
     lt_true a b e = grind (arith, nat_tests, e)
 
-    at_test : (t : Bool) → nat_lt (length p.setup.groups) 8 ≡ t → (if t then saying said.Group (group_of p.setup.servers ws) else None) ≡ Some s → AddsGroup p ws (behind_said p s)
+    at_test : (t : Bool) → nat_lt (length p.setup.groups) 8 ≡ t → (if t then saying said.Group (group_of p.setup.servers ws) else None) ≡ Some s
+        → AddsGroup p ws (behind_said p s)
     at_test true f g =
         let a = saying_some said.Group (group_of p.setup.servers ws) s g in
         (a.0, group_read p.setup.servers ws a.0 a.1, lt_true _ _ f, ap (behind_said p) a.2)
@@ -245,20 +263,24 @@ acts_said_read p ws s e = at_tests (bytes_eq (first ws) (codes "acts")) (is_end 
     same : (a b : Said) → Some a ≡ Some b → b ≡ a
     same a b e = cc
 
-    at_tests : (t u : Bool) → bytes_eq (first ws) (codes "acts") ≡ t → is_end (behind ws) ≡ u → (if t && u then Some said.Acts else None) ≡ Some s → AddsActs p ws (behind_said p s)
-    at_tests true true f g h = (one_word ws (codes "acts") ((bytes_eq-Decides (first ws) (codes "acts")).0 f) (omega arith) g, ap (behind_said p) (same said.Acts s h))
+    at_tests : (t u : Bool) → bytes_eq (first ws) (codes "acts") ≡ t → is_end (behind ws) ≡ u → (if t && u then Some said.Acts else None) ≡ Some s
+        → AddsActs p ws (behind_said p s)
+    at_tests true true f g h =
+        (one_word ws (codes "acts") ((bytes_eq-Decides (first ws) (codes "acts")).0 f) (omega arith) g, ap (behind_said p) (same said.Acts s h))
     at_tests true false f g h = absurd (grind (arith, h))
     at_tests false u f g h = absurd (grind (arith, h))
 
 acts_said_given : (p q : Place) (ws : List (List ℕ)) → AddsActs p ws q → (s : Said) × (acts_said ws ≡ Some s) × (q ≡ behind_said p s)
 acts_said_given p q ws (e, f) = (said.Acts, rw e refl, f)
 
-number_said_read : (name : List ℕ) (a b : ℕ) (f : ℕ → Said) (ws : List (List ℕ)) (s : Said) → saying f (number_for name a b ws) ≡ Some s → (n : ℕ) × SaysNumber name a b ws n × (s ≡ f n)
+number_said_read : (name : List ℕ) (a b : ℕ) (f : ℕ → Said) (ws : List (List ℕ)) (s : Said) → saying f (number_for name a b ws) ≡ Some s
+    → (n : ℕ) × SaysNumber name a b ws n × (s ≡ f n)
 number_said_read name a b f ws s e =
     let r = saying_some f (number_for name a b ws) s e in
     (r.0, for_read name a b r.0 ws r.1, r.2)
 
-number_said_given : (name : List ℕ) (a b n : ℕ) (f : ℕ → Said) (ws : List (List ℕ)) → b < 2 ^ 32 → SaysNumber name a b ws n → saying f (number_for name a b ws) ≡ Some (f n)
+number_said_given : (name : List ℕ) (a b n : ℕ) (f : ℕ → Said) (ws : List (List ℕ)) → b < 2 ^ 32 → SaysNumber name a b ws n
+    → saying f (number_for name a b ws) ≡ Some (f n)
 number_said_given name a b n f ws l g = ap (λ o. saying f o) (for_given name a b n ws l g)
 
 or_some : (a b : Option Said) (s : Said) → or_else a b ≡ Some s → (a ≡ Some s) ⊎ ((a ≡ None) × (b ≡ Some s))
@@ -276,26 +298,32 @@ said_read stage.Managers p ws s e =
 said_read stage.Servers p ws s e =
     let r = number_said_read (codes "servers") 3 12 said.Servers ws s e in (r.0, r.1, ap (behind_said p) r.2)
 said_read stage.FirstGroup p ws s e = group_said_read p ws s e
-said_read stage.Groups p ws s e = at_group (or_some (group_said p.setup ws) (or_else (saying said.Cache (number_for (codes "cache") 1 1024 ws)) (acts_said ws)) s e)
+said_read stage.Groups p ws s e =
+    at_group (or_some (group_said p.setup ws) (or_else (saying said.Cache (number_for (codes "cache") 1 1024 ws)) (acts_said ws)) s e)
   where
-    at_cache : (saying said.Cache (number_for (codes "cache") 1 1024 ws) ≡ Some s) ⊎ ((saying said.Cache (number_for (codes "cache") 1 1024 ws) ≡ None) × (acts_said ws ≡ Some s)) → AddsSetup stage.Groups p ws (behind_said p s)
+    at_cache : (saying said.Cache (number_for (codes "cache") 1 1024 ws) ≡ Some s)
+        ⊎ ((saying said.Cache (number_for (codes "cache") 1 1024 ws) ≡ None) × (acts_said ws ≡ Some s)) → AddsSetup stage.Groups p ws (behind_said p s)
     at_cache (inl x) = let r = number_said_read (codes "cache") 1 1024 said.Cache ws s x in inr (inl (r.0, r.1, ap (behind_said p) r.2))
     at_cache (inr x) = inr (inr (acts_said_read p ws s x.1))
 
-    at_group : (group_said p.setup ws ≡ Some s) ⊎ ((group_said p.setup ws ≡ None) × (or_else (saying said.Cache (number_for (codes "cache") 1 1024 ws)) (acts_said ws) ≡ Some s)) → AddsSetup stage.Groups p ws (behind_said p s)
+    at_group : (group_said p.setup ws ≡ Some s)
+        ⊎ ((group_said p.setup ws ≡ None) × (or_else (saying said.Cache (number_for (codes "cache") 1 1024 ws)) (acts_said ws) ≡ Some s))
+        → AddsSetup stage.Groups p ws (behind_said p s)
     at_group (inl x) = inl (group_said_read p ws s x)
     at_group (inr x) = at_cache (or_some (saying said.Cache (number_for (codes "cache") 1 1024 ws)) (acts_said ws) s x.1)
 said_read stage.Cached p ws s e = acts_said_read p ws s e
 said_read stage.Items p ws s e = absurd (grind (arith, e))
 
 -- a group is none of the lines that begin with another word
-group_word : (servers : ℕ) (ws : List (List ℕ)) (v : List ℕ) → first ws ≡ v → bytes_eq v (codes "group") ≡ false → bytes_eq v (codes "group2") ≡ false → group_of servers ws ≡ None
+group_word : (servers : ℕ) (ws : List (List ℕ)) (v : List ℕ) → first ws ≡ v → bytes_eq v (codes "group") ≡ false → bytes_eq v (codes "group2") ≡ false
+    → group_of servers ws ≡ None
 group_word servers ws v e f g =
     let a : bytes_eq (first ws) (codes "group") ≡ false = ap (λ x. bytes_eq x (codes "group")) e ∙ f in
     let b : bytes_eq (first ws) (codes "group2") ≡ false = ap (λ x. bytes_eq x (codes "group2")) e ∙ g in
     rw (a, b) refl
 
-no_group_said : (p : Place) (ws : List (List ℕ)) (v : List ℕ) → first ws ≡ v → bytes_eq v (codes "group") ≡ false → bytes_eq v (codes "group2") ≡ false → group_said p.setup ws ≡ None
+no_group_said : (p : Place) (ws : List (List ℕ)) (v : List ℕ) → first ws ≡ v → bytes_eq v (codes "group") ≡ false → bytes_eq v (codes "group2") ≡ false
+    → group_said p.setup ws ≡ None
 no_group_said p ws v e f g = at_test (nat_lt (length p.setup.groups) 8)
   where
     at_test : (t : Bool) → (if t then saying said.Group (group_of p.setup.servers ws) else None) ≡ None
@@ -319,13 +347,21 @@ said_given stage.Groups p q ws (inl a) =
     (r.0, ap (λ o. or_else o (or_else (saying said.Cache (number_for (codes "cache") 1 1024 ws)) (acts_said ws))) r.1, r.2)
 said_given stage.Groups p q ws (inr (inl (n, g, e))) =
     let a = number_said_given (codes "cache") 1 1024 n said.Cache ws (omega arith) g in
-    let b = no_group_said p ws (codes "cache") (ap first g.0) refl refl in
-    (said.Cache n, ap (λ o. or_else o (or_else (saying said.Cache (number_for (codes "cache") 1 1024 ws)) (acts_said ws))) b ∙ ap (λ o. or_else o (acts_said ws)) a, e)
+    let b = no_group_said p ws (codes "cache") (ap first g.0) refl refl in (
+      said.Cache n,
+      ap (λ o. or_else o (or_else (saying said.Cache (number_for (codes "cache") 1 1024 ws)) (acts_said ws))) b
+          ∙ ap (λ o. or_else o (acts_said ws)) a,
+      e,
+    )
 said_given stage.Groups p q ws (inr (inr a)) =
     let r = acts_said_given p q ws a in
     let b = no_group_said p ws (codes "acts") (ap first a.0) refl refl in
-    let d = not_cache ws (codes "acts") (ap first a.0) refl in
-    (r.0, ap (λ o. or_else o (or_else (saying said.Cache (number_for (codes "cache") 1 1024 ws)) (acts_said ws))) b ∙ ap (λ o. or_else (saying said.Cache o) (acts_said ws)) d ∙ r.1, r.2)
+    let d = not_cache ws (codes "acts") (ap first a.0) refl in (
+      r.0,
+      ap (λ o. or_else o (or_else (saying said.Cache (number_for (codes "cache") 1 1024 ws)) (acts_said ws))) b
+          ∙ ap (λ o. or_else (saying said.Cache o) (acts_said ws)) d ∙ r.1,
+      r.2,
+    )
 said_given stage.Cached p q ws a = acts_said_given p q ws a
 said_given stage.Items p q ws a = absurd a
 

@@ -234,7 +234,8 @@ Refuses live total n at [] p m k =
 Refuses live total n at (l ∷ ls) p m k =
     (IsPast (record { total = total; number = n; end = at + (length l + 1) }) × (m ≡ n) × (k ≡ TooLong))
     ⊎ ((IsPast (record { total = total; number = n; end = at + (length l + 1) }) → ⊥) × IsBad l p k × (m ≡ n))
-    ⊎ ((IsPast (record { total = total; number = n; end = at + (length l + 1) }) → ⊥) × (q : Place) × Leads n l p q × Refuses live total (n + 1) (at + (length l + 1)) ls q m k)
+    ⊎ ((IsPast (record { total = total; number = n; end = at + (length l + 1) }) → ⊥) × (q : Place) × Leads n l p q
+    × Refuses live total (n + 1) (at + (length l + 1)) ls q m k)
 
 -- the bytes are this script
 abbrev pub IsScriptOf : Bool → List ℕ → Script → Type 0

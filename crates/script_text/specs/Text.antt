@@ -32,4 +32,5 @@ quoted body = 34 ∷ (body ++ 34 ∷ [])
 abbrev pub SpellsText : List ℕ → List ℕ → Type 0
 SpellsText word text =
     ((body : List ℕ) × Writes text body × (word ≡ quoted body))
-    ⊎ ((count : ℕ) × (piece : List ℕ) × (body : List ℕ) × (count < 2 ^ 32) × Writes piece body × (word ≡ decimal count ++ 42 ∷ quoted body) × (text ≡ repeat count piece))
+    ⊎ ((count : ℕ) × (piece : List ℕ) × (body : List ℕ) × (count < 2 ^ 32) × Writes piece body × (word ≡ decimal count ++ 42 ∷ quoted body)
+    × (text ≡ repeat count piece))

@@ -12,7 +12,9 @@ length-header : (h : Head) → length (mark ++ head_text h) ≡ header_length
 length-header h = refl
 
 behind_header : (a : List ℕ) (s : Segment) → IsText a s → drop header_length a ≡ flat_map item_text s.items
-behind_header a s p = ap (λ (l : List ℕ). drop header_length l) p.spelled ∙ drop_at (mark ++ head_text (head_of s)) (flat_map item_text s.items) header_length (length-header (head_of s))
+behind_header a s p =
+    ap (λ (l : List ℕ). drop header_length l) p.spelled
+    ∙ drop_at (mark ++ head_text (head_of s)) (flat_map item_text s.items) header_length (length-header (head_of s))
 
 length-text : (a : List ℕ) (s : Segment) → IsText a s → length a ≡ header_length + length (flat_map item_text s.items)
 length-text a s p = ap (λ (l : List ℕ). length l) p.spelled ∙ length-append (mark ++ head_text (head_of s)) (flat_map item_text s.items)

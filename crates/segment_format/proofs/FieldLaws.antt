@@ -301,7 +301,8 @@ unfolding place_of
 some_from n None h = absurd h
 some_from n (Some p) h = (h, refl)
 
-some_spelled : (o : Option Place) → o ≡ Some (place_of o) → (name_text (place_of o).seg.name ++ to_be_bytes w32 (place_of o).seg.group ++ to_be_bytes w16 (place_of o).item) ++ [] ≡ place_rest o
+some_spelled : (o : Option Place) → o ≡ Some (place_of o)
+    → (name_text (place_of o).seg.name ++ to_be_bytes w32 (place_of o).seg.group ++ to_be_bytes w16 (place_of o).item) ++ [] ≡ place_rest o
 unfolding place_of place_rest
 some_spelled None h = absurd cc
 some_spelled (Some p) h = refl
@@ -350,8 +351,12 @@ flag_spelled (Some p) = refl
 abbrev pub OfRow : BlockId × Entry → Type 0
 OfRow r = FitsRow r × IsRow r
 
-row_spelled : (r : BlockId × Entry) → to_be_bytes w32 r.0.ino.0 ++ (to_be_bytes w32 r.0.blk ++ (to_be_bytes w64 r.1.ver ++ (to_be_bytes w32 r.1.hop ++ (flag_of r.1.place ∷ (place_rest r.1.place ++ []))))) ≡ row_text r
-row_spelled r = ap (λ (l : List ℕ). to_be_bytes w32 r.0.ino.0 ++ (to_be_bytes w32 r.0.blk ++ (to_be_bytes w64 r.1.ver ++ (to_be_bytes w32 r.1.hop ++ l)))) (ap (λ (l : List ℕ). flag_of r.1.place ∷ l) (append-nil (place_rest r.1.place)) ∙ flag_spelled r.1.place)
+row_spelled : (r : BlockId × Entry)
+    → to_be_bytes w32 r.0.ino.0
+    ++ (to_be_bytes w32 r.0.blk ++ (to_be_bytes w64 r.1.ver ++ (to_be_bytes w32 r.1.hop ++ (flag_of r.1.place ∷ (place_rest r.1.place ++ []))))) ≡ row_text r
+row_spelled r =
+    ap (λ (l : List ℕ). to_be_bytes w32 r.0.ino.0 ++ (to_be_bytes w32 r.0.blk ++ (to_be_bytes w64 r.1.ver ++ (to_be_bytes w32 r.1.hop ++ l))))
+    (ap (λ (l : List ℕ). flag_of r.1.place ∷ l) (append-nil (place_rest r.1.place)) ∙ flag_spelled r.1.place)
 
 row-reader : IsReader row_at row_text OfRow
 unfolding row_at

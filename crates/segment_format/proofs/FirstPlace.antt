@@ -56,7 +56,8 @@ ended_more x more h = let t : Segment → SegError → Bool → Answer = λ s d 
 ended-stays : (more : List ℕ) (r r' : Result (Segment × Fields) SegError) (e : SegError) → Stays more r r' → ended r ≡ Err e → IsShort e ⊎ (ended r' ≡ Err e)
 ended-stays more (Ok x) r' e h k =
     let t = trailing (eqb (length x.1.left) 0) x.0 x.1.at e k in
-    let longer : eqb (length (x.1.left ++ more)) 0 ≡ false = ap (λ (n : ℕ). eqb n 0) (length-append x.1.left more) ∙ not_done (length x.1.left) (length more) t.0 in
+    let longer : eqb (length (x.1.left ++ more)) 0 ≡ false =
+    ap (λ (n : ℕ). eqb n 0) (length-append x.1.left more) ∙ not_done (length x.1.left) (length more) t.0 in
     inr (ap (λ (r : Result (Segment × Fields) SegError). ended r) h ∙ ended_more x more longer ∙ ap (λ (d : SegError). refused d) t.1)
 ended-stays more (Err d) r' e (inl s) k = inl (subst (λ (z : SegError). IsShort z) (err_is d e k) s)
 ended-stays more (Err d) r' e (inr h) k = inr (ap (λ (r : Result (Segment × Fields) SegError). ended r) h ∙ k)
@@ -73,10 +74,12 @@ ended-within bytes (Err d) e h k =
 -- ---- fronts
 
 -- the answer to a front, from the answer to all
-front_cut : (j : ℕ) (more bytes : List ℕ) (r r' : Result (Segment × Fields) SegError) (a : Answer) → 0 < length more → Stays more r r' → ended r' ≡ a → ((d : SegError) → r ≡ Err d → place d ≤ j) → ((x : Segment × Fields) → r ≡ Ok x → x.1.at ≤ j) → j < reach bytes a → j < length bytes
+front_cut : (j : ℕ) (more bytes : List ℕ) (r r' : Result (Segment × Fields) SegError) (a : Answer) → 0 < length more → Stays more r r' → ended r' ≡ a
+    → ((d : SegError) → r ≡ Err d → place d ≤ j) → ((x : Segment × Fields) → r ≡ Ok x → x.1.at ≤ j) → j < reach bytes a → j < length bytes
     → (at : ℕ) × (at ≤ j) × (ended r ≡ Err (Short at))
 front_cut j more bytes (Ok x) r' a some h e bad good lt inside =
-    let longer : eqb (length (x.1.left ++ more)) 0 ≡ false = ap (λ (n : ℕ). eqb n 0) (length-append x.1.left more) ∙ some_more (length x.1.left) (length more) some in
+    let longer : eqb (length (x.1.left ++ more)) 0 ≡ false =
+    ap (λ (n : ℕ). eqb n 0) (length-append x.1.left more) ∙ some_more (length x.1.left) (length more) some in
     let all : a ≡ Err (Trailing x.1.at) = sym e ∙ ap (λ (r : Result (Segment × Fields) SegError). ended r) h ∙ ended_more x more longer in
     let far : j < x.1.at = subst (λ (b : Answer). j < reach bytes b) all lt in
     let near : x.1.at ≤ j = good x refl in
@@ -89,10 +92,12 @@ front_cut j more bytes (Err d) r' a some (inr h) e bad good lt inside =
     absurd (omega (arith, far, near))
 
 bad_within : (bytes : List ℕ) (r : Result (Segment × Fields) SegError) (d : SegError) → Ends (whole bytes) r → r ≡ Err d → place d ≤ length bytes
-bad_within bytes r d h e = let k : Ends {A = Segment} (whole bytes) (Err d) = subst (λ (z : Result (Segment × Fields) SegError). Ends {A = Segment} (whole bytes) z) e h in omega (arith, k)
+bad_within bytes r d h e = let k : Ends {A = Segment} (whole bytes) (Err d) =
+    subst (λ (z : Result (Segment × Fields) SegError). Ends {A = Segment} (whole bytes) z) e h in omega (arith, k)
 
 good_within : (bytes : List ℕ) (r : Result (Segment × Fields) SegError) (x : Segment × Fields) → Ends (whole bytes) r → r ≡ Ok x → x.1.at ≤ length bytes
-good_within bytes r x h e = let k : Ends {A = Segment} (whole bytes) (Ok x) = subst (λ (z : Result (Segment × Fields) SegError). Ends {A = Segment} (whole bytes) z) e h in omega (arith, k)
+good_within bytes r x h e = let k : Ends {A = Segment} (whole bytes) (Ok x) =
+    subst (λ (z : Result (Segment × Fields) SegError). Ends {A = Segment} (whole bytes) z) e h in omega (arith, k)
 
 pub fronts_are_cut_off : (bytes : List ℕ) (j : ℕ) → j < length bytes → j < reach bytes (answer_of bytes) → IsCutOff (take j bytes)
 unfolding answer_of
@@ -103,7 +108,9 @@ fronts_are_cut_off bytes j inside lt =
     let some : 0 < length more = omega (arith, length-drop j bytes) in
     let all : answer_of (cut ++ more) ≡ answer_of bytes = ap (λ (l : List ℕ). answer_of l) (take-append-drop j bytes) in
     let r = segment_at (whole cut) in
-    let found = front_cut (length cut) more bytes r (segment_at (whole (cut ++ more))) (answer_of bytes) some (segment-steady.stays (whole cut) more) all (λ d e. bad_within cut r d (segment-steady.ends (whole cut)) e) (λ x e. good_within cut r x (segment-steady.ends (whole cut)) e) (subst (λ (k : ℕ). k < reach bytes (answer_of bytes)) (sym len) lt) (subst (λ (k : ℕ). k < length bytes) (sym len) inside) in
+    let found = front_cut (length cut) more bytes r (segment_at (whole (cut ++ more))) (answer_of bytes) some (segment-steady.stays (whole cut) more) all
+    (λ d e. bad_within cut r d (segment-steady.ends (whole cut)) e) (λ x e. good_within cut r x (segment-steady.ends (whole cut)) e)
+    (subst (λ (k : ℕ). k < reach bytes (answer_of bytes)) (sym len) lt) (subst (λ (k : ℕ). k < length bytes) (sym len) inside) in
     found
 
 stays_on : (bytes more : List ℕ) (e : SegError) → answer_of bytes ≡ Err e → IsShort e ⊎ (answer_of (bytes ++ more) ≡ Err e)
@@ -128,7 +135,8 @@ within : (bytes : List ℕ) (e : SegError) → answer_of bytes ≡ Err e → pla
 unfolding answer_of
 within bytes e h = ended-within bytes (segment_at (whole bytes)) e (segment-steady.ends (whole bytes)) h
 
-all_stays : (bytes : List ℕ) (e : SegError) → answer_of bytes ≡ Err e → IsShort e ⊎ (IsShort e → ⊥) → IsShort e ⊎ ((more : List ℕ) → answer_of (bytes ++ more) ≡ Err e)
+all_stays : (bytes : List ℕ) (e : SegError) → answer_of bytes ≡ Err e → IsShort e ⊎ (IsShort e → ⊥)
+    → IsShort e ⊎ ((more : List ℕ) → answer_of (bytes ++ more) ≡ Err e)
 all_stays bytes e h (inl s) = inl s
 all_stays bytes e h (inr otherwise) = inr (λ more. unless_short e otherwise (stays_on bytes more e h))
 

@@ -120,7 +120,9 @@ OfDelta (Block block value) = ⊥
 OfDelta (Delta block ver hop item) = FitsBlock block × (ver < 2 ^ 64) × (hop < 2 ^ 32) × (item < 2 ^ 16)
 OfDelta (Part slot rows) = ⊥
 
-delta_from : (x : Item) → OfDelta x → FitsBlock (block_of x) × ((ver_of x < 2 ^ 64) × ((hop_of x < 2 ^ 32) × ((number_of x < 2 ^ 16) × (x ≡ Delta (block_of x) (ver_of x) (hop_of x) (number_of x)))))
+delta_from : (x : Item) → OfDelta x
+    → FitsBlock (block_of x)
+    × ((ver_of x < 2 ^ 64) × ((hop_of x < 2 ^ 32) × ((number_of x < 2 ^ 16) × (x ≡ Delta (block_of x) (ver_of x) (hop_of x) (number_of x)))))
 delta_from (Block block value) h = absurd h
 delta_from (Delta block ver hop item) h = (h.0, (h.1, (h.2, (h.3, refl))))
 delta_from (Part slot rows) h = absurd h
@@ -147,7 +149,11 @@ OfPart (Block block value) = ⊥
 OfPart (Delta block ver hop item) = ⊥
 OfPart (Part slot rows) = (slot < 8) × IsRowCount (length rows) × AllByRecursion FitsRow rows × AllByRecursion IsRow rows
 
-part_from : (x : Item) → OfPart x → (slot_of x < 8) × (IsRowCount (length (rows_of x)) × (((length (rows_of x) ≡ length (rows_of x)) × AllByRecursion FitsRow (rows_of x) × AllByRecursion IsRow (rows_of x)) × (x ≡ Part (slot_of x) (rows_of x))))
+part_from : (x : Item) → OfPart x
+    → (slot_of x < 8)
+    × (IsRowCount (length (rows_of x))
+    × (((length (rows_of x) ≡ length (rows_of x)) × AllByRecursion FitsRow (rows_of x) × AllByRecursion IsRow (rows_of x))
+    × (x ≡ Part (slot_of x) (rows_of x))))
 part_from (Block block value) h = absurd h
 part_from (Delta block ver hop item) h = absurd h
 part_from (Part slot rows) h = (h.0, (h.1, ((refl, h.2, h.3), refl)))
@@ -177,7 +183,8 @@ part_item-reader =
     (λ rows x _ h. ap (λ (y : Item). rows_of y) h))
     (λ n x _ h. h.0.0))
     (λ slot x _ h. ap (λ (y : Item). slot_of y) h.1.1))
-    (λ x v. ap (λ (l : List ℕ). slot_of x ∷ to_be_bytes w16 (length (rows_of x)) ++ l) (append-nil (flat_map row_text (rows_of x))) ∙ ap (λ (y : Item). body_text y) (sym v.1.1.1))
+    (λ x v. ap (λ (l : List ℕ). slot_of x ∷ to_be_bytes w16 (length (rows_of x)) ++ l) (append-nil (flat_map row_text (rows_of x)))
+    ∙ ap (λ (y : Item). body_text y) (sym v.1.1.1))
     (λ x v. subst (λ (y : Item). OfPart y) (sym v.1.1.1) (v.0, v.1.0, v.1.1.0.1, v.1.1.0.2))
     (λ x v. part_from x v)
 
@@ -227,10 +234,14 @@ part_body version kind (Part slot rows) k h = (h.0.1.0, h.0.1.1, h.0.0, h.0.1.2)
 third_kind : (kind : ℕ) → IsWithin 1 3 kind → eqb kind 1 ≡ false → eqb kind 2 ≡ false → kind ≡ 3
 third_kind kind w a b = let lo : 1 ≤ kind = w.0 in let hi : kind ≤ 3 = w.1 in grind (arith, nat_tests)
 
-body_cases : (version kind : ℕ) → IsWithin 1 3 kind → (b c : Bool) → eqb kind 1 ≡ b → eqb kind 2 ≡ c → IsReader (cond b (block_item_at version) (cond c delta_item_at part_item_at)) body_text (OfBody version kind)
-body_cases version kind w true c e f = let k = eq_true kind 1 e in as-reader (block_item-reader version) (λ x v. refl) (λ x v. body_block version kind x k v) (λ x v. block_body version kind x k v)
-body_cases version kind w false true e f = let k = eq_true kind 2 f in as-reader delta_item-reader (λ x v. refl) (λ x v. body_delta version kind x k v) (λ x v. delta_body version kind x k v)
-body_cases version kind w false false e f = let k = third_kind kind w e f in as-reader part_item-reader (λ x v. refl) (λ x v. body_part version kind x k v) (λ x v. part_body version kind x k v)
+body_cases : (version kind : ℕ) → IsWithin 1 3 kind → (b c : Bool) → eqb kind 1 ≡ b → eqb kind 2 ≡ c
+    → IsReader (cond b (block_item_at version) (cond c delta_item_at part_item_at)) body_text (OfBody version kind)
+body_cases version kind w true c e f = let k =
+    eq_true kind 1 e in as-reader (block_item-reader version) (λ x v. refl) (λ x v. body_block version kind x k v) (λ x v. block_body version kind x k v)
+body_cases version kind w false true e f = let k =
+    eq_true kind 2 f in as-reader delta_item-reader (λ x v. refl) (λ x v. body_delta version kind x k v) (λ x v. delta_body version kind x k v)
+body_cases version kind w false false e f = let k =
+    third_kind kind w e f in as-reader part_item-reader (λ x v. refl) (λ x v. body_part version kind x k v) (λ x v. part_body version kind x k v)
 
 body-reader : (version kind : ℕ) → IsWithin 1 3 kind → IsReader (body_at version kind) body_text (OfBody version kind)
 unfolding body_at

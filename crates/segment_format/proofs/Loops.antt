@@ -19,11 +19,13 @@ use Rattle.segment_format.specs.Rule.{after}
 abbrev pub with_front : {A : Type 0} → List A → Result (List A × Fields) SegError → Result (List A × Fields) SegError
 with_front front read = read_on read (λ xs. gives (front ++ xs))
 
-regroup : {A : Type 0} (front : List A) (x : A) (read : Result (List A × Fields) SegError) → with_front front (read_on read (λ xs. gives (x ∷ xs))) ≡ with_front (front ++ x ∷ []) read
+regroup : {A : Type 0} (front : List A) (x : A) (read : Result (List A × Fields) SegError)
+    → with_front front (read_on read (λ xs. gives (x ∷ xs))) ≡ with_front (front ++ x ∷ []) read
 regroup front x (Ok r) = ap (λ xs. Ok (xs, r.1)) (simp append_assoc)
 regroup front x (Err e) = refl
 
-fails_on : {A : Type 0} (e : SegError) (front : List A) (read total : Result (List A × Fields) SegError) → Fails e read → with_front front read ≡ total → Fails e total
+fails_on : {A : Type 0} (e : SegError) (front : List A) (read total : Result (List A × Fields) SegError) → Fails e read → with_front front read ≡ total
+    → Fails e total
 fails_on e front read total (inl m) so_far = inl m
 fails_on e front read total (inr h) so_far = inr (sym so_far ∙ ap (with_front front) h)
 
@@ -33,15 +35,18 @@ fails_in e read q (inr h) = inr (ap (λ r. read_on r q) h)
 
 -- ---- rows
 
-pub rows_go_on : (front : List (BlockId × Entry)) (count i : ℕ) (f g : Fields) (row : BlockId × Entry) (total : Result (List (BlockId × Entry) × Fields) SegError) → i < count → row_at f ≡ Ok (row, g)
+pub rows_go_on : (front : List (BlockId × Entry)) (count i : ℕ) (f g : Fields) (row : BlockId × Entry)
+    (total : Result (List (BlockId × Entry) × Fields) SegError) → i < count → row_at f ≡ Ok (row, g)
     → with_front front (rows_at (count - i) f) ≡ total → with_front (front ++ row ∷ []) (rows_at (count - (i + 1)) g) ≡ total
 unfolding rows_at
 rows_go_on front count i f g row total lt h so_far =
     let k : count - i ≡ suc (count - (i + 1)) = omega arith in
-    let one : with_front front (rows_at (count - i) f) ≡ with_front (front ++ row ∷ []) (rows_at (count - (i + 1)) g) = rw (k, h) (regroup front row (rows_at (count - (i + 1)) g)) in
+    let one : with_front front (rows_at (count - i) f) ≡ with_front (front ++ row ∷ []) (rows_at (count - (i + 1)) g) =
+    rw (k, h) (regroup front row (rows_at (count - (i + 1)) g)) in
     sym one ∙ so_far
 
-pub rows_fail : (e : SegError) (front : List (BlockId × Entry)) (count i : ℕ) (f : Fields) (total : Result (List (BlockId × Entry) × Fields) SegError) → i < count → Fails e (row_at f)
+pub rows_fail : (e : SegError) (front : List (BlockId × Entry)) (count i : ℕ) (f : Fields) (total : Result (List (BlockId × Entry) × Fields) SegError)
+    → i < count → Fails e (row_at f)
     → with_front front (rows_at (count - i) f) ≡ total → Fails e total
 unfolding rows_at
 rows_fail e front count i f total lt h so_far =
@@ -49,7 +54,8 @@ rows_fail e front count i f total lt h so_far =
     let here : Fails e (rows_at (count - i) f) = rw k (fails_in e (row_at f) (λ row. rows_at (count - (i + 1)) >>= λ others. gives (row ∷ others)) h) in
     fails_on e front (rows_at (count - i) f) total here so_far
 
-pub rows_end : (front : List (BlockId × Entry)) (count i : ℕ) (f : Fields) (total : Result (List (BlockId × Entry) × Fields) SegError) → count ≤ i → with_front front (rows_at (count - i) f) ≡ total → total ≡ Ok (front, f)
+pub rows_end : (front : List (BlockId × Entry)) (count i : ℕ) (f : Fields) (total : Result (List (BlockId × Entry) × Fields) SegError) → count ≤ i
+    → with_front front (rows_at (count - i) f) ≡ total → total ≡ Ok (front, f)
 unfolding rows_at
 rows_end front count i f total le so_far =
     let k : count - i ≡ 0 = omega arith in
@@ -58,30 +64,37 @@ rows_end front count i f total le so_far =
 
 -- ---- items
 
-pub items_go_on : (version : ℕ) (front : List Item) (seen : Seen) (count i : ℕ) (f g : Fields) (item : Item) (total : Result (List Item × Fields) SegError) → i < count → item_at version seen f ≡ Ok (item, g)
-    → with_front front (items_at version seen (count - i) f) ≡ total → with_front (front ++ item ∷ []) (items_at version (after item seen) (count - (i + 1)) g) ≡ total
+pub items_go_on : (version : ℕ) (front : List Item) (seen : Seen) (count i : ℕ) (f g : Fields) (item : Item) (total : Result (List Item × Fields) SegError)
+    → i < count → item_at version seen f ≡ Ok (item, g)
+    → with_front front (items_at version seen (count - i) f) ≡ total
+    → with_front (front ++ item ∷ []) (items_at version (after item seen) (count - (i + 1)) g) ≡ total
 unfolding items_at
 items_go_on version front seen count i f g item total lt h so_far =
     let k : count - i ≡ suc (count - (i + 1)) = omega arith in
-    let one : with_front front (items_at version seen (count - i) f) ≡ with_front (front ++ item ∷ []) (items_at version (after item seen) (count - (i + 1)) g) = rw (k, h) (regroup front item (items_at version (after item seen) (count - (i + 1)) g)) in
+    let one : with_front front (items_at version seen (count - i) f) ≡ with_front (front ++ item ∷ [])
+    (items_at version (after item seen) (count - (i + 1)) g) = rw (k, h) (regroup front item (items_at version (after item seen) (count - (i + 1)) g)) in
     sym one ∙ so_far
 
-pub items_fail : (version : ℕ) (e : SegError) (front : List Item) (seen : Seen) (count i : ℕ) (f : Fields) (total : Result (List Item × Fields) SegError) → i < count → Fails e (item_at version seen f)
+pub items_fail : (version : ℕ) (e : SegError) (front : List Item) (seen : Seen) (count i : ℕ) (f : Fields) (total : Result (List Item × Fields) SegError)
+    → i < count → Fails e (item_at version seen f)
     → with_front front (items_at version seen (count - i) f) ≡ total → Fails e total
 unfolding items_at
 items_fail version e front seen count i f total lt h so_far =
     let k : count - i ≡ suc (count - (i + 1)) = omega arith in
-    let here : Fails e (items_at version seen (count - i) f) = rw k (fails_in e (item_at version seen f) (λ item. items_at version (after item seen) (count - (i + 1)) >>= λ others. gives (item ∷ others)) h) in
+    let here : Fails e (items_at version seen (count - i) f) =
+    rw k (fails_in e (item_at version seen f) (λ item. items_at version (after item seen) (count - (i + 1)) >>= λ others. gives (item ∷ others)) h) in
     fails_on e front (items_at version seen (count - i) f) total here so_far
 
-pub items_end : (version : ℕ) (front : List Item) (seen : Seen) (count i : ℕ) (f : Fields) (total : Result (List Item × Fields) SegError) → count ≤ i → is_none seen.awaited ≡ true → with_front front (items_at version seen (count - i) f) ≡ total → total ≡ Ok (front, f)
+pub items_end : (version : ℕ) (front : List Item) (seen : Seen) (count i : ℕ) (f : Fields) (total : Result (List Item × Fields) SegError) → count ≤ i
+    → is_none seen.awaited ≡ true → with_front front (items_at version seen (count - i) f) ≡ total → total ≡ Ok (front, f)
 unfolding items_at
 items_end version front seen count i f total le none so_far =
     let k : count - i ≡ 0 = omega arith in
     let one : with_front front (items_at version seen (count - i) f) ≡ Ok (front, f) = rw (k, none) (ap (λ items. Ok (items, f)) (append-nil front)) in
     sym so_far ∙ one
 
-pub items_miss : (version : ℕ) (front : List Item) (seen : Seen) (count i : ℕ) (f : Fields) (total : Result (List Item × Fields) SegError) → count ≤ i → is_none seen.awaited ≡ false → with_front front (items_at version seen (count - i) f) ≡ total → total ≡ Err (BadRef f.at)
+pub items_miss : (version : ℕ) (front : List Item) (seen : Seen) (count i : ℕ) (f : Fields) (total : Result (List Item × Fields) SegError) → count ≤ i
+    → is_none seen.awaited ≡ false → with_front front (items_at version seen (count - i) f) ≡ total → total ≡ Err (BadRef f.at)
 unfolding items_at
 items_miss version front seen count i f total le some so_far =
     let k : count - i ≡ 0 = omega arith in

@@ -77,9 +77,12 @@ end_rule (Some a) n r = absurd r
 -- ---- items
 
 abbrev OfItems : ℕ → ℕ → Seen → List Item → Type 0
-OfItems version n seen items = (length items ≡ n) × AllByRecursion (FullItem version) items × KeepsRule seen.awaited (seen.others + seen.deltas) items × (seen.others + others_in items ≤ most_items) × (seen.deltas + deltas_in items ≤ most_items)
+OfItems version n seen items =
+    (length items ≡ n) × AllByRecursion (FullItem version) items × KeepsRule seen.awaited (seen.others + seen.deltas) items
+    × (seen.others + others_in items ≤ most_items) × (seen.deltas + deltas_in items ≤ most_items)
 
-none_to : (version : ℕ) (seen : Seen) (items : List Item) → seen.others ≤ most_items → seen.deltas ≤ most_items → items ≡ [] → is_none seen.awaited ≡ true → OfItems version 0 seen items
+none_to : (version : ℕ) (seen : Seen) (items : List Item) → seen.others ≤ most_items → seen.deltas ≤ most_items → items ≡ [] → is_none seen.awaited ≡ true
+    → OfItems version 0 seen items
 none_to version seen [] o d e h = (refl, tt, rule_end seen.awaited (seen.others + seen.deltas) h, omega arith, omega arith)
 none_to version seen (x ∷ xs) o d e h = absurd cc
 
@@ -90,20 +93,38 @@ none_from version seen (x ∷ xs) h = absurd (omega (arith, h.0))
 abbrev Next : ℕ → Seen → Item → Type 0
 Next version seen x = FullItem version x × Joins seen x
 
-next_bounds : (version : ℕ) (seen : Seen) (x : Item) → Next version seen x → seen.others ≤ most_items → seen.deltas ≤ most_items → ((after x seen).others ≤ most_items) × ((after x seen).deltas ≤ most_items)
+next_bounds : (version : ℕ) (seen : Seen) (x : Item) → Next version seen x → seen.others ≤ most_items → seen.deltas ≤ most_items
+    → ((after x seen).others ≤ most_items) × ((after x seen).deltas ≤ most_items)
 next_bounds version seen (Block block value) v o d = let lt : seen.others < most_items = v.1.0 in (omega arith, d)
 next_bounds version seen (Delta block ver hop item) v o d = let lt : seen.deltas < most_items = v.1.0 in (o, omega arith)
 next_bounds version seen (Part slot rows) v o d = let lt : seen.others < most_items = v.1.0 in (omega arith, d)
 
-cons_to : (version n : ℕ) (seen : Seen) (x : Item) (xs : List Item) → Next version seen x → OfItems version n (after x seen) xs → OfItems version (suc n) seen (x ∷ xs)
-cons_to version n seen (Block block value) xs v h =
-    (ap suc h.0, (v.0, h.1), rule_cons seen.awaited (seen.others + seen.deltas) (seen.others + 1 + seen.deltas) (Block block value) xs v.1.1 (omega arith) h.2, omega (arith, h.3), omega (arith, h.4))
-cons_to version n seen (Delta block ver hop item) xs v h =
-    (ap suc h.0, (v.0, h.1), rule_cons seen.awaited (seen.others + seen.deltas) (seen.others + (seen.deltas + 1)) (Delta block ver hop item) xs v.1.1 (omega arith) h.2, omega (arith, h.3), omega (arith, h.4))
-cons_to version n seen (Part slot rows) xs v h =
-    (ap suc h.0, (v.0, h.1), rule_cons seen.awaited (seen.others + seen.deltas) (seen.others + 1 + seen.deltas) (Part slot rows) xs v.1.1 (omega arith) h.2, omega (arith, h.3), omega (arith, h.4))
+cons_to : (version n : ℕ) (seen : Seen) (x : Item) (xs : List Item) → Next version seen x → OfItems version n (after x seen) xs
+    → OfItems version (suc n) seen (x ∷ xs)
+cons_to version n seen (Block block value) xs v h = (
+  ap suc h.0,
+  (v.0, h.1),
+  rule_cons seen.awaited (seen.others + seen.deltas) (seen.others + 1 + seen.deltas) (Block block value) xs v.1.1 (omega arith) h.2,
+  omega (arith, h.3),
+  omega (arith, h.4),
+)
+cons_to version n seen (Delta block ver hop item) xs v h = (
+  ap suc h.0,
+  (v.0, h.1),
+  rule_cons seen.awaited (seen.others + seen.deltas) (seen.others + (seen.deltas + 1)) (Delta block ver hop item) xs v.1.1 (omega arith) h.2,
+  omega (arith, h.3),
+  omega (arith, h.4),
+)
+cons_to version n seen (Part slot rows) xs v h = (
+  ap suc h.0,
+  (v.0, h.1),
+  rule_cons seen.awaited (seen.others + seen.deltas) (seen.others + 1 + seen.deltas) (Part slot rows) xs v.1.1 (omega arith) h.2,
+  omega (arith, h.3),
+  omega (arith, h.4),
+)
 
-cons_from : (version n : ℕ) (seen : Seen) (x : Item) (xs : List Item) → OfItems version (suc n) seen (x ∷ xs) → Next version seen x × OfItems version n (after x seen) xs
+cons_from : (version n : ℕ) (seen : Seen) (x : Item) (xs : List Item) → OfItems version (suc n) seen (x ∷ xs)
+    → Next version seen x × OfItems version n (after x seen) xs
 cons_from version n seen (Block block value) xs h =
     let r = rule_uncons seen.awaited (seen.others + seen.deltas) (seen.others + 1 + seen.deltas) (Block block value) xs (omega arith) h.2 in
     let len : length xs ≡ n = omega (arith, h.0) in
@@ -117,15 +138,18 @@ cons_from version n seen (Part slot rows) xs h =
     let len : length xs ≡ n = omega (arith, h.0) in
     ((h.1.0, (omega (arith, h.3), r.0)), (len, h.1.1, r.1, omega (arith, h.3), omega (arith, h.4)))
 
-of_cons_to : (version n : ℕ) (seen : Seen) (items : List Item) → OfCons (Next version seen) (λ x xs. OfItems version n (after x seen) xs) items → OfItems version (suc n) seen items
+of_cons_to : (version n : ℕ) (seen : Seen) (items : List Item) → OfCons (Next version seen) (λ x xs. OfItems version n (after x seen) xs) items
+    → OfItems version (suc n) seen items
 of_cons_to version n seen [] h = absurd h
 of_cons_to version n seen (x ∷ xs) h = cons_to version n seen x xs h.0 h.1
 
-of_cons_from : (version n : ℕ) (seen : Seen) (items : List Item) → OfItems version (suc n) seen items → OfCons (Next version seen) (λ x xs. OfItems version n (after x seen) xs) items
+of_cons_from : (version n : ℕ) (seen : Seen) (items : List Item) → OfItems version (suc n) seen items
+    → OfCons (Next version seen) (λ x xs. OfItems version n (after x seen) xs) items
 of_cons_from version n seen [] h = absurd (omega (arith, h.0))
 of_cons_from version n seen (x ∷ xs) h = cons_from version n seen x xs h
 
-items-reader : (version n : ℕ) (seen : Seen) → seen.others ≤ most_items → seen.deltas ≤ most_items → IsReader (items_at version seen n) (flat_map item_text) (OfItems version n seen)
+items-reader : (version n : ℕ) (seen : Seen) → seen.others ≤ most_items → seen.deltas ≤ most_items
+    → IsReader (items_at version seen n) (flat_map item_text) (OfItems version n seen)
 unfolding items_at
 items-reader version zero seen o d =
     as-reader (checked-reader (λ none. is_none seen.awaited) BadRef (gives-reader []))
@@ -167,7 +191,8 @@ none_long : (items : List Item) → list_any is_long items ≡ false → AllByRe
 none_long [] e h = tt
 none_long (x ∷ xs) e h = let p = or_false (is_long x) (list_any is_long xs) e in (not_long x p.0 h.0, none_long xs p.1 h.1)
 
-needed : (items : List Item) (b : Bool) → list_any is_long items ≡ b → AllByRecursion (IsItem second_version) items → AllByRecursion (IsItem (cond b second_version first_version)) items
+needed : (items : List Item) (b : Bool) → list_any is_long items ≡ b → AllByRecursion (IsItem second_version) items
+    → AllByRecursion (IsItem (cond b second_version first_version)) items
 needed items true e h = h
 needed items false e h = none_long items e h
 
@@ -175,7 +200,8 @@ version_in : (b : Bool) → IsVersion (cond b second_version first_version)
 version_in true = (omega arith, omega arith)
 version_in false = (omega arith, omega arith)
 
-all_fit : (version : ℕ) (items : List Item) → AllByRecursion (FullItem version) items → AllByRecursion FitsItem items × AllByRecursion (IsItem second_version) items
+all_fit : (version : ℕ) (items : List Item) → AllByRecursion (FullItem version) items
+    → AllByRecursion FitsItem items × AllByRecursion (IsItem second_version) items
 all_fit version [] h = (tt, tt)
 all_fit version (x ∷ xs) h = let r = all_fit version xs h.1 in ((h.0.0, r.0), (any_version version x h.0.1, r.1))
 
@@ -213,13 +239,21 @@ parts_of s = (head_of s, s.items)
 
 segment_to : (s : Segment) → OfParts (parts_of s) → OfSegment s
 segment_to s v =
-    let a = all_fit (version_of s.items) s.items v.1.1 in
-    (record { name = v.0.1.0; prior = v.0.2; group = v.0.3; items = a.0 }, record { log = v.0.1.1; items = a.1; others = omega (arith, v.1.3); deltas = omega (arith, v.1.4); rule = v.1.2 })
+    let a = all_fit (version_of s.items) s.items v.1.1 in (
+      record { name = v.0.1.0; prior = v.0.2; group = v.0.3; items = a.0 },
+      record { log = v.0.1.1; items = a.1; others = omega (arith, v.1.3); deltas = omega (arith, v.1.4); rule = v.1.2 },
+    )
 
 segment_from : (s : Segment) → OfSegment s → OfParts (parts_of s)
 segment_from s v = (
   (version_in (list_any is_long s.items), (v.0.name, v.1.log), v.0.prior, v.0.group, omega (arith, kinds_count s.items, v.1.others, v.1.deltas)),
-  (refl, fit_all (version_of s.items) s.items v.0.items (needed s.items (list_any is_long s.items) refl v.1.items), v.1.rule, omega (arith, v.1.others), omega (arith, v.1.deltas)),
+  (
+    refl,
+    fit_all (version_of s.items) s.items v.0.items (needed s.items (list_any is_long s.items) refl v.1.items),
+    v.1.rule,
+    omega (arith, v.1.others),
+    omega (arith, v.1.deltas),
+  ),
   refl,
 )
 
@@ -270,7 +304,8 @@ answer_takes bytes s fits e =
     subst (λ (x : Segment). IsText bytes x × Fits x) a.2 (record { limits = t.1.1; spelled = spelled }, t.1.0)
 
 -- the text of a segment is read as it, whatever follows
-text_again : (s : Segment) (more : List ℕ) → Fits s → KeepsLimits s → segment_at (whole (text_of s ++ more)) ≡ Ok (s, record { left = more; at = length (text_of s) })
+text_again : (s : Segment) (more : List ℕ) → Fits s → KeepsLimits s
+    → segment_at (whole (text_of s ++ more)) ≡ Ok (s, record { left = more; at = length (text_of s) })
 text_again s more fits limits =
     let n : 0 + length (text_of s) ≡ length (text_of s) = omega arith in
     let r : Fields → Result (Segment × Fields) SegError = λ f. Ok (s, f) in

@@ -35,7 +35,8 @@ pub record IsSteady {A : Type 0} (p : Reader A) : Type 0 where
   pub stays : (f : Fields) (more : List ℕ) → Stays more (p f) (p (with_more more f))
   pub ends : (f : Fields) → Ends f (p f)
 
-next-stays : {A B : Type 0} (q : A → Reader B) → ((a : A) → IsSteady (q a)) → (more : List ℕ) (r r' : Result (A × Fields) SegError) → Stays more r r' → Stays more (read_on r q) (read_on r' q)
+next-stays : {A B : Type 0} (q : A → Reader B) → ((a : A) → IsSteady (q a)) → (more : List ℕ) (r r' : Result (A × Fields) SegError) → Stays more r r'
+    → Stays more (read_on r q) (read_on r' q)
 next-stays {A = A} q hq more (Ok x) r' h = subst (λ (z : Result (A × Fields) SegError). Stays more (q x.0 x.1) (read_on z q)) (sym h) ((hq x.0).stays x.1 more)
 next-stays q hq more (Err e) r' (inl s) = inl s
 next-stays {A = A} q hq more (Err e) r' (inr h) = inr (ap (λ (z : Result (A × Fields) SegError). read_on z q) h)
@@ -57,12 +58,15 @@ then-steady {p = p} {q = q} hp hq = record {
 gives-steady : {A : Type 0} (x : A) → IsSteady (gives x)
 gives-steady x = record { stays = λ f more. refl; ends = λ f. refl }
 
-cond-stays : {A : Type 0} (b : Bool) (d : SegError) (more : List ℕ) (x : A × Fields) → Stays more (cond b (Ok x) (Err d)) (cond b (Ok (x.0, with_more more x.1)) (Err d))
+cond-stays : {A : Type 0} (b : Bool) (d : SegError) (more : List ℕ) (x : A × Fields)
+    → Stays more (cond b (Ok x) (Err d)) (cond b (Ok (x.0, with_more more x.1)) (Err d))
 cond-stays true d more x = refl
 cond-stays false d more x = inr refl
 
-judged-stays : {A : Type 0} (test : A → Bool) (d : SegError) (more : List ℕ) (r r' : Result (A × Fields) SegError) → Stays more r r' → Stays more (judged r test d) (judged r' test d)
-judged-stays {A = A} test d more (Ok x) r' h = subst (λ (z : Result (A × Fields) SegError). Stays more (cond (test x.0) (Ok x) (Err d)) (judged z test d)) (sym h) (cond-stays (test x.0) d more x)
+judged-stays : {A : Type 0} (test : A → Bool) (d : SegError) (more : List ℕ) (r r' : Result (A × Fields) SegError) → Stays more r r'
+    → Stays more (judged r test d) (judged r' test d)
+judged-stays {A = A} test d more (Ok x) r' h =
+    subst (λ (z : Result (A × Fields) SegError). Stays more (cond (test x.0) (Ok x) (Err d)) (judged z test d)) (sym h) (cond-stays (test x.0) d more x)
 judged-stays test d more (Err e) r' (inl s) = inl s
 judged-stays {A = A} test d more (Err e) r' (inr h) = inr (ap (λ (z : Result (A × Fields) SegError). judged z test d) h)
 
@@ -70,11 +74,13 @@ cond-ends : {A : Type 0} (b : Bool) (d : SegError) (f : Fields) (x : A × Fields
 cond-ends true d f x at h = h
 cond-ends false d f x at h = omega (arith, at)
 
-judged-ends : {A : Type 0} (test : A → Bool) (d : SegError) (f : Fields) (r : Result (A × Fields) SegError) → place d ≡ f.at → Ends f r → Ends f (judged r test d)
+judged-ends : {A : Type 0} (test : A → Bool) (d : SegError) (f : Fields) (r : Result (A × Fields) SegError) → place d ≡ f.at → Ends f r
+    → Ends f (judged r test d)
 judged-ends test d f (Ok x) at h = cond-ends (test x.0) d f x at h
 judged-ends test d f (Err e) at h = h
 
-checked-steady : {A : Type 0} {p : Reader A} (test : A → Bool) (bad : ℕ → SegError) → ((at : ℕ) → place (bad at) ≡ at) → IsSteady p → IsSteady (checked p test bad)
+checked-steady : {A : Type 0} {p : Reader A} (test : A → Bool) (bad : ℕ → SegError) → ((at : ℕ) → place (bad at) ≡ at) → IsSteady p
+    → IsSteady (checked p test bad)
 checked-steady {p = p} test bad names hp = record {
   stays = λ f more. judged-stays test (bad f.at) more (p f) (p (with_more more f)) (hp.stays f more);
   ends = λ f. judged-ends test (bad f.at) f (p f) (names f.at) (hp.ends f);
@@ -84,13 +90,15 @@ checked-steady {p = p} test bad names hp = record {
 abbrev front : {A : Type 0} → ℕ → (List ℕ → A) → Bool → Fields → Result (A × Fields) SegError
 front n says b f = cond b (Err (Short f.at)) (Ok (says (take n f.left), past n f))
 
-front-stays : {A : Type 0} (n : ℕ) (says : List ℕ → A) (f : Fields) (more : List ℕ) (b c : Bool) → ltb (length f.left) n ≡ b → ltb (length (f.left ++ more)) n ≡ c → Stays more (front n says b f) (front n says c (with_more more f))
+front-stays : {A : Type 0} (n : ℕ) (says : List ℕ → A) (f : Fields) (more : List ℕ) (b c : Bool) → ltb (length f.left) n ≡ b
+    → ltb (length (f.left ++ more)) n ≡ c → Stays more (front n says b f) (front n says c (with_more more f))
 front-stays n says f more true c e g = inl tt
 front-stays {A = A} n says f more false c e g =
     let long : n ≤ length f.left = ltb-false (length f.left) n e in
     let longer : c ≡ false = sym g ∙ le-ltb (length (f.left ++ more)) n (omega (arith, length-append f.left more, long)) in
     let ok : List ℕ → List ℕ → Result (A × Fields) SegError = λ x l. Ok (says x, record { left = l; at = f.at + n }) in
-    ap (λ (b : Bool). front n says b (with_more more f)) longer ∙ ap (λ (x : List ℕ). ok x (drop n (f.left ++ more))) (take-append-le n f.left more long) ∙ ap (λ (l : List ℕ). ok (take n f.left) l) (drop-append-le n f.left more long)
+    ap (λ (b : Bool). front n says b (with_more more f)) longer ∙ ap (λ (x : List ℕ). ok x (drop n (f.left ++ more))) (take-append-le n f.left more long)
+    ∙ ap (λ (l : List ℕ). ok (take n f.left) l) (drop-append-le n f.left more long)
 
 front-ends : {A : Type 0} (n : ℕ) (says : List ℕ → A) (f : Fields) (b : Bool) → ltb (length f.left) n ≡ b → Ends f (front n says b f)
 front-ends n says f true e = omega arith
@@ -124,7 +132,9 @@ pass-steady = then-steady (number-steady w32) (λ inc. then-steady (number-stead
 
 name-steady : IsSteady name_at
 unfolding name_at
-name-steady = then-steady log-steady (λ log. then-steady (number-steady w32) (λ seq. then-steady pass-steady (λ pass. gives-steady (record { log = log; seq = seq; pass = pass }))))
+name-steady =
+    then-steady log-steady
+    (λ log. then-steady (number-steady w32) (λ seq. then-steady pass-steady (λ pass. gives-steady (record { log = log; seq = seq; pass = pass }))))
 
 prior-steady : IsSteady prior_at
 unfolding prior_at
@@ -146,11 +156,16 @@ head-steady =
 
 value-steady : (version : ℕ) → IsSteady (value_at version)
 unfolding value_at
-value-steady version = then-steady (checked-steady (is_length version) BadLength (λ at. refl) (number-steady w16)) (λ n. then-steady (raw-steady n) (λ bytes. gives-steady (Some bytes)))
+value-steady version =
+    then-steady (checked-steady (is_length version) BadLength (λ at. refl) (number-steady w16))
+    (λ n. then-steady (raw-steady n) (λ bytes. gives-steady (Some bytes)))
 
 place-steady : IsSteady place_at
 unfolding place_at
-place-steady = then-steady name-steady (λ name. then-steady (number-steady w32) (λ group. then-steady (number-steady w16) (λ item. gives-steady (record { seg = record { name = name; group = group }; item = item }))))
+place-steady =
+    then-steady name-steady
+    (λ name. then-steady (number-steady w32)
+    (λ group. then-steady (number-steady w16) (λ item. gives-steady (record { seg = record { name = name; group = group }; item = item }))))
 
 flagged-steady : (has : ℕ) → IsSteady (flagged_at has)
 unfolding flagged_at
@@ -174,7 +189,9 @@ rows-steady (suc n) = then-steady row-steady (λ row. then-steady (rows-steady n
 
 kind-steady : (seen : Seen) → IsSteady (kind_at seen)
 unfolding kind_at
-kind-steady seen = checked-steady (may_come seen) BadRef (λ at. refl) (checked-steady (has_room seen) BadLength (λ at. refl) (checked-steady is_kind BadKind (λ at. refl) (number-steady w8)))
+kind-steady seen =
+    checked-steady (may_come seen) BadRef (λ at. refl)
+    (checked-steady (has_room seen) BadLength (λ at. refl) (checked-steady is_kind BadKind (λ at. refl) (number-steady w8)))
 
 block_item-steady : (version : ℕ) → IsSteady (block_item_at version)
 unfolding block_item_at
@@ -212,7 +229,8 @@ item-steady version seen = checked-steady (follows seen.awaited) BadRef (λ at. 
 items-steady : (version n : ℕ) (seen : Seen) → IsSteady (items_at version seen n)
 unfolding items_at
 items-steady version zero seen = checked-steady (λ none. is_none seen.awaited) BadRef (λ at. refl) (gives-steady [])
-items-steady version (suc n) seen = then-steady (item-steady version seen) (λ item. then-steady (items-steady version n (after item seen)) (λ others. gives-steady (item ∷ others)))
+items-steady version (suc n) seen =
+    then-steady (item-steady version seen) (λ item. then-steady (items-steady version n (after item seen)) (λ others. gives-steady (item ∷ others)))
 
 parts-steady : IsSteady parts_at
 unfolding parts_at

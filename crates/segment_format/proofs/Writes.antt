@@ -14,7 +14,8 @@ wrote_3 old a b c first second third = wrote_2 old (a ++ b) c (wrote_2 old a b f
 pub wrote_4 : (old a b c d : List ℕ) {m n o p : List ℕ} → m ≡ old ++ a → n ≡ m ++ b → o ≡ n ++ c → p ≡ o ++ d → p ≡ old ++ (a ++ b ++ c ++ d)
 wrote_4 old a b c d first second third fourth = wrote_2 old (a ++ b ++ c) d (wrote_3 old a b c first second third) fourth
 
-pub wrote_5 : (old a b c d e : List ℕ) {m n o p q : List ℕ} → m ≡ old ++ a → n ≡ m ++ b → o ≡ n ++ c → p ≡ o ++ d → q ≡ p ++ e → q ≡ old ++ (a ++ b ++ c ++ d ++ e)
+pub wrote_5 : (old a b c d e : List ℕ) {m n o p q : List ℕ} → m ≡ old ++ a → n ≡ m ++ b → o ≡ n ++ c → p ≡ o ++ d → q ≡ p ++ e
+    → q ≡ old ++ (a ++ b ++ c ++ d ++ e)
 wrote_5 old a b c d e first second third fourth fifth = wrote_2 old (a ++ b ++ c ++ d) e (wrote_4 old a b c d first second third fourth) fifth
 
 -- each item is a Delta, or a Block or Part

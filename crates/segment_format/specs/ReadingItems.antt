@@ -58,7 +58,8 @@ items_at version seen (suc n) = do
 
 -- what stands behind the mark; the version must be the one that the items need, which is known behind the last of them
 unfoldable pub parts_at : Reader (Head × List Item)
-parts_at = checked (head_at >>= λ head. items_at head.version nothing_seen head.count >>= λ items. gives (head, items)) (λ parts. parts.0.version == version_of parts.1) BadVersion
+parts_at = checked (head_at >>= λ head. items_at head.version nothing_seen head.count >>= λ items. gives (head, items))
+    (λ parts. parts.0.version == version_of parts.1) BadVersion
 
 unfoldable pub segment_at : Reader Segment
 segment_at = do

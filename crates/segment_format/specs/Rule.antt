@@ -44,7 +44,8 @@ nothing_seen = record { others = 0; deltas = 0; awaited = None }
 
 -- what is seen behind this item
 abbrev pub after : Item → Seen → Seen
-after (Block block value) seen = record { others = seen.others + 1; deltas = seen.deltas; awaited = Some (record { block = block; item = seen.others + seen.deltas }) }
+after (Block block value) seen =
+    record { others = seen.others + 1; deltas = seen.deltas; awaited = Some (record { block = block; item = seen.others + seen.deltas }) }
 after (Delta block ver hop item) seen = record { others = seen.others; deltas = seen.deltas + 1; awaited = None }
 after (Part slot rows) seen = record { others = seen.others + 1; deltas = seen.deltas; awaited = None }
 

@@ -12,9 +12,12 @@ use Rattle.fragment_store.specs.ShelfState.{ShelfState, is_marked, fence_of}
 
 -- a shelf never refuses a fragment for want of memory
 pub not_memory : (s : ShelfState) (name : SegName) (generation : ℕ) → store_refused s name generation ≡ Some Memory → ⊥
-not_memory s name generation = by_tests (not (nat_eq generation s.generation)) (is_marked s.marks name) (is_greater (pass_cmp (fence_of s.fences name.log) name.pass)) s.generation (fence_of s.fences name.log)
+not_memory s name generation =
+    by_tests (not (nat_eq generation s.generation)) (is_marked s.marks name) (is_greater (pass_cmp (fence_of s.fences name.log) name.pass)) s.generation
+    (fence_of s.fences name.log)
   where
-    by_tests : (a b c : Bool) (g : ℕ) (fence : Pass) → cond a (Some (WrongGeneration g)) (cond b (Some Marked) (cond c (Some (Fenced fence)) None)) ≡ Some Memory → ⊥
+    by_tests : (a b c : Bool) (g : ℕ) (fence : Pass)
+        → cond a (Some (WrongGeneration g)) (cond b (Some Marked) (cond c (Some (Fenced fence)) None)) ≡ Some Memory → ⊥
     by_tests true b c g fence e = cc
     by_tests false true c g fence e = cc
     by_tests false false true g fence e = cc

@@ -37,7 +37,10 @@ abbrev pub fetch_asked : Node → Option Rebuilding → ℕ → SegName → ℕ 
 fetch_asked node None server name own = still node
 fetch_asked node (Some r) server name own =
     record {
-      state = record node { questions = drawn_for r.fetches node.questions own; rebuilding = Some (record r { fetches = asked_as r.fetches node.questions own }) };
+      state = record node {
+        questions = drawn_for r.fetches node.questions own;
+        rebuilding = Some (record r { fetches = asked_as r.fetches node.questions own });
+      };
       outs = Send (Server server) (body.Fetch (record { name = name; ask = number_for r.fetches node.questions own })) ∷ [];
     }
 
@@ -50,7 +53,8 @@ says node (out.Finished filled gone) =
 
 abbrev pub goes_on : Node → Option Rebuilding → In → Done
 goes_on node None given = still node
-goes_on node (Some r) given = steps says (record node { rebuilding = Some (record r { rebuild = (transition r.rebuild given).state }) }) (transition r.rebuild given).outs
+goes_on node (Some r) given =
+    steps says (record node { rebuilding = Some (record r { rebuild = (transition r.rebuild given).state }) }) (transition r.rebuild given).outs
 
 -- the rebuild that is under way takes an input, and what it says is done
 unfoldable pub rebuilds : Node → In → Done

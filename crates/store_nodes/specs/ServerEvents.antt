@@ -167,7 +167,13 @@ on_packet node packet = if is_well_formed node.peers packet then on_body node pa
 -- the disk is lost: a rebuild is cut, and the next generation begins with nothing and says Hello
 unfoldable pub on_lose : Node → ℕ → Done
 on_lose node number = record {
-  state = record node { items = answered node.items; rebuilding = None; shelf = lost node.shelf; questions = drawn node.questions; hello = Some (next_ask node.questions) };
+  state = record node {
+    items = answered node.items;
+    rebuilding = None;
+    shelf = lost node.shelf;
+    questions = drawn node.questions;
+    hello = Some (next_ask node.questions);
+  };
   outs = answers_unanswered node.items.unanswered answers.Cut ++ Answer number answers.Done ∷ hello_of (lost node.shelf) (next_ask node.questions) ∷ [];
 }
 

@@ -61,7 +61,8 @@ module _ (slots : List SlotNews) where
   abbrev IsCandidate : SegName → Type 0
   IsCandidate name = is_candidate slots name ≡ true
 
-  candidates_stay : (held : List FragMeta) (es : List (SegName × ℕ)) → AllByRecursion IsCandidate (keys_of es) → AllByRecursion IsCandidate (keys_of (candidates_with slots held es))
+  candidates_stay : (held : List FragMeta) (es : List (SegName × ℕ)) → AllByRecursion IsCandidate (keys_of es)
+      → AllByRecursion IsCandidate (keys_of (candidates_with slots held es))
   candidates_stay [] es all = all
   candidates_stay (m ∷ held) es all =
       candidates_stay held (candidates_with_one slots es m)
@@ -72,19 +73,22 @@ module _ (slots : List SlotNews) where
 -- a candidate is below
 candidate_is_below : (slots : List SlotNews) (name : SegName) → is_candidate slots name ≡ true → name.seq < least_horizon slots name.log.0
 candidate_is_below slots name h =
-    let below : nat_lt name.seq (least_horizon slots name.log.0) ≡ true = and_second (is_cleaned name.log.0) (nat_lt name.seq (least_horizon slots name.log.0)) h in
+    let below : nat_lt name.seq (least_horizon slots name.log.0) ≡ true =
+    and_second (is_cleaned name.log.0) (nat_lt name.seq (least_horizon slots name.log.0)) h in
     grind (arith, nat_tests, below)
 
 -- ---- the ranking
 
 module _ (P : SegName → Type 0) where
-  ranked_from : (usages : _) (candidates : List (SegName × ℕ)) (es : List (Rank × ℕ)) → AllByRecursion P (keys_of candidates) → AllByRecursion (λ (r : Rank). P r.name) (keys_of es)
+  ranked_from : (usages : _) (candidates : List (SegName × ℕ)) (es : List (Rank × ℕ)) → AllByRecursion P (keys_of candidates)
+      → AllByRecursion (λ (r : Rank). P r.name) (keys_of es)
       → AllByRecursion (λ (r : Rank). P r.name) (keys_of (fold (ranked_with_one usages) es candidates))
   ranked_from usages [] es all sofar = sofar
   ranked_from usages (c ∷ cs) es all sofar =
       ranked_from usages cs (ranked_with_one usages es c) all.1 (all_put (λ (r : Rank). P r.name) rank_cmp es (rank_of usages c.0) c.1 sofar all.0)
 
-  first_from : (n : ℕ) (es : List (Rank × ℕ)) → AllByRecursion (λ (r : Rank). P r.name) (keys_of es) → AllByRecursion (λ (s : SegRef). P s.name) (map segment_at (take n es))
+  first_from : (n : ℕ) (es : List (Rank × ℕ)) → AllByRecursion (λ (r : Rank). P r.name) (keys_of es)
+      → AllByRecursion (λ (s : SegRef). P s.name) (map segment_at (take n es))
   first_from zero es all = tt
   first_from (suc n) [] all = tt
   first_from (suc n) (e ∷ es) all = (all.0, first_from n es all.1)
@@ -150,10 +154,13 @@ module _ (start : CleaningState) where
     deleting_is_below : (j : JobState) (segment : SegRef) → AllBelow j segment → Fine (deleting j segment)
     deleting_is_below j segment b = (b, says_deletes segment.name (servers_of j.groups segment) b.0)
 
-    deleted_is_below : (server : ℕ) (name : SegName) (j : JobState) (segment : SegRef) (servers : List ℕ) → AllBelow j segment → Fine (on_deleted server name j segment servers)
+    deleted_is_below : (server : ℕ) (name : SegName) (j : JobState) (segment : SegRef) (servers : List ℕ) → AllBelow j segment
+        → Fine (on_deleted server name j segment servers)
     deleted_is_below server name j segment servers b =
-        by_test Fine (same_name name segment.name && is_among servers server) (left_to_delete j segment (without servers server)) (still (Deleting j segment servers))
-        (λ t. by_test Fine (length (without servers server) == 0) (next (counted j)) (still (Deleting j segment (without servers server))) (λ u. next_is_below j.left (counted j) b.1) (λ u. (b, tt)))
+        by_test Fine (same_name name segment.name && is_among servers server) (left_to_delete j segment (without servers server))
+        (still (Deleting j segment servers))
+        (λ t. by_test Fine (length (without servers server) == 0) (next (counted j)) (still (Deleting j segment (without servers server)))
+        (λ u. next_is_below j.left (counted j) b.1) (λ u. (b, tt)))
         (λ t. (b, tt))
 
     checking_is_below : (j : JobState) (segment : SegRef) (checks : List Check) → AllBelow j segment → Fine (checking j segment checks)
@@ -163,16 +170,21 @@ module _ (start : CleaningState) where
         (λ t. deleting_is_below j segment b)
         (λ t. (b, says_questions segment checks))
 
-    looked_is_below : (j : JobState) (segment : SegRef) (was_asked : Bool) (checks : List Check) → AllBelow j segment → Fine (looked_at j segment was_asked checks)
+    looked_is_below : (j : JobState) (segment : SegRef) (was_asked : Bool) (checks : List Check) → AllBelow j segment
+        → Fine (looked_at j segment was_asked checks)
     unfolding looked_at
     looked_is_below j segment was_asked checks b =
-        by_test Fine (all_dead checks) (deleting j segment) (cond (was_asked && not (any_asked checks)) (record { state = Checking j segment checks; outs = out.Move (moves checks) ∷ [] }) (still (Checking j segment checks)))
+        by_test Fine (all_dead checks) (deleting j segment)
+        (cond (was_asked && not (any_asked checks)) (record { state = Checking j segment checks; outs = out.Move (moves checks) ∷ [] })
+        (still (Checking j segment checks)))
         (λ t. deleting_is_below j segment b)
-        (λ t. by_test Fine (was_asked && not (any_asked checks)) (record { state = Checking j segment checks; outs = out.Move (moves checks) ∷ [] }) (still (Checking j segment checks)) (λ u. (b, (tt, tt))) (λ u. (b, tt)))
+        (λ t. by_test Fine (was_asked && not (any_asked checks)) (record { state = Checking j segment checks; outs = out.Move (moves checks) ∷ [] })
+        (still (Checking j segment checks)) (λ u. (b, (tt, tt))) (λ u. (b, tt)))
 
     moved_is_below : (j : JobState) (segment : SegRef) (checks : List Check) → AllBelow j segment → Fine (on_moved j segment checks)
     moved_is_below j segment checks b =
-        by_test Fine (is_moving checks) (record { state = Checking j segment (map moved_at checks); outs = questions segment (map moved_at checks) }) (still (Checking j segment checks))
+        by_test Fine (is_moving checks) (record { state = Checking j segment (map moved_at checks); outs = questions segment (map moved_at checks) })
+        (still (Checking j segment checks))
         (λ t. (b, says_questions segment (map moved_at checks)))
         (λ t. (b, tt))
 
@@ -186,8 +198,13 @@ module _ (start : CleaningState) where
     -- once all lists are in, each candidate is below
     listed_is_below : (l : ListingState) → BelowIn (Listing l) → Fine (listed l)
     listed_is_below l b =
-        by_test Fine (length l.awaited == 0) (record { state = Counting (record { groups = l.groups; candidates = l.candidates; usages = [] }); outs = usage_asks all_slots }) (still (Listing l))
-        (λ t. (all_moved_to (λ name. is_candidate l.slots name ≡ true) Below (keys_of l.candidates) (λ name c. record { slots = l.slots; welcomed = b.0; below = candidate_is_below l.slots name c }) b.1, says_usage_asks all_slots))
+        by_test Fine (length l.awaited == 0)
+        (record { state = Counting (record { groups = l.groups; candidates = l.candidates; usages = [] }); outs = usage_asks all_slots }) (still (Listing l))
+        (λ t. (
+          all_moved_to (λ name. is_candidate l.slots name ≡ true) Below (keys_of l.candidates)
+              (λ name c. record { slots = l.slots; welcomed = b.0; below = candidate_is_below l.slots name c }) b.1,
+          says_usage_asks all_slots,
+        ))
         (λ t. (b, tt))
 
     list_is_below : (server : ℕ) (held : List FragMeta) (l : ListingState) → BelowIn (Listing l) → Fine (on_list server held l)
@@ -212,7 +229,8 @@ module _ (start : CleaningState) where
 
     forgetting_is_below : (slot : ℕ) (p : Phase) → BelowIn p → Fine (forgetting slot p)
     forgetting_is_below slot (Counting c) b =
-        by_test Fine (has_usage c.usages slot) (record { state = Counting (forgotten slot c); outs = out.UsageAsk slot ∷ [] }) (still (Counting c)) (λ t. (b, (tt, tt))) (λ t. (b, tt))
+        by_test Fine (has_usage c.usages slot) (record { state = Counting (forgotten slot c); outs = out.UsageAsk slot ∷ [] }) (still (Counting c))
+        (λ t. (b, (tt, tt))) (λ t. (b, tt))
     forgetting_is_below slot p b = (b, tt)
 
     mapped_is_below : (groups : GroupMapState) (p : Phase) → BelowIn p → BelowIn (mapped groups p)
@@ -259,23 +277,41 @@ module _ (start : CleaningState) where
   in_later history i Greeting b = tt
   in_later history i (Listing l) b = (welcomed_later history i l.slots b.0, b.1)
   in_later history i (Counting c) b = all_moved_to (IsBelow start history) (IsBelow start (i ∷ history)) (keys_of c.candidates) (below_later history i) b
-  in_later history i (Reading j segment) b = (below_later history i segment.name b.0, all_moved_to (λ (s : SegRef). IsBelow start history s.name) (λ (s : SegRef). IsBelow start (i ∷ history) s.name) j.left (λ s. below_later history i s.name) b.1)
-  in_later history i (Checking j segment checks) b = (below_later history i segment.name b.0, all_moved_to (λ (s : SegRef). IsBelow start history s.name) (λ (s : SegRef). IsBelow start (i ∷ history) s.name) j.left (λ s. below_later history i s.name) b.1)
-  in_later history i (Deleting j segment servers) b = (below_later history i segment.name b.0, all_moved_to (λ (s : SegRef). IsBelow start history s.name) (λ (s : SegRef). IsBelow start (i ∷ history) s.name) j.left (λ s. below_later history i s.name) b.1)
+  in_later history i (Reading j segment) b = (
+    below_later history i segment.name b.0,
+    all_moved_to (λ (s : SegRef). IsBelow start history s.name) (λ (s : SegRef). IsBelow start (i ∷ history) s.name) j.left
+        (λ s. below_later history i s.name) b.1,
+  )
+  in_later history i (Checking j segment checks) b = (
+    below_later history i segment.name b.0,
+    all_moved_to (λ (s : SegRef). IsBelow start history s.name) (λ (s : SegRef). IsBelow start (i ∷ history) s.name) j.left
+        (λ s. below_later history i s.name) b.1,
+  )
+  in_later history i (Deleting j segment servers) b = (
+    below_later history i segment.name b.0,
+    all_moved_to (λ (s : SegRef). IsBelow start history s.name) (λ (s : SegRef). IsBelow start (i ∷ history) s.name) j.left
+        (λ s. below_later history i s.name) b.1,
+  )
   in_later history i Over b = tt
 
-  welcome_is_below : (history : List In) (slots : List SlotNews) (groups : GroupMapState) → BelowIn (input.Welcome slots groups ∷ history) (state_after start history).phase → FineDone (input.Welcome slots groups ∷ history) (on_welcome (state_after start history) slots groups)
+  welcome_is_below : (history : List In) (slots : List SlotNews) (groups : GroupMapState)
+      → BelowIn (input.Welcome slots groups ∷ history) (state_after start history).phase
+      → FineDone (input.Welcome slots groups ∷ history) (on_welcome (state_after start history) slots groups)
   unfolding on_welcome
   welcome_is_below history slots groups b =
       let s : CleaningState = state_after start history in
       by_test (FineDone (input.Welcome slots groups ∷ history)) (is_greeting s.phase && (length slots == 8)) (welcomed s slots groups) (still s)
-      (λ t. ((record { groups = groups; later = []; before = history; split = refl; awaited = and_first (is_greeting s.phase) (length slots == 8) t }, tt), says_lists (input.Welcome slots groups ∷ history) (begun slots groups).awaited))
+      (λ t. (
+        (record { groups = groups; later = []; before = history; split = refl; awaited = and_first (is_greeting s.phase) (length slots == 8) t }, tt),
+        says_lists (input.Welcome slots groups ∷ history) (begun slots groups).awaited,
+      ))
       (λ t. (b, tt))
 
   promise_is_below : (h : List In) (s : CleaningState) (slot epoch : ℕ) → BelowIn h s.phase → FineDone h (on_promise s slot epoch)
   unfolding on_promise
   promise_is_below h s slot epoch b =
-      by_test (FineDone h) (is_above s.promised slot epoch) (turned (record s { promised = promised_with s.promised slot epoch }) (forgetting slot s.phase)) (still s)
+      by_test (FineDone h) (is_above s.promised slot epoch) (turned (record s { promised = promised_with s.promised slot epoch }) (forgetting slot s.phase))
+      (still s)
       (λ t. forgetting_is_below h slot s.phase b)
       (λ t. (b, tt))
 
@@ -300,14 +336,17 @@ module _ (start : CleaningState) where
       (λ t. answered_in_below h (dead_at block) s.phase b)
       (λ t. (b, tt))
 
-  turn_is_below : (history : List In) (i : In) → BelowIn (i ∷ history) (state_after start history).phase → FineDone (i ∷ history) (transition (state_after start history) i)
+  turn_is_below : (history : List In) (i : In) → BelowIn (i ∷ history) (state_after start history).phase
+      → FineDone (i ∷ history) (transition (state_after start history) i)
   turn_is_below history (input.Welcome slots groups) b = welcome_is_below history slots groups b
   turn_is_below history (input.Promise slot epoch) b = promise_is_below (input.Promise slot epoch ∷ history) (state_after start history) slot epoch b
   turn_is_below history (input.Maps groups) b = (mapped_is_below (input.Maps groups ∷ history) groups (state_after start history).phase b, tt)
   turn_is_below history (input.Listed server held) b = listed_in_below (input.Listed server held ∷ history) server held (state_after start history).phase b
-  turn_is_below history (input.Usage slot epoch counts) b = usage_is_below (input.Usage slot epoch counts ∷ history) (state_after start history) slot epoch counts b
+  turn_is_below history (input.Usage slot epoch counts) b =
+      usage_is_below (input.Usage slot epoch counts ∷ history) (state_after start history) slot epoch counts b
   turn_is_below history (input.Read read) b = read_in_below (input.Read read ∷ history) read (state_after start history).phase b
-  turn_is_below history (input.Live block epoch entry) b = live_is_below (input.Live block epoch entry ∷ history) (state_after start history) block epoch entry b
+  turn_is_below history (input.Live block epoch entry) b =
+      live_is_below (input.Live block epoch entry ∷ history) (state_after start history) block epoch entry b
   turn_is_below history (input.Dead block epoch) b = dead_is_below (input.Dead block epoch ∷ history) (state_after start history) block epoch b
   turn_is_below history input.Moved b = moved_in_below (input.Moved ∷ history) (state_after start history).phase b
   turn_is_below history (input.Deleted server name) b = deleted_in_below (input.Deleted server name ∷ history) server name (state_after start history).phase b
@@ -317,5 +356,8 @@ module _ (start : CleaningState) where
   below_always b [] = b
   below_always b (i ∷ history) = (turn_is_below history i (in_later history i (state_after start history).phase (below_always b history))).0
 
-pub all_empties_below : (count : ℕ) (history : List In) (i : In) → AllByRecursion (EmptiesBelow (started count) (i ∷ history)) (transition (state_after (started count) history) i).outs
-all_empties_below count history i = (turn_is_below (started count) history i (in_later (started count) history i (state_after (started count) history).phase (below_always (started count) tt history))).1
+pub all_empties_below : (count : ℕ) (history : List In) (i : In)
+    → AllByRecursion (EmptiesBelow (started count) (i ∷ history)) (transition (state_after (started count) history) i).outs
+all_empties_below count history i =
+    (turn_is_below (started count) history i
+    (in_later (started count) history i (state_after (started count) history).phase (below_always (started count) tt history))).1

@@ -92,7 +92,8 @@ blocks-checks n (Block block value ∷ items) = ap (λ bs. block ∷ bs) (blocks
 blocks-checks n (Delta block ver hop item ∷ items) = blocks-checks (n + 1) items
 blocks-checks n (Part slot rows ∷ items) = blocks-checks (n + 1) items
 
-blocks-map : (f : Check → Check) → ((c : Check) → (f c).block ≡ c.block) → (checks : List Check) → map (λ (c : Check). c.block) (map f checks) ≡ map (λ (c : Check). c.block) checks
+blocks-map : (f : Check → Check) → ((c : Check) → (f c).block ≡ c.block) → (checks : List Check)
+    → map (λ (c : Check). c.block) (map f checks) ≡ map (λ (c : Check). c.block) checks
 blocks-map f same [] = refl
 blocks-map f same (c ∷ cs) = λ k. same c k ∷ blocks-map f same cs k
 
@@ -132,7 +133,8 @@ module _ (start : CleaningState) where
 
   -- an input that changes the checks as it changes the stages
   checked_with : (history : List In) (i : In) (name : SegName) (checks : List Check) (f : Check → Check) → ((c : Check) → (f c).block ≡ c.block)
-      → ((c : Check) → stage_of (f c).fate ≡ stage_with (state_after start history) i c.block (stage_of c.fate)) → IsChecked history name checks → IsChecked (i ∷ history) name (map f checks)
+      → ((c : Check) → stage_of (f c).fate ≡ stage_with (state_after start history) i c.block (stage_of c.fate)) → IsChecked history name checks
+      → IsChecked (i ∷ history) name (map f checks)
   checked_with history i name checks f same moves k = record {
     segment = k.segment;
     later = i ∷ k.later;
@@ -150,7 +152,8 @@ module _ (start : CleaningState) where
       here : state_after start history ≡ state_after from k.later
       here = ap (state_after start) k.split ∙ joined start k.later (input.Read (Some k.segment) ∷ k.before)
 
-      go : (cs : List Check) → AllByRecursion (λ (c : Check). stage_of c.fate ≡ stage_after from k.later c.block) cs → AllByRecursion (λ (c : Check). stage_of c.fate ≡ stage_after from (i ∷ k.later) c.block) (map f cs)
+      go : (cs : List Check) → AllByRecursion (λ (c : Check). stage_of c.fate ≡ stage_after from k.later c.block) cs
+          → AllByRecursion (λ (c : Check). stage_of c.fate ≡ stage_after from (i ∷ k.later) c.block) (map f cs)
       go [] all = tt
       go (c ∷ cs) all = (
         moves c ∙ ap (λ (s : CleaningState). stage_with s i c.block (stage_of c.fate)) here ∙ ap (stage_with (state_after from k.later) i c.block) all.0
@@ -159,7 +162,8 @@ module _ (start : CleaningState) where
       )
 
   -- an input that changes neither
-  checked_later : (history : List In) (i : In) (name : SegName) (checks : List Check) → ((b : BlockId) (x : Stage) → stage_with (state_after start history) i b x ≡ x) → IsChecked history name checks → IsChecked (i ∷ history) name checks
+  checked_later : (history : List In) (i : In) (name : SegName) (checks : List Check)
+      → ((b : BlockId) (x : Stage) → stage_with (state_after start history) i b x ≡ x) → IsChecked history name checks → IsChecked (i ∷ history) name checks
   checked_later history i name checks stays k = record {
     segment = k.segment;
     later = i ∷ k.later;
@@ -177,15 +181,18 @@ module _ (start : CleaningState) where
       here : state_after start history ≡ state_after from k.later
       here = ap (state_after start) k.split ∙ joined start k.later (input.Read (Some k.segment) ∷ k.before)
 
-      go : (cs : List Check) → AllByRecursion (λ (c : Check). stage_of c.fate ≡ stage_after from k.later c.block) cs → AllByRecursion (λ (c : Check). stage_of c.fate ≡ stage_after from (i ∷ k.later) c.block) cs
+      go : (cs : List Check) → AllByRecursion (λ (c : Check). stage_of c.fate ≡ stage_after from k.later c.block) cs
+          → AllByRecursion (λ (c : Check). stage_of c.fate ≡ stage_after from (i ∷ k.later) c.block) cs
       go [] all = tt
       go (c ∷ cs) all = (
-        sym (stays c.block (stage_of c.fate)) ∙ ap (λ (s : CleaningState). stage_with s i c.block (stage_of c.fate)) here ∙ ap (stage_with (state_after from k.later) i c.block) all.0,
+        sym (stays c.block (stage_of c.fate)) ∙ ap (λ (s : CleaningState). stage_with s i c.block (stage_of c.fate)) here
+            ∙ ap (stage_with (state_after from k.later) i c.block) all.0,
         go cs all.1,
       )
 
   -- a segment of which each check is dead is emptied
-  emptied_from : (history : List In) (name : SegName) (checks : List Check) → all_dead checks ≡ true → IsChecked history name checks → IsEmptied start history name
+  emptied_from : (history : List In) (name : SegName) (checks : List Check) → all_dead checks ≡ true → IsChecked history name checks
+      → IsEmptied start history name
   emptied_from history name checks dead k = record {
     segment = k.segment;
     later = k.later;
@@ -199,12 +206,15 @@ module _ (start : CleaningState) where
       from : CleaningState
       from = state_after start (input.Read (Some k.segment) ∷ k.before)
 
-      go : (cs : List Check) → all_dead cs ≡ true → AllByRecursion (λ (c : Check). stage_of c.fate ≡ stage_after from k.later c.block) cs → AllByRecursion (λ b. stage_after from k.later b ≡ Dead) (map (λ (c : Check). c.block) cs)
+      go : (cs : List Check) → all_dead cs ≡ true → AllByRecursion (λ (c : Check). stage_of c.fate ≡ stage_after from k.later c.block) cs
+          → AllByRecursion (λ b. stage_after from k.later b ≡ Dead) (map (λ (c : Check). c.block) cs)
       go [] d all = tt
-      go (c ∷ cs) d all = (sym all.0 ∙ dead-stage c.fate (and_first (is_dead c.fate) (all_dead cs) d), go cs (and_second (is_dead c.fate) (all_dead cs) d) all.1)
+      go (c ∷ cs) d all =
+          (sym all.0 ∙ dead-stage c.fate (and_first (is_dead c.fate) (all_dead cs) d), go cs (and_second (is_dead c.fate) (all_dead cs) d) all.1)
 
   -- a segment that is read is checked
-  checked_first : (history : List In) (segment : Segment) (name : SegName) → reads name (state_after start history).phase → segment.name ≡ name → IsChecked (input.Read (Some segment) ∷ history) name (checks_from 0 segment.items)
+  checked_first : (history : List In) (segment : Segment) (name : SegName) → reads name (state_after start history).phase → segment.name ≡ name
+      → IsChecked (input.Read (Some segment) ∷ history) name (checks_from 0 segment.items)
   checked_first history segment name awaited named = record {
     segment = segment;
     later = [];
@@ -261,10 +271,13 @@ module _ (start : CleaningState) where
     deleting_fine : (j : JobState) (segment : SegRef) → IsEmptied start history segment.name → Fine (deleting j segment)
     deleting_fine j segment e = (e, says_deletes segment.name (servers_of j.groups segment) e)
 
-    deleted_fine : (server : ℕ) (name : SegName) (j : JobState) (segment : SegRef) (servers : List ℕ) → IsEmptied start history segment.name → Fine (on_deleted server name j segment servers)
+    deleted_fine : (server : ℕ) (name : SegName) (j : JobState) (segment : SegRef) (servers : List ℕ) → IsEmptied start history segment.name
+        → Fine (on_deleted server name j segment servers)
     deleted_fine server name j segment servers e =
-        by_test Fine (same_name name segment.name && is_among servers server) (left_to_delete j segment (without servers server)) (still (Deleting j segment servers))
-        (λ t. by_test Fine (length (without servers server) == 0) (next (counted j)) (still (Deleting j segment (without servers server))) (λ u. next_fine j.left (counted j)) (λ u. (e, tt)))
+        by_test Fine (same_name name segment.name && is_among servers server) (left_to_delete j segment (without servers server))
+        (still (Deleting j segment servers))
+        (λ t. by_test Fine (length (without servers server) == 0) (next (counted j)) (still (Deleting j segment (without servers server)))
+        (λ u. next_fine j.left (counted j)) (λ u. (e, tt)))
         (λ t. (e, tt))
 
     checking_fine : (j : JobState) (segment : SegRef) (checks : List Check) → IsChecked history segment.name checks → Fine (checking j segment checks)
@@ -274,23 +287,29 @@ module _ (start : CleaningState) where
         (λ t. deleting_fine j segment (emptied_from history segment.name checks t k))
         (λ t. (k, says_questions segment checks))
 
-    looked_fine : (j : JobState) (segment : SegRef) (was_asked : Bool) (checks : List Check) → IsChecked history segment.name checks → Fine (looked_at j segment was_asked checks)
+    looked_fine : (j : JobState) (segment : SegRef) (was_asked : Bool) (checks : List Check) → IsChecked history segment.name checks
+        → Fine (looked_at j segment was_asked checks)
     unfolding looked_at
     looked_fine j segment was_asked checks k =
-        by_test Fine (all_dead checks) (deleting j segment) (cond (was_asked && not (any_asked checks)) (record { state = Checking j segment checks; outs = out.Move (moves checks) ∷ [] }) (still (Checking j segment checks)))
+        by_test Fine (all_dead checks) (deleting j segment)
+        (cond (was_asked && not (any_asked checks)) (record { state = Checking j segment checks; outs = out.Move (moves checks) ∷ [] })
+        (still (Checking j segment checks)))
         (λ t. deleting_fine j segment (emptied_from history segment.name checks t k))
-        (λ t. by_test Fine (was_asked && not (any_asked checks)) (record { state = Checking j segment checks; outs = out.Move (moves checks) ∷ [] }) (still (Checking j segment checks)) (λ u. (k, (tt, tt))) (λ u. (k, tt)))
+        (λ t. by_test Fine (was_asked && not (any_asked checks)) (record { state = Checking j segment checks; outs = out.Move (moves checks) ∷ [] })
+        (still (Checking j segment checks)) (λ u. (k, (tt, tt))) (λ u. (k, tt)))
 
     -- ---- inputs that are no answers
 
     listed_fine : (l : ListingState) → Fine (listed l)
     listed_fine l =
-        by_test Fine (length l.awaited == 0) (record { state = Counting (record { groups = l.groups; candidates = l.candidates; usages = [] }); outs = usage_asks all_slots }) (still (Listing l))
+        by_test Fine (length l.awaited == 0)
+        (record { state = Counting (record { groups = l.groups; candidates = l.candidates; usages = [] }); outs = usage_asks all_slots }) (still (Listing l))
         (λ t. (tt, says_usage_asks all_slots))
         (λ t. (tt, tt))
 
     listed_in_fine : (server : ℕ) (held : List FragMeta) (p : Phase) → KnownIn p → Fine (listed_in server held p)
-    listed_in_fine server held (Listing l) k = by_test Fine (is_among l.awaited server) (listed (heard l server held)) (still (Listing l)) (λ t. listed_fine (heard l server held)) (λ t. (tt, tt))
+    listed_in_fine server held (Listing l) k =
+        by_test Fine (is_among l.awaited server) (listed (heard l server held)) (still (Listing l)) (λ t. listed_fine (heard l server held)) (λ t. (tt, tt))
     listed_in_fine server held p k = (k, tt)
 
     counted_fine : (count : ℕ) (c : CountingState) → Fine (step.counted count c)
@@ -301,12 +320,14 @@ module _ (start : CleaningState) where
 
     counted_in_fine : (count slot : ℕ) (counts : _) (p : Phase) → KnownIn p → Fine (counted_in count slot counts p)
     counted_in_fine count slot counts (Counting c) k =
-        by_test Fine (has_usage c.usages slot) (still (Counting c)) (step.counted count (usage_with slot counts c)) (λ t. (tt, tt)) (λ t. counted_fine count (usage_with slot counts c))
+        by_test Fine (has_usage c.usages slot) (still (Counting c)) (step.counted count (usage_with slot counts c)) (λ t. (tt, tt))
+        (λ t. counted_fine count (usage_with slot counts c))
     counted_in_fine count slot counts p k = (k, tt)
 
     forgetting_fine : (slot : ℕ) (p : Phase) → KnownIn p → Fine (forgetting slot p)
     forgetting_fine slot (Counting c) k =
-        by_test Fine (has_usage c.usages slot) (record { state = Counting (forgotten slot c); outs = out.UsageAsk slot ∷ [] }) (still (Counting c)) (λ t. (tt, (tt, tt))) (λ t. (tt, tt))
+        by_test Fine (has_usage c.usages slot) (record { state = Counting (forgotten slot c); outs = out.UsageAsk slot ∷ [] }) (still (Counting c))
+        (λ t. (tt, (tt, tt))) (λ t. (tt, tt))
     forgetting_fine slot p k = (k, tt)
 
     mapped_fine : (groups : GroupMapState) (p : Phase) → KnownIn p → KnownIn (mapped groups p)
@@ -330,7 +351,8 @@ module _ (start : CleaningState) where
   FineDone history d = KnownIn history d.state.phase × Says history d.outs
 
   -- where an input changes no stage, the segment is as far as before
-  stays_known : (history : List In) (i : In) (p : Phase) → ((b : BlockId) (x : Stage) → stage_with (state_after start history) i b x ≡ x) → KnownIn history p → KnownIn (i ∷ history) p
+  stays_known : (history : List In) (i : In) (p : Phase) → ((b : BlockId) (x : Stage) → stage_with (state_after start history) i b x ≡ x) → KnownIn history p
+      → KnownIn (i ∷ history) p
   stays_known history i (Checking j segment checks) stays k = checked_later history i segment.name checks stays k
   stays_known history i (Deleting j segment servers) stays k = emptied_later history i segment.name k
   stays_known history i p stays k = tt
@@ -338,11 +360,14 @@ module _ (start : CleaningState) where
   -- ---- answers
 
   -- a read of the segment that is awaited
-  read_fine : (history : List In) (read : Option Segment) (p : Phase) → (state_after start history).phase ≡ p → KnownIn history p → Fine (input.Read read ∷ history) (read_in read p)
+  read_fine : (history : List In) (read : Option Segment) (p : Phase) → (state_after start history).phase ≡ p → KnownIn history p
+      → Fine (input.Read read ∷ history) (read_in read p)
   read_fine history None (Reading j segment) e k = next_fine (input.Read None ∷ history) j.left j
   read_fine history (Some read) (Reading j segment) e k =
-      by_test (Fine (input.Read (Some read) ∷ history)) (same_name read.name segment.name) (checking j segment (checks_from 0 read.items)) (still (Reading j segment))
-      (λ t. checking_fine (input.Read (Some read) ∷ history) j segment (checks_from 0 read.items) (checked_first history read segment.name (subst (reads segment.name) (sym e) refl) (tells_apart seg_cmp_exact read.name segment.name t)))
+      by_test (Fine (input.Read (Some read) ∷ history)) (same_name read.name segment.name) (checking j segment (checks_from 0 read.items))
+      (still (Reading j segment))
+      (λ t. checking_fine (input.Read (Some read) ∷ history) j segment (checks_from 0 read.items)
+      (checked_first history read segment.name (subst (reads segment.name) (sym e) refl) (tells_apart seg_cmp_exact read.name segment.name t)))
       (λ t. (tt, tt))
   read_fine history read (Checking j segment checks) e k = (checked_later history (input.Read read) segment.name checks (λ b x. refl) k, tt)
   read_fine history read (Deleting j segment servers) e k = (emptied_later history (input.Read read) segment.name k, tt)
@@ -350,49 +375,64 @@ module _ (start : CleaningState) where
 
   -- an answer that changes the checks as it changes the stages
   answered_fine : (history : List In) (i : In) (answer : Check → Check) (p : Phase) → ((c : Check) → (answer c).block ≡ c.block)
-      → ((c : Check) → stage_of (answer c).fate ≡ stage_with (state_after start history) i c.block (stage_of c.fate)) → KnownIn history p → Fine (i ∷ history) (answered_in answer p)
-  answered_fine history i answer (Checking j segment checks) same moves k = looked_fine (i ∷ history) j segment (any_asked checks) (map answer checks) (checked_with history i segment.name checks answer same moves k)
+      → ((c : Check) → stage_of (answer c).fate ≡ stage_with (state_after start history) i c.block (stage_of c.fate)) → KnownIn history p
+      → Fine (i ∷ history) (answered_in answer p)
+  answered_fine history i answer (Checking j segment checks) same moves k =
+      looked_fine (i ∷ history) j segment (any_asked checks) (map answer checks) (checked_with history i segment.name checks answer same moves k)
   answered_fine history i answer (Deleting j segment servers) same moves k = (emptied_later history i segment.name k, tt)
   answered_fine history i answer p same moves k = (tt, tt)
 
   live_block : (block : BlockId) (entry : Entry) (c : Check) → (live_at block entry c).block ≡ c.block
-  live_block block entry c = by_test (λ (d : Check). d.block ≡ c.block) (same_block c.block block) (record c { fate = after_live entry c.fate }) c (λ t. refl) (λ t. refl)
+  live_block block entry c =
+      by_test (λ (d : Check). d.block ≡ c.block) (same_block c.block block) (record c { fate = after_live entry c.fate }) c (λ t. refl) (λ t. refl)
 
   dead_block : (block : BlockId) (c : Check) → (dead_at block c).block ≡ c.block
   dead_block block c = by_test (λ (d : Check). d.block ≡ c.block) (same_block c.block block) (record c { fate = after_dead c.fate }) c (λ t. refl) (λ t. refl)
 
-  live_stage : (block : BlockId) (entry : Entry) (c : Check) (x : Bool) → same_block c.block block ≡ x → stage_of (cond x (record c { fate = after_live entry c.fate }) c).fate ≡ cond x (stage_at_live (stage_of c.fate)) (stage_of c.fate)
+  live_stage : (block : BlockId) (entry : Entry) (c : Check) (x : Bool) → same_block c.block block ≡ x
+      → stage_of (cond x (record c { fate = after_live entry c.fate }) c).fate ≡ cond x (stage_at_live (stage_of c.fate)) (stage_of c.fate)
   live_stage block entry c true e = stage-after_live entry c.fate
   live_stage block entry c false e = refl
 
-  dead_stage : (block : BlockId) (c : Check) (x : Bool) → same_block c.block block ≡ x → stage_of (cond x (record c { fate = after_dead c.fate }) c).fate ≡ cond x (stage_at_dead (stage_of c.fate)) (stage_of c.fate)
+  dead_stage : (block : BlockId) (c : Check) (x : Bool) → same_block c.block block ≡ x
+      → stage_of (cond x (record c { fate = after_dead c.fate }) c).fate ≡ cond x (stage_at_dead (stage_of c.fate)) (stage_of c.fate)
   dead_stage block c true e = stage-after_dead c.fate
   dead_stage block c false e = refl
 
-  live_fine : (history : List In) (block : BlockId) (epoch : ℕ) (entry : Entry) → KnownIn history (state_after start history).phase → FineDone (input.Live block epoch entry ∷ history) (on_live (state_after start history) block epoch entry)
+  live_fine : (history : List In) (block : BlockId) (epoch : ℕ) (entry : Entry) → KnownIn history (state_after start history).phase
+      → FineDone (input.Live block epoch entry ∷ history) (on_live (state_after start history) block epoch entry)
   unfolding on_live
   live_fine history block epoch entry k =
       let s : CleaningState = state_after start history in
-      by_test (FineDone (input.Live block epoch entry ∷ history)) (is_heard s.promised block epoch && may_move entry) (turned s (answered_in (live_at block entry) s.phase)) (still s)
+      by_test (FineDone (input.Live block epoch entry ∷ history)) (is_heard s.promised block epoch && may_move entry)
+      (turned s (answered_in (live_at block entry) s.phase)) (still s)
       (λ t. answered_fine history (input.Live block epoch entry) (live_at block entry) s.phase (live_block block entry)
-      (λ c. live_stage block entry c (same_block c.block block) refl ∙ ap (λ y. cond y (cond (same_block c.block block) (stage_at_live (stage_of c.fate)) (stage_of c.fate)) (stage_of c.fate)) (sym t))
+      (λ c. live_stage block entry c (same_block c.block block) refl
+      ∙ ap (λ y. cond y (cond (same_block c.block block) (stage_at_live (stage_of c.fate)) (stage_of c.fate)) (stage_of c.fate)) (sym t))
       k)
       (λ t. (stays_known history (input.Live block epoch entry) s.phase (λ b x. ap (λ y. cond y (cond (same_block b block) (stage_at_live x) x) x) t) k, tt))
 
-  dead_fine : (history : List In) (block : BlockId) (epoch : ℕ) → KnownIn history (state_after start history).phase → FineDone (input.Dead block epoch ∷ history) (on_dead (state_after start history) block epoch)
+  dead_fine : (history : List In) (block : BlockId) (epoch : ℕ) → KnownIn history (state_after start history).phase
+      → FineDone (input.Dead block epoch ∷ history) (on_dead (state_after start history) block epoch)
   unfolding on_dead
   dead_fine history block epoch k =
       let s : CleaningState = state_after start history in
       by_test (FineDone (input.Dead block epoch ∷ history)) (is_heard s.promised block epoch) (turned s (answered_in (dead_at block) s.phase)) (still s)
       (λ t. answered_fine history (input.Dead block epoch) (dead_at block) s.phase (dead_block block)
-      (λ c. dead_stage block c (same_block c.block block) refl ∙ ap (λ y. cond y (cond (same_block c.block block) (stage_at_dead (stage_of c.fate)) (stage_of c.fate)) (stage_of c.fate)) (sym t))
+      (λ c. dead_stage block c (same_block c.block block) refl
+      ∙ ap (λ y. cond y (cond (same_block c.block block) (stage_at_dead (stage_of c.fate)) (stage_of c.fate)) (stage_of c.fate)) (sym t))
       k)
       (λ t. (stays_known history (input.Dead block epoch) s.phase (λ b x. ap (λ y. cond y (cond (same_block b block) (stage_at_dead x) x) x) t) k, tt))
 
   moved_fine : (history : List In) (p : Phase) → (state_after start history).phase ≡ p → KnownIn history p → Fine (input.Moved ∷ history) (moved_in p)
   moved_fine history (Checking j segment checks) e k =
-      by_test (Fine (input.Moved ∷ history)) (is_moving checks) (record { state = Checking j segment (map moved_at checks); outs = questions segment (map moved_at checks) }) (still (Checking j segment checks))
-      (λ t. (checked_with history input.Moved segment.name checks moved_at (λ c. refl) (λ c. stage-after_moved c.fate ∙ ap (λ y. cond y (stage_at_moved (stage_of c.fate)) (stage_of c.fate)) (sym (ap awaits_moved e ∙ t))) k, says_questions (input.Moved ∷ history) segment (map moved_at checks)))
+      by_test (Fine (input.Moved ∷ history)) (is_moving checks)
+      (record { state = Checking j segment (map moved_at checks); outs = questions segment (map moved_at checks) }) (still (Checking j segment checks))
+      (λ t. (
+        checked_with history input.Moved segment.name checks moved_at (λ c. refl)
+            (λ c. stage-after_moved c.fate ∙ ap (λ y. cond y (stage_at_moved (stage_of c.fate)) (stage_of c.fate)) (sym (ap awaits_moved e ∙ t))) k,
+        says_questions (input.Moved ∷ history) segment (map moved_at checks),
+      ))
       (λ t. (checked_later history input.Moved segment.name checks (λ b x. ap (λ y. cond y (stage_at_moved x) x) (ap awaits_moved e ∙ t)) k, tt))
   moved_fine history (Deleting j segment servers) e k = (emptied_later history input.Moved segment.name k, tt)
   moved_fine history p e k = (tt, tt)
@@ -402,37 +442,55 @@ module _ (start : CleaningState) where
   welcome_fine : (h : List In) (s : CleaningState) (slots : List SlotNews) (groups : GroupMapState) → KnownIn h s.phase → FineDone h (on_welcome s slots groups)
   unfolding on_welcome
   welcome_fine h s slots groups k =
-      by_test (FineDone h) (is_greeting s.phase && (length slots == 8)) (welcomed s slots groups) (still s) (λ t. (tt, says_lists h (begun slots groups).awaited)) (λ t. (k, tt))
+      by_test (FineDone h) (is_greeting s.phase && (length slots == 8)) (welcomed s slots groups) (still s)
+      (λ t. (tt, says_lists h (begun slots groups).awaited)) (λ t. (k, tt))
 
   promise_fine : (h : List In) (s : CleaningState) (slot epoch : ℕ) → KnownIn h s.phase → FineDone h (on_promise s slot epoch)
   unfolding on_promise
   promise_fine h s slot epoch k =
-      by_test (FineDone h) (is_above s.promised slot epoch) (turned (record s { promised = promised_with s.promised slot epoch }) (forgetting slot s.phase)) (still s) (λ t. forgetting_fine h slot s.phase k) (λ t. (k, tt))
+      by_test (FineDone h) (is_above s.promised slot epoch) (turned (record s { promised = promised_with s.promised slot epoch }) (forgetting slot s.phase))
+      (still s) (λ t. forgetting_fine h slot s.phase k) (λ t. (k, tt))
 
   usage_fine : (h : List In) (s : CleaningState) (slot epoch : ℕ) (counts : _) → KnownIn h s.phase → FineDone h (on_usage s slot epoch counts)
   unfolding on_usage
   usage_fine h s slot epoch counts k =
-      by_test (FineDone h) (is_promised s.promised slot epoch) (turned s (counted_in s.count slot counts s.phase)) (still s) (λ t. counted_in_fine h s.count slot counts s.phase k) (λ t. (k, tt))
+      by_test (FineDone h) (is_promised s.promised slot epoch) (turned s (counted_in s.count slot counts s.phase)) (still s)
+      (λ t. counted_in_fine h s.count slot counts s.phase k) (λ t. (k, tt))
 
   abbrev now : List In → CleaningState
   now history = state_after start history
 
   turn_fine : (history : List In) (i : In) → KnownIn history (now history).phase → FineDone (i ∷ history) (transition (now history) i)
-  turn_fine history (input.Welcome slots groups) k = welcome_fine (input.Welcome slots groups ∷ history) (now history) slots groups (stays_known history (input.Welcome slots groups) (now history).phase (λ b x. refl) k)
-  turn_fine history (input.Promise slot epoch) k = promise_fine (input.Promise slot epoch ∷ history) (now history) slot epoch (stays_known history (input.Promise slot epoch) (now history).phase (λ b x. refl) k)
-  turn_fine history (input.Maps groups) k = (mapped_fine (input.Maps groups ∷ history) groups (now history).phase (stays_known history (input.Maps groups) (now history).phase (λ b x. refl) k), tt)
-  turn_fine history (input.Listed server held) k = listed_in_fine (input.Listed server held ∷ history) server held (now history).phase (stays_known history (input.Listed server held) (now history).phase (λ b x. refl) k)
-  turn_fine history (input.Usage slot epoch counts) k = usage_fine (input.Usage slot epoch counts ∷ history) (now history) slot epoch counts (stays_known history (input.Usage slot epoch counts) (now history).phase (λ b x. refl) k)
+  turn_fine history (input.Welcome slots groups) k =
+      welcome_fine (input.Welcome slots groups ∷ history) (now history) slots groups
+      (stays_known history (input.Welcome slots groups) (now history).phase (λ b x. refl) k)
+  turn_fine history (input.Promise slot epoch) k =
+      promise_fine (input.Promise slot epoch ∷ history) (now history) slot epoch
+      (stays_known history (input.Promise slot epoch) (now history).phase (λ b x. refl) k)
+  turn_fine history (input.Maps groups) k =
+      (mapped_fine (input.Maps groups ∷ history) groups (now history).phase (stays_known history (input.Maps groups) (now history).phase (λ b x. refl) k), tt)
+  turn_fine history (input.Listed server held) k =
+      listed_in_fine (input.Listed server held ∷ history) server held (now history).phase
+      (stays_known history (input.Listed server held) (now history).phase (λ b x. refl) k)
+  turn_fine history (input.Usage slot epoch counts) k =
+      usage_fine (input.Usage slot epoch counts ∷ history) (now history) slot epoch counts
+      (stays_known history (input.Usage slot epoch counts) (now history).phase (λ b x. refl) k)
   turn_fine history (input.Read read) k = read_fine history read (now history).phase refl k
   turn_fine history (input.Live block epoch entry) k = live_fine history block epoch entry k
   turn_fine history (input.Dead block epoch) k = dead_fine history block epoch k
   turn_fine history input.Moved k = moved_fine history (now history).phase refl k
-  turn_fine history (input.Deleted server name) k = deleted_in_fine (input.Deleted server name ∷ history) server name (now history).phase (stays_known history (input.Deleted server name) (now history).phase (λ b x. refl) k)
-  turn_fine history input.Tick k = (stays_known history input.Tick (now history).phase (λ b x. refl) k, awaits_fine (input.Tick ∷ history) (now history).phase (stays_known history input.Tick (now history).phase (λ b x. refl) k))
+  turn_fine history (input.Deleted server name) k =
+      deleted_in_fine (input.Deleted server name ∷ history) server name (now history).phase
+      (stays_known history (input.Deleted server name) (now history).phase (λ b x. refl) k)
+  turn_fine history input.Tick k = (
+    stays_known history input.Tick (now history).phase (λ b x. refl) k,
+    awaits_fine (input.Tick ∷ history) (now history).phase (stays_known history input.Tick (now history).phase (λ b x. refl) k),
+  )
 
   known_always : KnownIn [] start.phase → (history : List In) → KnownIn history (now history).phase
   known_always k [] = k
   known_always k (i ∷ history) = (turn_fine history i (known_always k history)).0
 
-pub all_deletes_emptied : (count : ℕ) (history : List In) (i : In) → AllByRecursion (DeletesEmptied (started count) (i ∷ history)) (transition (state_after (started count) history) i).outs
+pub all_deletes_emptied : (count : ℕ) (history : List In) (i : In)
+    → AllByRecursion (DeletesEmptied (started count) (i ∷ history)) (transition (state_after (started count) history) i).outs
 all_deletes_emptied count history i = (turn_fine (started count) history i (known_always (started count) tt history)).1

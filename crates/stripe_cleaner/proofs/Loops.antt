@@ -17,14 +17,16 @@ use Rattle.stripe_cleaner.specs.Counting.{segment_at, has_usage, awaited_among, 
 use Rattle.stripe_cleaner.specs.Transition.{usage_asks}
 
 -- the server that comes, and those after it
-pub servers_step : (i n : ℕ) → i < n → map (λ before. before + 1) (range_with_len i (n - i)) ≡ (i + 1) ∷ map (λ before. before + 1) (range_with_len (i + 1) (n - (i + 1)))
+pub servers_step : (i n : ℕ) → i < n
+    → map (λ before. before + 1) (range_with_len i (n - i)) ≡ (i + 1) ∷ map (λ before. before + 1) (range_with_len (i + 1) (n - (i + 1)))
 servers_step i n lt =
     let k : n - i ≡ suc (n - (i + 1)) = omega arith in
     ap (λ m. map (λ before. before + 1) (range_with_len i m)) k
 
 -- a number past the end of its type stands for each such number
 same_item : (n : ℕ) (i : Item) → check_of (min n no_item) i ≡ check_of n i
-same_item n (Block block value) = let e : min (min n no_item) no_item ≡ min n no_item = omega arith in ap (λ item. record { block = block; item = item; fate = Asked value } ∷ []) e
+same_item n (Block block value) = let e : min (min n no_item) no_item ≡ min n no_item =
+    omega arith in ap (λ item. record { block = block; item = item; fate = Asked value } ∷ []) e
 same_item n (Delta block ver hop item) = refl
 same_item n (Part slot rows) = refl
 
@@ -32,16 +34,19 @@ pub checks_past : (n : ℕ) (items : List Item) → checks_from (min n no_item) 
 checks_past n [] = refl
 checks_past n (i ∷ is) =
     let e : min (min n no_item + 1) no_item ≡ min (n + 1) no_item = omega arith in
-    let rest : checks_from (min n no_item + 1) is ≡ checks_from (n + 1) is = sym (checks_past (min n no_item + 1) is) ∙ ap (λ m. checks_from m is) e ∙ checks_past (n + 1) is in
+    let rest : checks_from (min n no_item + 1) is ≡ checks_from (n + 1) is =
+    sym (checks_past (min n no_item + 1) is) ∙ ap (λ m. checks_from m is) e ∙ checks_past (n + 1) is in
     λ k. same_item n i k ++ rest k
 
 -- the segment that comes is the next of those that are chosen
 pub first_step : (left : List SegRef) (count : ℕ) (e : Rank × ℕ) (rest : List (Rank × ℕ)) → length left < count
-    → (left ++ segment_at e ∷ []) ++ map segment_at (take (count - length (left ++ segment_at e ∷ [])) rest) ≡ left ++ map segment_at (take (count - length left) (e ∷ rest))
+    → (left ++ segment_at e ∷ []) ++ map segment_at (take (count - length (left ++ segment_at e ∷ [])) rest) ≡ left
+    ++ map segment_at (take (count - length left) (e ∷ rest))
 first_step left count e rest lt =
     let l : length (left ++ segment_at e ∷ []) ≡ length left + 1 = length-append left (segment_at e ∷ []) in
     let k : count - length left ≡ suc (count - length (left ++ segment_at e ∷ [])) = omega (arith, l) in
-    append_assoc left (segment_at e ∷ []) (map segment_at (take (count - length (left ++ segment_at e ∷ [])) rest)) ∙ ap (λ m. left ++ map segment_at (take m (e ∷ rest))) (sym k)
+    append_assoc left (segment_at e ∷ []) (map segment_at (take (count - length (left ++ segment_at e ∷ [])) rest))
+    ∙ ap (λ m. left ++ map segment_at (take m (e ∷ rest))) (sym k)
 
 -- once so many are chosen, no other is
 pub first_full : (left : List SegRef) (count : ℕ) (e : Rank × ℕ) (rest : List (Rank × ℕ)) → count ≤ length left
@@ -51,7 +56,8 @@ first_full left count e rest le =
     ap (λ m. left ++ map segment_at (take m rest)) k ∙ ap (λ m. left ++ map segment_at (take m (e ∷ rest))) (sym k)
 
 -- the checks of the item that comes, and of those after it
-pub checks_more : (checks new all : List Check) (n m : ℕ) (item : Item) (rest : List Item) → m ≡ min (n + 1) no_item → new ≡ checks ++ check_of n item → checks ++ checks_from n (item ∷ rest) ≡ all
+pub checks_more : (checks new all : List Check) (n m : ℕ) (item : Item) (rest : List Item) → m ≡ min (n + 1) no_item → new ≡ checks ++ check_of n item
+    → checks ++ checks_from n (item ∷ rest) ≡ all
     → new ++ checks_from m rest ≡ all
 checks_more checks new all n m item rest next added whole =
     ap (λ c. c ++ checks_from m rest) added ∙ append_assoc checks (check_of n item) (checks_from m rest)
@@ -63,12 +69,14 @@ asks_cons false slot rest = refl
 
 -- the question of the slot that comes, and those of the slots after it
 pub asks_step : (usages : List (ℕ × List (SegName × ℕ))) (slots : List ℕ) (i d : ℕ) → i < length slots
-    → usage_asks (awaited_among usages (drop i slots)) ≡ cond (not (has_usage usages (get_or slots i d))) (UsageAsk (get_or slots i d) ∷ []) [] ++ usage_asks (awaited_among usages (drop (i + 1) slots))
+    → usage_asks (awaited_among usages (drop i slots)) ≡ cond (not (has_usage usages (get_or slots i d))) (UsageAsk (get_or slots i d) ∷ []) []
+    ++ usage_asks (awaited_among usages (drop (i + 1) slots))
 asks_step usages slots i d lt =
     at_drop_more (λ ss. usage_asks (awaited_among usages ss)) slots i d lt
     ∙ asks_cons (not (has_usage usages (get_or slots i d))) (get_or slots i d) (awaited_among usages (drop (i + 1) slots))
 
 -- the live blocks in the slot that comes, on those before it, and those in the slots after it
 pub live_step : (usages : List (ℕ × List (SegName × ℕ))) (name : SegName) (live : ℕ) (slots : List ℕ) (i d : ℕ) → i < length slots
-    → fold (λ sum slot. sum + live_in usages name slot) live (drop i slots) ≡ fold (λ sum slot. sum + live_in usages name slot) (live + live_in usages name (get_or slots i d)) (drop (i + 1) slots)
+    → fold (λ sum slot. sum + live_in usages name slot) live (drop i slots) ≡ fold (λ sum slot. sum + live_in usages name slot)
+    (live + live_in usages name (get_or slots i d)) (drop (i + 1) slots)
 live_step usages name live slots i d lt = at_drop_more (fold (λ sum slot. sum + live_in usages name slot) live) slots i d lt

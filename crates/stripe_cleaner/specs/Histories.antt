@@ -77,7 +77,8 @@ awaits_moved phase = false
 
 -- how far the block is after an input in this state: a Live or Dead of it counts in the promised epoch alone
 abbrev pub stage_with : CleaningState → In → BlockId → Stage → Stage
-stage_with s (input.Live b epoch entry) block stage = if is_heard s.promised b epoch && may_move entry then (if same_block block b then stage_at_live stage else stage) else stage
+stage_with s (input.Live b epoch entry) block stage =
+    if is_heard s.promised b epoch && may_move entry then (if same_block block b then stage_at_live stage else stage) else stage
 stage_with s (input.Dead b epoch) block stage = if is_heard s.promised b epoch then (if same_block block b then stage_at_dead stage else stage) else stage
 stage_with s input.Moved block stage = if awaits_moved s.phase then stage_at_moved stage else stage
 stage_with s input block stage = stage

@@ -64,12 +64,14 @@ forgotten slot c = record c { usages = remove_entry (is_at (nat_cmp slot)) c.usa
 
 -- counts of a slot that are in are forgotten, and asked for again
 abbrev pub forgetting : ℕ → Phase → Turn
-forgetting slot (Counting c) = if has_usage c.usages slot then record { state = Counting (forgotten slot c); outs = out.UsageAsk slot ∷ [] } else still (Counting c)
+forgetting slot (Counting c) =
+    if has_usage c.usages slot then record { state = Counting (forgotten slot c); outs = out.UsageAsk slot ∷ [] } else still (Counting c)
 forgetting slot phase = still phase
 
 -- Promise: a greater epoch of a slot is promised.
 unfoldable pub on_promise : CleaningState → ℕ → ℕ → Done
-on_promise s slot epoch = if is_above s.promised slot epoch then turned (record s { promised = promised_with s.promised slot epoch }) (forgetting slot s.phase) else still s
+on_promise s slot epoch =
+    if is_above s.promised slot epoch then turned (record s { promised = promised_with s.promised slot epoch }) (forgetting slot s.phase) else still s
 
 abbrev pub job_with : GroupMapState → JobState → JobState
 job_with groups j = record j { groups = groups }
@@ -87,7 +89,10 @@ mapped groups phase = phase
 -- once all lists are in, all slots are asked for their counts
 abbrev pub listed : ListingState → Turn
 listed l =
-    if length l.awaited == 0 then record { state = Counting (record { groups = l.groups; candidates = l.candidates; usages = [] }); outs = usage_asks all_slots }
+    if length l.awaited == 0 then record {
+      state = Counting (record { groups = l.groups; candidates = l.candidates; usages = [] });
+      outs = usage_asks all_slots;
+    }
     else still (Listing l)
 
 abbrev pub heard : ListingState → ℕ → List FragMeta → ListingState

@@ -39,14 +39,16 @@ unfolding on_told
 ended_told s ask server t h =
     let idle : TakeState = record s { present = None } in
     by_test Ended (can_ask s) (told_at idle s.present ask server t) (still s)
-    (λ c. subst (λ (o : Option Present). Ended (told_at idle o ask server t)) (sym h.nothing_read) (record { silent = refl; over = record { reported = h.reported; nothing_read = refl } }))
+    (λ c. subst (λ (o : Option Present). Ended (told_at idle o ask server t)) (sym h.nothing_read)
+    (record { silent = refl; over = record { reported = h.reported; nothing_read = refl } }))
     (λ c. record { silent = refl; over = h })
 
 ended_maps : (s : TakeState) (groups : GroupMapState) → IsOver s → Ended (on_maps s groups)
 unfolding on_maps
 ended_maps s groups h =
     let knows : TakeState = record s { groups = groups } in
-    subst (λ (o : Option Present). Ended (sought_again knows (waiting o))) (sym h.nothing_read) (record { silent = refl; over = record { reported = h.reported; nothing_read = h.nothing_read } })
+    subst (λ (o : Option Present). Ended (sought_again knows (waiting o))) (sym h.nothing_read)
+    (record { silent = refl; over = record { reported = h.reported; nothing_read = h.nothing_read } })
 
 ended : (s : TakeState) (i : In) → IsOver s → Ended (transition s i)
 ended s (input.Report from held end) h = ended_report s (record { from = from; held = held; end = end }) h

@@ -44,7 +44,8 @@ pub target-on_answer : (r : ReadingState) (groups : GroupMapState) (ask server :
 unfolding on_answer
 target-on_answer r groups ask server told =
     let now = taken r.round server told in
-    by_test (λ (s : Step). s.state.target ≡ r.target) (counts r ask server told) (judged (record r { round = now }) groups (state_of now)) (record { state = r; next = Wait })
+    by_test (λ (s : Step). s.state.target ≡ r.target) (counts r ask server told) (judged (record r { round = now }) groups (state_of now))
+    (record { state = r; next = Wait })
     (λ t. target-judged (record r { round = now }) groups (state_of now))
     (λ t. refl)
 
@@ -68,7 +69,8 @@ IsNamed target Ask = Unit {0}
 IsNamed target Again = Unit {0}
 IsNamed target Lost = Unit {0}
 
-named-found : (r : ReadingState) (target : Target) (groups : GroupMapState) (answer : Result Segment SegError) → IsNamed target (read_as r (segment_found target groups answer)).next
+named-found : (r : ReadingState) (target : Target) (groups : GroupMapState) (answer : Result Segment SegError)
+    → IsNamed target (read_as r (segment_found target groups answer)).next
 named-found r target groups (Ok s) =
     by_test (λ (o : Option Segment). IsNamed target (read_as r o).next) (is_target target groups s) (Some s) None
     (λ t. same_name_exact target.seg.name s.name (and_first (same_name target.seg.name s.name) _ t))
@@ -84,6 +86,7 @@ pub named-on_answer : (r : ReadingState) (groups : GroupMapState) (ask server : 
 unfolding on_answer
 named-on_answer r groups ask server told =
     let now = taken r.round server told in
-    by_test (λ (s : Step). IsNamed r.target s.next) (counts r ask server told) (judged (record r { round = now }) groups (state_of now)) (record { state = r; next = Wait })
+    by_test (λ (s : Step). IsNamed r.target s.next) (counts r ask server told) (judged (record r { round = now }) groups (state_of now))
+    (record { state = r; next = Wait })
     (λ t. named-judged (record r { round = now }) groups (state_of now))
     (λ t. tt)

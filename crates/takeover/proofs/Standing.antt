@@ -99,11 +99,23 @@ record Goes (news : SlotNews) (d : Done) (r : Read) : Type 0 where
 module _ (news : SlotNews) where
   -- ---- what no news, reports, sources, index or chain changes
 
-  fresh_still : (s : TakeState) (r : Read) (groups : GroupMapState) (reports : List Report) (present : Option Present) → IsFresh s r → IsFresh (record s { groups = groups; reports = reports; present = present }) r
+  fresh_still : (s : TakeState) (r : Read) (groups : GroupMapState) (reports : List Report) (present : Option Present) → IsFresh s r
+      → IsFresh (record s { groups = groups; reports = reports; present = present }) r
   fresh_still s r groups reports present h = record { whole = h.whole; present = h.present; index = h.index; chain = h.chain }
 
-  reading_still : (s : TakeState) (r : Read) (left : Source) (groups : GroupMapState) (present : Option Present) (ask : ℕ) → IsReading news s r left → IsReading news (record s { groups = groups; present = present; ask = ask }) r left
-  reading_still s r left groups present ask h = record { past = h.past; first = h.first; sources = h.sources; whole = h.whole; present = h.present; reported = h.reported; index = h.index; chain = h.chain }
+  reading_still : (s : TakeState) (r : Read) (left : Source) (groups : GroupMapState) (present : Option Present) (ask : ℕ) → IsReading news s r left
+      → IsReading news (record s { groups = groups; present = present; ask = ask }) r left
+  reading_still s r left groups present ask h =
+      record {
+        past = h.past;
+        first = h.first;
+        sources = h.sources;
+        whole = h.whole;
+        present = h.present;
+        reported = h.reported;
+        index = h.index;
+        chain = h.chain;
+      }
 
   claims_nothing : (s : TakeState) (r : Read) → All (Claims news s r) []
   claims_nothing s r = All-nil (Claims news s r)
@@ -118,13 +130,15 @@ module _ (news : SlotNews) where
 
   -- ---- one source after the other
 
-  reads_goes : (s : TakeState) (r : Read) (source : Source) (o : Option ReadingState) → s.news ≡ news → IsReading news s r source → LooksFor source o → Goes news (still (reads s source o)) r
+  reads_goes : (s : TakeState) (r : Read) (source : Source) (o : Option ReadingState) → s.news ≡ news → IsReading news s r source → LooksFor source o
+      → Goes news (still (reads s source o)) r
   reads_goes s r source o of h looks = record {
     stands = record { of = of; by = (reading_still s r source s.groups (reads s source o).present s.ask h, looks) };
     claims = claims_nothing (reads s source o) r;
   }
 
-  asks_goes : (s : TakeState) (r : Read) (source : Source) (reading : ReadingState) → s.news ≡ news → IsReading news s r source → reading.target ≡ target_of source → Goes news (asks s source reading) r
+  asks_goes : (s : TakeState) (r : Read) (source : Source) (reading : ReadingState) → s.news ≡ news → IsReading news s r source
+      → reading.target ≡ target_of source → Goes news (asks s source reading) r
   asks_goes s r source reading of h looks = record {
     stands = record { of = of; by = (reading_still s r source s.groups (reads s source (Some reading)).present (s.ask + 1) h, looks) };
     claims = claims-fetches (asks s source reading).state r source.seg.name (s.ask + 1) (to_ask reading);
@@ -192,9 +206,11 @@ module _ (news : SlotNews) where
   left_of source segment back = if back then Some (record { seg = prior_of segment; low = source.low }) else None
 
   abbrev read_of : Read → Segment → Bool → Read
-  read_of r segment back = if back then record { whole = r.whole; present = segment ∷ r.present } else record { whole = r.whole ++ (segment ∷ r.present) ∷ []; present = [] }
+  read_of r segment back =
+      if back then record { whole = r.whole; present = segment ∷ r.present } else record { whole = r.whole ++ (segment ∷ r.present) ∷ []; present = [] }
 
-  read_goes : (s : TakeState) (r : Read) (source : Source) (segment : Segment) (back : Bool) → goes_back source segment ≡ back → s.news ≡ news → IsReading news s r source → segment.name ≡ source.seg.name
+  read_goes : (s : TakeState) (r : Read) (source : Source) (segment : Segment) (back : Bool) → goes_back source segment ≡ back → s.news ≡ news
+      → IsReading news s r source → segment.name ≡ source.seg.name
       → Goes news (goes_on_from (record s { chain = told_of s.news.slot segment ∷ s.chain }) (left_of source segment back)) (read_of r segment back)
   read_goes s r source segment back e of h name =
       elim back as (λ b. goes_back source segment ≡ b → Goes news (goes_on_from more (left_of source segment b)) (read_of r segment b)) [
@@ -228,7 +244,8 @@ module _ (news : SlotNews) where
       grown : told_of s.news.slot segment ∷ s.chain ≡ map (told_of news.slot) (segment ∷ r.present)
       grown = ap (λ (n : SlotNews). told_of n.slot segment ∷ s.chain) of ∙ ap (λ c. told_of news.slot segment ∷ c) h.chain
 
-  has_read_goes : (s : TakeState) (r : Read) (source : Source) (segment : Segment) → s.news ≡ news → IsReading news s r source → segment.name ≡ source.seg.name → Goes news (has_read s source segment) (and_read r source segment)
+  has_read_goes : (s : TakeState) (r : Read) (source : Source) (segment : Segment) → s.news ≡ news → IsReading news s r source → segment.name ≡ source.seg.name
+      → Goes news (has_read s source segment) (and_read r source segment)
   unfolding has_read
   has_read_goes s r source segment of h name = read_goes s r source segment (goes_back source segment) refl of h name
 
@@ -237,41 +254,49 @@ module _ (news : SlotNews) where
   lost_goes : (s : TakeState) (r : Read) (source : Source) → s.news ≡ news → IsReading news s r source → Goes news (lost s source.seg.name) r
   lost_goes s r source of h = record {
     stands = record { of = of; by = inr h.reported };
-    claims = All-cons (Claims news (lost s source.seg.name).state r) (Lost source.seg.name) [] (record { reported = h.reported; nothing_read = refl }) (claims_nothing (lost s source.seg.name).state r);
+    claims = All-cons (Claims news (lost s source.seg.name).state r) (Lost source.seg.name) [] (record { reported = h.reported; nothing_read = refl })
+        (claims_nothing (lost s source.seg.name).state r);
   }
 
-  confirmed_goes : (s : TakeState) (r : Read) (source : Source) (reading : ReadingState) (n : Next) → s.news ≡ news → IsReading news s r source → reading.target ≡ target_of source → Goes news (confirmed_as s source reading n) r
+  confirmed_goes : (s : TakeState) (r : Read) (source : Source) (reading : ReadingState) (n : Next) → s.news ≡ news → IsReading news s r source
+      → reading.target ≡ target_of source → Goes news (confirmed_as s source reading n) r
   confirmed_goes s r source reading next.Ask of h looks = asks_goes s r source reading of h looks
   confirmed_goes s r source reading next.Lost of h looks = lost_goes s r source of h
   confirmed_goes s r source reading next.Wait of h looks = reads_goes s r source (Some reading) of h looks
   confirmed_goes s r source reading next.Again of h looks = reads_goes s r source (Some reading) of h looks
   confirmed_goes s r source reading (next.Read segment) of h looks = reads_goes s r source (Some reading) of h looks
 
-  again_goes : (s : TakeState) (r : Read) (source : Source) (reading : ReadingState) → s.news ≡ news → IsReading news s r source → reading.target ≡ target_of source → Goes news (again s source reading) r
+  again_goes : (s : TakeState) (r : Read) (source : Source) (reading : ReadingState) → s.news ≡ news → IsReading news s r source
+      → reading.target ≡ target_of source → Goes news (again s source reading) r
   unfolding again
   again_goes s r source reading of h looks =
       let step = on_confirmed reading (s.ask + 1) in
       confirmed_goes s r source step.state step.next of h (target-on_confirmed reading (s.ask + 1) ∙ looks)
 
-  judged_goes : (s : TakeState) (r : Read) (p : Present) (reading : ReadingState) (n : Next) → s.news ≡ news → IsReading news s r p.source → reading.target ≡ target_of p.source → IsNamed (target_of p.source) n → Goes news (judged_as s p.source reading n) (and_of r p (segment_of n))
+  judged_goes : (s : TakeState) (r : Read) (p : Present) (reading : ReadingState) (n : Next) → s.news ≡ news → IsReading news s r p.source
+      → reading.target ≡ target_of p.source → IsNamed (target_of p.source) n → Goes news (judged_as s p.source reading n) (and_of r p (segment_of n))
   judged_goes s r p reading next.Again of h looks named = again_goes s r p.source reading of h looks
   judged_goes s r p reading (next.Read segment) of h looks named = has_read_goes s r p.source segment of h named
   judged_goes s r p reading next.Wait of h looks named = reads_goes s r p.source (Some reading) of h looks
   judged_goes s r p reading next.Ask of h looks named = reads_goes s r p.source (Some reading) of h looks
   judged_goes s r p reading next.Lost of h looks named = reads_goes s r p.source (Some reading) of h looks
 
-  told_in_goes : (s : TakeState) (r : Read) (p : Present) (o : Option ReadingState) (ask server : ℕ) (t : Told) → s.news ≡ news → IsReading news s r p.source → LooksFor p.source o → Goes news (told_in s p.source o ask server t) (read_in s r p o ask server t)
+  told_in_goes : (s : TakeState) (r : Read) (p : Present) (o : Option ReadingState) (ask server : ℕ) (t : Told) → s.news ≡ news → IsReading news s r p.source
+      → LooksFor p.source o → Goes news (told_in s p.source o ask server t) (read_in s r p o ask server t)
   told_in_goes s r p None ask server t of h looks = reads_goes s r p.source None of h tt
   told_in_goes s r p (Some reading) ask server t of h looks =
       let step = on_answer reading s.groups ask server t in
-      judged_goes s r p step.state step.next of h (target-on_answer reading s.groups ask server t ∙ looks) (subst (λ (x : Target). IsNamed x step.next) looks (named-on_answer reading s.groups ask server t))
+      judged_goes s r p step.state step.next of h (target-on_answer reading s.groups ask server t ∙ looks)
+      (subst (λ (x : Target). IsNamed x step.next) looks (named-on_answer reading s.groups ask server t))
 
-  told_at_goes : (s : TakeState) (r : Read) (o : Option Present) (ask server : ℕ) (t : Told) → s.news ≡ news → StandsBy news s r o → Goes news (told_at (record s { present = None }) o ask server t) (read_at s r o ask server t)
+  told_at_goes : (s : TakeState) (r : Read) (o : Option Present) (ask server : ℕ) (t : Told) → s.news ≡ news → StandsBy news s r o
+      → Goes news (told_at (record s { present = None }) o ask server t) (read_at s r o ask server t)
   told_at_goes s r None ask server t of by = record {
     stands = record { of = of; by = elim by [ inl fresh ↦ inl (fresh_still s r s.groups s.reports None fresh) | inr over ↦ inr over ] };
     claims = claims_nothing (record s { present = None }) r;
   }
-  told_at_goes s r (Some p) ask server t of by = told_in_goes (record s { present = None }) r p p.reading ask server t of (reading_still s r p.source s.groups None s.ask by.0) by.1
+  told_at_goes s r (Some p) ask server t of by =
+      told_in_goes (record s { present = None }) r p p.reading ask server t of (reading_still s r p.source s.groups None s.ask by.0) by.1
 
   still_goes : (s : TakeState) (r : Read) → Stands news s r → Goes news (still s) r
   still_goes s r h = record { stands = h; claims = claims_nothing s r }
@@ -279,7 +304,9 @@ module _ (news : SlotNews) where
   on_told_goes : (s : TakeState) (r : Read) (ask server : ℕ) (t : Told) → Stands news s r → Goes news (on_told s ask server t) (read_by s r ask server t)
   unfolding on_told
   on_told_goes s r ask server t h =
-      elim (can_ask s) as (λ b. Goes news (if b then told_at (record s { present = None }) s.present ask server t else still s) (if b then read_at s r s.present ask server t else r)) [
+      elim (can_ask s) as
+      (λ b. Goes news (if b then told_at (record s { present = None }) s.present ask server t else still s)
+      (if b then read_at s r s.present ask server t else r)) [
         | true ↦ told_at_goes s r s.present ask server t h.of h.by
         | false ↦ still_goes s r h
       ]
@@ -305,7 +332,8 @@ module _ (news : SlotNews) where
       }))
       (λ t. still_goes s r (record { of = of; by = subst (StandsBy news s r) (sym none) (inl fresh) }))
 
-  heard_goes : (s : TakeState) (r : Read) (report : Report) (o : Option Present) → s.present ≡ o → s.news ≡ news → StandsBy news s r o → awaits s report.from ≡ true → Goes news (begun_if_all (record s { reports = s.reports ++ report ∷ [] })) r
+  heard_goes : (s : TakeState) (r : Read) (report : Report) (o : Option Present) → s.present ≡ o → s.news ≡ news → StandsBy news s r o
+      → awaits s report.from ≡ true → Goes news (begun_if_all (record s { reports = s.reports ++ report ∷ [] })) r
   heard_goes s r report None e of by some =
       elim by [
         | inl fresh ↦ begun_goes (record s { reports = s.reports ++ report ∷ [] }) r of e (fresh_still s r s.groups (s.reports ++ report ∷ []) s.present fresh)
@@ -322,12 +350,15 @@ module _ (news : SlotNews) where
 
   -- ---- the groups, and time
 
-  with_groups : (s : TakeState) (r : Read) (groups : GroupMapState) (o : Option Present) → StandsBy news s r o → StandsBy news (record s { groups = groups }) r o
+  with_groups : (s : TakeState) (r : Read) (groups : GroupMapState) (o : Option Present) → StandsBy news s r o
+      → StandsBy news (record s { groups = groups }) r o
   with_groups s r groups None by = elim by [ inl fresh ↦ inl (fresh_still s r groups s.reports s.present fresh) | inr over ↦ inr over ]
   with_groups s r groups (Some p) by = (reading_still s r p.source groups s.present s.ask by.0, by.1)
 
-  sought_again_goes : (s : TakeState) (r : Read) (source : Source) (o : Option ReadingState) → Stands news s r → IsReading news s r source → Goes news (sought_again s (waits_in source o)) r
-  sought_again_goes s r source None all h = by_test (λ d. Goes news d r) (can_ask s) (sought s source) (still s) (λ t. sought_goes s r source all.of h) (λ t. still_goes s r all)
+  sought_again_goes : (s : TakeState) (r : Read) (source : Source) (o : Option ReadingState) → Stands news s r → IsReading news s r source
+      → Goes news (sought_again s (waits_in source o)) r
+  sought_again_goes s r source None all h =
+      by_test (λ d. Goes news d r) (can_ask s) (sought s source) (still s) (λ t. sought_goes s r source all.of h) (λ t. still_goes s r all)
   sought_again_goes s r source (Some reading) all h = still_goes s r all
 
   waiting_goes : (s : TakeState) (r : Read) (o : Option Present) → Stands news s r → StandsBy news s r o → Goes news (sought_again s (waiting o)) r
@@ -355,7 +386,11 @@ module _ (news : SlotNews) where
   input_goes s r (input.Got ask server generation fragment) h = on_told_goes s r ask server (Held fragment) h
   input_goes s r (input.Missing ask server generation) h = on_told_goes s r ask server (told.Missing generation) h
   input_goes s r (input.Maps groups) h = on_maps_goes s r groups h
-  input_goes s r input.Tick h = record { stands = h; claims = All-append (Claims news s r) (polls (awaited s)) (repeated s.present) (claims-polls s r (awaited s)) (claims-repeated s r s.present) }
+  input_goes s r input.Tick h =
+      record {
+        stands = h;
+        claims = All-append (Claims news s r) (polls (awaited s)) (repeated s.present) (claims-polls s r (awaited s)) (claims-repeated s r s.present);
+      }
 
   stands_after : (c : Course) (inputs : List In) → Stands news c.state c.read → Stands news (after_inputs c inputs).state (after_inputs c inputs).read
   stands_after c [] h = h
@@ -365,7 +400,8 @@ module _ (news : SlotNews) where
   at_first groups clients = record { of = refl; by = inl (record { whole = refl; present = refl; index = refl; chain = refl }) }
 
 -- what is said of each thing that is told
-claims_of : (news : SlotNews) (groups : GroupMapState) (clients : ℕ) (inputs : List In) (i : In) (out : Out) → Contains (transition (course_of news groups clients inputs).state i).outs out
+claims_of : (news : SlotNews) (groups : GroupMapState) (clients : ℕ) (inputs : List In) (i : In) (out : Out)
+    → Contains (transition (course_of news groups clients inputs).state i).outs out
     → Claims news (after_input (course_of news groups clients inputs) i).state (after_input (course_of news groups clients inputs) i).read out
 claims_of news groups clients inputs i out contains =
     let c = course_of news groups clients inputs in
@@ -373,14 +409,21 @@ claims_of news groups clients inputs i out contains =
     let goes = input_goes news c.state c.read i stands in
     All-contains (Claims news (transition c.state i).state (read_after c.state c.read i)) (transition c.state i).outs out goes.claims contains
 
-pub taken_over : (news : SlotNews) (groups : GroupMapState) (clients : ℕ) (inputs : List In) (i : In) (epoch : ℕ) (index : List (BlockId × Entry)) (beliefs : List (BlockId × ℕ × Mode)) (applied : List ℕ)
-    → Contains (transition (course_of news groups clients inputs).state i).outs (Active epoch index beliefs applied) → IsTakenOver news (after_input (course_of news groups clients inputs) i) epoch index beliefs applied
-taken_over news groups clients inputs i epoch index beliefs applied contains = (claims_of news groups clients inputs i (Active epoch index beliefs applied) contains).0
+pub taken_over : (news : SlotNews) (groups : GroupMapState) (clients : ℕ) (inputs : List In) (i : In) (epoch : ℕ) (index : List (BlockId × Entry))
+    (beliefs : List (BlockId × ℕ × Mode)) (applied : List ℕ)
+    → Contains (transition (course_of news groups clients inputs).state i).outs (Active epoch index beliefs applied)
+    → IsTakenOver news (after_input (course_of news groups clients inputs) i) epoch index beliefs applied
+taken_over news groups clients inputs i epoch index beliefs applied contains =
+    (claims_of news groups clients inputs i (Active epoch index beliefs applied) contains).0
 
-pub over_once_handed : (news : SlotNews) (groups : GroupMapState) (clients : ℕ) (inputs : List In) (i : In) (epoch : ℕ) (index : List (BlockId × Entry)) (beliefs : List (BlockId × ℕ × Mode)) (applied : List ℕ)
-    → Contains (transition (course_of news groups clients inputs).state i).outs (Active epoch index beliefs applied) → IsOver (transition (course_of news groups clients inputs).state i).state
-over_once_handed news groups clients inputs i epoch index beliefs applied contains = (claims_of news groups clients inputs i (Active epoch index beliefs applied) contains).1
+pub over_once_handed : (news : SlotNews) (groups : GroupMapState) (clients : ℕ) (inputs : List In) (i : In) (epoch : ℕ) (index : List (BlockId × Entry))
+    (beliefs : List (BlockId × ℕ × Mode)) (applied : List ℕ)
+    → Contains (transition (course_of news groups clients inputs).state i).outs (Active epoch index beliefs applied)
+    → IsOver (transition (course_of news groups clients inputs).state i).state
+over_once_handed news groups clients inputs i epoch index beliefs applied contains =
+    (claims_of news groups clients inputs i (Active epoch index beliefs applied) contains).1
 
 pub over_once_lost : (news : SlotNews) (groups : GroupMapState) (clients : ℕ) (inputs : List In) (i : In) (name : SegName)
-    → Contains (transition (course_of news groups clients inputs).state i).outs (Lost name) → IsOver (transition (course_of news groups clients inputs).state i).state
+    → Contains (transition (course_of news groups clients inputs).state i).outs (Lost name)
+    → IsOver (transition (course_of news groups clients inputs).state i).state
 over_once_lost news groups clients inputs i name contains = claims_of news groups clients inputs i (Lost name) contains

@@ -110,7 +110,8 @@ starts-told_at s (Some p) ask server t = starts-told_in s p.source p.reading ask
 starts-on_told : (s : TakeState) (ask server : ℕ) (t : Told) → Start (on_told s ask server t)
 unfolding on_told
 starts-on_told s ask server t =
-    by_test Start (can_ask s) (told_at (record s { present = None }) s.present ask server t) (still s) (λ _. starts-told_at (record s { present = None }) s.present ask server t) (λ _. starts_nothing)
+    by_test Start (can_ask s) (told_at (record s { present = None }) s.present ask server t) (still s)
+    (λ _. starts-told_at (record s { present = None }) s.present ask server t) (λ _. starts_nothing)
 
 starts-begun_if_all : (s : TakeState) → Start (begun_if_all s)
 starts-begun_if_all s =
@@ -146,6 +147,7 @@ starts-transition s (input.Missing ask server generation) = starts-on_told s ask
 starts-transition s (input.Maps groups) = starts-on_maps s groups
 starts-transition s input.Tick = All-append StartsSlot (polls (awaited s)) (repeated s.present) (starts-polls (awaited s)) (starts-repeated s.present)
 
-pub starts-outs : {E : Type 0} (r : Result (List Out) E) (s : TakeState) (i : In) → IfOk r (λ outs. outs ≡ (transition s i).outs) → IfOk r (λ outs. All StartsSlot outs)
+pub starts-outs : {E : Type 0} (r : Result (List Out) E) (s : TakeState) (i : In) → IfOk r (λ outs. outs ≡ (transition s i).outs)
+    → IfOk r (λ outs. All StartsSlot outs)
 starts-outs (Ok outs) s i e = subst (All StartsSlot) (sym e) (starts-transition s i)
 starts-outs (Err e) s i h = tt

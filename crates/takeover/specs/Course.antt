@@ -83,7 +83,8 @@ course_of news groups clients inputs = after_inputs (record { state = started ne
 -- the checkpoint covers, and nothing else. Of each block the index holds the join of what these segments tell: the parts in their
 -- order, then log by log, each from its lowest segment on. Each log is in the index up to its reported end, or as far as the
 -- checkpoint covers it, where that is more.
-pub record IsTakenOver (news : SlotNews) (c : Course) (epoch : ℕ) (index : List (BlockId × Entry)) (beliefs : List (BlockId × ℕ × Mode)) (applied : List ℕ) : Type 0 where
+pub record IsTakenOver (news : SlotNews) (c : Course) (epoch : ℕ) (index : List (BlockId × Entry)) (beliefs : List (BlockId × ℕ × Mode))
+    (applied : List ℕ) : Type 0 where
   pub reported : awaited c.state ≡ []
   pub sources : AreReadBack (sources_of news c.state.reports) c.read.whole
   pub nothing_else : c.read.present ≡ []

@@ -31,7 +31,8 @@ nothing_read = record { whole = []; present = [] }
 
 -- a segment of a source was read
 abbrev pub and_read : Read → Source → Segment → Read
-and_read r source s = if goes_back source s then record { whole = r.whole; present = s ∷ r.present } else record { whole = r.whole ++ (s ∷ r.present) ∷ []; present = [] }
+and_read r source s =
+    if goes_back source s then record { whole = r.whole; present = s ∷ r.present } else record { whole = r.whole ++ (s ∷ r.present) ∷ []; present = [] }
 
 -- what segments tell of a slot's blocks, in their order
 abbrev pub told_along : ℕ → List Segment → List (BlockId × Entry)

@@ -30,4 +30,5 @@ pub record TakeState : Type 0 where
 
 -- nothing is known yet
 abbrev pub started : SlotNews → GroupMapState → ℕ → TakeState
-started news groups clients = record { news = news; groups = groups; clients = clients; reports = []; sources = []; present = None; ask = 0; chain = []; index = [] }
+started news groups clients =
+    record { news = news; groups = groups; clients = clients; reports = []; sources = []; present = None; ask = 0; chain = []; index = [] }

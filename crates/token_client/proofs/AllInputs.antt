@@ -20,7 +20,8 @@ unfolding IsStrictlySortedBy
 started-sound inc epochs = record { sorted = tt; each = λ b. unknown-sound _ }
 
 -- each input may open what needs it
-pub transition-follows : (opens : BlockId → Type 0) (s : TokensState) → IsSound s → (input : In) → ((b : BlockId) → needs b input ≡ true → opens b) → Follows opens s (transition s input).state
+pub transition-follows : (opens : BlockId → Type 0) (s : TokensState) → IsSound s → (input : In) → ((b : BlockId) → needs b input ≡ true → opens b)
+    → Follows opens s (transition s input).state
 transition-follows opens s p (Need block mode) why = on_need-follows opens s p block mode (why block (same_block_itself block))
 transition-follows opens s p (Granted block stamp inc req mode entry) why = on_granted-follows opens s p block stamp inc req mode entry
 transition-follows opens s p (Supplied block stamp inc req ver value) why = on_supplied-follows opens s p block stamp inc req ver value
@@ -45,7 +46,8 @@ inputs-follow s p (i ∷ is) =
     let all : BlockId → Type 0 = IsNeeded (i ∷ is) in
     let t : TokensState = (transition s i).state in
     let one : Follows all s t = transition-follows all s p i (λ b n. or_first (needs b i) (list_any (needs b) is) n) in
-    let two : Follows all t (state_after t is) = follows_weaker (IsNeeded is) all t (state_after t is) (λ b n. or_second (needs b i) (list_any (needs b) is) n) (inputs-follow t one.sound is) in
+    let two : Follows all t (state_after t is) =
+    follows_weaker (IsNeeded is) all t (state_after t is) (λ b n. or_second (needs b i) (list_any (needs b) is) n) (inputs-follow t one.sound is) in
     follows_through all s t (state_after t is) one two
 
 pub stays_sound : StaysSound

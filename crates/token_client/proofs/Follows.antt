@@ -32,19 +32,22 @@ module _ (opens : BlockId → Type 0) where
   follows_still s p = record { sound = p; stamps = λ b. not_later_itself (held_of s.blocks b).stamp; counted = omega arith; opened = λ b a. inl a }
 
   -- one block changes, and the number may rise
-  pub follows_put : (s : TokensState) (block : BlockId) (g : Held) (req : ℕ) → IsSound s → s.req ≤ req → IsNext (opens block) (epoch_of s.epochs (slot_of block.ino.0)) (held_of s.blocks block) g → Follows opens s (record (with_held s block g) { req = req })
+  pub follows_put : (s : TokensState) (block : BlockId) (g : Held) (req : ℕ) → IsSound s → s.req ≤ req
+      → IsNext (opens block) (epoch_of s.epochs (slot_of block.ino.0)) (held_of s.blocks block) g → Follows opens s (record (with_held s block g) { req = req })
   follows_put s block g req p rises next = record {
     sound = record {
       sorted = in_order-put block g s.blocks p.sorted;
       each = put_each (λ b h. IsSoundBlock (epoch_of s.epochs (slot_of b.ino.0)) h) block g s.blocks next.sound p.each;
     };
-    stamps = put_each (λ b h. is_later (held_of s.blocks b).stamp h.stamp ≡ false) block g s.blocks next.stamp (λ b. not_later_itself (held_of s.blocks b).stamp);
+    stamps = put_each (λ b h. is_later (held_of s.blocks b).stamp h.stamp ≡ false) block g s.blocks next.stamp
+        (λ b. not_later_itself (held_of s.blocks b).stamp);
     counted = rises;
     opened = put_each (λ b h. is_asking h ≡ true → (is_asking (held_of s.blocks b) ≡ true) ⊎ opens b) block g s.blocks next.opened (λ b a. inl a);
   }
 
   -- one block changes
-  pub follows_with : (s : TokensState) (block : BlockId) (g : Held) → IsSound s → IsNext (opens block) (epoch_of s.epochs (slot_of block.ino.0)) (held_of s.blocks block) g → Follows opens s (with_held s block g)
+  pub follows_with : (s : TokensState) (block : BlockId) (g : Held) → IsSound s
+      → IsNext (opens block) (epoch_of s.epochs (slot_of block.ino.0)) (held_of s.blocks block) g → Follows opens s (with_held s block g)
   follows_with s block g p next = follows_put s block g s.req p (omega arith) next
 
   -- what follows what follows, follows
@@ -61,9 +64,11 @@ module _ (opens : BlockId → Type 0) where
       joined A B C f (inr c) = inr c
 
   -- of a step that follows, many follow
-  pub follows_steps : {A : Type 0} (step : TokensState → A → Done) → ((s : TokensState) (x : A) → IsSound s → Follows opens s (step s x).state) → (s : TokensState) (xs : List A) → IsSound s → Follows opens s (steps step s xs).state
+  pub follows_steps : {A : Type 0} (step : TokensState → A → Done) → ((s : TokensState) (x : A) → IsSound s → Follows opens s (step s x).state)
+      → (s : TokensState) (xs : List A) → IsSound s → Follows opens s (steps step s xs).state
   follows_steps step one s [] p = follows_still s p
-  follows_steps step one s (x ∷ xs) p = let f = one s x p in follows_through s (step s x).state (steps step (step s x).state xs).state f (follows_steps step one (step s x).state xs f.sound)
+  follows_steps step one s (x ∷ xs) p = let f =
+      one s x p in follows_through s (step s x).state (steps step (step s x).state xs).state f (follows_steps step one (step s x).state xs f.sound)
 
 -- what opens only what was open opens nothing
 pub follows_less : (opens : BlockId → Type 0) (s t : TokensState) → Follows (λ b. is_asking (held_of s.blocks b) ≡ true) s t → Follows opens s t

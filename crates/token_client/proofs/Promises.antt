@@ -33,7 +33,8 @@ use Rattle.token_client.proofs.SoundBlocks.{asks_by_fetch, asks_less, unheld_is_
 use Rattle.token_client.proofs.Transitions.{epoch_at, ask-follows, same-follows, give-follows, recalled_again-follows, ask_again-follows}
 
 -- asking changes no epoch, and no stamp of the block
-ask-same : (s : TokensState) (block : BlockId) (mode : Mode) → ((new_want s block mode).state.epochs ≡ s.epochs) × ((held_of (new_want s block mode).state.blocks block).stamp ≡ (held_of s.blocks block).stamp)
+ask-same : (s : TokensState) (block : BlockId) (mode : Mode)
+    → ((new_want s block mode).state.epochs ≡ s.epochs) × ((held_of (new_want s block mode).state.blocks block).stamp ≡ (held_of s.blocks block).stamp)
 unfolding new_want
 ask-same s block mode =
     let h : Held = held_of s.blocks block in
@@ -42,12 +43,14 @@ ask-same s block mode =
     (λ t. (refl, ap (λ (g : Held). g.stamp) (held_of-put_itself block (asked h (s.req + 1) mode) s.blocks)))
     (λ t. (refl, refl))
 
-refetch-same : (s : TokensState) (block : BlockId) → ((refetch s block).state.epochs ≡ s.epochs) × ((held_of (refetch s block).state.blocks block).stamp ≡ (held_of s.blocks block).stamp)
+refetch-same : (s : TokensState) (block : BlockId)
+    → ((refetch s block).state.epochs ≡ s.epochs) × ((held_of (refetch s block).state.blocks block).stamp ≡ (held_of s.blocks block).stamp)
 unfolding refetch
 refetch-same s block =
     let h : Held = held_of s.blocks block in
     let dropped : TokensState = with_held s block (unfetched h) in
-    by_test (λ (d : Done). (d.state.epochs ≡ s.epochs) × ((held_of d.state.blocks block).stamp ≡ h.stamp)) (is_some h.fetch) (new_want dropped block Copy) (still s)
+    by_test (λ (d : Done). (d.state.epochs ≡ s.epochs) × ((held_of d.state.blocks block).stamp ≡ h.stamp)) (is_some h.fetch) (new_want dropped block Copy)
+    (still s)
     (λ t. ((ask-same dropped block Copy).0, (ask-same dropped block Copy).1 ∙ ap (λ (g : Held). g.stamp) (held_of-put_itself block (unfetched h) s.blocks)))
     (λ t. (refl, refl))
 
@@ -74,10 +77,13 @@ refetch-follows opens s p block =
 
 -- what is known of each block once a promise has dropped what it ends
 pub dropped-known : (s : TokensState) (slot : ℕ) (b : BlockId) → held_of (all_dropped_in slot s.blocks) b ≡ dropped_in slot b (held_of s.blocks b)
-dropped-known s slot b = held_of-changed (dropped_in slot) b s.blocks (by_test (λ (g : Held). g ≡ unknown) (is_in_slot slot b) (promise_dropped unknown) unknown (λ t. refl) (λ t. refl))
+dropped-known s slot b =
+    held_of-changed (dropped_in slot) b s.blocks
+    (by_test (λ (g : Held). g ≡ unknown) (is_in_slot slot b) (promise_dropped unknown) unknown (λ t. refl) (λ t. refl))
 
 module _ (opens : BlockId → Type 0) (s : TokensState) (p : IsSound s) where
-  recalled_above-follows : (block : BlockId) (stamp : Stamp) (keep : Bool) → stamp.epoch ≡ epoch_at s block → is_later stamp (held_of s.blocks block).stamp ≡ true → Follows opens s (recalled_above s block stamp keep).state
+  recalled_above-follows : (block : BlockId) (stamp : Stamp) (keep : Bool) → stamp.epoch ≡ epoch_at s block
+      → is_later stamp (held_of s.blocks block).stamp ≡ true → Follows opens s (recalled_above s block stamp keep).state
   unfolding recalled_above
   recalled_above-follows block stamp keep promised above =
       let asked_for : Done = refetch s block in
@@ -93,7 +99,8 @@ module _ (opens : BlockId → Type 0) (s : TokensState) (p : IsSound s) where
   recalled-follows : (block : BlockId) (stamp : Stamp) (keep : Bool) → stamp.epoch ≡ epoch_at s block → Follows opens s (recalled s block stamp keep).state
   unfolding recalled
   recalled-follows block stamp keep promised =
-      by_test (λ (d : Done). Follows opens s d.state) (is_later stamp (held_of s.blocks block).stamp) (recalled_above s block stamp keep) (recalled_again s block stamp)
+      by_test (λ (d : Done). Follows opens s d.state) (is_later stamp (held_of s.blocks block).stamp) (recalled_above s block stamp keep)
+      (recalled_again s block stamp)
       (λ t. recalled_above-follows block stamp keep promised t)
       (λ t. recalled_again-follows opens s p block stamp)
 
@@ -115,7 +122,8 @@ module _ (opens : BlockId → Type 0) (s : TokensState) (p : IsSound s) where
       (λ t. follows_steps opens ask_again (λ u block q. ask_again-follows opens u q block) s (wanted_in s.blocks) p)
 
   -- a promise drops what it ends
-  dropped-sound : (slot epoch : ℕ) (b : BlockId) → IsSoundBlock (epoch_of (slice_set s.epochs slot epoch) (slot_of b.ino.0)) (dropped_in slot b (held_of s.blocks b))
+  dropped-sound : (slot epoch : ℕ) (b : BlockId)
+      → IsSoundBlock (epoch_of (slice_set s.epochs slot epoch) (slot_of b.ino.0)) (dropped_in slot b (held_of s.blocks b))
   dropped-sound slot epoch b =
       let h : Held = held_of s.blocks b in
       let other : is_in_slot slot b ≡ false → slot_of b.ino.0 ≢ slot = λ f. apart (slot_of b.ino.0) slot f in
@@ -130,7 +138,8 @@ module _ (opens : BlockId → Type 0) (s : TokensState) (p : IsSound s) where
   dropped-at slot b h = by_test (λ (g : Held). g.stamp ≡ h.stamp) (is_in_slot slot b) (promise_dropped h) h (λ t. refl) (λ t. refl)
 
   dropped-asks : (slot : ℕ) (b : BlockId) (h : Held) → is_asking (dropped_in slot b h) ≡ true → is_asking h ≡ true
-  dropped-asks slot b h = by_test (λ (g : Held). is_asking g ≡ true → is_asking h ≡ true) (is_in_slot slot b) (promise_dropped h) h (λ t a. asks_less h a) (λ t a. a)
+  dropped-asks slot b h =
+      by_test (λ (g : Held). is_asking g ≡ true → is_asking h ≡ true) (is_in_slot slot b) (promise_dropped h) h (λ t a. asks_less h a) (λ t a. a)
 
   raised-follows : (slot epoch : ℕ) → Follows opens s (raised s slot epoch)
   raised-follows slot epoch = record {
@@ -138,7 +147,8 @@ module _ (opens : BlockId → Type 0) (s : TokensState) (p : IsSound s) where
       sorted = in_order-changed (dropped_in slot) s.blocks p.sorted;
       each = λ b. subst (IsSoundBlock (epoch_of (slice_set s.epochs slot epoch) (slot_of b.ino.0))) (sym (dropped-known s slot b)) (dropped-sound slot epoch b);
     };
-    stamps = λ b. ap (λ (g : Held). is_later (held_of s.blocks b).stamp g.stamp) (dropped-known s slot b) ∙ ap (is_later (held_of s.blocks b).stamp) (dropped-at slot b (held_of s.blocks b)) ∙ not_later_itself (held_of s.blocks b).stamp;
+    stamps = λ b. ap (λ (g : Held). is_later (held_of s.blocks b).stamp g.stamp) (dropped-known s slot b)
+        ∙ ap (is_later (held_of s.blocks b).stamp) (dropped-at slot b (held_of s.blocks b)) ∙ not_later_itself (held_of s.blocks b).stamp;
     counted = omega arith;
     opened = λ b a. inl (dropped-asks slot b (held_of s.blocks b) (sym (ap is_asking (dropped-known s slot b)) ∙ a));
   }
@@ -156,7 +166,8 @@ Each-weaker P Q f (x ∷ xs) h = (f x h.0, Each-weaker P Q f xs h.1)
 abbrev pub Agrees : List (BlockId × Held) → List (BlockId × Held) → Type 0
 Agrees table es = Each (λ e. held_of table e.0 ≡ e.1) es
 
-agrees-more : (d : BlockId × Held) (table es : List (BlockId × Held)) → AllByRecursion (λ b. block_cmp d.0 b ≡ Less) (keys_of es) → Agrees table es → Agrees (d ∷ table) es
+agrees-more : (d : BlockId × Held) (table es : List (BlockId × Held)) → AllByRecursion (λ b. block_cmp d.0 b ≡ Less) (keys_of es) → Agrees table es
+    → Agrees (d ∷ table) es
 agrees-more d table [] below h = tt
 agrees-more d table (e ∷ es) below h =
     let apart : eq_by_cmp block_cmp e.0 d.0 ≡ false = ap is_eq (block_cmp_total.antisymm e.0 d.0) ∙ ap (λ o. is_eq (ordering_reverse o)) below.0 in
@@ -178,8 +189,16 @@ IsFetched table slot b = (is_in_slot slot b ≡ true) × (is_some (held_of table
 pub fetched-facts : (table : List (BlockId × Held)) (slot : ℕ) (es : List (BlockId × Held)) → Agrees table es → Each (IsFetched table slot) (fetched_in slot es)
 fetched-facts table slot [] h = tt
 fetched-facts table slot (e ∷ es) h =
-    by_test (λ (rows : List (BlockId × Held)). Each (IsFetched table slot) (keys_of rows)) (is_in_slot slot e.0 && is_some e.1.fetch) (e ∷ filter (λ e. is_in_slot slot e.0 && is_some e.1.fetch) es) (filter (λ e. is_in_slot slot e.0 && is_some e.1.fetch) es)
-    (λ t. ((and_first (is_in_slot slot e.0) (is_some e.1.fetch) t, ap (λ (g : Held). is_some g.fetch) h.0 ∙ and_second (is_in_slot slot e.0) (is_some e.1.fetch) t), fetched-facts table slot es h.1))
+    by_test (λ (rows : List (BlockId × Held)). Each (IsFetched table slot) (keys_of rows)) (is_in_slot slot e.0 && is_some e.1.fetch)
+    (e ∷ filter (λ e. is_in_slot slot e.0 && is_some e.1.fetch) es) (filter (λ e. is_in_slot slot e.0 && is_some e.1.fetch) es)
+    (λ t. (
+      (
+        and_first (is_in_slot slot e.0) (is_some e.1.fetch) t,
+        ap (λ (g : Held). is_some g.fetch) h.0
+            ∙ and_second (is_in_slot slot e.0) (is_some e.1.fetch) t,
+      ),
+      fetched-facts table slot es h.1,
+    ))
     (λ t. fetched-facts table slot es h.1)
 
 -- a copy of the block may be asked for
@@ -196,7 +215,8 @@ ask-free s block mode b free =
     (λ t. (put_same (λ (h : Held). is_own h.mode) b block g s.blocks refl ∙ free.0, put_same (λ (h : Held). is_none h.giving) b block g s.blocks refl ∙ free.1))
     (λ t. free)
 
-asks-follow : (opens : BlockId → Type 0) (s : TokensState) → IsSound s → (blocks : List BlockId) → Each (IsFree s) blocks → Each opens blocks → Follows opens s (steps ask_copy s blocks).state
+asks-follow : (opens : BlockId → Type 0) (s : TokensState) → IsSound s → (blocks : List BlockId) → Each (IsFree s) blocks → Each opens blocks
+    → Follows opens s (steps ask_copy s blocks).state
 asks-follow opens s p [] free why = follows_still opens s p
 asks-follow opens s p (b ∷ bs) free why =
     let t : TokensState = (new_want s b Copy).state in

@@ -24,23 +24,27 @@ none_wanted None req mode h t = t
 none_wanted (Some w) req mode h t = h
 
 -- without a want nothing is accepted
-not_accepted : (s : TokensState) (block : BlockId) (stamp : Stamp) (inc req : ℕ) (mode : Mode) → is_none (held_of s.blocks block).want ≡ true → accepts s block stamp inc req mode ≡ true → false ≡ true
+not_accepted : (s : TokensState) (block : BlockId) (stamp : Stamp) (inc req : ℕ) (mode : Mode) → is_none (held_of s.blocks block).want ≡ true
+    → accepts s block stamp inc req mode ≡ true → false ≡ true
 not_accepted s block stamp inc req mode h t =
     let g : Held = held_of s.blocks block in
-    none_wanted g.want req mode h (and_first' (is_wanted g.want req mode) (is_later stamp g.stamp) (and_second (is_promised s block stamp && (inc == s.inc)) (is_answer g stamp req mode) t))
+    none_wanted g.want req mode h
+    (and_first' (is_wanted g.want req mode) (is_later stamp g.stamp) (and_second (is_promised s block stamp && (inc == s.inc)) (is_answer g stamp req mode) t))
   where
     and_first' : (a b : Bool) → (a && b) ≡ true → a ≡ true
     and_first' true b e = refl
     and_first' false b e = e
 
-granted-still : (s : TokensState) (block : BlockId) (stamp : Stamp) (inc req : ℕ) → is_none (held_of s.blocks block).want ≡ true → (mode : Mode) (entry : Entry) → on_granted s block stamp inc req mode entry ≡ still s
+granted-still : (s : TokensState) (block : BlockId) (stamp : Stamp) (inc req : ℕ) → is_none (held_of s.blocks block).want ≡ true → (mode : Mode) (entry : Entry)
+    → on_granted s block stamp inc req mode entry ≡ still s
 unfolding on_granted
 granted-still s block stamp inc req h mode entry =
     by_test (λ (d : Done). d ≡ still s) (accepts s block stamp inc req mode)
     (record { state = with_held s block (grant_taken (held_of s.blocks block) stamp mode entry); outs = grant_next block mode entry.place ∷ [] }) (still s)
     (λ t. contrary (not_accepted s block stamp inc req mode h t)) (λ t. refl)
 
-supplied-still : (s : TokensState) (block : BlockId) (stamp : Stamp) (inc req : ℕ) → is_none (held_of s.blocks block).want ≡ true → (ver : ℕ) (value : Option (List ℕ)) → on_supplied s block stamp inc req ver value ≡ still s
+supplied-still : (s : TokensState) (block : BlockId) (stamp : Stamp) (inc req : ℕ) → is_none (held_of s.blocks block).want ≡ true
+    → (ver : ℕ) (value : Option (List ℕ)) → on_supplied s block stamp inc req ver value ≡ still s
 unfolding on_supplied
 supplied-still s block stamp inc req h ver value =
     by_test (λ (d : Done). d ≡ still s) (accepts s block stamp inc req Copy)
@@ -71,18 +75,23 @@ refetch-core s block =
     (λ t. ask-core dropped block Copy ∙ put_same core_of block block (unfetched h) s.blocks refl) (λ t. refl)
 
 put_off-core : (h : Held) (stamp : Stamp) (keep : Bool) → core_of (put_off h stamp keep) ≡ core_of h
-put_off-core h stamp keep = by_test (λ (g : Held). core_of g ≡ core_of h) (gives_after h.giving stamp) h (record h { giving = Some (record { stamp = stamp; keep = keep }) }) (λ t. refl) (λ t. refl)
+put_off-core h stamp keep =
+    by_test (λ (g : Held). core_of g ≡ core_of h) (gives_after h.giving stamp) h (record h { giving = Some (record { stamp = stamp; keep = keep }) })
+    (λ t. refl) (λ t. refl)
 
-give-core : (s : TokensState) (block : BlockId) (stamp : Stamp) (keep : Bool) → is_dirty (held_of s.blocks block) ≡ true → core_in (give s block stamp keep).state block ≡ core_in s block
+give-core : (s : TokensState) (block : BlockId) (stamp : Stamp) (keep : Bool) → is_dirty (held_of s.blocks block) ≡ true
+    → core_in (give s block stamp keep).state block ≡ core_in s block
 unfolding give
 give-core s block stamp keep dirty =
     let h : Held = held_of s.blocks block in
     by_test (λ (d : Done). core_in d.state block ≡ core_in s block) (is_dirty h)
-    (record { state = with_held s block (put_off h stamp keep); outs = Flush block ∷ [] }) (record { state = with_held s block (given_up h stamp keep); outs = Gave block stamp ∷ [] })
+    (record { state = with_held s block (put_off h stamp keep); outs = Flush block ∷ [] })
+    (record { state = with_held s block (given_up h stamp keep); outs = Gave block stamp ∷ [] })
     (λ t. put_same core_of block block (put_off h stamp keep) s.blocks (put_off-core h stamp keep))
     (λ t. contrary (sym t ∙ dirty))
 
-recalled_above-core : (s : TokensState) (block : BlockId) (stamp : Stamp) (keep : Bool) → is_dirty (held_of s.blocks block) ≡ true → core_in (recalled_above s block stamp keep).state block ≡ core_in s block
+recalled_above-core : (s : TokensState) (block : BlockId) (stamp : Stamp) (keep : Bool) → is_dirty (held_of s.blocks block) ≡ true
+    → core_in (recalled_above s block stamp keep).state block ≡ core_in s block
 unfolding recalled_above
 recalled_above-core s block stamp keep dirty =
     let one : Done = refetch s block in
@@ -93,18 +102,22 @@ recalled_above-core s block stamp keep dirty =
 recalled_again-core : (s : TokensState) (block : BlockId) (stamp : Stamp) → core_in (recalled_again s block stamp).state block ≡ core_in s block
 unfolding recalled_again
 recalled_again-core s block stamp =
-    by_test (λ (d : Done). core_in d.state block ≡ core_in s block) (was_answered (held_of s.blocks block) stamp) (record { state = s; outs = Gave block stamp ∷ [] }) (still s) (λ t. refl) (λ t. refl)
+    by_test (λ (d : Done). core_in d.state block ≡ core_in s block) (was_answered (held_of s.blocks block) stamp)
+    (record { state = s; outs = Gave block stamp ∷ [] }) (still s) (λ t. refl) (λ t. refl)
 
-recalled-core : (s : TokensState) (block : BlockId) (stamp : Stamp) (keep : Bool) → is_dirty (held_of s.blocks block) ≡ true → core_in (recalled s block stamp keep).state block ≡ core_in s block
+recalled-core : (s : TokensState) (block : BlockId) (stamp : Stamp) (keep : Bool) → is_dirty (held_of s.blocks block) ≡ true
+    → core_in (recalled s block stamp keep).state block ≡ core_in s block
 unfolding recalled
 recalled-core s block stamp keep dirty =
-    by_test (λ (d : Done). core_in d.state block ≡ core_in s block) (is_later stamp (held_of s.blocks block).stamp) (recalled_above s block stamp keep) (recalled_again s block stamp)
+    by_test (λ (d : Done). core_in d.state block ≡ core_in s block) (is_later stamp (held_of s.blocks block).stamp) (recalled_above s block stamp keep)
+    (recalled_again s block stamp)
     (λ t. recalled_above-core s block stamp keep dirty) (λ t. recalled_again-core s block stamp)
 
 pub dirty_keeps_its_stamp : DirtyKeepsItsStamp
 unfolding on_recalled
 dirty_keeps_its_stamp s block stamp keep dirty =
-    by_test (λ (d : Done). core_in d.state block ≡ core_in s block) (is_promised s block stamp) (recalled s block stamp keep) (still s) (λ t. recalled-core s block stamp keep dirty) (λ t. refl)
+    by_test (λ (d : Done). core_in d.state block ≡ core_in s block) (is_promised s block stamp) (recalled s block stamp keep) (still s)
+    (λ t. recalled-core s block stamp keep dirty) (λ t. refl)
 
 -- a block has neither a fetch nor a recall that is put off
 abbrev IsDropped : TokensState → BlockId → Type 0

@@ -51,8 +51,10 @@ pub asks_less : (h : Held) → is_asking (unfetched h) ≡ true → is_asking h 
 asks_less h a = or_left (is_some h.want) (is_some h.fetch) a
 
 -- that an asking block is clean follows from the rest
-sound : (epoch : ℕ) (h : Held) → (is_asking h ≡ true → is_own h.mode ≡ false) → (is_asking h ≡ true → is_none h.giving ≡ true) → (is_some h.fetch ≡ true → is_held h.mode ≡ false)
-    → h.settled ≤ h.ver → (is_dirty h ≡ true → is_own h.mode ≡ true) → IsGivingAbove epoch h.stamp h.giving → (is_held h.mode ≡ false → is_none h.value ≡ true) → IsSoundBlock epoch h
+sound : (epoch : ℕ) (h : Held) → (is_asking h ≡ true → is_own h.mode ≡ false) → (is_asking h ≡ true → is_none h.giving ≡ true)
+    → (is_some h.fetch ≡ true → is_held h.mode ≡ false)
+    → h.settled ≤ h.ver → (is_dirty h ≡ true → is_own h.mode ≡ true) → IsGivingAbove epoch h.stamp h.giving → (is_held h.mode ≡ false → is_none h.value ≡ true)
+    → IsSoundBlock epoch h
 sound epoch h unowned ungiven unheld below own above valueless = record {
   asks_unowned = unowned;
   asks_clean = λ a. clean_unless_owned (is_dirty h) (is_own h.mode) own (unowned a);
@@ -72,19 +74,28 @@ itself_clean n h = grind (arith, nat_tests)
 
 module _ (epoch : ℕ) (h : Held) (p : IsSoundBlock epoch h) where
   pub asked-sound : (req : ℕ) (mode : Mode) → is_own h.mode ≡ false → is_none h.giving ≡ true → IsSoundBlock epoch (asked h req mode)
-  asked-sound req mode unowned ungiven = sound epoch (asked h req mode) (λ a. unowned) (λ a. ungiven) p.fetch_unheld p.settled_below p.dirty_owned p.giving_above p.unheld_valueless
+  asked-sound req mode unowned ungiven =
+      sound epoch (asked h req mode) (λ a. unowned) (λ a. ungiven) p.fetch_unheld p.settled_below p.dirty_owned p.giving_above p.unheld_valueless
 
   pub asked_again-sound : (w : Wanted) → is_asking h ≡ true → IsSoundBlock epoch (asked_again h w)
-  asked_again-sound w a = sound epoch (asked_again h w) (λ b. p.asks_unowned a) (λ b. p.asks_ungiven a) p.fetch_unheld p.settled_below p.dirty_owned p.giving_above p.unheld_valueless
+  asked_again-sound w a =
+      sound epoch (asked_again h w) (λ b. p.asks_unowned a)
+      (λ b. p.asks_ungiven a) p.fetch_unheld p.settled_below p.dirty_owned p.giving_above p.unheld_valueless
 
   owned-sound : (stamp : Stamp) (ver : ℕ) → is_none h.giving ≡ true → IsSoundBlock epoch (owned h stamp ver)
-  owned-sound stamp ver ungiven = sound epoch (owned h stamp ver) (λ a. contrary a) (λ a. ungiven) (λ f. contrary f) (omega arith) (λ d. refl) (nothing_above epoch stamp h.giving ungiven) (λ v. refl)
+  owned-sound stamp ver ungiven =
+      sound epoch (owned h stamp ver) (λ a. contrary a) (λ a. ungiven) (λ f. contrary f) (omega arith) (λ d. refl) (nothing_above epoch stamp h.giving ungiven)
+      (λ v. refl)
 
   pub copied-sound : (stamp : Stamp) (ver : ℕ) (value : Option (List ℕ)) → is_none h.giving ≡ true → IsSoundBlock epoch (copied h stamp ver value)
-  copied-sound stamp ver value ungiven = sound epoch (copied h stamp ver value) (λ a. refl) (λ a. ungiven) (λ f. contrary f) (omega arith) (λ d. contrary (itself_clean ver d)) (nothing_above epoch stamp h.giving ungiven) (λ v. contrary (sym v))
+  copied-sound stamp ver value ungiven =
+      sound epoch (copied h stamp ver value) (λ a. refl) (λ a. ungiven) (λ f. contrary f) (omega arith) (λ d. contrary (itself_clean ver d))
+      (nothing_above epoch stamp h.giving ungiven) (λ v. contrary (sym v))
 
   fetched_from-sound : (stamp : Stamp) (ver : ℕ) (place : Place) → is_asking h ≡ true → IsSoundBlock epoch (fetched_from h stamp ver place)
-  fetched_from-sound stamp ver place a = sound epoch (fetched_from h stamp ver place) (λ b. refl) (λ b. p.asks_ungiven a) (λ f. refl) p.settled_below (λ d. contrary (sym (p.asks_clean a) ∙ d)) (nothing_above epoch stamp h.giving (p.asks_ungiven a)) (λ v. refl)
+  fetched_from-sound stamp ver place a =
+      sound epoch (fetched_from h stamp ver place) (λ b. refl) (λ b. p.asks_ungiven a) (λ f. refl) p.settled_below (λ d. contrary (sym (p.asks_clean a) ∙ d))
+      (nothing_above epoch stamp h.giving (p.asks_ungiven a)) (λ v. refl)
 
   copy_granted-sound : (stamp : Stamp) (ver : ℕ) (place : Option Place) → is_asking h ≡ true → IsSoundBlock epoch (copy_granted h stamp ver place)
   copy_granted-sound stamp ver None a = copied-sound stamp ver None (p.asks_ungiven a)
@@ -92,15 +103,19 @@ module _ (epoch : ℕ) (h : Held) (p : IsSoundBlock epoch h) where
 
   pub grant_taken-sound : (stamp : Stamp) (mode : Mode) (entry : Entry) → is_asking h ≡ true → IsSoundBlock epoch (grant_taken h stamp mode entry)
   grant_taken-sound stamp mode entry a =
-      by_test (IsSoundBlock epoch) (is_own mode) (owned h stamp entry.ver) (copy_granted h stamp entry.ver entry.place) (λ t. owned-sound stamp entry.ver (p.asks_ungiven a)) (λ t. copy_granted-sound stamp entry.ver entry.place a)
+      by_test (IsSoundBlock epoch) (is_own mode) (owned h stamp entry.ver) (copy_granted h stamp entry.ver entry.place)
+      (λ t. owned-sound stamp entry.ver (p.asks_ungiven a)) (λ t. copy_granted-sound stamp entry.ver entry.place a)
 
   pub fetch_ended-sound : (fetch : Option Fetch) (value : Option (List ℕ)) → is_none h.giving ≡ true → IsSoundBlock epoch (fetch_ended h fetch value)
   fetch_ended-sound None value ungiven = p
-  fetch_ended-sound (Some fetch) value ungiven = sound epoch (fetch_ended h (Some fetch) value) (λ a. refl) (λ a. ungiven) (λ f. contrary f) (omega arith) (λ d. contrary (itself_clean fetch.ver d)) (nothing_above epoch h.stamp h.giving ungiven) (λ v. contrary (sym v))
+  fetch_ended-sound (Some fetch) value ungiven =
+      sound epoch (fetch_ended h (Some fetch) value) (λ a. refl) (λ a. ungiven) (λ f. contrary f) (omega arith) (λ d. contrary (itself_clean fetch.ver d))
+      (nothing_above epoch h.stamp h.giving ungiven) (λ v. contrary (sym v))
 
   pub written-sound : (value : Option (List ℕ)) → is_own h.mode ≡ true → IsSoundBlock epoch (written h value)
   written-sound value own =
-      sound epoch (written h value) p.asks_unowned p.asks_ungiven p.fetch_unheld (let below : h.settled ≤ h.ver = p.settled_below in omega arith) (λ d. own) p.giving_above (λ v. contrary (sym v ∙ own_is_held h.mode own))
+      sound epoch (written h value) p.asks_unowned p.asks_ungiven p.fetch_unheld (let below : h.settled ≤ h.ver = p.settled_below in omega arith)
+      (λ d. own) p.giving_above (λ v. contrary (sym v ∙ own_is_held h.mode own))
 
   pub version_settled-sound : (ver : ℕ) → nat_lt h.settled ver ≡ true → nat_le ver h.ver ≡ true → IsSoundBlock epoch (version_settled h ver)
   version_settled-sound ver more most =
@@ -115,21 +130,27 @@ module _ (epoch : ℕ) (h : Held) (p : IsSoundBlock epoch h) where
   unasked-sound = sound epoch (unasked h) (λ a. contrary a) (λ a. contrary a) (λ f. contrary f) p.settled_below p.dirty_owned p.giving_above p.unheld_valueless
 
   pub unfetched-sound : IsSoundBlock epoch (unfetched h)
-  unfetched-sound = sound epoch (unfetched h) (λ a. p.asks_unowned (asks_less h a)) (λ a. p.asks_ungiven (asks_less h a)) (λ f. contrary f) p.settled_below p.dirty_owned p.giving_above p.unheld_valueless
+  unfetched-sound =
+      sound epoch (unfetched h) (λ a. p.asks_unowned (asks_less h a)) (λ a. p.asks_ungiven (asks_less h a))
+      (λ f. contrary f) p.settled_below p.dirty_owned p.giving_above p.unheld_valueless
 
   pub promise_dropped-sound : (raised : ℕ) → IsSoundBlock raised (promise_dropped h)
-  promise_dropped-sound raised = sound raised (promise_dropped h) (λ a. p.asks_unowned (asks_less h a)) (λ a. refl) (λ f. contrary f) p.settled_below p.dirty_owned tt p.unheld_valueless
+  promise_dropped-sound raised =
+      sound raised (promise_dropped h) (λ a. p.asks_unowned (asks_less h a)) (λ a. refl) (λ f. contrary f) p.settled_below p.dirty_owned tt p.unheld_valueless
 
-  pub put_off-sound : (stamp : Stamp) (keep : Bool) → is_dirty h ≡ true → stamp.epoch ≡ epoch → is_later stamp h.stamp ≡ true → IsSoundBlock epoch (put_off h stamp keep)
+  pub put_off-sound : (stamp : Stamp) (keep : Bool) → is_dirty h ≡ true → stamp.epoch ≡ epoch → is_later stamp h.stamp ≡ true
+      → IsSoundBlock epoch (put_off h stamp keep)
   put_off-sound stamp keep dirty promised above =
       let given : Held = record h { giving = Some (record { stamp = stamp; keep = keep }) } in
       by_test (IsSoundBlock epoch) (gives_after h.giving stamp) h given (λ t. p)
-      (λ t. sound epoch given p.asks_unowned (λ a. contrary (sym (p.asks_clean a) ∙ dirty)) p.fetch_unheld p.settled_below p.dirty_owned (promised, above) p.unheld_valueless)
+      (λ t. sound epoch given p.asks_unowned (λ a. contrary (sym (p.asks_clean a) ∙ dirty)) p.fetch_unheld p.settled_below p.dirty_owned
+      (promised, above) p.unheld_valueless)
 
   pub given_up-sound : (stamp : Stamp) (keep : Bool) → is_dirty h ≡ false → IsSoundBlock epoch (given_up h stamp keep)
   given_up-sound stamp keep clean =
       let kept : Held = record h { mode = Copy; stamp = stamp; giving = None } in
       let gone : Held = record h { mode = Nothing; value = None; stamp = stamp; giving = None } in
       by_test (IsSoundBlock epoch) (keep && is_held h.mode) kept gone
-      (λ t. sound epoch kept (λ a. refl) (λ a. refl) (λ f. contrary (sym (p.fetch_unheld f) ∙ and_second keep (is_held h.mode) t)) p.settled_below (λ d. contrary (sym clean ∙ d)) tt (λ v. contrary (sym v)))
+      (λ t. sound epoch kept (λ a. refl) (λ a. refl) (λ f. contrary (sym (p.fetch_unheld f) ∙ and_second keep (is_held h.mode) t)) p.settled_below
+      (λ d. contrary (sym clean ∙ d)) tt (λ v. contrary (sym v)))
       (λ t. sound epoch gone (λ a. refl) (λ a. refl) (λ f. refl) p.settled_below (λ d. contrary (sym clean ∙ d)) tt (λ v. refl))

@@ -22,11 +22,13 @@ pub held_of-put_itself : (block : BlockId) (h : Held) (es : List (BlockId × Hel
 held_of-put_itself = at-put_itself block_cmp_total block_cmp_exact unknown
 
 -- what holds of the block that is put, and held of every other, holds of all
-pub put_each : (P : BlockId → Held → Type 0) (k : BlockId) (h : Held) (es : List (BlockId × Held)) → P k h → ((q : BlockId) → P q (held_of es q)) → (q : BlockId) → P q (held_of (put_held es k h) q)
+pub put_each : (P : BlockId → Held → Type 0) (k : BlockId) (h : Held) (es : List (BlockId × Held)) → P k h → ((q : BlockId) → P q (held_of es q))
+    → (q : BlockId) → P q (held_of (put_held es k h) q)
 put_each = each_put block_cmp_total block_cmp_exact unknown
 
 -- what the block that is put has as before, each block has as before
-pub put_same : {A : Type 0} (f : Held → A) (q k : BlockId) (h : Held) (es : List (BlockId × Held)) → f h ≡ f (held_of es k) → f (held_of (put_held es k h) q) ≡ f (held_of es q)
+pub put_same : {A : Type 0} (f : Held → A) (q k : BlockId) (h : Held) (es : List (BlockId × Held)) → f h ≡ f (held_of es k)
+    → f (held_of (put_held es k h) q) ≡ f (held_of es q)
 put_same f q k h es same = same_put block_cmp_total block_cmp_exact unknown f q k h es same
 
 -- the blocks stand in order
@@ -42,5 +44,6 @@ pub in_order-changed : (g : BlockId → Held → Held) (es : List (BlockId × He
 in_order-changed g es sorted = subst (IsStrictlySortedBy block_cmp) (sym (keys-changed block_cmp_total block_cmp_exact unknown g es)) sorted
 
 -- what is known of each block once all are changed in place
-pub held_of-changed : (g : BlockId → Held → Held) (q : BlockId) (es : List (BlockId × Held)) → g q unknown ≡ unknown → held_of (map (λ e. (e.0, g e.0 e.1)) es) q ≡ g q (held_of es q)
+pub held_of-changed : (g : BlockId → Held → Held) (q : BlockId) (es : List (BlockId × Held)) → g q unknown ≡ unknown
+    → held_of (map (λ e. (e.0, g e.0 e.1)) es) q ≡ g q (held_of es q)
 held_of-changed = at-changed block_cmp_total block_cmp_exact unknown

@@ -41,25 +41,33 @@ answered_want None req mode h = h
 answered_want (Some w) req mode h = refl
 
 granted_at : (h : Held) (stamp : Stamp) (mode : Mode) (entry : Entry) → (grant_taken h stamp mode entry).stamp ≡ stamp
-granted_at h stamp mode entry = by_test (λ (g : Held). g.stamp ≡ stamp) (is_own mode) (owned h stamp entry.ver) (copy_granted h stamp entry.ver entry.place) (λ t. refl) (λ t. copy_at entry.place)
+granted_at h stamp mode entry =
+    by_test (λ (g : Held). g.stamp ≡ stamp) (is_own mode) (owned h stamp entry.ver) (copy_granted h stamp entry.ver entry.place) (λ t. refl)
+    (λ t. copy_at entry.place)
   where
     copy_at : (place : Option Place) → (copy_granted h stamp entry.ver place).stamp ≡ stamp
     copy_at None = refl
     copy_at (Some place) = refl
 
 put_off-at : (h : Held) (stamp : Stamp) (keep : Bool) → (put_off h stamp keep).stamp ≡ h.stamp
-put_off-at h stamp keep = by_test (λ (g : Held). g.stamp ≡ h.stamp) (gives_after h.giving stamp) h (record h { giving = Some (record { stamp = stamp; keep = keep }) }) (λ t. refl) (λ t. refl)
+put_off-at h stamp keep =
+    by_test (λ (g : Held). g.stamp ≡ h.stamp) (gives_after h.giving stamp) h (record h { giving = Some (record { stamp = stamp; keep = keep }) }) (λ t. refl)
+    (λ t. refl)
 
 put_off-asks : (h : Held) (stamp : Stamp) (keep : Bool) → is_asking (put_off h stamp keep) ≡ true → is_asking h ≡ true
-put_off-asks h stamp keep = by_test (λ (g : Held). is_asking g ≡ true → is_asking h ≡ true) (gives_after h.giving stamp) h (record h { giving = Some (record { stamp = stamp; keep = keep }) }) (λ t a. a) (λ t a. a)
+put_off-asks h stamp keep =
+    by_test (λ (g : Held). is_asking g ≡ true → is_asking h ≡ true) (gives_after h.giving stamp) h
+    (record h { giving = Some (record { stamp = stamp; keep = keep }) }) (λ t a. a) (λ t a. a)
 
 given_up-at : (h : Held) (stamp : Stamp) (keep : Bool) → (given_up h stamp keep).stamp ≡ stamp
 given_up-at h stamp keep =
-    by_test (λ (g : Held). g.stamp ≡ stamp) (keep && is_held h.mode) (record h { mode = Copy; stamp = stamp; giving = None }) (record h { mode = Nothing; value = None; stamp = stamp; giving = None }) (λ t. refl) (λ t. refl)
+    by_test (λ (g : Held). g.stamp ≡ stamp) (keep && is_held h.mode) (record h { mode = Copy; stamp = stamp; giving = None })
+    (record h { mode = Nothing; value = None; stamp = stamp; giving = None }) (λ t. refl) (λ t. refl)
 
 given_up-asks : (h : Held) (stamp : Stamp) (keep : Bool) → is_asking (given_up h stamp keep) ≡ true → is_asking h ≡ true
 given_up-asks h stamp keep =
-    by_test (λ (g : Held). is_asking g ≡ true → is_asking h ≡ true) (keep && is_held h.mode) (record h { mode = Copy; stamp = stamp; giving = None }) (record h { mode = Nothing; value = None; stamp = stamp; giving = None }) (λ t a. a) (λ t a. a)
+    by_test (λ (g : Held). is_asking g ≡ true → is_asking h ≡ true) (keep && is_held h.mode) (record h { mode = Copy; stamp = stamp; giving = None })
+    (record h { mode = Nothing; value = None; stamp = stamp; giving = None }) (λ t a. a) (λ t a. a)
 
 fetch_ended-at : (h : Held) (fetch : Option Fetch) (value : Option (List ℕ)) → (fetch_ended h fetch value).stamp ≡ h.stamp
 fetch_ended-at h None value = refl
@@ -73,14 +81,19 @@ module _ (opens : BlockId → Type 0) (s : TokensState) (p : IsSound s) where
   stays = follows_still opens s p
 
   -- a want may be opened for a block that isn't owned and isn't being given up
-  pub ask-follows : (block : BlockId) (mode : Mode) → is_own (held_of s.blocks block).mode ≡ false → is_none (held_of s.blocks block).giving ≡ true → (is_asking (held_of s.blocks block) ≡ true) ⊎ opens block → At (new_want s block mode)
+  pub ask-follows : (block : BlockId) (mode : Mode) → is_own (held_of s.blocks block).mode ≡ false → is_none (held_of s.blocks block).giving ≡ true
+      → (is_asking (held_of s.blocks block) ≡ true) ⊎ opens block → At (new_want s block mode)
   unfolding new_want
   ask-follows block mode unowned ungiven why =
       let h : Held = held_of s.blocks block in
       by_test At (nat_lt s.req (2 ^ 32 - 1))
       (record { state = record (with_held s block (asked h (s.req + 1) mode)) { req = s.req + 1 }; outs = Want block (s.req + 1) 0 mode ∷ [] }) (still s)
       (λ t. follows_put opens s block (asked h (s.req + 1) mode) (s.req + 1) p (omega arith)
-      (record { sound = asked-sound (epoch_at s block) h (p.each block) (s.req + 1) mode unowned ungiven; stamp = not_later_itself h.stamp; opened = λ a. why }))
+      (record {
+        sound = asked-sound (epoch_at s block) h (p.each block) (s.req + 1) mode unowned ungiven;
+        stamp = not_later_itself h.stamp;
+        opened = λ a. why;
+      }))
       (λ t. stays)
 
   pub on_need-follows : (block : BlockId) (mode : Mode) → opens block → At (on_need s block mode)
@@ -94,14 +107,16 @@ module _ (opens : BlockId → Type 0) (s : TokensState) (p : IsSound s) where
       (λ t. stays)
 
   -- what is put for an answer to the open want follows, where no want and no fetch is opened by it
-  pub answer-follows : (block : BlockId) (stamp : Stamp) (inc req : ℕ) (mode : Mode) (g : Held) (outs : List Out) → accepts s block stamp inc req mode ≡ true → g.stamp ≡ stamp
+  pub answer-follows : (block : BlockId) (stamp : Stamp) (inc req : ℕ) (mode : Mode) (g : Held) (outs : List Out) → accepts s block stamp inc req mode ≡ true
+      → g.stamp ≡ stamp
       → (is_asking (held_of s.blocks block) ≡ true → IsSoundBlock (epoch_at s block) g) → At (record { state = with_held s block g; outs = outs })
   answer-follows block stamp inc req mode g outs t at sound =
       let h : Held = held_of s.blocks block in
       let answer : is_answer h stamp req mode ≡ true = and_second (is_promised s block stamp && (inc == s.inc)) (is_answer h stamp req mode) t in
       let asks : is_asking h ≡ true = asks_by_want h (answered_want h.want req mode (and_first (is_wanted h.want req mode) (is_later stamp h.stamp) answer)) in
       let above : is_later stamp h.stamp ≡ true = and_second (is_wanted h.want req mode) (is_later stamp h.stamp) answer in
-      follows_with opens s block g p (record { sound = sound asks; stamp = ap (is_later h.stamp) at ∙ not_later_back h.stamp stamp above; opened = λ a. inl asks })
+      follows_with opens s block g p
+      (record { sound = sound asks; stamp = ap (is_later h.stamp) at ∙ not_later_back h.stamp stamp above; opened = λ a. inl asks })
 
   pub on_granted-follows : (block : BlockId) (stamp : Stamp) (inc req : ℕ) (mode : Mode) (entry : Entry) → At (on_granted s block stamp inc req mode entry)
   unfolding on_granted
@@ -109,10 +124,12 @@ module _ (opens : BlockId → Type 0) (s : TokensState) (p : IsSound s) where
       let h : Held = held_of s.blocks block in
       let outs : List Out = grant_next block mode entry.place ∷ [] in
       by_test At (accepts s block stamp inc req mode) (record { state = with_held s block (grant_taken h stamp mode entry); outs = outs }) (still s)
-      (λ t. answer-follows block stamp inc req mode (grant_taken h stamp mode entry) outs t (granted_at h stamp mode entry) (grant_taken-sound (epoch_at s block) h (p.each block) stamp mode entry))
+      (λ t. answer-follows block stamp inc req mode (grant_taken h stamp mode entry) outs t (granted_at h stamp mode entry)
+      (grant_taken-sound (epoch_at s block) h (p.each block) stamp mode entry))
       (λ t. stays)
 
-  pub on_supplied-follows : (block : BlockId) (stamp : Stamp) (inc req : ℕ) (ver : ℕ) (value : Option (List ℕ)) → At (on_supplied s block stamp inc req ver value)
+  pub on_supplied-follows : (block : BlockId) (stamp : Stamp) (inc req : ℕ) (ver : ℕ) (value : Option (List ℕ))
+      → At (on_supplied s block stamp inc req ver value)
   unfolding on_supplied
   on_supplied-follows block stamp inc req ver value =
       let h : Held = held_of s.blocks block in
@@ -127,23 +144,32 @@ module _ (opens : BlockId → Type 0) (s : TokensState) (p : IsSound s) where
       by_test At (serves s block stamp ver) (record { state = s; outs = supplies block ver (held_of s.blocks block).value }) (still s) (λ t. stays) (λ t. stays)
 
   -- what leaves the stamp, and opens no want and no fetch, follows where it is sound
-  pub same-follows : (block : BlockId) (g : Held) → g.stamp ≡ (held_of s.blocks block).stamp → (is_asking g ≡ true → is_asking (held_of s.blocks block) ≡ true) → IsSoundBlock (epoch_at s block) g → Follows opens s (with_held s block g)
+  pub same-follows : (block : BlockId) (g : Held) → g.stamp ≡ (held_of s.blocks block).stamp → (is_asking g ≡ true → is_asking (held_of s.blocks block) ≡ true)
+      → IsSoundBlock (epoch_at s block) g → Follows opens s (with_held s block g)
   same-follows block g at asks sound =
       let h : Held = held_of s.blocks block in
       follows_with opens s block g p (record { sound = sound; stamp = ap (is_later h.stamp) at ∙ not_later_itself h.stamp; opened = λ a. inl (asks a) })
 
-  pub give-follows : (block : BlockId) (stamp : Stamp) (keep : Bool) → stamp.epoch ≡ epoch_at s block → is_later stamp (held_of s.blocks block).stamp ≡ true → At (give s block stamp keep)
+  pub give-follows : (block : BlockId) (stamp : Stamp) (keep : Bool) → stamp.epoch ≡ epoch_at s block → is_later stamp (held_of s.blocks block).stamp ≡ true
+      → At (give s block stamp keep)
   unfolding give
   give-follows block stamp keep promised above =
       let h : Held = held_of s.blocks block in
-      by_test At (is_dirty h) (record { state = with_held s block (put_off h stamp keep); outs = Flush block ∷ [] }) (record { state = with_held s block (given_up h stamp keep); outs = Gave block stamp ∷ [] })
-      (λ t. same-follows block (put_off h stamp keep) (put_off-at h stamp keep) (put_off-asks h stamp keep) (put_off-sound (epoch_at s block) h (p.each block) stamp keep t promised above))
+      by_test At (is_dirty h) (record { state = with_held s block (put_off h stamp keep); outs = Flush block ∷ [] })
+      (record { state = with_held s block (given_up h stamp keep); outs = Gave block stamp ∷ [] })
+      (λ t. same-follows block (put_off h stamp keep) (put_off-at h stamp keep) (put_off-asks h stamp keep)
+      (put_off-sound (epoch_at s block) h (p.each block) stamp keep t promised above))
       (λ t. follows_with opens s block (given_up h stamp keep) p
-      (record { sound = given_up-sound (epoch_at s block) h (p.each block) stamp keep t; stamp = ap (is_later h.stamp) (given_up-at h stamp keep) ∙ not_later_back h.stamp stamp above; opened = λ a. inl (given_up-asks h stamp keep a) }))
+      (record {
+        sound = given_up-sound (epoch_at s block) h (p.each block) stamp keep t;
+        stamp = ap (is_later h.stamp) (given_up-at h stamp keep) ∙ not_later_back h.stamp stamp above;
+        opened = λ a. inl (given_up-asks h stamp keep a);
+      }))
 
   pub recalled_again-follows : (block : BlockId) (stamp : Stamp) → At (recalled_again s block stamp)
   unfolding recalled_again
-  recalled_again-follows block stamp = by_test At (was_answered (held_of s.blocks block) stamp) (record { state = s; outs = Gave block stamp ∷ [] }) (still s) (λ t. stays) (λ t. stays)
+  recalled_again-follows block stamp =
+      by_test At (was_answered (held_of s.blocks block) stamp) (record { state = s; outs = Gave block stamp ∷ [] }) (still s) (λ t. stays) (λ t. stays)
 
   pub on_wrote-follows : (block : BlockId) (value : Option (List ℕ)) → At (on_wrote s block value)
   unfolding on_wrote
@@ -161,7 +187,8 @@ module _ (opens : BlockId → Type 0) (s : TokensState) (p : IsSound s) where
       let h : Held = held_of s.blocks block in
       by_test At (is_settled_by h ver) (still (with_held s block (version_settled h ver))) (still s)
       (λ t. same-follows block (version_settled h ver) refl (λ a. a)
-      (version_settled-sound (epoch_at s block) h (p.each block) ver (and_first (nat_lt h.settled ver) (nat_le ver h.ver) t) (and_second (nat_lt h.settled ver) (nat_le ver h.ver) t)))
+      (version_settled-sound (epoch_at s block) h (p.each block) ver (and_first (nat_lt h.settled ver) (nat_le ver h.ver) t)
+      (and_second (nat_lt h.settled ver) (nat_le ver h.ver) t)))
       (λ t. stays)
 
   pub on_fetched-follows : (block : BlockId) (value : Option (List ℕ)) → At (on_fetched s block value)
@@ -179,7 +206,8 @@ module _ (opens : BlockId → Type 0) (s : TokensState) (p : IsSound s) where
   on_evict-follows block =
       let h : Held = held_of s.blocks block in
       by_test At (may_evict h) (still (with_held s block (let_go h))) (still s)
-      (λ t. same-follows block (let_go h) refl (λ a. a) (let_go-sound (epoch_at s block) h (p.each block) (not_true (is_dirty h) (and_second (is_held h.mode) (not (is_dirty h)) t))))
+      (λ t. same-follows block (let_go h) refl (λ a. a)
+      (let_go-sound (epoch_at s block) h (p.each block) (not_true (is_dirty h) (and_second (is_held h.mode) (not (is_dirty h)) t))))
       (λ t. stays)
 
   -- a copy may be asked for of a block that has a fetch
@@ -198,7 +226,8 @@ module _ (opens : BlockId → Type 0) (s : TokensState) (p : IsSound s) where
   unfolding on_quit
   on_quit-follows block =
       let h : Held = held_of s.blocks block in
-      by_test At (is_asking h) (still (with_held s block (unasked h))) (still s) (λ t. same-follows block (unasked h) refl (λ a. t) (unasked-sound (epoch_at s block) h (p.each block))) (λ t. stays)
+      by_test At (is_asking h) (still (with_held s block (unasked h))) (still s)
+      (λ t. same-follows block (unasked h) refl (λ a. t) (unasked-sound (epoch_at s block) h (p.each block))) (λ t. stays)
 
   repeated-follows : (block : BlockId) (w : Option Wanted) → (is_some w ≡ true → is_asking (held_of s.blocks block) ≡ true) → At (repeated s block w)
   repeated-follows block None asks = stays

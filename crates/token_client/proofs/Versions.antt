@@ -43,7 +43,8 @@ unfolding new_want
 ask-keeps s block mode =
     let g : Held = asked (held_of s.blocks block) (s.req + 1) mode in
     by_test (λ (d : Done). Keeps s d.state) (nat_lt s.req (2 ^ 32 - 1))
-    (record { state = record (with_held s block g) { req = s.req + 1 }; outs = Want block (s.req + 1) 0 mode ∷ [] }) (still s) (λ _. keeps_put s block g refl) (λ _ b. refl)
+    (record { state = record (with_held s block g) { req = s.req + 1 }; outs = Want block (s.req + 1) 0 mode ∷ [] }) (still s) (λ _. keeps_put s block g refl)
+    (λ _ b. refl)
 
 refetch-keeps : (s : TokensState) (block : BlockId) → Keeps s (refetch s block).state
 unfolding refetch
@@ -53,17 +54,21 @@ refetch-keeps s block =
     (λ _ b. ask-keeps (with_held s block g) block Copy b ∙ keeps_put s block g refl b) (λ _ b. refl)
 
 put_off-ver : (h : Held) (stamp : Stamp) (keep : Bool) → (put_off h stamp keep).ver ≡ h.ver
-put_off-ver h stamp keep = by_test (λ (g : Held). g.ver ≡ h.ver) (gives_after h.giving stamp) h (record h { giving = Some (record { stamp = stamp; keep = keep }) }) (λ _. refl) (λ _. refl)
+put_off-ver h stamp keep =
+    by_test (λ (g : Held). g.ver ≡ h.ver) (gives_after h.giving stamp) h (record h { giving = Some (record { stamp = stamp; keep = keep }) }) (λ _. refl)
+    (λ _. refl)
 
 given_up-ver : (h : Held) (stamp : Stamp) (keep : Bool) → (given_up h stamp keep).ver ≡ h.ver
 given_up-ver h stamp keep =
-    by_test (λ (g : Held). g.ver ≡ h.ver) (keep && is_held h.mode) (record h { mode = Copy; stamp = stamp; giving = None }) (record h { mode = Nothing; value = None; stamp = stamp; giving = None }) (λ _. refl) (λ _. refl)
+    by_test (λ (g : Held). g.ver ≡ h.ver) (keep && is_held h.mode) (record h { mode = Copy; stamp = stamp; giving = None })
+    (record h { mode = Nothing; value = None; stamp = stamp; giving = None }) (λ _. refl) (λ _. refl)
 
 give-keeps : (s : TokensState) (block : BlockId) (stamp : Stamp) (keep : Bool) → Keeps s (give s block stamp keep).state
 unfolding give
 give-keeps s block stamp keep =
     let h : Held = held_of s.blocks block in
-    by_test (λ (d : Done). Keeps s d.state) (is_dirty h) (record { state = with_held s block (put_off h stamp keep); outs = Flush block ∷ [] }) (record { state = with_held s block (given_up h stamp keep); outs = Gave block stamp ∷ [] })
+    by_test (λ (d : Done). Keeps s d.state) (is_dirty h) (record { state = with_held s block (put_off h stamp keep); outs = Flush block ∷ [] })
+    (record { state = with_held s block (given_up h stamp keep); outs = Gave block stamp ∷ [] })
     (λ _. keeps_put s block (put_off h stamp keep) (put_off-ver h stamp keep)) (λ _. keeps_put s block (given_up h stamp keep) (given_up-ver h stamp keep))
 
 recalled-keeps : (s : TokensState) (block : BlockId) (stamp : Stamp) (keep : Bool) → Keeps s (on_recalled s block stamp keep).state
@@ -73,7 +78,8 @@ recalled-keeps s block stamp keep =
     let given : Done = give (refetch s block).state block stamp keep in
     by_test K (is_promised s block stamp) (recalled s block stamp keep) (still s)
     (λ _. by_test K (is_later stamp (held_of s.blocks block).stamp) (recalled_above s block stamp keep) (recalled_again s block stamp)
-    (λ _. by_test K (can_refetch s block) (after (refetch s block).outs given) (still s) (λ _ b. give-keeps (refetch s block).state block stamp keep b ∙ refetch-keeps s block b) (λ _ b. refl))
+    (λ _. by_test K (can_refetch s block) (after (refetch s block).outs given) (still s)
+    (λ _ b. give-keeps (refetch s block).state block stamp keep b ∙ refetch-keeps s block b) (λ _ b. refl))
     (λ _. by_test K (was_answered (held_of s.blocks block) stamp) (record { state = s; outs = Gave block stamp ∷ [] }) (still s) (λ _ b. refl) (λ _ b. refl)))
     (λ _ b. refl)
 
@@ -86,7 +92,8 @@ promise-keeps : (s : TokensState) (slot epoch : ℕ) → Keeps s (on_promise s s
 unfolding on_promise
 promise-keeps s slot epoch =
     by_test (λ (d : Done). Keeps s d.state) (may_promise s slot epoch) (steps ask_copy (raised s slot epoch) (fetched_in slot s.blocks)) (still s)
-    (λ _. steps_keep ask_copy (Keeps s) (λ t block so_far b. ask-keeps t block Copy b ∙ so_far b) (raised s slot epoch) (fetched_in slot s.blocks) (raised-keeps s slot epoch))
+    (λ _. steps_keep ask_copy (Keeps s) (λ t block so_far b. ask-keeps t block Copy b ∙ so_far b) (raised s slot epoch) (fetched_in slot s.blocks)
+    (raised-keeps s slot epoch))
     (λ _ b. refl)
 
 repeated-keeps : (s : TokensState) (block : BlockId) (w : Option Wanted) → Keeps s (repeated s block w).state
@@ -96,7 +103,8 @@ repeated-keeps s block (Some w) b = keeps_put s block (asked_again (held_of s.bl
 again-keeps : (s : TokensState) (block : BlockId) → Keeps s (ask_again s block).state
 unfolding ask_again
 again-keeps s block =
-    by_test (λ (d : Done). Keeps s d.state) (is_spent (held_of s.blocks block).want) (still s) (repeated s block (held_of s.blocks block).want) (λ _ b. refl) (λ _. repeated-keeps s block (held_of s.blocks block).want)
+    by_test (λ (d : Done). Keeps s d.state) (is_spent (held_of s.blocks block).want) (still s) (repeated s block (held_of s.blocks block).want) (λ _ b. refl)
+    (λ _. repeated-keeps s block (held_of s.blocks block).want)
 
 tick-keeps : (s : TokensState) → Keeps s (on_tick s).state
 unfolding on_tick
@@ -115,7 +123,8 @@ rises_kept s d keeps b _ = let same : ver_in d.state b ≡ ver_in s b = keeps b 
 rises_still : (s : TokensState) → Rises s (still s)
 rises_still s b _ = omega arith
 
-rises_put : (s : TokensState) (block : BlockId) (g : Held) (outs : List Out) → (is_dirty (held_of s.blocks block) ≡ true → ver_in s block ≤ g.ver) → Rises s (record { state = with_held s block g; outs = outs })
+rises_put : (s : TokensState) (block : BlockId) (g : Held) (outs : List Out) → (is_dirty (held_of s.blocks block) ≡ true → ver_in s block ≤ g.ver)
+    → Rises s (record { state = with_held s block g; outs = outs })
 rises_put s block g outs here = put_each (λ b h. is_dirty (held_of s.blocks b) ≡ true → ver_in s b ≤ h.ver) block g s.blocks here (λ b _. omega arith)
 
 module _ (s : TokensState) (p : IsSound s) where
@@ -123,7 +132,8 @@ module _ (s : TokensState) (p : IsSound s) where
   asks_clean : (block : BlockId) → is_asking (held_of s.blocks block) ≡ true → is_dirty (held_of s.blocks block) ≡ true → {A : Type 0} → A
   asks_clean block asks dirty = contrary (sym ((p.each block).asks_clean asks) ∙ dirty)
 
-  answer-rises : (block : BlockId) (stamp : Stamp) (inc req : ℕ) (mode : Mode) (g : Held) (outs : List Out) → accepts s block stamp inc req mode ≡ true → Rises s (record { state = with_held s block g; outs = outs })
+  answer-rises : (block : BlockId) (stamp : Stamp) (inc req : ℕ) (mode : Mode) (g : Held) (outs : List Out) → accepts s block stamp inc req mode ≡ true
+      → Rises s (record { state = with_held s block g; outs = outs })
   answer-rises block stamp inc req mode g outs t =
       let h : Held = held_of s.blocks block in
       let answer : is_answer h stamp req mode ≡ true = and_second (is_promised s block stamp && (inc == s.inc)) (is_answer h stamp req mode) t in
@@ -135,37 +145,47 @@ module _ (s : TokensState) (p : IsSound s) where
   fetched-rises block value =
       let h : Held = held_of s.blocks block in
       by_test (Rises s) (may_end_fetch h) (record { state = with_held s block (fetch_ended h h.fetch value); outs = Ready block ∷ [] }) (still s)
-      (λ t. rises_put s block (fetch_ended h h.fetch value) (Ready block ∷ []) (λ dirty. asks_clean block (asks_by_fetch h (and_first (is_some h.fetch) (is_none h.want) t)) dirty)) (λ _. rises_still s)
+      (λ t. rises_put s block (fetch_ended h h.fetch value) (Ready block ∷ [])
+      (λ dirty. asks_clean block (asks_by_fetch h (and_first (is_some h.fetch) (is_none h.want) t)) dirty)) (λ _. rises_still s)
 
   rises : (input : In) → Rises s (transition s input)
   unfolding on_need on_granted on_supplied on_forwarded on_wrote on_settled on_evict on_reask on_quit
   rises (Need block mode) =
-      by_test (Rises s) (must_ask (held_of s.blocks block) mode) (new_want s block mode) (still s) (λ _. rises_kept s (new_want s block mode) (ask-keeps s block mode)) (λ _. rises_still s)
+      by_test (Rises s) (must_ask (held_of s.blocks block) mode) (new_want s block mode) (still s)
+      (λ _. rises_kept s (new_want s block mode) (ask-keeps s block mode)) (λ _. rises_still s)
   rises (Granted block stamp inc req mode entry) =
       let g : Held = grant_taken (held_of s.blocks block) stamp mode entry in
       let outs : List Out = grant_next block mode entry.place ∷ [] in
-      by_test (Rises s) (accepts s block stamp inc req mode) (record { state = with_held s block g; outs = outs }) (still s) (λ t. answer-rises block stamp inc req mode g outs t) (λ _. rises_still s)
+      by_test (Rises s) (accepts s block stamp inc req mode) (record { state = with_held s block g; outs = outs }) (still s)
+      (λ t. answer-rises block stamp inc req mode g outs t) (λ _. rises_still s)
   rises (Supplied block stamp inc req ver value) =
       let g : Held = copied (held_of s.blocks block) stamp ver value in
-      by_test (Rises s) (accepts s block stamp inc req Copy) (record { state = with_held s block g; outs = Ready block ∷ [] }) (still s) (λ t. answer-rises block stamp inc req Copy g (Ready block ∷ []) t) (λ _. rises_still s)
+      by_test (Rises s) (accepts s block stamp inc req Copy) (record { state = with_held s block g; outs = Ready block ∷ [] }) (still s)
+      (λ t. answer-rises block stamp inc req Copy g (Ready block ∷ []) t) (λ _. rises_still s)
   rises (Forwarded block stamp ver) =
-      by_test (Rises s) (serves s block stamp ver) (record { state = s; outs = supplies block ver (held_of s.blocks block).value }) (still s) (λ _ b _. omega arith) (λ _. rises_still s)
+      by_test (Rises s) (serves s block stamp ver) (record { state = s; outs = supplies block ver (held_of s.blocks block).value }) (still s)
+      (λ _ b _. omega arith) (λ _. rises_still s)
   rises (Recalled block stamp keep) = rises_kept s (on_recalled s block stamp keep) (recalled-keeps s block stamp keep)
   rises (Wrote block value) =
       let g : Held = written (held_of s.blocks block) value in
-      by_test (Rises s) (may_write (held_of s.blocks block)) (still (with_held s block g)) (still s) (λ _. rises_put s block g [] (λ _. omega arith)) (λ _. rises_still s)
+      by_test (Rises s) (may_write (held_of s.blocks block)) (still (with_held s block g)) (still s) (λ _. rises_put s block g [] (λ _. omega arith))
+      (λ _. rises_still s)
   rises (Settled block ver) =
       let g : Held = version_settled (held_of s.blocks block) ver in
-      by_test (Rises s) (is_settled_by (held_of s.blocks block) ver) (still (with_held s block g)) (still s) (λ _. rises_put s block g [] (λ _. omega arith)) (λ _. rises_still s)
+      by_test (Rises s) (is_settled_by (held_of s.blocks block) ver) (still (with_held s block g)) (still s) (λ _. rises_put s block g [] (λ _. omega arith))
+      (λ _. rises_still s)
   rises (Fetched block value) = fetched-rises block value
   rises (Evict block) =
       let g : Held = let_go (held_of s.blocks block) in
-      by_test (Rises s) (may_evict (held_of s.blocks block)) (still (with_held s block g)) (still s) (λ _. rises_put s block g [] (λ _. omega arith)) (λ _. rises_still s)
+      by_test (Rises s) (may_evict (held_of s.blocks block)) (still (with_held s block g)) (still s) (λ _. rises_put s block g [] (λ _. omega arith))
+      (λ _. rises_still s)
   rises (Reask block) =
-      by_test (Rises s) (is_some (held_of s.blocks block).fetch) (new_want s block Copy) (still s) (λ _. rises_kept s (new_want s block Copy) (ask-keeps s block Copy)) (λ _. rises_still s)
+      by_test (Rises s) (is_some (held_of s.blocks block).fetch) (new_want s block Copy) (still s)
+      (λ _. rises_kept s (new_want s block Copy) (ask-keeps s block Copy)) (λ _. rises_still s)
   rises (Quit block) =
       let g : Held = unasked (held_of s.blocks block) in
-      by_test (Rises s) (is_asking (held_of s.blocks block)) (still (with_held s block g)) (still s) (λ _. rises_put s block g [] (λ _. omega arith)) (λ _. rises_still s)
+      by_test (Rises s) (is_asking (held_of s.blocks block)) (still (with_held s block g)) (still s) (λ _. rises_put s block g [] (λ _. omega arith))
+      (λ _. rises_still s)
   rises (Promise slot epoch) = rises_kept s (on_promise s slot epoch) (promise-keeps s slot epoch)
   rises Tick = rises_kept s (on_tick s) (tick-keeps s)
 

@@ -69,7 +69,9 @@ StaysSound = (inc : ℕ) (epochs : List ℕ) (inputs : List In) → IsSound (sta
 
 -- The stamp of a block never falls, whatever is taken.
 abbrev pub StampsNeverFall : Type 0
-StampsNeverFall = (s : TokensState) (inputs : List In) (block : BlockId) → IsSound s → is_later (held_of s.blocks block).stamp (held_of (state_after s inputs).blocks block).stamp ≡ false
+StampsNeverFall =
+    (s : TokensState) (inputs : List In) (block : BlockId) → IsSound s
+    → is_later (held_of s.blocks block).stamp (held_of (state_after s inputs).blocks block).stamp ≡ false
 
 -- The number of the last want never falls.
 abbrev pub NumbersRise : Type 0

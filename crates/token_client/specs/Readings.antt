@@ -32,7 +32,8 @@ DirtyKeepsItsStamp =
 abbrev pub PromiseDrops : Type 0
 PromiseDrops =
     (s : TokensState) (slot epoch : ℕ) (block : BlockId) → may_promise s slot epoch ≡ true → is_in_slot slot block ≡ true
-    → (is_none (held_of (transition s (Promise slot epoch)).state.blocks block).fetch ≡ true) × (is_none (held_of (transition s (Promise slot epoch)).state.blocks block).giving ≡ true)
+    → (is_none (held_of (transition s (Promise slot epoch)).state.blocks block).fetch ≡ true)
+    × (is_none (held_of (transition s (Promise slot epoch)).state.blocks block).giving ≡ true)
 
 -- A block whose call answers that it is lost has neither a want nor a fetch.
 abbrev pub QuitEnds : Type 0

@@ -34,7 +34,10 @@ is_promised s block stamp = epoch_of s.epochs (slot_of block.ino.0) == stamp.epo
 unfoldable pub new_want : TokensState → BlockId → Mode → Done
 new_want s block mode =
     if nat_lt s.req u32_end
-    then record { state = record (with_held s block (asked (held_of s.blocks block) (s.req + 1) mode)) { req = s.req + 1 }; outs = Want block (s.req + 1) 0 mode ∷ [] }
+    then record {
+      state = record (with_held s block (asked (held_of s.blocks block) (s.req + 1) mode)) { req = s.req + 1 };
+      outs = Want block (s.req + 1) 0 mode ∷ [];
+    }
     else still s
 
 -- A call needs a block in a mode. It is asked for where the block has neither a want nor a fetch, isn't
@@ -128,7 +131,8 @@ on_wrote s block value = if may_write (held_of s.blocks block) then still (with_
 -- A version of the block is settled. A put-off recall is taken again by the node, after the cache had
 -- its turn.
 unfoldable pub on_settled : TokensState → BlockId → ℕ → Done
-on_settled s block ver = if is_settled_by (held_of s.blocks block) ver then still (with_held s block (version_settled (held_of s.blocks block) ver)) else still s
+on_settled s block ver =
+    if is_settled_by (held_of s.blocks block) ver then still (with_held s block (version_settled (held_of s.blocks block) ver)) else still s
 
 -- What was read ends the fetch; the block is a copy of the version that was granted, and the waiting call
 -- runs on.

@@ -30,23 +30,28 @@ consumes_nothing None = tt
 consumes_nothing (Some xs) = refl
 
 -- an outcome without a run ends in want of memory, with nothing written
-pub gives_up : {N K : Type 0} (written : K → Option (List ℕ)) (faults : K → ℕ) (sink : K) (o : Outcome N) → o ≡ record { status = 7; estate = None } → GivesUp (writing written faults sink sink) o
+pub gives_up : {N K : Type 0} (written : K → Option (List ℕ)) (faults : K → ℕ) (sink : K) (o : Outcome N) → o ≡ record { status = 7; estate = None }
+    → GivesUp (writing written faults sink sink) o
 gives_up written faults sink o e = (ap (λ x. x.status) e, ap (λ x. x.estate) e, keeps_same (written sink))
 
 -- or since a read failed
-pub cannot_read : {N K : Type 0} (r : Reading) (written : K → Option (List ℕ)) (faults : K → ℕ) (sink : K) (o : Outcome N) → Rose r.faults r.faults_after → o ≡ record { status = 4; estate = None } → CannotRead r (writing written faults sink sink) o
+pub cannot_read : {N K : Type 0} (r : Reading) (written : K → Option (List ℕ)) (faults : K → ℕ) (sink : K) (o : Outcome N) → Rose r.faults r.faults_after
+    → o ≡ record { status = 4; estate = None } → CannotRead r (writing written faults sink sink) o
 cannot_read r written faults sink o rose e = (ap (λ x. x.status) e, ap (λ x. x.estate) e, keeps_same (written sink), rose)
 
 -- a text that equals the wanted one is told
-pub line_told : {N : Type 0} (s : Writing) (o : Outcome N) (text wanted : List ℕ) (status : ℕ) → text ≡ wanted → Tells s o (line text status) → Tells s o (line wanted status)
+pub line_told : {N : Type 0} (s : Writing) (o : Outcome N) (text wanted : List ℕ) (status : ℕ) → text ≡ wanted → Tells s o (line text status)
+    → Tells s o (line wanted status)
 line_told s o text wanted status e h = subst (λ x. Tells s o (line x status)) e h
 
-pub run_told : {N : Type 0} (s : Writing) (o : Outcome N) (text wanted : List ℕ) (e : Estate N) → text ≡ wanted → Tells s o (run_answer text e) → Tells s o (run_answer wanted e)
+pub run_told : {N : Type 0} (s : Writing) (o : Outcome N) (text wanted : List ℕ) (e : Estate N) → text ≡ wanted → Tells s o (run_answer text e)
+    → Tells s o (run_answer wanted e)
 run_told s o text wanted e k h = subst (λ x. Tells s o (run_answer x e)) k h
 
 module _ {N : Type 0} (step : N → Do → NodeStep N) (first : NodeId → Setup → List Work → N) where
   -- the run that a script determines was played
-  pub is_played : (script : Script) (e : Estate N) → IsSetup script.setup → e ≡ estate_of step first script → IsRun step first script e.events e.world → begun_in e.events ≡ actors_of script.lines → BeginsAll script.lines e.events → IsPlayed step first e
+  pub is_played : (script : Script) (e : Estate N) → IsSetup script.setup → e ≡ estate_of step first script → IsRun step first script e.events e.world
+      → begun_in e.events ≡ actors_of script.lines → BeginsAll script.lines e.events → IsPlayed step first e
   is_played script e setup k run order all =
       let same : script ≡ e.script = sym (ap (λ (x : Estate N). x.script) k) in
       record {
@@ -64,11 +69,13 @@ module _ {N : Type 0} (step : N → Do → NodeStep N) (first : NodeId → Setup
   none_played o k = subst (λ y. IfSome y (λ x. IsPlayed step first x)) (sym k) tt
 
   -- what is wanted of an input is told, or memory is wanting
-  pub answers : (command : Option Command) (input : List ℕ) (s : Writing) (o : Outcome N) (w : Wanted N) → Wants step first command input w → TellsOrGivesUp s o w → AnswersOrGivesUp step first command input s o
+  pub answers : (command : Option Command) (input : List ℕ) (s : Writing) (o : Outcome N) (w : Wanted N) → Wants step first command input w
+      → TellsOrGivesUp s o w → AnswersOrGivesUp step first command input s o
   answers command input s o w h (inl t) = inl (record { wanted = w; wants = h; told = t })
   answers command input s o w h (inr g) = inr g
 
-  pub ends_of : (command : Option Command) (r : Reading) (s : Writing) (o : Outcome N) (input : List ℕ) → IsInput command r input → AnswersOrGivesUp step first command input s o → Ends step first command r s o
+  pub ends_of : (command : Option Command) (r : Reading) (s : Writing) (o : Outcome N) (input : List ℕ) → IsInput command r input
+      → AnswersOrGivesUp step first command input s o → Ends step first command r s o
   ends_of command r s o input i (inl a) = inl (input, i, a)
   ends_of command r s o input i (inr g) = inr (inl g)
 

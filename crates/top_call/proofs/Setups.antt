@@ -40,7 +40,9 @@ one_or_two parity (inl e) = (omega (arith, e), omega (arith, e))
 one_or_two parity (inr e) = (omega (arith, e), omega (arith, e))
 
 sized : (servers : ℕ) (g : GroupSetup) → IsNamed servers g → is_group_size g.parity (length g.servers) ≡ true
-sized servers g h = and_from (nat_le (g.parity + 2) (length g.servers)) (nat_le (length g.servers) 8) (le-leb (g.parity + 2) (length g.servers) h.0.enough) (le-leb (length g.servers) 8 h.0.few)
+sized servers g h =
+    and_from (nat_le (g.parity + 2) (length g.servers)) (nat_le (length g.servers) 8) (le-leb (g.parity + 2) (length g.servers) h.0.enough)
+    (le-leb (length g.servers) 8 h.0.few)
 
 -- ---- all groups of a setup
 
@@ -70,7 +72,8 @@ module _ (servers : ℕ) where
   groups_parity : (gs : List GroupSetup) → AreNamed servers gs → All (λ g. IsParity g.parity) gs
   groups_parity gs h = All-from_recursion (λ g. IsParity g.parity) gs (each_parity gs h)
 
-  no_bad_size : (gs : List GroupSetup) → AreNamed servers gs → option_map (λ g. length g.servers) (find (λ g. not (is_group_size g.parity (length g.servers))) gs) ≡ None
+  no_bad_size : (gs : List GroupSetup) → AreNamed servers gs
+      → option_map (λ g. length g.servers) (find (λ g. not (is_group_size g.parity (length g.servers))) gs) ≡ None
   no_bad_size gs h = ap (λ found. option_map (λ g. length g.servers) found) (none_bad gs h)
 
 -- such a setup is one of which a run can be started

@@ -59,7 +59,8 @@ table_after_shift counts from to table =
 
 -- ---- the count of any segment
 
-count_of-with_one_more : (counts : List (SegName × ℕ)) (to : Option SegName) (seg : SegName) → count_of (with_one_more counts to) seg ≡ count_of counts seg + blocks_at to seg
+count_of-with_one_more : (counts : List (SegName × ℕ)) (to : Option SegName) (seg : SegName)
+    → count_of (with_one_more counts to) seg ≡ count_of counts seg + blocks_at to seg
 count_of-with_one_more counts None seg = omega arith
 count_of-with_one_more counts (Some to) seg =
     ap (λ o. unwrap_or o 0) (lookup-insert_entry seg_cmp_total seg to (count_of counts to + 1) counts) ∙ at_seg (seg_cmp seg to) refl
@@ -74,9 +75,11 @@ count_of-with_one_more counts (Some to) seg =
 one_less : (counts : List (SegName × ℕ)) (from seg : SegName) (left : Option ℕ) → unwrap_or left 0 + 1 ≡ count_of counts from
     → unwrap_or (cond (is_eq (seg_cmp from seg)) left (lookup (is_at (seg_cmp seg)) counts)) 0 + cond (is_eq (seg_cmp seg from)) 1 0 ≡ count_of counts seg
 one_less counts from seg left less =
-    ap (λ same. unwrap_or (cond same left (lookup (is_at (seg_cmp seg)) counts)) 0 + cond (is_eq (seg_cmp seg from)) 1 0) (same_laws.symm from seg) ∙ at_seg (seg_cmp seg from) refl
+    ap (λ same. unwrap_or (cond same left (lookup (is_at (seg_cmp seg)) counts)) 0 + cond (is_eq (seg_cmp seg from)) 1 0) (same_laws.symm from seg)
+    ∙ at_seg (seg_cmp seg from) refl
   where
-    at_seg : (r : Ordering) → seg_cmp seg from ≡ r → unwrap_or (cond (is_eq r) left (lookup (is_at (seg_cmp seg)) counts)) 0 + cond (is_eq r) 1 0 ≡ count_of counts seg
+    at_seg : (r : Ordering) → seg_cmp seg from ≡ r
+        → unwrap_or (cond (is_eq r) left (lookup (is_at (seg_cmp seg)) counts)) 0 + cond (is_eq r) 1 0 ≡ count_of counts seg
     at_seg Less _ = omega arith
     at_seg Equal same = less ∙ ap (count_of counts) (sym (seg_cmp_exact seg from same))
     at_seg Greater _ = omega arith
@@ -93,9 +96,14 @@ count_of-with_one_less counts (Some from) seg table held =
     let at = is_at (seg_cmp from) in
     let one : (x y : SegName) → at x ≡ true → at y ≡ eq_by_cmp seg_cmp x y = λ x y same. same_laws.congr from x y same in
     let some : 0 < count = held from refl in
-    elim (nat_lt 1 count) as (λ more. nat_lt 1 count ≡ more → count_of (cond more (set_value at counts (count - 1)) (remove_entry at counts)) seg + blocks_at (Some from) seg ≡ count_of counts seg) [
-      | true ↦ λ more. ap (λ o. unwrap_or o 0 + blocks_at (Some from) seg) (lookup-set_value same_laws at one seg (count - 1) counts (found _ some)) ∙ one_less counts from seg (Some (count - 1)) (omega arith)
-      | false ↦ λ last. ap (λ o. unwrap_or o 0 + blocks_at (Some from) seg) (lookup-remove_entry same_laws at one seg counts (IsDistinct-from_sorted seg_cmp (keys_of counts) table.sorted)) ∙ one_less counts from seg None (grind (arith, nat_tests))
+    elim (nat_lt 1 count) as
+    (λ more. nat_lt 1 count ≡ more
+    → count_of (cond more (set_value at counts (count - 1)) (remove_entry at counts)) seg + blocks_at (Some from) seg ≡ count_of counts seg) [
+      | true ↦ λ more. ap (λ o. unwrap_or o 0 + blocks_at (Some from) seg) (lookup-set_value same_laws at one seg (count - 1) counts (found _ some))
+          ∙ one_less counts from seg (Some (count - 1)) (omega arith)
+      | false ↦ λ last. ap (λ o. unwrap_or o 0 + blocks_at (Some from) seg)
+          (lookup-remove_entry same_laws at one seg counts (IsDistinct-from_sorted seg_cmp (keys_of counts) table.sorted))
+          ∙ one_less counts from seg None (grind (arith, nat_tests))
     ] refl
 
 pub one_segment : (from to : Option SegName) → is_same from to ≡ true → from ≡ to
@@ -108,9 +116,12 @@ pub count_of-after_shift : (counts : List (SegName × ℕ)) (from to : Option Se
     → count_of (after_shift counts from to) seg + blocks_at from seg ≡ count_of counts seg + blocks_at to seg
 unfolding after_shift
 count_of-after_shift counts from to seg table held =
-    elim (is_same from to) as (λ same. is_same from to ≡ same → count_of (cond same counts (with_one_less (with_one_more counts to) from)) seg + blocks_at from seg ≡ count_of counts seg + blocks_at to seg) [
+    elim (is_same from to) as
+    (λ same. is_same from to ≡ same
+    → count_of (cond same counts (with_one_less (with_one_more counts to) from)) seg + blocks_at from seg ≡ count_of counts seg + blocks_at to seg) [
       | true ↦ λ same. ap (λ end. count_of counts seg + blocks_at end seg) (one_segment from to same)
-      | false ↦ λ _. count_of-with_one_less (with_one_more counts to) from seg (table_with_one_more counts to table) (λ s is. let one = count_of-with_one_more counts to s in let had = held s is in omega arith) ∙ count_of-with_one_more counts to seg
+      | false ↦ λ _. count_of-with_one_less (with_one_more counts to) from seg (table_with_one_more counts to table)
+          (λ s is. let one = count_of-with_one_more counts to s in let had = held s is in omega arith) ∙ count_of-with_one_more counts to seg
     ] refl
 
 -- ---- the two ways of the code
@@ -119,14 +130,16 @@ pub after_shift_same : (counts : List (SegName × ℕ)) (from to : Option SegNam
 unfolding after_shift
 after_shift_same counts from to same = ap (λ b. cond b counts (with_one_less (with_one_more counts to) from)) same
 
-pub after_shift_apart : (counts : List (SegName × ℕ)) (from to : Option SegName) → is_same from to ≡ false → after_shift counts from to ≡ with_one_less (with_one_more counts to) from
+pub after_shift_apart : (counts : List (SegName × ℕ)) (from to : Option SegName) → is_same from to ≡ false
+    → after_shift counts from to ≡ with_one_less (with_one_more counts to) from
 unfolding after_shift
 after_shift_apart counts from to apart = ap (λ b. cond b counts (with_one_less (with_one_more counts to) from)) apart
 
 -- ---- the list of the counts
 
 -- what is listed is just the segments with a live block, each with its count
-pub table_lists : (counts : List (SegName × ℕ)) → IsTable counts → (seg : SegName) (count : ℕ) → Contains counts (seg, count) ↔ ((0 < count) × (count ≡ count_of counts seg))
+pub table_lists : (counts : List (SegName × ℕ)) → IsTable counts → (seg : SegName) (count : ℕ)
+    → Contains counts (seg, count) ↔ ((0 < count) × (count ≡ count_of counts seg))
 table_lists counts table seg count = (in_table, from_table (lookup at counts) refl)
   where
     at : SegName → Bool
@@ -134,7 +147,8 @@ table_lists counts table seg count = (in_table, from_table (lookup at counts) re
 
     in_table : Contains counts (seg, count) → (0 < count) × (count ≡ count_of counts seg)
     in_table listed =
-        let is : lookup at counts ≡ Some count = lookup-from_Contains same_laws seg count counts (IsDistinct-from_sorted seg_cmp (keys_of counts) table.sorted) listed in
+        let is : lookup at counts ≡ Some count =
+        lookup-from_Contains same_laws seg count counts (IsDistinct-from_sorted seg_cmp (keys_of counts) table.sorted) listed in
         let above : IfSome (lookup at counts) (λ n. 0 < n) = IfSome-lookup_from_All (λ (n : ℕ). 0 < n) at counts table.above_0 in
         (subst (λ o. IfSome o (λ n. 0 < n)) is above, sym (ap (λ o. unwrap_or o 0) is))
 

@@ -52,7 +52,8 @@ numbers_agree q c true h = let e : q ≡ c = tells_apart exact_unsigned q c h in
 numbers_agree q c false h = outcome (q == c) refl
   where
     outcome : (t : Bool) → (q == c) ≡ t → false ≡ t
-    outcome true e = let same : q ≡ c = grind (arith, nat_tests) in contrary (sym h ∙ ap (λ x. eq_by_cmp nat_cmp x c) same ∙ ap is_eq (tied_itself nat_cmp_total c))
+    outcome true e = let same : q ≡ c =
+        grind (arith, nat_tests) in contrary (sym h ∙ ap (λ x. eq_by_cmp nat_cmp x c) same ∙ ap is_eq (tied_itself nat_cmp_total c))
     outcome false e = refl
 
 -- what each client's falls are once those of one are put anew
@@ -62,7 +63,8 @@ told_put c falls told q =
     at-put nat_cmp_total exact_unsigned [] q c falls told ∙ ap (λ t. cond t falls (told_in told q)) (numbers_agree q c (eq_by_cmp nat_cmp q c) refl)
 
 -- the greatest version of a client is pinned in each block
-pub all_pinned : (client : ℕ) (blocks : List (BlockId × BlockHistory)) (q : BlockId) → block_in (map (λ e. (e.0, pin_all client e.1)) blocks) q ≡ pin_all client (block_in blocks q)
+pub all_pinned : (client : ℕ) (blocks : List (BlockId × BlockHistory)) (q : BlockId)
+    → block_in (map (λ e. (e.0, pin_all client e.1)) blocks) q ≡ pin_all client (block_in blocks q)
 all_pinned client blocks q = at-changed block_cmp_total block_cmp_exact unwritten (λ b. pin_all client) q blocks refl
 
 -- what holds where a call succeeds
@@ -92,16 +94,21 @@ pub shown_told : (c : ℕ) (fall : FallTold) (old new : Histories) → new.block
 shown_told c fall old new blocks told =
     ap (λ b. record { of_block = b; told = told_in new.told.entries }) (ap (λ t. block_in t.entries) blocks)
     ∙ ap (λ es. record { of_block = block_in old.blocks.entries; told = told_in es }) told
-    ∙ (λ i. record { of_block = block_in old.blocks.entries; told = λ q. (told_put c (told_in old.told.entries c ++ fall ∷ []) old.told.entries q ∙ one_more (q == c) q refl) i })
+    ∙ (λ i. record {
+      of_block = block_in old.blocks.entries;
+      told = λ q. (told_put c (told_in old.told.entries c ++ fall ∷ []) old.told.entries q ∙ one_more (q == c) q refl) i;
+    })
   where
     one_more : (t : Bool) (q : ℕ) → (q == c) ≡ t
-        → (if t then told_in old.told.entries c ++ fall ∷ [] else told_in old.told.entries q) ≡ (if t then told_in old.told.entries q ++ fall ∷ [] else told_in old.told.entries q)
+        → (if t then told_in old.told.entries c ++ fall ∷ [] else told_in old.told.entries q) ≡
+        (if t then told_in old.told.entries q ++ fall ∷ [] else told_in old.told.entries q)
     one_more true q h = let e : c ≡ q = grind (arith, nat_tests) in ap (λ x. told_in old.told.entries x ++ fall ∷ []) e
     one_more false q h = refl
 
 -- blocks fall in the tables as in the histories
 pub shown_falls : (adopted : Bool) (falls : List Fall) (blocks : List (BlockId × BlockHistory)) (told : ℕ → List FallTold)
-    → record { of_block = block_in (falls_in adopted falls blocks); told = told } ≡ settle_falls adopted falls (record { of_block = block_in blocks; told = told })
+    → record { of_block = block_in (falls_in adopted falls blocks); told = told } ≡ settle_falls adopted falls
+    (record { of_block = block_in blocks; told = told })
 shown_falls adopted [] blocks told = refl
 shown_falls adopted (f ∷ fs) blocks told =
     shown_falls adopted fs (put_block blocks f.block (cut_to (if adopted then f.high else f.low) (block_in blocks f.block))) told
@@ -111,7 +118,8 @@ pub shown_settled : (chain : List SegName) (falls : List FallTold) (blocks : Lis
     → record { of_block = block_in (settled_in chain falls blocks); told = told } ≡ settle chain falls (record { of_block = block_in blocks; told = told })
 shown_settled chain [] blocks told = refl
 shown_settled chain (t ∷ ts) blocks told =
-    shown_settled chain ts (falls_in (holds_flight chain t.flight) t.falls blocks) told ∙ ap (settle chain ts) (shown_falls (holds_flight chain t.flight) t.falls blocks told)
+    shown_settled chain ts (falls_in (holds_flight chain t.flight) t.falls blocks) told
+    ∙ ap (settle chain ts) (shown_falls (holds_flight chain t.flight) t.falls blocks told)
 
 -- with a client's falls settled by a chain and taken out
 pub shown_back : (c : ℕ) (chain : List SegName) (falls : List FallTold) (old new : Histories) → falls ≡ told_in old.told.entries c
@@ -127,5 +135,6 @@ pub falls_more : (adopted : Bool) (falls : List Fall) (i : ℕ) (d : Fall) (bloc
     → now ≡ put_block blocks (get_or falls i d).block (cut_to ver (block_in blocks (get_or falls i d).block))
     → falls_in adopted (drop (i + 1) falls) now ≡ falls_in adopted (drop i falls) blocks
 falls_more adopted falls i d blocks now ver here to step =
-    ap (falls_in adopted (drop (i + 1) falls)) (step ∙ ap (λ n. put_block blocks (get_or falls i d).block (cut_to n (block_in blocks (get_or falls i d).block))) to)
+    ap (falls_in adopted (drop (i + 1) falls))
+    (step ∙ ap (λ n. put_block blocks (get_or falls i d).block (cut_to n (block_in blocks (get_or falls i d).block))) to)
     ∙ sym (at_drop_more (λ fs. falls_in adopted fs blocks) falls i d here)

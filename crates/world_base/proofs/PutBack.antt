@@ -24,7 +24,26 @@ pub record Moves {X : Type 0} (items rest pushed back : List X) (i last n m : �
 
 module _ {X : Type 0} (items rest pushed back : List X) (i last n m : ℕ) (x : X) (f : Moves items rest pushed back i last n m x) where
   at_each : (k : ℕ) → k < length items → get_or back k x ≡ get_or (slice_set items i x) k x
-  at_each k below = grind (arith, f.count, f.left, f.one_less, f.within, f.is_last, f.is_pushed, f.moved, f.others k, f.swapped.0 x, f.swapped.1 x, f.swapped.2 k x, get_or_push rest x x (length rest) refl, get_or_append_left rest (x ∷ []) x k, get_or_append_left rest (x ∷ []) x i, get_or-set_same items i x x, get_or-set_other items i k x x)
+  at_each k below =
+      grind (
+        arith,
+        f.count,
+        f.left,
+        f.one_less,
+        f.within,
+        f.is_last,
+        f.is_pushed,
+        f.moved,
+        f.others k,
+        f.swapped.0 x,
+        f.swapped.1 x,
+        f.swapped.2 k x,
+        get_or_push rest x x (length rest) refl,
+        get_or_append_left rest (x ∷ []) x k,
+        get_or_append_left rest (x ∷ []) x i,
+        get_or-set_same items i x x,
+        get_or-set_other items i k x x,
+      )
 
   as_long : length back ≡ length items
   as_long =

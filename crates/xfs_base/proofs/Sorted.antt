@@ -31,7 +31,8 @@ module _ {K X : Type 0} (R : K → K → Ordering) where
   below_remove : (x : K) (test : K → Bool) (es : List (K × X)) → IsBelow R x (keys_of es) → IsBelow R x (keys_of (remove_entry test es))
   below_remove x test [] below = below
   below_remove x test (e ∷ es) below =
-      elim (test e.0) as (λ b. IsBelow R x (keys_of (cond b es (e ∷ remove_entry test es)))) [ true ↦ below.1 | false ↦ (below.0, below_remove x test es below.1) ]
+      elim (test e.0) as (λ b. IsBelow R x (keys_of (cond b es (e ∷ remove_entry test es))))
+      [ true ↦ below.1 | false ↦ (below.0, below_remove x test es below.1) ]
 
   pub sorted_remove : (test : K → Bool) (es : List (K × X)) → IsStrictlySortedBy R (keys_of es) → IsStrictlySortedBy R (keys_of (remove_entry test es))
   unfolding IsStrictlySortedBy

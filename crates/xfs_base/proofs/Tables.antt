@@ -23,9 +23,11 @@ module _ {K V : Type 0} {R : K → K → Ordering} (total : IsTotalOrder R) (exa
   abbrev put : List (K × V) → K → V → List (K × V)
   put es k v = insert_entry R (remove_entry (is_at (R k)) es) k v
 
-  removed_step : (q : K) (e : K × V) (es rest : List (K × V)) (k : K) (t : Bool) → eq_by_cmp R k e.0 ≡ t → eq_by_cmp R q k ≡ false → lookup (is_at (R q)) rest ≡ lookup (is_at (R q)) es
+  removed_step : (q : K) (e : K × V) (es rest : List (K × V)) (k : K) (t : Bool) → eq_by_cmp R k e.0 ≡ t → eq_by_cmp R q k ≡ false
+      → lookup (is_at (R q)) rest ≡ lookup (is_at (R q)) es
       → lookup (is_at (R q)) (cond t es (e ∷ rest)) ≡ cond (eq_by_cmp R q e.0) (Some e.1) (lookup (is_at (R q)) es)
-  removed_step q e es rest k true h other same = sym (ap (λ b. cond b (Some e.1) (lookup (is_at (R q)) es)) (ap (eq_by_cmp R q) (sym (tells_apart exact k e.0 h)) ∙ other))
+  removed_step q e es rest k true h other same =
+      sym (ap (λ b. cond b (Some e.1) (lookup (is_at (R q)) es)) (ap (eq_by_cmp R q) (sym (tells_apart exact k e.0 h)) ∙ other))
   removed_step q e es rest k false h other same = ap (cond (eq_by_cmp R q e.0) (Some e.1)) same
 
   -- removing one entry leaves what is found at another key
@@ -38,7 +40,8 @@ module _ {K V : Type 0} {R : K → K → Ordering} (total : IsTotalOrder R) (exa
   at-put q k v es =
       ap (λ o. unwrap_or o none) (lookup-insert_entry total q k v (remove_entry (is_at (R k)) es)) ∙ put_cases (eq_by_cmp R q k) refl
     where
-      put_cases : (t : Bool) → eq_by_cmp R q k ≡ t → unwrap_or (cond t (Some v) (lookup (is_at (R q)) (remove_entry (is_at (R k)) es))) none ≡ cond t v (at es q)
+      put_cases : (t : Bool) → eq_by_cmp R q k ≡ t
+          → unwrap_or (cond t (Some v) (lookup (is_at (R q)) (remove_entry (is_at (R k)) es))) none ≡ cond t v (at es q)
       put_cases true same = refl
       put_cases false other = ap (λ o. unwrap_or o none) (lookup-removed q k es other)
 
@@ -79,4 +82,5 @@ module _ {K V : Type 0} {R : K → K → Ordering} (total : IsTotalOrder R) (exa
     -- what is at each key once all are changed in place
     pub at-changed : (q : K) (es : List (K × V)) → g q none ≡ none → at (changed es) q ≡ g q (at es q)
     at-changed q [] default = sym default
-    at-changed q (e ∷ es) default = changed_step q e (lookup (is_at (R q)) (changed es)) (lookup (is_at (R q)) es) (eq_by_cmp R q e.0) refl (at-changed q es default)
+    at-changed q (e ∷ es) default =
+        changed_step q e (lookup (is_at (R q)) (changed es)) (lookup (is_at (R q)) es) (eq_by_cmp R q e.0) refl (at-changed q es default)

@@ -8,7 +8,8 @@ use Rattle.world_base.specs.declared.estate.Estate.{Estate}
 use Rattle.node_base.specs.Setups.{IsSetup}
 use Rattle.world_base.specs.Runs.{IsRun}
 
-module _ (Law : Estate AnyNode → Type 0) (law : (e : Estate AnyNode) → IsSetup e.script.setup → IsRun any_step any_start e.script e.events e.world → Law e) where
+module _ (Law : Estate AnyNode → Type 0)
+    (law : (e : Estate AnyNode) → IsSetup e.script.setup → IsRun any_step any_start e.script e.events e.world → Law e) where
   pub played_has : (o : Option (Estate AnyNode)) → IfSome o (IsPlayed any_step any_start) → IfSome o Law
   played_has None played = tt
   played_has (Some e) played = law e played.setup played.one_run

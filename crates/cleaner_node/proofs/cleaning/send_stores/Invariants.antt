@@ -6,4 +6,5 @@ use Rattle.cleaner_node.proofs.cleaning.send_stores.Given as goal
 
 -- what is sent and what is to be sent is all
 abbrev pub invariant-loop-out : goal.invariant-loop-out
-invariant-loop-out l = l.effects ++ flat_map stored (into_iter_items l.out-iterator) ≡ l.initial.effects ++ flat_map stored (into_iter_items l.initial.out-iterator)
+invariant-loop-out l =
+    l.effects ++ flat_map stored (into_iter_items l.out-iterator) ≡ l.initial.effects ++ flat_map stored (into_iter_items l.initial.out-iterator)

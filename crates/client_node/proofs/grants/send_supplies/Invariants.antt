@@ -5,4 +5,6 @@ use Rattle.client_node.specs.Packets.{supplies}
 use Rattle.client_node.proofs.grants.send_supplies.Given as goal
 
 abbrev pub invariant-loop-out : goal.invariant-loop-out
-invariant-loop-out l = l.effects ++ flat_map (supplies l.forward) (into_iter_items l.out-iterator) ≡ l.initial.effects ++ flat_map (supplies l.forward) (into_iter_items l.initial.out-iterator)
+invariant-loop-out l =
+    l.effects ++ flat_map (supplies l.forward) (into_iter_items l.out-iterator) ≡ l.initial.effects
+    ++ flat_map (supplies l.forward) (into_iter_items l.initial.out-iterator)

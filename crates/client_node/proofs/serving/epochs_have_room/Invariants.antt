@@ -6,4 +6,6 @@ use Rattle.client_node.proofs.serving.epochs_have_room.Given as goal
 
 -- those so far are not near the end, so all depends on those to come
 abbrev pub invariant-loop-slot : goal.invariant-loop-slot
-invariant-loop-slot l = list_all (λ slot. has_room (epoch_of l.tokens.epochs slot)) (range_with_len l.slot (8 - l.slot)) ≡ list_all (λ slot. has_room (epoch_of l.tokens.epochs slot)) (range_with_len 0 8)
+invariant-loop-slot l =
+    list_all (λ slot. has_room (epoch_of l.tokens.epochs slot)) (range_with_len l.slot (8 - l.slot)) ≡ list_all
+    (λ slot. has_room (epoch_of l.tokens.epochs slot)) (range_with_len 0 8)

@@ -15,5 +15,7 @@ split_at-requires-2 c = let h = row_length c.args.bytes.now c.requires in omega 
 
 pub unreachable-requires : goal.unreachable-requires
 unreachable-requires c =
-    let good : is_good c.split_at-2.result.0.now ≡ true = ap (λ (n : List ℕ). is_good n) (c.split_at-2.ensures.front ∙ ap (λ (bs : List ℕ). take (name_length c.args.bytes.now) bs) c.split_at.ensures.back) ∙ row_name c.args.bytes.now c.requires in
+    let good : is_good c.split_at-2.result.0.now ≡ true =
+    ap (λ (n : List ℕ). is_good n) (c.split_at-2.ensures.front ∙ ap (λ (bs : List ℕ). take (name_length c.args.bytes.now) bs) c.split_at.ensures.back)
+    ∙ row_name c.args.bytes.now c.requires in
     no_name (is_good c.split_at-2.result.0.now) c.split_at-2.result.0.now c.in_ok-of.field-0 c.in_ok-of.ensures c.in-None.is good

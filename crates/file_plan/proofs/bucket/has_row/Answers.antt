@@ -12,5 +12,7 @@ returns-then-length-text c = sym (has_row_short c.args.bytes.now (omega (arith, 
 
 pub returns : goal.returns
 returns c =
-    c.is_entry.ensures ∙ ap (λ (n : List ℕ). is_kind_byte (get_or c.args.bytes.now 0 0) && is_good n) (c.split_at-2.ensures.front ∙ ap (λ (bs : List ℕ). take (name_length c.args.bytes.now) bs) c.split_at.ensures.back)
+    c.is_entry.ensures
+    ∙ ap (λ (n : List ℕ). is_kind_byte (get_or c.args.bytes.now 0 0) && is_good n)
+    (c.split_at-2.ensures.front ∙ ap (λ (bs : List ℕ). take (name_length c.args.bytes.now) bs) c.split_at.ensures.back)
     ∙ sym (has_row_long c.args.bytes.now (omega (arith, c.split_at.ensures.back_len)))

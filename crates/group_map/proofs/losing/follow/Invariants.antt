@@ -7,5 +7,6 @@ use Rattle.group_map.proofs.losing.follow.Given as goal
 abbrev pub invariant-loop-group : goal.invariant-loop-group
 invariant-loop-group l = record {
   room : length l.after + length (filter (is_hit l.server) (drop l.group-index l.groups)) ≤ 4294967295;
-  all : l.after ++ numbered (length l.after + 1) (followers l.generations l.server (drop l.group-index l.groups)) ≡ l.initial.after ++ numbered (length l.initial.after + 1) (followers l.generations l.server l.groups);
+  all : l.after ++ numbered (length l.after + 1) (followers l.generations l.server (drop l.group-index l.groups)) ≡ l.initial.after
+      ++ numbered (length l.initial.after + 1) (followers l.generations l.server l.groups);
 }

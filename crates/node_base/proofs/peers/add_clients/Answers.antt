@@ -4,4 +4,5 @@ use Rattle.node_base.proofs.Ranges.{map_step}
 use Rattle.node_base.proofs.peers.add_clients.Goals as goal
 
 pub loop-before-preserved : goal.loop-before-preserved
-loop-before-preserved c = map_step nth_client c.loop-before.nodes _ c.loop-before.before c.args.count c.loop-before-test.true c.in_ok-push.ensures.ok ∙ c.loop-before.invariant
+loop-before-preserved c =
+    map_step nth_client c.loop-before.nodes _ c.loop-before.before c.args.count c.loop-before-test.true c.in_ok-push.ensures.ok ∙ c.loop-before.invariant

@@ -5,4 +5,5 @@ use Rattle.node_base.proofs.peers.add_managers.Given as goal
 
 -- the nodes so far and those to come are all
 abbrev pub invariant-loop-before : goal.invariant-loop-before
-invariant-loop-before l = l.nodes ++ map nth_manager (range_with_len l.before (l.count - l.before)) ≡ l.initial.nodes ++ map nth_manager (range_with_len 0 l.count)
+invariant-loop-before l =
+    l.nodes ++ map nth_manager (range_with_len l.before (l.count - l.before)) ≡ l.initial.nodes ++ map nth_manager (range_with_len 0 l.count)

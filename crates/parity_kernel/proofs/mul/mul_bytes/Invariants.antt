@@ -3,4 +3,6 @@ use Rattle.parity_kernel.specs.Bytewise.{xor_of, times}
 use Rattle.parity_kernel.proofs.mul.mul_bytes.Given as goal
 
 abbrev pub invariant-loop-place : goal.invariant-loop-place
-invariant-loop-place l = take l.place l.to ++ xor_of (drop l.place l.to) (times l.by (drop l.place l.from)) ≡ take l.fn.at l.initial.to ++ xor_of (drop l.fn.at l.initial.to) (times l.by (drop l.fn.at l.from))
+invariant-loop-place l =
+    take l.place l.to ++ xor_of (drop l.place l.to) (times l.by (drop l.place l.from)) ≡ take l.fn.at l.initial.to
+    ++ xor_of (drop l.fn.at l.initial.to) (times l.by (drop l.fn.at l.from))

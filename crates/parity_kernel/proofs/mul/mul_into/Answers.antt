@@ -15,13 +15,17 @@ loop-to-preserved c =
     let next = done + 32 in
     let to = c.loop-to.to in
     let now_and_left = λ (to : List ℕ). take next to ++ xor_of (drop next to) (times c.args.by (drop next c.args.from.now)) in
-    let vector : times c.args.by (chunk done 32 c.args.from.now) ≡ chunk done 32 products = sym (take-map (product c.args.by) 32 (drop done c.args.from.now)) ∙ ap (take 32) (sym (drop-map (product c.args.by) done c.args.from.now)) in
+    let vector : times c.args.by (chunk done 32 c.args.from.now) ≡ chunk done 32 products =
+    sym (take-map (product c.args.by) 32 (drop done c.args.from.now)) ∙ ap (take 32) (sym (drop-map (product c.args.by) done c.args.from.now)) in
     let rest : times c.args.by (drop next c.args.from.now) ≡ drop next products = sym (drop-map (product c.args.by) next c.args.from.now) in
-    let stored : c.mul_lanes.new.to ≡ put_chunk done to (xor_of (chunk done 32 to) (chunk done 32 products)) = c.mul_lanes.ensures ∙ ap (λ (p : List ℕ). put_chunk done to (xor_of (chunk done 32 to) p)) vector in
+    let stored : c.mul_lanes.new.to ≡ put_chunk done to (xor_of (chunk done 32 to) (chunk done 32 products)) =
+    c.mul_lanes.ensures ∙ ap (λ (p : List ℕ). put_chunk done to (xor_of (chunk done 32 to) p)) vector in
     let many : length products ≡ length c.args.from.now = length-map c.args.from.now (product c.args.by) in
     record {
       within = omega arith;
-      folded = ap now_and_left stored ∙ ap (λ (p : List ℕ). take next (put_chunk done to (xor_of (chunk done 32 to) (chunk done 32 products))) ++ xor_of (drop next (put_chunk done to (xor_of (chunk done 32 to) (chunk done 32 products)))) p) rest
+      folded = ap now_and_left stored
+          ∙ ap (λ (p : List ℕ). take next (put_chunk done to (xor_of (chunk done 32 to) (chunk done 32 products)))
+          ++ xor_of (drop next (put_chunk done to (xor_of (chunk done 32 to) (chunk done 32 products)))) p) rest
           ∙ chunk_more bit_xor to products done 32 (omega arith) (omega arith)
           ∙ ap (λ (p : List ℕ). take done to ++ xor_of (drop done to) p) (drop-map (product c.args.by) done c.args.from.now) ∙ c.loop-to.invariant.folded;
     }
@@ -31,4 +35,5 @@ returns-clause-undone c =
     let to = c.args.to.now in
     let products = times c.args.by c.args.from.now in
     let many : length products ≡ length c.args.from.now = length-map c.args.from.now (product c.args.by) in
-    ap (λ (now : List ℕ). xor_of now products) (c.mul_bytes.ensures ∙ c.loop-to.invariant.folded) ∙ zip2_undone bit_xor xor_undone to products (c.requires ∙ sym many)
+    ap (λ (now : List ℕ). xor_of now products) (c.mul_bytes.ensures ∙ c.loop-to.invariant.folded)
+    ∙ zip2_undone bit_xor xor_undone to products (c.requires ∙ sym many)

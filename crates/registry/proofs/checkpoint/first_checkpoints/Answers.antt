@@ -16,5 +16,6 @@ loop-slot-preserved c =
     let more : map first (drop c.loop-slot._slot-index c.args.slots.now) ≡ first_checkpoint ∷ map first (drop (c.loop-slot._slot-index + 1) c.args.slots.now) =
     at_drop_more (map first) c.args.slots.now c.loop-slot._slot-index 0 here
     in
-    one_more c.loop-slot.made c.push.new.self (map first (drop (c.loop-slot._slot-index + 1) c.args.slots.now)) (map first c.args.slots.now) c.in_ok-first_checkpoint.field-0 first_checkpoint
+    one_more c.loop-slot.made c.push.new.self (map first (drop (c.loop-slot._slot-index + 1) c.args.slots.now))
+    (map first c.args.slots.now) c.in_ok-first_checkpoint.field-0 first_checkpoint
     c.in_ok-push.ensures.ok c.in_ok-first_checkpoint.ensures (ap (λ r. c.loop-slot.made ++ r) (sym more) ∙ c.loop-slot.invariant)

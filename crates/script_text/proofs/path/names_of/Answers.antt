@@ -15,4 +15,5 @@ pub returns-then-len-ge-MAX_NAMES-2 : goal.returns-then-len-ge-MAX_NAMES-2
 returns-then-len-ge-MAX_NAMES-2 c = names_over _ c.loop-name.names c.loop-name.rest.now c.loop-name.invariant.same (omega arith)
 
 pub returns : goal.returns
-returns c = names_all _ c.loop-name.names c.push-2.new.self c.loop-name.rest.now c.in_ok-of-2.field-0 c.loop-name.invariant.same c.in_default.ensures (omega arith) c.in_ok-push-2.ensures.ok c.in_ok-of-2.ensures
+returns c = names_all _ c.loop-name.names c.push-2.new.self c.loop-name.rest.now c.in_ok-of-2.field-0 c.loop-name.invariant.same c.in_default.ensures
+    (omega arith) c.in_ok-push-2.ensures.ok c.in_ok-of-2.ensures

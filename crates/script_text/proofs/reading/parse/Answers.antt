@@ -15,4 +15,5 @@ pub returns-clause-refused_if_bad : goal.returns-clause-refused_if_bad
 returns-clause-refused_if_bad c = refused_if_bad c.args.live c.args.bytes.now c.read_script.result c.read_script.ensures
 
 pub returns-clause-few : goal.returns-clause-few
-returns-clause-few c = few_found c.args.live c.args.bytes.now c.read_script.result (found c.args.live c.args.bytes.now c.read_script.result c.read_script.ensures)
+returns-clause-few c =
+    few_found c.args.live c.args.bytes.now c.read_script.result (found c.args.live c.args.bytes.now c.read_script.result c.read_script.ensures)

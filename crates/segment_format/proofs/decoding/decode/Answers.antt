@@ -21,7 +21,8 @@ pub returns-clause-found : goal.returns-clause-found
 returns-clause-found c = is_found c.args.bytes.now c.answer.result (λ i. omega (arith, c.type_inv.bytes i)) c.answer.ensures
 
 pub returns-clause-only : goal.returns-clause-only
-returns-clause-only c = λ s fits text. subst (λ (a : Result Segment SegError). Gives (λ x. x) c.answer.result a) (answer_again c.args.bytes.now s fits text) c.answer.ensures
+returns-clause-only c =
+    λ s fits text. subst (λ (a : Result Segment SegError). Gives (λ x. x) c.answer.result a) (answer_again c.args.bytes.now s fits text) c.answer.ensures
 
 is_first : (bytes : List ℕ) (r : Result Segment SegError) → Gives (λ s. s) r (answer_of bytes) → IfErr r (λ e. (e ≡ Memory) ⊎ IsFirst bytes e)
 is_first bytes (Ok s) given = tt

@@ -11,5 +11,6 @@ returns c =
     let count = rw c.len.ensures at c.in_ok-put_u16.ensures.ok in
     let version = rw (c.version_of.ensures, c.as_slice.ensures) at c.in_ok-put_u8.ensures.ok in
     wrote_2 c.args.out.now (mark ++ version_of s.items ∷ name_text s.name ++ prior_text s.prior ++ to_be_bytes w32 s.group) (to_be_bytes w16 (length s.items))
-    (wrote_5 c.args.out.now mark (version_of s.items ∷ []) (name_text s.name) (prior_text s.prior) (to_be_bytes w32 s.group) c.in_ok-put_bytes.ensures.ok version c.in_ok-put_name.ensures c.in_ok-put_prior.ensures c.in_ok-put_u32.ensures.ok)
+    (wrote_5 c.args.out.now mark (version_of s.items ∷ []) (name_text s.name) (prior_text s.prior)
+    (to_be_bytes w32 s.group) c.in_ok-put_bytes.ensures.ok version c.in_ok-put_name.ensures c.in_ok-put_prior.ensures c.in_ok-put_u32.ensures.ok)
     count

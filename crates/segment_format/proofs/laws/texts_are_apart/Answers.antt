@@ -12,4 +12,6 @@ pub returns-clause-apart : goal.returns-clause-apart
 returns-clause-apart c = λ a b more s t fs ft p q e. texts_apart a b more s t fs ft p q e
 
 pub returns-clause-fronts : goal.returns-clause-fronts
-returns-clause-fronts c = λ bytes s j fits text lt. fronts_are_cut_off bytes j lt (subst (λ (a : Result Segment SegError). j < reach bytes a) (sym (answer_again bytes s fits text)) lt)
+returns-clause-fronts c =
+    λ bytes s j fits text lt. fronts_are_cut_off bytes j lt
+    (subst (λ (a : Result Segment SegError). j < reach bytes a) (sym (answer_again bytes s fits text)) lt)

@@ -4,4 +4,5 @@ use Rattle.store_nodes.specs.RegistryEvents.{kept}
 use Rattle.store_nodes.proofs.registry_node.say_kept.Given as goal
 
 abbrev pub invariant-loop-out : goal.invariant-loop-out
-invariant-loop-out l = l.effects ++ flat_map (kept l.fn.from l.fn.done) (drop l.out-index l.outs) ≡ l.initial.effects ++ flat_map (kept l.fn.from l.fn.done) l.outs
+invariant-loop-out l =
+    l.effects ++ flat_map (kept l.fn.from l.fn.done) (drop l.out-index l.outs) ≡ l.initial.effects ++ flat_map (kept l.fn.from l.fn.done) l.outs

@@ -7,13 +7,17 @@ use Rattle.store_nodes.proofs.shelf_events.keeps.Goals as goal
 pub returns-in-Ok-clause-shelf : goal.returns-in-Ok-clause-shelf
 returns-in-Ok-clause-shelf c =
     let refused = store_refused c.args.shelf.now c.args.fragment.meta.name c.args.generation in
-    let none : refused ≡ None = none_refused refused (λ e ne is. no_error c.in-Ok.field-0 e ((c.in-Ok.ensures.refused e ne).1 is)) (not_memory c.args.shelf.now c.args.fragment.meta.name c.args.generation) in
+    let none : refused ≡ None =
+    none_refused refused (λ e ne is. no_error c.in-Ok.field-0 e ((c.in-Ok.ensures.refused e ne).1 is))
+    (not_memory c.args.shelf.now c.args.fragment.meta.name c.args.generation) in
     unrefused refused c.store.new.self c.args.shelf.now (kept c.args.shelf.now c.args.fragment) none c.in-Ok.ensures.ok
 
 pub returns-in-Ok-clause-kept : goal.returns-in-Ok-clause-kept
 returns-in-Ok-clause-kept c =
     let refused = store_refused c.args.shelf.now c.args.fragment.meta.name c.args.generation in
-    let none : refused ≡ None = none_refused refused (λ e ne is. no_error c.in-Ok.field-0 e ((c.in-Ok.ensures.refused e ne).1 is)) (not_memory c.args.shelf.now c.args.fragment.meta.name c.args.generation) in
+    let none : refused ≡ None =
+    none_refused refused (λ e ne is. no_error c.in-Ok.field-0 e ((c.in-Ok.ensures.refused e ne).1 is))
+    (not_memory c.args.shelf.now c.args.fragment.meta.name c.args.generation) in
     sym (ap (λ r. not (is_some r)) none)
 
 pub returns-in-Err-WrongGeneration-clause-shelf : goal.returns-in-Err-WrongGeneration-clause-shelf

@@ -5,4 +5,5 @@ use Rattle.stripe_cleaner.proofs.checks.all_live_at.Given as goal
 
 -- those so far and those to come are all
 abbrev pub invariant-loop-check : goal.invariant-loop-check
-invariant-loop-check l = l.all ++ map (live_at l.block l.entry) (into_iter_items l.check-iterator) ≡ map (live_at l.block l.entry) (into_iter_items l.initial.check-iterator)
+invariant-loop-check l =
+    l.all ++ map (live_at l.block l.entry) (into_iter_items l.check-iterator) ≡ map (live_at l.block l.entry) (into_iter_items l.initial.check-iterator)

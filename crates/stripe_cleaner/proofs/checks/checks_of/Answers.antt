@@ -7,5 +7,6 @@ use Rattle.stripe_cleaner.proofs.checks.checks_of.Goals as goal
 pub loop-item-preserved : goal.loop-item-preserved
 loop-item-preserved c =
     let all = checks_from 0 (into_iter_items c.into_iter-item-iterator.result) in
-    checks_more c.loop-item.checks c.add_check.new.checks all c.loop-item.number c.next_number-number.result c.in-Some.item (into_iter_items c.next.new.self) c.next_number-number.ensures c.in_ok-add_check.ensures
+    checks_more c.loop-item.checks c.add_check.new.checks all c.loop-item.number c.next_number-number.result c.in-Some.item
+    (into_iter_items c.next.new.self) c.next_number-number.ensures c.in_ok-add_check.ensures
     (subst (λ r. c.loop-item.checks ++ checks_from c.loop-item.number r ≡ all) c.in-Some.ensures.steps.0 c.loop-item.invariant)

@@ -15,8 +15,10 @@ loop-slot-preserved c =
     let slot = get_or slots i 0 in
     let here : c.if-is_awaited.outs ≡ c.loop-slot.outs ++ cond (not (has_usage es slot)) (UsageAsk slot ∷ []) [] =
     elim c.if-is_awaited.branch [
-      | then-is_awaited+in_ok-push w ↦ w.outs-is ∙ w.in_ok-push.ensures.ok ∙ ap (λ b. c.loop-slot.outs ++ cond b (UsageAsk slot ∷ []) []) (sym w.if-is_awaited.true ∙ c.is_awaited.ensures)
-      | else-is_awaited w ↦ w.outs-is ∙ sym (append-nil c.loop-slot.outs) ∙ ap (λ b. c.loop-slot.outs ++ cond b (UsageAsk slot ∷ []) []) (sym w.if-is_awaited.false ∙ c.is_awaited.ensures)
+      | then-is_awaited+in_ok-push w ↦ w.outs-is ∙ w.in_ok-push.ensures.ok
+          ∙ ap (λ b. c.loop-slot.outs ++ cond b (UsageAsk slot ∷ []) []) (sym w.if-is_awaited.true ∙ c.is_awaited.ensures)
+      | else-is_awaited w ↦ w.outs-is ∙ sym (append-nil c.loop-slot.outs)
+          ∙ ap (λ b. c.loop-slot.outs ++ cond b (UsageAsk slot ∷ []) []) (sym w.if-is_awaited.false ∙ c.is_awaited.ensures)
     ]
     in
     ap (λ front. front ++ usage_asks (awaited_among es (drop (i + 1) slots))) here

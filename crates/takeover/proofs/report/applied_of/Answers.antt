@@ -6,5 +6,6 @@ use Rattle.takeover.proofs.report.applied_of.Goals as goal
 pub loop-log-preserved : goal.loop-log-preserved
 unfolding applied_of
 loop-log-preserved c =
-    map_step (applied_at c.args.horizon.now c.args.reports.now) c.loop-log.applied _ c.loop-log.log 10 c.loop-log-test.true (c.in_ok-push.ensures.ok ∙ ap (λ n. c.loop-log.applied ++ n ∷ []) c.applied_at.ensures)
+    map_step (applied_at c.args.horizon.now c.args.reports.now) c.loop-log.applied _ c.loop-log.log 10 c.loop-log-test.true
+    (c.in_ok-push.ensures.ok ∙ ap (λ n. c.loop-log.applied ++ n ∷ []) c.applied_at.ensures)
     ∙ c.loop-log.invariant

@@ -5,4 +5,6 @@ use Rattle.takeover.proofs.source.add_logs.Given as goal
 
 -- the sources so far and those to come are all
 abbrev pub invariant-loop-log : goal.invariant-loop-log
-invariant-loop-log l = l.sources.items ++ flat_map (log_sources l.horizon l.reports) (range_with_len l.log (10 - l.log)) ≡ l.initial.sources.items ++ flat_map (log_sources l.horizon l.reports) (range_with_len 1 9)
+invariant-loop-log l =
+    l.sources.items ++ flat_map (log_sources l.horizon l.reports) (range_with_len l.log (10 - l.log)) ≡ l.initial.sources.items
+    ++ flat_map (log_sources l.horizon l.reports) (range_with_len 1 9)

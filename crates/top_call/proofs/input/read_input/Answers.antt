@@ -27,5 +27,11 @@ returns-in-Err-add-clause-taken g c =
     let e = c.as_bytes-in-loop-room.ensures in
     let short : length c.loop-room.text < limit = rw c.as_bytes.ensures at c.loop-room-test.true in
     let wanted = rw e at c.min-wanted.ensures in
-    let few = within c.loop-room.text (take c.in-Ok.got c.read.new.into) c.min-wanted.result short wanted (grind (arith, c.in-Ok.ensures.bound, c.read.auto.into, length-take c.in-Ok.got c.read.new.into, length-take c.min-wanted.result c.loop-room.room, i.room)) in
-    (c.loop-room.text ++ take c.in-Ok.got c.read.new.into, few, consumes_on _ _ _ c.loop-room.text (take c.in-Ok.got c.read.new.into) i.taken c.in-Ok.ensures.bytes.0)
+    let few = within c.loop-room.text (take c.in-Ok.got c.read.new.into) c.min-wanted.result short wanted
+    (grind (arith, c.in-Ok.ensures.bound, c.read.auto.into, length-take c.in-Ok.got c.read.new.into, length-take c.min-wanted.result c.loop-room.room, i.room))
+    in (
+      c.loop-room.text
+          ++ take c.in-Ok.got c.read.new.into,
+      few,
+      consumes_on _ _ _ c.loop-room.text (take c.in-Ok.got c.read.new.into) i.taken c.in-Ok.ensures.bytes.0,
+    )

@@ -14,7 +14,9 @@ returns-in-None-clause-claim g c =
     let s = writing g.K.Sink.written g.K.Sink.faults c.args.sink.now c.tell.new.sink in
     let told = line_told s o _ _ 2 c.usage.ensures c.tell.ensures.told in
     let answer = answers step first None [] s o (line usage_text 2) refl (inl told) in
-    subst (λ command. Claim step first command r s o) c.in-None.ensures.command (claims_unread step first g.S.Source.left g.S.Source.faults c.args.source.now None s o refl (λ e. told) answer (none_played step first o.estate c.tell.ensures.no_run) c.tell.ensures.later)
+    subst (λ command. Claim step first command r s o) c.in-None.ensures.command
+    (claims_unread step first g.S.Source.left g.S.Source.faults c.args.source.now None s o refl (λ e. told) answer
+    (none_played step first o.estate c.tell.ensures.no_run) c.tell.ensures.later)
 
 pub returns-in-Some-clause-claim : goal.returns-in-Some-clause-claim
 returns-in-Some-clause-claim g c =

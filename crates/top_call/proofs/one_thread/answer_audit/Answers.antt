@@ -16,7 +16,12 @@ returns-in-Ok-clause-ends g c =
 pub returns-in-Err-Failed-clause-ends : goal.returns-in-Err-Failed-clause-ends
 returns-in-Err-Failed-clause-ends g c =
     let r = reading g.S.Source.left g.S.Source.faults c.args.source.now c.read_input.new.source in
-    inr (inr (refl, cannot_read r g.K.Sink.written g.K.Sink.faults c.args.sink.now c.ended.result (c.in-Err-Failed.ensures.failed (ap Err c.in-Err-Failed.field-0-is)) c.ended.ensures))
+    inr (inr (
+      refl,
+      cannot_read r g.K.Sink.written g.K.Sink.faults c.args.sink.now c.ended.result
+          (c.in-Err-Failed.ensures.failed (ap Err c.in-Err-Failed.field-0-is)) c.ended.ensures,
+    ))
 
 pub returns-in-Err-Memory-clause-ends : goal.returns-in-Err-Memory-clause-ends
-returns-in-Err-Memory-clause-ends g c = inr (inl (gives_up g.K.Sink.written g.K.Sink.faults c.args.sink.now c.ended-in-Err-Memory.result c.ended-in-Err-Memory.ensures))
+returns-in-Err-Memory-clause-ends g c =
+    inr (inl (gives_up g.K.Sink.written g.K.Sink.faults c.args.sink.now c.ended-in-Err-Memory.result c.ended-in-Err-Memory.ensures))

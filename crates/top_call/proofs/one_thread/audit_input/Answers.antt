@@ -9,7 +9,8 @@ pub returns-in-Ok-clause-told : goal.returns-in-Ok-clause-told
 returns-in-Ok-clause-told g c =
     let verdict = c.in-Ok.verdict in
     let s = writing g.K.Sink.written g.K.Sink.faults c.args.sink.now c.say.new.sink in
-    answers g.N.Actor.transition g.N.Member.first (Some Audit) c.args.input.now s c.say.result (line (verdict_text verdict) (verdict_status verdict)) (inl (verdict, c.in-Ok.ensures.judged, refl)) c.say.ensures.told
+    answers g.N.Actor.transition g.N.Member.first (Some Audit) c.args.input.now s c.say.result (line (verdict_text verdict) (verdict_status verdict))
+    (inl (verdict, c.in-Ok.ensures.judged, refl)) c.say.ensures.told
 
 pub returns-in-Ok-clause-one_run : goal.returns-in-Ok-clause-one_run
 returns-in-Ok-clause-one_run g c = none_played g.N.Actor.transition g.N.Member.first c.say.result.estate c.say.ensures.no_run
@@ -20,7 +21,8 @@ returns-in-Err-Bad-clause-told g c =
     let kind = c.in-Err-Bad.kind in
     let fault = rw c.in-Err-Bad.field-0-is at c.in-Err-Bad.ensures.refused in
     let s = writing g.K.Sink.written g.K.Sink.faults c.args.sink.now c.refuse.new.sink in
-    answers g.N.Actor.transition g.N.Member.first (Some Audit) c.args.input.now s c.refuse.result (refusal number kind) (inr (number, kind, fault, refl)) c.refuse.ensures.told
+    answers g.N.Actor.transition g.N.Member.first (Some Audit) c.args.input.now s c.refuse.result (refusal number kind)
+    (inr (number, kind, fault, refl)) c.refuse.ensures.told
 
 pub returns-in-Err-Bad-clause-one_run : goal.returns-in-Err-Bad-clause-one_run
 returns-in-Err-Bad-clause-one_run g c = none_played g.N.Actor.transition g.N.Member.first c.refuse.result.estate c.refuse.ensures.no_run

@@ -13,7 +13,8 @@ returns-in-Ok-clause-told g c =
     let first = g.N.Member.first in
     let script = c.in-Ok.script in
     let s = writing g.K.Sink.written g.K.Sink.faults c.args.sink.now c.play_script.new.sink in
-    answers step first (Some Run) c.args.input.now s c.play_script.result (run_wanted step first script) (inl (script, c.in-Ok.ensures.found, refl)) c.play_script.ensures.told
+    answers step first (Some Run) c.args.input.now s c.play_script.result (run_wanted step first script)
+    (inl (script, c.in-Ok.ensures.found, refl)) c.play_script.ensures.told
 
 pub returns-in-Err-Bad-clause-told : goal.returns-in-Err-Bad-clause-told
 returns-in-Err-Bad-clause-told g c =
@@ -21,7 +22,8 @@ returns-in-Err-Bad-clause-told g c =
     let kind = c.in-Err-Bad.kind in
     let fault = rw c.in-Err-Bad.field-0-is at c.in-Err-Bad.ensures.cause in
     let s = writing g.K.Sink.written g.K.Sink.faults c.args.sink.now c.refuse.new.sink in
-    answers g.N.Actor.transition g.N.Member.first (Some Run) c.args.input.now s c.refuse.result (refusal number kind) (inr (number, kind, fault, refl)) c.refuse.ensures.told
+    answers g.N.Actor.transition g.N.Member.first (Some Run) c.args.input.now s c.refuse.result (refusal number kind)
+    (inr (number, kind, fault, refl)) c.refuse.ensures.told
 
 pub returns-in-Err-Bad-clause-one_run : goal.returns-in-Err-Bad-clause-one_run
 returns-in-Err-Bad-clause-one_run g c = none_played g.N.Actor.transition g.N.Member.first c.refuse.result.estate c.refuse.ensures.no_run

@@ -7,4 +7,6 @@ use Rattle.version_model.proofs.Each.{Agree}
 
 -- it is left to show of the falls to come
 abbrev pub invariant-loop-fall : goal.invariant-loop-fall
-invariant-loop-fall l = Agree (AllByRecursion (λ (fall : Fall). same_block l.block fall.block ≡ false) (drop l.fall-index l.falls)) (AllByRecursion (λ (fall : Fall). same_block l.block fall.block ≡ false) l.falls)
+invariant-loop-fall l =
+    Agree (AllByRecursion (λ (fall : Fall). same_block l.block fall.block ≡ false) (drop l.fall-index l.falls))
+    (AllByRecursion (λ (fall : Fall). same_block l.block fall.block ≡ false) l.falls)

@@ -21,4 +21,5 @@ loop-place-preserved g c =
 pub first_node-requires-clause-node : goal.first_node-requires-clause-node
 first_node-requires-clause-node g c =
     let setup = c.args.script.now.setup in
-    subst (λ node. HasNode setup node) (sym (c.node_at.ensures ∙ ap (λ cluster. node_at cluster c.loop-place.place) c.requires.cluster)) (stands setup c.loop-place.place)
+    subst (λ node. HasNode setup node) (sym (c.node_at.ensures ∙ ap (λ cluster. node_at cluster c.loop-place.place) c.requires.cluster))
+    (stands setup c.loop-place.place)

@@ -16,10 +16,12 @@ pub returns-clause-one_owner : goal.returns-clause-one_owner
 returns-clause-one_owner g c = played_has OneOwnerThroughout c.every_run_has_one_owner.ensures.one_owner c.answer.result.estate c.answer.ensures.claim.run
 
 pub returns-clause-one_manager : goal.returns-clause-one_manager
-returns-clause-one_manager g c = played_has OneManagerThroughout c.every_run_has_one_manager.ensures.one_manager c.answer.result.estate c.answer.ensures.claim.run
+returns-clause-one_manager g c =
+    played_has OneManagerThroughout c.every_run_has_one_manager.ensures.one_manager c.answer.result.estate c.answer.ensures.claim.run
 
 pub returns-clause-nobody_holds : goal.returns-clause-nobody_holds
-returns-clause-nobody_holds g c = played_has NobodyHoldsThroughout c.what_fell_is_held_by_nobody.ensures.nobody c.answer.result.estate c.answer.ensures.claim.run
+returns-clause-nobody_holds g c =
+    played_has NobodyHoldsThroughout c.what_fell_is_held_by_nobody.ensures.nobody c.answer.result.estate c.answer.ensures.claim.run
 
 pub returns-clause-falls_apart : goal.returns-clause-falls_apart
 returns-clause-falls_apart g c = played_has FallsApartThroughout c.what_fell_is_held_by_nobody.ensures.apart c.answer.result.estate c.answer.ensures.claim.run

@@ -3,7 +3,8 @@ use Rattle.std.proofs.lemmas.Bool.Decides.{nat_tests}
 use Rattle.client_node.proofs.serving.Serving.is_settled.Goals as goal
 
 -- both facts as one test
-as_test : {A B : Type 0} (b : Bool) (dirty : List A) (flight : Option B) → IsTrue b ↔ ((dirty ≡ []) × (flight ≡ None)) → b ≡ (is_none flight && (length dirty == 0))
+as_test : {A B : Type 0} (b : Bool) (dirty : List A) (flight : Option B) → IsTrue b ↔ ((dirty ≡ []) × (flight ≡ None))
+    → b ≡ (is_none flight && (length dirty == 0))
 as_test true [] None h = refl
 as_test true [] (Some f) h = cc ((h.0 refl).1)
 as_test true (x ∷ xs) None h = cc ((h.0 refl).0)

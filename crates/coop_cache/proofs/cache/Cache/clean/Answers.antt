@@ -17,7 +17,8 @@ returns-clause-state c =
     let fits : length (keys_of before.entries) ≤ before.cap = omega (arith, v.1, length-map before.entries (λ (e : BlockId × Unit {0}). e.0)) in
     rw (c.in_ok-old.ensures.entries, ← c.self.view_is)
     (ap (λ ks. record { blocks = ks; capacity = before.cap })
-    (ap reverse (keys-put_entries same_block before c.args.block tt (same_block_exact c.args.block)) ∙ reverse-pushed before.cap c.args.block (keys_of before.entries) v.2 (fits) v.0))
+    (ap reverse (keys-put_entries same_block before c.args.block tt (same_block_exact c.args.block))
+    ∙ reverse-pushed before.cap c.args.block (keys_of before.entries) v.2 (fits) v.0))
 
 pub returns-clause-outs : goal.returns-clause-outs
 returns-clause-outs c =
@@ -26,4 +27,5 @@ returns-clause-outs c =
     let fits : length (keys_of before.entries) ≤ before.cap = omega (arith, v.1, length-map before.entries (λ (e : BlockId × Unit {0}). e.0)) in
     rw (c.pushed_out.ensures, c.in_ok-old.ensures.old, c.contains-was_here.ensures, ← c.self.view_is)
     (ap (map Victim)
-    (ap option_to_list (key-displaced same_block before c.args.block tt (same_block_exact c.args.block)) ∙ pushed_out before.cap c.args.block (keys_of before.entries) v.2 (fits) v.0))
+    (ap option_to_list (key-displaced same_block before c.args.block tt (same_block_exact c.args.block))
+    ∙ pushed_out before.cap c.args.block (keys_of before.entries) v.2 (fits) v.0))

@@ -9,4 +9,6 @@ pub returns : goal.returns
 returns c =
     let before = c.self.inside.blocks in
     rw (c.pop-was_here.ensures.entries, ← c.self.view_is)
-    (ap (λ ks. record { blocks = ks; capacity = before.cap }) (ap reverse (keys-remove_entry (same_block c.args.block) before.entries) ∙ reverse-remove_key c.args.block (keys_of before.entries) c.len-count.ensures.valid.0))
+    (ap (λ ks. record { blocks = ks; capacity = before.cap })
+    (ap reverse (keys-remove_entry (same_block c.args.block) before.entries)
+    ∙ reverse-remove_key c.args.block (keys_of before.entries) c.len-count.ensures.valid.0))

@@ -10,5 +10,6 @@ pub returns : goal.returns
 returns c =
     let before = c.self.inside.blocks in
     rw (c.promote-was_here.ensures.entries, ← c.self.view_is)
-    (ap (λ ks. record { blocks = reverse ks; capacity = before.cap }) (keys-promoted (same_block c.args.block) c.args.block (same_block_exact c.args.block) before.entries)
+    (ap (λ ks. record { blocks = reverse ks; capacity = before.cap })
+    (keys-promoted (same_block c.args.block) c.args.block (same_block_exact c.args.block) before.entries)
     ∙ touched-promoted before.cap c.args.block (keys_of before.entries) c.len-count.ensures.valid.0)

@@ -5,4 +5,5 @@ use Rattle.delta_feed.proofs.feed.Feed.tick.Given as goal
 
 -- the ranges so far and those of the slots to come are all
 abbrev pub invariant-loop-slot : goal.invariant-loop-slot
-invariant-loop-slot l = l.outs ++ flat_map (pushed l.self) (range_with_len l.slot (8 - l.slot)) ≡ l.initial.outs ++ flat_map (pushed l.self) (range_with_len 0 8)
+invariant-loop-slot l =
+    l.outs ++ flat_map (pushed l.self) (range_with_len l.slot (8 - l.slot)) ≡ l.initial.outs ++ flat_map (pushed l.self) (range_with_len 0 8)

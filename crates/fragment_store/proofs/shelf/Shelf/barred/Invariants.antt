@@ -11,4 +11,5 @@ invariant-loop-name l = fold (insert_key seg_cmp) l.names.keys l.name-iterator �
 
 -- and once the names to come are put in too, all names do
 abbrev pub invariant-loop-fragment : goal.invariant-loop-fragment
-invariant-loop-fragment l = fold (insert_key seg_cmp) l.names.keys (map (λ f. f.meta.name) l.fragment-iterator) ≡ in_order (l.self.marks ++ map (λ f. f.meta.name) l.self.held)
+invariant-loop-fragment l =
+    fold (insert_key seg_cmp) l.names.keys (map (λ f. f.meta.name) l.fragment-iterator) ≡ in_order (l.self.marks ++ map (λ f. f.meta.name) l.self.held)

@@ -15,7 +15,8 @@ invariant_of-self-2 c =
 
 pub returns-clause-ok : goal.returns-clause-ok
 returns-clause-ok c =
-    let shelf : List Fragment → List SegName → ShelfState = λ held marks. record { generation = c.self.inside.generation; held = held; fences = c.self.inside.fences.entries; marks = marks } in
+    let shelf : List Fragment → List SegName → ShelfState =
+    λ held marks. record { generation = c.self.inside.generation; held = held; fences = c.self.inside.fences.entries; marks = marks } in
     let held : values_of c.remove.new.self.entries ≡ filter (λ f. not (same_name c.args.name f.meta.name)) (values_of c.self.inside.held.entries) =
     ap values_of c.remove.ensures.entries ∙ held-without c.self.inside.held.entries c.self.inside.marks.keys c.self.invariant c.args.name
     in

@@ -24,7 +24,8 @@ current_at-requires c =
 pub returns-clause-current : goal.returns-clause-current
 returns-clause-current c =
     let some : 0 < length (current_ids c.self.inside.groups) = some_current c.self.inside.groups c.self.invariant.current in
-    let count : c.current_count.result ≡ length (current_ids c.self.inside.groups) = c.current_count.ensures ∙ ap (λ gs. length (current_ids gs)) c.as_slice-groups.ensures in
+    let count : c.current_count.result ≡ length (current_ids c.self.inside.groups) =
+    c.current_count.ensures ∙ ap (λ gs. length (current_ids gs)) c.as_slice-groups.ensures in
     let positive : 0 < c.current_count.result = omega arith in
     let below : (c.from.result + c.args.seq) % c.current_count.result < length (current_ids c.self.inside.groups) = omega arith in
     let chosen_id : c.current_at.result ≡ slice_index (current_ids c.self.inside.groups) ((c.from.result + c.args.seq) % c.current_count.result) =

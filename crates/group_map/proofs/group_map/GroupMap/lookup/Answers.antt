@@ -10,7 +10,8 @@ use Rattle.group_map.proofs.Stripes.{stripe_at}
 use Rattle.group_map.proofs.group_map.GroupMap.lookup.Goals as goal
 
 -- the group of an id that is not 0 stands at the place one below it
-at_place : (gs : List Group) (id : ℕ) (found : Option Group) → (id ≡ 0 → ⊥) → IsNumbered 1 gs → slice_get gs (id - 1) ≡ found → find (λ g. g.id == id) gs ≡ found
+at_place : (gs : List Group) (id : ℕ) (found : Option Group) → (id ≡ 0 → ⊥) → IsNumbered 1 gs → slice_get gs (id - 1) ≡ found
+    → find (λ g. g.id == id) gs ≡ found
 at_place gs id found apart h e =
     let back : 1 + (id - 1) ≡ id = omega arith in
     subst (λ n. find (λ (g : Group). g.id == n) gs ≡ slice_get gs (id - 1)) back (find-numbered 1 gs (id - 1) h) ∙ e
@@ -35,11 +36,13 @@ returns-in-Some-clause-stripe c =
 pub returns-in-Some-clause-present : goal.returns-in-Some-clause-present
 returns-in-Some-clause-present c =
     let got : slice_get c.self.inside.groups (c.args.id - 1) ≡ Some c.in-Some.group.now = search rules in
-    let at : group_of (record { servers = c.self.inside.servers; generations = c.self.inside.generations; groups = c.self.inside.groups }) c.args.id ≡ Some c.in-Some.group.now =
+    let at : group_of
+    (record { servers = c.self.inside.servers; generations = c.self.inside.generations; groups = c.self.inside.groups }) c.args.id ≡ Some c.in-Some.group.now =
     at_place c.self.inside.groups c.args.id (Some c.in-Some.group.now) (λ e. omega arith) c.self.invariant.by_id got
     in
     subst (λ (s : GroupMapState). IsPresent s.generations c.in-Some.group.now) c.self.view_is
-    (is_present (record { servers = c.self.inside.servers; generations = c.self.inside.generations; groups = c.self.inside.groups }) c.args.id c.in-Some.group.now c.self.invariant.present at)
+    (is_present (record { servers = c.self.inside.servers; generations = c.self.inside.generations; groups = c.self.inside.groups })
+    c.args.id c.in-Some.group.now c.self.invariant.present at)
 
 pub returns-in-None-clause-exact : goal.returns-in-None-clause-exact
 returns-in-None-clause-exact c =

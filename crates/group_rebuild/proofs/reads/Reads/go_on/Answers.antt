@@ -18,7 +18,9 @@ invariant_of-self-in_err-round-in-Some c = record {
 }
 
 pub invariant_of-self-in_ok-round-in-Some : goal.invariant_of-self-in_ok-round-in-Some
-invariant_of-self-in_ok-round-in-Some c = next_is_read c.self.inside.left.items c.pop_front.new.self.items c.in-Some.wanted c.in_ok-round-in-Some.round c.in-Some.ensures.items c.self.invariant.all
+invariant_of-self-in_ok-round-in-Some c =
+    next_is_read c.self.inside.left.items c.pop_front.new.self.items c.in-Some.wanted c.in_ok-round-in-Some.round c.in-Some.ensures.items c.self.invariant.all
 
 pub invariant_of-self-in_ok-round-in-Some-2 : goal.invariant_of-self-in_ok-round-in-Some-2
-invariant_of-self-in_ok-round-in-Some-2 c = next_is_read c.self.inside.left.items c.pop_front.new.self.items c.in-Some.wanted c.in_ok-round-in-Some.round c.in-Some.ensures.items c.self.invariant.all
+invariant_of-self-in_ok-round-in-Some-2 c =
+    next_is_read c.self.inside.left.items c.pop_front.new.self.items c.in-Some.wanted c.in_ok-round-in-Some.round c.in-Some.ensures.items c.self.invariant.all

@@ -12,8 +12,10 @@ loop-before-preserved c =
     let n = c.servers-before-end.result in
     let here : c.if-awaits.servers ≡ c.loop-before.servers ++ if_awaited s i =
     elim c.if-awaits.branch [
-      | then-awaits+in_ok-push w ↦ w.servers-is ∙ w.in_ok-push.ensures.ok ∙ ap (λ b. c.loop-before.servers ++ cond b ((i + 1) ∷ []) []) (sym w.if-awaits.true ∙ c.awaits.ensures)
-      | else-awaits w ↦ w.servers-is ∙ sym (append-nil c.loop-before.servers) ∙ ap (λ b. c.loop-before.servers ++ cond b ((i + 1) ∷ []) []) (sym w.if-awaits.false ∙ c.awaits.ensures)
+      | then-awaits+in_ok-push w ↦ w.servers-is ∙ w.in_ok-push.ensures.ok
+          ∙ ap (λ b. c.loop-before.servers ++ cond b ((i + 1) ∷ []) []) (sym w.if-awaits.true ∙ c.awaits.ensures)
+      | else-awaits w ↦ w.servers-is ∙ sym (append-nil c.loop-before.servers)
+          ∙ ap (λ b. c.loop-before.servers ++ cond b ((i + 1) ∷ []) []) (sym w.if-awaits.false ∙ c.awaits.ensures)
     ]
     in
     ap (λ front. front ++ flat_map (if_awaited s) (range_with_len (i + 1) (n - (i + 1)))) here

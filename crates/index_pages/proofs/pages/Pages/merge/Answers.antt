@@ -6,5 +6,6 @@ use Rattle.index_pages.proofs.pages.Pages.merge.Goals as goal
 pub put-requires : goal.put-requires
 put-requires c = λ none.
     let passed : c.has_room.result ≡ true = grind arith in
-    let room : nat_lt (length c.args.self.now.pages) 4294967295 ≡ true = sym (ap (λ o. room_for o (length c.args.self.now.pages)) none) ∙ sym c.has_room.ensures ∙ passed in
+    let room : nat_lt (length c.args.self.now.pages) 4294967295 ≡ true =
+    sym (ap (λ o. room_for o (length c.args.self.now.pages)) none) ∙ sym c.has_room.ensures ∙ passed in
     grind (arith, nat_tests)

@@ -6,4 +6,5 @@ use Rattle.log_scan.proofs.opening.Opening.awaited.Given as goal
 
 -- the servers so far and those to come are all
 abbrev pub invariant-loop-before : goal.invariant-loop-before
-invariant-loop-before l = l.servers ++ filter (awaits l.self.groups l.lists) (range_with_len (l.before + 1) (l.before-end - l.before)) ≡ awaited l.self.groups l.lists
+invariant-loop-before l =
+    l.servers ++ filter (awaits l.self.groups l.lists) (range_with_len (l.before + 1) (l.before-end - l.before)) ≡ awaited l.self.groups l.lists

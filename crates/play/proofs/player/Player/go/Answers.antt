@@ -14,8 +14,11 @@ loop-alloc-preserved g c =
     c.in_ok-player.ensures.is
     ∙ ap (λ s. comes step (with_schedule p s) c.next-next.result) c.next-next.ensures.state
     ∙ ap (λ n. comes step (with_schedule p going.state) n) c.next-next.ensures.next
-    in
-    (ap (λ q. goes_on step (left q.schedule) q) came ∙ goes_on_more step p more ∙ c.loop-alloc.invariant.0, omega (arith, c.in_ok-player.ensures.no_more, c.loop-alloc.invariant.1))
+    in (
+      ap (λ q. goes_on step (left q.schedule) q) came ∙ goes_on_more step p more
+          ∙ c.loop-alloc.invariant.0,
+      omega (arith, c.in_ok-player.ensures.no_more, c.loop-alloc.invariant.1),
+    )
 
 pub loop-alloc-smaller : goal.loop-alloc-smaller
 loop-alloc-smaller g c =

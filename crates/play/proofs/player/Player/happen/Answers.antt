@@ -19,6 +19,9 @@ returns-clause-is g c =
     let last = c.of.ensures ∙ ap (λ n. event_of n what) is_node ∙ ap (λ w. event_of (node_of event) w) is_what ∙ same_event event in
     happens_is step p event world c.push.new.self c.send_since.new.schedule c.saturating_sub.result next
     (c.in_ok-push.ensures.ok ∙ ap (λ e. p.events ++ e ∷ []) last)
-    (c.in_ok-send_since.ensures ∙ ap (λ before. sent_since p.schedule before c.len.result) c.len-sent.ensures ∙ ap (λ now. sent_since p.schedule (length p.world.sent) now) c.len.ensures)
+    (c.in_ok-send_since.ensures ∙ ap (λ before. sent_since p.schedule before c.len.result) c.len-sent.ensures
+    ∙ ap (λ now. sent_since p.schedule (length p.world.sent) now) c.len.ensures)
     (c.saturating_sub.ensures
-    ∙ ap (λ n. p.unanswered - n) (c.answers_since-answered.ensures ∙ ap (λ place. answers (drop place c.as_slice.result.now)) c.len-done.ensures ∙ ap (λ acts. answers (drop (length p.world.acts) acts)) c.as_slice.ensures))
+    ∙ ap (λ n. p.unanswered - n)
+    (c.answers_since-answered.ensures ∙ ap (λ place. answers (drop place c.as_slice.result.now)) c.len-done.ensures
+    ∙ ap (λ acts. answers (drop (length p.world.acts) acts)) c.as_slice.ensures))

@@ -9,7 +9,8 @@ pub after_loss-requires-clause-room : goal.after_loss-requires-clause-room
 after_loss-requires-clause-room c =
     let heard : c.hears_server.result ≡ true = grind arith in
     let may : may_lose c.self.inside.groups c.args.server c.args.generation ≡ true =
-    ap (λ (s : BoardState). may_lose s.groups c.args.server c.args.generation) c.self.view_is ∙ loss_heard c.args.self.now c.args.server c.args.generation (sym c.hears_server.ensures ∙ heard)
+    ap (λ (s : BoardState). may_lose s.groups c.args.server c.args.generation) c.self.view_is
+    ∙ loss_heard c.args.self.now c.args.server c.args.generation (sym c.hears_server.ensures ∙ heard)
     in
     loss_room c.self.inside.groups c.args.server c.args.generation may c.self.invariant
 
@@ -17,6 +18,7 @@ pub invariant_of-self-2 : goal.invariant_of-self-2
 invariant_of-self-2 c =
     let heard : c.hears_server.result ≡ true = grind arith in
     let may : may_lose c.self.inside.groups c.args.server c.args.generation ≡ true =
-    ap (λ (s : BoardState). may_lose s.groups c.args.server c.args.generation) c.self.view_is ∙ loss_heard c.args.self.now c.args.server c.args.generation (sym c.hears_server.ensures ∙ heard)
+    ap (λ (s : BoardState). may_lose s.groups c.args.server c.args.generation) c.self.view_is
+    ∙ loss_heard c.args.self.now c.args.server c.args.generation (sym c.hears_server.ensures ∙ heard)
     in
     subst IsGroupMap (sym c.in_ok-after_loss.ensures.ok) (loss_kept c.self.inside.groups c.args.server c.args.generation may c.self.invariant)

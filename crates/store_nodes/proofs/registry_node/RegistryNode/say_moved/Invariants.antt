@@ -4,4 +4,5 @@ use Rattle.store_nodes.specs.RegistryEvents.{moved}
 use Rattle.store_nodes.proofs.registry_node.RegistryNode.say_moved.Given as goal
 
 abbrev pub invariant-loop-out : goal.invariant-loop-out
-invariant-loop-out l = l.effects ++ flat_map (moved l.fn.self l.fn.number) (drop l.out-index l.outs) ≡ l.initial.effects ++ flat_map (moved l.fn.self l.fn.number) l.outs
+invariant-loop-out l =
+    l.effects ++ flat_map (moved l.fn.self l.fn.number) (drop l.out-index l.outs) ≡ l.initial.effects ++ flat_map (moved l.fn.self l.fn.number) l.outs

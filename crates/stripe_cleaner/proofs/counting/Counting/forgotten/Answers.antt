@@ -6,5 +6,6 @@ use Rattle.stripe_cleaner.proofs.counting.Counting.forgotten.Goals as goal
 
 pub returns : goal.returns
 returns c =
-    let with : List (ℕ × List (SegName × ℕ)) → CountingState = λ us. record { groups = c.self.inside.groups; candidates = c.self.inside.candidates.entries; usages = us } in
+    let with : List (ℕ × List (SegName × ℕ)) → CountingState =
+    λ us. record { groups = c.self.inside.groups; candidates = c.self.inside.candidates.entries; usages = us } in
     ap with c.remove_usage.ensures ∙ ap (forgotten c.args.slot) c.self.view_is

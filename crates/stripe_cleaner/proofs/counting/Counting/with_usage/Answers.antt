@@ -6,5 +6,6 @@ use Rattle.stripe_cleaner.proofs.counting.Counting.with_usage.Goals as goal
 
 pub returns : goal.returns
 returns c =
-    let with : List (ℕ × List (SegName × ℕ)) → CountingState = λ us. record { groups = c.self.inside.groups; candidates = c.self.inside.candidates.entries; usages = us } in
+    let with : List (ℕ × List (SegName × ℕ)) → CountingState =
+    λ us. record { groups = c.self.inside.groups; candidates = c.self.inside.candidates.entries; usages = us } in
     ap with c.in_ok-put_usage.ensures ∙ ap (usage_with c.args.slot c.args.counts) c.self.view_is
