@@ -9,6 +9,7 @@ mod checkpointing;
 mod lasting;
 pub mod manager;
 mod phase;
+mod senders;
 mod serving;
 mod slot_phase;
 mod slot_table;

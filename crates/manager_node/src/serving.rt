@@ -1,14 +1,14 @@
 //! A manager that serves.
 ghost use Rattle.std.specs.Prelude.{◌≡◌, ◌++◌, ◌≤◌, IfOk, OnOk};
-ghost use Rattle.log_owner.specs.Sending.{server_in};
 ghost use Rattle.segment_format.specs.Format.{IsLog};
 ghost use Rattle.checkpoint.specs.Transition as writers;
 ghost use Rattle.client_log.specs.LogState as logs;
 ghost use Rattle.manager_node.specs.SlotTable as tables;
-ghost use Rattle.manager_node.specs.Serving.{no_end, begun, first, again, serving_room, client_in, fed_log, on_want, on_gave, on_deltas, on_check, on_usage_ask, takes, on_report, fetch_of, on_found, on_missing, regroups, hears_with, hears_slots, on_newer, on_news, on_fitting_news, on_welcome, asks_for_maps, on_body, hears, recalls_again, asks_again, on_tick};
+ghost use Rattle.manager_node.specs.Serving.{no_end, begun, first, again, serving_room, on_want, on_gave, on_deltas, on_check, on_usage_ask, takes, on_report, fetch_of, on_found, on_missing, regroups, hears_with, hears_slots, on_newer, on_news, on_fitting_news, on_welcome, asks_for_maps, on_body, hears, recalls_again, asks_again, on_tick};
 
 use crate::checkpointing::Checkpointing;
 use crate::lasting::Lasting;
+use crate::senders::{client_in, fed_log, server_in};
 use crate::slot_table::SlotTable;
 use crate::slot_takeovers::Ears;
 use checkpoint::Writer;
@@ -494,36 +494,5 @@ fn first_log(alloc: Global, name: LogId, inc: u32, groups: GroupMap) -> Mem<(Log
             drop(log);
             Err(error)
         }
-    }
-}
-
-// The number of a client.
-fn client_in(node: NodeId) -> Option<u8>
-    ensures { result ≡ client_in node }
-{
-    match node {
-        NodeId::Client(number) => Some(number),
-        NodeId::Manager(_) | NodeId::Server(_) | NodeId::Cleaner | NodeId::Registry => None,
-    }
-}
-
-// The number of a server.
-fn server_in(node: NodeId) -> Option<u8>
-    ensures { result ≡ server_in node }
-{
-    match node {
-        NodeId::Server(number) => Some(number),
-        NodeId::Client(_) | NodeId::Manager(_) | NodeId::Cleaner | NodeId::Registry => None,
-    }
-}
-
-// The log that a client or the cleaner feeds to managers.
-fn fed_log(from: NodeId) -> Option<LogId>
-    ensures { result ≡ fed_log from }
-{
-    match from {
-        NodeId::Client(number) => Some(LogId(number)),
-        NodeId::Cleaner => Some(LogId(9)),
-        NodeId::Manager(_) | NodeId::Server(_) | NodeId::Registry => None,
     }
 }
