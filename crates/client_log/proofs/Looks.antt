@@ -1,5 +1,6 @@
--- What settling does, where its tests are known.
-use Rattle.std.proofs.Common.{◌≡◌, ℕ, true, false, cond, Some, None, refl, sym, ap, ◌∙◌}
+-- What a log does, where what it looked at is known.
+use Rattle.std.proofs.Common.{◌≡◌, ℕ, Bool, true, false, cond, List, Option, Some, None, refl, sym, ap, ◌∙◌, true≢false}
+use Rattle.std.specs.Prelude.{is_some}
 use Rattle.xfs_base.specs.declared.segment.SegName.{SegName}
 use Rattle.xfs_base.specs.Steps.{still}
 use Rattle.group_map.specs.GroupMapState.{GroupMapState}
@@ -7,61 +8,112 @@ use Rattle.client_log.specs.declared.flight.Fate.{Fate}
 use Rattle.client_log.specs.declared.flight.Fate.TheVariants.{Restripe, Settle, Wait}
 use Rattle.client_log.specs.Fate.{fate_of}
 use Rattle.client_log.specs.LogState.{FlightState, LogState}
-use Rattle.client_log.specs.Transition.{launched, restriped, settled, can_follow, followed, looked_at, is_of, noting, on_acked, on_maps}
+use Rattle.client_log.specs.Looks.{heard, looked, noted_at, flight_can_follow, flight_follows}
+use Rattle.client_log.specs.Transition.{Done, launched, restriped, settled, can_follow, followed, looked_at, is_of, noting, on_acked, on_maps}
 
--- the same log with its flight taken out
-abbrev pub grounded : LogState → LogState
-grounded s = record s { flight = None }
+-- an input comes to this step, and no number is at its end that the fate raises
+pub record Comes (done : Done) (s : LogState) (fate : Fate) : Type 0 where
+  pub can : flight_can_follow s fate ≡ true
+  pub goes : done ≡ flight_follows s fate
 
 -- what follows a fate doesn't depend on what flies in the log
-followed-grounded : (s : LogState) (f : FlightState) (fate : Fate) → followed (grounded s) f fate ≡ followed s f fate
+regardless : (s : LogState) (o : Option FlightState) (f : FlightState) (fate : Fate) → followed (record s { flight = o }) f fate ≡ followed s f fate
 unfolding restriped launched settled
-followed-grounded s f Restripe = refl
-followed-grounded s f Settle = refl
-followed-grounded s f Wait = refl
+regardless s o f Restripe = refl
+regardless s o f Settle = refl
+regardless s o f Wait = refl
 
-can_follow-grounded : (s : LogState) (f : FlightState) (index : ℕ) (fate : Fate) → can_follow (grounded s) f fate ≡ can_follow s (noting f index) fate
-can_follow-grounded s f index Restripe = refl
-can_follow-grounded s f index Settle = refl
-can_follow-grounded s f index Wait = refl
+-- whether it may follow, neither, nor on groups, nor on what is noted
+can_regardless : (s : LogState) (o : Option FlightState) (groups : GroupMapState) (f : FlightState) (noted : List Bool) (fate : Fate)
+    → can_follow (record s { flight = o; groups = groups }) (record f { noted = noted }) fate ≡ can_follow s f fate
+can_regardless s o groups f noted Restripe = refl
+can_regardless s o groups f noted Settle = refl
+can_regardless s o groups f noted Wait = refl
 
-can_follow-groups : (s : LogState) (groups : GroupMapState) (f : FlightState) (fate : Fate)
-    → can_follow (grounded s) f fate ≡ can_follow (record s { groups = groups }) f fate
-can_follow-groups s groups f Restripe = refl
-can_follow-groups s groups f Settle = refl
-can_follow-groups s groups f Wait = refl
+no_fate : {Z : Type 0} (x : Fate) → None ≡ Some x → Z
+no_fate x e = absurd (true≢false (sym (ap is_some e)))
 
-module _ (s : LogState) (f : FlightState) (was : s.flight ≡ Some f) where
-  module _ (name : SegName) (index generation : ℕ) (of : is_of f name index generation ≡ true) where
-    acked_looks : on_acked s name index generation ≡ looked_at s s (noting f index)
-    unfolding on_acked
-    acked_looks =
-        ap (λ o. elim o [ None ↦ still s | Some g ↦ cond (is_of g name index generation) (looked_at s s (noting g index)) (still s) ]) was
-        ∙ ap (λ b. cond b (looked_at s s (noting f index)) (still s)) of
+is_fate : (x y : Fate) → Some x ≡ Some y → x ≡ y
+is_fate x y e = ap (λ o. elim o [ None ↦ x | Some z ↦ z ]) e
 
-    pub acked_goes : (fate : Fate) → fate ≡ fate_of s.groups (noting f index) → can_follow (grounded s) f fate ≡ true
-        → on_acked s name index generation ≡ followed (grounded s) (noting f index) fate
-    unfolding looked_at
-    acked_goes fate e can =
-        acked_looks
-        ∙ ap (λ x. cond (can_follow s (noting f index) x) (followed s (noting f index) x) (still s)) (sym e)
-        ∙ ap (λ b. cond b (followed s (noting f index) fate) (still s)) (sym (can_follow-grounded s f index fate) ∙ can)
-        ∙ sym (followed-grounded s (noting f index) fate)
+-- where the log stays as it is
+stays : (b c : Bool) (x : Fate) (goes still : Done) → cond b (cond c (Some x) None) None ≡ None → cond b (cond c goes still) still ≡ still
+stays true true x goes still e = no_fate x (sym e)
+stays true false x goes still e = refl
+stays false c x goes still e = refl
 
-    pub acked_stays : (fate : Fate) → fate ≡ fate_of s.groups (noting f index) → can_follow (grounded s) f fate ≡ false
-        → on_acked s name index generation ≡ still s
-    unfolding looked_at
-    acked_stays fate e can =
-        acked_looks
-        ∙ ap (λ x. cond (can_follow s (noting f index) x) (followed s (noting f index) x) (still s)) (sym e)
-        ∙ ap (λ b. cond b (followed s (noting f index) fate) (still s)) (sym (can_follow-grounded s f index fate) ∙ can)
+-- where it goes on
+record Goes (b c : Bool) (x fate : Fate) : Type 0 where
+  of : b ≡ true
+  can : c ≡ true
+  is : x ≡ fate
 
-  pub maps_goes : (groups : GroupMapState) (fate : Fate) → fate ≡ fate_of groups f → can_follow (grounded s) f fate ≡ true
-      → on_maps s groups ≡ followed (record (grounded s) { groups = groups }) f fate
-  unfolding on_maps looked_at
-  maps_goes groups fate e can =
-      let t : LogState = record s { groups = groups } in
-      ap (λ o. elim o [ None ↦ still t | Some g ↦ looked_at s t g ]) was
-      ∙ ap (λ x. cond (can_follow t f x) (followed t f x) (still s)) (sym e)
-      ∙ ap (λ b. cond b (followed t f fate) (still s)) (sym (can_follow-groups s groups f fate) ∙ can)
-      ∙ sym (followed-grounded t f fate)
+goes : (b c : Bool) (x fate : Fate) → cond b (cond c (Some x) None) None ≡ Some fate → Goes b c x fate
+goes true true x fate e = record { of = refl; can = refl; is = is_fate x fate e }
+goes true false x fate e = no_fate fate e
+goes false c x fate e = no_fate fate e
+
+module _ (s : LogState) (name : SegName) (index generation : ℕ) where
+  acked_stays_at : (o : Option FlightState) → heard (record s { flight = o }) name index generation ≡ None
+      → on_acked (record s { flight = o }) name index generation ≡ still (record s { flight = o })
+  unfolding heard on_acked looked_at
+  acked_stays_at None e = refl
+  acked_stays_at (Some f) e =
+      let t : LogState = record s { flight = Some f } in
+      let x : Fate = fate_of s.groups (noting f index) in
+      stays (is_of f name index generation) (can_follow t f x) x (followed t (noting f index) x) (still t) e
+
+  acked_goes_at : (o : Option FlightState) (fate : Fate) → heard (record s { flight = o }) name index generation ≡ Some fate
+      → Comes (on_acked (record s { flight = o }) name index generation) (noted_at (record s { flight = o }) index) fate
+  unfolding heard on_acked looked_at flight_follows
+  acked_goes_at None fate e = no_fate fate e
+  acked_goes_at (Some f) fate e =
+      let t : LogState = record s { flight = Some f } in
+      let g : FlightState = noting f index in
+      let x : Fate = fate_of s.groups g in
+      let k : Goes (is_of f name index generation) (can_follow t f x) x fate = goes (is_of f name index generation) (can_follow t f x) x fate e in
+      record {
+        can = can_regardless t (Some g) s.groups f g.noted fate ∙ ap (can_follow t f) (sym k.is) ∙ k.can;
+        goes = ap (λ b. cond b (cond (can_follow t g x) (followed t g x) (still t)) (still t)) k.of
+            ∙ ap (λ b. cond b (followed t g x) (still t)) (can_regardless t (Some f) s.groups f g.noted x ∙ k.can)
+            ∙ ap (followed t g) k.is
+            ∙ sym (regardless t (Some g) g fate);
+      }
+
+  pub acked_stays : heard s name index generation ≡ None → on_acked s name index generation ≡ still s
+  acked_stays = acked_stays_at s.flight
+
+  pub acked_goes : (fate : Fate) → heard s name index generation ≡ Some fate → Comes (on_acked s name index generation) (noted_at s index) fate
+  acked_goes = acked_goes_at s.flight
+
+module _ (s : LogState) (groups : GroupMapState) where
+  maps_stays_at : (o : Option FlightState) → looked (record s { flight = o }) groups ≡ None
+      → on_maps (record s { flight = o }) groups ≡ still (record s { flight = o })
+  unfolding looked on_maps looked_at
+  maps_stays_at None e = no_fate Wait (sym e)
+  maps_stays_at (Some f) e =
+      let t : LogState = record s { flight = Some f } in
+      let u : LogState = record t { groups = groups } in
+      let x : Fate = fate_of groups f in
+      ap (λ b. cond b (followed u f x) (still t)) (can_regardless t (Some f) groups f f.noted x)
+      ∙ stays true (can_follow t f x) x (followed u f x) (still t) e
+
+  maps_goes_at : (o : Option FlightState) (fate : Fate) → looked (record s { flight = o }) groups ≡ Some fate
+      → Comes (on_maps (record s { flight = o }) groups) (record s { flight = o; groups = groups }) fate
+  unfolding looked on_maps looked_at flight_follows
+  maps_goes_at None fate e = record { can = refl; goes = refl }
+  maps_goes_at (Some f) fate e =
+      let t : LogState = record s { flight = Some f } in
+      let u : LogState = record t { groups = groups } in
+      let x : Fate = fate_of groups f in
+      let k : Goes true (can_follow t f x) x fate = goes true (can_follow t f x) x fate e in
+      record {
+        can = can_regardless t (Some f) groups f f.noted fate ∙ ap (can_follow t f) (sym k.is) ∙ k.can;
+        goes = ap (λ b. cond b (followed u f x) (still t)) (can_regardless t (Some f) groups f f.noted x ∙ k.can) ∙ ap (followed u f) k.is;
+      }
+
+  pub maps_stays : looked s groups ≡ None → on_maps s groups ≡ still s
+  maps_stays = maps_stays_at s.flight
+
+  pub maps_goes : (fate : Fate) → looked s groups ≡ Some fate → Comes (on_maps s groups) (record s { groups = groups }) fate
+  maps_goes = maps_goes_at s.flight

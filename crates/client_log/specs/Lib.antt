@@ -4,5 +4,6 @@ pub mod Fragments
 pub mod History
 pub mod Items
 pub mod LogState
+pub mod Looks
 pub mod Texts
 pub mod Transition

@@ -6,7 +6,7 @@ ghost use Rattle.stripe_code.specs.Fragments.{same_name};
 ghost use Rattle.stripe_code.specs.Stripe.{IsCut};
 ghost use Rattle.client_log.specs.Fate.{is_lost, lost_count, is_done, all_done, fate_of};
 ghost use Rattle.client_log.specs.LogState.{none_noted, is_noted};
-ghost use Rattle.client_log.specs.Transition.{send_at, all_sends, is_of, is_member};
+ghost use Rattle.client_log.specs.Transition.{send_at, all_sends, is_of, is_member, noting};
 
 use crate::Out;
 use crate::fragments::fragments_over;
@@ -93,22 +93,11 @@ impl Flight {
         noted_with(&self.noted, index)
     }
 
-    /// The same flight with these fragments noted.
-    pub fn with_noted(self, noted: [bool; 8]) -> Flight
-        ensures { result ≡ record self { noted = noted } }
+    /// The fragment at this place is noted.
+    pub fn note(&mut self, index: u8)
+        ensures { self.new ≡ noting self.old index }
     {
-        let Flight {
-            segment,
-            group,
-            fragments,
-            ..
-        } = self;
-        Flight {
-            segment,
-            group,
-            noted,
-            fragments,
-        }
+        self.noted = noted_with(&self.noted, index);
     }
 
     /// Whether a server's answer is of this flight: by name, place and generation.

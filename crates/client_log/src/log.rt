@@ -1,5 +1,5 @@
 //! The log: its state, its start, what it takes, and what a node reads of it.
-ghost use Rattle.std.specs.Prelude.{◌≡◌, ◌↔◌, [], None, Some, OnOk, IfOk, IsTrue, MatchOption};
+ghost use Rattle.std.specs.Prelude.{◌≡◌, ◌↔◌, ◌++◌, [], None, Some, OnOk, IfOk, IsTrue, MatchOption};
 ghost use Rattle.std.specs.Option.{option_map};
 ghost use Rattle.segment_format.specs.Format.{IsLog};
 ghost use Rattle.client_log.specs.LogState.{started};
@@ -62,23 +62,30 @@ impl Log {
         ensures outs { IfOk result (λ outs. outs ≡ (transition self.old input).outs) }
     {
         let mut outs = List::new(alloc);
+        self.take_one(alloc, &mut outs, input)?;
+        Ok(outs)
+    }
+
+    fn take_one(&mut self, alloc: Global, outs: &mut List<Out>, input: In) -> Mem<()>
+        ensures state { OnOk result (self.new ≡ (transition self.old input).state) }
+        ensures outs { OnOk result (outs.new ≡ outs.old ++ (transition self.old input).outs) }
+    {
         match input {
             In::Put {
                 block,
                 entry,
                 value,
-            } => self.on_put(alloc, &mut outs, block, Change { entry, value })?,
-            In::Parts(items) => self.on_parts(alloc, &mut outs, items)?,
-            In::Seal => self.on_seal(alloc, &mut outs)?,
+            } => self.on_put(alloc, outs, block, Change { entry, value }),
+            In::Parts(items) => self.on_parts(alloc, outs, items),
+            In::Seal => self.on_seal(alloc, outs),
             In::Acked {
                 name,
                 index,
                 generation,
-            } => self.on_acked(alloc, &mut outs, name, index, generation)?,
-            In::Maps(groups) => self.on_maps(alloc, &mut outs, groups)?,
-            In::Tick => self.on_tick(alloc, &mut outs)?,
+            } => self.on_acked(alloc, outs, name, index, generation),
+            In::Maps(groups) => self.on_maps(alloc, outs, groups),
+            In::Tick => self.on_tick(alloc, outs),
         }
-        Ok(outs)
     }
 
     /// The newest settled segment of the log.

@@ -1,10 +1,13 @@
 //! What a log does on each input.
-ghost use Rattle.std.specs.Prelude.{◌≡◌, ◌++◌, ◌<◌, OnOk, IfOk, IsTrue, length};
+ghost use Rattle.std.specs.Prelude.{◌≡◌, ◌++◌, ◌∷◌, [], ◌<◌, OnOk, IfOk, IsTrue, length};
 ghost use Rattle.xfs_base.specs.Limits.{u32_end};
 ghost use Rattle.segment_format.specs.Format.{IsLog};
+ghost use Rattle.segment_format.specs.Rows.{rows_of};
 ghost use Rattle.stripe_code.specs.Stripe.{IsCut};
+ghost use Rattle.client_log.specs.declared.output.Out.TheVariants.{Settled};
+ghost use Rattle.client_log.specs.Looks.{due, heard, heard_of, looked, noted_at, flight_can_follow, flight_follows};
 ghost use Rattle.client_log.specs.Texts.{HasText};
-ghost use Rattle.client_log.specs.Transition.{group_for, launched, writes, sealed, if_full, can_go_on, is_full, waits, landed_at, can_follow, followed, settled, restriped, next_attempt, end_from, on_put, on_seal, on_parts, on_acked, on_maps, on_tick};
+ghost use Rattle.client_log.specs.Transition.{flown, group_for, launched, writes, sealed, if_full, can_go_on, is_full, waits, landed_at, can_follow, next_attempt, end_from, on_put, on_seal, on_parts, on_acked, on_maps, on_tick};
 
 use crate::flight::{Fate, Flight};
 use crate::items::items_of;
@@ -50,7 +53,7 @@ impl Log {
         ensures outs { OnOk result (outs.new ≡ outs.old ++ (on_seal self.old).outs) }
     {
         if self.flight.is_none() && 0 < self.dirty.len() && self.end.seq < u32::MAX {
-            self.seal(alloc, outs)?;
+            return self.seal(alloc, outs);
         }
         Ok(())
     }
@@ -71,7 +74,6 @@ impl Log {
         Ok(())
     }
 
-    #[tactic(auto, unfolding(crate::specs::Transition::on_acked, crate::specs::Transition::looked_at))]
     pub(crate) fn on_acked(
         &mut self,
         alloc: Global,
@@ -83,24 +85,15 @@ impl Log {
         ensures state { OnOk result (self.new ≡ (on_acked self.old name index generation).state) }
         ensures outs { OnOk result (outs.new ≡ outs.old ++ (on_acked self.old name index generation).outs) }
     {
-        let Some(flight) = self.flight.take() else {
-            return Ok(());
-        };
-        if !flight.is_of(name, index, generation) {
-            self.flight = Some(flight);
-            return Ok(());
+        match self.hear(name, index, generation) {
+            None => Ok(()),
+            Some(fate) => {
+                self.note(index);
+                self.follow(alloc, outs, fate)
+            }
         }
-        let noted = flight.noted_with(index);
-        let fate = flight.fate(&self.groups, &noted);
-        if !self.can_follow(&flight, fate) {
-            self.flight = Some(flight);
-            return Ok(());
-        }
-        self.follow(alloc, outs, flight.with_noted(noted), fate)?;
-        Ok(())
     }
 
-    #[tactic(auto, unfolding(crate::specs::Transition::on_maps, crate::specs::Transition::looked_at))]
     pub(crate) fn on_maps(
         &mut self,
         alloc: Global,
@@ -110,25 +103,19 @@ impl Log {
         ensures state { OnOk result (self.new ≡ (on_maps self.old groups).state) }
         ensures outs { OnOk result (outs.new ≡ outs.old ++ (on_maps self.old groups).outs) }
     {
-        let Some(flight) = self.flight.take() else {
-            self.groups = groups;
-            return Ok(());
-        };
-        let noted = flight.noted();
-        let fate = flight.fate(&groups, &noted);
-        if !self.can_follow(&flight, fate) {
-            self.flight = Some(flight);
-            return Ok(());
+        match self.look(&groups) {
+            None => Ok(()),
+            Some(fate) => {
+                self.regroup(groups);
+                self.follow(alloc, outs, fate)
+            }
         }
-        self.groups = groups;
-        self.follow(alloc, outs, flight, fate)?;
-        Ok(())
     }
 
     #[tactic(auto, unfolding(crate::specs::Transition::on_tick))]
-    pub(crate) fn on_tick(&mut self, alloc: Global, outs: &mut List<Out>) -> Mem<()>
-        ensures state { OnOk result (self.new ≡ (on_tick self.old).state) }
-        ensures outs { OnOk result (outs.new ≡ outs.old ++ (on_tick self.old).outs) }
+    pub(crate) fn on_tick(&self, alloc: Global, outs: &mut List<Out>) -> Mem<()>
+        ensures state { (on_tick self.now).state ≡ self.now }
+        ensures outs { OnOk result (outs.new ≡ outs.old ++ (on_tick self.now).outs) }
     {
         match &self.flight {
             None => Ok(()),
@@ -136,7 +123,50 @@ impl Log {
         }
     }
 
-    // Whether no number that the fate raises is at its end.
+    // What a server's answer comes to: what becomes of the flight, where the answer is of it and no number
+    // is at its end that this raises.
+    #[tactic(auto, unfolding(crate::specs::Looks::heard))]
+    fn hear(&self, name: SegName, index: u8, generation: u32) -> Option<Fate>
+        ensures { result ≡ heard self.now name index generation }
+    {
+        match &self.flight {
+            None => None,
+            Some(flight) => self.hear_of(flight, name, index, generation),
+        }
+    }
+
+    fn hear_of(&self, flight: &Flight, name: SegName, index: u8, generation: u32) -> Option<Fate>
+        ensures { result ≡ heard_of self.now flight.now name index generation }
+    {
+        if !flight.is_of(name, index, generation) {
+            return None;
+        }
+        self.due(flight, flight.fate(&self.groups, &flight.noted_with(index)))
+    }
+
+    // What becomes of the flight with these groups, where no number is at its end that this raises; Wait
+    // where none is in flight.
+    #[tactic(auto, unfolding(crate::specs::Looks::looked))]
+    fn look(&self, groups: &GroupMap) -> Option<Fate>
+        ensures { result ≡ looked self.now groups.now }
+    {
+        match &self.flight {
+            None => Some(Fate::Wait),
+            Some(flight) => self.due(flight, flight.fate(groups, &flight.noted())),
+        }
+    }
+
+    // The fate, where no number is at its end that it raises.
+    fn due(&self, flight: &Flight, fate: Fate) -> Option<Fate>
+        ensures { result ≡ due self.now flight.now fate }
+    {
+        if self.can_follow(flight, fate) {
+            Some(fate)
+        } else {
+            None
+        }
+    }
+
     fn can_follow(&self, flight: &Flight, fate: Fate) -> bool
         ensures { result ≡ can_follow self.now flight.now fate }
     {
@@ -148,49 +178,65 @@ impl Log {
         }
     }
 
-    fn follow(&mut self, alloc: Global, outs: &mut List<Out>, flight: Flight, fate: Fate) -> Mem<()>
-        requires { IsTrue (can_follow self.old flight fate) }
-        ensures state { OnOk result (self.new ≡ (followed self.old flight fate).state) }
-        ensures outs { OnOk result (outs.new ≡ outs.old ++ (followed self.old flight fate).outs) }
+    fn regroup(&mut self, groups: GroupMap)
+        ensures { self.new ≡ record self.old { groups = groups } }
+    {
+        self.groups = groups;
+    }
+
+    // The fragment of the flight at this place is noted.
+    fn note(&mut self, index: u8)
+        ensures { self.new ≡ noted_at self.old index }
+    {
+        if let Some(flight) = &mut self.flight {
+            flight.note(index);
+        }
+    }
+
+    #[tactic(auto, unfolding(crate::specs::Looks::flight_follows))]
+    fn follow(&mut self, alloc: Global, outs: &mut List<Out>, fate: Fate) -> Mem<()>
+        requires { IsTrue (flight_can_follow self.old fate) }
+        ensures state { OnOk result (self.new ≡ (flight_follows self.old fate).state) }
+        ensures outs { OnOk result (outs.new ≡ outs.old ++ (flight_follows self.old fate).outs) }
     {
         match fate {
-            Fate::Restripe => self.restripe(alloc, outs, flight)?,
-            Fate::Settle => self.settle(alloc, outs, flight)?,
-            Fate::Wait => self.flight = Some(flight),
+            Fate::Restripe => self.restripe(alloc, outs),
+            Fate::Settle => self.settle(alloc, outs),
+            Fate::Wait => Ok(()),
         }
-        Ok(())
     }
 
     // The segment is striped anew, by its next attempt.
-    #[tactic(auto, unfolding(crate::specs::Transition::restriped))]
-    fn restripe(&mut self, alloc: Global, outs: &mut List<Out>, flight: Flight) -> Mem<()>
-        requires { flight.segment.name.pass.att < u32_end }
-        ensures state { OnOk result (self.new ≡ (restriped self.old flight).state) }
-        ensures outs { OnOk result (outs.new ≡ outs.old ++ (restriped self.old flight).outs) }
+    #[tactic(auto, unfolding(crate::specs::Looks::flight_follows, crate::specs::Transition::restriped, crate::specs::Transition::launched))]
+    fn restripe(&mut self, alloc: Global, outs: &mut List<Out>) -> Mem<()>
+        requires { IsTrue (flight_can_follow self.old Fate.Restripe) }
+        ensures state { OnOk result (self.new ≡ (flight_follows self.old Fate.Restripe).state) }
+        ensures outs { OnOk result (outs.new ≡ outs.old ++ (flight_follows self.old Fate.Restripe).outs) }
     {
+        let Some(flight) = self.flight.take() else {
+            return Ok(());
+        };
         let Segment {
             name,
             prior,
             items,
             ..
         } = flight.into_segment();
-        self.launch(alloc, outs, next_attempt(name), prior, items)?;
-        Ok(())
+        self.launch(alloc, outs, next_attempt(name), prior, items)
     }
 
     // The segment is settled, and where as many blocks wait as a segment takes they are written next.
-    #[tactic(auto, unfolding(crate::specs::Transition::settled))]
-    fn settle(&mut self, alloc: Global, outs: &mut List<Out>, flight: Flight) -> Mem<()>
-        requires { IsTrue (can_follow self.old flight Fate.Settle) }
-        ensures state { OnOk result (self.new ≡ (settled self.old flight).state) }
-        ensures outs { OnOk result (outs.new ≡ outs.old ++ (settled self.old flight).outs) }
+    #[tactic(auto, unfolding(crate::specs::Looks::flight_follows, crate::specs::Transition::settled))]
+    fn settle(&mut self, alloc: Global, outs: &mut List<Out>) -> Mem<()>
+        requires { IsTrue (flight_can_follow self.old Fate.Settle) }
+        ensures state { OnOk result (self.new ≡ (flight_follows self.old Fate.Settle).state) }
+        ensures outs { OnOk result (outs.new ≡ outs.old ++ (flight_follows self.old Fate.Settle).outs) }
     {
-        let segment = flight.into_segment();
-        let rows = rows_of(alloc, &segment)?;
-        let end = end_of(&segment);
-        outs.push(Out::Settled { end, rows })?;
-        self.land(alloc, outs, end)?;
-        Ok(())
+        let Some(flight) = &self.flight else {
+            return Ok(());
+        };
+        let end = tell_settled(alloc, outs, flight.segment())?;
+        self.land(alloc, outs, end)
     }
 
     // Nothing is in flight behind this end.
@@ -233,8 +279,7 @@ impl Log {
     {
         let changes = self.dirty.take_first(alloc)?;
         let items = items_of(alloc, changes)?;
-        self.write(alloc, outs, items)?;
-        Ok(())
+        self.write(alloc, outs, items)
     }
 
     // The next segment has these items.
@@ -256,12 +301,11 @@ impl Log {
             pass: self.end.pass,
             group: self.end.group,
         };
-        self.launch(alloc, outs, name, prior, items)?;
-        Ok(())
+        self.launch(alloc, outs, name, prior, items)
     }
 
     // A segment of this name is in flight, over the group that the map chooses for it.
-    #[tactic(auto, unfolding(crate::specs::Transition::launched))]
+    #[tactic(auto, unfolding(crate::specs::Transition::launched, crate::specs::Transition::on_tick))]
     fn launch(
         &mut self,
         alloc: Global,
@@ -275,18 +319,33 @@ impl Log {
         ensures state { OnOk result (self.new ≡ (launched self.old name prior items).state) }
         ensures outs { OnOk result (outs.new ≡ outs.old ++ (launched self.old name prior items).outs) }
     {
-        let group = group_for(alloc, &self.groups, self.log, name.seq)?;
-        let segment = Segment {
-            name,
-            prior,
-            group: group.id,
-            items,
-        };
-        let flight = Flight::launch(alloc, segment, group)?;
-        flight.send(alloc, outs)?;
+        let flight = flight_over(alloc, &self.groups, self.log, name, prior, items)?;
         self.flight = Some(flight);
-        Ok(())
+        self.on_tick(alloc, outs)
     }
+}
+
+// A segment of this name over the group that the map chooses for it.
+fn flight_over(
+    alloc: Global,
+    groups: &GroupMap,
+    log: LogId,
+    name: SegName,
+    prior: Prior,
+    items: List<Item>,
+) -> Mem<Flight>
+    requires log { IsLog name.log.0 }
+    requires text { HasText items }
+    ensures { IfOk result (λ flight. flight ≡ flown name prior items (group_for groups.now log.0 name.seq)) }
+{
+    let group = group_for(alloc, groups, log, name.seq)?;
+    let segment = Segment {
+        name,
+        prior,
+        group: group.id,
+        items,
+    };
+    Flight::launch(alloc, segment, group)
 }
 
 // The group that the map chooses for a segment.
@@ -307,6 +366,17 @@ fn next_attempt(name: SegName) -> SegName
         att: name.pass.att + 1,
     };
     SegName { pass, ..name }
+}
+
+// A segment is told as settled; the end that it is.
+fn tell_settled(alloc: Global, outs: &mut List<Out>, segment: &Segment) -> Mem<End>
+    ensures end { IfOk result (λ end. end ≡ end_from segment.now) }
+    ensures outs { OnOk result (outs.new ≡ outs.old ++ Settled (end_from segment.now) (rows_of segment.now) ∷ []) }
+{
+    let rows = rows_of(alloc, segment)?;
+    let end = end_of(segment);
+    outs.push(Out::Settled { end, rows })?;
+    Ok(end)
 }
 
 fn end_of(segment: &Segment) -> End

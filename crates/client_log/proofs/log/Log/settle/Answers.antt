@@ -1,0 +1,28 @@
+use Rattle.std.proofs.Common.{◌≡◌, List, [], ◌∷◌, ◌++◌, Option, Some, None, OnOk, sym, ap, subst, ◌∙◌, append_assoc}
+use Rattle.xfs_base.specs.Steps.{still}
+use Rattle.segment_format.specs.declared.segment.Segment.{Segment}
+use Rattle.segment_format.specs.Rows.{rows_of}
+use Rattle.client_log.specs.declared.flight.Fate.TheVariants.{Settle}
+use Rattle.client_log.specs.declared.output.Out.{Out}
+use Rattle.client_log.specs.declared.output.Out.TheVariants.{Settled}
+use Rattle.client_log.specs.LogState.{FlightState, LogState}
+use Rattle.client_log.specs.Looks.{flight_follows}
+use Rattle.client_log.specs.Transition.{Done, end_from, landed_at, if_full, followed, settled}
+use Rattle.client_log.proofs.log.Log.settle.Goals as goal
+
+pub returns-clause-outs : goal.returns-clause-outs
+unfolding flight_follows settled
+returns-clause-outs c =
+    let s : LogState = c.args.self.now in
+    let f : FlightState = c.in-Some.flight in
+    let before : List Out = c.args.outs.now in
+    let told : Segment → List Out = λ x. Settled (end_from x) (rows_of x) ∷ [] in
+    let was : s.flight ≡ Some f = sym (ap (λ (l : LogState). l.flight) c.self.view_is) ∙ c.in-Some.is in
+    let due : Option FlightState → Done = λ o. elim o [ None ↦ still s | Some g ↦ followed s g Settle ] in
+    subst (λ outs. OnOk c.land.result (c.land.new.outs ≡ outs))
+    (ap (λ outs. outs ++ (if_full (landed_at s c.in_ok-end.end)).outs) c.in_ok-end.ensures.outs
+    ∙ append_assoc before (told c.segment.result.now) (if_full (landed_at s c.in_ok-end.end)).outs
+    ∙ ap (λ e. before ++ (told c.segment.result.now ++ (if_full (landed_at s e)).outs)) c.in_ok-end.ensures.end
+    ∙ ap (λ x. before ++ (told x ++ (if_full (landed_at s (end_from x))).outs)) c.segment.ensures
+    ∙ ap (λ o. before ++ (due o).outs) (sym was))
+    c.land.ensures.outs
