@@ -30,6 +30,7 @@ looked s groups = elim s.flight [ None ↦ Some Wait | Some f ↦ due s f (fate_
 abbrev pub noted_at : LogState → ℕ → LogState
 noted_at s index = record s { flight = option_map (λ f. noting f index) s.flight }
 
+-- whether no number is at its end that a fate of the flight of the log raises
 abbrev pub flight_can_follow : LogState → Fate → Bool
 flight_can_follow s fate = elim s.flight [ None ↦ true | Some f ↦ can_follow s f fate ]
 

@@ -178,6 +178,7 @@ impl Log {
         }
     }
 
+    // The groups are these now.
     fn regroup(&mut self, groups: GroupMap)
         ensures { self.new ≡ record self.old { groups = groups } }
     {
@@ -193,6 +194,7 @@ impl Log {
         }
     }
 
+    // The fate of the flight follows.
     #[tactic(auto, unfolding(crate::specs::Looks::flight_follows))]
     fn follow(&mut self, alloc: Global, outs: &mut List<Out>, fate: Fate) -> Mem<()>
         requires { IsTrue (flight_can_follow self.old fate) }
