@@ -1,5 +1,5 @@
 //! Who is believed to hold each block.
-ghost use Rattle.std.specs.Prelude.{◌≡◌, ◌==◌, ◌&&◌, ◌||◌, ◌++◌, not, OnOk, IfOk, IfSome, IfNone, []};
+ghost use Rattle.std.specs.Prelude.{◌≡◌, ◌==◌, ◌&&◌, ◌||◌, ◌∷◌, ◌++◌, not, OnOk, IfOk, IfSome, IfNone, [], if◌then◌else◌};
 ghost use Rattle.token_manager.specs.Beliefs.{holder, IsBelieved, others, without_block, owned_by, held_by, want_met, no_owner, given_up, believed, all_believed};
 
 use crate::job::{Holder, Wanted};
@@ -42,11 +42,25 @@ fn add_others(
         if holder.block != block {
             break;
         }
-        if is_other(*holder, *owns, client, owners) {
-            clients.push(holder.client)?;
-        }
+        add_other(clients, *holder, *owns, client, owners)?;
     }
     Ok(())
+}
+
+// Lists who holds a block, where it is one of the others.
+fn add_other(
+    clients: &mut List<u8>,
+    holder: Holder,
+    owns: bool,
+    client: u8,
+    owners: bool,
+) -> Mem<()>
+    ensures { OnOk result (clients.new ≡ (if not (holder.client == client) && (owns || not owners) then clients.old ++ holder.client ∷ [] else clients.old)) }
+{
+    if !is_other(holder, owns, client, owners) {
+        return Ok(());
+    }
+    clients.push(holder.client)
 }
 
 // Whether who holds a block is another client, and one that owns it where only owners count.

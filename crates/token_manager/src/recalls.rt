@@ -1,11 +1,12 @@
 //! The recalls of the wants that wait.
-ghost use Rattle.std.specs.Prelude.{◌≡◌, ℕ, ◌+◌, ◌^◌, ◌<◌, length, OnOk, IfOk, ◌++◌};
+ghost use Rattle.std.specs.Prelude.{◌≡◌, ℕ, ◌+◌, ◌^◌, ◌<◌, length, OnOk, IfOk, IfNone, option_map, ◌++◌};
 ghost use Rattle.std.specs.BTreeMap.{insert_entry};
 ghost use Rattle.std.specs.List.{list_any};
 ghost use Rattle.xfs_base.specs.Blocks.{block_cmp};
 ghost use Rattle.token_manager.specs.Recalls.{recalls, sent, all_sent, answers, noted, applied_of, is_applied, is_ready, ready_blocks};
+ghost use Rattle.token_manager.specs.Transition.{job_at, without_job};
 
-use crate::job::{Awaited, Job};
+use crate::job::{Awaited, Job, Wanted};
 use crate::output::Out;
 use std::alloc::Global;
 use std::collections::BTreeMap;
@@ -65,6 +66,18 @@ pub(crate) fn await_all(
     send_recalls(outs, job.want.block, job.awaited.as_slice())?;
     jobs.insert(job.want.block, job)?;
     Ok(())
+}
+
+// The want that waits for a block, which then waits no longer.
+pub(crate) fn take_want(jobs: &mut BTreeMap<BlockId, Job>, block: BlockId) -> Option<Wanted>
+    ensures want { result ≡ option_map (λ job. job.want) (job_at jobs.old.entries block) }
+    ensures jobs { jobs.new.entries ≡ without_job jobs.old.entries block }
+    ensures none { IfNone result (jobs.new.entries ≡ jobs.old.entries) }
+{
+    match jobs.remove(&block) {
+        Some(job) => Some(job.want),
+        None => None,
+    }
 }
 
 // Sends the recalls of all wants that are not answered.

@@ -1,5 +1,5 @@
 //! One slot.
-ghost use Rattle.std.specs.Prelude.{◌≡◌, ℕ, ◌+◌, ◌^◌, ◌<◌, ◌≤◌, ◌==◌, ◌||◌, not, length, Some, OnOk, IfOk, IsTrue, ◌++◌, []};
+ghost use Rattle.std.specs.Prelude.{◌≡◌, ℕ, ◌+◌, ◌^◌, ◌<◌, ◌≤◌, ◌==◌, ◌||◌, not, length, Some, OnOk, IfOk, IsTrue, ◌∷◌, ◌++◌, []};
 ghost use Rattle.xfs_base.specs.Modes.{is_own};
 ghost use Rattle.xfs_base.specs.Steps.{steps};
 ghost use Rattle.xfs_base.specs.declared.segment.SegName.{SegName};
@@ -13,7 +13,7 @@ use crate::input::In;
 use crate::job::{Awaited, Holder, Job, Wanted};
 use crate::output::Out;
 use crate::recalls::{
-    applied_of, await_all, is_awaited, is_ready, noted, ready_blocks, recalls, send_all,
+    applied_of, await_all, is_awaited, is_ready, noted, ready_blocks, recalls, send_all, take_want,
 };
 use index_pages::Pages;
 use std::alloc::Global;
@@ -201,15 +201,15 @@ impl Slot {
         ensures outs { IfOk result (λ outs. outs ≡ (transition self.old input).outs) }
     {
         let mut outs = List::new(alloc);
-        self.take_in(alloc, &mut outs, input)?;
+        self.take_in(alloc, &mut outs, &input)?;
         Ok(outs)
     }
 
-    fn take_in(&mut self, alloc: Global, outs: &mut List<Out>, input: In) -> Mem<()>
-        ensures state { OnOk result (self.new ≡ (transition self.old input).state) }
-        ensures outs { OnOk result (outs.new ≡ outs.old ++ (transition self.old input).outs) }
+    fn take_in(&mut self, alloc: Global, outs: &mut List<Out>, input: &In) -> Mem<()>
+        ensures state { OnOk result (self.new ≡ (transition self.old input.now).state) }
+        ensures outs { OnOk result (outs.new ≡ outs.old ++ (transition self.old input.now).outs) }
     {
-        match input {
+        match *input {
             In::Want {
                 client,
                 block,
@@ -239,7 +239,7 @@ impl Slot {
                 log,
                 first,
                 upto,
-                rows,
+                ref rows,
             } => self.on_deltas(alloc, outs, log, first, upto, rows.as_slice()),
             In::Check { block, place } => outs.push(found(self.index.get(block), place)),
             In::Tick => send_all(outs, &self.jobs),
@@ -261,19 +261,18 @@ impl Slot {
         ensures state { OnOk result (self.new ≡ (finished self.old want).state) }
         ensures outs { OnOk result (outs.new ≡ outs.old ++ (finished self.old want).outs) }
     {
-        let out = self.answered(alloc, want)?;
+        self.send_answer(alloc, outs, want)?;
         self.turn += 1;
-        outs.push(out)?;
         meet_want(&mut self.beliefs, want)
     }
 
-    // What a want is answered under the next turn.
-    fn answered(&self, alloc: Global, want: Wanted) -> Mem<Out>
+    // Sends what a want is answered under the next turn.
+    fn send_answer(&self, alloc: Global, outs: &mut List<Out>, want: Wanted) -> Mem<()>
         requires { IsTrue (has_turns self.now.turn 1) }
-        ensures { IfOk result (λ out. out ≡ answer self.now want (passers self.now want)) }
+        ensures { OnOk result (outs.new ≡ outs.old ++ answer self.now want (passers self.now want) ∷ []) }
     {
         let passers = self.passers(alloc, want)?;
-        Ok(self.answer(want, passers.as_slice()))
+        outs.push(self.answer(want, passers.as_slice()))
     }
 
     // A word to the lowest client that can pass its copy on, else a grant.
@@ -406,16 +405,38 @@ impl Slot {
         ensures state { OnOk result (self.new ≡ (gave_noted self.old client block want awaited).state) }
         ensures outs { OnOk result (outs.new ≡ outs.old ++ (gave_noted self.old client block want awaited).outs) }
     {
-        let holder = Holder { block, client };
-        if !is_ready(&self.applied, awaited.as_slice()) {
-            give_up(&mut self.beliefs, holder, !want.mode.is_own());
-            self.jobs.insert(block, Job { want, awaited })?;
-            return Ok(());
+        if is_ready(&self.applied, awaited.as_slice()) {
+            return self.gave_last(alloc, outs, client, block, want);
         }
+        give_up(
+            &mut self.beliefs,
+            Holder { block, client },
+            !want.mode.is_own(),
+        );
+        self.jobs.insert(block, Job { want, awaited })?;
+        Ok(())
+    }
+
+    // The last of the recalls is answered, and with it the want.
+    fn gave_last(
+        &mut self,
+        alloc: Global,
+        outs: &mut List<Out>,
+        client: u8,
+        block: BlockId,
+        want: Wanted,
+    ) -> Mem<()>
+        ensures state { OnOk result (self.new ≡ (gave_last self.old client block want).state) }
+        ensures outs { OnOk result (outs.new ≡ outs.old ++ (gave_last self.old client block want).outs) }
+    {
         if self.turn == u64::MAX {
             return Ok(());
         }
-        give_up(&mut self.beliefs, holder, !want.mode.is_own());
+        give_up(
+            &mut self.beliefs,
+            Holder { block, client },
+            !want.mode.is_own(),
+        );
         self.jobs.remove(&block);
         self.finish(alloc, outs, want)
     }
@@ -428,11 +449,10 @@ impl Slot {
         ensures outs { OnOk result (outs.new ≡ outs.old ++ (finished_at self.old block).outs) }
         ensures turn { OnOk result (self.new.turn ≤ self.old.turn + 1) }
     {
-        match self.jobs.remove(&block) {
-            Some(job) => self.finish(alloc, outs, job.want)?,
-            None => {}
+        match take_want(&mut self.jobs, block) {
+            Some(want) => self.finish(alloc, outs, want),
+            None => Ok(()),
         }
-        Ok(())
     }
 
     // Answers the wants that wait for these blocks, in order.
