@@ -408,11 +408,8 @@ impl Slot {
         if is_ready(&self.applied, awaited.as_slice()) {
             return self.gave_last(alloc, outs, client, block, want);
         }
-        give_up(
-            &mut self.beliefs,
-            Holder { block, client },
-            !want.mode.is_own(),
-        );
+        let holder = Holder { block, client };
+        give_up(&mut self.beliefs, holder, !want.mode.is_own());
         self.jobs.insert(block, Job { want, awaited })?;
         Ok(())
     }
@@ -432,11 +429,8 @@ impl Slot {
         if self.turn == u64::MAX {
             return Ok(());
         }
-        give_up(
-            &mut self.beliefs,
-            Holder { block, client },
-            !want.mode.is_own(),
-        );
+        let holder = Holder { block, client };
+        give_up(&mut self.beliefs, holder, !want.mode.is_own());
         self.jobs.remove(&block);
         self.finish(alloc, outs, want)
     }
