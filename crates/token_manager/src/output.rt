@@ -1,5 +1,10 @@
 //! What a slot has its manager send.
-use xfs_base::{BlockId, Crosses, Entry, LogId, Mode, Stamp};
+ghost use Rattle.std.specs.Prelude.{◌≡◌, Some};
+ghost use Rattle.std.specs.Ordering.{is_eq};
+ghost use Rattle.xfs_base.specs.Segments.{seg_cmp};
+ghost use Rattle.token_manager.specs.Transition.{is_place, found};
+
+use xfs_base::{BlockId, Crosses, Entry, LogId, Mode, Place, SegName, Stamp};
 
 /// What a slot has its manager send. `client` is the number of the client to which it goes.
 #[derive(Clone, Copy)]
@@ -66,3 +71,38 @@ pub enum Out {
 }
 
 impl Crosses for Out {}
+
+// What the cleaner is told of an entry that it may have found at a place.
+pub(crate) fn found(entry: Entry, place: Place) -> Out
+    ensures { result ≡ found entry place }
+{
+    if is_place(entry.place, place) {
+        Out::Live { entry }
+    } else {
+        Out::Dead
+    }
+}
+
+// Whether a place is this one.
+fn is_place(at: Option<Place>, place: Place) -> bool
+    ensures { result ≡ is_place at place }
+{
+    match at {
+        Some(at) => is_at(at, place),
+        None => false,
+    }
+}
+
+fn is_at(at: Place, place: Place) -> bool
+    ensures { result ≡ is_place (Some at) place }
+{
+    is_named(at.seg.name, place.seg.name)
+        && at.seg.group == place.seg.group
+        && at.item == place.item
+}
+
+fn is_named(at: SegName, name: SegName) -> bool
+    ensures { result ≡ is_eq (seg_cmp at name) }
+{
+    at.order(name).is_eq()
+}

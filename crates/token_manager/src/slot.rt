@@ -1,17 +1,17 @@
 //! One slot.
-ghost use Rattle.std.specs.Prelude.{◌≡◌, ℕ, ◌+◌, ◌^◌, ◌<◌, ◌≤◌, ◌==◌, ◌||◌, not, length, Some, OnOk, IfOk, IsTrue, ◌∷◌, ◌++◌, []};
+ghost use Rattle.std.specs.Prelude.{◌≡◌, ℕ, ◌+◌, ◌^◌, ◌<◌, ◌≤◌, ◌==◌, ◌||◌, not, length, OnOk, IfOk, IsTrue, ◌∷◌, ◌++◌, []};
 ghost use Rattle.xfs_base.specs.Modes.{is_own};
 ghost use Rattle.xfs_base.specs.Steps.{steps};
 ghost use Rattle.xfs_base.specs.declared.segment.SegName.{SegName};
 ghost use Rattle.token_manager.specs.Index.{pages_of, live_in, has_room};
 ghost use Rattle.token_manager.specs.Recalls.{applied_of, ready_blocks};
-ghost use Rattle.token_manager.specs.Transition.{started, cleaned, has_turns, passers, answer, finished, recall_or_finish, recall, on_want, gave_last, gave_noted, on_gave, finished_at, is_followed, apply, apply_or_not, on_deltas, is_place, found, on_check, on_tick, transition};
+ghost use Rattle.token_manager.specs.Transition.{started, cleaned, has_turns, passers, answer, finished, recall_or_finish, recall, on_want, gave_last, gave_noted, on_gave, finished_at, is_followed, apply, apply_or_not, on_deltas, on_check, on_tick, transition};
 
 use crate::beliefs::{all_believed, give_up, meet_want, others};
 use crate::index::BlockIndex;
 use crate::input::In;
 use crate::job::{Awaited, Holder, Job, Wanted};
-use crate::output::Out;
+use crate::output::{Out, found};
 use crate::recalls::{
     applied_of, await_all, is_awaited, is_ready, noted, ready_blocks, recalls, send_all, take_want,
 };
@@ -19,7 +19,7 @@ use index_pages::Pages;
 use std::alloc::Global;
 use std::collections::BTreeMap;
 use std::marker::Model;
-use xfs_base::{BlockId, Crosses, Entry, List, LogId, Mem, Mode, Place, SegName, Stamp};
+use xfs_base::{BlockId, Crosses, Entry, List, LogId, Mem, Mode, SegName, Stamp};
 
 /// The tokens of one slot of the manager map, in one epoch (the 1996 paper, "Cache Consistency"). Contracts see
 /// it as its state: the epoch, the index with the live blocks of each segment, who is believed to hold
@@ -54,23 +54,6 @@ fn nine(list: &[u32]) -> [u32; 9]
     nine
 }
 
-// Whether a place is this one.
-fn is_place(at: Option<Place>, place: Place) -> bool
-    ensures { result ≡ is_place at place }
-{
-    match at {
-        Some(at) => is_at(at, place),
-        None => false,
-    }
-}
-
-fn is_at(at: Place, place: Place) -> bool
-    ensures { result ≡ is_place (Some at) place }
-{
-    let is_named = at.seg.name.order(place.seg.name).is_eq();
-    is_named && at.seg.group == place.seg.group && at.item == place.item
-}
-
 // Whether a want is answered from the log alone: it wants to write, or it was said before.
 fn is_served_alone(want: Wanted) -> bool
     ensures { result ≡ is_own want.mode || not (want.again == 0) }
@@ -83,17 +66,6 @@ fn has_turns(turn: u64, count: usize) -> bool
     ensures { result ≡ has_turns turn count }
 {
     count as u64 <= u64::MAX - turn
-}
-
-// What the cleaner is told of an entry that it may have found at a place.
-fn found(entry: Entry, place: Place) -> Out
-    ensures { result ≡ found entry place }
-{
-    if is_place(entry.place, place) {
-        Out::Live { entry }
-    } else {
-        Out::Dead
-    }
 }
 
 impl Slot {

@@ -1,0 +1,14 @@
+-- So many turns are left where the last of them is below the end.
+use Rattle.std.proofs.Common.{◌≡◌, ℕ, ◌+◌, ◌-◌, ◌≤◌, Bool, true, false, nat_le, nat_lt, refl, sym, arith}
+use Rattle.std.proofs.lemmas.Bool.Decides.{nat_tests}
+use Rattle.token_manager.proofs.slot.has_turns.Goals as goal
+
+left_upto : (turn n top : ℕ) → turn ≤ top → nat_le n (top - turn) ≡ nat_lt (turn + n) (top + 1)
+left_upto turn n top most = by (nat_le n (top - turn)) refl
+  where
+    by : (t : Bool) → nat_le n (top - turn) ≡ t → t ≡ nat_lt (turn + n) (top + 1)
+    by true left = sym (grind (arith, nat_tests))
+    by false left = sym (grind (arith, nat_tests))
+
+pub returns : goal.returns
+returns c = left_upto c.args.turn c.args.count 18446744073709551615 (omega (arith, c.ranges.turn))
