@@ -95,8 +95,3 @@ by_finished_at Q s block same done = by_job (job_at s.jobs block) refl
     by_job : (o : Option Job) → job_at s.jobs block ≡ o → Q (finished_job s block o)
     by_job None is = same
     by_job (Some job) is = done job is
-
--- what is sent when the want that waits for a block is answered
-pub finished_at-outs : (s : SlotState) (block : BlockId) (job : Job) → job_at s.jobs block ≡ Some job → (finished_at s block).outs ≡ (finished s job.want).outs
-unfolding finished_at
-finished_at-outs s block job is = ap (λ o. (finished_job s block o).outs) is
