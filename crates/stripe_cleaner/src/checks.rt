@@ -7,6 +7,7 @@ ghost use Rattle.stripe_cleaner.specs.Checks.{check_of, checks_from, moved_once,
 use crate::output::Out;
 use segment_format::Item;
 use std::alloc::Global;
+use std::mem;
 use xfs_base::{BlockId, Crosses, Entry, List, Mem, Place, SegRef, Value};
 
 /// What is known of a block of a segment that is emptied.
@@ -38,7 +39,7 @@ impl Crosses for Fate {}
 impl Crosses for Check {}
 
 impl Fate {
-    fn after_live(self, entry: Entry) -> Fate
+    fn live(self, entry: Entry) -> Fate
         requires { entry.hop < u32_end }
         ensures { result ≡ after_live entry self }
     {
@@ -50,25 +51,30 @@ impl Fate {
         }
     }
 
-    fn after_dead(self) -> Fate
-        ensures { result ≡ after_dead self }
+    fn after_live(&mut self, entry: Entry)
+        requires { entry.hop < u32_end }
+        ensures { self.new ≡ after_live entry self.old }
+    {
+        let fate = mem::replace(self, Fate::Dead);
+        drop(mem::replace(self, fate.live(entry)));
+    }
+
+    fn after_dead(&mut self)
+        ensures { self.new ≡ after_dead self.old }
     {
         match self {
-            Fate::Asked(_) => Fate::Dead,
-            Fate::Live(entry, value) => Fate::Live(entry, value),
-            Fate::Moved => Fate::Dead,
-            Fate::Dead => Fate::Dead,
+            Fate::Asked(_) => drop(mem::replace(self, Fate::Dead)),
+            Fate::Moved => drop(mem::replace(self, Fate::Dead)),
+            Fate::Live(_, _) | Fate::Dead => {}
         }
     }
 
-    fn after_moved(self) -> Fate
-        ensures { result ≡ after_moved self }
+    fn after_moved(&mut self)
+        ensures { self.new ≡ after_moved self.old }
     {
         match self {
-            Fate::Asked(value) => Fate::Asked(value),
-            Fate::Live(_, _) => Fate::Moved,
-            Fate::Moved => Fate::Moved,
-            Fate::Dead => Fate::Dead,
+            Fate::Live(_, _) => drop(mem::replace(self, Fate::Moved)),
+            Fate::Asked(_) | Fate::Moved | Fate::Dead => {}
         }
     }
 
@@ -110,44 +116,27 @@ impl Fate {
 }
 
 impl Check {
-    fn live_at(self, block: BlockId, entry: Entry) -> Check
+    fn live_at(&mut self, block: BlockId, entry: Entry)
         requires { entry.hop < u32_end }
-        ensures { result ≡ live_at block entry self }
+        ensures { self.new ≡ live_at block entry self.old }
     {
-        if !self.block.is(block) {
-            return self;
-        }
-        let Check { block, item, fate } = self;
-        Check {
-            block,
-            item,
-            fate: fate.after_live(entry),
+        if self.block.is(block) {
+            self.fate.after_live(entry);
         }
     }
 
-    fn dead_at(self, block: BlockId) -> Check
-        ensures { result ≡ dead_at block self }
+    fn dead_at(&mut self, block: BlockId)
+        ensures { self.new ≡ dead_at block self.old }
     {
-        if !self.block.is(block) {
-            return self;
-        }
-        let Check { block, item, fate } = self;
-        Check {
-            block,
-            item,
-            fate: fate.after_dead(),
+        if self.block.is(block) {
+            self.fate.after_dead();
         }
     }
 
-    fn moved_at(self) -> Check
-        ensures { result ≡ moved_at self }
+    fn moved_at(&mut self)
+        ensures { self.new ≡ moved_at self.old }
     {
-        let Check { block, item, fate } = self;
-        Check {
-            block,
-            item,
-            fate: fate.after_moved(),
-        }
+        self.fate.after_moved();
     }
 }
 
@@ -199,42 +188,37 @@ fn add_check(checks: &mut List<Check>, number: u16, item: Item) -> Mem<()>
 }
 
 /// What a Live of a block makes of them.
-pub(crate) fn all_live_at(
-    alloc: Global,
-    checks: List<Check>,
-    block: BlockId,
-    entry: Entry,
-) -> Mem<List<Check>>
+pub(crate) fn all_live_at(checks: List<Check>, block: BlockId, entry: Entry) -> List<Check>
     requires { entry.hop < u32_end }
-    ensures { IfOk result (λ all. all ≡ map (live_at block entry) checks) }
+    ensures { result ≡ map (live_at block entry) checks }
 {
-    let mut all = List::new(alloc);
-    for check in checks.into_vec() {
-        all.push(check.live_at(block, entry))?;
+    let mut all = checks.into_vec();
+    for check in all.iter_mut() {
+        check.live_at(block, entry);
     }
-    Ok(all)
+    List::from_vec(all)
 }
 
 /// What a Dead of a block makes of them.
-pub(crate) fn all_dead_at(alloc: Global, checks: List<Check>, block: BlockId) -> Mem<List<Check>>
-    ensures { IfOk result (λ all. all ≡ map (dead_at block) checks) }
+pub(crate) fn all_dead_at(checks: List<Check>, block: BlockId) -> List<Check>
+    ensures { result ≡ map (dead_at block) checks }
 {
-    let mut all = List::new(alloc);
-    for check in checks.into_vec() {
-        all.push(check.dead_at(block))?;
+    let mut all = checks.into_vec();
+    for check in all.iter_mut() {
+        check.dead_at(block);
     }
-    Ok(all)
+    List::from_vec(all)
 }
 
 /// What the settling of the move makes of them.
-pub(crate) fn all_moved(alloc: Global, checks: List<Check>) -> Mem<List<Check>>
-    ensures { IfOk result (λ all. all ≡ map moved_at checks) }
+pub(crate) fn all_moved(checks: List<Check>) -> List<Check>
+    ensures { result ≡ map moved_at checks }
 {
-    let mut all = List::new(alloc);
-    for check in checks.into_vec() {
-        all.push(check.moved_at())?;
+    let mut all = checks.into_vec();
+    for check in all.iter_mut() {
+        check.moved_at();
     }
-    Ok(all)
+    List::from_vec(all)
 }
 
 /// Whether one is asked for.

@@ -54,30 +54,43 @@ impl Cleaning {
         ensures outs { IfOk result (λ outs. outs ≡ (transition self.old input).outs) }
     {
         let mut outs = List::new(alloc);
-        match input {
-            In::Welcome { slots, groups } => self.on_welcome(alloc, &mut outs, slots, groups)?,
-            In::Promise { slot, epoch } => self.on_promise(&mut outs, slot, epoch)?,
-            In::Maps(groups) => self.on_maps(groups),
-            In::Listed { server, held } => {
-                self.on_listed(alloc, &mut outs, server, held.as_slice())?
+        match self.take_one(alloc, &mut outs, input) {
+            Ok(()) => Ok(outs),
+            Err(error) => {
+                drop(outs);
+                Err(error)
             }
+        }
+    }
+
+    fn take_one(&mut self, alloc: Global, outs: &mut List<Out>, input: In) -> Mem<()>
+        ensures state { OnOk result (self.new ≡ (transition self.old input).state) }
+        ensures outs { OnOk result (outs.new ≡ outs.old ++ (transition self.old input).outs) }
+    {
+        match input {
+            In::Welcome { slots, groups } => self.on_welcome(alloc, outs, slots, groups),
+            In::Promise { slot, epoch } => self.on_promise(outs, slot, epoch),
+            In::Maps(groups) => {
+                self.on_maps(groups);
+                Ok(())
+            }
+            In::Listed { server, held } => self.on_listed(alloc, outs, server, held.as_slice()),
             In::Usage {
                 slot,
                 epoch,
                 counts,
-            } => self.on_usage(alloc, &mut outs, slot, epoch, counts)?,
-            In::Read(read) => self.on_read(alloc, &mut outs, read)?,
+            } => self.on_usage(alloc, outs, slot, epoch, counts),
+            In::Read(read) => self.on_read(alloc, outs, read),
             In::Live {
                 block,
                 epoch,
                 entry,
-            } => self.on_live(alloc, &mut outs, block, epoch, entry)?,
-            In::Dead { block, epoch } => self.on_dead(alloc, &mut outs, block, epoch)?,
-            In::Moved => self.on_moved(alloc, &mut outs)?,
-            In::Deleted { server, name } => self.on_deleted(alloc, &mut outs, server, name)?,
-            In::Tick => self.phase.tick(&mut outs)?,
+            } => self.on_live(alloc, outs, block, epoch, entry),
+            In::Dead { block, epoch } => self.on_dead(alloc, outs, block, epoch),
+            In::Moved => self.on_moved(outs),
+            In::Deleted { server, name } => self.on_deleted(alloc, outs, server, name),
+            In::Tick => self.phase.tick(outs),
         }
-        Ok(outs)
     }
 
     // The phase, which the job then has no more.
@@ -110,9 +123,8 @@ impl Cleaning {
         }
         self.promised = promised_of(slots.as_slice(), &self.promised);
         let listing = Listing::begin(alloc, slots, groups)?;
-        listing.ask(outs)?;
         self.enter(Phase::Listing(listing));
-        Ok(())
+        self.phase.tick(outs)
     }
 
     #[tactic(auto, unfolding(crate::specs::Transition::on_promise))]
@@ -227,12 +239,12 @@ impl Cleaning {
         Ok(())
     }
 
-    fn on_moved(&mut self, alloc: Global, outs: &mut List<Out>) -> Mem<()>
+    fn on_moved(&mut self, outs: &mut List<Out>) -> Mem<()>
         ensures state { OnOk result (self.new ≡ (turned self.old (moved_in self.old.phase)).state) }
         ensures outs { OnOk result (outs.new ≡ outs.old ++ (moved_in self.old.phase).outs) }
     {
         let phase = self.leave();
-        self.enter(phase.moved(alloc, outs)?);
+        self.enter(phase.moved(outs)?);
         Ok(())
     }
 

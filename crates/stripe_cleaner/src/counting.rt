@@ -89,8 +89,13 @@ impl Counting {
         if !has_usage(&self.usages, slot) {
             return Ok(Phase::Counting(self));
         }
-        outs.push(Out::UsageAsk { slot })?;
-        Ok(Phase::Counting(self.forgotten(slot)))
+        match outs.push(Out::UsageAsk { slot }) {
+            Ok(()) => Ok(Phase::Counting(self.forgotten(slot))),
+            Err(error) => {
+                drop(self);
+                Err(error)
+            }
+        }
     }
 
     fn forgotten(mut self, slot: u8) -> Counting
@@ -102,7 +107,7 @@ impl Counting {
 
     /// The counts of a slot, where none are in.
     pub(crate) fn on_counts(
-        self,
+        mut self,
         alloc: Global,
         outs: &mut List<Out>,
         count: u32,
@@ -113,16 +118,23 @@ impl Counting {
         ensures outs { OnOk result (outs.new ≡ outs.old ++ (on_counts count slot counts self).outs) }
     {
         if has_usage(&self.usages, slot) {
+            drop(counts);
             return Ok(Phase::Counting(self));
         }
-        self.with_usage(slot, counts)?.go_on(alloc, outs, count)
+        match self.hear(slot, counts) {
+            Ok(()) => self.go_on(alloc, outs, count),
+            Err(error) => {
+                drop(self);
+                Err(error)
+            }
+        }
     }
 
-    fn with_usage(mut self, slot: u8, counts: List<(SegName, u32)>) -> Mem<Counting>
-        ensures { IfOk result (λ counting. counting ≡ usage_with slot counts self) }
+    fn hear(&mut self, slot: u8, counts: List<(SegName, u32)>) -> Mem<()>
+        ensures { OnOk result (self.new ≡ usage_with slot counts self.old) }
     {
         put_usage(&mut self.usages, slot, counts)?;
-        Ok(self)
+        Ok(())
     }
 
     // Once all counts are in, the segments are chosen, and the first is read.
@@ -133,8 +145,26 @@ impl Counting {
         if !is_counted(&self.usages) {
             return Ok(Phase::Counting(self));
         }
-        let left = self.chosen(alloc, count)?;
-        Job::begin(self.groups, left).next(outs)
+        match self.chosen(alloc, count) {
+            Ok(left) => self.ended(left).next(outs),
+            Err(error) => {
+                drop(self);
+                Err(error)
+            }
+        }
+    }
+
+    fn ended(self, left: VecDeque<SegRef>) -> Job
+        ensures { result ≡ record { groups = self.groups; left = left.items; deleted = 0 } }
+    {
+        let Counting {
+            groups,
+            candidates,
+            usages,
+        } = self;
+        drop(candidates);
+        drop(usages);
+        Job::begin(groups, left)
     }
 
     // The candidates of least rank, so many, in order.

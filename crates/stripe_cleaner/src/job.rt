@@ -1,12 +1,13 @@
 //! The emptying of the chosen segments, one after the other.
-ghost use Rattle.std.specs.Prelude.{◌≡◌, ◌++◌, ◌<◌, IfOk, OnOk};
+ghost use Rattle.std.specs.Prelude.{◌≡◌, ◌++◌, ◌∷◌, [], ◌<◌, Some, IfOk, OnOk};
 ghost use Rattle.xfs_base.specs.Limits.{u32_end};
-ghost use Rattle.stripe_cleaner.specs.Checks.{live_at, dead_at};
+ghost use Rattle.stripe_cleaner.specs.declared.output.Out.TheVariants.{Finished, Move};
+ghost use Rattle.stripe_cleaner.specs.declared.phase.Phase.TheVariants.{Checking, Over};
+ghost use Rattle.stripe_cleaner.specs.Checks.{live_at, dead_at, moves};
 ghost use Rattle.stripe_cleaner.specs.Job.{next, servers_in, servers_of, deletes, deleting, counted, left_to_delete, same_name, on_deleted, checking, on_read, looked_at, on_answer, is_moving, on_moved};
 
 use crate::checks::{
-    Check, add_questions, all_dead, all_dead_at, all_live_at, all_moved, any_asked, any_live,
-    checks_of, moves_of,
+    Check, all_dead, all_dead_at, all_live_at, all_moved, any_asked, any_live, checks_of, moves_of,
 };
 use crate::listing::{is_among, without};
 use crate::output::Out;
@@ -62,15 +63,19 @@ impl Job {
         ensures outs { OnOk result (outs.new ≡ outs.old ++ (next self).outs) }
     {
         match self.left.pop_front() {
-            None => {
-                outs.push(Out::Finished(self.deleted))?;
-                Ok(Phase::Over)
-            }
-            Some(segment) => {
-                outs.push(Out::Fetch(segment))?;
-                Ok(Phase::Reading { job: self, segment })
-            }
+            None => self.finish(outs),
+            Some(segment) => Phase::Reading { job: self, segment }.asking(outs),
         }
+    }
+
+    fn finish(self, outs: &mut List<Out>) -> Mem<Phase>
+        ensures phase { IfOk result (λ phase. phase ≡ Over) }
+        ensures outs { OnOk result (outs.new ≡ outs.old ++ Finished self.deleted ∷ []) }
+    {
+        let deleted = self.deleted;
+        drop(self);
+        outs.push(Out::Finished(deleted))?;
+        Ok(Phase::Over)
     }
 
     /// The present segment was read; one that is lost is passed over.
@@ -84,14 +89,33 @@ impl Job {
         ensures phase { IfOk result (λ phase. phase ≡ (on_read read self segment).state) }
         ensures outs { OnOk result (outs.new ≡ outs.old ++ (on_read read self segment).outs) }
     {
-        let Some(read) = read else {
-            return self.next(outs);
-        };
+        match read {
+            None => self.next(outs),
+            Some(read) => self.check_read(alloc, outs, segment, read),
+        }
+    }
+
+    fn check_read(
+        self,
+        alloc: Global,
+        outs: &mut List<Out>,
+        segment: SegRef,
+        read: Segment,
+    ) -> Mem<Phase>
+        ensures phase { IfOk result (λ phase. phase ≡ (on_read (Some read) self segment).state) }
+        ensures outs { OnOk result (outs.new ≡ outs.old ++ (on_read (Some read) self segment).outs) }
+    {
         if !is_name(read.name, segment.name) {
+            drop(read);
             return Ok(Phase::Reading { job: self, segment });
         }
-        let checks = checks_of(alloc, read.items)?;
-        self.check(alloc, outs, segment, checks)
+        match checks_of(alloc, read.items) {
+            Ok(checks) => self.check(alloc, outs, segment, checks),
+            Err(error) => {
+                drop(self);
+                Err(error)
+            }
+        }
     }
 
     // Each of these is asked for; without any the segment is deleted.
@@ -107,14 +131,15 @@ impl Job {
         ensures outs { OnOk result (outs.new ≡ outs.old ++ (checking self segment checks).outs) }
     {
         if all_dead(checks.as_slice()) {
+            drop(checks);
             return self.delete(alloc, outs, segment);
         }
-        add_questions(outs, segment, checks.as_slice())?;
-        Ok(Phase::Checking {
+        let phase = Phase::Checking {
             job: self,
             segment,
             checks,
-        })
+        };
+        phase.asking(outs)
     }
 
     /// A block of the present segment is live.
@@ -132,7 +157,7 @@ impl Job {
         ensures outs { OnOk result (outs.new ≡ outs.old ++ (on_answer (live_at block entry) self segment checks).outs) }
     {
         let was_asked = any_asked(checks.as_slice());
-        let checks = all_live_at(alloc, checks, block, entry)?;
+        let checks = all_live_at(checks, block, entry);
         self.look(alloc, outs, segment, was_asked, checks)
     }
 
@@ -149,7 +174,7 @@ impl Job {
         ensures outs { OnOk result (outs.new ≡ outs.old ++ (on_answer (dead_at block) self segment checks).outs) }
     {
         let was_asked = any_asked(checks.as_slice());
-        let checks = all_dead_at(alloc, checks, block)?;
+        let checks = all_dead_at(checks, block);
         self.look(alloc, outs, segment, was_asked, checks)
     }
 
@@ -167,10 +192,11 @@ impl Job {
         ensures outs { OnOk result (outs.new ≡ outs.old ++ (looked_at self segment was_asked checks).outs) }
     {
         if all_dead(checks.as_slice()) {
+            drop(checks);
             return self.delete(alloc, outs, segment);
         }
         if was_asked && !any_asked(checks.as_slice()) {
-            outs.push(Out::Move(moves_of(alloc, checks.as_slice())?))?;
+            return self.start_move(alloc, outs, segment, checks);
         }
         Ok(Phase::Checking {
             job: self,
@@ -179,10 +205,33 @@ impl Job {
         })
     }
 
+    fn start_move(
+        self,
+        alloc: Global,
+        outs: &mut List<Out>,
+        segment: SegRef,
+        checks: List<Check>,
+    ) -> Mem<Phase>
+        ensures phase { IfOk result (λ phase. phase ≡ Checking self segment checks) }
+        ensures outs { OnOk result (outs.new ≡ outs.old ++ Move (moves checks) ∷ []) }
+    {
+        match add_move(alloc, outs, checks.as_slice()) {
+            Ok(()) => Ok(Phase::Checking {
+                job: self,
+                segment,
+                checks,
+            }),
+            Err(error) => {
+                drop(self);
+                drop(checks);
+                Err(error)
+            }
+        }
+    }
+
     /// What was live in the present segment is moved, and is asked for again.
     pub(crate) fn on_moved(
         self,
-        alloc: Global,
         outs: &mut List<Out>,
         segment: SegRef,
         checks: List<Check>,
@@ -197,13 +246,12 @@ impl Job {
                 checks,
             });
         }
-        let checks = all_moved(alloc, checks)?;
-        add_questions(outs, segment, checks.as_slice())?;
-        Ok(Phase::Checking {
+        let phase = Phase::Checking {
             job: self,
             segment,
-            checks,
-        })
+            checks: all_moved(checks),
+        };
+        phase.asking(outs)
     }
 
     // Each of its members' servers is to delete the segment.
@@ -211,13 +259,20 @@ impl Job {
         ensures phase { IfOk result (λ phase. phase ≡ (deleting self segment).state) }
         ensures outs { OnOk result (outs.new ≡ outs.old ++ (deleting self segment).outs) }
     {
-        let servers = servers_of(alloc, &self.groups, segment)?;
-        add_deletes(outs, segment.name, servers.as_slice())?;
-        Ok(Phase::Deleting {
-            job: self,
-            segment,
-            servers,
-        })
+        match servers_of(alloc, &self.groups, segment) {
+            Ok(servers) => {
+                let phase = Phase::Deleting {
+                    job: self,
+                    segment,
+                    servers,
+                };
+                phase.asking(outs)
+            }
+            Err(error) => {
+                drop(self);
+                Err(error)
+            }
+        }
     }
 
     /// A server has deleted the present segment. Where all have, it is counted, and the next is read.
@@ -240,8 +295,13 @@ impl Job {
                 servers,
             });
         }
-        let servers = without(alloc, servers.as_slice(), server)?;
-        self.go_on(outs, segment, servers)
+        match without(alloc, servers, server) {
+            Ok(servers) => self.go_on(outs, segment, servers),
+            Err(error) => {
+                drop(self);
+                Err(error)
+            }
+        }
     }
 
     fn go_on(mut self, outs: &mut List<Out>, segment: SegRef, servers: List<u8>) -> Mem<Phase>
@@ -255,9 +315,18 @@ impl Job {
                 servers,
             });
         }
+        drop(servers);
         self.deleted = self.deleted.saturating_add(1);
         self.next(outs)
     }
+}
+
+// What is live is to be moved.
+fn add_move(alloc: Global, outs: &mut List<Out>, checks: &[Check]) -> Mem<()>
+    ensures { OnOk result (outs.new ≡ outs.old ++ Move (moves checks.now) ∷ []) }
+{
+    let moves = moves_of(alloc, checks)?;
+    outs.push(Out::Move(moves))
 }
 
 // Whether a move is awaited.

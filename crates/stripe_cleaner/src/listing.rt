@@ -1,9 +1,9 @@
 //! The gathering of what the storage servers hold.
-ghost use Rattle.std.specs.Prelude.{◌≡◌, ◌++◌, IfOk, OnOk, slice_index};
+ghost use Rattle.std.specs.Prelude.{◌≡◌, ◌++◌, [], IfOk, OnOk, slice_index};
 ghost use Rattle.std.specs.List.{list_any};
 ghost use Rattle.stripe_cleaner.specs.Candidates.{horizon_at, least_horizon, is_cleaned, is_candidate, candidates_with};
 ghost use Rattle.stripe_cleaner.specs.Listing.{all_servers, begun, is_among, without};
-ghost use Rattle.stripe_cleaner.specs.Transition.{lists, listed, on_list};
+ghost use Rattle.stripe_cleaner.specs.Transition.{lists, heard, listed, on_list};
 
 use crate::counting::Counting;
 use crate::output::Out;
@@ -12,6 +12,7 @@ use group_map::GroupMap;
 use std::alloc::Global;
 use std::collections::BTreeMap;
 use std::marker::Model;
+use std::mem;
 use xfs_base::{Crosses, FragMeta, List, LogId, Mem, SegName, SlotNews};
 
 /// What is known while the servers' lists come in. Contracts see it as a record.
@@ -46,13 +47,19 @@ impl Listing {
     pub(crate) fn begin(alloc: Global, slots: List<SlotNews>, groups: GroupMap) -> Mem<Listing>
         ensures { IfOk result (λ listing. listing ≡ begun slots groups) }
     {
-        let awaited = all_servers(alloc, groups.servers())?;
-        Ok(Listing {
-            groups,
-            slots,
-            awaited,
-            candidates: BTreeMap::new(alloc),
-        })
+        match all_servers(alloc, groups.servers()) {
+            Ok(awaited) => Ok(Listing {
+                groups,
+                slots,
+                awaited,
+                candidates: BTreeMap::new(alloc),
+            }),
+            Err(error) => {
+                drop(slots);
+                drop(groups);
+                Err(error)
+            }
+        }
     }
 
     /// Asks the servers for their lists that are not in.
@@ -76,9 +83,22 @@ impl Listing {
         if !is_among(self.awaited.as_slice(), server) {
             return Ok(Phase::Listing(self));
         }
-        self.awaited = without(alloc, self.awaited.as_slice(), server)?;
-        add_candidates(&mut self.candidates, self.slots.as_slice(), held)?;
-        self.go_on(alloc, outs)
+        match self.hear(alloc, server, held) {
+            Ok(()) => self.go_on(alloc, outs),
+            Err(error) => {
+                drop(self);
+                Err(error)
+            }
+        }
+    }
+
+    fn hear(&mut self, alloc: Global, server: u8, held: &[FragMeta]) -> Mem<()>
+        ensures { OnOk result (self.new ≡ heard self.old server held.now) }
+    {
+        let awaited = mem::replace(&mut self.awaited, List::new(alloc));
+        let others = without(alloc, awaited, server)?;
+        drop(mem::replace(&mut self.awaited, others));
+        add_candidates(&mut self.candidates, self.slots.as_slice(), held)
     }
 
     // Once all lists are in, the slots are asked for their counts.
@@ -89,14 +109,21 @@ impl Listing {
         if !self.awaited.is_empty() {
             return Ok(Phase::Listing(self));
         }
+        Phase::Counting(self.ended(alloc)).asking(outs)
+    }
+
+    fn ended(self, alloc: Global) -> Counting
+        ensures { result ≡ record { groups = self.groups; candidates = self.candidates; usages = [] } }
+    {
         let Listing {
             groups,
+            slots,
+            awaited,
             candidates,
-            ..
         } = self;
-        let counting = Counting::begin(alloc, groups, candidates);
-        counting.ask(outs)?;
-        Ok(Phase::Counting(counting))
+        drop(slots);
+        drop(awaited);
+        Counting::begin(alloc, groups, candidates)
     }
 }
 
@@ -119,16 +146,28 @@ pub(crate) fn is_among(numbers: &[u8], number: u8) -> bool
 }
 
 /// The others.
-pub(crate) fn without(alloc: Global, numbers: &[u8], number: u8) -> Mem<List<u8>>
-    ensures { IfOk result (λ others. others ≡ without numbers.now number) }
+pub(crate) fn without(alloc: Global, numbers: List<u8>, number: u8) -> Mem<List<u8>>
+    ensures { IfOk result (λ others. others ≡ without numbers number) }
 {
     let mut others = List::new(alloc);
+    match add_others(&mut others, numbers.as_slice(), number) {
+        Ok(()) => Ok(others),
+        Err(error) => {
+            drop(others);
+            Err(error)
+        }
+    }
+}
+
+fn add_others(others: &mut List<u8>, numbers: &[u8], number: u8) -> Mem<()>
+    ensures { OnOk result (others.new ≡ others.old ++ without numbers.now number) }
+{
     for other in numbers {
         if *other != number {
             others.push(*other)?;
         }
     }
-    Ok(others)
+    Ok(())
 }
 
 fn add_lists(outs: &mut List<Out>, servers: &[u8]) -> Mem<()>

@@ -199,7 +199,7 @@ impl Phase {
     }
 
     /// The move is settled.
-    pub(crate) fn moved(self, alloc: Global, outs: &mut List<Out>) -> Mem<Phase>
+    pub(crate) fn moved(self, outs: &mut List<Out>) -> Mem<Phase>
         ensures phase { IfOk result (λ phase. phase ≡ (moved_in self).state) }
         ensures outs { OnOk result (outs.new ≡ outs.old ++ (moved_in self).outs) }
     {
@@ -208,7 +208,7 @@ impl Phase {
                 job,
                 segment,
                 checks,
-            } => job.on_moved(alloc, outs, segment, checks),
+            } => job.on_moved(outs, segment, checks),
             phase => Ok(phase),
         }
     }
@@ -231,6 +231,20 @@ impl Phase {
                 servers,
             } => job.on_deleted(alloc, outs, segment, servers, server, name),
             phase => Ok(phase),
+        }
+    }
+
+    /// This phase, in which what is awaited is asked for.
+    pub(crate) fn asking(self, outs: &mut List<Out>) -> Mem<Phase>
+        ensures phase { IfOk result (λ phase. phase ≡ self) }
+        ensures outs { OnOk result (outs.new ≡ outs.old ++ awaits self) }
+    {
+        match self.tick(outs) {
+            Ok(()) => Ok(self),
+            Err(error) => {
+                drop(self);
+                Err(error)
+            }
         }
     }
 

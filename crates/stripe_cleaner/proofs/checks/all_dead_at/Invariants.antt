@@ -1,8 +1,7 @@
-use Rattle.std.proofs.Common.{◌≡◌, ◌++◌, map}
-use Rattle.std.specs.Vec.Iter.{into_iter_items}
+use Rattle.std.proofs.Common.{◌≡◌, ◌++◌, map, take, drop}
 use Rattle.stripe_cleaner.specs.Checks.{dead_at}
 use Rattle.stripe_cleaner.proofs.checks.all_dead_at.Given as goal
 
--- those so far and those to come are all
+-- those so far are changed, and those to come are as they were
 abbrev pub invariant-loop-check : goal.invariant-loop-check
-invariant-loop-check l = l.all ++ map (dead_at l.block) (into_iter_items l.check-iterator) ≡ map (dead_at l.block) (into_iter_items l.initial.check-iterator)
+invariant-loop-check l = l.check-items ≡ map (dead_at l.block) (take l.check-index l.initial.check-items) ++ drop l.check-index l.initial.check-items

@@ -2,7 +2,7 @@ use Rattle.std.proofs.Common.{ℕ, List, ap, ◌∙◌}
 use Rattle.xfs_base.specs.declared.segment.SegName.{SegName}
 use Rattle.stripe_cleaner.specs.Counting.{CountingState}
 use Rattle.stripe_cleaner.specs.Transition.{usage_with}
-use Rattle.stripe_cleaner.proofs.counting.Counting.with_usage.Goals as goal
+use Rattle.stripe_cleaner.proofs.counting.Counting.hear.Goals as goal
 
 pub returns : goal.returns
 returns c =
