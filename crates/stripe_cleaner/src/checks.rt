@@ -225,14 +225,24 @@ pub(crate) fn all_moved(checks: List<Check>) -> List<Check>
 pub(crate) fn any_asked(checks: &[Check]) -> bool
     ensures { result ≡ any_asked checks.now }
 {
-    checks.iter().any(|check| check.fate.is_asked())
+    for check in checks {
+        if check.fate.is_asked() {
+            return true;
+        }
+    }
+    false
 }
 
 /// Whether one is live.
 pub(crate) fn any_live(checks: &[Check]) -> bool
     ensures { result ≡ any_live checks.now }
 {
-    checks.iter().any(|check| check.fate.is_live())
+    for check in checks {
+        if check.fate.is_live() {
+            return true;
+        }
+    }
+    false
 }
 
 /// Whether each is dead.

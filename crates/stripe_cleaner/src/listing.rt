@@ -142,7 +142,12 @@ fn all_servers(alloc: Global, servers: u8) -> Mem<List<u8>>
 pub(crate) fn is_among(numbers: &[u8], number: u8) -> bool
     ensures { result ≡ is_among numbers.now number }
 {
-    numbers.iter().any(|other| *other == number)
+    for other in numbers {
+        if *other == number {
+            return true;
+        }
+    }
+    false
 }
 
 /// The others.
