@@ -12,13 +12,14 @@ use Rattle.token_manager.specs.SlotState.{SlotState}
 use Rattle.version_model.specs.declared.act.Act.{Act}
 use Rattle.act_tie.specs.BlockActs.{acts_of}
 use Rattle.token_protocol.specs.Acts.{LegalActs}
+use Rattle.token_protocol.specs.Entry as abstract
 use Rattle.token_protocol.proofs.Told.{acts_legal}
-use Rattle.token_protocol.proofs.Invariant.{Owned, owned}
-use Rattle.token_protocol.proofs.Laws.{single_owner, epoch_promised, beliefs_cover, acceptable_believed, no_holder_after_fall}
+use Rattle.token_protocol.proofs.Invariant.{Owned, owned, always as invariant}
+use Rattle.token_protocol.proofs.Laws.{single_owner, epoch_promised, beliefs_cover, acceptable_believed, no_holder_after_fall, flights_new, join_is_join}
 use Rattle.token_tie.specs.Seen.{rank, local_of, entry_seen}
 use Rattle.token_tie.proofs.Leaves.{taking}
 use Rattle.token_tie.proofs.SmallFacts.{equal_numbers}
-use Rattle.token_law.specs.Laws.{Moment, IsClient, Reigns, OneOwner, ActiveEpochsPromised, HoldingsBelieved, GrantsBelieved, NobodyHoldsAfterFall, ActsAreLegal, FallsAreApart}
+use Rattle.token_law.specs.Laws.{Moment, IsClient, Reigns, OneOwner, ActiveEpochsPromised, HoldingsBelieved, GrantsBelieved, NobodyHoldsAfterFall, ActsAreLegal, FallsAreApart, FlightsAreNewer}
 use Rattle.token_law.specs.Net.{Net, Happens, Runs, opening}
 use Rattle.token_law.specs.Net.Happens.{Acts, Elsewhere, Reports, GetsCopy, GetsOwn, Declines, GetsRecall, GetsForward, GetsSupply, Fetches, Reads, Syncs, Seals, Files, GetsDeltas, GetsWant, GetsGave, Ticks, Crashes, Returns, SealsCopies, FilesCopies, Reopens, Activates, Says}
 use Rattle.token_law.specs.Net.Runs.{Begun, On}
@@ -154,3 +155,17 @@ acts_are_legal (suc members) part n b m =
 
 pub falls_are_apart : FallsAreApart
 falls_are_apart logs members part n run = (falls_kept logs members part n run).apart
+
+-- ---- flights, where logs keep their word
+
+pub flights_are_newer : FlightsAreNewer
+flights_are_newer members part n b m c is some l q filed =
+    let v = seen true members part n b m c is in
+    let w = v.world in
+    let whole = invariant members w v.steps in
+    let row = ap (λ e. (w.rows c (suc e)).version) (v.kept.ends c) ∙ ap (λ (r : abstract.Row). r.version) (v.kept.says c (suc (n.books.end c))) in
+    let other = ap (λ (r : abstract.Row). r.version) (v.kept.says l q) in
+    let end = v.kept.ends l in
+    let above = (flights_new w whole c (let many = v.many in let within = is.within in omega arith)).above (omega arith) in
+    let most = (join_is_join w whole).upper l q (omega arith) in
+    omega arith

@@ -1,5 +1,5 @@
--- How what logs say of a block is seen in the abstract protocol, and that books are whole: beyond what a log has sealed it says nothing, and a client's segment
--- names no block twice.
+-- How what logs say of a block is seen in the abstract protocol, and that books are whole: before its first segment and beyond what it has sealed a log says
+-- nothing, and a client's segment names no block twice.
 use Rattle.std.proofs.Common.{◌≡◌, ℕ, zero, suc, ◌+◌, ◌≤◌, ◌<◌, Bool, true, false, cond, List, [], refl, sym, ap, subst, ◌∙◌, arith}
 use Rattle.xfs_base.specs.declared.block.BlockId.{BlockId}
 use Rattle.act_tie.specs.Number.{number}
@@ -35,6 +35,8 @@ Kept b k w = LogsSeen b k w.end w.flight w.rows
 pub record BooksWhole (members : ℕ) (k : Books) : Type 0 where
   pub beyond : (l q : ℕ) → k.end l + flag (k.flying l) < q → k.rows l q ≡ []
   pub once : (c q : ℕ) → c < members → AreOnce (k.rows c q)
+  -- segments are numbered from 1 on
+  pub first : (l : ℕ) → k.rows l 0 ≡ []
 
 -- ---- a segment is sealed
 
@@ -82,6 +84,14 @@ module _ (b : BlockId) (k : Books) (end flight : ℕ → ℕ) (rows : ℕ → �
 one_more : (e q : ℕ) → e + 0 < q → (q ≡ suc e → ⊥) → e + 1 < q
 one_more e q past other = grind arith
 
+-- the next segment isn't number 0
+first_on : (k : Books) (l : ℕ) (rows : List (BlockId × Row)) → ((m : ℕ) → k.rows m 0 ≡ []) → (m : ℕ)
+    → put k.rows l (put (k.rows l) (suc (k.end l)) rows) m 0 ≡ []
+first_on k l rows none =
+    put_each (λ m f. f 0 ≡ []) k.rows l (put (k.rows l) (suc (k.end l)) rows)
+    (put_each (λ q xs. q ≡ 0 → xs ≡ []) (k.rows l) (suc (k.end l)) rows (λ is. absurd (omega arith)) (λ q other is. ap (k.rows l) is ∙ none l) 0 refl)
+    (λ m other. none m)
+
 module _ (members : ℕ) where
   pub whole_sealed : (k : Books) (l : ℕ) (rows : List (BlockId × Row)) → (l < members → AreOnce rows) → BooksWhole members k
       → BooksWhole members (sealed k l rows)
@@ -91,6 +101,7 @@ module _ (members : ℕ) where
         (λ q other past. i.beyond l q (let most = flag_most (k.flying l) in omega arith))) (λ m other. i.beyond m);
     once = put_each (λ m f. (q : ℕ) → m < members → AreOnce (f q)) k.rows l (put (k.rows l) (suc (k.end l)) rows)
         (put_each (λ q xs. l < members → AreOnce xs) (k.rows l) (suc (k.end l)) rows once (λ q other. i.once l q)) (λ m other. i.once m);
+    first = first_on k l rows i.first;
   }
 
   pub whole_filed : (k : Books) (l : ℕ) → BooksWhole members k → BooksWhole members (filed k l)
@@ -98,6 +109,7 @@ module _ (members : ℕ) where
     beyond = put_each_two (λ m t e. (q : ℕ) → e + flag t < q → k.rows m q ≡ []) k.flying k.end l false (suc (k.end l))
         (λ q past. i.beyond l q (let most = flag_most (k.flying l) in omega arith)) (λ m other. i.beyond m);
     once = i.once;
+    first = i.first;
   }
 
   pub whole_discarded : (k : Books) (l : ℕ) → BooksWhole members k → BooksWhole members (discarded k l)
@@ -108,6 +120,7 @@ module _ (members : ℕ) where
         (λ m other. i.beyond m);
     once = put_each (λ m f. (q : ℕ) → m < members → AreOnce (f q)) k.rows l (put (k.rows l) (suc (k.end l)) [])
         (put_each (λ q xs. l < members → AreOnce xs) (k.rows l) (suc (k.end l)) [] (λ within. tt) (λ q other. i.once l q)) (λ m other. i.once m);
+    first = first_on k l [] i.first;
   }
 
   pub whole_reopened : (k : Books) (l : ℕ) (adopts : Bool) → BooksWhole members k → BooksWhole members (reopened k l adopts)

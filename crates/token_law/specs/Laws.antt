@@ -1,5 +1,5 @@
 -- What holds of the small world in every run, whichever managers follow each other: each law speaks of a block of the slot and of the clients' tokens.
-use Rattle.std.specs.Prelude.{◌≡◌, ℕ, ◌<◌, ◌≤◌, Bool, true, false, Some}
+use Rattle.std.specs.Prelude.{◌≡◌, ℕ, suc, ◌<◌, ◌≤◌, Bool, true, false, Some}
 use Rattle.xfs_base.specs.declared.block.BlockId.{BlockId}
 use Rattle.xfs_base.specs.declared.entry.Entry.{Entry}
 use Rattle.xfs_base.specs.declared.token.Mode.{Mode}
@@ -15,6 +15,7 @@ use Rattle.token_tie.specs.Seen.{rank}
 use Rattle.act_tie.specs.BlockActs.{acts_of}
 use Rattle.act_tie.specs.Shown.{FallsApart}
 use Rattle.token_protocol.specs.Acts.{LegalActs}
+use Rattle.token_law.specs.Books.{said}
 use Rattle.token_law.specs.Net.{Net, Runs, opening}
 use Rattle.token_law.specs.Net.Packet.{GrantSent}
 
@@ -78,3 +79,10 @@ ActsAreLegal = (members part : ℕ) (n : Net) (b : BlockId) → Moment true memb
 -- No client falls again before it is back, and no fall names a block twice.
 abbrev pub FallsAreApart : Type 0
 FallsAreApart = (logs : Bool) (members part : ℕ) (n : Net) → Runs logs members part opening n → FallsApart n.acts
+
+-- Where logs keep their word: what a client has in flight of a block of the slot, or had when it fell, is above all that any log has filed of the block.
+abbrev pub FlightsAreNewer : Type 0
+FlightsAreNewer =
+    (members part : ℕ) (n : Net) (b : BlockId) → Moment true members part n b → (c : ℕ) → IsClient members c
+    → 0 < (said n.books c (suc (n.books.end c)) b).version → (l q : ℕ) → q ≤ n.books.end l
+    → (said n.books l q b).version < (said n.books c (suc (n.books.end c)) b).version

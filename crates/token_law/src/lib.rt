@@ -3,7 +3,7 @@
 #![tactic(auto)]
 
 ghost use Rattle.token_law.specs.Example.{IsShared};
-ghost use Rattle.token_law.specs.Laws.{OneOwner, ActiveEpochsPromised, HoldingsBelieved, GrantsBelieved, NobodyHoldsAfterFall, ActsAreLegal, FallsAreApart};
+ghost use Rattle.token_law.specs.Laws.{OneOwner, ActiveEpochsPromised, HoldingsBelieved, GrantsBelieved, NobodyHoldsAfterFall, ActsAreLegal, FallsAreApart, FlightsAreNewer};
 
 /// The law of every run of the small world, however managers follow each other, clients fall and return, and packets come, whether or not logs keep their
 /// word (the 1996 paper, on cache consistency).
@@ -29,6 +29,13 @@ pub fn tokens_keep_their_word()
 pub fn acts_are_legal()
     ensures legal { ActsAreLegal }
     ensures apart { FallsAreApart }
+{}
+
+/// The law of what is in flight, where logs keep their word.
+///
+/// - `newer`: what a client has in flight of a block, or had when it fell, is above all that any log has filed of the block.
+pub fn flights_are_newer()
+    ensures newer { FlightsAreNewer }
 {}
 
 /// What is said of runs is said of some: one in which a client writes a block and files it, and another reads it.
