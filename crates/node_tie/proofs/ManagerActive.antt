@@ -167,8 +167,8 @@ module _ (logs : Bool) (members part most life : ℕ) where
       (λ e z there nine. GetsGave e z c gave.block gave.stamp gave.end there (seen (inside_of gave.block of)))
 
   -- deltas of a log that no slot follows, or that don't join on to what is applied, change nothing
-  active_deltas : (n : Net) (a : Active) (log : LogId) (deltas : Deltas) → ActiveAgrees members part n a → Premise logs (DeltasJoin members part n log deltas)
-      → Made n deltas.slot a (slot.transition a.slot (deltas_input log deltas))
+  active_deltas : (n : Net) (a : Active) (log : LogId) (deltas : Deltas) → ActiveAgrees members part n a
+      → Premise logs (DeltasJoin members part n (phase.Active a) log deltas) → Made n deltas.slot a (slot.transition a.slot (deltas_input log deltas))
   unfolding said
   active_deltas n a log deltas agrees owed =
       by (slot.is_followed log) refl
@@ -185,7 +185,8 @@ module _ (logs : Bool) (members part most life : ℕ) where
           (sym (ap (λ (s : SlotState). s.applied) agrees.same)) is in
           active_takes n deltas.slot a (deltas_input log deltas) agrees
           (GetsDeltas a.slot.epoch agrees.slot log deltas.first deltas.upto deltas.rows agrees.there (let w = f.1 in omega arith) (premise logs f.0)
-          (premise_by logs (λ (owed : DeltasJoin members part n log deltas) latest. owed a.slot.epoch agrees.slot agrees.there latest joins) owed))
+          (premise_by logs
+          (λ (owed : DeltasJoin members part n (phase.Active a) log deltas) latest. owed a.slot.epoch agrees.slot refl agrees.there latest joins) owed))
       joined false of is =
           subst (Made n deltas.slot a)
           (sym (ap (λ t. cond t (slot.deltas_of a.slot log deltas.first deltas.upto deltas.rows) (still a.slot)) of
@@ -199,7 +200,7 @@ module _ (logs : Bool) (members part most life : ℕ) where
           (event_same n (phase.Active a) [] agrees tt)
 
   pub slot_deltas : (n : Net) (p : SlotPhase) (log : LogId) (deltas : Deltas) → PhaseAgrees members part n p
-      → Premise logs (DeltasJoin members part n log deltas) → Event n p (on_deltas p log deltas).state (on_deltas p log deltas).outs
+      → Premise logs (DeltasJoin members part n p log deltas) → Event n p (on_deltas p log deltas).state (on_deltas p log deltas).outs
   unfolding takes
   slot_deltas n (phase.Active a) log deltas agrees owed = active_deltas n a log deltas agrees owed
   slot_deltas n (phase.Away epoch) log deltas agrees owed = event_same n (phase.Away epoch) [] agrees tt

@@ -99,7 +99,7 @@ module _ (logs : Bool) (members part most life : ℕ) (exists : part < 8) where
   serves_gave n s Registry gave agrees gets = still_serves n s agrees
 
   pub serves_deltas : (n : Net) (s : Serving) (from : NodeId) (deltas : Deltas) → TableAgrees members part n s.slots
-      → DeltasGets logs members part n from deltas
+      → DeltasGets logs members part n (phase_at s.slots part) from deltas
       → Of n s (on_deltas s (fed_log from) deltas)
   unfolding on_deltas
   serves_deltas n s (Client c) deltas agrees owed = by_table n s (table.on_deltas s.slots (record { 0 = c }) deltas)

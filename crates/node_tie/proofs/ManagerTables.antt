@@ -210,7 +210,7 @@ module _ (logs : Bool) (members part most life : ℕ) (exists : part < 8) where
       (λ other. other_takes logs members part most life n k (phase_at t k) (tokens.gave_input c gave) other refl (agrees.there k other))
 
   pub table_deltas : (n : Net) (t : Table) (log : LogId) (deltas : Deltas) → TableAgrees members part n t
-      → (deltas.slot ≡ part → Premise logs (DeltasJoin members part n log deltas))
+      → (deltas.slot ≡ part → Premise logs (DeltasJoin members part n (phase_at t part) log deltas))
       → TableEvent n t (table.on_deltas t log deltas).state (table.on_deltas t log deltas).outs
   unfolding table.on_deltas
   table_deltas n t log deltas agrees owed =

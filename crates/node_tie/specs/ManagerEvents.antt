@@ -192,10 +192,10 @@ abbrev pub ends_of : List Heard → ℕ → ℕ
 ends_of reports c = (end_from (Client c) reports).seq
 
 module _ (members part : ℕ) (n : Net) where
-  -- where Deltas join on to what the slot that reigns has applied, they cover its index
-  abbrev pub DeltasJoin : LogId → Deltas → Type 0
-  DeltasJoin log m =
-      (e : ℕ) (z : SlotState) → n.slots e ≡ Some z → IsLatest n e → joins_on (applied_of z.applied log.0) m.first m.upto ≡ true
+  -- where Deltas join on to what this slot has applied, and it reigns, they cover its index
+  abbrev pub DeltasJoin : SlotPhase → LogId → Deltas → Type 0
+  DeltasJoin p log m =
+      (e : ℕ) (z : SlotState) → HeldAt p e → n.slots e ≡ Some z → IsLatest n e → joins_on (applied_of z.applied log.0) m.first m.upto ≡ true
       → DeltasCover part n.books z log m.upto m.rows
 
   -- what a takeover gathered is so, where its slot reigns from then on
@@ -210,13 +210,13 @@ module _ (members part : ℕ) (n : Net) where
       → HasGathered (transition take given).state index
 
 module _ (logs : Bool) (members part : ℕ) (n : Net) where
-  -- where logs keep their word: Deltas of a client's log, or the cleaner's
-  abbrev pub DeltasGets : NodeId → Deltas → Type 0
-  DeltasGets (Client c) m = m.slot ≡ part → Premise logs (DeltasJoin members part n (record { 0 = c }) m)
-  DeltasGets (Manager c) m = Unit {0}
-  DeltasGets (Server c) m = Unit {0}
-  DeltasGets Cleaner m = m.slot ≡ part → Premise logs (DeltasJoin members part n (record { 0 = 9 }) m)
-  DeltasGets Registry m = Unit {0}
+  -- where logs keep their word: Deltas of a client's log, or the cleaner's, to a slot
+  abbrev pub DeltasGets : SlotPhase → NodeId → Deltas → Type 0
+  DeltasGets p (Client c) m = m.slot ≡ part → Premise logs (DeltasJoin members part n p (record { 0 = c }) m)
+  DeltasGets p (Manager c) m = Unit {0}
+  DeltasGets p (Server c) m = Unit {0}
+  DeltasGets p Cleaner m = m.slot ≡ part → Premise logs (DeltasJoin members part n p (record { 0 = 9 }) m)
+  DeltasGets p Registry m = Unit {0}
 
   -- what comes to a slot that is taken over
   abbrev pub TakeoverGets : SlotPhase → Input → Type 0
@@ -272,7 +272,7 @@ module _ (logs : Bool) (part most j : ℕ) (n : Net) where
   abbrev pub ServingGets : ℕ → ℕ → SlotPhase → NodeId → Body → Type 0
   ServingGets members life p from (body.Want m) = WantGets part n from m
   ServingGets members life p from (body.Gave m) = GaveGets part n from m
-  ServingGets members life p from (body.Deltas m) = DeltasGets logs members part n from m
+  ServingGets members life p from (body.Deltas m) = DeltasGets logs members part n p from m
   ServingGets members life p from (body.Report m) = ReportGets part n members from m × LastReportGets logs members part n p from m
   ServingGets members life p from (body.Fragment m) = FoundGets logs members part n p from m
   ServingGets members life p from (body.Missing m) = AbsentGets logs members part n p from m

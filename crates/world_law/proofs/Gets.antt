@@ -184,14 +184,14 @@ module _ (k : Cluster) (part : ℕ) (s : Scene) where
   report_gets Registry to m h = tt
 
   -- where logs may lose what they held, nothing is owed of what they tell
-  deltas_gets : (logs : Bool) (from : NodeId) (m : Deltas) → Premise logs (DeltasGets true (members k part) part s.net from m)
-      → DeltasGets logs (members k part) part s.net from m
-  deltas_gets true from m told = told
-  deltas_gets false (Client c) m told = λ of. tt
-  deltas_gets false (Manager c) m told = tt
-  deltas_gets false (Server c) m told = tt
-  deltas_gets false Cleaner m told = λ of. tt
-  deltas_gets false Registry m told = tt
+  deltas_gets : (logs : Bool) (p : SlotPhase) (from : NodeId) (m : Deltas) → Premise logs (DeltasGets true (members k part) part s.net p from m)
+      → DeltasGets logs (members k part) part s.net p from m
+  deltas_gets true p from m told = told
+  deltas_gets false p (Client c) m told = λ of. tt
+  deltas_gets false p (Manager c) m told = tt
+  deltas_gets false p (Server c) m told = tt
+  deltas_gets false p Cleaner m told = λ of. tt
+  deltas_gets false p Registry m told = tt
 
   takeover_gets : (p : SlotPhase) (given : Input) → TakeoverGets false (members k part) part s.net p given
   takeover_gets (phase.Taking t) given = tt
@@ -272,7 +272,7 @@ module _ (k : Cluster) (part : ℕ) (s : Scene) where
     serving_body logs v is sees from to (body.Recall m) h told = tt
     serving_body logs v is sees from to (body.Gave m) h told = gave_gets from to m h
     serving_body logs v is sees from to (body.Gone m) h told = tt
-    serving_body logs v is sees from to (body.Deltas m) h told = deltas_gets logs from m told
+    serving_body logs v is sees from to (body.Deltas m) h told = deltas_gets logs (slot_in part (Serves v)) from m told
     serving_body logs v is sees from to (body.DeltaAck m) h told = tt
     serving_body logs v is sees from to (body.Poll m) h told = tt
     serving_body logs v is sees from to (body.Report m) h told = (report_gets from to m h, last_gets logs (slot_in part (Serves v)) from m told)

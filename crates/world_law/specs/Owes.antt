@@ -36,7 +36,7 @@ module _ (part most : ℕ) (n : Net) where
 -- the Deltas that a slot takes, and what a takeover gathers
 module _ (members part : ℕ) (n : Net) where
   abbrev pub SlotTold : SlotPhase → NodeId → Body → Type 0
-  SlotTold p from (body.Deltas m) = DeltasGets true members part n from m
+  SlotTold p from (body.Deltas m) = DeltasGets true members part n p from m
   SlotTold p from (body.Report m) = LastReportGets true members part n p from m
   SlotTold p from (body.Fragment m) = FoundGets true members part n p from m
   SlotTold p from (body.Missing m) = AbsentGets true members part n p from m
