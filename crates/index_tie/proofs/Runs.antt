@@ -171,8 +171,12 @@ opens part holds any = record {
   views = λ b inside. begins any b part holds;
 }
 
+-- at each moment of a run the small world is seen
+pub good_in : (part : ℕ) (holds : SegRef → Rows) (any : ℕ → ℕ → Segment) (n : Net) → Runs part holds (opening any) n → Good part holds n
+good_in part holds any n run = runs_good part holds (opening any) n run (opens part holds any)
+
 good_always : (part : ℕ) (holds : SegRef → Rows) (n : Net) (b : BlockId) → Moment part holds n b → Good part holds n
-good_always part holds n b m = runs_good part holds (opening m.any) n m.run (opens part holds m.any)
+good_always part holds n b m = good_in part holds m.any n m.run
 
 -- ---- the laws
 

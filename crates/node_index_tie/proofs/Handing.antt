@@ -17,7 +17,7 @@ use Rattle.xfs_base.specs.declared.token.Mode.{Mode}
 use Rattle.checkpoint.specs.WriterState.{WorkState}
 use Rattle.node_index_tie.specs.Pages.{Desk}
 use Rattle.group_map.specs.GroupMapState.{GroupMapState}
-use Rattle.index_tie.specs.Net.{Net, with_slot, HasRead}
+use Rattle.index_tie.specs.Net.{Net, Happens, with_slot, HasRead}
 use Rattle.index_tie.specs.Net.Packet.{CleanerReported}
 use Rattle.index_tie.specs.Net.Happens.{Activates}
 use Rattle.index_tie.specs.Takeovers.{of_log, IsEnd, Linked}
@@ -185,7 +185,7 @@ module _ (part : ℕ) (texts : Texts) (asked : Questions) (named : ℕ → Type 
         let at = of_log_in k.news.horizon l some most in
         max_less (end_of later.reports l).seq (horizon_at k.news.horizon l - 1) u32_end last (omega arith)
 
-    module _ (hands : Hands later (transition t.take given).outs) (busy : Busy n) where
+    module _ (hands : Hands later (transition t.take given).outs) where
       abbrev epoch : ℕ
       epoch = later.news.epoch
 
@@ -243,12 +243,17 @@ module _ (part : ℕ) (texts : Texts) (asked : Questions) (named : ℕ → Type 
           (of_log_in (applied_of k.news.horizon r) l some most) ∙ applied_in k.news.horizon r l some most in
           subst (λ x. x < u32_end) (sym at) (subst (λ (s : TakeState). applied_at k.news.horizon s.reports l < u32_end) is_course (short l some most))
 
-      handed : Event part texts asked named desk n (phase.Taking t) (managed slot) []
-      handed =
+      -- the slot that it hands out becomes active in the small world
+      pub starts : Happens part (held_in part texts) n (with_slot n later.news.epoch
+          (slot_started later.news.epoch hands.index (beliefs_of later.reports) (applied_of later.news.horizon later.reports)))
+      starts =
+          Activates epoch k.news k.groups k.clients k.inputs given hands.index beliefs applied none (subst (λ x. 0 < x) (sym over.of_epoch) k.known.some)
+          (subst (λ x. x ≤ n.epoch) (sym over.of_epoch) k.known.begun) contains has
+
+      handed : Busy n → Event part texts asked named desk n (phase.Taking t) (managed slot) []
+      handed busy =
           sees_slot part texts asked named n (phase.Taking t) (managed slot) epoch slot [] (λ m. PhaseAgrees part texts m desk (managed slot))
-          (Activates epoch k.news k.groups k.clients k.inputs given hands.index beliefs applied none (subst (λ x. 0 < x) (sym over.of_epoch) k.known.some)
-          (subst (λ x. x ≤ n.epoch) (sym over.of_epoch) k.known.begun) contains has)
-          here (λ d at. here ∙ at) (let h = here in omega arith) tt
+          starts here (λ d at. here ∙ at) (let h = here in omega arith) tt
           (record {
             there = put_here n.slots epoch (Some slot);
             nine = nine later.news.horizon later.reports;

@@ -32,7 +32,7 @@ same_turned a b = both (same_block a b) (same_block b a) (same_symmetric a b) (s
 
 -- ---- parts
 
-neither : (x y : Bool) → (x || y) ≡ false → (x ≡ false) × (y ≡ false)
+pub neither : (x y : Bool) → (x || y) ≡ false → (x ≡ false) × (y ≡ false)
 neither true y h = contrary (sym h)
 neither false y h = (refl, h)
 

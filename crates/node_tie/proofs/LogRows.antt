@@ -14,7 +14,7 @@ use Rattle.node_tie.specs.LogRows.{told, row_told, rows_told}
 
 -- ---- places in a list
 
-get_past : {X : Type 0} (xs : List X) (k : ℕ) → length xs ≤ k → slice_get xs k ≡ None
+pub get_past : {X : Type 0} (xs : List X) (k : ℕ) → length xs ≤ k → slice_get xs k ≡ None
 get_past [] k h = refl
 get_past (x ∷ xs) zero h = absurd (omega arith)
 get_past (x ∷ xs) (suc k) h = get_past xs k (omega arith)
