@@ -11,10 +11,10 @@ mod JobsStay
 mod Laws
 mod Lines
 mod Registry
-mod Rows
+pub mod Rows
 mod RunExists
-mod Runs
+pub mod Runs
 pub mod Slots
 pub mod Tables
 pub mod Takeovers
-mod Views
+pub mod Views

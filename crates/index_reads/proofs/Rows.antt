@@ -1,0 +1,118 @@
+-- Of the items of a plain segment the row and the entry of each block say the same: at most one Delta is of the block, and both are made of that one.
+use Rattle.std.proofs.Common.{◌≡◌, ℕ, ◌<◌, ◌≤◌, ◌==◌, Bool, true, false, cond, List, [], ◌∷◌, Option, Some, None, length, unwrap_or, refl, sym, ap, subst, ◌∙◌, arith}
+use Rattle.std.specs.List.{AllByRecursion, filter_map, list_any, slice_get}
+use Rattle.std.proofs.lemmas.Bool.Decides.{nat_tests}
+use Rattle.xfs_base.proofs.BlockOrder.{same_block_exact}
+use Rattle.xfs_base.specs.Blocks.{same_block}
+use Rattle.xfs_base.specs.declared.block.BlockId.{BlockId}
+use Rattle.xfs_base.specs.declared.entry.Entry.{Entry}
+use Rattle.xfs_base.specs.declared.entry.Place.{Place}
+use Rattle.client_node.specs.Reads.{value_in}
+use Rattle.delta_index.specs.Entries.{no_entry, first_greatest}
+use Rattle.delta_index.specs.Join.{join}
+use Rattle.delta_index.proofs.EntryAlgebra.{first_greatest-none, first_greatest-newer}
+use Rattle.delta_index.proofs.JoinAlgebra.{join-cons, join-one, none-join}
+use Rattle.node_tie.specs.LogRows.{row_told}
+use Rattle.node_tie.proofs.ClientRows.{neither, same_turned}
+use Rattle.node_tie.proofs.LogRows.{get_past}
+use Rattle.segment_format.specs.Rows.{place_of, row_of}
+use Rattle.segment_format.specs.Rule.{no_item}
+use Rattle.segment_format.specs.declared.segment.Item.{Item}
+use Rattle.segment_format.specs.declared.segment.Item.TheVariants.{Block, Delta, Part}
+use Rattle.segment_format.specs.declared.segment.Segment.{Segment}
+use Rattle.token_law.specs.Books.{Row, AreOnce, row_in}
+use Rattle.index_reads.specs.Rows.{LiesIn, SaysSame, RowsAreEntries}
+
+-- an entry of a version is above none
+versioned : (e : Entry) → 0 < e.ver → first_greatest no_entry e ≡ e
+versioned e some = first_greatest-newer no_entry e (grind (arith, nat_tests))
+
+-- the join of one more row
+joined : (m : BlockId × Entry) (ms : List (BlockId × Entry)) (b : BlockId) (t : Bool) → same_block b m.0 ≡ t
+    → join (m ∷ ms) b ≡ first_greatest (cond t (first_greatest no_entry m.1) no_entry) (join ms b)
+joined m ms b t is = join-cons m ms b ∙ ap (λ e. first_greatest e (join ms b)) (join-one m b ∙ ap (λ t. cond t (first_greatest no_entry m.1) no_entry) is)
+
+module _ (s : Segment) where
+  abbrev told : List Item → List (BlockId × Row)
+  told items = filter_map (row_told s.items) items
+
+  abbrev entries : List Item → List (BlockId × Entry)
+  entries items = filter_map (row_of s) items
+
+  abbrev stands : BlockId → List Item → Bool
+  stands b items = list_any (λ (r : BlockId × Row). same_block b r.0) (told items)
+
+  -- of a block without a Delta there is no entry
+  none_said : (items : List Item) (b : BlockId) → stands b items ≡ false → join (entries items) b ≡ no_entry
+  none_said [] b none = refl
+  none_said (Block block value ∷ items) b none = none_said items b none
+  none_said (Part slot rows ∷ items) b none = none_said items b none
+  none_said (Delta block ver hop item ∷ items) b none =
+      let parts : (same_block b block ≡ false) × (stands b items ≡ false) = neither (same_block b block) (stands b items) none in
+      joined (block, record { ver = ver; hop = hop; place = place_of s item }) (entries items) b false parts.0
+      ∙ none-join (entries items) b ∙ none_said items b parts.1
+
+  nowhere : (place : Place) → None ≡ Some place → ⊥
+  nowhere place h = absurd (cc)
+
+  somewhere : (place : Place) → Some place ≡ None → ⊥
+  somewhere place h = absurd (cc)
+
+  one_place : (x y : Place) → Some x ≡ Some y → x ≡ y
+  one_place x y is = ap (λ (o : Option Place). unwrap_or o x) is
+
+  -- a Delta's item, where it names one, has its value
+  module _ (few : length s.items ≤ no_item) (ver hop item : ℕ) where
+    said : SaysSame s (record { version = ver; value = value_in (slice_get s.items item) }) (record { ver = ver; hop = hop; place = place_of s item })
+    said = by (item == no_item) refl
+      where
+        here : Place
+        here = record { seg = record { name = s.name; group = s.group }; item = item }
+
+        is_none : (a b : ℕ) → (a == b) ≡ true → a ≡ b
+        is_none a b h = grind (arith, nat_tests)
+
+        by : (t : Bool) → (item == no_item) ≡ t
+            → SaysSame s (record { version = ver; value = value_in (slice_get s.items item) })
+            (record { ver = ver; hop = hop; place = cond t None (Some here) })
+        by true is = record {
+          version = refl;
+          absent = λ _. ap value_in (ap (slice_get s.items) (is_none item no_item is) ∙ get_past s.items no_item few);
+          place = λ place lies. absurd (nowhere place lies);
+        }
+        by false is = record {
+          version = refl;
+          absent = λ none. absurd (somewhere here none);
+          place = λ place lies. subst (LiesIn s (value_in (slice_get s.items item))) (one_place here place lies)
+              (record { name = refl; group = refl; item = refl });
+        }
+
+  says : length s.items ≤ no_item → (items : List Item) (b : BlockId) → AreOnce (told items) → AllByRecursion (λ row. 0 < row.1.ver) (entries items)
+      → SaysSame s (row_in (told items) b) (join (entries items) b)
+  says few [] b once versions = record { version = refl; absent = λ _. refl; place = λ place lies. absurd (nowhere place lies) }
+  says few (Block block value ∷ items) b once versions = says few items b once versions
+  says few (Part slot rows ∷ items) b once versions = says few items b once versions
+  says few (Delta block ver hop item ∷ items) b once versions = by (same_block b block) refl (says few items b once.1 versions.1)
+    where
+      row : Row
+      row = record { version = ver; value = value_in (slice_get s.items item) }
+
+      entry : Entry
+      entry = record { ver = ver; hop = hop; place = place_of s item }
+
+      by : (t : Bool) → same_block b block ≡ t → SaysSame s (row_in (told items) b) (join (entries items) b)
+          → SaysSame s (cond (same_block block b) row (row_in (told items) b)) (join ((block, entry) ∷ entries items) b)
+      by true is rest =
+          let none : join (entries items) b ≡ no_entry =
+          none_said items b (subst (λ k. stands k items ≡ false) (same_block_exact b block is) once.0) in
+          let its : join ((block, entry) ∷ entries items) b ≡ entry =
+          joined (block, entry) (entries items) b true is ∙ ap (first_greatest (first_greatest no_entry entry)) none
+          ∙ first_greatest-none (first_greatest no_entry entry) ∙ versioned entry versions.0 in
+          subst (λ t. SaysSame s (cond t row (row_in (told items) b)) (join ((block, entry) ∷ entries items) b)) (sym (same_turned block b ∙ is))
+          (subst (SaysSame s row) (sym its) (said few ver hop item))
+      by false is rest =
+          subst (λ t. SaysSame s (cond t row (row_in (told items) b)) (join ((block, entry) ∷ entries items) b)) (sym (same_turned block b ∙ is))
+          (subst (SaysSame s (row_in (told items) b)) (sym (joined (block, entry) (entries items) b false is ∙ none-join (entries items) b)) rest)
+
+pub rows_are_entries : RowsAreEntries
+rows_are_entries s b plain versions = says s plain.few s.items b plain.once versions

@@ -1,0 +1,4 @@
+pub mod Rows
+pub mod Ties
+pub mod Clients
+pub mod Managers

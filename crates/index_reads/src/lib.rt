@@ -1,0 +1,36 @@
+//! What the two small worlds of one slot of the map give each other at a moment of both: that of tokens, which knows who may hold and write a block, and that
+//! of the index, which knows where its versions lie. `specs/Ties.antt` says how they tell of the same logs. It has no code: each function below has an empty
+//! body, and its contract is a law.
+#![tactic(auto)]
+
+ghost use Rattle.index_reads.specs.Clients.{FlightsAreNews, NothingIsNews};
+ghost use Rattle.index_reads.specs.Managers.{DeltasAreCovered, FoundGather, ManagersAreTold, MissingGather, ReportsGather};
+ghost use Rattle.index_reads.specs.Rows.{RowsAreEntries};
+
+/// What a segment says of a block to the one small world, a version and its value, it says to the other, a version and where it lies.
+pub fn rows_are_entries()
+    ensures { RowsAreEntries }
+{}
+
+/// What tokens give the index.
+///
+/// - `news`: what a client has in flight, or had when it fell, is newer than all that is filed of each block of the slot that it names, and at first hand.
+/// - `nothing`: a segment that says nothing of blocks is news of each.
+pub fn flights_are_news()
+    ensures news { FlightsAreNews }
+    ensures nothing { NothingIsNews }
+{}
+
+/// What the index gives tokens.
+///
+/// - `deltas`: Deltas that tell what their log filed cover the index of the slot that they join on to.
+/// - `reports`, `found`, `missing`: what a takeover gathered that a report, or an answer of a server, ends, is what was filed: each log up to its reported end
+///   at least, no further than it is filed, and of each block the newest version of that.
+/// - `events`: so each event of a manager that both small worlds see is owed what the small world of tokens asks of it.
+pub fn managers_are_told()
+    ensures deltas { DeltasAreCovered }
+    ensures reports { ReportsGather }
+    ensures found { FoundGather }
+    ensures missing { MissingGather }
+    ensures events { ManagersAreTold }
+{}
