@@ -23,7 +23,7 @@ use Rattle.xfs_base.specs.declared.node.NodeId.TheVariants.{Client, Manager, Ser
 use Rattle.index_reads.specs.Managers.{DeltasAreCovered}
 use Rattle.index_reads.specs.Ties.{Tied}
 use Rattle.index_reads.proofs.Deltas.{covers}
-use Rattle.index_reads.proofs.Worlds.{of_slot, some_block, good, same, its_block}
+use Rattle.index_reads.proofs.Worlds.{of_slot, some_block, good, same, begins, its_block}
 
 module _ (members part : ℕ) (texts : Texts) (t : tokens.Net) (i : index.Net) (tied : Tied members part (held_in part texts) t i) where
   none_there : (e : ℕ) (z : SlotState) → t.slots e ≡ None → t.slots e ≡ Some z → ⊥
@@ -54,7 +54,8 @@ module _ (members part : ℕ) (texts : Texts) (t : tokens.Net) (i : index.Net) (
           let v = (good members part holds t i tied).views b of in
           subst (λ rs. Covers t.books b l m.upto (entry_at z b) (entry_of rs b)) (sym (rows-indexed_all z.index m.rows))
           (subst (λ rs. Covers t.books b l m.upto (entry_of rs b) (entry_of (merged_all rs m.rows) b)) (sym rows)
-          (covers t.books i.filed (same members part holds t i tied) b v.state v.reached v.tells s l m.first m.upto m.rows (v.slots e s at)
+          (covers t.books i.filed (same members part holds t i tied) (begins members part holds t i tied) b v.state v.reached v.tells s l m.first m.upto m.rows
+          (v.slots e s at)
           (known.tells b of) here))
 
   joins_covered : (p : SlotPhase) (desk : Desk) (l : ℕ) (m : Deltas) → owners.PhaseAgrees members part t p → places.PhaseAgrees part texts i desk p

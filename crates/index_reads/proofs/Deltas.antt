@@ -20,7 +20,7 @@ use Rattle.token_law.specs.Owed.{Covers}
 use Rattle.token_manager.specs.Recalls.{applied_of}
 use Rattle.token_manager.specs.SlotState.{SlotState}
 use Rattle.token_manager.specs.Transition.{entry_at, joins_on}
-use Rattle.index_reads.proofs.Sayings.{Same, same_version, names_filed}
+use Rattle.index_reads.proofs.Sayings.{Same, BeginsAtOne, same_version, names_filed}
 
 no_gap : (applied first upto : ℕ) → joins_on applied first upto ≡ true → first ≤ suc applied
 no_gap applied first upto joins = grind (arith, nat_tests)
@@ -46,7 +46,8 @@ greatest_is a b = by (is_newer b a) refl
     by true is = record { first = grind (arith, nat_tests); second = omega arith; one = inr refl }
     by false is = record { first = omega arith; second = grind (arith, nat_tests); one = inl refl }
 
-module _ (k : Books) (f : Filed) (same : Same k f) (b : BlockId) (w : IndexState) (reached : IndexReached w) (tells : Tells b f w) where
+module _ (k : Books) (f : Filed) (same : Same k f) (begins : BeginsAtOne k) (b : BlockId) (w : IndexState) (reached : IndexReached w)
+    (tells : Tells b f w) where
   -- what a slot has applied is no newer than its entry
   pub applied_older : (s : SlotState) (l q : ℕ) → Manages b f w s → 0 < l → l ≤ 9 → q ≤ applied_of s.applied l → q ≤ f.head l
       → (said k l q b).version ≤ (entry_at s b).ver
@@ -55,7 +56,7 @@ module _ (k : Books) (f : Filed) (same : Same k f) (b : BlockId) (w : IndexState
       let newest = ((index_is_join_always w reached).each s.epoch m.active).newest l q (omega arith) in
       let named = m.index.version in
       let row = tells.version l q in
-      let version = same_version k f same b l q some most filed in
+      let version = same_version k f same b begins l q some most filed in
       omega arith
 
   pub covers : (s : SlotState) (l first upto : ℕ) (rows : List (BlockId × Entry)) → Manages b f w s → DeltasTell b f l first upto rows
@@ -72,7 +73,7 @@ module _ (k : Books) (f : Filed) (same : Same k f) (b : BlockId) (w : IndexState
           let row = tells.version l q in
           let its = ap (λ (x : Entry). x.ver) told.joined in
           let last = told.filed in
-          let version = same_version k f same b l q told.some told.known (omega arith) in
+          let version = same_version k f same b begins l q told.some told.known (omega arith) in
           omega arith
 
       row_of : (e : Entry) → IsOneOf (entry_at s b) (join rows b) e → (q : ℕ) → q ≤ upto → (q < first) ⊎ (first ≤ q) → (said k l q b).version ≤ e.ver

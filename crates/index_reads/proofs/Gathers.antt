@@ -41,7 +41,7 @@ use Rattle.xfs_base.specs.declared.node.NodeId.TheVariants.{Client, Cleaner}
 use Rattle.index_reads.specs.Ties.{Tied}
 use Rattle.index_reads.proofs.Deltas.{applied_older}
 use Rattle.index_reads.proofs.Sayings.{names_filed}
-use Rattle.index_reads.proofs.Worlds.{of_slot, some_block, same, its_block}
+use Rattle.index_reads.proofs.Worlds.{of_slot, some_block, same, begins, its_block}
 
 -- ---- what is applied, by log
 
@@ -107,7 +107,8 @@ module _ (members part : ℕ) (texts : Texts) (t : tokens.Net) (i : index.Net) (
         here : (l : ℕ) → 0 < l → l ≤ 9 → q ≤ applied l → (said t.books l q b).version ≤ (entry_at slot b).ver
         here l more most within =
             let v = good.views b (of_slot part b inside) in
-            applied_older t.books i.filed (same members part (held_in part texts) t i tied) b v.state v.reached v.tells slot l q
+            applied_older t.books i.filed (same members part (held_in part texts) t i tied)
+            (begins members part (held_in part texts) t i tied) b v.state v.reached v.tells slot l q
             (v.slots e slot at) more most within
             (let filed = applied_filed l more most in omega arith)
 
@@ -116,7 +117,7 @@ module _ (members part : ℕ) (texts : Texts) (t : tokens.Net) (i : index.Net) (
         past l (inr above) more within =
             let none = nothing_applied horizon reports l above in
             let first : q ≡ 0 = omega arith in
-            let unsaid : t.books.rows l q ≡ [] = ap (t.books.rows l) first ∙ (same members part (held_in part texts) t i tied).first l in
+            let unsaid : t.books.rows l q ≡ [] = ap (t.books.rows l) first ∙ begins members part (held_in part texts) t i tied l in
             let nothing = ap (λ xs. (row_in xs b).version) unsaid in
             omega arith
 

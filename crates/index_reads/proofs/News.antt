@@ -21,7 +21,7 @@ use Rattle.index_reads.specs.Clients.{IsFlight, FlightsAreNews, NothingIsNews}
 use Rattle.index_reads.specs.Ties.{Tied}
 use Rattle.index_reads.proofs.Rows.{rows_are_entries}
 use Rattle.index_reads.proofs.Sayings.{same_version, of_log}
-use Rattle.index_reads.proofs.Worlds.{same}
+use Rattle.index_reads.proofs.Worlds.{same, begins}
 
 module _ (members part : ℕ) (holds : SegRef → Rows) (t : tokens.Net) (i : index.Net) (tied : Tied members part holds t i) (c : ℕ) (s : Segment)
     (is : IsClient members c) (flight : IsFlight t c s) (b : BlockId) (inside : slot_of b.ino.0 ≡ part) where
@@ -37,7 +37,7 @@ module _ (members part : ℕ) (holds : SegRef → Rows) (t : tokens.Net) (i : in
       by (suc v) has =
           let tells = same members part holds t i tied in
           let at = of_log t.books i.filed tells b l q (omega arith) in
-          let version = same_version t.books i.filed tells b l q at.some at.most at.to in
+          let version = same_version t.books i.filed tells b (begins members part holds t i tied) l q at.some at.most at.to in
           let end = tied.books.end l at.some at.most in
           let to = at.to in
           let its = flown in

@@ -1,8 +1,11 @@
 -- Of the items of a plain segment the row and the entry of each block say the same: at most one Delta is of the block, and both are made of that one.
-use Rattle.std.proofs.Common.{◌≡◌, ℕ, ◌<◌, ◌≤◌, ◌==◌, Bool, true, false, cond, List, [], ◌∷◌, Option, Some, None, length, unwrap_or, refl, sym, ap, subst, ◌∙◌, arith}
+use Rattle.std.proofs.Common.{◌≡◌, ℕ, ◌<◌, ◌≤◌, ◌==◌, Bool, true, false, cond, List, [], ◌∷◌, ⊎_elim, Option, Some, None, length, unwrap_or, refl, sym, ap, subst, ◌∙◌, arith}
+use Rattle.std.specs.Prelude.{Contains}
 use Rattle.std.specs.List.{AllByRecursion, filter_map, list_any, slice_get}
 use Rattle.std.proofs.lemmas.Bool.Decides.{nat_tests}
-use Rattle.xfs_base.proofs.BlockOrder.{same_block_exact}
+use Rattle.xfs_base.proofs.BlockOrder.{same_block_exact, same_block_itself}
+use Rattle.xfs_base.proofs.Booleans.{contrary, or_first, or_second}
+use Rattle.xfs_base.proofs.Members.{contains_nothing, contains_cases}
 use Rattle.xfs_base.specs.Blocks.{same_block}
 use Rattle.xfs_base.specs.declared.block.BlockId.{BlockId}
 use Rattle.xfs_base.specs.declared.entry.Entry.{Entry}
@@ -21,7 +24,7 @@ use Rattle.segment_format.specs.declared.segment.Item.{Item}
 use Rattle.segment_format.specs.declared.segment.Item.TheVariants.{Block, Delta, Part}
 use Rattle.segment_format.specs.declared.segment.Segment.{Segment}
 use Rattle.token_law.specs.Books.{Row, AreOnce, row_in}
-use Rattle.index_reads.specs.Rows.{LiesIn, SaysSame, RowsAreEntries}
+use Rattle.index_reads.specs.Rows.{LiesIn, SaysSame, RowsAreEntries, DeltasAreSaid}
 
 -- an entry of a version is above none
 versioned : (e : Entry) → 0 < e.ver → first_greatest no_entry e ≡ e
@@ -51,6 +54,14 @@ module _ (s : Segment) where
       let parts : (same_block b block ≡ false) × (stands b items ≡ false) = neither (same_block b block) (stands b items) none in
       joined (block, record { ver = ver; hop = hop; place = place_of s item }) (entries items) b false parts.0
       ∙ none-join (entries items) b ∙ none_said items b parts.1
+
+  -- the first Delta's entry is what they say of its block
+  first_said : (items : List Item) (block : BlockId) (entry : Entry) → stands block items ≡ false → 0 < entry.ver
+      → join ((block, entry) ∷ entries items) block ≡ entry
+  first_said items block entry once some =
+      joined (block, entry) (entries items) block true (same_block_itself block)
+      ∙ ap (first_greatest (first_greatest no_entry entry)) (none_said items block once)
+      ∙ first_greatest-none (first_greatest no_entry entry) ∙ versioned entry some
 
   nowhere : (place : Place) → None ≡ Some place → ⊥
   nowhere place h = absurd (cc)
@@ -103,16 +114,48 @@ module _ (s : Segment) where
       by : (t : Bool) → same_block b block ≡ t → SaysSame s (row_in (told items) b) (join (entries items) b)
           → SaysSame s (cond (same_block block b) row (row_in (told items) b)) (join ((block, entry) ∷ entries items) b)
       by true is rest =
-          let none : join (entries items) b ≡ no_entry =
-          none_said items b (subst (λ k. stands k items ≡ false) (same_block_exact b block is) once.0) in
           let its : join ((block, entry) ∷ entries items) b ≡ entry =
-          joined (block, entry) (entries items) b true is ∙ ap (first_greatest (first_greatest no_entry entry)) none
-          ∙ first_greatest-none (first_greatest no_entry entry) ∙ versioned entry versions.0 in
+          subst (λ k. join ((block, entry) ∷ entries items) k ≡ entry) (same_block_exact b block is) (first_said items block entry once.0 versions.0) in
           subst (λ t. SaysSame s (cond t row (row_in (told items) b)) (join ((block, entry) ∷ entries items) b)) (sym (same_turned block b ∙ is))
           (subst (SaysSame s row) (sym its) (said few ver hop item))
       by false is rest =
           subst (λ t. SaysSame s (cond t row (row_in (told items) b)) (join ((block, entry) ∷ entries items) b)) (sym (same_turned block b ∙ is))
           (subst (SaysSame s (row_in (told items) b)) (sym (joined (block, entry) (entries items) b false is ∙ none-join (entries items) b)) rest)
 
+  -- ---- each Delta's entry is what the segment says
+
+  -- a block of which there is an entry stands in it
+  stands_said : (items : List Item) (b : BlockId) (e : Entry) → Contains (entries items) (b, e) → stands b items ≡ true
+  stands_said [] b e has = absurd (contains_nothing (b, e) has)
+  stands_said (Block block value ∷ items) b e has = stands_said items b e has
+  stands_said (Part slot rows ∷ items) b e has = stands_said items b e has
+  stands_said (Delta block ver hop item ∷ items) b e has =
+      ⊎_elim
+      (λ first. or_first (same_block b block) (stands b items)
+      (subst (λ (m : BlockId × Entry). same_block m.0 block ≡ true) first (same_block_itself block)))
+      (λ rest. or_second (same_block b block) (stands b items) (stands_said items b e rest))
+      (contains_cases (block, record { ver = ver; hop = hop; place = place_of s item }) (b, e) (entries items) has)
+
+  is_said : (items : List Item) (b : BlockId) (e : Entry) → AreOnce (told items) → AllByRecursion (λ row. 0 < row.1.ver) (entries items)
+      → Contains (entries items) (b, e) → join (entries items) b ≡ e
+  is_said [] b e once versions has = absurd (contains_nothing (b, e) has)
+  is_said (Block block value ∷ items) b e once versions has = is_said items b e once versions has
+  is_said (Part slot rows ∷ items) b e once versions has = is_said items b e once versions has
+  is_said (Delta block ver hop item ∷ items) b e once versions has =
+      ⊎_elim
+      (λ first. subst (λ (m : BlockId × Entry). join ((block, entry) ∷ entries items) m.0 ≡ m.1) first (first_said items block entry once.0 versions.0))
+      (λ rest. behind (same_block b block) refl (stands_said items b e rest) (is_said items b e once.1 versions.1 rest))
+      (contains_cases (block, entry) (b, e) (entries items) has)
+    where
+      entry : Entry
+      entry = record { ver = ver; hop = hop; place = place_of s item }
+
+      behind : (t : Bool) → same_block b block ≡ t → stands b items ≡ true → join (entries items) b ≡ e → join ((block, entry) ∷ entries items) b ≡ e
+      behind true is there rest = contrary (sym once.0 ∙ ap (λ k. stands k items) (same_block_exact b block is) ∙ there)
+      behind false is there rest = joined (block, entry) (entries items) b false is ∙ none-join (entries items) b ∙ rest
+
 pub rows_are_entries : RowsAreEntries
 rows_are_entries s b plain versions = says s plain.few s.items b plain.once versions
+
+pub deltas_are_said : DeltasAreSaid
+deltas_are_said s b e plain versions has = is_said s s.items b e plain.once versions has

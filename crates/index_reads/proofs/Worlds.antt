@@ -13,7 +13,7 @@ use Rattle.xfs_base.specs.Blocks.{slot_of}
 use Rattle.xfs_base.specs.declared.block.BlockId.{BlockId}
 use Rattle.xfs_base.specs.declared.segment.SegRef.{SegRef}
 use Rattle.index_reads.specs.Ties.{Tied}
-use Rattle.index_reads.proofs.Sayings.{Same}
+use Rattle.index_reads.proofs.Sayings.{Same, BeginsAtOne}
 
 -- the two tests of a block's slot are one
 pub of_slot : (part : ℕ) (b : BlockId) → is_in_slot part b ≡ true → slot_of b.ino.0 ≡ part
@@ -28,12 +28,10 @@ module _ (members part : ℕ) (holds : SegRef → Rows) (t : tokens.Net) (i : in
   good = good_in part holds tied.any i tied.index_run
 
   pub same : Same t.books i.filed
-  same = record {
-    books = tied.books;
-    plain = tied.plain;
-    filed = good.filed;
-    first = (always true members part t tied.some tied.tokens_run).sure.books.first;
-  }
+  same = record { books = tied.books; plain = tied.plain; filed = good.filed }
+
+  pub begins : BeginsAtOne t.books
+  begins = (always true members part t tied.some tied.tokens_run).sure.books.first
 
   pub its_block : slot_of (some_block part).ino.0 ≡ part
   unfolding some_block

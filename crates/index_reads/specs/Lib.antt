@@ -1,4 +1,5 @@
 pub mod Rows
 pub mod Ties
+pub mod Places
 pub mod Clients
 pub mod Managers

@@ -1,5 +1,5 @@
 -- What a segment says of a block, as the small world of tokens has it, a version and a value, and as that of the index has it, a version and where it lies.
-use Rattle.std.specs.Prelude.{◌≡◌, ◌<◌, ◌≤◌, ℕ, List, Option, Some, None, length}
+use Rattle.std.specs.Prelude.{◌≡◌, ◌<◌, ◌≤◌, ℕ, List, Option, Some, None, Contains, length}
 use Rattle.std.specs.List.{AllByRecursion}
 use Rattle.client_node.specs.Reads.{value_at}
 use Rattle.index_tie.specs.Growth.{said_of}
@@ -33,6 +33,10 @@ pub record SaysSame (s : Segment) (row : Row) (entry : Entry) : Type 0 where
   pub version : row.version ≡ entry.ver
   pub absent : entry.place ≡ None → row.value ≡ None
   pub place : (place : Place) → entry.place ≡ Some place → LiesIn s row.value place
+
+-- each Delta of the segment is what it says of the Delta's block
+abbrev pub DeltasAreSaid : Type 0
+DeltasAreSaid = (s : Segment) (b : BlockId) (e : Entry) → IsPlain s → AreVersioned s → Contains (rows_of s) (b, e) → said_of s b ≡ e
 
 -- What a segment says of a block to the one small world it says to the other.
 abbrev pub RowsAreEntries : Type 0

@@ -5,11 +5,18 @@
 
 ghost use Rattle.index_reads.specs.Clients.{FlightsAreNews, NothingIsNews};
 ghost use Rattle.index_reads.specs.Managers.{DeltasAreCovered, FoundGather, ManagersAreTold, MissingGather, ReportsGather};
-ghost use Rattle.index_reads.specs.Rows.{RowsAreEntries};
+ghost use Rattle.index_reads.specs.Places.{PlacesAreKept};
+ghost use Rattle.index_reads.specs.Rows.{DeltasAreSaid, RowsAreEntries};
 
 /// What a segment says of a block to the one small world, a version and its value, it says to the other, a version and where it lies.
+///
+/// - `entries`: of each block both are of one version, and where it lies in the segment there is its value.
+/// - `deltas`: each Delta of the segment is what it says of the Delta's block.
+/// - `places`: where a filed segment says that a version lies at a place, the books have that version there, with the value of the item.
 pub fn rows_are_entries()
-    ensures { RowsAreEntries }
+    ensures entries { RowsAreEntries }
+    ensures deltas { DeltasAreSaid }
+    ensures places { PlacesAreKept }
 {}
 
 /// What tokens give the index.

@@ -1,5 +1,6 @@
-use Rattle.index_reads.proofs.Rows.{rows_are_entries}
+use Rattle.index_reads.proofs.Rows.{rows_are_entries, deltas_are_said}
+use Rattle.index_reads.proofs.Sayings.{places_are_kept}
 use Rattle.index_reads.proofs.rows_are_entries.Goals as goal
 
 pub returns : goal.returns
-returns c = rows_are_entries
+returns c = record { entries = rows_are_entries; deltas = deltas_are_said; places = places_are_kept }
