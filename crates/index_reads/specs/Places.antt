@@ -15,7 +15,8 @@ module _ (k : Books) (f : Filed) (b : BlockId) (ver : ℕ) (place : Place) where
   abbrev seq : ℕ
   seq = place.seg.name.seq
 
-  -- The log of the place has filed its segment, under that name; of the block the books have this version there, and the value of the item that the place names.
+  -- The log of the place has filed its segment, under that name; of the block the books have this version there, and the value of the item that the place
+  -- names.
   pub record IsKept : Type 0 where
     pub filed : seq ≤ k.end log
     pub name : (f.segment log seq).name ≡ place.seg.name
