@@ -5,6 +5,7 @@ pub mod Follow
 pub mod Fitting
 pub mod Flights
 pub mod Packets
+pub mod Parts
 pub mod Phases
 pub mod Reads
 pub mod Running

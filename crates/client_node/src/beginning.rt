@@ -1,12 +1,14 @@
 //! The next item of a client begins.
-ghost use Rattle.std.specs.Prelude.{◌≡◌, ◌++◌, IfOk, OnOk};
+ghost use Rattle.std.specs.Prelude.{◌≡◌, ◌++◌, ℕ, IfOk, OnOk};
 ghost use Rattle.client_node.specs.declared.phase.Phase.TheVariants.{Down, Opening as Opens, Serving as Serves};
+ghost use Rattle.client_node.specs.Parts.{after_down, after_opening, after_serving};
+ghost use Rattle.client_node.specs.Phases.{wish_at, on_begin, down_begins, opening_begins, serving_begins, crashed, next_life, restarted};
+ghost use Rattle.log_owner.specs.declared.opening.Opening.{Opening as AnOpening};
 ghost use Rattle.node_base.specs.Beginning.{answered};
-ghost use Rattle.client_node.specs.Phases.{wish_at, on_begin, down_begins, opening_begins, serving_begins, serving_crashes, answers, opens, crashed, next_life, restarted};
 
-use crate::{Lasting, Phase, Serving};
+use crate::{Lasting, Serving};
 use log_owner::{Opening, Owner};
-use node_base::{Effects, Peers};
+use node_base::Effects;
 use std::alloc::Global;
 use version_model::{Answer, Work};
 use xfs_base::Mem;
@@ -32,105 +34,115 @@ fn wish_at(lasting: &Lasting, number: u32) -> Wish
     }
 }
 
-/// The next item of a client that is down: a restart, and all else is refused.
+/// The next item of a client that is down: a restart, and all else is refused. The opening of its log, where
+/// it restarts.
 #[tactic(auto, unfolding(crate::specs::Phases::on_begin))]
 pub(crate) fn begin_down(
     alloc: Global,
     effects: &mut Effects,
-    peers: Peers,
-    lasting: Lasting,
-) -> Mem<Phase>
-    ensures phase { IfOk result (λ phase. phase ≡ (on_begin peers.servers (Down lasting)).state) }
-    ensures effects { OnOk result (effects.new ≡ effects.old ++ (on_begin peers.servers (Down lasting)).outs) }
+    servers: u8,
+    lasting: &mut Lasting,
+) -> Mem<Option<Opening>>
+    ensures phase { IfOk result (λ opening. after_down lasting.new opening ≡ (on_begin servers (Down lasting.old)).state) }
+    ensures effects { OnOk result (effects.new ≡ effects.old ++ (on_begin servers (Down lasting.old)).outs) }
 {
-    let mut lasting = lasting;
     let Some(number) = lasting.items.begin() else {
-        return Ok(Phase::Down(lasting));
+        return Ok(None);
     };
-    let wish = wish_at(&lasting, number);
-    down_begins(alloc, effects, peers, lasting, number, wish)
+    let wish = wish_at(lasting, number);
+    down_begins(alloc, effects, servers, lasting, number, wish)
 }
 
 fn down_begins(
     alloc: Global,
     effects: &mut Effects,
-    peers: Peers,
-    lasting: Lasting,
+    servers: u8,
+    lasting: &mut Lasting,
     number: u32,
     wish: Wish,
-) -> Mem<Phase>
-    ensures phase { IfOk result (λ phase. phase ≡ (down_begins peers.servers lasting number wish).state) }
-    ensures effects { OnOk result (effects.new ≡ effects.old ++ (down_begins peers.servers lasting number wish).outs) }
+) -> Mem<Option<Opening>>
+    ensures phase { IfOk result (λ opening. after_down lasting.new opening ≡ (down_begins servers lasting.old number wish).state) }
+    ensures effects { OnOk result (effects.new ≡ effects.old ++ (down_begins servers lasting.old number wish).outs) }
 {
     match wish {
-        Wish::Restart => restart(alloc, effects, peers, lasting, number),
-        Wish::Crash | Wish::Call => answer(effects, Phase::Down(lasting), number, Answer::Down),
+        Wish::Restart => Ok(Some(restart(alloc, effects, servers, lasting, number)?)),
+        Wish::Crash | Wish::Call => {
+            effects.answer(number, Answer::Down)?;
+            Ok(None)
+        }
     }
 }
 
-/// The next item of a client that opens its log: a crash, and all else is refused.
-#[tactic(auto, unfolding(crate::specs::Phases::on_begin))]
-pub(crate) fn begin_opening(
+// The client starts again: its log is opened again.
+fn restart(
+    alloc: Global,
     effects: &mut Effects,
-    peers: Peers,
-    lasting: Lasting,
-    opening: Opening,
-) -> Mem<Phase>
-    ensures phase { IfOk result (λ phase. phase ≡ (on_begin peers.servers (Opens lasting opening)).state) }
-    ensures effects { OnOk result (effects.new ≡ effects.old ++ (on_begin peers.servers (Opens lasting opening)).outs) }
+    servers: u8,
+    lasting: &mut Lasting,
+    number: u32,
+) -> Mem<Opening>
+    ensures phase { IfOk result (λ opening. Opens lasting.new opening ≡ (restarted servers (next_life lasting.old number)).state) }
+    ensures effects { OnOk result (effects.new ≡ effects.old ++ (restarted servers (next_life lasting.old number)).outs) }
 {
-    let mut lasting = lasting;
-    let Some(number) = lasting.items.begin() else {
-        return Ok(Phase::Opening(lasting, opening));
+    lasting.live_on(number);
+    let owner = Owner {
+        log: lasting.log(),
+        inc: lasting.inc,
     };
-    let wish = wish_at(&lasting, number);
-    opening_begins(effects, lasting, opening, number, wish)
+    Opening::start(alloc, effects, &mut lasting.questions, owner, servers)
+}
+
+/// The next item of a client that opens its log: a crash, and all else is refused. Whether it crashed.
+#[tactic(auto, unfolding(crate::specs::Phases::on_begin))]
+pub(crate) fn begin_opening(effects: &mut Effects, lasting: &mut Lasting) -> Mem<bool>
+    ensures phase { IfOk result (λ down. (servers : ℕ) (o : AnOpening) → after_opening lasting.new o down ≡ (on_begin servers (Opens lasting.old o)).state) }
+    ensures effects { OnOk result ((servers : ℕ) (o : AnOpening) → effects.new ≡ effects.old ++ (on_begin servers (Opens lasting.old o)).outs) }
+{
+    let Some(number) = lasting.items.begin() else {
+        return Ok(false);
+    };
+    let wish = wish_at(lasting, number);
+    opening_begins(effects, lasting, number, wish)
 }
 
 fn opening_begins(
     effects: &mut Effects,
-    lasting: Lasting,
-    opening: Opening,
+    lasting: &mut Lasting,
     number: u32,
     wish: Wish,
-) -> Mem<Phase>
-    ensures phase { IfOk result (λ phase. phase ≡ (opening_begins lasting opening number wish).state) }
-    ensures effects { OnOk result (effects.new ≡ effects.old ++ (opening_begins lasting opening number wish).outs) }
+) -> Mem<bool>
+    ensures phase { IfOk result (λ down. (o : AnOpening) → after_opening lasting.new o down ≡ (opening_begins lasting.old o number wish).state) }
+    ensures effects { OnOk result ((o : AnOpening) → effects.new ≡ effects.old ++ (opening_begins lasting.old o number wish).outs) }
 {
     match wish {
         Wish::Crash => {
-            drop(opening);
-            crash(effects, lasting, number)
+            cut(effects, lasting, number)?;
+            Ok(true)
         }
-        Wish::Restart => answer(
-            effects,
-            Phase::Opening(lasting, opening),
-            number,
-            Answer::Up,
-        ),
-        Wish::Call => answer(
-            effects,
-            Phase::Opening(lasting, opening),
-            number,
-            Answer::Down,
-        ),
+        Wish::Restart => {
+            effects.answer(number, Answer::Up)?;
+            Ok(false)
+        }
+        Wish::Call => {
+            effects.answer(number, Answer::Down)?;
+            Ok(false)
+        }
     }
 }
 
-/// The next item of a client that serves.
+/// The next item of a client that serves. Whether it crashed.
 #[tactic(auto, unfolding(crate::specs::Phases::on_begin))]
 pub(crate) fn begin_serving(
     alloc: Global,
     effects: &mut Effects,
-    peers: Peers,
-    serving: Serving,
-) -> Mem<Phase>
-    ensures phase { IfOk result (λ phase. phase ≡ (on_begin peers.servers (Serves serving)).state) }
-    ensures effects { OnOk result (effects.new ≡ effects.old ++ (on_begin peers.servers (Serves serving)).outs) }
+    servers: u8,
+    serving: &mut Serving,
+) -> Mem<bool>
+    ensures phase { IfOk result (λ down. after_serving serving.new down ≡ (on_begin servers (Serves serving.old)).state) }
+    ensures effects { OnOk result (effects.new ≡ effects.old ++ (on_begin servers (Serves serving.old)).outs) }
 {
-    let mut serving = serving;
     let Some(number) = serving.lasting.items.begin() else {
-        return Ok(Phase::Serving(serving));
+        return Ok(false);
     };
     let wish = wish_at(&serving.lasting, number);
     serving_begins(alloc, effects, serving, number, wish)
@@ -139,50 +151,32 @@ pub(crate) fn begin_serving(
 fn serving_begins(
     alloc: Global,
     effects: &mut Effects,
-    serving: Serving,
+    serving: &mut Serving,
     number: u32,
     wish: Wish,
-) -> Mem<Phase>
-    ensures phase { IfOk result (λ phase. phase ≡ (serving_begins serving number wish).state) }
-    ensures effects { OnOk result (effects.new ≡ effects.old ++ (serving_begins serving number wish).outs) }
+) -> Mem<bool>
+    ensures phase { IfOk result (λ down. after_serving serving.new down ≡ (serving_begins serving.old number wish).state) }
+    ensures effects { OnOk result (effects.new ≡ effects.old ++ (serving_begins serving.old number wish).outs) }
 {
     match wish {
-        Wish::Crash => crash_serving(alloc, effects, serving, number),
-        Wish::Restart => answer(effects, Phase::Serving(serving), number, Answer::Up),
-        Wish::Call => open(alloc, effects, serving, number),
-    }
-}
-
-fn open(alloc: Global, effects: &mut Effects, serving: Serving, number: u32) -> Mem<Phase>
-    ensures phase { IfOk result (λ phase. phase ≡ Serves (opens serving number).state) }
-    ensures effects { OnOk result (effects.new ≡ effects.old ++ (opens serving number).outs) }
-{
-    let mut serving = serving;
-    match serving.open(alloc, effects, number) {
-        Ok(()) => Ok(Phase::Serving(serving)),
-        Err(error) => {
-            drop(serving);
-            Err(error)
+        Wish::Crash => {
+            serving.fall(alloc, effects)?;
+            cut(effects, &mut serving.lasting, number)?;
+            Ok(true)
+        }
+        Wish::Restart => {
+            effects.answer(number, Answer::Up)?;
+            Ok(false)
+        }
+        Wish::Call => {
+            serving.open(alloc, effects, number)?;
+            Ok(false)
         }
     }
 }
 
-// A client that serves crashes: what it may lose is acted.
-fn crash_serving(alloc: Global, effects: &mut Effects, serving: Serving, number: u32) -> Mem<Phase>
-    ensures phase { IfOk result (λ phase. phase ≡ (serving_crashes serving number).state) }
-    ensures effects { OnOk result (effects.new ≡ effects.old ++ (serving_crashes serving number).outs) }
-{
-    match serving.fall(alloc, effects) {
-        Ok(()) => crash(effects, what_outlives(serving), number),
-        Err(error) => {
-            drop(serving);
-            Err(error)
-        }
-    }
-}
-
-// All else is lost.
-fn what_outlives(serving: Serving) -> Lasting
+/// What is left of a client that served, once it has crashed: all else is lost.
+pub(crate) fn what_outlives(serving: Serving) -> Lasting
     ensures { result ≡ serving.lasting }
 {
     let Serving {
@@ -204,75 +198,11 @@ fn what_outlives(serving: Serving) -> Lasting
     lasting
 }
 
-// The item is answered at its begin, and nothing changes.
-fn answer(effects: &mut Effects, phase: Phase, number: u32, answer: Answer) -> Mem<Phase>
-    ensures phase { IfOk result (λ after. after ≡ (answers phase number answer).state) }
-    ensures effects { OnOk result (effects.new ≡ effects.old ++ (answers phase number answer).outs) }
-{
-    match effects.answer(number, answer) {
-        Ok(()) => Ok(phase),
-        Err(error) => {
-            drop(phase);
-            Err(error)
-        }
-    }
-}
-
-// The client crashes: the item that is open is cut.
-fn crash(effects: &mut Effects, lasting: Lasting, number: u32) -> Mem<Phase>
-    ensures phase { IfOk result (λ phase. phase ≡ (crashed lasting number).state) }
-    ensures effects { OnOk result (effects.new ≡ effects.old ++ (crashed lasting number).outs) }
-{
-    let mut lasting = lasting;
-    match cut(effects, &mut lasting, number) {
-        Ok(()) => Ok(Phase::Down(lasting)),
-        Err(error) => {
-            drop(lasting);
-            Err(error)
-        }
-    }
-}
-
-// The item that is open is cut, and that of the crash is answered.
+// The client crashes: the item that is open is cut, and that of the crash is answered.
 fn cut(effects: &mut Effects, lasting: &mut Lasting, number: u32) -> Mem<()>
     ensures lasting { OnOk result (lasting.new ≡ record lasting.old { items = answered lasting.old.items }) }
     ensures effects { OnOk result (effects.new ≡ effects.old ++ (crashed lasting.old number).outs) }
 {
     lasting.answer(effects, Answer::Cut)?;
     effects.answer(number, Answer::Done)
-}
-
-// The client starts again.
-fn restart(
-    alloc: Global,
-    effects: &mut Effects,
-    peers: Peers,
-    lasting: Lasting,
-    number: u32,
-) -> Mem<Phase>
-    ensures phase { IfOk result (λ phase. phase ≡ (restarted peers.servers (next_life lasting number)).state) }
-    ensures effects { OnOk result (effects.new ≡ effects.old ++ (restarted peers.servers (next_life lasting number)).outs) }
-{
-    let mut lasting = lasting;
-    lasting.live_on(number);
-    open_log(alloc, effects, peers.servers, lasting)
-}
-
-// The log is opened again.
-fn open_log(alloc: Global, effects: &mut Effects, servers: u8, lasting: Lasting) -> Mem<Phase>
-    ensures phase { IfOk result (λ phase. phase ≡ (restarted servers lasting).state) }
-    ensures effects { OnOk result (effects.new ≡ effects.old ++ (restarted servers lasting).outs) }
-{
-    let mut lasting = lasting;
-    let owner = Owner {
-        log: lasting.log(),
-        inc: lasting.inc,
-    };
-    match Opening::start(alloc, effects, &mut lasting.questions, owner, servers) {
-        Ok(opening) => Ok(Phase::Opening(lasting, opening)),
-        Err(error) => {
-            drop(lasting);
-            Err(error)
-        }
-    }
 }

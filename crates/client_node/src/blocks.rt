@@ -1,16 +1,25 @@
 //! Calls on blocks.
-ghost use Rattle.std.specs.Prelude.{◌≡◌, ◌+◌, ◌++◌, IfOk, OnOk, true};
-ghost use Rattle.client_node.specs.Blocks.{gets, got, value_of, puts, puts_at, puts_again, syncs, synced_acts, synced_answer, is_settled, needs, wrote, put_of, changes, changes_if_fits, lets_go, makes};
+ghost use Rattle.std.specs.Prelude.{◌≡◌, ◌+◌, ◌++◌, ◌∷◌, [], ◌==◌, ◌&&◌, if◌then◌else◌, is_none, length, IfOk, OnOk, None, Some, true};
+ghost use Rattle.client_node.specs.Blocks.{gets, value_of, puts, puts_at, puts_again, syncs, needs, put_of, changes, changes_if_fits, lets_go, makes};
 ghost use Rattle.client_node.specs.Fitting.{put_fits};
 ghost use Rattle.client_node.specs.Flights.{held_at};
+ghost use Rattle.coop_cache.specs.Transition.{left};
+ghost use Rattle.file_plan.specs.declared.block_call.BlockAnswer.TheVariants.{Got, Synced as WasSynced};
+ghost use Rattle.node_base.specs.declared.effects.Effect.TheVariants.{Does};
 ghost use Rattle.token_client.specs.Held.{may_write};
+ghost use Rattle.token_client.specs.State.{held_of};
+ghost use Rattle.token_client.specs.Transition.{on_wrote};
+ghost use Rattle.version_model.specs.declared.act.Act.TheVariants.{Read, Synced};
 
 use crate::Serving;
 use crate::fitting::{is_value, is_word};
+use crate::flights::seal;
+use client_log::Log;
+use coop_cache::Cache;
 use file_plan::{BlockAnswer, BlockCall};
 use node_base::Effects;
 use std::alloc::Global;
-use token_client::In;
+use token_client::{In, Tokens};
 use version_model::Act;
 use xfs_base::{BlockId, Entry, Mem, Mode, Value};
 
@@ -51,40 +60,9 @@ impl Serving {
         if self.tokens.mode(block).is_nothing() {
             return self.need(alloc, effects, block, Mode::Copy);
         }
-        self.got(alloc, effects, block)
-    }
-
-    // A block that is held is read.
-    fn got(
-        &mut self,
-        alloc: Global,
-        effects: &mut Effects,
-        block: BlockId,
-    ) -> Mem<Option<BlockAnswer>>
-        ensures state { OnOk result (self.new ≡ (got self.old block (held_at self.old block)).done.state) }
-        ensures effects { OnOk result (effects.new ≡ effects.old ++ (got self.old block (held_at self.old block)).done.outs) }
-        ensures answer { IfOk result (λ answer. answer ≡ (got self.old block (held_at self.old block)).answer) }
-    {
-        let value = self.value_of(alloc, block)?;
-        let ver = self.tokens.ver(block);
         drop(self.cache.take(alloc, coop_cache::In::Touch(block))?);
-        effects.act(Act::Read {
-            client: self.lasting.number,
-            block,
-            ver,
-            value: value.copy(alloc)?,
-        })?;
-        Ok(Some(BlockAnswer::Got(ver, value)))
-    }
-
-    // What a block reads as.
-    fn value_of(&self, alloc: Global, block: BlockId) -> Mem<Value>
-        ensures { IfOk result (λ value. value ≡ value_of (held_at self.now block)) }
-    {
-        match self.tokens.value(block) {
-            Some(value) => value.copy(alloc),
-            None => Ok(Value::absent()),
-        }
+        let answer = read(alloc, effects, self.lasting.number, &self.tokens, block)?;
+        Ok(Some(answer))
     }
 
     #[tactic(auto, unfolding(crate::specs::Blocks::puts))]
@@ -99,7 +77,7 @@ impl Serving {
         ensures effects { OnOk result (effects.new ≡ effects.old ++ (puts self.old block value.now).done.outs) }
         ensures answer { IfOk result (λ answer. answer ≡ (puts self.old block value.now).answer) }
     {
-        if !self.may_put(block) {
+        if !may_put(&self.tokens, block) {
             return self.need(alloc, effects, block, Mode::Own);
         }
         self.change_if_fits(alloc, effects, block, value)
@@ -118,7 +96,7 @@ impl Serving {
         ensures effects { OnOk result (effects.new ≡ effects.old ++ (puts_at self.old block ver value.now).done.outs) }
         ensures answer { IfOk result (λ answer. answer ≡ (puts_at self.old block ver value.now).answer) }
     {
-        if !self.may_put(block) {
+        if !may_put(&self.tokens, block) {
             return self.need(alloc, effects, block, Mode::Own);
         }
         self.put_again(alloc, effects, block, ver, value)
@@ -145,44 +123,14 @@ impl Serving {
         Ok(Some(BlockAnswer::Changed))
     }
 
-    #[tactic(auto, unfolding(crate::specs::Blocks::syncs))]
+    #[tactic(auto, unfolding(crate::specs::Blocks::syncs, crate::specs::Follow::seals))]
     fn sync(&mut self, alloc: Global, effects: &mut Effects) -> Mem<Option<BlockAnswer>>
         ensures state { OnOk result (self.new ≡ (syncs self.old).done.state) }
         ensures effects { OnOk result (effects.new ≡ effects.old ++ (syncs self.old).done.outs) }
         ensures answer { IfOk result (λ answer. answer ≡ (syncs self.old).answer) }
     {
-        self.seal(alloc, effects)?;
-        self.synced(effects)
-    }
-
-    // Whether a sync is answered.
-    fn synced(&self, effects: &mut Effects) -> Mem<Option<BlockAnswer>>
-        ensures effects { OnOk result (effects.new ≡ effects.old ++ synced_acts self.now) }
-        ensures answer { IfOk result (λ answer. answer ≡ synced_answer self.now) }
-    {
-        if !self.is_settled() {
-            return Ok(None);
-        }
-        effects.act(Act::Synced {
-            client: self.lasting.number,
-        })?;
-        Ok(Some(BlockAnswer::Synced))
-    }
-
-    // Whether nothing waits to be written, and nothing is in flight.
-    fn is_settled(&self) -> bool
-        ensures { result ≡ is_settled self.now }
-    {
-        self.log.is_settled()
-    }
-
-    // A version at the end of its type has none after it: a write then waits for ever.
-    fn may_put(&self, block: BlockId) -> bool
-        ensures { result ≡ may_write (held_at self.now block) }
-    {
-        self.tokens.mode(block).is_own()
-            && self.tokens.giving(block).is_none()
-            && self.tokens.ver(block) < u64::MAX
+        seal(alloc, effects, &mut self.log)?;
+        synced(effects, self.lasting.number, is_settled(&self.log))
     }
 
     // Asks for a block, unless it is asked for already.
@@ -215,18 +163,8 @@ impl Serving {
         ensures effects { OnOk result (effects.new ≡ effects.old ++ (changes_if_fits self.old block value.now).done.outs) }
         ensures answer { IfOk result (λ answer. answer ≡ (changes_if_fits self.old block value.now).answer) }
     {
-        self.fits(block, value);
+        fits(&self.tokens, block, value);
         self.change(alloc, effects, block, value)
-    }
-
-    // A segment can hold each version of each block that may be written.
-    fn fits(&self, block: BlockId, value: &Value)
-        requires { may_write (held_at self.now block) ≡ true }
-        ensures { put_fits block ((held_at self.now block).ver + 1) value.now ≡ true }
-    {
-        is_word(block.ino.0);
-        is_word(block.blk);
-        is_value(value);
     }
 
     // Writes a block that may be written.
@@ -247,23 +185,10 @@ impl Serving {
             block,
             value: value.copy(alloc)?,
         })?;
-        self.note_written(alloc, block, value)?;
+        note_written(alloc, &mut self.tokens, &mut self.cache, block, value)?;
         let ver = self.tokens.ver(block);
         self.put_in_log(alloc, effects, block, value)?;
         Ok(Some(BlockAnswer::Put(ver)))
-    }
-
-    // A block has a new version, and is clean no more.
-    fn note_written(&mut self, alloc: Global, block: BlockId, value: &Value) -> Mem<()>
-        ensures { OnOk result (self.new ≡ wrote self.old block value.now) }
-    {
-        let wrote = In::Wrote {
-            block,
-            value: value.copy(alloc)?,
-        };
-        drop(self.tokens.take(alloc, wrote)?);
-        drop(self.cache.take(alloc, coop_cache::In::Dirty(block))?);
-        Ok(())
     }
 
     // The newest version of a block waits to be written to the log.
@@ -299,4 +224,110 @@ impl Serving {
         }
         Ok(())
     }
+}
+
+// A block that is held is read: the answer.
+fn read(
+    alloc: Global,
+    effects: &mut Effects,
+    client: u8,
+    tokens: &Tokens,
+    block: BlockId,
+) -> Mem<BlockAnswer>
+    ensures effects { OnOk result (effects.new ≡ effects.old ++ Does (Read client block (held_of tokens.now.blocks block).ver (value_of (held_of tokens.now.blocks block))) ∷ []) }
+    ensures answer { IfOk result (λ answer. answer ≡ Got (held_of tokens.now.blocks block).ver (value_of (held_of tokens.now.blocks block))) }
+{
+    let value = value_of(alloc, tokens, block)?;
+    let ver = tokens.ver(block);
+    match say_read(alloc, effects, client, block, ver, &value) {
+        Ok(()) => Ok(BlockAnswer::Got(ver, value)),
+        Err(error) => {
+            drop(value);
+            Err(error)
+        }
+    }
+}
+
+fn say_read(
+    alloc: Global,
+    effects: &mut Effects,
+    client: u8,
+    block: BlockId,
+    ver: u64,
+    value: &Value,
+) -> Mem<()>
+    ensures { OnOk result (effects.new ≡ effects.old ++ Does (Read client block ver value.now) ∷ []) }
+{
+    effects.act(Act::Read {
+        client,
+        block,
+        ver,
+        value: value.copy(alloc)?,
+    })
+}
+
+// What a block reads as.
+fn value_of(alloc: Global, tokens: &Tokens, block: BlockId) -> Mem<Value>
+    ensures { IfOk result (λ value. value ≡ value_of (held_of tokens.now.blocks block)) }
+{
+    match tokens.value(block) {
+        Some(value) => value.copy(alloc),
+        None => Ok(Value::absent()),
+    }
+}
+
+// Whether a sync is answered.
+fn synced(effects: &mut Effects, client: u8, settled: bool) -> Mem<Option<BlockAnswer>>
+    ensures effects { OnOk result (effects.new ≡ effects.old ++ (if settled then Does (Synced client) ∷ [] else [])) }
+    ensures answer { IfOk result (λ answer. answer ≡ (if settled then Some WasSynced else None)) }
+{
+    if !settled {
+        return Ok(None);
+    }
+    effects.act(Act::Synced { client })?;
+    Ok(Some(BlockAnswer::Synced))
+}
+
+// Whether nothing waits to be written, and nothing is in flight.
+fn is_settled(log: &Log) -> bool
+    ensures { result ≡ (is_none log.now.flight && (length log.now.dirty == 0)) }
+{
+    log.is_settled()
+}
+
+// A version at the end of its type has none after it: a write then waits for ever.
+fn may_put(tokens: &Tokens, block: BlockId) -> bool
+    ensures { result ≡ may_write (held_of tokens.now.blocks block) }
+{
+    tokens.mode(block).is_own() && tokens.giving(block).is_none() && tokens.ver(block) < u64::MAX
+}
+
+// A segment can hold each version of each block that may be written.
+fn fits(tokens: &Tokens, block: BlockId, value: &Value)
+    requires { may_write (held_of tokens.now.blocks block) ≡ true }
+    ensures { put_fits block ((held_of tokens.now.blocks block).ver + 1) value.now ≡ true }
+{
+    is_word(block.ino.0);
+    is_word(block.blk);
+    is_value(value);
+}
+
+// A block has a new version, and is clean no more.
+fn note_written(
+    alloc: Global,
+    tokens: &mut Tokens,
+    cache: &mut Cache,
+    block: BlockId,
+    value: &Value,
+) -> Mem<()>
+    ensures tokens { OnOk result (tokens.new ≡ (on_wrote tokens.old block value.now).state) }
+    ensures cache { OnOk result (cache.new ≡ left cache.old block) }
+{
+    let wrote = In::Wrote {
+        block,
+        value: value.copy(alloc)?,
+    };
+    drop(tokens.take(alloc, wrote)?);
+    drop(cache.take(alloc, coop_cache::In::Dirty(block))?);
+    Ok(())
 }

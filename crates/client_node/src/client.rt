@@ -1,6 +1,6 @@
 //! The client as a node: what each event makes of it.
-ghost use Rattle.std.specs.Prelude.{◌≡◌, ◌++◌, IfOk, OnOk};
-ghost use Rattle.client_node.specs.declared.phase.Phase.TheVariants.{Serving as Serves};
+ghost use Rattle.std.specs.Prelude.{◌≡◌, ◌++◌, ℕ, IfOk, OnOk};
+ghost use Rattle.client_node.specs.declared.phase.Phase.TheVariants.{Opening as Opens, Serving as Serves};
 ghost use Rattle.client_node.specs.Phases.{on_begin, delivers, on_deliver, on_time, on_event, opened_on, happens, client_room, phase_room, takes};
 ghost use Rattle.client_node.specs.Packets.{on_packet, on_tick};
 ghost use Rattle.client_node.specs.Running.{runs};
@@ -9,7 +9,7 @@ ghost use Rattle.log_owner.specs.Opening as log_opening;
 ghost use Rattle.node_base.specs.Setups.{IsSetup};
 ghost use Rattle.segment_format.specs.Format.{IsLog};
 
-use crate::beginning::{begin_down, begin_opening, begin_serving};
+use crate::beginning::{begin_down, begin_opening, begin_serving, what_outlives};
 use crate::returning::after;
 use crate::{Lasting, Phase, Serving};
 use log_owner::Opening;
@@ -158,9 +158,60 @@ fn begin(alloc: Global, effects: &mut Effects, peers: Peers, phase: Phase) -> Me
     ensures effects { OnOk result (effects.new ≡ effects.old ++ (on_begin peers.servers phase).outs) }
 {
     match phase {
-        Phase::Down(lasting) => begin_down(alloc, effects, peers, lasting),
-        Phase::Opening(lasting, opening) => begin_opening(effects, peers, lasting, opening),
-        Phase::Serving(serving) => begin_serving(alloc, effects, peers, serving),
+        Phase::Down(lasting) => {
+            let mut lasting = lasting;
+            match begin_down(alloc, effects, peers.servers, &mut lasting) {
+                Ok(Some(opening)) => Ok(Phase::Opening(lasting, opening)),
+                Ok(None) => Ok(Phase::Down(lasting)),
+                Err(error) => {
+                    drop(lasting);
+                    Err(error)
+                }
+            }
+        }
+        Phase::Opening(lasting, opening) => begin_to_open(effects, lasting, opening),
+        Phase::Serving(serving) => begin_to_serve(alloc, effects, peers, serving),
+    }
+}
+
+// The next item begins at a client that opens its log. What isn't held on is dropped by a call, here and
+// below, so that each part of it is dropped in one proof.
+fn begin_to_open(effects: &mut Effects, lasting: Lasting, opening: Opening) -> Mem<Phase>
+    ensures phase { IfOk result (λ after. (servers : ℕ) → after ≡ (on_begin servers (Opens lasting opening)).state) }
+    ensures effects { OnOk result ((servers : ℕ) → effects.new ≡ effects.old ++ (on_begin servers (Opens lasting opening)).outs) }
+{
+    let mut lasting = lasting;
+    match begin_opening(effects, &mut lasting) {
+        Ok(true) => {
+            drop(opening);
+            Ok(Phase::Down(lasting))
+        }
+        Ok(false) => Ok(Phase::Opening(lasting, opening)),
+        Err(error) => {
+            drop(lasting);
+            drop(opening);
+            Err(error)
+        }
+    }
+}
+
+fn begin_to_serve(
+    alloc: Global,
+    effects: &mut Effects,
+    peers: Peers,
+    serving: Serving,
+) -> Mem<Phase>
+    ensures phase { IfOk result (λ after. after ≡ (on_begin peers.servers (Serves serving)).state) }
+    ensures effects { OnOk result (effects.new ≡ effects.old ++ (on_begin peers.servers (Serves serving)).outs) }
+{
+    let mut serving = serving;
+    match begin_serving(alloc, effects, peers.servers, &mut serving) {
+        Ok(true) => Ok(Phase::Down(what_outlives(serving))),
+        Ok(false) => Ok(Phase::Serving(serving)),
+        Err(error) => {
+            drop(serving);
+            Err(error)
+        }
     }
 }
 
@@ -182,8 +233,7 @@ fn deliver(
     take(alloc, effects, cache, phase, packet)
 }
 
-// A packet comes to a client that serves, and the open call is looked at. What isn't held on is dropped by a
-// call, here and below, so that each part of it is dropped in one proof.
+// A packet comes to a client that serves, and the open call is looked at.
 fn take_and_run(
     alloc: Global,
     effects: &mut Effects,
@@ -223,7 +273,16 @@ fn take(
         Phase::Opening(lasting, opening) => {
             take_opening(alloc, effects, cache, lasting, opening, packet)
         }
-        Phase::Serving(serving) => take_serving(alloc, effects, serving, packet),
+        Phase::Serving(serving) => {
+            let mut serving = serving;
+            match take_and_run(alloc, effects, &mut serving, packet) {
+                Ok(()) => Ok(Phase::Serving(serving)),
+                Err(error) => {
+                    drop(serving);
+                    Err(error)
+                }
+            }
+        }
     }
 }
 
@@ -248,25 +307,6 @@ fn take_opening(
     }
 }
 
-fn take_serving(
-    alloc: Global,
-    effects: &mut Effects,
-    serving: Serving,
-    packet: &Packet,
-) -> Mem<Phase>
-    ensures phase { IfOk result (λ after. after ≡ Serves (runs (on_packet serving packet.now).state).state) }
-    ensures effects { OnOk result (effects.new ≡ effects.old ++ ((on_packet serving packet.now).outs ++ (runs (on_packet serving packet.now).state).outs)) }
-{
-    let mut serving = serving;
-    match take_and_run(alloc, effects, &mut serving, packet) {
-        Ok(()) => Ok(Phase::Serving(serving)),
-        Err(error) => {
-            drop(serving);
-            Err(error)
-        }
-    }
-}
-
 // Time passes.
 #[tactic(auto, unfolding(crate::specs::Phases::on_time))]
 fn tick(alloc: Global, effects: &mut Effects, cache: u16, phase: Phase) -> Mem<Phase>
@@ -276,7 +316,16 @@ fn tick(alloc: Global, effects: &mut Effects, cache: u16, phase: Phase) -> Mem<P
     match phase {
         Phase::Down(lasting) => Ok(Phase::Down(lasting)),
         Phase::Opening(lasting, opening) => tick_opening(alloc, effects, cache, lasting, opening),
-        Phase::Serving(serving) => tick_serving(alloc, effects, serving),
+        Phase::Serving(serving) => {
+            let mut serving = serving;
+            match tick_and_run(alloc, effects, &mut serving) {
+                Ok(()) => Ok(Phase::Serving(serving)),
+                Err(error) => {
+                    drop(serving);
+                    Err(error)
+                }
+            }
+        }
     }
 }
 
@@ -295,20 +344,6 @@ fn tick_opening(
         Ok(progress) => after(alloc, effects, lasting, cache, progress),
         Err(error) => {
             drop(lasting);
-            Err(error)
-        }
-    }
-}
-
-fn tick_serving(alloc: Global, effects: &mut Effects, serving: Serving) -> Mem<Phase>
-    ensures phase { IfOk result (λ after. after ≡ Serves (runs (on_tick serving).state).state) }
-    ensures effects { OnOk result (effects.new ≡ effects.old ++ ((on_tick serving).outs ++ (runs (on_tick serving).state).outs)) }
-{
-    let mut serving = serving;
-    match tick_and_run(alloc, effects, &mut serving) {
-        Ok(()) => Ok(Phase::Serving(serving)),
-        Err(error) => {
-            drop(serving);
             Err(error)
         }
     }

@@ -1,8 +1,10 @@
 //! The log of a client: sealing it, and what is settled.
-ghost use Rattle.std.specs.Prelude.{◌≡◌, ◌++◌, ◌∷◌, [], IfOk, OnOk, fold};
+ghost use Rattle.std.specs.Prelude.{◌≡◌, ◌++◌, IfOk, OnOk, fold};
 ghost use Rattle.std.specs.List.{flat_map, list_any};
-ghost use Rattle.client_node.specs.Flights.{feeds, gives_if_clean, gives_up, held_at, is_giving, is_settling, is_to_give, keeps_clean, notes_settled, on_stored, seals_again, settled_rows, settles, writes, writes_one};
-ghost use Rattle.client_node.specs.Follow.{seals};
+ghost use Rattle.client_log.specs.Transition.{on_seal};
+ghost use Rattle.client_node.specs.Flights.{feeds, gives_if_clean, is_giving, is_settling, is_to_give, keeps_clean, on_stored, seals_again, settled_rows, settles, writes, writes_one};
+ghost use Rattle.client_node.specs.Parts.{row_settled};
+ghost use Rattle.delta_feed.specs.Transition.{settled};
 ghost use Rattle.log_owner.specs.Opening.{stored};
 ghost use Rattle.log_owner.specs.Sending.{pushes_all};
 ghost use Rattle.token_client.specs.Held.{is_dirty};
@@ -10,7 +12,8 @@ ghost use Rattle.token_client.specs.State.{held_of};
 ghost use Rattle.xfs_base.specs.Steps.{steps};
 
 use crate::Serving;
-use client_log::{In, Out};
+use client_log::{In, Log, Out};
+use delta_feed::Feed;
 use log_owner::name_of;
 use log_owner::sending::{push_all, send_store};
 use node_base::Effects;
@@ -55,24 +58,15 @@ impl Serving {
         }
     }
 
+    #[tactic(auto, unfolding(crate::specs::Follow::seals))]
     fn seal_again(&mut self, alloc: Global, effects: &mut Effects, settling: bool) -> Mem<()>
         ensures state { OnOk result (self.new ≡ (seals_again self.old settling).state) }
         ensures effects { OnOk result (effects.new ≡ effects.old ++ (seals_again self.old settling).outs) }
     {
-        if settling && self.is_giving(alloc)? {
-            self.seal(alloc, effects)?;
+        if settling && is_giving(alloc, &self.tokens)? {
+            seal(alloc, effects, &mut self.log)?;
         }
         Ok(())
-    }
-
-    /// Seals the log.
-    #[tactic(auto, unfolding(crate::specs::Follow::seals))]
-    pub(crate) fn seal(&mut self, alloc: Global, effects: &mut Effects) -> Mem<()>
-        ensures state { OnOk result (self.new ≡ (seals self.old).state) }
-        ensures effects { OnOk result (effects.new ≡ effects.old ++ (seals self.old).outs) }
-    {
-        let outs = self.log.take(alloc, In::Seal)?;
-        send_sealed(effects, outs)
     }
 
     /// A server holds a fragment of the segment in flight.
@@ -116,14 +110,13 @@ impl Serving {
     fn take_rows(&mut self, alloc: Global, end: End, rows: List<(BlockId, Entry)>) -> Mem<()>
         ensures { OnOk result (self.new ≡ feeds (settled_rows self.old rows) end rows) }
     {
-        self.note_settled(alloc, rows.as_slice())?;
-        self.keep_clean(alloc, rows.as_slice())?;
-        let seq = end.seq;
-        drop(
-            self.feed
-                .take(alloc, delta_feed::In::Settled { seq, rows })?,
-        );
-        Ok(())
+        match self.settle_rows(alloc, rows.as_slice()) {
+            Ok(()) => feed_rows(alloc, &mut self.feed, end.seq, rows),
+            Err(error) => {
+                drop(rows);
+                Err(error)
+            }
+        }
     }
 
     // All slots are told, and then those of these blocks that are clean and to be given up are given up.
@@ -135,26 +128,11 @@ impl Serving {
         self.give_clean(alloc, effects, blocks)
     }
 
-    // The versions of these rows are settled.
-    fn note_settled(&mut self, alloc: Global, rows: &[(BlockId, Entry)]) -> Mem<()>
-        ensures { OnOk result (self.new ≡ fold notes_settled self.old rows.now) }
+    fn settle_rows(&mut self, alloc: Global, rows: &[(BlockId, Entry)]) -> Mem<()>
+        ensures { OnOk result (self.new ≡ settled_rows self.old rows.now) }
     {
-        for row in rows {
-            self.note_row(alloc, *row)?;
-        }
-        Ok(())
-    }
-
-    #[tactic(auto, unfolding(crate::specs::Flights::notes_settled))]
-    fn note_row(&mut self, alloc: Global, row: (BlockId, Entry)) -> Mem<()>
-        ensures { OnOk result (self.new ≡ notes_settled self.old row) }
-    {
-        let input = token_client::In::Settled {
-            block: row.0,
-            ver: row.1.ver,
-        };
-        drop(self.tokens.take(alloc, input)?);
-        Ok(())
+        note_settled(alloc, &mut self.tokens, rows)?;
+        self.keep_clean(alloc, rows)
     }
 
     // Those of these blocks that are clean go into the cache.
@@ -196,27 +174,59 @@ impl Serving {
         if is_dirty(&self.tokens, block) {
             return Ok(());
         }
-        self.give_up(alloc, effects, block)
-    }
-
-    fn give_up(&mut self, alloc: Global, effects: &mut Effects, block: BlockId) -> Mem<()>
-        ensures state { OnOk result (self.new ≡ (gives_up self.old block (held_at self.old block).giving).state) }
-        ensures effects { OnOk result (effects.new ≡ effects.old ++ (gives_up self.old block (held_at self.old block).giving).outs) }
-    {
         match self.tokens.giving(block) {
             Some((stamp, keep)) => self.take_back(alloc, effects, block, stamp, keep),
             None => Ok(()),
         }
     }
+}
 
-    // Whether some block is to be given up.
-    fn is_giving(&self, alloc: Global) -> Mem<bool>
-        ensures { IfOk result (λ giving. giving ≡ is_giving self.now.tokens) }
-    {
-        let dirty = self.tokens.dirty(alloc)?;
-        let blocks = dirty.as_slice();
-        Ok(blocks.iter().any(|block| is_to_give(&self.tokens, *block)))
+/// Seals a log, and sends what is to be stored.
+pub(crate) fn seal(alloc: Global, effects: &mut Effects, log: &mut Log) -> Mem<()>
+    ensures log { OnOk result (log.new ≡ (on_seal log.old).state) }
+    ensures effects { OnOk result (effects.new ≡ effects.old ++ flat_map stored (on_seal log.old).outs) }
+{
+    let outs = log.take(alloc, In::Seal)?;
+    send_sealed(effects, outs)
+}
+
+// The feed takes what a segment says of blocks.
+fn feed_rows(alloc: Global, feed: &mut Feed, seq: u32, rows: List<(BlockId, Entry)>) -> Mem<()>
+    ensures { OnOk result (feed.new ≡ settled feed.old seq rows) }
+{
+    drop(feed.take(alloc, delta_feed::In::Settled { seq, rows })?);
+    Ok(())
+}
+
+// The versions of these rows are settled.
+fn note_settled(alloc: Global, tokens: &mut Tokens, rows: &[(BlockId, Entry)]) -> Mem<()>
+    ensures { OnOk result (tokens.new ≡ fold row_settled tokens.old rows.now) }
+{
+    for row in rows {
+        note_row(alloc, tokens, *row)?;
     }
+    Ok(())
+}
+
+#[tactic(auto, unfolding(crate::specs::Parts::row_settled))]
+fn note_row(alloc: Global, tokens: &mut Tokens, row: (BlockId, Entry)) -> Mem<()>
+    ensures { OnOk result (tokens.new ≡ row_settled tokens.old row) }
+{
+    let input = token_client::In::Settled {
+        block: row.0,
+        ver: row.1.ver,
+    };
+    drop(tokens.take(alloc, input)?);
+    Ok(())
+}
+
+// Whether some block is to be given up.
+fn is_giving(alloc: Global, tokens: &Tokens) -> Mem<bool>
+    ensures { IfOk result (λ giving. giving ≡ is_giving tokens.now) }
+{
+    let dirty = tokens.dirty(alloc)?;
+    let blocks = dirty.as_slice();
+    Ok(blocks.iter().any(|block| is_to_give(tokens, *block)))
 }
 
 fn is_any_settling(outs: &[Out]) -> bool

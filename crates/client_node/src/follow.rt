@@ -1,13 +1,22 @@
 //! What the tokens have a client do.
-ghost use Rattle.std.specs.Prelude.{◌≡◌, ◌++◌, ◌∷◌, [], OnOk, fold};
-ghost use Rattle.client_node.specs.Follow.{evicts, follows, follows_one, hands, notes_clean, notes_copy, notes_gone, takes_back};
-ghost use Rattle.client_node.specs.Sends.{before_want, gave, gaves, want, wants};
+ghost use Rattle.std.specs.Prelude.{◌≡◌, ◌++◌, ◌∷◌, [], ◌==◌, if◌then◌else◌, OnOk, fold};
+ghost use Rattle.client_node.specs.Follow.{follows, follows_one, hands, notes_clean, notes_copy, notes_gone, takes_back};
+ghost use Rattle.client_node.specs.Parts.{drops};
+ghost use Rattle.log_owner.specs.Promised.{manager_of};
+ghost use Rattle.log_owner.specs.Sending.{pushes};
+ghost use Rattle.node_base.specs.declared.effects.Effect.TheVariants.{Send};
+ghost use Rattle.wire_msg.specs.declared.body.Body.TheVariants.{Want as Wants, Gave as Gives};
+ghost use Rattle.xfs_base.specs.Blocks.{slot_of};
 
 use crate::Serving;
+use crate::flights::seal;
+use crate::reads::end_reading;
+use delta_feed::Feed;
+use log_owner::Managers;
 use log_owner::sending::push;
 use node_base::Effects;
 use std::alloc::Global;
-use token_client::{In, Out};
+use token_client::{In, Out, Tokens};
 use wire_msg::{Body, Gave, Want};
 use xfs_base::{BlockId, List, Mem, Mode, Stamp};
 
@@ -19,7 +28,7 @@ impl Serving {
         ensures effects { OnOk result (effects.new ≡ effects.old ++ (hands self.old input).outs) }
     {
         let outs = self.tokens.take(alloc, input)?;
-        self.end_reading();
+        end_reading(&self.tokens, &mut self.call);
         self.follow(alloc, effects, outs)
     }
 
@@ -41,7 +50,7 @@ impl Serving {
     }
 
     // A value that is to be supplied goes to the client that the forward names, so that it is sent there.
-    #[tactic(auto, unfolding(crate::specs::Follow::follows_one))]
+    #[tactic(auto, unfolding(crate::specs::Follow::follows_one, crate::specs::Follow::seals))]
     fn follow_one(&mut self, alloc: Global, effects: &mut Effects, out: Out) -> Mem<()>
         ensures state { OnOk result (self.new ≡ (follows_one self.old out).state) }
         ensures effects { OnOk result (effects.new ≡ effects.old ++ (follows_one self.old out).outs) }
@@ -52,101 +61,30 @@ impl Serving {
                 req,
                 again,
                 mode,
-            } => self.send_want(alloc, effects, block, req, again, mode),
-            Out::Gave { block, stamp } => self.send_gave(alloc, effects, block, stamp),
-            Out::Flush { .. } => self.seal(alloc, effects),
+            } => {
+                let want = Want {
+                    block,
+                    inc: self.lasting.inc,
+                    req,
+                    again,
+                    mode,
+                    end: self.log.end().seq,
+                };
+                send_want(alloc, effects, &mut self.feed, self.managers, want)
+            }
+            Out::Gave { block, stamp } => {
+                let gave = Gave {
+                    block,
+                    stamp,
+                    end: self.log.end().seq,
+                };
+                send_gave(alloc, effects, &mut self.feed, self.managers, gave)
+            }
+            Out::Flush { .. } => seal(alloc, effects, &mut self.log),
             Out::Read { block, place } => self.read(alloc, effects, block, place),
             Out::Ready { block } => self.note_copy(alloc, block),
             Out::Supply { .. } => Ok(()),
         }
-    }
-
-    fn send_want(
-        &mut self,
-        alloc: Global,
-        effects: &mut Effects,
-        block: BlockId,
-        req: u32,
-        again: u32,
-        mode: Mode,
-    ) -> Mem<()>
-        ensures state { OnOk result (self.new ≡ self.old) }
-        ensures effects { OnOk result (effects.new ≡ effects.old ++ wants self.old block req again mode) }
-    {
-        self.push_first(alloc, effects, block, again)?;
-        self.say_want(effects, block, req, again, mode)
-    }
-
-    // Before a want that was never sent goes what the slot's manager has not acknowledged of the log.
-    fn push_first(
-        &mut self,
-        alloc: Global,
-        effects: &mut Effects,
-        block: BlockId,
-        again: u32,
-    ) -> Mem<()>
-        ensures state { OnOk result (self.new ≡ self.old) }
-        ensures effects { OnOk result (effects.new ≡ effects.old ++ before_want self.old block again) }
-    {
-        if again == 0 {
-            push(
-                alloc,
-                effects,
-                &mut self.feed,
-                self.managers,
-                block.ino.slot(),
-            )?;
-        }
-        Ok(())
-    }
-
-    fn say_want(
-        &self,
-        effects: &mut Effects,
-        block: BlockId,
-        req: u32,
-        again: u32,
-        mode: Mode,
-    ) -> Mem<()>
-        ensures { OnOk result (effects.new ≡ effects.old ++ want self.now block req again mode ∷ []) }
-    {
-        let want = Want {
-            block,
-            inc: self.lasting.inc,
-            req,
-            again,
-            mode,
-            end: self.log.end().seq,
-        };
-        effects.send(self.managers.of(block.ino.slot()), Body::Want(want))
-    }
-
-    // A block was given up: before that is said goes what the manager has not acknowledged of the log.
-    fn send_gave(
-        &mut self,
-        alloc: Global,
-        effects: &mut Effects,
-        block: BlockId,
-        stamp: Stamp,
-    ) -> Mem<()>
-        ensures state { OnOk result (self.new ≡ self.old) }
-        ensures effects { OnOk result (effects.new ≡ effects.old ++ gaves self.old block stamp) }
-    {
-        let slot = block.ino.slot();
-        push(alloc, effects, &mut self.feed, self.managers, slot)?;
-        self.say_gave(effects, block, stamp)
-    }
-
-    /// Says that a block was given up.
-    pub(crate) fn say_gave(&self, effects: &mut Effects, block: BlockId, stamp: Stamp) -> Mem<()>
-        ensures { OnOk result (effects.new ≡ effects.old ++ gave self.now block stamp ∷ []) }
-    {
-        let gave = Gave {
-            block,
-            stamp,
-            end: self.log.end().seq,
-        };
-        effects.send(self.managers.of(block.ino.slot()), Body::Gave(gave))
     }
 
     /// Takes a block back, as a manager recalls it; one that isn't held then leaves the cache.
@@ -178,30 +116,11 @@ impl Serving {
     }
 
     /// A block is held and clean: it goes into the cache, and what leaves for it is let go.
-    #[tactic(auto, unfolding(crate::specs::Follow::notes_clean))]
     pub(crate) fn note_clean(&mut self, alloc: Global, block: BlockId) -> Mem<()>
         ensures { OnOk result (self.new ≡ notes_clean self.old block) }
     {
         let outs = self.cache.take(alloc, coop_cache::In::Clean(block))?;
-        self.evict_all(alloc, outs)
-    }
-
-    fn evict_all(&mut self, alloc: Global, outs: List<coop_cache::Out>) -> Mem<()>
-        ensures { OnOk result (self.new ≡ fold evicts self.old outs) }
-    {
-        for out in outs.into_vec() {
-            self.evict(alloc, out)?;
-        }
-        Ok(())
-    }
-
-    #[tactic(auto, unfolding(crate::specs::Follow::evicts))]
-    fn evict(&mut self, alloc: Global, out: coop_cache::Out) -> Mem<()>
-        ensures { OnOk result (self.new ≡ evicts self.old out) }
-    {
-        let coop_cache::Out::Victim(block) = out;
-        drop(self.tokens.take(alloc, In::Evict { block })?);
-        Ok(())
+        evict_all(alloc, &mut self.tokens, outs)
     }
 
     /// A block that isn't held leaves the cache.
@@ -214,4 +133,78 @@ impl Serving {
         }
         Ok(())
     }
+}
+
+// A want. Before one that was never sent goes what the slot's manager has not acknowledged of the log.
+fn send_want(
+    alloc: Global,
+    effects: &mut Effects,
+    feed: &mut Feed,
+    managers: Managers,
+    want: Want,
+) -> Mem<()>
+    ensures feed { OnOk result (feed.new ≡ feed.old) }
+    ensures effects { OnOk result (effects.new ≡ effects.old ++ ((if want.again == 0 then pushes managers feed.old (slot_of want.block.ino.0) else []) ++ Send (manager_of managers (slot_of want.block.ino.0)) (Wants want) ∷ [])) }
+{
+    let slot = want.block.ino.slot();
+    push_first(alloc, effects, feed, managers, slot, want.again)?;
+    effects.send(managers.of(slot), Body::Want(want))
+}
+
+fn push_first(
+    alloc: Global,
+    effects: &mut Effects,
+    feed: &mut Feed,
+    managers: Managers,
+    slot: u8,
+    again: u32,
+) -> Mem<()>
+    ensures feed { OnOk result (feed.new ≡ feed.old) }
+    ensures effects { OnOk result (effects.new ≡ effects.old ++ (if again == 0 then pushes managers feed.old slot else [])) }
+{
+    if again == 0 {
+        push(alloc, effects, feed, managers, slot)?;
+    }
+    Ok(())
+}
+
+// A block was given up: before that is said goes what the manager has not acknowledged of the log.
+fn send_gave(
+    alloc: Global,
+    effects: &mut Effects,
+    feed: &mut Feed,
+    managers: Managers,
+    gave: Gave,
+) -> Mem<()>
+    ensures feed { OnOk result (feed.new ≡ feed.old) }
+    ensures effects { OnOk result (effects.new ≡ effects.old ++ (pushes managers feed.old (slot_of gave.block.ino.0) ++ Send (manager_of managers (slot_of gave.block.ino.0)) (Gives gave) ∷ [])) }
+{
+    push(alloc, effects, feed, managers, gave.block.ino.slot())?;
+    say_gave(effects, managers, gave)
+}
+
+/// Says that a block was given up.
+pub(crate) fn say_gave(effects: &mut Effects, managers: Managers, gave: Gave) -> Mem<()>
+    ensures { OnOk result (effects.new ≡ effects.old ++ Send (manager_of managers (slot_of gave.block.ino.0)) (Gives gave) ∷ []) }
+{
+    effects.send(managers.of(gave.block.ino.slot()), Body::Gave(gave))
+}
+
+// The tokens let go of what leaves the cache.
+fn evict_all(alloc: Global, tokens: &mut Tokens, outs: List<coop_cache::Out>) -> Mem<()>
+    ensures { OnOk result (tokens.new ≡ fold drops tokens.old outs) }
+{
+    for out in outs.into_vec() {
+        evict(alloc, tokens, out)?;
+    }
+    Ok(())
+}
+
+#[tactic(auto, unfolding(crate::specs::Parts::drops))]
+fn evict(alloc: Global, tokens: &mut Tokens, out: coop_cache::Out) -> Mem<()>
+    ensures { OnOk result (tokens.new ≡ drops tokens.old out) }
+{
+    let coop_cache::Out::Victim(block) = out;
+    drop(tokens.take(alloc, In::Evict { block })?);
+    Ok(())
 }

@@ -1,15 +1,21 @@
 //! What managers and other clients say of a block.
-ghost use Rattle.std.specs.Prelude.{◌≡◌, ◌++◌, OnOk};
+ghost use Rattle.std.specs.Prelude.{◌≡◌, ◌++◌, ◌∷◌, ◌==◌, ◌&&◌, OnOk, None, option_map};
 ghost use Rattle.std.specs.List.{flat_map};
-ghost use Rattle.client_node.specs.Packets.{again, is_gone, is_stamp, is_want, on_forward, on_gone, on_grant, on_recall, on_supply, supplies};
-ghost use Rattle.client_node.specs.Reads.{loses};
+ghost use Rattle.client_node.specs.Packets.{again, is_stamp, is_want, on_gone, on_grant, on_recall, on_supply, supplies};
+ghost use Rattle.node_base.specs.Beginning.{answered, answers_unanswered};
+ghost use Rattle.node_base.specs.declared.effects.Effect.TheVariants.{Lose};
+ghost use Rattle.token_client.specs.State.{epoch_of, held_of};
+ghost use Rattle.token_client.specs.Transition.{on_forwarded, on_quit};
+ghost use Rattle.version_model.specs.declared.answer.Answer.TheVariants.{Lost};
+ghost use Rattle.xfs_base.specs.Blocks.{slot_of};
 
-use crate::Serving;
+use crate::follow::say_gave;
+use crate::{Call, Lasting, Serving};
 use node_base::{Effects, has_long_room};
 use std::alloc::Global;
-use token_client::{In, Out};
+use token_client::{In, Out, Tokens};
 use version_model::Answer;
-use wire_msg::{Body, Forward, Gone, Grant, Recall, Supply};
+use wire_msg::{Body, Forward, Gave, Gone, Grant, Recall, Supply};
 use xfs_base::{BlockId, List, Mem, NodeId, SegName, Stamp};
 
 impl Serving {
@@ -55,26 +61,6 @@ impl Serving {
         self.hand(alloc, effects, input)
     }
 
-    /// A manager has a block supplied to another client.
-    #[tactic(auto, unfolding(crate::specs::Packets::on_forward))]
-    pub(crate) fn on_forward(
-        &mut self,
-        alloc: Global,
-        effects: &mut Effects,
-        forward: Forward,
-    ) -> Mem<()>
-        ensures state { OnOk result (self.new ≡ (on_forward self.old forward).state) }
-        ensures effects { OnOk result (effects.new ≡ effects.old ++ (on_forward self.old forward).outs) }
-    {
-        let input = In::Forwarded {
-            block: forward.block,
-            stamp: forward.stamp,
-            ver: forward.ver,
-        };
-        let outs = self.tokens.take(alloc, input)?;
-        send_supplies(effects, forward, outs)
-    }
-
     /// A manager takes a block back. One that was given up before is said to be so again.
     #[tactic(auto, unfolding(crate::specs::Packets::on_recall))]
     pub(crate) fn on_recall(
@@ -102,49 +88,83 @@ impl Serving {
         if outs.is_empty() {
             return Ok(());
         }
-        self.say_gave(effects, recall.block, recall.stamp)
+        let gave = Gave {
+            block: recall.block,
+            stamp: recall.stamp,
+            end: self.log.end().seq,
+        };
+        say_gave(effects, self.managers, gave)
     }
 
     /// A manager can't serve the block: its slot's index is lost.
-    #[tactic(auto, unfolding(crate::specs::Packets::on_gone))]
+    #[tactic(auto, unfolding(crate::specs::Packets::on_gone, crate::specs::Reads::loses))]
     pub(crate) fn on_gone(&mut self, alloc: Global, effects: &mut Effects, gone: Gone) -> Mem<()>
         ensures state { OnOk result (self.new ≡ (on_gone self.old gone).state) }
         ensures effects { OnOk result (effects.new ≡ effects.old ++ (on_gone self.old gone).outs) }
     {
-        if self.is_gone(gone) {
-            self.lose(alloc, effects, gone.block, gone.seg)
-        } else {
-            Ok(())
+        if !is_gone(&self.tokens, self.lasting.inc, gone) {
+            return Ok(());
         }
+        lose(
+            alloc,
+            effects,
+            &mut self.lasting,
+            &mut self.call,
+            &mut self.tokens,
+            gone.block,
+            gone.seg,
+        )
     }
+}
 
-    // Whether it is the open want that can't be served, in the promised epoch.
-    fn is_gone(&self, gone: Gone) -> bool
-        ensures { result ≡ is_gone self.now gone }
-    {
-        self.tokens.promised(gone.block.ino.slot()) == gone.epoch
-            && gone.inc == self.lasting.inc
-            && is_want(self.tokens.want(gone.block), gone.req)
-    }
+/// A manager has a block supplied to another client.
+pub(crate) fn forward(
+    alloc: Global,
+    effects: &mut Effects,
+    tokens: &mut Tokens,
+    forward: Forward,
+) -> Mem<()>
+    ensures tokens { OnOk result (tokens.new ≡ (on_forwarded tokens.old forward.block forward.stamp forward.ver).state) }
+    ensures effects { OnOk result (effects.new ≡ effects.old ++ flat_map (supplies forward) (on_forwarded tokens.old forward.block forward.stamp forward.ver).outs) }
+{
+    let input = In::Forwarded {
+        block: forward.block,
+        stamp: forward.stamp,
+        ver: forward.ver,
+    };
+    let outs = tokens.take(alloc, input)?;
+    send_supplies(effects, forward, outs)
+}
 
-    /// A segment that the open call needs is lost.
-    #[tactic(auto, unfolding(crate::specs::Reads::loses))]
-    pub(crate) fn lose(
-        &mut self,
-        alloc: Global,
-        effects: &mut Effects,
-        block: BlockId,
-        seg: SegName,
-    ) -> Mem<()>
-        ensures state { OnOk result (self.new ≡ (loses self.old block seg).state) }
-        ensures effects { OnOk result (effects.new ≡ effects.old ++ (loses self.old block seg).outs) }
-    {
-        effects.lose(seg)?;
-        self.lasting.answer(effects, Answer::Lost(seg))?;
-        drop(self.call.take());
-        drop(self.tokens.take(alloc, In::Quit { block })?);
-        Ok(())
-    }
+/// A segment that the open call needs is lost.
+pub(crate) fn lose(
+    alloc: Global,
+    effects: &mut Effects,
+    lasting: &mut Lasting,
+    call: &mut Option<Call>,
+    tokens: &mut Tokens,
+    block: BlockId,
+    seg: SegName,
+) -> Mem<()>
+    ensures lasting { OnOk result (lasting.new ≡ record lasting.old { items = answered lasting.old.items }) }
+    ensures call { OnOk result (call.new ≡ None) }
+    ensures tokens { OnOk result (tokens.new ≡ (on_quit tokens.old block).state) }
+    ensures effects { OnOk result (effects.new ≡ effects.old ++ Lose seg ∷ answers_unanswered lasting.old.items.unanswered (Lost seg)) }
+{
+    effects.lose(seg)?;
+    lasting.answer(effects, Answer::Lost(seg))?;
+    drop(call.take());
+    drop(tokens.take(alloc, In::Quit { block })?);
+    Ok(())
+}
+
+// Whether it is the open want that can't be served, in the promised epoch.
+fn is_gone(tokens: &Tokens, inc: u32, gone: Gone) -> bool
+    ensures { result ≡ ((epoch_of tokens.now.epochs (slot_of gone.block.ino.0) == gone.epoch) && ((gone.inc == inc) && is_want (option_map (λ want. want.req) (held_of tokens.now.blocks gone.block).want) gone.req)) }
+{
+    tokens.promised(gone.block.ino.slot()) == gone.epoch
+        && gone.inc == inc
+        && is_want(tokens.want(gone.block), gone.req)
 }
 
 fn is_stamp(a: Stamp, b: Stamp) -> bool

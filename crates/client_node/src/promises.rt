@@ -1,16 +1,21 @@
 //! Promises: polls of managers, and maps.
 ghost use Rattle.std.specs.Prelude.{◌≡◌, ◌<◌, ◌++◌, ◌∷◌, [], IfOk, OnOk};
 ghost use Rattle.client_node.specs.Packets.{hears, is_news, may_report, on_news, on_poll, on_welcome, polled, promised_by, promises, regroups, renews, takes_news};
-ghost use Rattle.client_node.specs.Sends.{report};
+ghost use Rattle.log_owner.specs.Promised.{manager_of};
+ghost use Rattle.node_base.specs.declared.effects.Effect.TheVariants.{Send};
+ghost use Rattle.token_client.specs.State.{held_in};
+ghost use Rattle.wire_msg.specs.declared.body.Body.TheVariants.{Report as Reports};
 ghost use Rattle.xfs_base.specs.Steps.{steps};
 
 use crate::Serving;
+use crate::reads::end_reading;
 use group_map::GroupMap;
+use log_owner::Managers;
 use node_base::Effects;
 use std::alloc::Global;
-use token_client::{In, Out};
+use token_client::{In, Out, Tokens};
 use wire_msg::{Body, News, Poll, Report, Welcome};
-use xfs_base::{List, Mem, NodeId, SlotNews};
+use xfs_base::{End, List, Mem, NodeId, SlotNews};
 
 impl Serving {
     /// A slot's new manager asks what the client holds.
@@ -40,7 +45,16 @@ impl Serving {
             return Ok(());
         }
         let outs = self.promise(alloc, slot, epoch, manager)?;
-        match self.report(alloc, effects, slot, epoch) {
+        let end = self.log.end();
+        match report(
+            alloc,
+            effects,
+            &self.tokens,
+            self.managers,
+            end,
+            slot,
+            epoch,
+        ) {
             Ok(()) => self.follow(alloc, effects, outs),
             Err(error) => {
                 drop(outs);
@@ -59,7 +73,7 @@ impl Serving {
         self.renew(alloc, slot, epoch)?;
         self.managers.set(slot, manager);
         let outs = self.tokens.take(alloc, In::Promise { slot, epoch })?;
-        self.end_reading();
+        end_reading(&self.tokens, &mut self.call);
         Ok(outs)
     }
 
@@ -73,18 +87,6 @@ impl Serving {
             drop(self.feed.take(alloc, delta_feed::In::NewEpoch { slot })?);
         }
         Ok(())
-    }
-
-    fn report(&self, alloc: Global, effects: &mut Effects, slot: u8, epoch: u32) -> Mem<()>
-        ensures { OnOk result (effects.new ≡ effects.old ++ report self.now slot epoch ∷ []) }
-    {
-        let report = Report {
-            slot,
-            epoch,
-            held: self.tokens.held(alloc, slot)?,
-            end: self.log.end(),
-        };
-        effects.send(self.managers.of(slot), Body::Report(report))
     }
 
     /// The answer to a question for the maps.
@@ -166,4 +168,25 @@ impl Serving {
         let groups = groups.copy(alloc)?;
         self.write(alloc, effects, client_log::In::Maps(groups))
     }
+}
+
+// Says what is held of a slot.
+fn report(
+    alloc: Global,
+    effects: &mut Effects,
+    tokens: &Tokens,
+    managers: Managers,
+    end: End,
+    slot: u8,
+    epoch: u32,
+) -> Mem<()>
+    ensures { OnOk result (effects.new ≡ effects.old ++ Send (manager_of managers slot) (Reports (record { slot = slot; epoch = epoch; held = held_in slot tokens.now.blocks; end = end })) ∷ []) }
+{
+    let report = Report {
+        slot,
+        epoch,
+        held: tokens.held(alloc, slot)?,
+        end,
+    };
+    effects.send(managers.of(slot), Body::Report(report))
 }

@@ -1,9 +1,10 @@
 //! Reading a block from a log.
 ghost use Rattle.std.specs.Prelude.{◌≡◌, ◌++◌, IfOk, OnOk, None, Some, map, slice_get};
 ghost use Rattle.client_node.specs.Packets.{block_read, ends_fetch, fetches_again, heard, on_found, on_missing, on_told, told_by};
-ghost use Rattle.client_node.specs.Reads.{ask_after, begins, call_with, confirmed_next, confirms, drawn_after, ends_reading, fetches, is_fetched, kept_while, loses_at, reading_in, reads, reads_over, same_at, same_target, target_of, value_at, value_in, with_reading};
+ghost use Rattle.client_node.specs.Reads.{ask_after, begins, call_with, confirmed_next, confirms, drawn_after, fetches, is_fetched, kept_while, loses_at, reading_in, reads, reads_over, same_at, same_target, target_of, value_at, value_in, with_reading};
 ghost use Rattle.log_owner.specs.Sending.{fetch};
 
+use crate::grants::lose;
 use crate::{Call, Serving};
 use group_map::GroupMap;
 use log_owner::send_fetch;
@@ -33,18 +34,8 @@ impl Serving {
         if self.call.is_none() {
             return Ok(());
         }
-        let reading = self.take_reading();
+        let reading = take_reading(&mut self.call);
         self.read_over(alloc, effects, target_of(block, place), reading)
-    }
-
-    fn take_reading(&mut self) -> Option<Reading>
-        ensures reading { result ≡ reading_in self.old.call }
-        ensures state { self.new ≡ with_reading self.old None }
-    {
-        match &mut self.call {
-            Some(call) => call.reading.take(),
-            None => None,
-        }
     }
 
     fn read_over(
@@ -80,24 +71,7 @@ impl Serving {
             return Ok(());
         };
         let reading = Reading::start(alloc, target, group, self.lasting.questions.draw())?;
-        self.ask_reading(alloc, effects, reading)
-    }
-
-    // The servers are asked, and the call reads so.
-    fn ask_reading(&mut self, alloc: Global, effects: &mut Effects, reading: Reading) -> Mem<()>
-        ensures state { OnOk result (self.new ≡ with_reading self.old (Some reading)) }
-        ensures effects { OnOk result (effects.new ≡ effects.old ++ fetches reading) }
-    {
-        match send_fetches(alloc, effects, &reading) {
-            Ok(()) => {
-                set_reading(&mut self.call, Some(reading));
-                Ok(())
-            }
-            Err(error) => {
-                drop(reading);
-                Err(error)
-            }
-        }
+        ask_reading(alloc, effects, &mut self.call, reading)
     }
 
     // The place of a block was confirmed: a further round begins, or the segment is lost.
@@ -144,7 +118,7 @@ impl Serving {
                 drop(reading);
                 self.lose_at(alloc, effects, block, seg.name)
             }
-            Next::Ask => self.ask_reading(alloc, effects, reading),
+            Next::Ask => ask_reading(alloc, effects, &mut self.call, reading),
             Next::Wait | Next::Again | Next::Read(_) => {
                 set_reading(&mut self.call, Some(reading));
                 Ok(())
@@ -152,6 +126,7 @@ impl Serving {
         }
     }
 
+    #[tactic(auto, unfolding(crate::specs::Reads::loses))]
     fn lose_at(
         &mut self,
         alloc: Global,
@@ -163,7 +138,15 @@ impl Serving {
         ensures effects { OnOk result (effects.new ≡ effects.old ++ (loses_at self.old at seg).outs) }
     {
         match at {
-            Some(at) => self.lose(alloc, effects, at.block, seg),
+            Some(at) => lose(
+                alloc,
+                effects,
+                &mut self.lasting,
+                &mut self.call,
+                &mut self.tokens,
+                at.block,
+                seg,
+            ),
             None => Ok(()),
         }
     }
@@ -263,27 +246,59 @@ impl Serving {
             Next::Wait | Next::Ask | Next::Lost => Ok(()),
         }
     }
+}
 
-    /// A reading ends with the fetch that it is for.
-    pub(crate) fn end_reading(&mut self)
-        ensures { self.new ≡ ends_reading self.old }
-    {
-        if let Some(call) = &mut self.call {
-            let reading = call.reading.take();
-            drop(mem::replace(&mut call.reading, kept_while(&self.tokens, reading)));
-        }
+/// A reading ends with the fetch that it is for.
+pub(crate) fn end_reading(tokens: &Tokens, call: &mut Option<Call>)
+    ensures { call.new ≡ call_with call.old (kept_while tokens.now (reading_in call.old)) }
+{
+    if let Some(call) = call {
+        let reading = call.reading.take();
+        drop(mem::replace(&mut call.reading, kept_while(tokens, reading)));
     }
+}
 
-    /// Asks the servers again that have not answered.
-    pub(crate) fn fetch_again(&self, alloc: Global, effects: &mut Effects) -> Mem<()>
-        ensures { OnOk result (effects.new ≡ effects.old ++ fetches_again (reading_in self.now.call)) }
-    {
-        let Some(call) = &self.call else {
-            return Ok(());
-        };
-        match &call.reading {
-            Some(reading) => send_fetches(alloc, effects, reading),
-            None => Ok(()),
+/// Asks the servers again that have not answered.
+pub(crate) fn fetch_again(alloc: Global, effects: &mut Effects, call: &Option<Call>) -> Mem<()>
+    ensures { OnOk result (effects.new ≡ effects.old ++ fetches_again (reading_in call.now)) }
+{
+    let Some(call) = call else {
+        return Ok(());
+    };
+    match &call.reading {
+        Some(reading) => send_fetches(alloc, effects, reading),
+        None => Ok(()),
+    }
+}
+
+fn take_reading(call: &mut Option<Call>) -> Option<Reading>
+    ensures reading { result ≡ reading_in call.old }
+    ensures call { call.new ≡ call_with call.old None }
+{
+    match call {
+        Some(call) => call.reading.take(),
+        None => None,
+    }
+}
+
+// The servers are asked, and the call reads so.
+fn ask_reading(
+    alloc: Global,
+    effects: &mut Effects,
+    call: &mut Option<Call>,
+    reading: Reading,
+) -> Mem<()>
+    ensures call { OnOk result (call.new ≡ call_with call.old (Some reading)) }
+    ensures effects { OnOk result (effects.new ≡ effects.old ++ fetches reading) }
+{
+    match send_fetches(alloc, effects, &reading) {
+        Ok(()) => {
+            set_reading(call, Some(reading));
+            Ok(())
+        }
+        Err(error) => {
+            drop(reading);
+            Err(error)
         }
     }
 }

@@ -1,7 +1,6 @@
 //! A client whose log is open again.
 ghost use Rattle.std.specs.Prelude.{◌≡◌, ◌++◌, ◌∷◌, IfOk, OnOk};
-ghost use Rattle.client_node.specs.declared.phase.Phase.TheVariants.{Down};
-ghost use Rattle.client_node.specs.Phases.{after_opening, back};
+ghost use Rattle.client_node.specs.Phases.{after_opening, back, served};
 ghost use Rattle.log_owner.specs.Sending.{pushes_all};
 ghost use Rattle.node_base.specs.Beginning.{answered, answers_unanswered};
 ghost use Rattle.node_base.specs.declared.effects.Effect.TheVariants.{Does};
@@ -29,19 +28,21 @@ pub(crate) fn after(
 {
     match progress {
         Progress::Opening(opening) => Ok(Phase::Opening(lasting, opening)),
-        Progress::Opened(opened) => back(alloc, effects, lasting, cache, opened),
-        Progress::Lost(seg) => lost(effects, lasting, seg),
+        Progress::Opened(opened) => {
+            Ok(Phase::Serving(back(alloc, effects, lasting, cache, opened)?))
+        }
+        Progress::Lost(seg) => Ok(Phase::Down(lost(effects, lasting, seg)?)),
     }
 }
 
 // The log is lost: the client is down, and the restart is answered so.
-fn lost(effects: &mut Effects, lasting: Lasting, seg: SegName) -> Mem<Phase>
-    ensures phase { IfOk result (λ phase. phase ≡ Down (record lasting { items = answered lasting.items })) }
+fn lost(effects: &mut Effects, lasting: Lasting, seg: SegName) -> Mem<Lasting>
+    ensures lasting { IfOk result (λ left. left ≡ record lasting { items = answered lasting.items }) }
     ensures effects { OnOk result (effects.new ≡ effects.old ++ answers_unanswered lasting.items.unanswered (answer.Lost seg)) }
 {
     let mut lasting = lasting;
     match lasting.answer(effects, Answer::Lost(seg)) {
-        Ok(()) => Ok(Phase::Down(lasting)),
+        Ok(()) => Ok(lasting),
         Err(error) => {
             drop(lasting);
             Err(error)
@@ -56,8 +57,8 @@ fn back(
     lasting: Lasting,
     cache: u16,
     opened: Opened,
-) -> Mem<Phase>
-    ensures phase { IfOk result (λ phase. phase ≡ (back lasting cache opened).state) }
+) -> Mem<Serving>
+    ensures serving { IfOk result (λ serving. serving ≡ served lasting cache opened) }
     ensures effects { OnOk result (effects.new ≡ effects.old ++ (back lasting cache opened).outs) }
 {
     let Opened {
@@ -71,7 +72,7 @@ fn back(
         Ok(serving) => {
             let mut serving = serving;
             match say_back(alloc, effects, &mut serving, chain) {
-                Ok(()) => Ok(Phase::Serving(serving)),
+                Ok(()) => Ok(serving),
                 Err(error) => {
                     drop(serving);
                     Err(error)

@@ -71,7 +71,7 @@ impl Serving {
     {
         match made {
             None => {
-                self.hold(call);
+                hold(&mut self.call, call);
                 Ok(false)
             }
             Some(answer) => {
@@ -97,17 +97,17 @@ impl Serving {
     {
         match going {
             Going::On(call) => {
-                self.hold(call);
+                hold(&mut self.call, call);
                 Ok(())
             }
             Going::Ends(answer) => self.lasting.answer(effects, answer),
         }
     }
+}
 
-    // This call is open.
-    fn hold(&mut self, call: Call)
-        ensures { self.new ≡ record self.old { call = Some call } }
-    {
-        drop(mem::replace(&mut self.call, Some(call)));
-    }
+// This call is open.
+fn hold(open: &mut Option<Call>, call: Call)
+    ensures { open.new ≡ Some call }
+{
+    drop(mem::replace(open, Some(call)));
 }

@@ -1,9 +1,11 @@
 //! A client that serves.
-ghost use Rattle.std.specs.Prelude.{◌≡◌, ◌++◌, IfOk, OnOk, None, Some};
+ghost use Rattle.std.specs.Prelude.{◌≡◌, ◌++◌, ◌∷◌, [], IfOk, OnOk};
 ghost use Rattle.client_node.specs.Bodies.{on_log_body, on_map_body};
-ghost use Rattle.client_node.specs.Packets.{asks_for_maps, epochs_room, on_ack, on_body, on_packet, on_tick};
+ghost use Rattle.client_node.specs.Packets.{epochs_room, on_ack, on_body, on_packet, on_tick};
 ghost use Rattle.client_node.specs.Phases.{begins_call, call_at, opens, returned, serving_room};
 ghost use Rattle.client_node.specs.Starting.{cached_upto, empty_end, first_serving};
+ghost use Rattle.log_owner.specs.Sending.{hello};
+ghost use Rattle.node_base.specs.Asking.{next_ask, drawn};
 ghost use Rattle.node_base.specs.Beginning.{work_at};
 ghost use Rattle.segment_format.specs.Format.{IsLog};
 ghost use Rattle.token_client.specs.State.{started};
@@ -11,6 +13,8 @@ ghost use Rattle.client_log.specs.LogState as logs;
 ghost use Rattle.coop_cache.specs.CacheState as caches;
 ghost use Rattle.delta_feed.specs.FeedState as feeds;
 
+use crate::grants::forward;
+use crate::reads::fetch_again;
 use crate::{Call, Going, Lasting};
 use client_log::Log;
 use coop_cache::Cache;
@@ -89,7 +93,7 @@ impl Serving {
     }
 
     /// Takes a packet. One that names a group that isn't known is dropped, and the maps are asked for.
-    #[tactic(auto, unfolding(crate::specs::Packets::on_packet))]
+    #[tactic(auto, unfolding(crate::specs::Packets::on_packet, crate::specs::Packets::asks_for_maps))]
     pub fn take(&mut self, alloc: Global, effects: &mut Effects, packet: &Packet) -> Mem<()>
         ensures state { OnOk result (self.new ≡ (on_packet self.old packet.now).state) }
         ensures effects { OnOk result (effects.new ≡ effects.old ++ (on_packet self.old packet.now).outs) }
@@ -97,11 +101,12 @@ impl Serving {
         if names_known_groups(&self.maps, &packet.body) {
             self.take_body(alloc, effects, packet.from, &packet.body)
         } else {
-            self.ask_for_maps(effects)
+            ask_for_maps(effects, &mut self.lasting)
         }
     }
 
     // A body about blocks, or another.
+    #[tactic(auto, unfolding(crate::specs::Packets::on_forward))]
     fn take_body(
         &mut self,
         alloc: Global,
@@ -115,7 +120,7 @@ impl Serving {
         match body {
             Body::Grant(grant) => self.on_grant(alloc, effects, *grant),
             Body::Supply(supply) => self.on_supply(alloc, effects, supply),
-            Body::Forward(forward) => self.on_forward(alloc, effects, *forward),
+            Body::Forward(asked) => forward(alloc, effects, &mut self.tokens, *asked),
             Body::Recall(recall) => self.on_recall(alloc, effects, *recall),
             Body::Gone(gone) => self.on_gone(alloc, effects, *gone),
             _ => self.take_log_body(alloc, effects, from, body),
@@ -161,15 +166,6 @@ impl Serving {
         }
     }
 
-    // The maps are asked for, under a new question.
-    #[tactic(auto, unfolding(crate::specs::Packets::asks_for_maps))]
-    fn ask_for_maps(&mut self, effects: &mut Effects) -> Mem<()>
-        ensures state { OnOk result (self.new ≡ (asks_for_maps self.old).state) }
-        ensures effects { OnOk result (effects.new ≡ effects.old ++ (asks_for_maps self.old).outs) }
-    {
-        send_hello(effects, self.lasting.inc, self.lasting.questions.draw())
-    }
-
     /// Time passes: what waits for an answer is said again.
     #[tactic(auto, unfolding(crate::specs::Packets::on_tick))]
     pub fn tick(&mut self, alloc: Global, effects: &mut Effects) -> Mem<()>
@@ -177,7 +173,7 @@ impl Serving {
         ensures effects { OnOk result (effects.new ≡ effects.old ++ (on_tick self.old).outs) }
     {
         self.hand(alloc, effects, token_client::In::Tick)?;
-        self.fetch_again(alloc, effects)?;
+        fetch_again(alloc, effects, &self.call)?;
         self.write(alloc, effects, client_log::In::Tick)?;
         push_all(alloc, effects, &mut self.feed, self.managers)
     }
@@ -247,6 +243,14 @@ impl Serving {
         }
         Ok(())
     }
+}
+
+// The maps are asked for, under a new question.
+fn ask_for_maps(effects: &mut Effects, lasting: &mut Lasting) -> Mem<()>
+    ensures lasting { OnOk result (lasting.new ≡ record lasting.old { questions = drawn lasting.old.questions }) }
+    ensures effects { OnOk result (effects.new ≡ effects.old ++ hello lasting.old.inc (next_ask lasting.old.questions) ∷ []) }
+{
+    send_hello(effects, lasting.inc, lasting.questions.draw())
 }
 
 // Whether the promised epochs are not near the end.

@@ -1,6 +1,6 @@
 use Rattle.std.proofs.Common.{◌≡◌, ◌↔◌, ◌==◌, ◌&&◌, Bool, true, false, IsTrue, List, [], ◌∷◌, length, Option, Some, None, is_none, refl, arith}
 use Rattle.std.proofs.lemmas.Bool.Decides.{nat_tests}
-use Rattle.client_node.proofs.serving.Serving.is_settled.Goals as goal
+use Rattle.client_node.proofs.blocks.is_settled.Goals as goal
 
 -- both facts as one test
 as_test : {A B : Type 0} (b : Bool) (dirty : List A) (flight : Option B) → IsTrue b ↔ ((dirty ≡ []) × (flight ≡ None))
@@ -15,4 +15,4 @@ as_test false (x ∷ xs) None h = grind (arith, nat_tests)
 as_test false (x ∷ xs) (Some f) h = refl
 
 pub returns : goal.returns
-returns c = as_test c.is_settled.result c.args.self.now.log.dirty c.args.self.now.log.flight c.is_settled.ensures
+returns c = as_test c.is_settled.result c.args.log.now.dirty c.args.log.now.flight c.is_settled.ensures
