@@ -1,6 +1,6 @@
 //! Calls on blocks.
 ghost use Rattle.std.specs.Prelude.{◌≡◌, ◌+◌, ◌++◌, ◌∷◌, [], ◌==◌, ◌&&◌, if◌then◌else◌, is_none, length, IfOk, OnOk, None, Some, true};
-ghost use Rattle.client_node.specs.Blocks.{gets, value_of, puts, puts_at, puts_again, syncs, needs, put_of, changes, changes_if_fits, lets_go, makes};
+ghost use Rattle.client_node.specs.Blocks.{gets, value_of, puts, puts_at, puts_again, syncs, put_of, changes, changes_if_fits, lets_go, makes};
 ghost use Rattle.client_node.specs.Fitting.{put_fits};
 ghost use Rattle.client_node.specs.Flights.{held_at};
 ghost use Rattle.coop_cache.specs.Transition.{left};
@@ -58,7 +58,15 @@ impl Serving {
         ensures answer { IfOk result (λ answer. answer ≡ (gets self.old block).answer) }
     {
         if self.tokens.mode(block).is_nothing() {
-            return self.need(alloc, effects, block, Mode::Copy);
+            self.hand(
+                alloc,
+                effects,
+                In::Need {
+                    block,
+                    mode: Mode::Copy,
+                },
+            )?;
+            return Ok(None);
         }
         drop(self.cache.take(alloc, coop_cache::In::Touch(block))?);
         let answer = read(alloc, effects, self.lasting.number, &self.tokens, block)?;
@@ -78,7 +86,15 @@ impl Serving {
         ensures answer { IfOk result (λ answer. answer ≡ (puts self.old block value.now).answer) }
     {
         if !may_put(&self.tokens, block) {
-            return self.need(alloc, effects, block, Mode::Own);
+            self.hand(
+                alloc,
+                effects,
+                In::Need {
+                    block,
+                    mode: Mode::Own,
+                },
+            )?;
+            return Ok(None);
         }
         self.change_if_fits(alloc, effects, block, value)
     }
@@ -97,7 +113,15 @@ impl Serving {
         ensures answer { IfOk result (λ answer. answer ≡ (puts_at self.old block ver value.now).answer) }
     {
         if !may_put(&self.tokens, block) {
-            return self.need(alloc, effects, block, Mode::Own);
+            self.hand(
+                alloc,
+                effects,
+                In::Need {
+                    block,
+                    mode: Mode::Own,
+                },
+            )?;
+            return Ok(None);
         }
         self.put_again(alloc, effects, block, ver, value)
     }
@@ -131,22 +155,6 @@ impl Serving {
     {
         seal(alloc, effects, &mut self.log)?;
         synced(effects, self.lasting.number, is_settled(&self.log))
-    }
-
-    // Asks for a block, unless it is asked for already.
-    fn need(
-        &mut self,
-        alloc: Global,
-        effects: &mut Effects,
-        block: BlockId,
-        mode: Mode,
-    ) -> Mem<Option<BlockAnswer>>
-        ensures state { OnOk result (self.new ≡ (needs self.old block mode).done.state) }
-        ensures effects { OnOk result (effects.new ≡ effects.old ++ (needs self.old block mode).done.outs) }
-        ensures answer { IfOk result (λ answer. answer ≡ (needs self.old block mode).answer) }
-    {
-        self.hand(alloc, effects, In::Need { block, mode })?;
-        Ok(None)
     }
 
     // Writes a block that may be written, as a segment can hold what is put.
@@ -218,11 +226,11 @@ impl Serving {
     fn let_go(&mut self, alloc: Global, block: BlockId) -> Mem<()>
         ensures { OnOk result (self.new ≡ lets_go self.old block) }
     {
-        if self.tokens.value(block).is_none() {
-            drop(self.tokens.take(alloc, In::Evict { block })?);
-            self.note_gone(alloc, block)?;
+        if !self.tokens.value(block).is_none() {
+            return Ok(());
         }
-        Ok(())
+        drop(self.tokens.take(alloc, In::Evict { block })?);
+        self.note_gone(alloc, block)
     }
 }
 

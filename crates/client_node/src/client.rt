@@ -1,7 +1,7 @@
 //! The client as a node: what each event makes of it.
 ghost use Rattle.std.specs.Prelude.{◌≡◌, ◌++◌, ℕ, IfOk, OnOk};
 ghost use Rattle.client_node.specs.declared.phase.Phase.TheVariants.{Opening as Opens, Serving as Serves};
-ghost use Rattle.client_node.specs.Phases.{on_begin, delivers, on_deliver, on_time, on_event, opened_on, happens, client_room, phase_room, takes};
+ghost use Rattle.client_node.specs.Phases.{on_begin, delivers, on_time, on_event, opened_on, client_room, phase_room, takes};
 ghost use Rattle.client_node.specs.Packets.{on_packet, on_tick};
 ghost use Rattle.client_node.specs.Running.{runs};
 ghost use Rattle.client_node.specs.Starting.{first_client};
@@ -103,13 +103,6 @@ impl Client {
         if !self.has_room() {
             return Ok(self);
         }
-        self.happens(alloc, effects, what)
-    }
-
-    fn happens(self, alloc: Global, effects: &mut Effects, what: &Do) -> Mem<Client>
-        ensures client { IfOk result (λ client. client ≡ record self { phase = (happens self what.now).state }) }
-        ensures effects { OnOk result (effects.new ≡ effects.old ++ (happens self what.now).outs) }
-    {
         let Client {
             peers,
             cache,
@@ -215,7 +208,8 @@ fn begin_to_serve(
     }
 }
 
-// A packet comes.
+// A packet comes. A client that is down takes none.
+#[tactic(auto, unfolding(crate::specs::Phases::on_deliver))]
 fn deliver(
     alloc: Global,
     effects: &mut Effects,
@@ -230,7 +224,22 @@ fn deliver(
     if !is_well_formed(peers, packet) {
         return Ok(phase);
     }
-    take(alloc, effects, cache, phase, packet)
+    match phase {
+        Phase::Down(lasting) => Ok(Phase::Down(lasting)),
+        Phase::Opening(lasting, opening) => {
+            take_opening(alloc, effects, cache, lasting, opening, packet)
+        }
+        Phase::Serving(serving) => {
+            let mut serving = serving;
+            match take_and_run(alloc, effects, &mut serving, packet) {
+                Ok(()) => Ok(Phase::Serving(serving)),
+                Err(error) => {
+                    drop(serving);
+                    Err(error)
+                }
+            }
+        }
+    }
 }
 
 // A packet comes to a client that serves, and the open call is looked at.
@@ -254,36 +263,6 @@ fn tick_and_run(alloc: Global, effects: &mut Effects, serving: &mut Serving) -> 
 {
     serving.tick(alloc, effects)?;
     serving.run(alloc, effects)
-}
-
-// A client that is down takes no packet.
-#[tactic(auto, unfolding(crate::specs::Phases::on_deliver))]
-fn take(
-    alloc: Global,
-    effects: &mut Effects,
-    cache: u16,
-    phase: Phase,
-    packet: &Packet,
-) -> Mem<Phase>
-    ensures phase { IfOk result (λ after. after ≡ (on_deliver cache phase packet.now).state) }
-    ensures effects { OnOk result (effects.new ≡ effects.old ++ (on_deliver cache phase packet.now).outs) }
-{
-    match phase {
-        Phase::Down(lasting) => Ok(Phase::Down(lasting)),
-        Phase::Opening(lasting, opening) => {
-            take_opening(alloc, effects, cache, lasting, opening, packet)
-        }
-        Phase::Serving(serving) => {
-            let mut serving = serving;
-            match take_and_run(alloc, effects, &mut serving, packet) {
-                Ok(()) => Ok(Phase::Serving(serving)),
-                Err(error) => {
-                    drop(serving);
-                    Err(error)
-                }
-            }
-        }
-    }
 }
 
 fn take_opening(

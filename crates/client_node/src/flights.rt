@@ -2,7 +2,7 @@
 ghost use Rattle.std.specs.Prelude.{◌≡◌, ◌++◌, IfOk, OnOk, fold};
 ghost use Rattle.std.specs.List.{flat_map, list_any};
 ghost use Rattle.client_log.specs.Transition.{on_seal};
-ghost use Rattle.client_node.specs.Flights.{feeds, gives_if_clean, is_giving, is_settling, is_to_give, keeps_clean, on_stored, seals_again, settled_rows, settles, writes, writes_one};
+ghost use Rattle.client_node.specs.Flights.{feeds, gives_if_clean, is_giving, is_settling, is_to_give, keeps_clean, seals_again, settled_rows, settles, writes, writes_one};
 ghost use Rattle.client_node.specs.Parts.{row_settled};
 ghost use Rattle.delta_feed.specs.Transition.{settled};
 ghost use Rattle.log_owner.specs.Opening.{stored};
@@ -20,7 +20,6 @@ use node_base::Effects;
 use std::alloc::Global;
 use token_client::Tokens;
 use version_model::Act;
-use wire_msg::Stored;
 use xfs_base::{BlockId, End, Entry, List, Mem};
 
 impl Serving {
@@ -67,24 +66,6 @@ impl Serving {
             seal(alloc, effects, &mut self.log)?;
         }
         Ok(())
-    }
-
-    /// A server holds a fragment of the segment in flight.
-    pub(crate) fn on_stored(
-        &mut self,
-        alloc: Global,
-        effects: &mut Effects,
-        stored: Stored,
-    ) -> Mem<()>
-        ensures state { OnOk result (self.new ≡ (on_stored self.old stored).state) }
-        ensures effects { OnOk result (effects.new ≡ effects.old ++ (on_stored self.old stored).outs) }
-    {
-        let input = In::Acked {
-            name: stored.name,
-            index: stored.index,
-            generation: stored.generation,
-        };
-        self.write(alloc, effects, input)
     }
 
     // A segment is settled.

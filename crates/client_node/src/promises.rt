@@ -108,22 +108,14 @@ impl Serving {
 
     /// The maps: newer groups are taken, then slots of greater epochs in order, and then it is looked
     /// whether the segment in flight is settled.
+    #[tactic(auto, unfolding(crate::specs::Packets::takes_news))]
     pub(crate) fn on_news(&mut self, alloc: Global, effects: &mut Effects, news: &News) -> Mem<()>
         ensures state { OnOk result (self.new ≡ (on_news self.old news.now).state) }
         ensures effects { OnOk result (effects.new ≡ effects.old ++ (on_news self.old news.now).outs) }
     {
-        if self.maps.fits(news) {
-            self.take_news(alloc, effects, news)
-        } else {
-            Ok(())
+        if !self.maps.fits(news) {
+            return Ok(());
         }
-    }
-
-    #[tactic(auto, unfolding(crate::specs::Packets::takes_news))]
-    fn take_news(&mut self, alloc: Global, effects: &mut Effects, news: &News) -> Mem<()>
-        ensures state { OnOk result (self.new ≡ (takes_news self.old news.now).state) }
-        ensures effects { OnOk result (effects.new ≡ effects.old ++ (takes_news self.old news.now).outs) }
-    {
         let newer = self.maps.take(alloc, news)?;
         self.hear_all(alloc, effects, news.slots.as_slice())?;
         self.regroup(alloc, effects, newer, &news.groups)

@@ -1,6 +1,6 @@
 //! A client that serves.
 ghost use Rattle.std.specs.Prelude.{◌≡◌, ◌++◌, ◌∷◌, [], IfOk, OnOk};
-ghost use Rattle.client_node.specs.Bodies.{on_log_body, on_map_body};
+ghost use Rattle.client_node.specs.Bodies.{on_log_body};
 ghost use Rattle.client_node.specs.Packets.{epochs_room, on_ack, on_body, on_packet, on_tick};
 ghost use Rattle.client_node.specs.Phases.{begins_call, call_at, opens, returned, serving_room};
 ghost use Rattle.client_node.specs.Starting.{cached_upto, empty_end, first_serving};
@@ -9,6 +9,7 @@ ghost use Rattle.node_base.specs.Asking.{next_ask, drawn};
 ghost use Rattle.node_base.specs.Beginning.{work_at};
 ghost use Rattle.segment_format.specs.Format.{IsLog};
 ghost use Rattle.token_client.specs.State.{started};
+ghost use Rattle.client_log.specs.declared.input.In.TheVariants.{Acked};
 ghost use Rattle.client_log.specs.LogState as logs;
 ghost use Rattle.coop_cache.specs.CacheState as caches;
 ghost use Rattle.delta_feed.specs.FeedState as feeds;
@@ -26,7 +27,7 @@ use node_base::{Effects, Maps, has_room, names_known_groups};
 use std::alloc::Global;
 use token_client::Tokens;
 use version_model::Answer;
-use wire_msg::{Body, DeltaAck, Packet};
+use wire_msg::{Body, DeltaAck, Packet, Stored};
 use xfs_base::{End, LogId, Mem, NodeId, Pass};
 
 /// What a client that serves has. The tokens keep which epoch each slot is promised to.
@@ -127,7 +128,7 @@ impl Serving {
         }
     }
 
-    // A body about a log, or one about the maps.
+    // A body about a log, the maps or the promises.
     fn take_log_body(
         &mut self,
         alloc: Global,
@@ -140,25 +141,9 @@ impl Serving {
     {
         match body {
             Body::DeltaAck(ack) => self.on_ack(alloc, *ack),
-            Body::Stored(stored) => self.on_stored(alloc, effects, *stored),
+            Body::Stored(stored) => self.write(alloc, effects, acked(*stored)),
             Body::Fragment(found) => self.on_found(alloc, effects, from, found),
             Body::Missing(missing) => self.on_missing(alloc, effects, from, *missing),
-            _ => self.take_map_body(alloc, effects, from, body),
-        }
-    }
-
-    // A body about the maps or the promises.
-    fn take_map_body(
-        &mut self,
-        alloc: Global,
-        effects: &mut Effects,
-        from: NodeId,
-        body: &Body,
-    ) -> Mem<()>
-        ensures state { OnOk result (self.new ≡ (on_map_body self.old from body.now).state) }
-        ensures effects { OnOk result (effects.new ≡ effects.old ++ (on_map_body self.old from body.now).outs) }
-    {
-        match body {
             Body::Poll(poll) => self.on_poll(alloc, effects, from, *poll),
             Body::MapNews(news) => self.on_news(alloc, effects, news),
             Body::Welcome(welcome) => self.on_welcome(alloc, effects, welcome),
@@ -242,6 +227,17 @@ impl Serving {
             drop(self.feed.take(alloc, input)?);
         }
         Ok(())
+    }
+}
+
+// A server holds a fragment of the segment in flight.
+fn acked(stored: Stored) -> client_log::In
+    ensures { result ≡ Acked stored.name stored.index stored.generation }
+{
+    client_log::In::Acked {
+        name: stored.name,
+        index: stored.index,
+        generation: stored.generation,
     }
 }
 
