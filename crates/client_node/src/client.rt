@@ -1,11 +1,10 @@
 //! The client as a node: what each event makes of it.
 ghost use Rattle.std.specs.Prelude.{◌≡◌, ◌++◌, ℕ, IfOk, OnOk};
-ghost use Rattle.client_node.specs.declared.phase.Phase.TheVariants.{Opening as Opens, Serving as Serves};
-ghost use Rattle.client_node.specs.Phases.{on_begin, delivers, on_time, on_event, opened_on, client_room, phase_room, takes};
+ghost use Rattle.client_node.specs.declared.phase.Phase.TheVariants.{Opening as Opens};
+ghost use Rattle.client_node.specs.Phases.{on_begin, delivers, on_time, on_event, client_room, phase_room, takes};
 ghost use Rattle.client_node.specs.Packets.{on_packet, on_tick};
 ghost use Rattle.client_node.specs.Running.{runs};
 ghost use Rattle.client_node.specs.Starting.{first_client};
-ghost use Rattle.log_owner.specs.Opening as log_opening;
 ghost use Rattle.node_base.specs.Setups.{IsSetup};
 ghost use Rattle.segment_format.specs.Format.{IsLog};
 
@@ -145,7 +144,8 @@ fn phase_has_room(phase: &Phase) -> bool
     }
 }
 
-// The next item begins.
+// The next item begins. What isn't held on is dropped by a call, here and below, so that each part of it is
+// dropped in one proof.
 fn begin(alloc: Global, effects: &mut Effects, peers: Peers, phase: Phase) -> Mem<Phase>
     ensures phase { IfOk result (λ after. after ≡ (on_begin peers.servers phase).state) }
     ensures effects { OnOk result (effects.new ≡ effects.old ++ (on_begin peers.servers phase).outs) }
@@ -163,12 +163,21 @@ fn begin(alloc: Global, effects: &mut Effects, peers: Peers, phase: Phase) -> Me
             }
         }
         Phase::Opening(lasting, opening) => begin_to_open(effects, lasting, opening),
-        Phase::Serving(serving) => begin_to_serve(alloc, effects, peers, serving),
+        Phase::Serving(serving) => {
+            let mut serving = serving;
+            match begin_serving(alloc, effects, peers.servers, &mut serving) {
+                Ok(true) => Ok(Phase::Down(what_outlives(serving))),
+                Ok(false) => Ok(Phase::Serving(serving)),
+                Err(error) => {
+                    drop(serving);
+                    Err(error)
+                }
+            }
+        }
     }
 }
 
-// The next item begins at a client that opens its log. What isn't held on is dropped by a call, here and
-// below, so that each part of it is dropped in one proof.
+// The next item begins at a client that opens its log.
 fn begin_to_open(effects: &mut Effects, lasting: Lasting, opening: Opening) -> Mem<Phase>
     ensures phase { IfOk result (λ after. (servers : ℕ) → after ≡ (on_begin servers (Opens lasting opening)).state) }
     ensures effects { OnOk result ((servers : ℕ) → effects.new ≡ effects.old ++ (on_begin servers (Opens lasting opening)).outs) }
@@ -183,26 +192,6 @@ fn begin_to_open(effects: &mut Effects, lasting: Lasting, opening: Opening) -> M
         Err(error) => {
             drop(lasting);
             drop(opening);
-            Err(error)
-        }
-    }
-}
-
-fn begin_to_serve(
-    alloc: Global,
-    effects: &mut Effects,
-    peers: Peers,
-    serving: Serving,
-) -> Mem<Phase>
-    ensures phase { IfOk result (λ after. after ≡ (on_begin peers.servers (Serves serving)).state) }
-    ensures effects { OnOk result (effects.new ≡ effects.old ++ (on_begin peers.servers (Serves serving)).outs) }
-{
-    let mut serving = serving;
-    match begin_serving(alloc, effects, peers.servers, &mut serving) {
-        Ok(true) => Ok(Phase::Down(what_outlives(serving))),
-        Ok(false) => Ok(Phase::Serving(serving)),
-        Err(error) => {
-            drop(serving);
             Err(error)
         }
     }
@@ -227,7 +216,14 @@ fn deliver(
     match phase {
         Phase::Down(lasting) => Ok(Phase::Down(lasting)),
         Phase::Opening(lasting, opening) => {
-            take_opening(alloc, effects, cache, lasting, opening, packet)
+            let mut lasting = lasting;
+            match opening.take(alloc, effects, &mut lasting.questions, packet) {
+                Ok(progress) => after(alloc, effects, lasting, cache, progress),
+                Err(error) => {
+                    drop(lasting);
+                    Err(error)
+                }
+            }
         }
         Phase::Serving(serving) => {
             let mut serving = serving;
@@ -265,27 +261,6 @@ fn tick_and_run(alloc: Global, effects: &mut Effects, serving: &mut Serving) -> 
     serving.run(alloc, effects)
 }
 
-fn take_opening(
-    alloc: Global,
-    effects: &mut Effects,
-    cache: u16,
-    lasting: Lasting,
-    opening: Opening,
-    packet: &Packet,
-) -> Mem<Phase>
-    ensures phase { IfOk result (λ after. after ≡ (opened_on lasting cache (log_opening.on_packet opening lasting.questions packet.now)).state) }
-    ensures effects { OnOk result (effects.new ≡ effects.old ++ (opened_on lasting cache (log_opening.on_packet opening lasting.questions packet.now)).outs) }
-{
-    let mut lasting = lasting;
-    match opening.take(alloc, effects, &mut lasting.questions, packet) {
-        Ok(progress) => after(alloc, effects, lasting, cache, progress),
-        Err(error) => {
-            drop(lasting);
-            Err(error)
-        }
-    }
-}
-
 // Time passes.
 #[tactic(auto, unfolding(crate::specs::Phases::on_time))]
 fn tick(alloc: Global, effects: &mut Effects, cache: u16, phase: Phase) -> Mem<Phase>
@@ -294,7 +269,16 @@ fn tick(alloc: Global, effects: &mut Effects, cache: u16, phase: Phase) -> Mem<P
 {
     match phase {
         Phase::Down(lasting) => Ok(Phase::Down(lasting)),
-        Phase::Opening(lasting, opening) => tick_opening(alloc, effects, cache, lasting, opening),
+        Phase::Opening(lasting, opening) => {
+            let mut lasting = lasting;
+            match opening.tick(alloc, effects, &mut lasting.questions) {
+                Ok(progress) => after(alloc, effects, lasting, cache, progress),
+                Err(error) => {
+                    drop(lasting);
+                    Err(error)
+                }
+            }
+        }
         Phase::Serving(serving) => {
             let mut serving = serving;
             match tick_and_run(alloc, effects, &mut serving) {
@@ -304,26 +288,6 @@ fn tick(alloc: Global, effects: &mut Effects, cache: u16, phase: Phase) -> Mem<P
                     Err(error)
                 }
             }
-        }
-    }
-}
-
-fn tick_opening(
-    alloc: Global,
-    effects: &mut Effects,
-    cache: u16,
-    lasting: Lasting,
-    opening: Opening,
-) -> Mem<Phase>
-    ensures phase { IfOk result (λ after. after ≡ (opened_on lasting cache (log_opening.on_tick opening lasting.questions)).state) }
-    ensures effects { OnOk result (effects.new ≡ effects.old ++ (opened_on lasting cache (log_opening.on_tick opening lasting.questions)).outs) }
-{
-    let mut lasting = lasting;
-    match opening.tick(alloc, effects, &mut lasting.questions) {
-        Ok(progress) => after(alloc, effects, lasting, cache, progress),
-        Err(error) => {
-            drop(lasting);
-            Err(error)
         }
     }
 }
