@@ -2,7 +2,7 @@
 ghost use Rattle.std.specs.Prelude.{◌≡◌, ◌++◌, ℕ, IfOk, OnOk};
 ghost use Rattle.client_node.specs.declared.phase.Phase.TheVariants.{Down, Opening as Opens, Serving as Serves};
 ghost use Rattle.client_node.specs.Parts.{after_down, after_opening, after_serving};
-ghost use Rattle.client_node.specs.Phases.{wish_at, on_begin, down_begins, opening_begins, serving_begins, crashed, next_life, restarted};
+ghost use Rattle.client_node.specs.Phases.{wish_at, on_begin, down_begins, opening_begins, crashed, next_life, restarted};
 ghost use Rattle.log_owner.specs.declared.opening.Opening.{Opening as AnOpening};
 ghost use Rattle.node_base.specs.Beginning.{answered};
 
@@ -144,21 +144,7 @@ pub(crate) fn begin_serving(
     let Some(number) = serving.lasting.items.begin() else {
         return Ok(false);
     };
-    let wish = wish_at(&serving.lasting, number);
-    serving_begins(alloc, effects, serving, number, wish)
-}
-
-fn serving_begins(
-    alloc: Global,
-    effects: &mut Effects,
-    serving: &mut Serving,
-    number: u32,
-    wish: Wish,
-) -> Mem<bool>
-    ensures phase { IfOk result (λ down. after_serving serving.new down ≡ (serving_begins serving.old number wish).state) }
-    ensures effects { OnOk result (effects.new ≡ effects.old ++ (serving_begins serving.old number wish).outs) }
-{
-    match wish {
+    match wish_at(&serving.lasting, number) {
         Wish::Crash => {
             serving.fall(alloc, effects)?;
             cut(effects, &mut serving.lasting, number)?;

@@ -1,6 +1,6 @@
 //! Calls on blocks.
 ghost use Rattle.std.specs.Prelude.{◌≡◌, ◌+◌, ◌++◌, ◌∷◌, [], ◌==◌, ◌&&◌, if◌then◌else◌, is_none, length, IfOk, OnOk, None, Some, true};
-ghost use Rattle.client_node.specs.Blocks.{gets, value_of, puts, puts_at, puts_again, syncs, put_of, changes, changes_if_fits, lets_go, makes};
+ghost use Rattle.client_node.specs.Blocks.{gets, value_of, puts, puts_at, puts_again, syncs, put_of, changes_if_fits, lets_go, makes};
 ghost use Rattle.client_node.specs.Fitting.{put_fits};
 ghost use Rattle.client_node.specs.Flights.{held_at};
 ghost use Rattle.coop_cache.specs.Transition.{left};
@@ -96,7 +96,7 @@ impl Serving {
             )?;
             return Ok(None);
         }
-        self.change_if_fits(alloc, effects, block, value)
+        self.change(alloc, effects, block, value)
     }
 
     #[tactic(auto, unfolding(crate::specs::Blocks::puts_at))]
@@ -141,7 +141,7 @@ impl Serving {
         ensures answer { IfOk result (λ answer. answer ≡ (puts_again self.old block ver value.now).answer) }
     {
         if self.tokens.ver(block) == ver {
-            return self.change_if_fits(alloc, effects, block, value);
+            return self.change(alloc, effects, block, value);
         }
         self.let_go(alloc, block)?;
         Ok(Some(BlockAnswer::Changed))
@@ -158,8 +158,8 @@ impl Serving {
     }
 
     // Writes a block that may be written, as a segment can hold what is put.
-    #[tactic(auto, unfolding(crate::specs::Blocks::changes_if_fits))]
-    fn change_if_fits(
+    #[tactic(auto, unfolding(crate::specs::Blocks::changes_if_fits, crate::specs::Blocks::changes))]
+    fn change(
         &mut self,
         alloc: Global,
         effects: &mut Effects,
@@ -172,22 +172,6 @@ impl Serving {
         ensures answer { IfOk result (λ answer. answer ≡ (changes_if_fits self.old block value.now).answer) }
     {
         fits(&self.tokens, block, value);
-        self.change(alloc, effects, block, value)
-    }
-
-    // Writes a block that may be written.
-    #[tactic(auto, unfolding(crate::specs::Blocks::changes))]
-    fn change(
-        &mut self,
-        alloc: Global,
-        effects: &mut Effects,
-        block: BlockId,
-        value: &Value,
-    ) -> Mem<Option<BlockAnswer>>
-        ensures state { OnOk result (self.new ≡ (changes self.old block value.now).done.state) }
-        ensures effects { OnOk result (effects.new ≡ effects.old ++ (changes self.old block value.now).done.outs) }
-        ensures answer { IfOk result (λ answer. answer ≡ (changes self.old block value.now).answer) }
-    {
         effects.act(Act::Wrote {
             client: self.lasting.number,
             block,
