@@ -2,7 +2,7 @@
 ghost use Rattle.std.specs.Prelude.{◌≡◌, ◌++◌, ℕ, IfOk, OnOk};
 ghost use Rattle.client_node.specs.declared.phase.Phase.TheVariants.{Down, Opening as Opens, Serving as Serves};
 ghost use Rattle.client_node.specs.Parts.{after_down, after_opening, after_serving};
-ghost use Rattle.client_node.specs.Phases.{wish_at, on_begin, down_begins, opening_begins, crashed, next_life, restarted};
+ghost use Rattle.client_node.specs.Phases.{wish_at, on_begin, crashed, next_life, restarted};
 ghost use Rattle.log_owner.specs.declared.opening.Opening.{Opening as AnOpening};
 ghost use Rattle.node_base.specs.Beginning.{answered};
 
@@ -49,22 +49,7 @@ pub(crate) fn begin_down(
     let Some(number) = lasting.items.begin() else {
         return Ok(None);
     };
-    let wish = wish_at(lasting, number);
-    down_begins(alloc, effects, servers, lasting, number, wish)
-}
-
-fn down_begins(
-    alloc: Global,
-    effects: &mut Effects,
-    servers: u8,
-    lasting: &mut Lasting,
-    number: u32,
-    wish: Wish,
-) -> Mem<Option<Opening>>
-    ensures phase { IfOk result (λ opening. after_down lasting.new opening ≡ (down_begins servers lasting.old number wish).state) }
-    ensures effects { OnOk result (effects.new ≡ effects.old ++ (down_begins servers lasting.old number wish).outs) }
-{
-    match wish {
+    match wish_at(lasting, number) {
         Wish::Restart => Ok(Some(restart(alloc, effects, servers, lasting, number)?)),
         Wish::Crash | Wish::Call => {
             effects.answer(number, Answer::Down)?;
@@ -101,20 +86,7 @@ pub(crate) fn begin_opening(effects: &mut Effects, lasting: &mut Lasting) -> Mem
     let Some(number) = lasting.items.begin() else {
         return Ok(false);
     };
-    let wish = wish_at(lasting, number);
-    opening_begins(effects, lasting, number, wish)
-}
-
-fn opening_begins(
-    effects: &mut Effects,
-    lasting: &mut Lasting,
-    number: u32,
-    wish: Wish,
-) -> Mem<bool>
-    ensures phase { IfOk result (λ down. (o : AnOpening) → after_opening lasting.new o down ≡ (opening_begins lasting.old o number wish).state) }
-    ensures effects { OnOk result ((o : AnOpening) → effects.new ≡ effects.old ++ (opening_begins lasting.old o number wish).outs) }
-{
-    match wish {
+    match wish_at(lasting, number) {
         Wish::Crash => {
             cut(effects, lasting, number)?;
             Ok(true)

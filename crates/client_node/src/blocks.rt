@@ -1,6 +1,6 @@
 //! Calls on blocks.
 ghost use Rattle.std.specs.Prelude.{◌≡◌, ◌+◌, ◌++◌, ◌∷◌, [], ◌==◌, ◌&&◌, if◌then◌else◌, is_none, length, IfOk, OnOk, None, Some, true};
-ghost use Rattle.client_node.specs.Blocks.{gets, value_of, puts, puts_at, puts_again, syncs, put_of, changes_if_fits, lets_go, makes};
+ghost use Rattle.client_node.specs.Blocks.{gets, value_of, puts, puts_at, puts_again, syncs, changes_if_fits, lets_go, makes};
 ghost use Rattle.client_node.specs.Fitting.{put_fits};
 ghost use Rattle.client_node.specs.Flights.{held_at};
 ghost use Rattle.coop_cache.specs.Transition.{left};
@@ -179,31 +179,17 @@ impl Serving {
         })?;
         note_written(alloc, &mut self.tokens, &mut self.cache, block, value)?;
         let ver = self.tokens.ver(block);
-        self.put_in_log(alloc, effects, block, value)?;
-        Ok(Some(BlockAnswer::Put(ver)))
-    }
-
-    // The newest version of a block waits to be written to the log.
-    fn put_in_log(
-        &mut self,
-        alloc: Global,
-        effects: &mut Effects,
-        block: BlockId,
-        value: &Value,
-    ) -> Mem<()>
-        ensures state { OnOk result (self.new ≡ (put_of self.old block value.now).state) }
-        ensures effects { OnOk result (effects.new ≡ effects.old ++ (put_of self.old block value.now).outs) }
-    {
         let put = client_log::In::Put {
             block,
             entry: Entry {
-                ver: self.tokens.ver(block),
+                ver,
                 hop: 0,
                 place: None,
             },
             value: value.copy(alloc)?,
         };
-        self.write(alloc, effects, put)
+        self.write(alloc, effects, put)?;
+        Ok(Some(BlockAnswer::Put(ver)))
     }
 
     // A block that was granted to be written, and wasn't, is let go: it has no value yet.
