@@ -22,4 +22,5 @@ pub mod Reading
 pub mod OwnFiling
 pub mod HorizonTurns
 pub mod Horizons
+pub mod Line
 pub mod Laws

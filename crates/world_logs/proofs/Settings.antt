@@ -1,4 +1,4 @@
--- The setting of a client's log: its group ids name the stripes that the registry has at the end of the run.
+-- The setting of a log: its group ids name the stripes that the registry has at the end of the run.
 use Rattle.std.proofs.Common.{◌≡◌, ◌^◌, ℕ, ◌+◌, ◌==◌, ◌<◌, ◌≤◌, true, List, [], ◌∷◌, Option, None, Some, length, unwrap_or, refl, sym, ap, subst, ◌∙◌, arith}
 use Rattle.std.specs.Prelude.{find}
 use Rattle.client_log.specs.Transition.{group_for, no_group}
@@ -14,6 +14,7 @@ use Rattle.node_log_tie.proofs.WholeMaps.{Chosen, the_chosen}
 use Rattle.node_log_tie.specs.ServerEvents.{NamesStripes}
 use Rattle.world_base.specs.declared.world.World.{World}
 use Rattle.world_logs.proofs.Groups.{HasMap, Names}
+use Rattle.world_logs.proofs.Roles.{Role, log_by, renews}
 use Rattle.world_logs.specs.Shelves.{group_at, group_in, groups_of}
 use Rattle.xfs_base.proofs.Booleans.{by_test}
 
@@ -23,8 +24,8 @@ stripe_by None = record { members = []; parity = 0 }
 stripe_by (Some group) = stripe_of_group group
 
 module _ (base : Setting) (end : World AnyNode) (servers : ℕ) where
-  abbrev pub setting_of : ℕ → Setting
-  setting_of c = record base { log = record { 0 = c }; servers = servers; doubts = true; stripe = λ id. stripe_by (group_at end id) }
+  abbrev pub setting_of : Role → Setting
+  setting_of r = record base { log = record { 0 = log_by r }; servers = servers; doubts = renews r; stripe = λ id. stripe_by (group_at end id) }
 
   pub names_at_end : (o : Option Group) (stripe : Stripe) → Names o stripe → stripe_by o ≡ stripe
   names_at_end o stripe n = ap stripe_by n.is ∙ n.stripe_is
@@ -75,8 +76,8 @@ ids_fit o map id group is = by (groups_of o) refl is
         let few = ok.few in omega arith
 
 -- the groups of a map that names stripes of the run are among those, and their ids fit too
-module _ (base : Setting) (end : World AnyNode) (servers c : ℕ) (few : (id : ℕ) (group : Group) → group_at end id ≡ Some group → id < 2 ^ 32) where
-  pub names_fit : (m : GroupMapState) → NamesStripes (setting_of base end servers c) m → MapFits m
+module _ (base : Setting) (end : World AnyNode) (servers : ℕ) (r : Role) (few : (id : ℕ) (group : Group) → group_at end id ≡ Some group → id < 2 ^ 32) where
+  pub names_fit : (m : GroupMapState) → NamesStripes (setting_of base end servers r) m → MapFits m
   unfolding group_for
   names_fit m names log seq = by (group_of m (chosen m.groups log seq)) refl
     where
