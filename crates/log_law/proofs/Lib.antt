@@ -28,6 +28,7 @@ mod InLine
 mod Adopting
 mod Ends
 mod Places
+mod Held
 mod Landing
 mod Tails
 mod Restarted

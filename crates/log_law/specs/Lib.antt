@@ -8,3 +8,4 @@ pub mod Tails
 pub mod Openings
 pub mod Below
 pub mod Runs
+pub mod Held

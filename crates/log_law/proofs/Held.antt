@@ -1,0 +1,45 @@
+-- What the owner holds of its log was in flight: it is booked.
+use Rattle.std.proofs.Common.{ℕ, List, [], ◌∷◌, Option, Some, None, inl, inr, sym, subst, ◌∙◌}
+use Rattle.std.specs.Prelude.{IfSome}
+use Rattle.client_log.specs.LogState.{FlightState}
+use Rattle.log_protocol.specs.State.{State}
+use Rattle.log_protocol.specs.Tables.{In}
+use Rattle.log_tie.specs.Openings.{Chained}
+use Rattle.log_tie.specs.Seen.{FlightShown, Flying}
+use Rattle.log_tie.specs.Setting.{Setting}
+use Rattle.segment_format.specs.declared.segment.Segment.{Segment}
+use Rattle.log_law.specs.Below.{Below}
+use Rattle.log_law.specs.Held.{OwnerFlew, WhatIsHeldFlew}
+use Rattle.log_law.specs.Net.{Net, Owner}
+use Rattle.log_law.specs.Net.Owner.{Down, Opening, Writing, Serving}
+use Rattle.log_law.proofs.Calmer.{doubtful}
+use Rattle.log_law.proofs.Views.{Flown, OwnerShown, View}
+use Rattle.log_law.proofs.Wholeness.{seen}
+
+module _ (g : Setting) (w : State) (book : ℕ → Segment) (flown : List Segment) (f : Flown w book flown) where
+  chain_flew : (top x : ℕ) (chain : List Segment) → Chained g w book top x chain → (t : Segment) → In t chain → In t flown
+  chain_flew top x [] h t is = absurd is
+  chain_flew top x (s ∷ chain) h t (inl e) = subst (λ z. In z flown) (sym (e ∙ h.2)) (f.all h.0 h.1)
+  chain_flew top x (s ∷ chain) h t (inr is) = chain_flew top h.0 chain h.5 t is
+
+  one_flew : (flight : FlightState) (inc seq x : ℕ) (noted : ℕ → ℕ) → Flying g book flight inc seq (w.booked x) x noted → In flight.segment flown
+  one_flew flight inc seq x noted h = subst (λ z. In z flown) (sym h.segment) (f.all x h.is_booked)
+
+  flight_flew : (o : Option FlightState) (inc seq x : ℕ) (noted : ℕ → ℕ) → FlightShown g book o inc seq (w.booked x) x noted
+      → IfSome o (λ (flight : FlightState). In flight.segment flown)
+  flight_flew None inc seq x noted h = tt
+  flight_flew (Some flight) inc seq x noted h = one_flew flight inc seq x noted h
+
+owner_flew : (g : Setting) (n : Net) (h : View g n) (o : Owner) → OwnerShown g h.w h.book h.hellos o → OwnerFlew n.flown o
+owner_flew g n h Down shown = tt
+owner_flew g n h (Opening s) shown = tt
+owner_flew g n h (Writing chain s) shown =
+    let w = shown.0 in record {
+      read = chain_flew g h.w h.book n.flown h.flown s.end.seq w.read.next chain w.read.chained;
+      flight = subst (λ (o : Option FlightState). IfSome o (λ (f : FlightState). In f.segment n.flown)) (sym w.is_flight)
+          (one_flew g h.w h.book n.flown h.flown w.flight s.inc s.end.seq h.w.flight h.w.noted w.flying);
+    }
+owner_flew g n h (Serving s) shown = flight_flew g h.w h.book n.flown h.flown s.flight s.inc s.end.seq h.w.flight h.w.noted shown.0.flight
+
+pub what_is_held_flew : Below → WhatIsHeldFlew
+what_is_held_flew k g n m = (let h : View (doubtful g) n = seen k g n m in owner_flew (doubtful g) n h n.owner h.owner)
