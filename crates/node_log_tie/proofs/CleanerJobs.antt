@@ -6,7 +6,6 @@ use Rattle.xfs_base.proofs.Booleans.{by_test, contrary}
 use Rattle.xfs_base.specs.declared.block.BlockId.{BlockId}
 use Rattle.xfs_base.specs.declared.entry.Entry.{Entry}
 use Rattle.xfs_base.specs.declared.entry.Place.{Place}
-use Rattle.xfs_base.specs.declared.node.NodeId.{NodeId}
 use Rattle.xfs_base.specs.declared.node.NodeId.TheVariants.{Cleaner, Server}
 use Rattle.xfs_base.specs.declared.segment.SegName.{SegName}
 use Rattle.xfs_base.specs.declared.segment.SegRef.{SegRef}
@@ -125,7 +124,7 @@ module _ (g : Setting) (owner : Asker) (other : g.log ≡ cleaner_log → ⊥) (
   -- ---- what the node does for it
 
   fragment_stored : (n : Net) (o : LogOut) → SendsOwn cleaner_log o → Does_all n (stored o)
-  fragment_stored n (log_out.Send f member) its = (λ own. absurd (not_ours g other f.meta.name its own), tt)
+  fragment_stored n (log_out.Send f member) its = ((λ own. absurd (not_ours g other f.meta.name its own), its), tt)
   fragment_stored n (log_out.Settled end rows) its = tt
 
   all_stored : (n : Net) (outs : List LogOut) → AllByRecursion (SendsOwn cleaner_log) outs → Does_all n (flat_map stored outs)

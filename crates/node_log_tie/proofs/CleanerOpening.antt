@@ -107,7 +107,7 @@ module _ (g : Setting) (owner : Asker) (other : g.log ≡ cleaner_log → ⊥) (
 
   one_wrote : (before : Option End) (o : LogOut) → SendsOwn cleaner_log o → Does_all (wrote_one before o).outs
   unfolding wrote_one
-  one_wrote before (log_out.Send f member) own = (λ e. absurd (not_ours g other f.meta.name own e), tt)
+  one_wrote before (log_out.Send f member) own = ((λ e. absurd (not_ours g other f.meta.name own e), own), tt)
   one_wrote before (log_out.Settled end rows) own = tt
 
   all_wrote : (before : Option End) (outs : List LogOut) → AllByRecursion (SendsOwn cleaner_log) outs → Does_all (steps wrote_one before outs).outs

@@ -106,7 +106,7 @@ module _ (g : Setting) (owner : Asker) (other : g.log ≡ cleaner_log → ⊥) (
 
   one_written : (n : Net) (e : Emptying) (o : LogOut) → EmptyingSeen g n e → SendsOwn cleaner_log o → Goes n (writes_one e o)
   unfolding writes_one
-  one_written n e (log_out.Send f member) seen its = at_once g owner n e _ seen (λ own. absurd (not_ours g other f.meta.name its own), tt)
+  one_written n e (log_out.Send f member) seen its = at_once g owner n e _ seen ((λ own. absurd (not_ours g other f.meta.name its own), its), tt)
   one_written n e (log_out.Settled end rows) seen its = segment_settled n e end rows seen
 
   log_takes : (n : Net) (e : Emptying) (i : LogIn) → EmptyingSeen g n e → Goes n (writes e i)

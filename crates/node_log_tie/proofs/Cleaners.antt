@@ -1,8 +1,8 @@
 -- What an event makes of the cleaner, in the small world of a client's log.
 use Rattle.std.proofs.Common.{◌≡◌, ℕ, List, [], Option, Some, None, inl, refl, subst}
 use Rattle.std.specs.List.{AllByRecursion}
+use Rattle.std.specs.Prelude.{All}
 use Rattle.xfs_base.proofs.Booleans.{by_test}
-use Rattle.xfs_base.specs.declared.node.NodeId.{NodeId}
 use Rattle.xfs_base.specs.declared.node.NodeId.TheVariants.{Cleaner as TheCleaner}
 use Rattle.xfs_base.specs.declared.setup.Setup.{Setup}
 use Rattle.xfs_base.specs.Steps.{still}
@@ -21,7 +21,7 @@ use Rattle.version_model.specs.declared.work.Work.{Work}
 use Rattle.wire_msg.specs.declared.packet.Do.{Do}
 use Rattle.wire_msg.specs.declared.packet.Do.TheVariants.{Begin, Deliver, Tick}
 use Rattle.wire_msg.specs.declared.packet.Packet.{Packet}
-use Rattle.cleaner_node.specs.CleanerEvents.{Went_to, serves_on, cleaner_start, crashes, next_life, owner_of, after_opening, opened_on, restarts, down_wishes, opening_wishes, serving_wishes, begun_life, wish_at, down_at, opening_at, serving_at, on_begin, hears, on_deliver, on_time, happens, phase_room, takes}
+use Rattle.cleaner_node.specs.CleanerEvents.{Went_to, serves_on, cleaner_start, cleaner_step, crashes, next_life, owner_of, after_opening, opened_on, restarts, down_wishes, opening_wishes, serving_wishes, begun_life, wish_at, down_at, opening_at, serving_at, on_begin, hears, on_deliver, on_time, happens, phase_room, takes}
 use Rattle.cleaner_node.specs.declared.cleaner.Cleaner as cleaners
 use Rattle.cleaner_node.specs.declared.cleaner.Phase.{Phase}
 use Rattle.cleaner_node.specs.declared.cleaner.Phase.TheVariants.{Down, Opening, Serving}
@@ -37,7 +37,8 @@ use Rattle.node_log_tie.specs.Sight.{Asker, BodySeen, PacketSeen, EffectSeen}
 use Rattle.node_log_tie.specs.CleanerEvents.{EmptyingSeen, OpeningSeen, CleanerSeen, CleanerOwed, CleanerGoes}
 use Rattle.node_log_tie.proofs.CleanerOpening.{ProgressSeen, WentOn, tick_heard, packet_heard as opening_hears, begins as opening_begun}
 use Rattle.node_log_tie.proofs.CleanerServing.{deltas_pushed, cleaning_wished, packet_heard, time_passes}
-use Rattle.node_log_tie.proofs.Emptied.{CleanerDoes, Dropping, no_drop, Emptied, OnlyOrdered, ordered_then, only_deleted, all_does_later, as_seen, all_acts}
+use Rattle.node_log_tie.proofs.Emptied.{CleanerDoes, Dropping, no_drop, Emptied, OnlyOrdered, ordered_then, only_deleted, all_does_later, all_own, as_seen, all_acts}
+use Rattle.node_log_tie.specs.CleanerStores.{StoresItsOwn}
 use Rattle.node_log_tie.proofs.Lists.{all_append, answers_send, packets_all}
 
 module _ (g : Setting) (owner : Asker) (other : g.log ≡ cleaner_log → ⊥) (away : owner.node ≡ TheCleaner → ⊥) (n : Net) where
@@ -174,6 +175,12 @@ module _ (g : Setting) (owner : Asker) (other : g.log ≡ cleaner_log → ⊥) (
         rest = w.drop.rest;
         none = w.drop.none;
       }
+
+  pub cleaner_stores : (cleaner : cleaners.Cleaner) (what : Do) → CleanerSeen g n cleaner.phase → CleanerOwed g owner n what
+      → All (λ (p : Packet). StoresItsOwn p.body) (cleaner_step cleaner what).packets
+  cleaner_stores cleaner what seen owed =
+      (let w : Goes (takes cleaner.peers cleaner.phase what) = taken_so cleaner.peers cleaner.phase what seen owed in
+      all_own g owner w.next (takes cleaner.peers cleaner.phase what).outs w.does)
 
 -- at the start
 pub cleaner_begins : (g : Setting) (n : Net) (setup : Setup) (works : List Work) → CleanerSeen g n (cleaner_start setup works).phase

@@ -19,6 +19,7 @@ use Rattle.version_model.specs.declared.act.Act.{Act}
 use Rattle.version_model.specs.declared.act.Act.TheVariants as act
 use Rattle.wire_msg.specs.declared.body.Body.{Body}
 use Rattle.wire_msg.specs.declared.body.Body.TheVariants as body
+use Rattle.wire_msg.specs.declared.packet.Packet.{Packet}
 use Rattle.cleaner_node.specs.declared.emptying.Emptying.{Emptying}
 use Rattle.cleaner_node.specs.declared.job.Job.{Job}
 use Rattle.cleaner_node.specs.EmptyingEvents.{cleaner_log}
@@ -34,7 +35,8 @@ use Rattle.node_log_tie.specs.Sight.{Asker, BodySeen, EffectSeen, Later}
 use Rattle.node_log_tie.specs.CleanerEvents.{DropOfLog, AllDrop, Candidates, JobPhaseSeen, JobSeen, EmptyingSeen, DropActed, OnlyDeleted, all_but_drops}
 use Rattle.node_log_tie.proofs.Cleaning.{OutDrops}
 use Rattle.node_log_tie.proofs.Going.{in_after, in_before, run_later, runs_on}
-use Rattle.node_log_tie.proofs.Lists.{all_append, all_weaker, if_some}
+use Rattle.node_log_tie.proofs.Lists.{all_append, all_weaker, if_some, packets_all}
+use Rattle.node_log_tie.specs.CleanerStores.{StoresItsOwn}
 use Rattle.node_log_tie.proofs.Sights.{seen_later}
 
 -- ---- while the small world goes on
@@ -81,9 +83,18 @@ pub not_ours : (g : Setting) → (g.log ≡ cleaner_log → ⊥) → (name : Seg
 not_ours g other name its own = let same : name.log.0 ≡ g.log.0 = equal name.log.0 g.log.0 own in other ((λ i. record { 0 = sym same i }) ∙ its)
 
 module _ (g : Setting) (owner : Asker) where
+  -- what the cleaner says is seen, and what it stores is of its own log
+  abbrev pub CleanerSays : Net → NodeId → Body → Type 0
+  CleanerSays n to (body.Store m) = BodySeen g owner n Cleaner to (body.Store m) × (m.fragment.meta.name.log ≡ cleaner_log)
+  CleanerSays n to said = BodySeen g owner n Cleaner to said
+
+  says_seen : (n : Net) (to : NodeId) (said : Body) → CleanerSays n to said → BodySeen g owner n Cleaner to said
+  says_seen n to (body.Store m) h = h.0
+  says_seen n to _ h = h
+
   -- what an effect of the cleaner is in the small world
   abbrev pub CleanerDoes : Net → Effect → Type 0
-  CleanerDoes n (Send to said) = BodySeen g owner n Cleaner to said
+  CleanerDoes n (Send to said) = CleanerSays n to said
   CleanerDoes n (Answer item answer) = Unit {0}
   CleanerDoes n (Lose seg) = Unit {0}
   CleanerDoes n (Does a) = DropActed g n a
@@ -124,8 +135,12 @@ module _ (g : Setting) (owner : Asker) where
   acted_later n next d (act.Dropped seg) h = λ own. d.dropped seg (h own)
   acted_later n next d _ h = tt
 
+  says_later : (n next : Net) → Dropping n next → (to : NodeId) (said : Body) → CleanerSays n to said → CleanerSays next to said
+  says_later n next d to (body.Store m) h = (seen_later g owner n next (run_later g n next d.runs) Cleaner to (body.Store m) h.0, h.1)
+  says_later n next d to said h = seen_later g owner n next (run_later g n next d.runs) Cleaner to said h
+
   does_later : (n next : Net) → Dropping n next → (e : Effect) → CleanerDoes n e → CleanerDoes next e
-  does_later n next d (Send to said) h = seen_later g owner n next (run_later g n next d.runs) Cleaner to said h
+  does_later n next d (Send to said) h = says_later n next d to said h
   does_later n next d (Answer item answer) h = tt
   does_later n next d (Lose seg) h = tt
   does_later n next d (Does a) h = acted_later n next d a h
@@ -183,10 +198,18 @@ module _ (g : Setting) (owner : Asker) where
   as_seen n outs all = all_weaker (CleanerDoes n) (EffectSeen g owner n Cleaner) one outs all
     where
       one : (e : Effect) → CleanerDoes n e → EffectSeen g owner n Cleaner e
-      one (Send to said) h = h
+      one (Send to said) h = says_seen n to said h
       one (Answer item answer) h = tt
       one (Lose seg) h = tt
       one (Does a) h = tt
+
+  says_own : (n : Net) (to : NodeId) (said : Body) → CleanerSays n to said → StoresItsOwn said
+  says_own n to (body.Store m) h = h.1
+  says_own n to _ h = tt
+
+  -- what is stored is of the cleaner's log
+  pub all_own : (n : Net) (outs : List Effect) → AllByRecursion (CleanerDoes n) outs → All (λ (p : Packet). StoresItsOwn p.body) (packets_of Cleaner outs)
+  all_own n outs all = packets_all (λ (p : Packet). StoresItsOwn p.body) (CleanerDoes n) Cleaner (λ to said does. says_own n to said does) outs all
 
   one_act : (n : Net) (e : Effect) → CleanerDoes n e → All (DropActed g n) (act_of Cleaner e)
   one_act n (Send to said) h = All-nil (DropActed g n)

@@ -3,6 +3,7 @@
 #![tactic(auto)]
 
 ghost use Rattle.node_log_tie.specs.CleanerEvents.{CleanerEventGoes, CleanerStarts};
+ghost use Rattle.node_log_tie.specs.CleanerStores.{CleanerStoresItsOwn};
 ghost use Rattle.node_log_tie.specs.RegistryEvents.{RegistryEventGoes, RegistryGoesAbove, RegistryStarts};
 ghost use Rattle.node_log_tie.specs.ServerEvents.{SentMapsName, ServerEventGoes, ServerStarts};
 
@@ -38,7 +39,9 @@ pub fn registry_events_are_seen()
 /// - `events`: a cleaner that is seen before an event is seen after it in a world to which that one runs on by drops: each segment of the log that it has
 ///   deleted was listed by a server, and is below the least horizon. All that it sends was sent there, and each segment that it acts to be dropped is dropped
 ///   there, and nothing but what it has servers delete; it stores and fences for its own log alone. Of a log above 9, as a manager's is, it drops nothing.
+/// - `own`: each fragment that it has servers store is of its own log.
 pub fn cleaner_events_are_seen()
     ensures start { CleanerStarts }
     ensures events { CleanerEventGoes }
+    ensures own { CleanerStoresItsOwn }
 {}
