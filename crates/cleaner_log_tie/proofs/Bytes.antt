@@ -178,12 +178,12 @@ parts_bytes answers all [] = tt
 parts_bytes answers all (index ∷ places) = (in_bytes index answers all, parts_bytes answers all places)
 
 -- the text that is read is bytes
-abbrev StateBytes : RoundState → Type 0
+abbrev pub StateBytes : RoundState → Type 0
 StateBytes (Read text) = Bytes text
 StateBytes (Short pairs) = Unit {0}
 StateBytes Waiting = Unit {0}
 
-state_bytes : (r : RoundSoFar) → RoundFits r → StateBytes (state_of r)
+pub state_bytes : (r : RoundSoFar) → RoundFits r → StateBytes (state_of r)
 unfolding state_of
 state_bytes r h =
     by_test StateBytes (is_enough r) (Read (joined (parts_in r.n r.answers) r.parity (unwrap_or (len_in r.answers) 0))) _
@@ -195,7 +195,7 @@ appended : (answers : List Answer) (a : Answer) → AllByRecursion (λ (x : Answ
 appended [] a all h = (h, tt)
 appended (x ∷ answers) a all h = (all.0, appended answers a all.1 h)
 
-taken_fits : (r : RoundSoFar) (server : ℕ) (t : Told) → RoundFits r → ToldFits t → RoundFits (taken r server t)
+pub taken_fits : (r : RoundSoFar) (server : ℕ) (t : Told) → RoundFits r → ToldFits t → RoundFits (taken r server t)
 unfolding taken
 taken_fits r server t h told =
     by_test RoundFits (has_answered r.answers server) r (record r { answers = r.answers ++ record { server = server; told = t } ∷ [] }) (λ e. h)

@@ -77,6 +77,7 @@ module _ (g : Setting) (j : ℕ) where
   pub says_fits : (w : Scene) (to : NodeId) (said : Body) → Says w to said → InRange said
   says_fits w to (body.Deltas m) h = absurd h
   says_fits w to (body.Live m) h = h
+  says_fits w to (body.Grant m) h = h
   says_fits w to (body.Fragment m) h = absurd h
   says_fits w to (body.Welcome m) h = absurd h
   says_fits w to (body.MapNews m) h = absurd h

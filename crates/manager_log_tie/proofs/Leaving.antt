@@ -36,10 +36,10 @@ module _ {S O : Type 0} (Keeps : S → Type 0) (Gives : O → Type 0) where
     pub state : Keeps d.state
     pub outs : AllByRecursion Gives d.outs
 
-  stays : (s : S) → Keeps s → Leaves (still s)
+  pub stays : (s : S) → Keeps s → Leaves (still s)
   stays s kept = record { state = kept; outs = tt }
 
-  goes_after : (outs : List O) (d : Stepped S O) → AllByRecursion Gives outs → Leaves d → Leaves (after outs d)
+  pub goes_after : (outs : List O) (d : Stepped S O) → AllByRecursion Gives outs → Leaves d → Leaves (after outs d)
   goes_after outs d given left = record { state = left.state; outs = all_append Gives outs d.outs given left.outs }
 
   -- one step for each item

@@ -1,7 +1,7 @@
 mod Spelled
 mod Written
 mod Leaving
-mod Rows
+pub mod Rows
 mod Slots
 mod Taking
 mod SlotPhases
@@ -14,3 +14,4 @@ mod Renewed
 mod Phases
 mod Starts
 mod Told
+mod Servers

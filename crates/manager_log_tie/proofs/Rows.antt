@@ -1,6 +1,7 @@
 -- Rows that fit: what is merged of them, what they hold of a block, what is written of them in pages, and what a segment that fits tells of blocks.
-use Rattle.std.proofs.Common.{◌<◌, ℕ, ◌^◌, ◌==◌, Bool, List, [], ◌∷◌, map, filter, length, Option, Some, None, sym, subst, ◌∙◌}
-use Rattle.std.specs.Prelude.{IfSome, unwrap_or}
+use Rattle.std.proofs.Common.{◌≡◌, ◌<◌, ℕ, ◌^◌, ◌==◌, Bool, false, List, [], ◌∷◌, map, filter, length, Option, Some, None, inl, inr, refl, sym, subst, ◌∙◌, arith}
+use Rattle.std.proofs.lemmas.Bool.Decides.{nat_tests}
+use Rattle.std.specs.Prelude.{IfSome, unwrap_or, if◌then◌else◌}
 use Rattle.std.specs.BTreeMap.{is_at, insert_entry}
 use Rattle.std.specs.declared.cmp.Ordering.{Ordering}
 use Rattle.std.specs.declared.cmp.Ordering.TheVariants.{Less, Equal, Greater}
@@ -36,7 +37,7 @@ use Rattle.token_manager.specs.declared.output.Out.TheVariants.{Live, Dead}
 use Rattle.token_manager.specs.Index.{Indexed, indexed, indexed_all}
 use Rattle.token_manager.specs.Transition.{is_place, found}
 use Rattle.node_log_tie.proofs.Lists.{all_append}
-use Rattle.manager_log_tie.specs.Fitting.{RowsFit, PagesFit}
+use Rattle.manager_log_tie.specs.Fitting.{IsRowInRange, PagesFit, RowsFit, RowsInRange}
 
 -- ---- what is merged
 
@@ -64,11 +65,23 @@ pub all_joined_fit : (rows : Rows) (chain : List Rows) → RowsFit rows → Page
 all_joined_fit rows [] all new = all
 all_joined_fit rows (told ∷ chain) all new = all_joined_fit (merged_all rows told) chain (all_merged_fit rows told all new.0) new.1
 
-indexed_fit : (i : Indexed) (m : BlockId × Entry) → RowsFit i.rows → FitsRow m → RowsFit (indexed i m).rows
-unfolding indexed
-indexed_fit i m all new = merged_fit i.rows m.0 m.1 all new
+-- what tells that nothing is known of a block is newer than nothing
+nothing_newer : (e : Entry) → is_newer no_entry e ≡ false
+nothing_newer e = grind (arith, nat_tests)
 
-pub all_indexed_fit : (i : Indexed) (more : Rows) → RowsFit i.rows → RowsFit more → RowsFit (indexed_all i more).rows
+-- so it is not put in
+merged_in_range : (rows : Rows) (block : BlockId) (entry : Entry) → RowsFit rows → IsRowInRange (block, entry) → RowsFit (merged rows block entry)
+unfolding merged
+merged_in_range rows block entry all (inl new) = merged_fit rows block entry all new
+merged_in_range rows block entry all (inr none) =
+    subst (λ (e : Entry). RowsFit (merged rows block e)) (sym none)
+    (subst (λ b. RowsFit (if b then insert_entry block_cmp rows block no_entry else rows)) (sym (nothing_newer (entry_of rows block))) all)
+
+indexed_fit : (i : Indexed) (m : BlockId × Entry) → RowsFit i.rows → IsRowInRange m → RowsFit (indexed i m).rows
+unfolding indexed
+indexed_fit i m all new = merged_in_range i.rows m.0 m.1 all new
+
+pub all_indexed_fit : (i : Indexed) (more : Rows) → RowsFit i.rows → RowsInRange more → RowsFit (indexed_all i more).rows
 all_indexed_fit i [] all new = all
 all_indexed_fit i (m ∷ more) all new = all_indexed_fit (indexed i m) more (indexed_fit i m all new.0) new.1
 
@@ -85,6 +98,19 @@ found_fits block (r ∷ rows) all =
     by_test (λ o. IfSome o (λ (e : Entry). FitsRow (block, e))) (eq_by_cmp block_cmp block r.0) (Some r.1) (lookup (is_at (block_cmp block)) rows)
     (λ t. (subst FitsBlock (same_block_exact block r.0 (sym (same_block-eq block r.0) ∙ t)) all.0.0, all.0.1, all.0.2, all.0.3))
     (λ t. found_fits block rows all.1)
+
+-- what is held of a block, or that nothing is
+pub entry_in_range : (rows : Rows) (block : BlockId) → RowsFit rows → IsRowInRange (block, entry_of rows block)
+entry_in_range rows block all = by (lookup (is_at (block_cmp block)) rows) (found_fits block rows all)
+  where
+    by : (o : Option Entry) → IfSome o (λ (e : Entry). FitsRow (block, e)) → IsRowInRange (block, unwrap_or o no_entry)
+    by None h = inr refl
+    by (Some e) h = inl h
+
+-- rows that fit are in range
+pub rows_in_range : (rows : Rows) → RowsFit rows → RowsInRange rows
+rows_in_range [] all = tt
+rows_in_range (r ∷ rows) all = (inl all.0, rows_in_range rows all.1)
 
 -- what is held of a block, if it lies somewhere
 pub placed_fits : (block : BlockId) (place : Place) (rows : Rows) → RowsFit rows → LiveFits block (found (entry_of rows block) place)
@@ -136,7 +162,7 @@ place_fits s item fits small =
     by_test (λ o. IfSome o FitsPlace) (item == no_item) None (Some (record { seg = record { name = s.name; group = s.group }; item = item }))
     (λ t. tt) (λ t. (fits.name, fits.group, small))
 
-deltas_fit : (s : Segment) → Fits s → (items : List Item) → AllByRecursion FitsItem items → RowsFit (filter_map (row_of s) items)
+pub deltas_fit : (s : Segment) → Fits s → (items : List Item) → AllByRecursion FitsItem items → RowsFit (filter_map (row_of s) items)
 deltas_fit s fits [] all = tt
 deltas_fit s fits (Block block value ∷ items) all = deltas_fit s fits items all.1
 deltas_fit s fits (Delta block ver hop item ∷ items) all =

@@ -37,7 +37,7 @@ use Rattle.node_log_tie.specs.Sight.{BodySeen}
 use Rattle.client_log_tie.specs.Owner.{Scene}
 use Rattle.client_log_tie.specs.Texts.{MapFits}
 use Rattle.stripe_code.specs.Stripe.{IsBytes}
-use Rattle.manager_log_tie.specs.Fitting.{InRange, RowsFit}
+use Rattle.manager_log_tie.specs.Fitting.{InRange, RowsInRange}
 use Rattle.manager_log_tie.specs.Owner.{its_asker, Stands}
 use Rattle.manager_log_tie.proofs.Checkpointing.{maps_so, ticks_so, stored_so, acked_so, tells_so}
 use Rattle.manager_log_tie.proofs.Frames as frames
@@ -81,7 +81,7 @@ module _ (g : Setting) (j : ℕ) (is : g.log ≡ log_of j) where
   gave_so w s None gave h = stays g j w s h
   gave_so w s (Some client) gave h = by_table w s (table.on_gave s.slots client gave) h (table_gaves s.slots client gave h.index)
 
-  deltas_so : (w : Scene) (s : Serving) (log : Option LogId) (deltas : Deltas) → Stands g j w s → RowsFit deltas.rows → Goes w (on_deltas s log deltas)
+  deltas_so : (w : Scene) (s : Serving) (log : Option LogId) (deltas : Deltas) → Stands g j w s → RowsInRange deltas.rows → Goes w (on_deltas s log deltas)
   unfolding on_deltas
   deltas_so w s None deltas h fit = stays g j w s h
   deltas_so w s (Some log) deltas h fit = by_table w s (table.on_deltas s.slots log deltas) h (table_deltas s.slots log deltas fit h.index)

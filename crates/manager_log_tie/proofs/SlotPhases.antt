@@ -1,7 +1,7 @@
 -- What a manager has of a slot fits, whatever happens to the slot, and what it says then is no matter of a log.
-use Rattle.std.proofs.Common.{ℕ, ◌==◌, Bool, List, [], filter}
+use Rattle.std.proofs.Common.{ℕ, ◌==◌, Bool, List, [], ◌∷◌, filter}
 use Rattle.std.specs.Prelude.{Option, nat_lt}
-use Rattle.std.specs.List.{AllByRecursion}
+use Rattle.std.specs.List.{AllByRecursion, flat_map}
 use Rattle.manager_node.specs.declared.slot_phase.SlotPhase.{SlotPhase}
 use Rattle.manager_node.specs.declared.slot_phase.SlotPhase.TheVariants as phase
 use Rattle.manager_node.specs.Slots.{epoch_of}
@@ -37,11 +37,11 @@ use Rattle.xfs_base.specs.declared.node.NodeId.{NodeId}
 use Rattle.xfs_base.specs.declared.segment.SegName.{SegName}
 use Rattle.xfs_base.specs.declared.segment.SegRef.{SegRef}
 use Rattle.xfs_base.specs.Steps.{Stepped, still}
-use Rattle.node_log_tie.proofs.Lists.{all_append, all_flat_map, answers_send}
-use Rattle.manager_log_tie.specs.Fitting.{SlotFits}
+use Rattle.node_log_tie.proofs.Lists.{all_append, answers_send}
+use Rattle.manager_log_tie.specs.Fitting.{IsRowInRange, SlotFits}
 use Rattle.manager_log_tie.proofs.Rows.{LiveFits, placed_fits}
 use Rattle.manager_log_tie.proofs.Leaving.{Leaves, leaves_each, all_filter}
-use Rattle.manager_log_tie.proofs.Slots.{SlotInFits, slot_goes, slot_starts}
+use Rattle.manager_log_tie.proofs.Slots.{GrantFits, SlotInFits, slot_goes, slot_starts}
 use Rattle.manager_log_tie.proofs.Taking.{TakeInFits, OutFits, take_goes}
 
 -- ---- what is no matter of a log, and in range
@@ -59,6 +59,7 @@ Aside (body.Welcome m) = ⊥
 Aside (body.MapNews m) = ⊥
 Aside (body.Deltas m) = ⊥
 Aside (body.Live m) = FitsRow (m.block, m.entry)
+Aside (body.Grant m) = IsRowInRange (m.block, m.entry)
 Aside _ = Unit {0}
 
 abbrev pub IsAside : Effect → Type 0
@@ -78,21 +79,24 @@ answers_aside item answer = answers_send IsAside (λ number said. tt) item answe
 abbrev pub PhaseGoes : Stepped SlotPhase Effect → Type 0
 PhaseGoes d = Leaves SlotFits IsAside d
 
-one_said : (number epoch : ℕ) (o : SlotOut) → AllAside (said number epoch o)
+one_said : (number epoch : ℕ) (o : SlotOut) → GrantFits o → AllAside (said number epoch o)
 unfolding said
-one_said number epoch (slot_out.Grant client block stamp inc req mode entry) = (tt, tt)
-one_said number epoch (slot_out.Forward client block stamp to inc req ver) = (tt, tt)
-one_said number epoch (slot_out.Recall client block stamp keep) = (tt, tt)
-one_said number epoch (slot_out.Applied log applied) = (tt, tt)
-one_said number epoch (slot_out.Live entry) = tt
-one_said number epoch slot_out.Dead = tt
+one_said number epoch (slot_out.Grant client block stamp inc req mode entry) h = (h, tt)
+one_said number epoch (slot_out.Forward client block stamp to inc req ver) h = (tt, tt)
+one_said number epoch (slot_out.Recall client block stamp keep) h = (tt, tt)
+one_said number epoch (slot_out.Applied log applied) h = (tt, tt)
+one_said number epoch (slot_out.Live entry) h = tt
+one_said number epoch slot_out.Dead h = tt
+
+all_said : (number epoch : ℕ) (outs : List SlotOut) → AllByRecursion GrantFits outs → AllAside (flat_map (said number epoch) outs)
+all_said number epoch [] all = tt
+all_said number epoch (o ∷ outs) all =
+    all_append IsAside (said number epoch o) (flat_map (said number epoch) outs) (one_said number epoch o all.0) (all_said number epoch outs all.1)
 
 pub phase_takes : (p : SlotPhase) (number : ℕ) (given : SlotIn) → SlotInFits given → SlotFits p → PhaseGoes (takes p number given)
 unfolding takes
-phase_takes (phase.Active a) number given told h = record {
-  state = slot_goes a.slot given told h;
-  outs = all_flat_map IsAside (said number a.slot.epoch) (one_said number a.slot.epoch) (slot.transition a.slot given).outs;
-}
+phase_takes (phase.Active a) number given told h = (let d = slot_goes a.slot given told h in
+    record { state = d.state; outs = all_said number a.slot.epoch (slot.transition a.slot given).outs d.outs })
 phase_takes (phase.Away epoch) number given told h = record { state = tt; outs = tt }
 phase_takes (phase.Taking t) number given told h = record { state = h; outs = tt }
 phase_takes (phase.Broken epoch seg) number given told h = record { state = tt; outs = tt }

@@ -28,7 +28,7 @@ use Rattle.xfs_base.specs.declared.node.NodeId.{NodeId}
 use Rattle.xfs_base.specs.declared.segment.LogId.{LogId}
 use Rattle.xfs_base.specs.declared.segment.SegRef.{SegRef}
 use Rattle.xfs_base.specs.Steps.{Stepped}
-use Rattle.manager_log_tie.specs.Fitting.{RowsFit, PagesFit, SlotFits, TableFits}
+use Rattle.manager_log_tie.specs.Fitting.{PagesFit, RowsInRange, SlotFits, TableFits}
 use Rattle.manager_log_tie.proofs.Leaving.{Leaves, leaves_each, all_each, all_read, all_put}
 use Rattle.manager_log_tie.proofs.Rows.{planned_fit}
 use Rattle.manager_log_tie.proofs.SlotPhases.{IsAside, AllAside, PhaseGoes, AskerFits, AskerGoes, phase_takes, phase_wants, phase_checks, phase_tells_usage, asker_takes, asker_asks, asker_reports, asker_hears, cleaned_fits, named_fits}
@@ -56,7 +56,7 @@ table_gaves t client gave h =
     at_slot-goes t (slot_of gave.block.ino.0) (λ p. tokens.on_gave p client gave)
     (λ p here. phase_takes p (slot_of gave.block.ino.0) (tokens.gave_input client gave) tt here) h
 
-pub table_deltas : (t : Table) (log : LogId) (deltas : Deltas) → RowsFit deltas.rows → TableFits t → TableGoes (on_deltas t log deltas)
+pub table_deltas : (t : Table) (log : LogId) (deltas : Deltas) → RowsInRange deltas.rows → TableFits t → TableGoes (on_deltas t log deltas)
 unfolding on_deltas
 table_deltas t log deltas told h =
     at_slot-goes t deltas.slot (λ p. tokens.on_deltas p log deltas) (λ p here. phase_takes p deltas.slot (tokens.deltas_input log deltas) told here) h

@@ -98,7 +98,7 @@ each_bytes : (fs : List (List ℕ)) → AllByRecursion IsBytes fs → AllByRecur
 each_bytes [] all = tt
 each_bytes (f ∷ fs) all = (recursion_from_All (λ (byte : ℕ). byte < 256) f all.0, each_bytes fs all.1)
 
-stripe_bytes : (text : List ℕ) (n parity : ℕ) → IsBytes text → AllByRecursion Bytes (stripe_of text n parity)
+pub stripe_bytes : (text : List ℕ) (n parity : ℕ) → IsBytes text → AllByRecursion Bytes (stripe_of text n parity)
 unfolding stripe_of
 stripe_bytes text n parity bytes =
     let part : ℕ = part_of (length text) (n - parity) in

@@ -1,7 +1,10 @@
 -- That what a manager writes to its log can be spelled: the numbers of the rows of its checkpoints are in the ranges of their types, and all else is looked at
 -- when a segment is begun.
-use Rattle.std.specs.Prelude.{List, IfSome}
+use Rattle.std.specs.Prelude.{◌≡◌, ◌⊎◌, List, IfSome}
 use Rattle.std.specs.List.{AllByRecursion}
+use Rattle.xfs_base.specs.declared.block.BlockId.{BlockId}
+use Rattle.xfs_base.specs.declared.entry.Entry.{Entry}
+use Rattle.delta_index.specs.Entries.{no_entry}
 use Rattle.segment_format.specs.declared.segment.Item.{Item}
 use Rattle.segment_format.specs.declared.segment.Item.TheVariants.{Block, Delta, Part}
 use Rattle.segment_format.specs.Ranges.{FitsRow}
@@ -29,7 +32,14 @@ use Rattle.cleaner_log_tie.specs.Fitting as for_cleaner
 abbrev pub RowsFit : Rows → Type 0
 RowsFit rows = AllByRecursion FitsRow rows
 
--- so they are on each of these pages
+-- the numbers of a row are in the ranges of their types, or it tells that nothing is known of the block
+abbrev pub IsRowInRange : BlockId × Entry → Type 0
+IsRowInRange row = FitsRow row ⊎ (row.1 ≡ no_entry)
+
+abbrev pub RowsInRange : Rows → Type 0
+RowsInRange rows = AllByRecursion IsRowInRange rows
+
+-- the numbers of each row are so on each of these pages
 abbrev pub PagesFit : List Rows → Type 0
 PagesFit pages = AllByRecursion RowsFit pages
 
@@ -83,7 +93,8 @@ TableFits table = AllByRecursion SlotFits table
 -- ---- packets
 
 -- The numbers of a packet are in the ranges of their types, as those of each packet that a program holds: besides those of what comes to the cleaner (the row
--- that a Live tells, the bytes of a fragment, the ids of the groups of a map), those of the rows of Deltas.
+-- that a Live tells, the bytes of a fragment, the ids of the groups of a map), those of the rows of Deltas, and of what a Grant tells of its block.
 abbrev pub InRange : Body → Type 0
-InRange (body.Deltas m) = RowsFit m.rows
+InRange (body.Deltas m) = RowsInRange m.rows
+InRange (body.Grant m) = IsRowInRange (m.block, m.entry)
 InRange b = for_cleaner.InRange b

@@ -2,3 +2,4 @@ pub mod Fitting
 pub mod Owner
 pub mod OwnerEvents
 pub mod Told
+pub mod Servers

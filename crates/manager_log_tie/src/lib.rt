@@ -3,6 +3,7 @@
 #![tactic(auto)]
 
 ghost use Rattle.manager_log_tie.specs.OwnerEvents.{ManagerStarts, ManagerTakes};
+ghost use Rattle.manager_log_tie.specs.Servers.{ServersStartEmpty, ServersTellBytes};
 ghost use Rattle.manager_log_tie.specs.Told.{WhatIsToldIsInRange};
 
 use log_law::one_name_one_text;
@@ -12,10 +13,10 @@ use log_law::one_name_one_text;
 ///
 /// - `start`: a manager at its start is seen in the opening of the small world, where the ids of the setup's groups fit.
 /// - `events`: a manager that is seen there before an event is seen after it in a world to which that one runs on; all that it sends was sent there, and all
-///   that it tells to be filed is filed there; it stores to its own log alone, and the numbers of what it sends are in range.
+///   that it tells to be filed is filed there; it stores to its own log alone, and the numbers of what it sends are in range, those of the entry of a grant too.
 ///
-/// What is owed still is that the numbers of what comes are in the ranges of their types: the rows of Deltas, the bytes of a fragment, the ids of the groups of
-/// maps. That each segment of a checkpoint has a text follows from it: how many Parts and rows it has is looked at when it is begun.
+/// What is owed still is that the numbers of what comes are in the ranges of their types: the rows of Deltas (one that tells that nothing is known of a block may
+/// be any), the bytes of a fragment, the ids of the groups of maps. That each segment of a checkpoint has a text follows from it: how many Parts and rows it has is looked at when it is begun.
 pub fn manager_log_events_are_seen()
     ensures start { ManagerStarts }
     ensures events { ManagerTakes }
@@ -28,3 +29,13 @@ pub fn what_is_told_is_in_range()
 {
     one_name_one_text();
 }
+
+/// What a storage server holds and tells is bytes, of whatever log it is, where each fragment that is stored there, and each that it is told for a rebuild, is.
+///
+/// - `start`: a server at its start holds nothing.
+/// - `events`: where the fragments on its shelf, and those that came to the round of a rebuild, are bytes, and so is the fragment that the packet that comes
+///   carries, then so are all that it holds after the event, those that it fills in too, and all that it sends.
+pub fn what_servers_tell_is_bytes()
+    ensures start { ServersStartEmpty }
+    ensures events { ServersTellBytes }
+{}
