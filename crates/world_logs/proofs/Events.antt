@@ -1,29 +1,33 @@
--- Each event keeps the log of each client, and that of the cleaner, standing to its small world.
-use Rattle.std.proofs.Common.{◌≡◌, ⊎_elim, ◌^◌, ℕ, ◌+◌, ◌==◌, ◌≤◌, ◌<◌, List, [], ◌++◌, Some, map, get_or, slice_get, slice_set, if◌then◌else◌, inl, inr, refl, sym, ap, subst, ◌∙◌, arith}
+-- Each event keeps all logs standing to their small worlds, which lead on, and the numbers of all that is sent in the ranges of their types.
+use Rattle.std.proofs.Common.{◌≡◌, ⊎_elim, ◌^◌, ℕ, ◌+◌, ◌==◌, ◌≤◌, ◌<◌, false, List, [], ◌++◌, Some, map, get_or, slice_get, slice_set, if◌then◌else◌, inl, inr, refl, sym, ap, subst, ◌∙◌, arith}
 use Rattle.std.specs.Prelude.{All}
-use Rattle.cleaner_node.specs.declared.cleaner.Cleaner.{Cleaner as CleanerNode}
-use Rattle.cleaner_node.specs.CleanerEvents.{cleaner_step}
+use Rattle.std.proofs.lemmas.List.Elements.{All-from_recursion}
 use Rattle.cleaner_node.specs.CleanerEvents as cleaners
+use Rattle.cleaner_node.specs.CleanerEvents.{cleaner_step}
+use Rattle.cleaner_node.specs.declared.cleaner.Cleaner.{Cleaner as CleanerNode}
+use Rattle.cleaner_node.specs.declared.cleaner.Phase.{Phase as CleanerPhase}
 use Rattle.cleaner_node.specs.EmptyingEvents.{cleaner_log}
-use Rattle.client_log_tie.specs.ClientEvents.{BodyFits, ClientGoes, ClientOwed, PhaseOwed}
 use Rattle.client_log_tie.specs.Owner.{Scene}
 use Rattle.client_node.specs.Phases.{client_step, lasting_of, takes}
 use Rattle.core_world.specs.AnyNode.{any_step}
 use Rattle.core_world.specs.declared.any_node.AnyNode.{AnyNode}
 use Rattle.core_world.specs.declared.any_node.AnyNode.TheVariants as any
+use Rattle.entry_tie.specs.CleanerTells.{CleanerHolds}
+use Rattle.entry_tie.specs.ClientTells.{ClientHolds}
+use Rattle.entry_tie.specs.Told.{PacketTold, TellsTold}
 use Rattle.group_map.specs.declared.group.Group.{Group}
 use Rattle.log_law.specs.Net.{opening}
 use Rattle.log_tie.proofs.Names.{unequal}
 use Rattle.log_tie.specs.Setting.{Setting}
-use Rattle.manager_node.specs.Events.{manager_step}
-use Rattle.manager_node.specs.declared.manager.Manager.{Manager as ManagerNode}
+use Rattle.manager_log_tie.specs.Servers.{CarriesBytes, TellsBytes}
+use Rattle.manager_node.specs.Events.{happens as manager_happens, manager_step}
 use Rattle.manager_node.specs.Phases as managers
 use Rattle.node_base.specs.Setups.{IsSetup}
 use Rattle.node_log_tie.proofs.Going.{run_later}
-use Rattle.node_log_tie.specs.CleanerEvents.{CleanerGoes, CleanerOwed}
-use Rattle.node_log_tie.specs.RegistryEvents.{Hears, IsFiled, NamesGroups, RegistryGoes, low_of}
+use Rattle.node_log_tie.specs.CleanerEvents.{CleanerGoes, CleanerOwed, CleanerSeen}
+use Rattle.node_log_tie.specs.RegistryEvents.{Hears, IsFiled, RegistryGoes, low_of}
 use Rattle.node_log_tie.specs.ServerEvents.{ServerGoes, ServerOwed}
-use Rattle.node_log_tie.specs.Sight.{BodySeen, PacketSeen}
+use Rattle.node_log_tie.specs.Sight.{BodySeen, PacketSeen, ReachedBy}
 use Rattle.node_tie.specs.RegistryEvents as board
 use Rattle.node_tie.specs.RegistryEvents.{RegistrySound}
 use Rattle.store_nodes.specs.declared.registry_node.RegistryNode.{RegistryNode}
@@ -40,37 +44,33 @@ use Rattle.world_base.specs.Cluster.{place_of}
 use Rattle.world_base.specs.declared.cluster.Cluster.{Cluster}
 use Rattle.world_base.specs.declared.world.World.{World}
 use Rattle.world_base.specs.NextWorld.{sent_at}
-use Rattle.world_base.specs.Runs.{WasSent}
 use Rattle.world_law.proofs.Nodes as places
 use Rattle.world_law.proofs.OtherTurns.{equal_or_not}
-use Rattle.world_law.proofs.Places.{behind}
+use Rattle.world_law.proofs.Places.{Behind, behind}
 use Rattle.world_law.proofs.Sent.{in_append}
 use Rattle.world_law.specs.Owners.{node_in}
-use Rattle.world_logs.proofs.CleanerEvents.{cleaner_mine}
+use Rattle.world_logs.proofs.CleanerEvents as cleaner_log_events
+use Rattle.world_logs.proofs.ClientEvents as client_log_events
+use Rattle.world_logs.proofs.Fits.{DoFits, PacketFits, all_still, cleaner_sends, client_sends, do_carries, held_at, in_range, registry_sends, server_sends}
 use Rattle.world_logs.proofs.Goods as goods
 use Rattle.world_logs.proofs.Goods.{NodeLaws}
-use Rattle.world_logs.proofs.OwnerTurns.{idle_turn, owner_turn}
-use Rattle.world_logs.proofs.Roles.{Role, asker_by, at_most_nine, log_by, no_server, owner_by}
-use Rattle.world_logs.proofs.Roles.Role.{OfClient, OfCleaner}
-use Rattle.world_logs.specs.Logs.{AllInRange}
-use Rattle.world_logs.proofs.ManagerLogs.{ManagerWrites, manager_writes}
-use Rattle.world_logs.proofs.Room.{client_leaves_room}
-use Rattle.world_logs.proofs.Says.{MaySay, client_apart, manager_apart}
-use Rattle.world_logs.proofs.Settings.{map_fits, names_fit}
-use Rattle.world_logs.proofs.Standing.{ClientAs, IsRoomy, OwnerSeen, Stands}
-use Rattle.world_logs.proofs.Start.{log_small}
+use Rattle.world_logs.proofs.ManagerEvents as manager_log_events
+use Rattle.world_logs.proofs.Owed.{sent_from}
+use Rattle.world_logs.proofs.OwnerTurns.{idle_turn}
+use Rattle.world_logs.proofs.Roles.{Role, asker_by, high_log, log_by, no_server, owner_by, renews}
+use Rattle.world_logs.proofs.Roles.Role.{OfClient, OfCleaner, OfManager}
+use Rattle.world_logs.proofs.Says.{MaySay, OfLog, Plain, sent_apart}
+use Rattle.world_logs.proofs.Settings.{map_fits}
+use Rattle.world_logs.proofs.Standing.{CleanerAs, Seen, Stands}
 use Rattle.world_logs.proofs.StoreTurns.{cleaner_turn, registry_turn, server_turn}
-use Rattle.world_logs.proofs.Turns.{turned}
+use Rattle.world_logs.proofs.Turns.{Next, next_so, turned}
 use Rattle.world_logs.specs.Doings.{owns}
 use Rattle.world_logs.specs.Horizons.{Reached, board_of}
 use Rattle.world_logs.specs.Shelves.{group_at}
-use Rattle.world_logs.proofs.Owed.{from_fits, in_those, number_is, of_log, phase_owed, registry_fits, sent_from}
 use Rattle.xfs_base.specs.declared.node.NodeId.{NodeId}
 use Rattle.xfs_base.specs.declared.node.NodeId.TheVariants.{Client, Manager, Server, Cleaner, Registry}
 use Rattle.xfs_base.specs.declared.segment.LogId.{LogId}
 use Rattle.xfs_base.specs.declared.setup.Setup.{Setup}
-
--- ---- the step
 
 module _ (laws : NodeLaws) (base : Setting) (end : World AnyNode) (setup : Setup) (ok : IsSetup setup)
     (few : (id : ℕ) (group : Group) → group_at end id ≡ Some group → id < 2 ^ 32) where
@@ -90,9 +90,7 @@ module _ (laws : NodeLaws) (base : Setting) (end : World AnyNode) (setup : Setup
   Known nodes sent told = goods.Known laws base end setup ok few nodes sent told
 
   module _ (nodes : List AnyNode) (sent : List Packet) (told : ℕ → List Act) (good : Good nodes sent told) (place clock : ℕ) (what : Do)
-      (sound : (r : RegistryNode) → node_in nodes (place_of k Registry) ≡ Some (any.Registry r) → RegistrySound r)
-      (numbered : (j : ℕ) (m : ManagerNode) → node_in nodes (place_of k (Manager j)) ≡ Some (any.Manager m) → (managers.lasting_of m.phase).number ≡ j)
-      (upto : (q : Packet) → In q sent → WasSent end.sent q) where
+      (sound : (r : RegistryNode) → node_in nodes (place_of k Registry) ≡ Some (any.Registry r) → RegistrySound r) where
     abbrev nodes_at : AnyNode → List AnyNode
     nodes_at x = slice_set nodes place (any_step x what).node
 
@@ -103,11 +101,12 @@ module _ (laws : NodeLaws) (base : Setting) (end : World AnyNode) (setup : Setup
     told_by name x c = told c ++ (if owns c name then (any_step x what).acts else [])
 
     abbrev After : NodeId → AnyNode → Type 0
-    After name x = Known (nodes_at x) (sent_by x) (told_by name x) → Good (nodes_at x) (sent_by x) (told_by name x)
+    After name x = Known (nodes_at x) (sent_by x) (told_by name x)
+        → goods.Leads laws base end setup ok few nodes sent told good name (nodes_at x) (sent_by x) (told_by name x)
 
     -- the log of an owner stands after it
     abbrev Now : NodeId → AnyNode → Role → Type 0
-    Now name x r = (l : Scene) × Stands (g r) r l k (nodes_at x) (sent_by x) (told_by name x (log_by r))
+    Now name x r = goods.Led laws base end setup ok few nodes sent told good name (nodes_at x) (sent_by x) (told_by name x) r
 
     abbrev Gets : NodeId → Type 0
     Gets name = (q : Packet) → what ≡ Deliver q → In q sent × (q.to ≡ name)
@@ -118,20 +117,53 @@ module _ (laws : NodeLaws) (base : Setting) (end : World AnyNode) (setup : Setup
     named : (name : NodeId) (x : AnyNode) → place_of k name ≡ Some place → slice_get nodes place ≡ Some x → node_in nodes (place_of k name) ≡ Some x
     named name x at is = ap (node_in nodes) at ∙ is
 
+    -- what comes is in range
+    comes : (name : NodeId) → Gets name → DoFits name what
+    comes name gets = by what refl
+      where
+        by : (x : Do) → what ≡ x → DoFits name x
+        by Begin same = tt
+        by (Deliver q) same = (let h = gets q same in subst (λ to. PacketFits to q.body) h.1 (good.fits q h.0))
+        by Tick same = tt
+
     abbrev Says : List Packet → Type 0
     Says packets = (q : Packet) → In q (sent ++ map (sent_at clock) packets) → MaySay q.from q.body
 
-    all_say : (packets : List Packet) → Says packets → All (λ (p : Packet). MaySay p.from p.body) packets
-    all_say packets says = goods.all_say laws base end setup ok few nodes sent told good clock packets says
+    -- what a node of this name may say
+    all_say : (name : NodeId) (packets : List Packet) → All (λ (p : Packet). p.from ≡ name) packets → Says packets
+        → All (λ (p : Packet). MaySay name p.body) packets
+    all_say name packets from says i d less =
+        subst (λ f. MaySay f (get_or packets i d).body) (from i d less) (goods.all_say laws base end setup ok few nodes sent told good clock packets says i d less)
 
     abbrev AllFit : List Packet → Type 0
-    AllFit packets = (q : Packet) → In q (sent ++ map (sent_at clock) packets) → BodyFits q.body
+    AllFit packets = (q : Packet) → In q (sent ++ map (sent_at clock) packets) → PacketFits q.to q.body
 
-    all_fit : (packets : List Packet) → All (λ (p : Packet). BodyFits p.body) packets → AllFit packets
+    all_fit : (packets : List Packet) → All (λ (p : Packet). PacketFits p.to p.body) packets → AllFit packets
     all_fit packets all = goods.all_fit laws base end setup ok few nodes sent told good clock packets all
 
-    others_fit : (node : NodeId) → (node ≡ Registry → ⊥) → (packets : List Packet) → All (λ (p : Packet). p.from ≡ node) packets → Says packets → AllFit packets
-    others_fit node other packets from says = goods.others_fit laws base end setup ok few nodes sent told good clock node other packets from says
+    -- ---- the log of another owner
+
+    -- a node of this name, which stores and bars the log of this number alone, has no part in another
+    module _ (name : NodeId) (n : ℕ) (at : place_of k name ≡ Some place) (x : AnyNode) (is : slice_get nodes place ≡ Some x)
+        (from : All (λ (p : Packet). p.from ≡ name) (any_step x what).packets) (plain : All (λ (p : Packet). Plain p.body) (any_step x what).packets)
+        (own : All (λ (p : Packet). OfLog n p.body) (any_step x what).packets)
+        (reached : (r : Role) (w : Scene) (generation : ℕ) → ReachedBy (g r) (asker_by r w) w.net name generation) where
+      apart : (r : Role) → (n ≡ log_by r → ⊥) → (owner_by r ≡ name → ⊥) → owns (log_by r) name ≡ (n == log_by r)
+          → ((w : Scene) → Seen (g r) r w name (any_step x what).node) → Now name x r
+      apart r other away counts there h =
+          next_so (g r) r l.0 l.1.moment name k (nodes_at x) (sent_by x) (told (log_by r) ++ []) (told_by name x (log_by r))
+          (ap (λ t. told (log_by r) ++ (if t then (any_step x what).acts else [])) (sym (counts ∙ unequal n (log_by r) other)))
+          (turned (g r) r l.0 l.0 k nodes sent (told (log_by r)) l.1 name place clock at x (any_step x what).node is (any_step x what).packets []
+          (idle_turn (g r) r l.0 name (any_step x what).node (any_step x what).packets away (there l.0) sends))
+        where
+          l : (v : Scene) × Stands (g r) r v k nodes sent (told (log_by r))
+          l = good.logs r h
+
+          sends : All (PacketSeen (g r) (asker_by r l.0) l.0.net) (any_step x what).packets
+          sends i d less =
+              let p : Packet = get_or (any_step x what).packets i d in
+              subst (λ f. BodySeen (g r) (asker_by r l.0) l.0.net f p.to p.body) (sym (from i d less))
+              (sent_apart (g r) r (refl, refl) l.0 n other name (λ e. away (sym e)) (reached r l.0) p.to p.body (plain i d less) (own i d less))
 
     -- ---- a server
 
@@ -141,24 +173,33 @@ module _ (laws : NodeLaws) (base : Setting) (end : World AnyNode) (setup : Setup
     server_after v gets at (any.Cleaner node) is known = absurd (first.1.seen (Server v) (any.Cleaner node) (named (Server v) _ at is))
     server_after v gets at (any.Registry node) is known = absurd (first.1.seen (Server v) (any.Registry node) (named (Server v) _ at is))
     server_after v gets at (any.Server node) is known = record {
-      fits = others_fit (Server node.number) (λ e. absurd cc) (server_step node what).packets
-          (sent_from (Server node.number) (servers.takes node what).outs) known.says;
-      logs = λ r h. one r (good.logs r h);
+      fits = all_fit (server_step node what).packets (λ i d less. server_sends (get_or packets i d).to (get_or packets i d).body (may i d less)
+          (All-from_recursion (λ (p : Packet). CarriesBytes p.body) packets tells.packets i d less));
+      holds = all_still nodes place (any.Server (server_step node what).node) good.holds tells.node;
+      logs = one;
     }
       where
-        one : (r : Role) → (l : Scene) × Stands (g r) r l k nodes sent (told (log_by r))
-            → (l : Scene) × Stands (g r) r l k (nodes_at (any.Server node)) (sent_by (any.Server node)) (told_by (Server v) (any.Server node) (log_by r))
-        one r l = (
-          record l.0 { net = go.next },
-          turned (g r) r l.0 (record l.0 { net = go.next }) k nodes sent (told (log_by r)) l.1 (Server v) place clock at (any.Server node)
-              (any.Server (server_step node what).node) is
-              (server_step node what).packets [] (server_turn (g r) r refl l.0 l.1.moment v node what go),
-        )
+        packets : List Packet
+        packets = (server_step node what).packets
+
+        may : All (λ (p : Packet). MaySay (Server node.number) p.body) packets
+        may = all_say (Server node.number) packets (sent_from (Server node.number) (servers.takes node what).outs) known.says
+
+        tells : TellsBytes (server_step node what)
+        tells = laws.servers_tell node what (held_at nodes place (any.Server node) good.holds is) (do_carries v what (comes (Server v) gets))
+
+        one : (r : Role) → Now (Server v) (any.Server node) r
+        one r h =
+            turned (g r) r l.0 (record l.0 { net = go.next }) k nodes sent (told (log_by r)) l.1 (Server v) place clock at (any.Server node)
+            (any.Server (server_step node what).node) is packets [] (server_turn (g r) r (refl, refl) l.0 v node what go)
           where
+            l : (w : Scene) × Stands (g r) r w k nodes sent (told (log_by r))
+            l = good.logs r h
+
             owed : (x : Do) → what ≡ x → ServerOwed (g r) (asker_by r l.0) l.0.net v x
             owed Begin same = tt
             owed Tick same = tt
-            owed (Deliver q) same = (let h = gets q same in (h.1, l.1.facts q h.0))
+            owed (Deliver q) same = (let h_ = gets q same in (h_.1, l.1.facts q h_.0))
 
             go : ServerGoes (g r) (asker_by r l.0) l.0.net v node what
             go = laws.server (g r) (asker_by r l.0) l.0.net v node what (behind (k.clients + k.managers) k.servers v place at).some (no_server r v)
@@ -168,37 +209,72 @@ module _ (laws : NodeLaws) (base : Setting) (end : World AnyNode) (setup : Setup
     -- ---- the cleaner
 
     module _ (gets : Gets Cleaner) (at : place_of k Cleaner ≡ Some place) (node : CleanerNode) (is : slice_get nodes place ≡ Some (any.Cleaner node)) where
-      abbrev cleaner_packets : List Packet
-      cleaner_packets = (cleaner_step node what).packets
+      -- of another log than its own
+      module _ (r : Role) (h : There r) (other : cleaner_log.0 ≡ log_by r → ⊥) (away : owner_by r ≡ Cleaner → ⊥)
+          (sees : (w : Scene) (p : CleanerPhase) → CleanerAs (g r) w r p → CleanerSeen (g r) w.net p)
+          (seen : (w : Scene) (p : CleanerPhase) → CleanerSeen (g r) w.net p → CleanerAs (g r) w r p) where
+        abbrev l : (w : Scene) × Stands (g r) r w k nodes sent (told (log_by r))
+        l = good.logs r h
 
-      abbrev cleaner_acts : List Act
-      cleaner_acts = (cleaner_step node what).acts
-
-      -- of a client's log
-      module _ (c : ℕ) (most : c ≤ setup.clients) (l : (v : Scene) × Stands (g (OfClient c)) (OfClient c) v k nodes sent (told c)) where
-        heard : (x : Do) → what ≡ x → CleanerOwed (g (OfClient c)) (asker_by (OfClient c) l.0) l.0.net x
+        heard : (x : Do) → what ≡ x → CleanerOwed (g r) (asker_by r l.0) l.0.net x
         heard Begin same = tt
         heard Tick same = tt
-        heard (Deliver q) same = (let h = gets q same in (h.1, l.1.facts q h.0))
+        heard (Deliver q) same = (let h_ = gets q same in (h_.1, l.1.facts q h_.0))
 
-        other : (g (OfClient c)).log ≡ cleaner_log → ⊥
-        other e = (let n = ap (λ (l : LogId). l.0) e in let m = goods.eight laws base end setup ok few c most in absurd (omega arith))
+        no_log : (g r).log ≡ cleaner_log → ⊥
+        no_log e = other (ap (λ (x : LogId). x.0) (sym e))
 
-        go : CleanerGoes (g (OfClient c)) (asker_by (OfClient c) l.0) l.0.net node what
-        go = laws.cleaner (g (OfClient c)) (asker_by (OfClient c) l.0) l.0.net node what other (λ e. absurd cc)
-            (l.1.seen Cleaner (any.Cleaner node) (named Cleaner _ at is)) (heard what refl)
+        its : CleanerSeen (g r) l.0.net node.phase
+        its = sees l.0 node.phase (l.1.seen Cleaner (any.Cleaner node) (named Cleaner _ at is))
 
-        cleaner_apart : Now Cleaner (any.Cleaner node) (OfClient c)
-        cleaner_apart = (
-          record l.0 { net = go.next },
-          subst (λ more. Stands (g (OfClient c)) (OfClient c) (record l.0 { net = go.next }) k (nodes_at (any.Cleaner node)) (sent_by (any.Cleaner node))
-              (told c ++ more))
-              (ap (λ t. if t then cleaner_acts else [])
-              (sym (unequal cleaner_log.0 c (λ e. (let m = goods.eight laws base end setup ok few c most in absurd (omega (arith, e)))))))
-              (turned (g (OfClient c)) (OfClient c) l.0 (record l.0 { net = go.next }) k nodes sent (told c) l.1 Cleaner place clock at (any.Cleaner node)
-              (any.Cleaner (cleaner_step node what).node) is
-              cleaner_packets [] (cleaner_turn (g (OfClient c)) c refl l.0 l.1.moment node what go)),
-        )
+        go : CleanerGoes (g r) (asker_by r l.0) l.0.net node what
+        go = laws.cleaner (g r) (asker_by r l.0) l.0.net node what no_log away its (heard what refl)
+
+        cleaner_apart : Next (g r) r l.0 l.1.moment Cleaner k (nodes_at (any.Cleaner node)) (sent_by (any.Cleaner node))
+            (told_by Cleaner (any.Cleaner node) (log_by r))
+        cleaner_apart =
+            next_so (g r) r l.0 l.1.moment Cleaner k (nodes_at (any.Cleaner node)) (sent_by (any.Cleaner node)) (told (log_by r) ++ [])
+            (told_by Cleaner (any.Cleaner node) (log_by r))
+            (ap (λ t. told (log_by r) ++ (if t then (cleaner_step node what).acts else [])) (sym (unequal cleaner_log.0 (log_by r) other)))
+            (turned (g r) r l.0 (record l.0 { net = go.next }) k nodes sent (told (log_by r)) l.1 Cleaner place clock at (any.Cleaner node)
+            (any.Cleaner (cleaner_step node what).node) is (cleaner_step node what).packets []
+            (cleaner_turn (g r) r (refl, refl) l.0 away seen node what go))
+
+      cleaner_logs : (r : Role) → Now Cleaner (any.Cleaner node) r
+      cleaner_logs (OfClient c) h =
+          cleaner_apart (OfClient c) h (λ e. (let m = goods.eight laws base end setup ok few c h.1 in absurd (omega (arith, e)))) (λ e. absurd cc) (λ w p s. s)
+          (λ w p s. s)
+      cleaner_logs OfCleaner h =
+          cleaner_log_events.cleaner_mine laws base end setup few nodes sent (told cleaner_log.0) place clock what good.fits gets at node is (good.logs OfCleaner h)
+      cleaner_logs (OfManager j) h =
+          cleaner_apart (OfManager j) h (λ e. (let m = high_log j h.0 in absurd (omega (arith, e)))) (λ e. absurd cc) (λ w p s. s) (λ w p s. s)
+
+      -- what it tells, and stores
+      cleaner_told : TellsTold (CleanerHolds in_range) in_range (cleaner_step node what)
+      cleaner_told = cleaner_log_events.cleaner_told laws base end setup few nodes sent (told cleaner_log.0) place clock what good.fits gets at node is
+          (good.logs OfCleaner tt) (held_at nodes place (any.Cleaner node) good.holds is) (comes Cleaner gets)
+
+      client_one : There (OfClient 1)
+      client_one = (omega arith, ok.clients.0)
+
+      cleaner_fits : Says (cleaner_step node what).packets → All (λ (p : Packet). PacketFits p.to p.body) (cleaner_step node what).packets
+      cleaner_fits says i d less =
+          let packets : List Packet = (cleaner_step node what).packets in
+          let p : Packet = get_or packets i d in
+          cleaner_sends p.to p.body (all_say Cleaner packets (sent_from Cleaner (cleaners.takes node.peers node.phase what).outs) says i d less)
+          (All-from_recursion (PacketTold in_range) packets cleaner_told.packets i d less)
+          (cleaner_log_events.cleaner_stores laws base end setup few nodes sent (told cleaner_log.0) place clock what good.fits gets at node is
+          (good.logs OfCleaner tt)
+          (laws.cleaner_stores (g (OfClient 1)) (asker_by (OfClient 1) first.0) first.0.net node what (λ e. absurd (one_apart e)) (λ e. absurd cc)
+          (first.1.seen Cleaner (any.Cleaner node) (named Cleaner _ at is)) (heard_first what refl)) i d less)
+        where
+          one_apart : (g (OfClient 1)).log ≡ cleaner_log → ⊥
+          one_apart e = (let n = ap (λ (x : LogId). x.0) e in absurd (omega (arith, n)))
+
+          heard_first : (x : Do) → what ≡ x → CleanerOwed (g (OfClient 1)) (asker_by (OfClient 1) first.0) first.0.net x
+          heard_first Begin same = tt
+          heard_first Tick same = tt
+          heard_first (Deliver q) same = (let h_ = gets q same in (h_.1, first.1.facts q h_.0))
 
     cleaner_after : Gets Cleaner → place_of k Cleaner ≡ Some place → (x : AnyNode) → slice_get nodes place ≡ Some x → After Cleaner x
     cleaner_after gets at (any.Client node) is known = absurd (first.1.seen Cleaner (any.Client node) (named Cleaner _ at is))
@@ -206,14 +282,10 @@ module _ (laws : NodeLaws) (base : Setting) (end : World AnyNode) (setup : Setup
     cleaner_after gets at (any.Server node) is known = absurd (first.1.seen Cleaner (any.Server node) (named Cleaner _ at is))
     cleaner_after gets at (any.Registry node) is known = absurd (first.1.seen Cleaner (any.Registry node) (named Cleaner _ at is))
     cleaner_after gets at (any.Cleaner node) is known = record {
-      fits = others_fit Cleaner (λ e. absurd cc) (cleaner_step node what).packets
-          (sent_from Cleaner (cleaners.takes node.peers node.phase what).outs) known.says;
-      logs = λ r h. by_owner r h (good.logs r h);
+      fits = all_fit (cleaner_step node what).packets (cleaner_fits gets at node is known.says);
+      holds = all_still nodes place (any.Cleaner (cleaner_step node what).node) good.holds (cleaner_told gets at node is).node;
+      logs = cleaner_logs gets at node is;
     }
-      where
-        by_owner : (r : Role) → There r → (v : Scene) × Stands (g r) r v k nodes sent (told (log_by r)) → Now Cleaner (any.Cleaner node) r
-        by_owner (OfClient c) h l = cleaner_apart gets at node is c h.1 l
-        by_owner OfCleaner h l = cleaner_mine laws base end setup few nodes sent (told cleaner_log.0) place clock what (λ q s. h q (upto q s)) gets at node is l
 
     -- ---- the registry
 
@@ -223,90 +295,120 @@ module _ (laws : NodeLaws) (base : Setting) (end : World AnyNode) (setup : Setup
     registry_after gets at (any.Server node) is known = absurd (first.1.seen Registry (any.Server node) (named Registry _ at is))
     registry_after gets at (any.Cleaner node) is known = absurd (first.1.seen Registry (any.Cleaner node) (named Registry _ at is))
     registry_after gets at (any.Registry node) is known = record {
-      fits = all_fit (registry_step node what).packets (λ i d less. registry_fits 0 what (registry_step node what).node.board
-          (map_fits (registry_step node what).node.board.groups (goes (OfClient 1) (omega arith, ok.clients.0) first).seen.map) _ _ (sends.sends i d less));
-      logs = λ r h. one r h (good.logs r h);
+      fits = all_fit (registry_step node what).packets (λ i d less. registry_sends 0 what (registry_step node what).node.board
+          (map_fits (registry_step node what).node.board.groups (goes (OfClient 1) (omega arith, ok.clients.0)).seen.map) _ _ (sends.sends i d less));
+      holds = all_still nodes place y good.holds tt;
+      logs = one;
     }
       where
         y : AnyNode
         y = any.Registry (registry_step node what).node
 
+        after : node_in (slice_set nodes place y) (place_of k Registry) ≡ Some y
+        after = places.here k nodes Registry place at y (any.Registry node) is
+
         sends : board.RegistryGoes 0 node what
         sends = laws.tokens.registry 0 (omega arith) node (sound node (named Registry _ at is)) what
 
-        goes : (r : Role) → There r → (l : (v : Scene) × Stands (g r) r v k nodes sent (told (log_by r)))
-            → RegistryGoes (g r) (asker_by r l.0) l.0.net node what
-        goes r there l =
-            laws.registry (g r) (asker_by r l.0) l.0.net node what (at_most_nine setup.clients (AllInRange end) ok.clients.1 r there)
-            (l.1.seen Registry (any.Registry node) (named Registry _ at is)) (owed what refl)
-            (record { named = now.0; filed = filed now.1 })
-          where
-            owed : (x : Do) → what ≡ x → Hears (g r) (asker_by r l.0) l.0.net x
-            owed Begin same = tt
-            owed Tick same = tt
-            owed (Deliver q) same = l.1.facts q (gets q same).0
+        owed : (r : Role) (l : (v : Scene) × Stands (g r) r v k nodes sent (told (log_by r))) (x : Do) → what ≡ x
+            → Hears (g r) (asker_by r l.0) l.0.net x
+        owed r l Begin same = tt
+        owed r l Tick same = tt
+        owed r l (Deliver q) same = l.1.facts q (gets q same).0
 
-            now : NamesGroups (g r) (registry_step node what).node.board.groups
-                × Reached (told (log_by r) ++ []) (low_of (g r) (registry_step node what).node.board)
-            now = known.registry (registry_step node what).node.board (ap board_of (places.here k nodes Registry place at y (any.Registry node) is)) r there
+        -- of a log of which horizons tell
+        low_goes : (r : Role) (h : There r) → renews r ≡ false → log_by r ≤ 9
+            → RegistryGoes (g r) (asker_by r (good.logs r h).0) (good.logs r h).0.net node what
+        low_goes r h keeps few_ =
+            laws.registry (g r) (asker_by r l.0) l.0.net node what few_ (l.1.seen Registry (any.Registry node) (named Registry _ at is)) (owed r l what refl)
+            (record {
+              named = known.named (registry_step node what).node.board (ap board_of after) r;
+              filed = filed (known.reached (registry_step node what).node.board (ap board_of after) r h keeps);
+            })
+          where
+            l : (v : Scene) × Stands (g r) r v k nodes sent (told (log_by r))
+            l = good.logs r h
 
             low : 1 ≤ l.0.net.low
             low = (run_later (g r) (opening (g r) l.1.moment.map) l.0.net l.1.moment.run).low
 
-            filed : Reached (told (log_by r) ++ []) (low_of (g r) (registry_step node what).node.board)
+            filed : Reached (told (log_by r) ++ (if owns (log_by r) Registry then (registry_step node what).acts else []))
+                (low_of (g r) (registry_step node what).node.board)
                 → IsFiled l.0.net (low_of (g r) (registry_step node what).node.board)
-            filed (inl first) = inl (let m = low in omega arith)
-            filed (inr f) = inr (f.0, ⊎_elim (λ h. l.1.filed f.0 h) (λ h. absurd h) (in_append (told (log_by r)) [] (act.Filed f.0) f.1), f.2)
+            filed (inl lowest) = inl (let m = low in omega arith)
+            filed (inr f) = inr (f.0, ⊎_elim (λ h_. l.1.filed f.0 h_) (λ h_. absurd h_) (in_append (told (log_by r)) [] (act.Filed f.0) f.1), f.2)
 
-        one : (r : Role) → There r → (l : (v : Scene) × Stands (g r) r v k nodes sent (told (log_by r)))
-            → (v : Scene) × Stands (g r) r v k (nodes_at (any.Registry node)) (sent_by (any.Registry node)) (told_by Registry (any.Registry node) (log_by r))
-        one r h l = (
-          record l.0 { net = (goes r h l).next },
-          turned (g r) r l.0 (record l.0 { net = (goes r h l).next }) k nodes sent (told (log_by r)) l.1 Registry place clock at (any.Registry node) y is
-              (registry_step node what).packets [] (registry_turn (g r) r refl l.0 l.1.moment node what (goes r h l)),
-        )
+        goes : (r : Role) (h : There r) → RegistryGoes (g r) (asker_by r (good.logs r h).0) (good.logs r h).0.net node what
+        goes (OfClient c) h = low_goes (OfClient c) h refl (let m = goods.eight laws base end setup ok few c h.1 in omega arith)
+        goes OfCleaner h = low_goes OfCleaner h refl (omega arith)
+        goes (OfManager j) h =
+            (let l = good.logs (OfManager j) h in
+            laws.registry_above (g (OfManager j)) (asker_by (OfManager j) l.0) l.0.net node what (high_log j h.0)
+            (l.1.seen Registry (any.Registry node) (named Registry _ at is)) (owed (OfManager j) l what refl)
+            (known.named (registry_step node what).node.board (ap board_of after) (OfManager j)))
+
+        one : (r : Role) → Now Registry (any.Registry node) r
+        one r h =
+            (let l = good.logs r h in
+            turned (g r) r l.0 (record l.0 { net = (goes r h).next }) k nodes sent (told (log_by r)) l.1 Registry place clock at (any.Registry node) y is
+            (registry_step node what).packets [] (registry_turn (g r) r (refl, refl) l.0 node what (goes r h)))
 
     -- ---- a manager
 
-    manager_after : (j : ℕ) → place_of k (Manager j) ≡ Some place → (x : AnyNode) → slice_get nodes place ≡ Some x → After (Manager j) x
-    manager_after j at (any.Client node) is known = absurd (first.1.seen (Manager j) (any.Client node) (named (Manager j) _ at is))
-    manager_after j at (any.Server node) is known = absurd (first.1.seen (Manager j) (any.Server node) (named (Manager j) _ at is))
-    manager_after j at (any.Cleaner node) is known = absurd (first.1.seen (Manager j) (any.Cleaner node) (named (Manager j) _ at is))
-    manager_after j at (any.Registry node) is known = absurd (first.1.seen (Manager j) (any.Registry node) (named (Manager j) _ at is))
-    manager_after j at (any.Manager node) is known = record {
-      fits = all_fit packets (λ i d less. from_fits (get_or packets i d).from (get_or packets i d).body (all_say packets known.says i d less)
-          (λ e. let f = (writes.sends i d less).from in absurd (no_registry _ (sym f ∙ e))));
-      logs = λ r h. one r h (good.logs r h);
+    manager_after : (j : ℕ) → Gets (Manager j) → place_of k (Manager j) ≡ Some place → (x : AnyNode) → slice_get nodes place ≡ Some x → After (Manager j) x
+    manager_after j gets at (any.Client node) is known = absurd (first.1.seen (Manager j) (any.Client node) (named (Manager j) _ at is))
+    manager_after j gets at (any.Server node) is known = absurd (first.1.seen (Manager j) (any.Server node) (named (Manager j) _ at is))
+    manager_after j gets at (any.Cleaner node) is known = absurd (first.1.seen (Manager j) (any.Cleaner node) (named (Manager j) _ at is))
+    manager_after j gets at (any.Registry node) is known = absurd (first.1.seen (Manager j) (any.Registry node) (named (Manager j) _ at is))
+    manager_after j gets at (any.Manager node) is known = record {
+      fits = all_fit packets (manager_log_events.all_fit laws base end setup few j b.some nodes sent (told (log_by (OfManager j))) place clock what good.fits gets
+          at node is own);
+      holds = all_still nodes place (any.Manager (manager_step node what).node) good.holds tt;
+      logs = by_owner;
     }
       where
         packets : List Packet
         packets = (manager_step node what).packets
 
-        no_registry : (n : ℕ) → Manager n ≡ Registry → ⊥
-        no_registry n e = absurd cc
+        b : Behind k.clients k.managers j place
+        b = behind k.clients k.managers j place at
 
-        writes : ManagerWrites node what
-        writes =
-            manager_writes node what
-            (let n = numbered j node (named (Manager j) (any.Manager node) at is) in let b = (behind k.clients k.managers j place at).some in omega arith)
-            (first.1.seen (Manager j) (any.Manager node) (named (Manager j) _ at is))
+        there : There (OfManager j)
+        there = (b.some, b.within)
 
-        one : (r : Role) → There r → (l : Scene) × Stands (g r) r l k nodes sent (told (log_by r))
-            → (l : Scene) × Stands (g r) r l k (nodes_at (any.Manager node)) (sent_by (any.Manager node)) (told_by (Manager j) (any.Manager node) (log_by r))
-        one r h l = (
-          l.0,
-          turned (g r) r l.0 l.0 k nodes sent (told (log_by r)) l.1 (Manager j) place clock at (any.Manager node)
-              (any.Manager (manager_step node what).node) is packets []
-              (idle_turn (g r) r l.0 l.1.moment (Manager j) (any.Manager (manager_step node what).node) packets writes.writes sends),
-        )
+        own : (v : Scene) × Stands (g (OfManager j)) (OfManager j) v k nodes sent (told (log_by (OfManager j)))
+        own = good.logs (OfManager j) there
+
+        from : All (λ (p : Packet). p.from ≡ Manager j) packets
+        from i d less =
+            sent_from (Manager (managers.lasting_of node.phase).number) (manager_happens node what).outs i d less
+            ∙ ap Manager
+            (manager_log_events.number laws base end setup few j b.some nodes sent (told (log_by (OfManager j))) place clock what good.fits gets at node is own)
+
+        away : (r : Role) → (log_by (OfManager j) ≡ log_by r → ⊥) → (owner_by r ≡ Manager j → ⊥)
+            → owns (log_by r) (Manager j) ≡ (log_by (OfManager j) == log_by r)
+            → ((w : Scene) → Seen (g r) r w (Manager j) (any.Manager (manager_step node what).node)) → Now (Manager j) (any.Manager node) r
+        away = apart (Manager j) (log_by (OfManager j)) at (any.Manager node) is from (all_say (Manager j) packets from known.says)
+            (manager_log_events.all_own laws base end setup few j b.some nodes sent (told (log_by (OfManager j))) place clock what good.fits gets at node is own)
+            (λ r w generation. tt)
+
+        by_owner : (r : Role) → Now (Manager j) (any.Manager node) r
+        by_owner (OfClient c) h = away (OfClient c)
+            (λ e. (let m = goods.eight laws base end setup ok few c h.1 in let high = high_log j b.some in absurd (omega (arith, e))))
+            (λ e. absurd cc) refl (λ w. tt) h
+        by_owner OfCleaner h = away OfCleaner (λ e. (let high = high_log j b.some in absurd (omega (arith, e)))) (λ e. absurd cc) refl (λ w. tt) h
+        by_owner (OfManager i) h = ⊎_elim (λ same. subst (λ n. Now (Manager j) (any.Manager node) (OfManager n)) same mine h)
+            (λ other. away (OfManager i)
+            (λ e. other (goods.one_manager laws base end setup ok few j i there h e))
+            (λ e. other (same_manager i j e)) refl (λ w e. absurd (other e)) h)
+            (equal_or_not j i)
           where
-            sends : All (PacketSeen (g r) (asker_by r l.0) l.0.net) packets
-            sends i d less =
-                let p : Packet = get_or packets i d in
-                let m = writes.sends i d less in
-                let say = subst (λ f. MaySay f p.body) m.from (all_say packets known.says i d less) in
-                subst (λ f. BodySeen (g r) (asker_by r l.0) l.0.net f p.to p.body) (sym m.from)
-                (manager_apart (g r) r refl l.0 (at_most_nine setup.clients (AllInRange end) ok.clients.1 r h) m.manager p.to p.body say.0 say.1 m.own)
+            same_manager : (x y : ℕ) → Manager x ≡ Manager y → y ≡ x
+            same_manager x y e = cc
+
+            mine : Now (Manager j) (any.Manager node) (OfManager j)
+            mine h_ = manager_log_events.manager_mine laws base end setup few j b.some nodes sent (told (log_by (OfManager j))) place clock what good.fits gets
+                at node is (good.logs (OfManager j) h_) (log_by (OfManager j) == log_by (OfManager j))
 
     -- ---- a client
 
@@ -316,95 +418,64 @@ module _ (laws : NodeLaws) (base : Setting) (end : World AnyNode) (setup : Setup
     client_after d gets at (any.Cleaner node) is known = absurd (first.1.seen (Client d) (any.Cleaner node) (named (Client d) _ at is))
     client_after d gets at (any.Registry node) is known = absurd (first.1.seen (Client d) (any.Registry node) (named (Client d) _ at is))
     client_after d gets at (any.Client node) is known = record {
-      fits = others_fit (Client (lasting_of node.phase).number) (λ e. absurd cc) packets from known.says;
-      logs = λ r h. by_owner r h (good.logs r h);
+      fits = all_fit packets (λ i d_ less.
+          let p : Packet = get_or packets i d_ in
+          client_sends p.to p.body (may i d_ less).0 (may i d_ less).1 (All-from_recursion (PacketTold in_range) packets tells.packets i d_ less)
+          (client_log_events.all_stored laws base end setup few d b.some eight nodes sent (told d) place clock what good.fits gets at node is own i d_ less));
+      holds = all_still nodes place (any.Client (client_step node what).node) good.holds tells.node;
+      logs = by_owner;
     }
       where
         packets : List Packet
         packets = (client_step node what).packets
 
-        acts : List Act
-        acts = (client_step node what).acts
+        b : Behind 0 k.clients d place
+        b = behind 0 k.clients d place at
 
-        from : All (λ (p : Packet). p.from ≡ Client (lasting_of node.phase).number) packets
-        from = sent_from (Client (lasting_of node.phase).number) (takes node what).outs
+        eight : d ≤ 8
+        eight = goods.eight laws base end setup ok few d b.within
 
-        here : node_in nodes (place_of k (Client d)) ≡ Some (any.Client node)
-        here = named (Client d) (any.Client node) at is
-
-        some : 0 < d
-        some = (behind 0 k.clients d place at).some
-
-        within : d ≤ setup.clients
-        within = (behind 0 k.clients d place at).within
+        there : There (OfClient d)
+        there = (b.some, b.within)
 
         own : (v : Scene) × Stands (g (OfClient d)) (OfClient d) v k nodes sent (told d)
-        own = good.logs (OfClient d) (some, within)
+        own = good.logs (OfClient d) there
 
-        seen : OwnerSeen (g (OfClient d)) own.0 d node.phase
-        seen = own.1.seen (Client d) (any.Client node) here refl
+        from : All (λ (p : Packet). p.from ≡ Client d) packets
+        from i d_ less =
+            sent_from (Client (lasting_of node.phase).number) (takes node what).outs i d_ less
+            ∙ ap Client (client_log_events.number laws base end setup few d b.some eight nodes sent (told d) place clock what good.fits gets at node is own)
 
-        scans : PhaseOwed (g (OfClient d)) own.0.net node.phase
-        scans = phase_owed (g (OfClient d)) d own.0 own.1.moment
-            (λ m sent. names_fit base end setup.servers d few m (laws.maps (g (OfClient d)) own.0.net own.1.moment m sent)) laws.goes_on node.phase seen
+        may : All (λ (p : Packet). MaySay (Client d) p.body) packets
+        may = all_say (Client d) packets from known.says
 
-        owed : (x : Do) → what ≡ x → ClientOwed (g (OfClient d)) d own.0 node.phase x
-        owed Begin same = tt
-        owed Tick same = scans
-        owed (Deliver q) same = (let h = gets q same in record { own = h.1; seen = own.1.facts q h.0; fits = good.fits q h.0; scans = scans })
+        tells : TellsTold (ClientHolds in_range) in_range (client_step node what)
+        tells = client_log_events.client_told laws base end setup few d b.some eight nodes sent (told d) place clock what good.fits gets at node is own
+            (held_at nodes place (any.Client node) good.holds is) (comes (Client d) gets)
 
-        go : ClientGoes (g (OfClient d)) d own.0 (client_step node what)
-        go = laws.client (g (OfClient d)) d refl (log_small d some (goods.eight laws base end setup ok few d within)) own.0 node what seen.agrees seen.written
-            (owed what refl)
+        away : (r : Role) → (d ≡ log_by r → ⊥) → (owner_by r ≡ Client d → ⊥) → owns (log_by r) (Client d) ≡ (d == log_by r)
+            → ((w : Scene) → Seen (g r) r w (Client d) (any.Client (client_step node what).node)) → Now (Client d) (any.Client node) r
+        away = apart (Client d) d at (any.Client node) is from (λ i d_ less. (may i d_ less).0)
+            (client_log_events.all_own laws base end setup few d b.some eight nodes sent (told d) place clock what good.fits gets at node is own)
+            (λ r w generation. tt)
 
-        room : IsRoomy go.next.net
-        room = client_leaves_room laws.flies (g (OfClient d)) d own.0 own.1.moment node what seen.agrees go seen.room
-
-        mine : Now (Client d) (any.Client node) (OfClient d)
-        mine = (
-          go.next,
-          turned (g (OfClient d)) (OfClient d) own.0 go.next k nodes sent (told d) own.1 (Client d) place clock at (any.Client node)
-              (any.Client (client_step node what).node) is
-              packets (if d == d then acts else [])
-              (owner_turn (g (OfClient d)) d own.0 own.1.moment (client_step node what) go room (if d == d then acts else []) (in_those (d == d) acts)),
-        )
-
-        number : (lasting_of node.phase).number ≡ d
-        number = number_is (g (OfClient d)) d own.0 node.phase seen.agrees
-
-        -- the log of another
-        apart : (r : Role) → (d ≡ log_by r → ⊥) → (Client d ≡ owner_by r → ⊥) → ((l : Scene) → ClientAs (g r) l r d (client_step node what).node.phase)
-            → (l : Scene) × Stands (g r) r l k nodes sent (told (log_by r)) → Now (Client d) (any.Client node) r
-        apart r other away there l = (
-          l.0,
-          subst (λ more. Stands (g r) r l.0 k (nodes_at (any.Client node)) (sent_by (any.Client node)) (told (log_by r) ++ more))
-              (ap (λ t. if t then acts else []) (sym (unequal d (log_by r) other)))
-              (turned (g r) r l.0 l.0 k nodes sent (told (log_by r)) l.1 (Client d) place clock at (any.Client node)
-              (any.Client (client_step node what).node) is packets []
-              (idle_turn (g r) r l.0 l.1.moment (Client d) (any.Client (client_step node what).node) packets (there l.0) sends)),
-        )
+        by_owner : (r : Role) → Now (Client d) (any.Client node) r
+        by_owner (OfClient c) h = ⊎_elim (λ same. subst (λ n. Now (Client d) (any.Client node) (OfClient n)) same mine h)
+            (λ other. away (OfClient c) other (λ e. other (same_client c d e)) refl (λ w e. absurd (other e)) h) (equal_or_not d c)
           where
-            sends : All (PacketSeen (g r) (asker_by r l.0) l.0.net) packets
-            sends i d_ less =
-                let p : Packet = get_or packets i d_ in
-                let sender : p.from ≡ Client d = from i d_ less ∙ ap Client number in
-                let say = subst (λ f. MaySay f p.body) sender (all_say packets known.says i d_ less) in
-                subst (λ f. BodySeen (g r) (asker_by r l.0) l.0.net f p.to p.body) (sym sender)
-                (client_apart (g r) r refl l.0 d other away p.to p.body say (of_log (g (OfClient d)) d refl p.body (go.own i d_ less)))
+            same_client : (x y : ℕ) → Client x ≡ Client y → y ≡ x
+            same_client x y e = cc
 
-        same_client : (a b : ℕ) → Client a ≡ Client b → a ≡ b
-        same_client a b e = cc
-
-        by_owner : (r : Role) → There r → (l : Scene) × Stands (g r) r l k nodes sent (told (log_by r)) → Now (Client d) (any.Client node) r
-        by_owner (OfClient c) h l =
-            ⊎_elim (λ same. subst (λ n. Now (Client d) (any.Client node) (OfClient n)) same mine)
-            (λ other. apart (OfClient c) other (λ e. other (same_client d c e)) (λ v e. absurd (other e)) l) (equal_or_not d c)
-        by_owner OfCleaner h l =
-            apart OfCleaner (λ e. (let m = goods.eight laws base end setup ok few d within in absurd (omega (arith, e)))) (λ e. absurd cc) (λ v. tt) l
+            mine : Now (Client d) (any.Client node) (OfClient d)
+            mine h_ = client_log_events.client_mine laws base end setup few d b.some eight nodes sent (told d) place clock what good.fits gets at node is
+                (good.logs (OfClient d) h_) (d == d)
+        by_owner OfCleaner h = away OfCleaner (λ e. (let m = eight in absurd (omega (arith, e)))) (λ e. absurd cc) refl (λ w. tt) h
+        by_owner (OfManager j) h =
+            away (OfManager j) (λ e. (let m = eight in let high = high_log j h.0 in absurd (omega (arith, e)))) (λ e. absurd cc) refl (λ w. tt) h
 
     pub node_after : (name : NodeId) → Gets name → place_of k name ≡ Some place → (x : AnyNode) → slice_get nodes place ≡ Some x → After name x
     node_after (Client d) gets at x is = client_after d gets at x is
-    node_after (Manager j) gets at x is = manager_after j at x is
+    node_after (Manager j) gets at x is = manager_after j gets at x is
     node_after (Server v) gets at x is = server_after v gets at x is
     node_after Cleaner gets at x is = cleaner_after gets at x is
     node_after Registry gets at x is = registry_after gets at x is

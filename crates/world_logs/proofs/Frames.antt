@@ -17,6 +17,10 @@ use Rattle.log_owner.specs.declared.opening.Stage as stages
 use Rattle.log_owner.specs.declared.opening.Stage.TheVariants as stage
 use Rattle.log_protocol.specs.Tables.{In}
 use Rattle.log_tie.specs.Setting.{Setting}
+use Rattle.manager_log_tie.specs.Owner as managing
+use Rattle.manager_node.specs.declared.lasting.Lasting as managers
+use Rattle.manager_node.specs.declared.phase.Phase.{Phase as ManagerPhase}
+use Rattle.manager_node.specs.declared.phase.Phase.TheVariants as managed
 use Rattle.node_log_tie.proofs.Emptied.{emptying_later}
 use Rattle.node_log_tie.proofs.Lists.{if_some}
 use Rattle.node_log_tie.proofs.RebuildEvents.{rebuild_later}
@@ -83,6 +87,32 @@ module _ (g : Setting) (is : g.log ≡ cleaner_log) (n next : Net) (asked : ℕ 
     asks = h.asks;
   }
   cleaner_owner_still (cleaners.Serving e) h = stands_later g is mine next later inc owner e h
+
+-- ---- a manager as the owner of its log
+
+module _ (g : Setting) (j : ℕ) (n next : Net) (asked : ℕ → Question) (inc : next.inc ≡ n.inc) (owner : next.owner ≡ n.owner) where
+  abbrev then_was : Scene
+  then_was = record { net = n; asked = asked }
+
+  abbrev then_is : Scene
+  then_is = record { net = next; asked = asked }
+
+  lasts_so : (kept : managers.Lasting) → managing.Lasts g j then_was kept → managing.Lasts g j then_is kept
+  lasts_so kept h = record { number = h.number; small = h.small; asks = h.asks }
+
+  pub manager_still : (p : ManagerPhase) → managing.ManagerAgrees g j then_was p → managing.ManagerAgrees g j then_is p
+  manager_still (managed.Down kept) h =
+      record { lasts = lasts_so kept h.lasts; inc = (let e = inc in let b = h.inc in omega arith); owner = owner ∙ h.owner }
+  manager_still (managed.Waiting kept hello) h =
+      record { lasts = lasts_so kept h.lasts; inc = (let e = inc in let b = h.inc in omega arith); owner = owner ∙ h.owner }
+  manager_still (managed.Serving s) h = record {
+    lasts = lasts_so s.lasting h.lasts;
+    inc = inc ∙ h.inc;
+    log = record { owner = owner ∙ h.log.owner; own = h.log.own };
+    written = h.written;
+    writer = h.writer;
+    index = h.index;
+  }
 
 -- ---- servers, the cleaner, the registry
 

@@ -1,5 +1,5 @@
--- Each front of a run leaves the log of each client, and that of the cleaner, standing to its small world.
-use Rattle.std.proofs.Common.{◌≡◌, ◌^◌, ◌+◌, ℕ, zero, suc, ◌<◌, Bool, true, false, List, [], ◌∷◌, ◌++◌, Option, None, Some, drop, length, map, take, slice_get, slice_set, if◌then◌else◌, append-nil, refl, sym, ap, subst, ◌∙◌, arith}
+-- Each front of a run leaves all logs standing to their small worlds, and at each event these lead on.
+use Rattle.std.proofs.Common.{◌≡◌, ◌^◌, ℕ, zero, suc, ◌<◌, Bool, true, false, List, [], ◌∷◌, ◌++◌, Option, None, Some, drop, length, map, take, slice_get, slice_set, if◌then◌else◌, append-nil, refl, sym, ap, subst, ◌∙◌, arith}
 use Rattle.std.proofs.lemmas.List.{append_assoc}
 use Rattle.std.proofs.Math.Seq.{drop-append_seam, drop-length}
 use Rattle.std.specs.List.{fold}
@@ -7,20 +7,18 @@ use Rattle.core_world.specs.AnyNode.{any_step}
 use Rattle.core_world.specs.declared.any_node.AnyNode.{AnyNode}
 use Rattle.core_world.specs.declared.any_node.AnyNode.TheVariants as any
 use Rattle.group_map.specs.declared.group.Group.{Group}
+use Rattle.client_log_tie.specs.Owner.{Scene}
+use Rattle.log_law.specs.Events.{Runs}
+use Rattle.log_law.specs.Events.Runs.{Begun}
+use Rattle.log_law.specs.Laws.{Moment}
 use Rattle.log_scan.specs.Transition.{least_horizon}
 use Rattle.log_tie.specs.Setting.{Setting}
-use Rattle.manager_node.specs.declared.manager.Manager.{Manager as ManagerNode}
-use Rattle.manager_node.specs.declared.phase.Phase.{Phase as ManagerPhase}
-use Rattle.manager_node.specs.declared.phase.Phase.TheVariants as managing
-use Rattle.manager_node.specs.Phases as managers
 use Rattle.node_base.specs.Setups.{IsSetup}
 use Rattle.node_log_tie.specs.RegistryEvents.{NamesGroups}
-use Rattle.node_tie.specs.ManagerEvents.{ManagerAgrees}
 use Rattle.node_tie.specs.RegistryEvents.{RegistrySound}
 use Rattle.registry.specs.Board.{all_news}
 use Rattle.registry.specs.BoardState.{BoardState}
 use Rattle.store_nodes.specs.declared.registry_node.RegistryNode.{RegistryNode}
-use Rattle.token_law.specs.Net.{Net as TokenNet}
 use Rattle.token_protocol.specs.Basics.{In}
 use Rattle.version_model.specs.declared.act.Act.{Act}
 use Rattle.wire_msg.specs.declared.packet.Do.TheVariants.{Deliver}
@@ -32,10 +30,9 @@ use Rattle.world_base.specs.declared.event.Event.TheVariants as events
 use Rattle.world_base.specs.declared.world.World.{World}
 use Rattle.world_base.specs.Events.{node_of, what_of}
 use Rattle.world_base.specs.NextWorld.{next_world, sent_at}
-use Rattle.world_base.specs.Runs.{Leads, MayHappen, WasSent}
+use Rattle.world_base.specs.Runs.{Leads, MayHappen}
 use Rattle.world_law.proofs.Laws as tokens
 use Rattle.world_law.proofs.ManagerTurns.{delivered}
-use Rattle.world_law.proofs.Places.{behind}
 use Rattle.world_law.proofs.Sent.{was_sent}
 use Rattle.world_law.proofs.Turning.{next_cluster, next_keeps}
 use Rattle.world_law.specs.Owners.{node_in}
@@ -43,15 +40,14 @@ use Rattle.world_logs.proofs.Events.{node_after}
 use Rattle.world_logs.proofs.Goods as logs
 use Rattle.world_logs.proofs.Goods.{Good, Known, NodeLaws}
 use Rattle.world_logs.proofs.Groups.{GroupsStay, StayIn, in_run}
-use Rattle.world_logs.proofs.Lists.{in_before, in_was}
-use Rattle.world_logs.proofs.Roles.{Role, log_by}
+use Rattle.world_logs.proofs.Leading.{GrowsBy, IsLeft, LeadsOn, moment_then}
+use Rattle.world_logs.proofs.Roles.{Role, log_by, owner_by, renews}
 use Rattle.world_logs.proofs.Says.{may_say}
 use Rattle.world_logs.proofs.Settings.{names_at_end}
-use Rattle.world_logs.proofs.Standing.{Stands}
 use Rattle.world_logs.specs.Doings.{acts_by, acts_of, owns}
 use Rattle.world_logs.specs.Horizons.{Reached, board_of}
 use Rattle.world_logs.specs.Shelves.{group_at, group_in, groups_of}
-use Rattle.xfs_base.specs.declared.node.NodeId.TheVariants.{Manager, Registry}
+use Rattle.xfs_base.specs.declared.node.NodeId.TheVariants.{Registry}
 use Rattle.xfs_base.specs.declared.setup.Setup.{Setup}
 
 -- whose map is the board's
@@ -65,19 +61,6 @@ groups_from_board (Some (any.Registry node)) b is = ap (λ (x : BoardState). Som
 
 same_registry : (a b : RegistryNode) → Some (any.Registry a) ≡ Some (any.Registry b) → a ≡ b
 same_registry a b is = cc
-
--- what was sent stays so
-kept_sent : (those : List Event) (w end : World AnyNode) → Leads any_step w those end → (q : Packet) → In q w.sent → In q end.sent
-kept_sent [] w end leads q h = subst (λ (x : World AnyNode). In q x.sent) leads h
-kept_sent (event ∷ those) w end leads q h =
-    kept_sent those (next_world any_step w event) end leads.1 q
-    (next_keeps any_step (λ nodes sent acts. In q sent) w event h
-    (λ place x clock at here. in_before w.sent (map (sent_at clock) (any_step x (what_of event)).packets) q h))
-
-manager_number : (members part : ℕ) (n : TokenNet) (j : ℕ) (p : ManagerPhase) → ManagerAgrees members part n j p → (managers.lasting_of p).number ≡ j
-manager_number members part n j (managing.Down kept) h = h
-manager_number members part n j (managing.Waiting kept hello) h = h
-manager_number members part n j (managing.Serving s) h = h.number
 
 no_acts : (t : Bool) (acts : List Act) → acts ≡ [] → (if t then acts else []) ≡ []
 no_acts true acts none = none
@@ -100,26 +83,18 @@ module _ (laws : NodeLaws) (stay : GroupsStay) (base : Setting) (end : World Any
   abbrev GoodNow : World AnyNode → (ℕ → List Act) → Type 0
   GoodNow w told = Good laws base end setup ok few w.nodes w.sent told
 
-  -- what an owner did may be said otherwise
-  good_so : (nodes : List AnyNode) (sent : List Packet) (a b : ℕ → List Act) → ((c : ℕ) → a c ≡ b c) → Good laws base end setup ok few nodes sent a
-      → Good laws base end setup ok few nodes sent b
-  good_so nodes sent a b same h = record {
-    fits = h.fits;
-    logs = λ r there. (let l = h.logs r there in (l.0, subst (Stands (g r) r l.0 k nodes sent) (same (log_by r)) l.1));
-  }
-
   known_so : (nodes : List AnyNode) (sent : List Packet) (a b : ℕ → List Act) → ((c : ℕ) → a c ≡ b c) → Known laws base end setup ok few nodes sent a
       → Known laws base end setup ok few nodes sent b
   known_so nodes sent a b same h = record {
     says = h.says;
-    registry = λ board is r there.
-        (let x = h.registry board is r there in (x.0, subst (λ acts. Reached acts (least_horizon (log_by r) (all_news board))) (same (log_by r)) x.1));
+    named = h.named;
+    reached = λ board is r there keeps.
+        subst (λ acts. Reached acts (least_horizon (log_by r) (all_news board))) (same (log_by r)) (h.reached board is r there keeps);
   }
 
   -- ---- one event
 
-  module _ (w : World AnyNode) (cluster : w.cluster ≡ k) (told : ℕ → List Act) (event : Event) (may : MayHappen w event) (tok : Tokens w)
-      (upto : (q : Packet) → In q w.sent → WasSent end.sent q) where
+  module _ (w : World AnyNode) (cluster : w.cluster ≡ k) (told : ℕ → List Act) (event : Event) (may : MayHappen w event) (tok : Tokens w) where
     -- what each owner did after it, by all acts
     abbrev told_with : List Act → ℕ → List Act
     told_with acts c = told c ++ (if owns c (node_of event) then drop (length w.acts) acts else [])
@@ -144,47 +119,37 @@ module _ (laws : NodeLaws) (stay : GroupsStay) (base : Setting) (end : World Any
     sound : (r : RegistryNode) → node_in w.nodes (place_of k Registry) ≡ Some (any.Registry r) → RegistrySound r
     sound r here = subst RegistrySound (same_registry tok.0.registry r (sym tok.1.placed.registry ∙ here)) tok.1.sound
 
-    -- a manager bears the number of its name
-    numbered : (j : ℕ) (m : ManagerNode) → node_in w.nodes (place_of k (Manager j)) ≡ Some (any.Manager m) → (managers.lasting_of m.phase).number ≡ j
-    numbered j m here = by (place_of k (Manager j)) refl
-      where
-        same_manager : (x y : ManagerNode) → Some (any.Manager x) ≡ Some (any.Manager y) → x ≡ y
-        same_manager x y e = cc
-
-        by : (o : Option ℕ) → place_of k (Manager j) ≡ o → (managers.lasting_of m.phase).number ≡ j
-        by None at = (let clash : None ≡ Some (any.Manager m) = sym (ap (node_in w.nodes) at) ∙ here in absurd cc)
-        by (Some p) at =
-            let b = behind k.clients k.managers j p at in
-            subst (λ (x : ManagerNode). (managers.lasting_of x.phase).number ≡ j)
-            (same_manager (tok.0.manager j) m (sym (tok.1.placed.managers j b.some b.within) ∙ here))
-            (manager_number (k.clients + 1) 0 tok.0.net j (tok.0.manager j).phase (tok.1.managers j b.some b.within).agrees)
-
-    abbrev Kept : List AnyNode → List Packet → List Act → Type 0
-    Kept nodes sent acts = Known laws base end setup ok few nodes sent (told_with acts) → Good laws base end setup ok few nodes sent (told_with acts)
-
     module _ (good : GoodNow w told) where
+      abbrev Led : List AnyNode → List Packet → List Act → Type 0
+      Led nodes sent acts = Known laws base end setup ok few nodes sent (told_with acts)
+          → logs.Leads laws base end setup ok few w.nodes w.sent told good (node_of event) nodes sent (told_with acts)
+
       turns : (place : ℕ) (x : AnyNode) (clock : ℕ) → place_of w.cluster (node_of event) ≡ Some place → slice_get w.nodes place ≡ Some x
-          → Kept (slice_set w.nodes place (any_step x (what_of event)).node) (w.sent ++ map (sent_at clock) (any_step x (what_of event)).packets)
+          → Led (slice_set w.nodes place (any_step x (what_of event)).node) (w.sent ++ map (sent_at clock) (any_step x (what_of event)).packets)
           (w.acts ++ (any_step x (what_of event)).acts)
       turns place x clock at is known =
           let nodes = slice_set w.nodes place (any_step x (what_of event)).node in
           let sent = w.sent ++ map (sent_at clock) (any_step x (what_of event)).packets in
           let acts = (any_step x (what_of event)).acts in
-          good_so nodes sent (λ c. told c ++ (if owns c (node_of event) then acts else [])) (told_with (w.acts ++ acts)) (λ c. sym (added acts c))
-          (node_after laws base end setup ok few w.nodes w.sent told good place clock (what_of event) sound numbered upto
+          logs.leads_so laws base end setup ok few w.nodes w.sent told good (node_of event) nodes sent
+          (λ c. told c ++ (if owns c (node_of event) then acts else [])) (told_with (w.acts ++ acts)) (λ c. sym (added acts c))
+          (node_after laws base end setup ok few w.nodes w.sent told good place clock (what_of event) sound
           (node_of event) gets (subst (λ cl. place_of cl (node_of event) ≡ Some place) cluster at) x is
           (known_so nodes sent (told_with (w.acts ++ acts)) (λ c. told c ++ (if owns c (node_of event) then acts else [])) (added acts) known))
 
-      pub event_keeps : Known laws base end setup ok few (next_world any_step w event).nodes (next_world any_step w event).sent
+      pub event_leads : Known laws base end setup ok few (next_world any_step w event).nodes (next_world any_step w event).sent
           (λ c. told c ++ acts_of c w event)
-          → GoodNow (next_world any_step w event) (λ c. told c ++ acts_of c w event)
-      event_keeps known = next_keeps any_step Kept w event (λ h. good_so w.nodes w.sent told (told_with w.acts) unchanged good) turns known
+          → logs.Leads laws base end setup ok few w.nodes w.sent told good (node_of event) (next_world any_step w event).nodes
+          (next_world any_step w event).sent (λ c. told c ++ acts_of c w event)
+      event_leads known = next_keeps any_step Led w event
+          (λ h. logs.leads_so laws base end setup ok few w.nodes w.sent told good (node_of event) w.nodes w.sent told (told_with w.acts) unchanged
+          (logs.still laws base end setup ok few w.nodes w.sent told good (node_of event))) turns known
 
   -- ---- each front
 
   -- from this world on
-  abbrev HorizonsFrom : List Event → World AnyNode → (ℕ → List Act) → Type 0
-  HorizonsFrom events_ w told = (n : ℕ) (r : Role) → There r → (b : BoardState)
+  abbrev pub HorizonsFrom : List Event → World AnyNode → (ℕ → List Act) → Type 0
+  HorizonsFrom events_ w told = (n : ℕ) (r : Role) → There r → renews r ≡ false → (b : BoardState)
       → board_of (node_in (fold (next_world any_step) w (take n events_)).nodes (place_of (fold (next_world any_step) w (take n events_)).cluster Registry))
       ≡ Some b
       → Reached (told (log_by r) ++ acts_by (log_by r) w (take n events_)) (least_horizon (log_by r) (all_news b))
@@ -197,47 +162,110 @@ module _ (laws : NodeLaws) (stay : GroupsStay) (base : Setting) (end : World Any
       names_at_end base end setup.servers _ _ (stays id group (ap (λ o. group_in o id) here ∙ found))
 
   known_now : (w : World AnyNode) → w.cluster ≡ k → Tokens w → StayIn stay w end → (told : ℕ → List Act)
-      → ((r : Role) → There r → (b : BoardState) → board_of (node_in w.nodes (place_of w.cluster Registry)) ≡ Some b
+      → ((r : Role) → There r → renews r ≡ false → (b : BoardState) → board_of (node_in w.nodes (place_of w.cluster Registry)) ≡ Some b
       → Reached (told (log_by r)) (least_horizon (log_by r) (all_news b)))
       → Known laws base end setup ok few w.nodes w.sent told
   known_now w cluster tok stays told reached = record {
     says = λ p h. may_say k 0 tok.0 p (tok.1.facts p h);
-    registry = λ b is r there.
-        (named_so w cluster stays b is r, reached r there b (subst (λ cl. board_of (node_in w.nodes (place_of cl Registry)) ≡ Some b) (sym cluster) is));
+    named = named_so w cluster stays;
+    reached = λ b is r there keeps.
+        reached r there keeps b (subst (λ cl. board_of (node_in w.nodes (place_of cl Registry)) ≡ Some b) (sym cluster) is);
   }
 
-  pub front_keeps : (events_ : List Event) (count : ℕ) (w : World AnyNode) (told : ℕ → List Act) → w.cluster ≡ k → Leads any_step w events_ end
-      → Tokens w → HorizonsFrom events_ w told → GoodNow w told
-      → GoodNow (fold (next_world any_step) w (take count events_)) (λ c. told c ++ acts_by c w (take count events_))
-  front_keeps events_ zero w told cluster leads tok low good = good_so w.nodes w.sent told (λ c. told c ++ []) (λ c. sym (append-nil (told c))) good
-  front_keeps [] (suc count) w told cluster leads tok low good = good_so w.nodes w.sent told (λ c. told c ++ []) (λ c. sym (append-nil (told c))) good
-  front_keeps (event ∷ more) (suc count) w told cluster leads tok low good =
-      good_so (fold (next_world any_step) next (take count more)).nodes (fold (next_world any_step) next (take count more)).sent
-      (λ c. now c ++ acts_by c next (take count more)) (λ c. told c ++ (acts_of c w event ++ acts_by c next (take count more)))
-      (λ c. append_assoc (told c) (acts_of c w event) (acts_by c next (take count more)))
-      (front_keeps more count next now next_in leads.1 next_tok later next_good)
-    where
-      next : World AnyNode
-      next = next_world any_step w event
+  -- what is known where a run goes on from a world with these events
+  pub record From (those : List Event) (w : World AnyNode) (told : ℕ → List Act) : Type 0 where
+    pub cluster : w.cluster ≡ k
+    pub leads : Leads any_step w those end
+    pub tokens : Tokens w
+    pub low : HorizonsFrom those w told
 
-      now : ℕ → List Act
-      now c = told c ++ acts_of c w event
+  -- ---- after the first event
 
-      next_in : next.cluster ≡ k
-      next_in = next_cluster any_step w event ∙ cluster
+  module _ (event : Event) (more : List Event) (w : World AnyNode) (told : ℕ → List Act) (from : From (event ∷ more) w told) where
+    abbrev next : World AnyNode
+    next = next_world any_step w event
 
-      next_tok : Tokens next
-      next_tok = tokens.event_keeps laws.tokens k 0 (omega arith) w cluster event leads.0 tok
+    abbrev now : ℕ → List Act
+    now c = told c ++ acts_of c w event
 
-      later : HorizonsFrom more next now
-      later n r there b is =
-          let c = log_by r in
+    pub from_next : From more next now
+    from_next = record {
+      cluster = next_cluster any_step w event ∙ from.cluster;
+      leads = from.leads.1;
+      tokens = tokens.event_keeps laws.tokens k 0 (omega arith) w from.cluster event from.leads.0 from.tokens;
+      low = λ n r there keeps b is.
+          (let c = log_by r in
           subst (λ acts. Reached acts (least_horizon c (all_news b))) (sym (append_assoc (told c) (acts_of c w event) (acts_by c next (take n more))))
-          (low (suc n) r there b is)
+          (from.low (suc n) r there keeps b is));
+    }
 
-      known : Known laws base end setup ok few next.nodes next.sent now
-      known = known_now next next_in next_tok (in_run stay more next end leads.1) now
-          (λ r there b is. subst (λ acts. Reached acts (least_horizon (log_by r) (all_news b))) (append-nil (now (log_by r))) (later 0 r there b is))
+    pub first_led : (good : GoodNow w told) → logs.Leads laws base end setup ok few w.nodes w.sent told good (node_of event) next.nodes next.sent now
+    first_led good =
+        event_leads w from.cluster told event from.leads.0 from.tokens good
+        (known_now next from_next.cluster from_next.tokens (in_run stay more next end from.leads.1) now
+        (λ r there keeps b is. subst (λ acts. Reached acts (least_horizon (log_by r) (all_news b))) (append-nil (now (log_by r)))
+        (from_next.low 0 r there keeps b is)))
 
-      next_good : GoodNow next now
-      next_good = event_keeps w cluster told event leads.0 tok (λ q h. in_was end.sent q (kept_sent (event ∷ more) w end leads q h)) good known
+    abbrev next_good : GoodNow w told → GoodNow next now
+    next_good good = logs.led laws base end setup ok few w.nodes w.sent told good (node_of event) next.nodes next.sent now (first_led good)
+
+  -- ---- each front
+
+  -- the world after so many events, and what each owner did in them
+  abbrev pub front : List Event → ℕ → World AnyNode → World AnyNode
+  front those count w = fold (next_world any_step) w (take count those)
+
+  abbrev pub front_told : List Event → ℕ → World AnyNode → (ℕ → List Act) → ℕ → List Act
+  front_told those count w told c = told c ++ acts_by c w (take count those)
+
+  abbrev pub front_good : (those : List Event) (count : ℕ) (w : World AnyNode) (told : ℕ → List Act) → From those w told → GoodNow w told
+      → GoodNow (front those count w) (front_told those count w told)
+  front_good those zero w told from good = logs.good_so laws base end setup ok few w.nodes w.sent told (λ c. told c ++ []) (λ c. sym (append-nil (told c))) good
+  front_good [] (suc count) w told from good =
+      logs.good_so laws base end setup ok few w.nodes w.sent told (λ c. told c ++ []) (λ c. sym (append-nil (told c))) good
+  front_good (event ∷ more) (suc count) w told from good =
+      logs.good_so laws base end setup ok few (front more count (next event more w told from)).nodes (front more count (next event more w told from)).sent
+      (front_told more count (next event more w told from) (now event more w told from)) (front_told (event ∷ more) (suc count) w told)
+      (λ c. append_assoc (told c) (acts_of c w event) (acts_by c (next event more w told from) (take count more)))
+      (front_good more count (next event more w told from) (now event more w told from) (from_next event more w told from)
+      (next_good event more w told from good))
+
+  -- ---- from each front to the next
+
+  -- at this event, or where none is left
+  pub record Steps (r : Role) (o : Option Event) (w : Scene) (at : Moment (g r) w.net) (v : Scene) (later : Moment (g r) v.net) : Type 0 where
+    pub runs : Runs (g r) w.net v.net
+    pub joined : later ≡ moment_then at runs
+    pub own : (event : Event) → o ≡ Some event → owner_by r ≡ node_of event → GrowsBy (g r) r w v
+    pub left : (event : Event) → o ≡ Some event → (owner_by r ≡ node_of event → ⊥) → IsLeft w.net v.net
+    pub ended : o ≡ None → v ≡ w
+
+  none_left : (r : Role) (w : Scene) (at : Moment (g r) w.net) → Steps r None w at w at
+  none_left r w at = record { runs = Begun; joined = refl; own = λ event is. absurd cc; left = λ event is. absurd cc; ended = λ is. refl }
+
+  same_event : (x y : Event) → Some x ≡ Some y → x ≡ y
+  same_event x y is = cc
+
+  at_event : (r : Role) (x : Event) (w : Scene) (at : Moment (g r) w.net) (v : Scene) (later : Moment (g r) v.net)
+      → LeadsOn (g r) r (node_of x) w at v later
+      → Steps r (Some x) w at v later
+  at_event r x w at v later l = record {
+    runs = l.runs;
+    joined = l.joined;
+    own = λ event is e. l.own (e ∙ ap node_of (sym (same_event x event is)));
+    left = λ event is away. l.left (λ e. away (e ∙ ap node_of (same_event x event is)));
+    ended = λ is. absurd cc;
+  }
+
+  pub front_steps : (those : List Event) (count : ℕ) (w : World AnyNode) (told : ℕ → List Act) (from : From those w told) (good : GoodNow w told)
+      (r : Role) (h : There r)
+      → Steps r (slice_get those count) ((front_good those count w told from good).logs r h).0 ((front_good those count w told from good).logs r h).1.moment
+      ((front_good those (suc count) w told from good).logs r h).0 ((front_good those (suc count) w told from good).logs r h).1.moment
+  front_steps [] zero w told from good r h = none_left r (good.logs r h).0 (good.logs r h).1.moment
+  front_steps [] (suc count) w told from good r h = none_left r (good.logs r h).0 (good.logs r h).1.moment
+  front_steps (event ∷ more) zero w told from good r h =
+      (let n = (first_led event more w told from good).logs r h in
+      at_event r event (good.logs r h).0 (good.logs r h).1.moment n.scene n.stands.moment n.leads)
+  front_steps (event ∷ more) (suc count) w told from good r h =
+      front_steps more count (next event more w told from) (now event more w told from) (from_next event more w told from)
+      (next_good event more w told from good) r h

@@ -1,16 +1,21 @@
--- How the logs of clients, and that of the cleaner, stand at a moment of a run, and what is known of it besides.
-use Rattle.std.proofs.Common.{◌≡◌, ⊎_elim, ◌^◌, ℕ, ◌≤◌, ◌<◌, List, ◌++◌, Some, map, get_or, sym, ◌∙◌, arith}
+-- How all logs stand at a moment of a run, and what is known of it besides.
+use Rattle.std.proofs.Common.{◌≡◌, ⊎_elim, ◌^◌, ℕ, ◌≤◌, ◌<◌, false, List, ◌++◌, Some, map, get_or, arith}
 use Rattle.std.specs.Prelude.{All}
 use Rattle.cleaner_log_tie.specs.OwnerEvents.{OwnerStarts, OwnerTakes}
-use Rattle.client_log_tie.specs.ClientEvents.{BodyFits, ClientStarts, ClientTakes}
+use Rattle.client_log_tie.specs.ClientEvents.{ClientStarts, ClientTakes}
 use Rattle.client_log_tie.specs.Owner.{Scene}
 use Rattle.core_world.specs.declared.any_node.AnyNode.{AnyNode}
 use Rattle.group_map.specs.declared.group.Group.{Group}
+use Rattle.log_law.specs.Held.{WhatIsHeldFlew}
 use Rattle.log_law.specs.Openings.{FliesNext, OpeningsGoOn}
 use Rattle.log_tie.specs.Setting.{Setting}
+use Rattle.manager_log_tie.specs.OwnerEvents.{ManagerStarts, ManagerTakes}
+use Rattle.manager_log_tie.specs.Servers.{ServersStartEmpty, ServersTellBytes}
+use Rattle.manager_log_tie.specs.Told.{WhatIsToldIsInRange}
 use Rattle.node_base.specs.Setups.{IsSetup}
 use Rattle.node_log_tie.specs.CleanerEvents.{CleanerEventGoes, CleanerStarts}
-use Rattle.node_log_tie.specs.RegistryEvents.{NamesGroups, RegistryEventGoes, RegistryStarts, low_of}
+use Rattle.node_log_tie.specs.CleanerStores.{CleanerStoresItsOwn}
+use Rattle.node_log_tie.specs.RegistryEvents.{NamesGroups, RegistryEventGoes, RegistryGoesAbove, RegistryStarts, low_of}
 use Rattle.node_log_tie.specs.ServerEvents.{SentMapsName, ServerEventGoes, ServerStarts}
 use Rattle.registry.specs.BoardState.{BoardState}
 use Rattle.token_protocol.specs.Basics.{In}
@@ -23,15 +28,17 @@ use Rattle.world_base.specs.NextWorld.{sent_at}
 use Rattle.world_law.proofs.Laws as tokens
 use Rattle.world_law.proofs.Sent.{at_clock, in_append, in_get}
 use Rattle.world_law.specs.Owners.{node_in}
-use Rattle.world_logs.proofs.Roles.{IsThere, Role, log_by}
-use Rattle.world_logs.specs.Logs.{AllInRange}
+use Rattle.world_logs.proofs.Fits.{AllHold, PacketFits}
+use Rattle.world_logs.proofs.Leading.{stands_still}
 use Rattle.world_logs.proofs.Lists.{in_after, in_map}
+use Rattle.world_logs.proofs.Roles.{IsThere, Role, log_by, managers_log, renews}
+use Rattle.world_logs.proofs.Roles.Role.{OfManager}
 use Rattle.world_logs.proofs.Says.{MaySay}
 use Rattle.world_logs.proofs.Settings.{setting_of}
-use Rattle.world_logs.proofs.Standing.{Stands}
+use Rattle.world_logs.proofs.Standing.{Stands, stands_so}
+use Rattle.world_logs.proofs.Turns.{Next, next_so}
 use Rattle.world_logs.specs.Horizons.{Reached, board_of}
 use Rattle.world_logs.specs.Shelves.{group_at}
-use Rattle.world_logs.proofs.Owed.{from_fits}
 use Rattle.xfs_base.specs.declared.node.NodeId.{NodeId}
 use Rattle.xfs_base.specs.declared.node.NodeId.TheVariants.{Registry}
 use Rattle.xfs_base.specs.declared.setup.Setup.{Setup}
@@ -46,13 +53,21 @@ pub record NodeLaws : Type 0 where
   pub maps : SentMapsName
   pub registry_starts : RegistryStarts
   pub registry : RegistryEventGoes
+  pub registry_above : RegistryGoesAbove
   pub cleaner_starts : CleanerStarts
   pub cleaner : CleanerEventGoes
+  pub cleaner_stores : CleanerStoresItsOwn
   pub owner_starts : OwnerStarts
   pub owner : OwnerTakes
-  -- of the small world: behind what an opening tells a log goes on, and what begins to fly is next
+  pub manager_starts : ManagerStarts
+  pub manager : ManagerTakes
+  pub servers_start : ServersStartEmpty
+  pub servers_tell : ServersTellBytes
+  -- of the small world: behind what an opening tells a log goes on, what begins to fly is next, what is held flew, and what is told is bytes
   pub goes_on : OpeningsGoOn
   pub flies : FliesNext
+  pub held : WhatIsHeldFlew
+  pub told : WhatIsToldIsInRange
 
 module _ (laws : NodeLaws) (base : Setting) (end : World AnyNode) (setup : Setup) (ok : IsSetup setup)
     (few : (id : ℕ) (group : Group) → group_at end id ≡ Some group → id < 2 ^ 32) where
@@ -60,26 +75,77 @@ module _ (laws : NodeLaws) (base : Setting) (end : World AnyNode) (setup : Setup
   k = cluster_of setup
 
   abbrev pub g : Role → Setting
-  g r = setting_of base end setup.servers (log_by r)
+  g r = setting_of base end setup.servers r
 
-  -- the logs of clients; of the cleaner's this is claimed where the numbers of all packets of the run are in the ranges of their types
   abbrev pub There : Role → Type 0
-  There r = IsThere setup.clients (AllInRange end) r
+  There r = IsThere setup.clients setup.managers r
 
   -- ---- how all logs stand at a moment
 
   pub record Good (nodes : List AnyNode) (sent : List Packet) (told : ℕ → List Act) : Type 0 where
-    pub fits : (q : Packet) → In q sent → BodyFits q.body
+    pub fits : (q : Packet) → In q sent → PacketFits q.to q.body
+    pub holds : AllHold nodes
     pub logs : (r : Role) → There r → (v : Scene) × Stands (g r) r v k nodes sent (told (log_by r))
 
-  -- what is known of it besides: who may have sent what, that the registry's groups are those of the end, and that its horizons were filed
+  -- what each owner did may be said otherwise
+  abbrev pub good_so : (nodes : List AnyNode) (sent : List Packet) (a b : ℕ → List Act) → ((c : ℕ) → a c ≡ b c) → Good nodes sent a → Good nodes sent b
+  good_so nodes sent a b same h = record {
+    fits = h.fits;
+    holds = h.holds;
+    logs = λ r there. (
+      (h.logs r there).0,
+      stands_so (g r) r (h.logs r there).0 k nodes sent (a (log_by r)) (b (log_by r)) (same (log_by r)) (h.logs r there).1,
+    );
+  }
+
+  -- how they stand after an event of the node of this name
+  module _ (nodes : List AnyNode) (sent : List Packet) (told : ℕ → List Act) (good : Good nodes sent told) (name : NodeId) where
+    abbrev pub Led : List AnyNode → List Packet → (ℕ → List Act) → Role → Type 0
+    Led later more now r = (h : There r) → Next (g r) r (good.logs r h).0 (good.logs r h).1.moment name k later more (now (log_by r))
+
+    pub record Leads (later : List AnyNode) (more : List Packet) (now : ℕ → List Act) : Type 0 where
+      pub fits : (q : Packet) → In q more → PacketFits q.to q.body
+      pub holds : AllHold later
+      pub logs : (r : Role) → Led later more now r
+
+    -- what each owner did may be said otherwise
+    abbrev pub leads_so : (later : List AnyNode) (more : List Packet) (a b : ℕ → List Act) → ((c : ℕ) → a c ≡ b c) → Leads later more a → Leads later more b
+    leads_so later more a b same l = record {
+      fits = l.fits;
+      holds = l.holds;
+      logs = λ r h.
+          next_so (g r) r (good.logs r h).0 (good.logs r h).1.moment name k later more (a (log_by r)) (b (log_by r)) (same (log_by r)) (l.logs r h);
+    }
+
+    -- where nothing happens
+    abbrev pub still : Leads nodes sent told
+    still = record {
+      fits = good.fits;
+      holds = good.holds;
+      logs = λ r h. record {
+        scene = (good.logs r h).0;
+        stands = (good.logs r h).1;
+        leads = stands_still (g r) r name (good.logs r h).0 (good.logs r h).1.moment;
+      };
+    }
+
+    abbrev pub led : (later : List AnyNode) (more : List Packet) (now : ℕ → List Act) → Leads later more now → Good later more now
+    led later more now l = record { fits = l.fits; holds = l.holds; logs = λ r h. ((l.logs r h).scene, (l.logs r h).stands) }
+
+  -- what is known of a moment besides: who may have sent what, that the registry's groups are those of the end, and that its horizons were filed
   pub record Known (nodes : List AnyNode) (sent : List Packet) (told : ℕ → List Act) : Type 0 where
     pub says : (q : Packet) → In q sent → MaySay q.from q.body
-    pub registry : (b : BoardState) → board_of (node_in nodes (place_of k Registry)) ≡ Some b → (r : Role) → There r
-        → NamesGroups (g r) b.groups × Reached (told (log_by r)) (low_of (g r) b)
+    pub named : (b : BoardState) → board_of (node_in nodes (place_of k Registry)) ≡ Some b → (r : Role) → NamesGroups (g r) b.groups
+    pub reached : (b : BoardState) → board_of (node_in nodes (place_of k Registry)) ≡ Some b → (r : Role) → There r → renews r ≡ false
+        → Reached (told (log_by r)) (low_of (g r) b)
 
   pub eight : (c : ℕ) → c ≤ setup.clients → c ≤ 8
   eight c most = (let h = ok.clients.1 in omega arith)
+
+  -- each manager has a log of its own
+  pub one_manager : (i j : ℕ) → There (OfManager i) → There (OfManager j) → log_by (OfManager i) ≡ log_by (OfManager j) → i ≡ j
+  one_manager i j h k_ e =
+      (let m = managers_log setup.clients setup.managers i ok.managers.1 h in let n = managers_log setup.clients setup.managers j ok.managers.1 k_ in omega (arith, e))
 
   -- ---- what is sent
 
@@ -90,15 +156,9 @@ module _ (laws : NodeLaws) (base : Setting) (end : World AnyNode) (setup : Setup
         says (sent_at clock (get_or packets i d))
         (in_after sent (map (sent_at clock) packets) _ (in_map (sent_at clock) packets (get_or packets i d) (in_get packets i d less)))
 
-    pub all_fit : (packets : List Packet) → All (λ (p : Packet). BodyFits p.body) packets → (q : Packet) → In q (sent ++ map (sent_at clock) packets)
-        → BodyFits q.body
+    pub all_fit : (packets : List Packet) → All (λ (p : Packet). PacketFits p.to p.body) packets → (q : Packet)
+        → In q (sent ++ map (sent_at clock) packets)
+        → PacketFits q.to q.body
     all_fit packets all q h = ⊎_elim (λ old. good.fits q old)
-        (λ new. at_clock clock (λ (p : Packet). BodyFits p.body) (λ (p : Packet). BodyFits p.body) (λ p f. f) packets all q new)
+        (λ new. at_clock clock (λ (p : Packet). PacketFits p.to p.body) (λ (p : Packet). PacketFits p.to p.body) (λ p f. f) packets all q new)
         (in_append sent (map (sent_at clock) packets) q h)
-
-    pub others_fit : (node : NodeId) → (node ≡ Registry → ⊥) → (packets : List Packet) → All (λ (p : Packet). p.from ≡ node) packets
-        → ((q : Packet) → In q (sent ++ map (sent_at clock) packets) → MaySay q.from q.body) → (q : Packet) → In q (sent ++ map (sent_at clock) packets)
-        → BodyFits q.body
-    others_fit node other packets from says =
-        all_fit packets
-        (λ i d less. from_fits (get_or packets i d).from (get_or packets i d).body (all_say packets says i d less) (λ e. other (sym (from i d less) ∙ e)))

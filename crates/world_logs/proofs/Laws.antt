@@ -1,5 +1,5 @@
--- Every run keeps the logs of its clients, and that of the cleaner.
-use Rattle.std.proofs.Common.{◌≡◌, ◌^◌, ℕ, ◌+◌, ◌≤◌, ◌<◌, List, [], ◌∷◌, Some, length, take, inl, inr, refl, sym, ap, subst, ◌∙◌, arith}
+-- Every run has a line of each of its logs, so it keeps them: those of its clients, that of the cleaner, and those of its managers.
+use Rattle.std.proofs.Common.{◌≡◌, ◌^◌, ℕ, suc, ◌+◌, ◌≤◌, ◌<◌, false, List, [], ◌∷◌, Some, length, take, slice_get, inl, inr, refl, sym, ap, subst, ◌∙◌, arith}
 use Rattle.std.specs.List.{fold}
 use Rattle.core_world.specs.AnyNode.{any_start, any_step}
 use Rattle.core_world.specs.declared.any_node.AnyNode.{AnyNode}
@@ -24,17 +24,19 @@ use Rattle.world_base.specs.Runs.{IsRun, Leads}
 use Rattle.world_law.proofs.Laws as tokens
 use Rattle.world_law.proofs.Start.{first_stands}
 use Rattle.world_law.specs.Owners.{moment, node_in, node_named}
+use Rattle.world_logs.proofs.Fronts.{From, Steps, front_good, front_steps, named_so}
 use Rattle.world_logs.proofs.Goods.{Good, NodeLaws}
-use Rattle.world_logs.proofs.Fronts.{front_keeps, named_so}
 use Rattle.world_logs.proofs.Groups.{GroupsStay, board_has_map, first_map, in_run, map_in_run}
+use Rattle.world_logs.proofs.Leading.{IsBegun}
+use Rattle.world_logs.proofs.Line.{HasLines, Line, RunsHaveLines}
 use Rattle.world_logs.proofs.Reading.{has_text, is_whole, members_exist}
-use Rattle.world_logs.proofs.Roles.{IsThere, Role, log_by}
-use Rattle.world_logs.proofs.Roles.Role.{OfClient, OfCleaner}
+use Rattle.world_logs.proofs.Roles.{IsThere, Role, log_by, renews}
+use Rattle.world_logs.proofs.Roles.Role.{OfClient, OfCleaner, OfManager}
 use Rattle.world_logs.proofs.Settings.{ids_fit, setting_of}
-use Rattle.world_logs.proofs.Start.{first_scene, start_stands}
+use Rattle.world_logs.proofs.Start.{first_scene, start_begins, start_holds, start_stands}
 use Rattle.world_logs.specs.Doings.{did}
-use Rattle.world_logs.specs.Logs.{AllInRange, CleanersLogStands, LogStands, LogsStand}
-use Rattle.world_logs.specs.Horizons.{HorizonsReached, IsOpened, board_of}
+use Rattle.world_logs.specs.Logs.{CleanersLogStands, LogStands, LogsStand, ManagersLogsStand}
+use Rattle.world_logs.specs.Horizons.{HorizonsReached, IsOpened, RunsReachHorizons, board_of}
 use Rattle.world_logs.specs.Shelves.{group_at, shelf_at, shelf_of}
 use Rattle.xfs_base.specs.declared.node.NodeId.TheVariants.{Server, Registry}
 use Rattle.xfs_base.specs.declared.setup.Setup.{Setup}
@@ -52,26 +54,27 @@ at_end : (events : List Event) (w end : World AnyNode) → Leads any_step w even
 at_end [] w end leads = leads
 at_end (event ∷ events) w end leads = at_end events (next_world any_step w event) end leads.1
 
-module _ (below : Below) (e : Estate AnyNode) (ok : IsSetup e.script.setup) (run : IsRun any_step any_start e.script e.events e.world)
-    (low : HorizonsReached e) where
+-- ---- the line of each log
+
+module _ (laws : NodeLaws) (stay : GroupsStay) (base : Setting) (e : Estate AnyNode) (ok : IsSetup e.script.setup)
+    (run : IsRun any_step any_start e.script e.events e.world) (low : HorizonsReached e) where
   abbrev setup : Setup
   setup = e.script.setup
 
   abbrev k : Cluster
   k = cluster_of e.script.setup
 
-  abbrev base : Setting
-  base = below.setting.0
-
   abbrev g : Role → Setting
-  g r = setting_of base e.world e.script.setup.servers (log_by r)
+  g r = setting_of base e.world e.script.setup.servers r
 
   abbrev There : Role → Type 0
-  There r = IsThere setup.clients (AllInRange e.world) r
+  There r = IsThere setup.clients setup.managers r
 
-  opened : (r : Role) → There r → IsOpened setup.clients (log_by r)
-  opened (OfClient c) there = inl there
-  opened OfCleaner there = inr refl
+  -- what horizons tell of
+  opened : (r : Role) → There r → renews r ≡ false → IsOpened setup.clients (log_by r)
+  opened (OfClient c) there keeps = inl there
+  opened OfCleaner there keeps = inr refl
+  opened (OfManager j) there keeps = absurd cc
 
   -- at the start the registry's map is well formed, so it is at the end
   first_board : board_of (node_named (start_world any_start e.script) Registry) ≡ Some (registry_start setup (items_of e.script.lines Registry)).board
@@ -81,33 +84,85 @@ module _ (below : Below) (e : Estate AnyNode) (ok : IsSetup e.script.setup) (run
   few : (id : ℕ) (group : Group) → group_at e.world id ≡ Some group → id < 2 ^ 32
   few id group is =
       ids_fit (node_named e.world Registry)
-      (map_in_run below.groups e.events (start_world any_start e.script) e.world run
+      (map_in_run stay e.events (start_world any_start e.script) e.world run
       (board_has_map (node_named (start_world any_start e.script) Registry) (registry_start setup (items_of e.script.lines Registry)).board first_board
       (first_map setup ok (items_of e.script.lines Registry)))) id group is
 
   first_named : (r : Role) → NamesGroups (g r) (groups.started setup.servers setup.groups)
   unfolding start_world
   first_named r =
-      named_so below.nodes below.groups base e.world setup ok few (start_world any_start e.script) refl
-      (in_run below.groups e.events (start_world any_start e.script) e.world run)
+      named_so laws stay base e.world setup ok few (start_world any_start e.script) refl
+      (in_run stay e.events (start_world any_start e.script) e.world run)
       (registry_start setup (items_of e.script.lines Registry)).board first_board r
 
-  good_at : (count : ℕ) → Good below.nodes base e.world setup ok few (moment e count).nodes (moment e count).sent (λ c. did e c count)
+  abbrev pub Start : World AnyNode
+  Start = start_world any_start e.script
+
+  from_start : From laws stay base e.world setup ok few e.events Start (λ c. [])
   unfolding start_world
-  good_at count = front_keeps below.nodes below.groups base e.world setup ok few e.events count (start_world any_start e.script) (λ c. []) refl run
-      (tokens.front below.nodes.tokens e ok run 0 0 (omega arith)).1 (λ n r there b is. low n (log_by r) (opened r there) b is)
-      (record {
-        fits = λ q h. absurd h;
-        logs = λ r there. (
-          first_scene below.nodes.client_starts below.nodes.owner_starts below.nodes.server_starts below.nodes.cleaner_starts below.nodes.registry_starts e.script ok
-              (g r) r refl refl (AllInRange e.world) there (first_named r),
-          start_stands below.nodes.client_starts below.nodes.owner_starts below.nodes.server_starts below.nodes.cleaner_starts below.nodes.registry_starts e.script ok
-              (g r) r refl refl (AllInRange e.world) there (first_named r),
-        );
-      })
+  from_start = record {
+    cluster = refl;
+    leads = run;
+    tokens = (tokens.front laws.tokens e ok run 0 0 (omega arith)).1;
+    low = λ n r there keeps b is. low n (log_by r) (opened r there keeps) b is;
+  }
+
+  first_good : Good laws base e.world setup ok few Start.nodes Start.sent (λ c. [])
+  unfolding start_world
+  first_good = record {
+    fits = λ q h. absurd h;
+    holds = start_holds laws.servers_start e.script;
+    logs = λ r there. (
+      first_scene laws.client_starts laws.owner_starts laws.manager_starts laws.server_starts laws.cleaner_starts laws.registry_starts e.script ok
+          (g r) r (refl, refl) refl there (first_named r),
+      start_stands laws.client_starts laws.owner_starts laws.manager_starts laws.server_starts laws.cleaner_starts laws.registry_starts e.script ok
+          (g r) r (refl, refl) refl there (first_named r),
+    );
+  }
+
+  first_begins : (r : Role) (there : There r) → IsBegun (first_good.logs r there).1.moment.run
+  unfolding first_good
+  first_begins r there =
+      start_begins laws.client_starts laws.owner_starts laws.manager_starts laws.server_starts laws.cleaner_starts laws.registry_starts e.script ok
+      (g r) r (refl, refl) refl there (first_named r)
+
+  abbrev good_at : (count : ℕ) → Good laws base e.world setup ok few (moment e count).nodes (moment e count).sent (λ c. did e c count)
+  good_at count = front_good laws stay base e.world setup ok few e.events count Start (λ c. []) from_start first_good
+
+  steps : (count : ℕ) (r : Role) (h : There r) → Steps laws stay base e.world setup ok few r (slice_get e.events count) ((good_at count).logs r h).0 ((good_at count).logs r h).1.moment
+      ((good_at (suc count)).logs r h).0 ((good_at (suc count)).logs r h).1.moment
+  steps count r h = front_steps laws stay base e.world setup ok few e.events count Start (λ c. []) from_start first_good r h
+
+  pub lines : HasLines base e
+  lines r there = record {
+    at = λ count. ((good_at count).logs r there).0;
+    stands = λ count. ((good_at count).logs r there).1;
+    goes = λ count. (steps count r there).runs;
+    begins = first_begins r there;
+    joined = λ count. (steps count r there).joined;
+    own = λ count. (steps count r there).own;
+    others = λ count. (steps count r there).left;
+    ended = λ count. (steps count r there).ended;
+  }
+
+pub runs_have_lines : NodeLaws → GroupsStay → RunsReachHorizons → RunsHaveLines
+runs_have_lines laws stay horizons base e ok run = lines laws stay base e ok run (horizons e ok run)
+
+-- ---- what each line says
+
+module _ (below : Below) (e : Estate AnyNode) (ok : IsSetup e.script.setup) (run : IsRun any_step any_start e.script e.events e.world)
+    (all : HasLines below.setting.0 e) where
+  abbrev setup_of : Setup
+  setup_of = e.script.setup
+
+  abbrev k_of : Cluster
+  k_of = cluster_of e.script.setup
+
+  abbrev base_of : Setting
+  base_of = below.setting.0
 
   -- a server of the run has a shelf
-  shelf_there : (count v : ℕ) → 1 ≤ v → v ≤ setup.servers → (shelf : ShelfState) × (shelf_at (moment e count) v ≡ Some shelf)
+  shelf_there : (count v : ℕ) → 1 ≤ v → v ≤ setup_of.servers → (shelf : ShelfState) × (shelf_at (moment e count) v ≡ Some shelf)
   shelf_there count v some most =
       let f = tokens.front below.nodes.tokens e ok run count 0 (omega arith) in
       let s = f.1.1.placed.servers v some most in
@@ -120,23 +175,28 @@ module _ (below : Below) (e : Estate AnyNode) (ok : IsSetup e.script.setup) (run
       let end = length e.events in
       let same : moment e end ≡ e.world = at_end e.events (start_world any_start e.script) e.world run in
       let f = tokens.front below.nodes.tokens e ok run end 0 (omega arith) in
-      let l = (good_at end).logs (OfClient 1) (omega arith, ok.clients.0) in
-      let s = members_exist base e.world (moment e end) setup.servers (OfClient 1) k f.0 l.0 (did e 1 end) l.1 f.1.0.registry f.1.1.placed.registry id group
+      let l : Line base_of e (OfClient 1) = all (OfClient 1) (omega arith, ok.clients.0) in
+      let s = members_exist base_of e.world (moment e end) setup_of.servers (OfClient 1) k_of f.0 (l.at end) (did e 1 end) (l.stands end) f.1.0.registry
+      f.1.1.placed.registry id group
       (ap (λ w. group_at w id) same ∙ is) place below_ in
       shelf_there count (server_of group.members place) s.0 s.1
 
-  log_stands : (count : ℕ) (r : Role) → There r → LogStands e count (log_by r)
+  log_stands : (count : ℕ) (r : Role) → IsThere setup_of.clients setup_of.managers r → LogStands e count (log_by r)
   log_stands count r there =
-      let l = (good_at count).logs r there in
+      let l : Line base_of e r = all r there in
       let f = tokens.front below.nodes.tokens e ok run count 0 (omega arith) in
       record {
-        whole = λ name is kept. is_whole base e.world (moment e count) setup.servers r k f.0 l.0 (did e (log_by r) count) l.1 below.whole below.text
-            (exist count) name is kept;
-        one_text = λ name of. has_text base e.world (moment e count) setup.servers r k f.0 l.0 (did e (log_by r) count) l.1 below.text name of;
+        whole = λ name is kept. is_whole base_of e.world (moment e count) setup_of.servers r k_of f.0 (l.at count) (did e (log_by r) count) (l.stands count)
+            below.whole below.text (exist count) name is kept;
+        one_text = λ name of. has_text base_of e.world (moment e count) setup_of.servers r k_of f.0 (l.at count) (did e (log_by r) count) (l.stands count)
+            below.text name of;
       }
 
   pub logs_stand : LogsStand e
   logs_stand count c some most = log_stands count (OfClient c) (some, most)
 
   pub cleaners_log_stands : CleanersLogStands e
-  cleaners_log_stands ranges count = log_stands count OfCleaner ranges
+  cleaners_log_stands count = log_stands count OfCleaner tt
+
+  pub managers_logs_stand : ManagersLogsStand e
+  managers_logs_stand count j some most = log_stands count (OfManager j) (some, most)

@@ -1,12 +1,12 @@
--- What events of nodes are owed, and what of them is read off: who sends maps that fit, whose log a packet is of, and what an opening is told.
-use Rattle.std.proofs.Common.{◌≡◌, ℕ, Bool, true, false, List, [], ◌∷◌, if◌then◌else◌, refl, sym, ap, subst, ◌∙◌}
+-- What events of nodes are owed, and what of them is read off: whose log a packet is of, and what an opening is told.
+use Rattle.std.proofs.Common.{◌≡◌, ℕ, Bool, true, false, List, [], ◌∷◌, if◌then◌else◌, refl, ap, ◌∙◌}
 use Rattle.std.specs.List.{AllByRecursion}
 use Rattle.std.specs.Prelude.{All}
 use Rattle.cleaner_log_tie.specs.Owner.{its_number}
 use Rattle.cleaner_log_tie.specs.OwnerEvents.{OpeningOwed}
 use Rattle.cleaner_node.specs.declared.cleaner.Phase.{Phase as CleanerPhase}
 use Rattle.cleaner_node.specs.declared.cleaner.Phase.TheVariants as cleaners
-use Rattle.client_log_tie.specs.ClientEvents.{BodyFits, OfItsLog, PhaseOwed, StageTells}
+use Rattle.client_log_tie.specs.ClientEvents.{OfItsLog, PhaseOwed, StageTells}
 use Rattle.client_log_tie.specs.Owner.{Scene, ClientAgrees, SeesStage}
 use Rattle.client_log_tie.specs.Texts.{MapFits}
 use Rattle.client_node.specs.declared.phase.Phase.{Phase}
@@ -24,20 +24,15 @@ use Rattle.log_tie.specs.Setting.{Setting}
 use Rattle.node_base.specs.declared.effects.Effect.{Effect}
 use Rattle.node_base.specs.Effects.{packets_of}
 use Rattle.node_log_tie.proofs.Lists.{packets_all}
-use Rattle.node_tie.specs.RegistryEvents as board
-use Rattle.registry.specs.BoardState.{BoardState}
 use Rattle.token_protocol.specs.Basics.{In}
 use Rattle.version_model.specs.declared.act.Act.{Act}
 use Rattle.wire_msg.specs.declared.body.Body.{Body}
 use Rattle.wire_msg.specs.declared.body.Body.TheVariants as body
-use Rattle.wire_msg.specs.declared.packet.Do.{Do}
 use Rattle.wire_msg.specs.declared.packet.Packet.{Packet}
-use Rattle.wire_msg.specs.declared.registry.News.{News}
 use Rattle.world_logs.proofs.Room.{scan_has_room}
-use Rattle.world_logs.proofs.Says.{MaySay, OfLog, no_map_fits, plain_no_map}
+use Rattle.world_logs.proofs.Says.{OfLog}
 use Rattle.world_logs.proofs.Standing.{CleanerOwns, IsRoomy, OwnerSeen}
 use Rattle.xfs_base.specs.declared.node.NodeId.{NodeId}
-use Rattle.xfs_base.specs.declared.node.NodeId.TheVariants.{Client, Manager, Server, Cleaner, Registry}
 use Rattle.xfs_base.specs.declared.segment.LogId.{LogId}
 
 -- ---- packets
@@ -50,25 +45,11 @@ sent_from node outs = packets_all (λ (p : Packet). p.from ≡ node) (λ (e : Ef
     any [] = tt
     any (e ∷ outs) = (tt, any outs)
 
--- who isn't the registry sends no maps
-pub from_fits : (from : NodeId) (m : Body) → MaySay from m → (from ≡ Registry → ⊥) → BodyFits m
-from_fits (Client d) m h other = no_map_fits m (plain_no_map m h)
-from_fits (Manager j) m h other = no_map_fits m (plain_no_map m h.0)
-from_fits (Server v) m h other = no_map_fits m h
-from_fits Cleaner m h other = no_map_fits m h
-from_fits Registry m h other = absurd (other refl)
-
--- what the registry sends fits where its map does
-pub registry_fits : (part : ℕ) (what : Do) (b : BoardState) → MapFits b.groups → (to : NodeId) (m : Body) → board.RegistrySends part what b to m → BodyFits m
-registry_fits part what b fits to (body.MapNews m) h = subst (λ (x : GroupMapState). MapFits x) (sym (ap (λ (n : News). n.groups) h.whole)) fits
-registry_fits part what b fits to (body.Welcome m) h = subst (λ (x : GroupMapState). MapFits x) (sym (ap (λ (n : News). n.groups) h.news.whole)) fits
-registry_fits part what b fits to _ h = tt
-
 pub in_those : (t : Bool) (acts : List Act) (a : Act) → In a (if t then acts else []) → In a acts
 in_those true acts a h = h
 in_those false acts a h = absurd h
 
--- what is of a client's log bears its number
+-- what is of a log bears its number
 pub of_log : (h : Setting) (d : ℕ) → h.log ≡ record { 0 = d } → (m : Body) → OfItsLog h m → OfLog d m
 of_log h d its (body.Store m) own = ap (λ (l : LogId). l.0) (own ∙ its)
 of_log h d its (body.Fence m) own = ap (λ (l : LogId). l.0) (own ∙ its)

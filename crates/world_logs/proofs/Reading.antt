@@ -84,12 +84,12 @@ has_shelf (Some (any.Registry node)) shelf is = absurd cc
 -- ---- a moment
 
 module _ (base : Setting) (end w : World AnyNode) (servers : ℕ) (r : Role) (k : Cluster) (cluster : w.cluster ≡ k) (v : Scene) (told : List Act)
-    (st : Stands (setting_of base end servers (log_by r)) r v k w.nodes w.sent told) where
+    (st : Stands (setting_of base end servers r) r v k w.nodes w.sent told) where
   abbrev c : ℕ
   c = log_by r
 
   abbrev g : Setting
-  g = setting_of base end servers c
+  g = setting_of base end servers r
 
   abbrev net : Net
   net = v.net

@@ -1,12 +1,12 @@
 -- Whose log it is: a client's, the cleaner's, or a manager's. The small world of a log has its owner by name and by number.
-use Rattle.std.proofs.Common.{◌≡◌, ◌+◌, ◌≤◌, ◌<◌, ℕ, Bool, true, false, arith}
+use Rattle.std.proofs.Common.{◌≡◌, ◌+◌, ◌≤◌, ◌<◌, ℕ, Bool, true, false, min, arith}
 use Rattle.cleaner_node.specs.EmptyingEvents.{cleaner_log}
 use Rattle.client_log_tie.specs.Owner.{Scene}
 use Rattle.log_tie.specs.Setting.{Setting}
 use Rattle.manager_node.specs.Lasting.{log_of}
 use Rattle.node_log_tie.specs.Sight.{Asker}
 use Rattle.xfs_base.specs.declared.node.NodeId.{NodeId}
-use Rattle.xfs_base.specs.declared.node.NodeId.TheVariants.{Client, Manager, Server, Cleaner}
+use Rattle.xfs_base.specs.declared.node.NodeId.TheVariants.{Client, Manager, Server, Cleaner, Registry}
 
 pub data Role : Type 0 where
   OfClient : ℕ → Role
@@ -42,3 +42,28 @@ abbrev pub IsThere : (clients managers : ℕ) → Role → Type 0
 IsThere clients managers (Role.OfClient c) = (0 < c) × (c ≤ clients)
 IsThere clients managers Role.OfCleaner = Unit {0}
 IsThere clients managers (Role.OfManager j) = (0 < j) × (j ≤ managers)
+
+-- ---- no two owners are one node, and no two logs have one number
+
+pub no_server : (r : Role) (v : ℕ) → owner_by r ≡ Server v → ⊥
+no_server (Role.OfClient c) v e = absurd cc
+no_server Role.OfCleaner v e = absurd cc
+no_server (Role.OfManager j) v e = absurd cc
+
+pub no_registry : (r : Role) → owner_by r ≡ Registry → ⊥
+no_registry (Role.OfClient c) e = absurd cc
+no_registry Role.OfCleaner e = absurd cc
+no_registry (Role.OfManager j) e = absurd cc
+
+pub clients_log : (clients managers c : ℕ) → clients ≤ 8 → IsThere clients managers (Role.OfClient c) → c ≤ 8
+clients_log clients managers c few there = (let m = there.1 in omega arith)
+
+-- the log of a manager is above 9, and each has its own
+pub managers_log : (clients managers j : ℕ) → managers ≤ 4 → IsThere clients managers (Role.OfManager j) → (log_of j).0 ≡ 9 + j
+managers_log clients managers j few there = (let m = there.1 in by_min j (omega arith))
+  where
+    by_min : (j : ℕ) → j ≤ 4 → 9 + min j 4 ≡ 9 + j
+    by_min j less = omega arith
+
+pub high_log : (j : ℕ) → 0 < j → 9 < (log_of j).0
+high_log j some = omega arith

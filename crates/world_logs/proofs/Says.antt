@@ -1,11 +1,11 @@
--- Who sends what: a client or a manager sends nothing that a server answers, nor maps, nor Deletes; the registry alone sends maps.
-use Rattle.std.proofs.Common.{◌≡◌, ◌≤◌, ℕ, ◌==◌, true, sym, ap, ◌∙◌, arith}
+-- Who sends what: a client or a manager sends nothing that a server answers, nor maps, nor Deletes; the registry alone sends maps; managers alone tell where a
+-- block lies, but in Deltas.
+use Rattle.std.proofs.Common.{◌≡◌, ℕ, ◌==◌, true, sym, ap, ◌∙◌}
 use Rattle.std.specs.Prelude.{List}
-use Rattle.client_log_tie.specs.ClientEvents.{BodyFits}
 use Rattle.client_log_tie.specs.Owner.{Scene}
 use Rattle.log_tie.proofs.Names.{equal}
 use Rattle.log_tie.specs.Setting.{Setting}
-use Rattle.node_log_tie.specs.Sight.{BodySeen}
+use Rattle.node_log_tie.specs.Sight.{BodySeen, ReachedBy}
 use Rattle.node_tie.specs.Sight.{ClientSends, CleanerSends, ManagerSends, ServerSends}
 use Rattle.token_law.specs.Net.{Packet as Told}
 use Rattle.wire_msg.specs.declared.body.Body.{Body}
@@ -13,19 +13,12 @@ use Rattle.wire_msg.specs.declared.body.Body.TheVariants as body
 use Rattle.wire_msg.specs.declared.packet.Packet.{Packet}
 use Rattle.world_base.specs.declared.cluster.Cluster.{Cluster}
 use Rattle.world_law.proofs.Standing as tokens
-use Rattle.world_logs.proofs.Managers.{StoresItsOwn}
-use Rattle.world_logs.proofs.Roles.{IsOf, Role, asker_by, log_by, no_manager, owner_by}
+use Rattle.world_logs.proofs.Roles.{IsOf, Role, asker_by, log_by, owner_by}
 use Rattle.xfs_base.specs.declared.node.NodeId.{NodeId}
 use Rattle.xfs_base.specs.declared.node.NodeId.TheVariants.{Client, Manager, Server, Cleaner, Registry}
 use Rattle.xfs_base.specs.declared.segment.LogId.{LogId}
 
--- no map
-abbrev pub NoMap : Body → Type 0
-NoMap (body.Welcome m) = ⊥
-NoMap (body.MapNews m) = ⊥
-NoMap _ = Unit {0}
-
--- nor anything that a server answers, nor a Delete
+-- nothing that a server answers, nor a map, nor a Delete
 abbrev pub Plain : Body → Type 0
 Plain (body.Stored m) = ⊥
 Plain (body.Fragment m) = ⊥
@@ -36,16 +29,36 @@ Plain (body.Welcome m) = ⊥
 Plain (body.MapNews m) = ⊥
 Plain _ = Unit {0}
 
--- nor a Fence
-abbrev pub NoFence : Body → Type 0
-NoFence (body.Fence m) = ⊥
-NoFence _ = Unit {0}
+-- nor what a manager tells of where a block lies
+abbrev pub TellsNone : Body → Type 0
+TellsNone (body.Grant m) = ⊥
+TellsNone (body.Live m) = ⊥
+TellsNone _ = Unit {0}
+
+-- what is no server's
+abbrev pub SaidByServer : Body → Type 0
+SaidByServer (body.Store m) = ⊥
+SaidByServer (body.Deltas m) = ⊥
+SaidByServer (body.Grant m) = ⊥
+SaidByServer (body.Live m) = ⊥
+SaidByServer (body.Welcome m) = ⊥
+SaidByServer (body.MapNews m) = ⊥
+SaidByServer _ = Unit {0}
+
+-- what is not the cleaner's
+abbrev pub SaidByCleaner : Body → Type 0
+SaidByCleaner (body.Fragment m) = ⊥
+SaidByCleaner (body.Grant m) = ⊥
+SaidByCleaner (body.Live m) = ⊥
+SaidByCleaner (body.Welcome m) = ⊥
+SaidByCleaner (body.MapNews m) = ⊥
+SaidByCleaner _ = Unit {0}
 
 abbrev pub MaySay : NodeId → Body → Type 0
-MaySay (Client d) m = Plain m
-MaySay (Manager j) m = Plain m × NoFence m
-MaySay (Server v) m = NoMap m
-MaySay Cleaner m = NoMap m
+MaySay (Client d) m = Plain m × TellsNone m
+MaySay (Manager j) m = Plain m
+MaySay (Server v) m = SaidByServer m
+MaySay Cleaner m = SaidByCleaner m
 MaySay Registry m = Unit {0}
 
 -- ---- read off the world of tokens
@@ -61,6 +74,11 @@ module _ (part : ℕ) (sent : List Told) where
   client_may c life to (body.MapNews m) h = h
   client_may c life to _ h = tt
 
+  client_tells : (c life : ℕ) (to : NodeId) (m : Body) → ClientSends part sent c life to m → TellsNone m
+  client_tells c life to (body.Grant m) h = h
+  client_tells c life to (body.Live m) h = h
+  client_tells c life to _ h = tt
+
   manager_may : (most life : ℕ) (to : NodeId) (m : Body) → ManagerSends part sent most life to m → Plain m
   manager_may most life to (body.Stored m) h = h
   manager_may most life to (body.Fragment m) h = h
@@ -71,26 +89,29 @@ module _ (part : ℕ) (sent : List Told) where
   manager_may most life to (body.MapNews m) h = h
   manager_may most life to _ h = tt
 
-  manager_bars : (most life : ℕ) (to : NodeId) (m : Body) → ManagerSends part sent most life to m → NoFence m
-  manager_bars most life to (body.Fence m) h = h
-  manager_bars most life to _ h = tt
-
-server_may : (m : Body) → ServerSends m → NoMap m
+server_may : (m : Body) → ServerSends m → SaidByServer m
+server_may (body.Store m) h = h
+server_may (body.Deltas m) h = h
+server_may (body.Grant m) h = h
+server_may (body.Live m) h = h
 server_may (body.Welcome m) h = h
 server_may (body.MapNews m) h = h
 server_may _ h = tt
 
-cleaner_may : (part promised life : ℕ) (m : Body) → CleanerSends part promised life m → NoMap m
+cleaner_may : (part promised life : ℕ) (m : Body) → CleanerSends part promised life m → SaidByCleaner m
+cleaner_may part promised life (body.Fragment m) h = h
+cleaner_may part promised life (body.Grant m) h = h
+cleaner_may part promised life (body.Live m) h = h
 cleaner_may part promised life (body.Welcome m) h = h
 cleaner_may part promised life (body.MapNews m) h = h
 cleaner_may part promised life _ h = tt
 
 said_by : (k : Cluster) (part : ℕ) (s : tokens.Scene) (from to : NodeId) (m : Body) → tokens.SentBy k part s from to m → MaySay from m
-said_by k part s (Client c) to m h = client_may part s.net.sent c (tokens.life_of_client s c) to m h.2
-said_by k part s (Manager j) to m h = (
-  manager_may part s.net.sent (tokens.epoch_now k part s) (tokens.life_of_manager s j) to m h.2,
-  manager_bars part s.net.sent (tokens.epoch_now k part s) (tokens.life_of_manager s j) to m h.2,
+said_by k part s (Client c) to m h = (
+  client_may part s.net.sent c (tokens.life_of_client s c) to m h.2,
+  client_tells part s.net.sent c (tokens.life_of_client s c) to m h.2,
 )
+said_by k part s (Manager j) to m h = manager_may part s.net.sent (tokens.epoch_now k part s) (tokens.life_of_manager s j) to m h.2
 said_by k part s (Server n) to m h = server_may m h
 said_by k part s Cleaner to m h = cleaner_may part s.net.promised (tokens.life_of_cleaner s) m h
 said_by k part s Registry to m h = tt
@@ -98,21 +119,9 @@ said_by k part s Registry to m h = tt
 pub may_say : (k : Cluster) (part : ℕ) (s : tokens.Scene) (p : Packet) → tokens.Fact k part s p → MaySay p.from p.body
 may_say k part s p h = said_by k part s p.from p.to p.body h
 
--- ---- what follows for maps
-
-pub no_map_fits : (m : Body) → NoMap m → BodyFits m
-no_map_fits (body.Welcome m) h = absurd h
-no_map_fits (body.MapNews m) h = absurd h
-no_map_fits _ h = tt
-
-pub plain_no_map : (m : Body) → Plain m → NoMap m
-plain_no_map (body.Welcome m) h = h
-plain_no_map (body.MapNews m) h = h
-plain_no_map _ h = tt
-
 -- ---- what follows for a log of another owner
 
--- what another client sends, if it stores and bars its own log alone
+-- what it stores and bars is of the log of this number
 abbrev pub OfLog : ℕ → Body → Type 0
 OfLog d (body.Store m) = m.fragment.meta.name.log.0 ≡ d
 OfLog d (body.Fence m) = m.log.0 ≡ d
@@ -121,45 +130,28 @@ OfLog d _ = Unit {0}
 module _ (g : Setting) (r : Role) (is : IsOf g r) (w : Scene) where
   -- a number that is tested to be the log's is the owner's
   of_owner : (n : ℕ) → (n == g.log.0) ≡ true → n ≡ log_by r
-  of_owner n t = equal n g.log.0 t ∙ ap (λ (l : LogId). l.0) is
+  of_owner n t = equal n g.log.0 t ∙ ap (λ (l : LogId). l.0) is.0
 
-  module _ (d : ℕ) (other : d ≡ log_by r → ⊥) (away : Client d ≡ owner_by r → ⊥) where
-    pub client_apart : (to : NodeId) (m : Body) → Plain m → OfLog d m → BodySeen g (asker_by r w) w.net (Client d) to m
-    client_apart (Server v) (body.Store m) plain own = λ mine. absurd (other (sym own ∙ of_owner m.fragment.meta.name.log.0 mine))
-    client_apart (Client x) (body.Store m) plain own = tt
-    client_apart (Manager x) (body.Store m) plain own = tt
-    client_apart Cleaner (body.Store m) plain own = tt
-    client_apart Registry (body.Store m) plain own = tt
-    client_apart (Server v) (body.Fence m) plain own = λ mine. absurd (other (sym own ∙ of_owner m.log.0 mine))
-    client_apart (Client x) (body.Fence m) plain own = tt
-    client_apart (Manager x) (body.Fence m) plain own = tt
-    client_apart Cleaner (body.Fence m) plain own = tt
-    client_apart Registry (body.Fence m) plain own = tt
-    client_apart to (body.Stored m) plain own = absurd plain
-    client_apart to (body.Fragment m) plain own = absurd plain
-    client_apart to (body.Fenced m) plain own = absurd plain
-    client_apart to (body.Listed m) plain own = absurd plain
-    client_apart to (body.Delete m) plain own = absurd plain
-    client_apart to (body.Welcome m) plain own = absurd plain
-    client_apart to (body.MapNews m) plain own = absurd plain
-    client_apart to (body.Hello m) plain own = record { own = λ e. absurd (away e); reached = tt }
-    client_apart to _ plain own = tt
-
-  -- what a manager sends
-  pub manager_apart : log_by r ≤ 9 → (j : ℕ) (to : NodeId) (m : Body) → Plain m → NoFence m → StoresItsOwn m → BodySeen g (asker_by r w) w.net (Manager j) to m
-  manager_apart small j (Server v) (body.Store m) plain bars own =
-      λ mine. absurd (let e = of_owner m.fragment.meta.name.log.0 mine in let h = own in omega arith)
-  manager_apart small j (Client x) (body.Store m) plain bars own = tt
-  manager_apart small j (Manager x) (body.Store m) plain bars own = tt
-  manager_apart small j Cleaner (body.Store m) plain bars own = tt
-  manager_apart small j Registry (body.Store m) plain bars own = tt
-  manager_apart small j to (body.Fence m) plain bars own = absurd bars
-  manager_apart small j to (body.Stored m) plain bars own = absurd plain
-  manager_apart small j to (body.Fragment m) plain bars own = absurd plain
-  manager_apart small j to (body.Fenced m) plain bars own = absurd plain
-  manager_apart small j to (body.Listed m) plain bars own = absurd plain
-  manager_apart small j to (body.Delete m) plain bars own = absurd plain
-  manager_apart small j to (body.Welcome m) plain bars own = absurd plain
-  manager_apart small j to (body.MapNews m) plain bars own = absurd plain
-  manager_apart small j to (body.Hello m) plain bars own = record { own = λ e. absurd (no_manager r j e); reached = tt }
-  manager_apart small j to _ plain bars own = tt
+  -- what the owner of another log sends
+  module _ (d : ℕ) (other : d ≡ log_by r → ⊥) (from : NodeId) (away : from ≡ owner_by r → ⊥)
+      (reached : (generation : ℕ) → ReachedBy g (asker_by r w) w.net from generation) where
+    pub sent_apart : (to : NodeId) (m : Body) → Plain m → OfLog d m → BodySeen g (asker_by r w) w.net from to m
+    sent_apart (Server v) (body.Store m) plain own = λ mine. absurd (other (sym own ∙ of_owner m.fragment.meta.name.log.0 mine))
+    sent_apart (Client x) (body.Store m) plain own = tt
+    sent_apart (Manager x) (body.Store m) plain own = tt
+    sent_apart Cleaner (body.Store m) plain own = tt
+    sent_apart Registry (body.Store m) plain own = tt
+    sent_apart (Server v) (body.Fence m) plain own = λ mine. absurd (other (sym own ∙ of_owner m.log.0 mine))
+    sent_apart (Client x) (body.Fence m) plain own = tt
+    sent_apart (Manager x) (body.Fence m) plain own = tt
+    sent_apart Cleaner (body.Fence m) plain own = tt
+    sent_apart Registry (body.Fence m) plain own = tt
+    sent_apart to (body.Stored m) plain own = absurd plain
+    sent_apart to (body.Fragment m) plain own = absurd plain
+    sent_apart to (body.Fenced m) plain own = absurd plain
+    sent_apart to (body.Listed m) plain own = absurd plain
+    sent_apart to (body.Delete m) plain own = absurd plain
+    sent_apart to (body.Welcome m) plain own = absurd plain
+    sent_apart to (body.MapNews m) plain own = absurd plain
+    sent_apart to (body.Hello m) plain own = record { own = λ e. absurd (away e); reached = reached m.inc }
+    sent_apart to _ plain own = tt

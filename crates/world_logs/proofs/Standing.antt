@@ -1,6 +1,6 @@
--- How a moment of a run stands to a moment of the small world of one log, a client's or the cleaner's: each node is seen there, and what was sent, filed and
--- deleted is so there.
-use Rattle.std.proofs.Common.{◌≡◌, ◌⊎◌, ◌≤◌, ℕ, true, List, Some}
+-- How a moment of a run stands to a moment of the small world of one log, a client's, the cleaner's or a manager's: each node is seen there, and what was sent,
+-- filed and deleted is so there.
+use Rattle.std.proofs.Common.{◌≡◌, ◌⊎◌, ◌≤◌, ℕ, true, List, Some, sym, subst}
 use Rattle.cleaner_log_tie.specs.Owner.{CleanerAgrees}
 use Rattle.cleaner_node.specs.declared.cleaner.Phase.{Phase as CleanerPhase}
 use Rattle.client_log.specs.Transition.{has_next}
@@ -14,6 +14,8 @@ use Rattle.log_law.specs.Net.{Net}
 use Rattle.log_law.specs.Openings.{next_number}
 use Rattle.log_protocol.specs.Tables as tables
 use Rattle.log_tie.specs.Setting.{Setting}
+use Rattle.manager_log_tie.specs.Owner.{ManagerAgrees}
+use Rattle.manager_node.specs.declared.phase.Phase.{Phase as ManagerPhase}
 use Rattle.node_log_tie.specs.CleanerEvents.{CleanerSeen}
 use Rattle.node_log_tie.specs.RegistryEvents.{RegistrySeen}
 use Rattle.node_log_tie.specs.ServerEvents.{ServerSeen}
@@ -27,9 +29,8 @@ use Rattle.wire_msg.specs.declared.packet.Packet.{Packet}
 use Rattle.world_base.specs.Cluster.{place_of}
 use Rattle.world_base.specs.declared.cluster.Cluster.{Cluster}
 use Rattle.world_law.specs.Owners.{node_in}
-use Rattle.world_logs.proofs.Managers.{WritesItsLog}
 use Rattle.world_logs.proofs.Roles.{Role, asker_by}
-use Rattle.world_logs.proofs.Roles.Role.{OfClient, OfCleaner}
+use Rattle.world_logs.proofs.Roles.Role.{OfClient, OfCleaner, OfManager}
 use Rattle.xfs_base.specs.declared.node.NodeId.{NodeId}
 use Rattle.xfs_base.specs.declared.node.NodeId.TheVariants.{Client, Manager, Server, Cleaner, Registry}
 use Rattle.xfs_base.specs.declared.segment.SegName.{SegName}
@@ -43,7 +44,7 @@ abbrev pub IsRoomy : Net → Type 0
 IsRoomy n = (s : Segment) → tables.In s n.flown → (has_next s.name.seq ≡ true) ⊎ (s.name.seq ≤ next_number n.owner)
 
 module _ (g : Setting) (w : Scene) where
-  -- the log's owner, a client or the cleaner; of what was in flight no number is at its end, but that after the end of the log
+  -- the log's owner that opens it again, a client or the cleaner; of what was in flight no number is at its end, but that after the end of the log
   pub record OwnerSeen (c : ℕ) (p : Phase) : Type 0 where
     pub agrees : ClientAgrees g c w p
     pub written : PhaseWritten p
@@ -53,14 +54,21 @@ module _ (g : Setting) (w : Scene) where
     pub agrees : CleanerAgrees g w p
     pub room : IsRoomy w.net
 
-  -- a client, and the cleaner, in the small world of the log of this owner
+  -- a client, the cleaner, and a manager, in the small world of the log of this owner
   abbrev pub ClientAs : Role → ℕ → Phase → Type 0
   ClientAs (OfClient c) d p = d ≡ c → OwnerSeen c p
   ClientAs OfCleaner d p = Unit {0}
+  ClientAs (OfManager i) d p = Unit {0}
 
   abbrev pub CleanerAs : Role → CleanerPhase → Type 0
   CleanerAs (OfClient c) p = CleanerSeen g w.net p
   CleanerAs OfCleaner p = CleanerOwns p
+  CleanerAs (OfManager i) p = CleanerSeen g w.net p
+
+  abbrev pub ManagerAs : Role → ℕ → ManagerPhase → Type 0
+  ManagerAs (OfClient c) j p = Unit {0}
+  ManagerAs OfCleaner j p = Unit {0}
+  ManagerAs (OfManager i) j p = j ≡ i → ManagerAgrees g i w p
 
 module _ (g : Setting) (r : Role) (w : Scene) where
   -- ---- a node of this name
@@ -72,12 +80,12 @@ module _ (g : Setting) (r : Role) (w : Scene) where
   ClientThere d (any.Cleaner node) = ⊥
   ClientThere d (any.Registry node) = ⊥
 
-  abbrev pub ManagerThere : AnyNode → Type 0
-  ManagerThere (any.Client node) = ⊥
-  ManagerThere (any.Manager node) = WritesItsLog node.phase
-  ManagerThere (any.Server node) = ⊥
-  ManagerThere (any.Cleaner node) = ⊥
-  ManagerThere (any.Registry node) = ⊥
+  abbrev pub ManagerThere : ℕ → AnyNode → Type 0
+  ManagerThere j (any.Client node) = ⊥
+  ManagerThere j (any.Manager node) = ManagerAs g w r j node.phase
+  ManagerThere j (any.Server node) = ⊥
+  ManagerThere j (any.Cleaner node) = ⊥
+  ManagerThere j (any.Registry node) = ⊥
 
   abbrev pub ServerThere : ℕ → AnyNode → Type 0
   ServerThere v (any.Client node) = ⊥
@@ -102,7 +110,7 @@ module _ (g : Setting) (r : Role) (w : Scene) where
 
   abbrev pub Seen : NodeId → AnyNode → Type 0
   Seen (Client d) x = ClientThere d x
-  Seen (Manager j) x = ManagerThere x
+  Seen (Manager j) x = ManagerThere j x
   Seen (Server v) x = ServerThere v x
   Seen Cleaner x = CleanerThere x
   Seen Registry x = RegistryThere x
@@ -116,3 +124,14 @@ module _ (g : Setting) (r : Role) (w : Scene) where
       pub facts : (p : Packet) → In p sent → PacketSeen g (asker_by r w) w.net p
       pub filed : (name : SegName) → In (act.Filed name) told → tables.In name w.net.filed
       pub deleted : (name : SegName) → tables.In name w.net.dropped → Deletes name sent
+
+-- what the owner did may be said otherwise
+abbrev pub stands_so : (g : Setting) (r : Role) (w : Scene) (k : Cluster) (nodes : List AnyNode) (sent : List Packet) (a b : List Act) → a ≡ b
+    → Stands g r w k nodes sent a → Stands g r w k nodes sent b
+stands_so g r w k nodes sent a b same st = record {
+  moment = st.moment;
+  seen = st.seen;
+  facts = st.facts;
+  filed = λ name h. st.filed name (subst (λ (told : List Act). In (act.Filed name) told) (sym same) h);
+  deleted = st.deleted;
+}

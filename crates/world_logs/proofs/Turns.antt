@@ -1,14 +1,16 @@
--- A node that has its turn: the moment after it stands to a small world to which the one before runs on.
-use Rattle.std.proofs.Common.{◌≡◌, ◌⊎◌, ⊎_elim, ℕ, List, ◌++◌, Some, map, slice_get, slice_set, sym, subst, ◌∙◌}
+-- A node that has its turn: the moment after it stands to a small world to which the one before leads on.
+use Rattle.std.proofs.Common.{◌≡◌, ◌⊎◌, ⊎_elim, ℕ, List, ◌++◌, Some, map, slice_get, slice_set, refl, sym, subst, ◌∙◌}
 use Rattle.std.specs.Prelude.{All}
 use Rattle.cleaner_node.specs.declared.cleaner.Phase.{Phase as CleanerPhase}
 use Rattle.client_log_tie.specs.Owner.{Scene}
 use Rattle.client_node.specs.declared.phase.Phase.{Phase}
 use Rattle.core_world.specs.declared.any_node.AnyNode.{AnyNode}
 use Rattle.core_world.specs.declared.any_node.AnyNode.TheVariants as any
+use Rattle.log_law.specs.Events.{Runs}
 use Rattle.log_law.specs.Laws.{Moment}
 use Rattle.log_protocol.specs.Tables as tables
 use Rattle.log_tie.specs.Setting.{Setting}
+use Rattle.manager_node.specs.declared.phase.Phase.{Phase as ManagerPhase}
 use Rattle.node_log_tie.proofs.Others.{same_or_other}
 use Rattle.node_log_tie.specs.RegistryEvents.{RegistrySeen}
 use Rattle.node_log_tie.specs.ServerEvents.{ServerSeen}
@@ -27,8 +29,9 @@ use Rattle.world_law.proofs.Nodes as places
 use Rattle.world_law.proofs.Sent.{at_clock, in_append}
 use Rattle.world_law.specs.Owners.{node_in}
 use Rattle.world_logs.proofs.Lists.{in_after, in_before, in_map}
-use Rattle.world_logs.proofs.Roles.{Role, asker_by}
-use Rattle.world_logs.proofs.Standing.{CleanerAs, ClientAs, Deletes, Seen, Stands}
+use Rattle.world_logs.proofs.Leading.{GrowsBy, IsLeft, LeadsOn, moment_then}
+use Rattle.world_logs.proofs.Roles.{Role, asker_by, owner_by}
+use Rattle.world_logs.proofs.Standing.{CleanerAs, ClientAs, Deletes, ManagerAs, Seen, Stands, stands_so}
 use Rattle.xfs_base.specs.declared.node.NodeId.{NodeId}
 use Rattle.xfs_base.specs.declared.node.NodeId.TheVariants.{Client, Manager, Server, Cleaner, Registry}
 use Rattle.xfs_base.specs.declared.segment.SegName.{SegName}
@@ -41,6 +44,7 @@ module _ (g : Setting) (r : Role) (w v : Scene) (name : NodeId) where
     pub client : (d : ℕ) → (Client d ≡ name → ⊥) → (p : Phase) → ClientAs g w r d p → ClientAs g v r d p
     pub server : (u : ℕ) → (Server u ≡ name → ⊥) → (node : ServerNode) → ServerSeen g w.net u node → ServerSeen g v.net u node
     pub cleaner : (Cleaner ≡ name → ⊥) → (p : CleanerPhase) → CleanerAs g w r p → CleanerAs g v r p
+    pub manager : (j : ℕ) → (Manager j ≡ name → ⊥) → (p : ManagerPhase) → ManagerAs g w r j p → ManagerAs g v r j p
     pub registry : (Registry ≡ name → ⊥) → (b : BoardState) → RegistrySeen g w.net b → RegistrySeen g v.net b
 
   pub all_keep : Keeps → (other : NodeId) (z : AnyNode) → (other ≡ name → ⊥) → Seen g r w other z → Seen g r v other z
@@ -50,7 +54,7 @@ module _ (g : Setting) (r : Role) (w v : Scene) (name : NodeId) where
   all_keep k (Client d) (any.Cleaner node) differs h = absurd h
   all_keep k (Client d) (any.Registry node) differs h = absurd h
   all_keep k (Manager j) (any.Client node) differs h = absurd h
-  all_keep k (Manager j) (any.Manager node) differs h = h
+  all_keep k (Manager j) (any.Manager node) differs h = k.manager j differs node.phase h
   all_keep k (Manager j) (any.Server node) differs h = absurd h
   all_keep k (Manager j) (any.Cleaner node) differs h = absurd h
   all_keep k (Manager j) (any.Registry node) differs h = absurd h
@@ -74,7 +78,9 @@ module _ (g : Setting) (r : Role) (w v : Scene) (name : NodeId) where
 
 -- The node of a name is another after its turn, sends these packets, and did these acts, where it is the log's owner.
 pub record Turn (g : Setting) (r : Role) (w v : Scene) (name : NodeId) (after : AnyNode) (packets : List Packet) (acts : List Act) : Type 0 where
-  pub moment : Moment g v.net
+  pub runs : Runs g w.net v.net
+  pub own : owner_by r ≡ name → GrowsBy g r w v
+  pub left : (owner_by r ≡ name → ⊥) → IsLeft w.net v.net
   pub there : Seen g r v name after
   pub others : Keeps g r w v name
   pub facts : (p : Packet) → PacketSeen g (asker_by r w) w.net p → PacketSeen g (asker_by r v) v.net p
@@ -82,6 +88,21 @@ pub record Turn (g : Setting) (r : Role) (w v : Scene) (name : NodeId) (after : 
   pub filed : (n : SegName) → tables.In n w.net.filed → tables.In n v.net.filed
   pub files : (n : SegName) → In (act.Filed n) acts → tables.In n v.net.filed
   pub only : (n : SegName) → tables.In n v.net.dropped → tables.In n w.net.dropped ⊎ Deletes n packets
+
+-- ---- what becomes of the log
+
+-- After an event of the node of this name the log stands to a scene to which the one before leads on.
+pub record Next (g : Setting) (r : Role) (w : Scene) (at : Moment g w.net) (name : NodeId) (k : Cluster) (nodes : List AnyNode) (sent : List Packet)
+    (told : List Act) : Type 0 where
+  pub scene : Scene
+  pub stands : Stands g r scene k nodes sent told
+  pub leads : LeadsOn g r name w at scene stands.moment
+
+-- what the owner did may be said otherwise
+abbrev pub next_so : (g : Setting) (r : Role) (w : Scene) (at : Moment g w.net) (name : NodeId) (k : Cluster) (nodes : List AnyNode) (sent : List Packet)
+    (a b : List Act) → a ≡ b → Next g r w at name k nodes sent a → Next g r w at name k nodes sent b
+next_so g r w at name k nodes sent a b same n =
+    record { scene = n.scene; stands = stands_so g r n.scene k nodes sent a b same n.stands; leads = n.leads }
 
 module _ (g : Setting) (r : Role) (w v : Scene) (k : Cluster) (nodes : List AnyNode) (sent : List Packet) (told : List Act)
     (st : Stands g r w k nodes sent told)
@@ -105,9 +126,9 @@ module _ (g : Setting) (r : Role) (w v : Scene) (k : Cluster) (nodes : List AnyN
   deleted : (n : SegName) → Deletes n packets → Deletes n sent_now
   deleted n d = (sent_at clock d.0, in_after sent (map (sent_at clock) packets) (sent_at clock d.0) (in_map (sent_at clock) packets d.0 d.1), d.2)
 
-  pub turned : Stands g r v k nodes_now sent_now (told ++ acts)
-  turned = record {
-    moment = t.moment;
+  abbrev stood : Stands g r v k nodes_now sent_now (told ++ acts)
+  stood = record {
+    moment = moment_then st.moment t.runs;
     seen = seen;
     facts = λ q h. ⊎_elim (λ old. t.facts q (st.facts q old))
         (λ new. at_clock clock (PacketSeen g (asker_by r v) v.net) (PacketSeen g (asker_by r v) v.net) (λ p s. s) packets t.sends q new)
@@ -116,3 +137,6 @@ module _ (g : Setting) (r : Role) (w v : Scene) (k : Cluster) (nodes : List AnyN
     deleted = λ n h. ⊎_elim (λ old. (let d = st.deleted n old in (d.0, in_before sent (map (sent_at clock) packets) d.0 d.1, d.2))) (λ new. deleted n new)
         (t.only n h);
   }
+
+  pub turned : Next g r w st.moment name k nodes_now sent_now (told ++ acts)
+  turned = record { scene = v; stands = stood; leads = record { runs = t.runs; joined = refl; own = t.own; left = t.left } }

@@ -1,12 +1,12 @@
--- Logs of clients and of the cleaner: what holds at each moment of a run of the segments that their owners told to be filed, and of all that is held or sent
+-- Logs of clients, of the cleaner and of managers: what holds at each moment of a run of the segments that their owners told to be filed, and of all that is held or sent
 -- under a name.
 use Rattle.std.specs.Prelude.{◌≡◌, ◌≤◌, ℕ, Some}
-use Rattle.cleaner_log_tie.specs.Fitting.{InRange}
 use Rattle.cleaner_node.specs.EmptyingEvents.{cleaner_log}
 use Rattle.core_world.specs.AnyNode.{any_start, any_step}
 use Rattle.core_world.specs.declared.any_node.AnyNode.{AnyNode}
 use Rattle.fragment_store.specs.ShelfState.{ShelfState, held_at}
 use Rattle.group_map.specs.declared.group.Group.{Group}
+use Rattle.manager_node.specs.Lasting.{log_of as managers_log}
 use Rattle.node_base.specs.Setups.{IsSetup}
 use Rattle.segment_format.specs.declared.segment.Segment.{Segment}
 use Rattle.token_protocol.specs.Basics.{In}
@@ -76,13 +76,13 @@ pub record LogStands (e : Estate AnyNode) (count c : ℕ) : Type 0 where
 abbrev pub LogsStand : Estate AnyNode → Type 0
 LogsStand e = (count c : ℕ) → 1 ≤ c → c ≤ e.script.setup.clients → LogStands e count c
 
--- the numbers of all packets that were sent in a run are in the ranges of their types, as those of each packet that a program holds
-abbrev pub AllInRange : World AnyNode → Type 0
-AllInRange end = (packet : Packet) → WasSent end.sent packet → InRange packet.body
-
--- so it is of the cleaner's log, where they are
+-- so it is of the cleaner's log
 abbrev pub CleanersLogStands : Estate AnyNode → Type 0
-CleanersLogStands e = AllInRange e.world → (count : ℕ) → LogStands e count cleaner_log.0
+CleanersLogStands e = (count : ℕ) → LogStands e count cleaner_log.0
+
+-- and of the log of each manager
+abbrev pub ManagersLogsStand : Estate AnyNode → Type 0
+ManagersLogsStand e = (count j : ℕ) → 1 ≤ j → j ≤ e.script.setup.managers → LogStands e count (managers_log j).0
 
 -- so it is of each run of a script of whose setup a run can be started, after doubtful restarts too
 abbrev pub RunsKeepLogs : Type 0
@@ -90,3 +90,6 @@ RunsKeepLogs = (e : Estate AnyNode) → IsSetup e.script.setup → IsRun any_ste
 
 abbrev pub RunsKeepTheCleanersLog : Type 0
 RunsKeepTheCleanersLog = (e : Estate AnyNode) → IsSetup e.script.setup → IsRun any_step any_start e.script e.events e.world → CleanersLogStands e
+
+abbrev pub RunsKeepManagersLogs : Type 0
+RunsKeepManagersLogs = (e : Estate AnyNode) → IsSetup e.script.setup → IsRun any_step any_start e.script e.events e.world → ManagersLogsStand e

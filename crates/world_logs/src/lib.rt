@@ -1,10 +1,10 @@
-//! The laws of every run of the nodes' world about the logs of clients and of the cleaner: what was told to be filed is whole, and one name has one text. It has
-//! no code of the product: each function below calls the laws that it stands on, and its contract is a law. The proof carries, for each of these owners, a run of
-//! the small world of its log (`log_law`) beside the run of the nodes; `proofs/Standing.antt` says how the two stand to each other.
+//! The laws of every run of the nodes' world about the logs of clients, of the cleaner and of managers: what was told to be filed is whole, and one name has one
+//! text. It has no code of the product: each function below calls the laws that it stands on, and its contract is a law. The proof carries, for each of these
+//! owners, a run of the small world of its log (`log_law`) beside the run of the nodes; `proofs/Standing.antt` says how the two stand to each other.
 #![tactic(auto)]
 
 ghost use Rattle.world_logs.specs.Horizons.{RunsReachHorizons};
-ghost use Rattle.world_logs.specs.Logs.{RunsKeepLogs, RunsKeepTheCleanersLog};
+ghost use Rattle.world_logs.specs.Logs.{RunsKeepLogs, RunsKeepManagersLogs, RunsKeepTheCleanersLog};
 
 use cleaner_log_tie::cleaner_log_events_are_seen;
 use client_log_tie::client_log_events_are_seen;
@@ -13,8 +13,11 @@ use filed_tie::{
     registry_tells_what_is_filed, servers_tell_what_is_filed,
 };
 use group_map::laws::groups_stay_as_made;
-use log_law::{logs_stay_whole, one_name_one_text, openings_go_on};
+use log_law::{logs_stay_whole, one_name_one_text, openings_go_on, what_is_held_flew};
 use log_tie::settings_exist;
+use manager_log_tie::{
+    manager_log_events_are_seen, what_is_told_is_in_range, what_servers_tell_is_bytes,
+};
 use node_log_tie::{cleaner_events_are_seen, registry_events_are_seen, server_events_are_seen};
 use node_tie::{
     client_events_are_seen, clients_ask_for_their_call, manager_events_are_seen,
@@ -28,11 +31,14 @@ use node_tie::{
 /// - `horizons`: in every run of a script of whose setup a run can be started, the least horizon that the registry keeps of a client's log, or of the cleaner's,
 ///   is 1 at most, or no more than one beyond a segment that this owner itself told to be filed.
 /// - `keeps`: the logs of clients are whole, and one name has one text, in every such run, however clients fall and open their logs again.
-/// - `cleaners`: so is the cleaner's log, in every such run of which each number that was sent is in the range of its type, as it is in a running program.
+/// - `cleaners`: so is the cleaner's log.
+/// - `managers`: so is the log of each manager, which begins anew wherever the manager restarts.
+/// - `lines`: each of these logs has a line in such a run: its small world at each count of the events, each of which runs on to the next.
 pub fn runs_keep_logs()
     ensures horizons { RunsReachHorizons }
     ensures keeps { RunsKeepLogs }
     ensures cleaners { RunsKeepTheCleanersLog }
+    ensures managers { RunsKeepManagersLogs }
 {
     clients_ask_for_their_call();
     client_events_are_seen();
@@ -48,6 +54,10 @@ pub fn runs_keep_logs()
     registry_events_are_seen();
     cleaner_events_are_seen();
     cleaner_log_events_are_seen();
+    manager_log_events_are_seen();
+    what_servers_tell_is_bytes();
+    what_is_told_is_in_range();
+    what_is_held_flew();
     groups_stay_as_made();
     settings_exist();
     logs_stay_whole();

@@ -1,6 +1,7 @@
 use Rattle.world_law.proofs.Laws.{NodeLaws}
 use Rattle.world_logs.proofs.Horizons.{horizons_reached}
-use Rattle.world_logs.proofs.Laws.{Below, cleaners_log_stands, logs_stand}
+use Rattle.world_logs.proofs.Laws.{Below, cleaners_log_stands, logs_stand, managers_logs_stand, runs_have_lines}
+use Rattle.world_logs.proofs.Line.{RunsHaveLines}
 use Rattle.world_logs.proofs.runs_keep_logs.Goals as goal
 use Rattle.world_logs.specs.Horizons.{RunsReachHorizons}
 
@@ -48,20 +49,30 @@ returns c =
         maps = c.server_events_are_seen.ensures.maps;
         registry_starts = c.registry_events_are_seen.ensures.start;
         registry = c.registry_events_are_seen.ensures.events;
+        registry_above = c.registry_events_are_seen.ensures.above;
         cleaner_starts = c.cleaner_events_are_seen.ensures.start;
         cleaner = c.cleaner_events_are_seen.ensures.events;
+        cleaner_stores = c.cleaner_events_are_seen.ensures.own;
         owner_starts = c.cleaner_log_events_are_seen.ensures.start;
         owner = c.cleaner_log_events_are_seen.ensures.events;
+        manager_starts = c.manager_log_events_are_seen.ensures.start;
+        manager = c.manager_log_events_are_seen.ensures.events;
+        servers_start = c.what_servers_tell_is_bytes.ensures.start;
+        servers_tell = c.what_servers_tell_is_bytes.ensures.events;
         goes_on = c.openings_go_on.ensures.on;
         flies = c.openings_go_on.ensures.flies;
+        held = c.what_is_held_flew.ensures;
+        told = c.what_is_told_is_in_range.ensures;
       };
       groups = c.groups_stay_as_made.ensures;
       setting = c.settings_exist.ensures;
       whole = c.logs_stay_whole.ensures.whole;
       text = c.one_name_one_text.ensures.one_text;
     } in
+    let lines : RunsHaveLines = runs_have_lines below.nodes below.groups horizons in
     record {
       horizons = horizons;
-      keeps = λ e ok run. logs_stand below e ok run (horizons e ok run);
-      cleaners = λ e ok run. cleaners_log_stands below e ok run (horizons e ok run);
+      keeps = λ e ok run. logs_stand below e ok run (lines below.setting.0 e ok run);
+      cleaners = λ e ok run. cleaners_log_stands below e ok run (lines below.setting.0 e ok run);
+      managers = λ e ok run. managers_logs_stand below e ok run (lines below.setting.0 e ok run);
     }
