@@ -29,13 +29,14 @@ use Rattle.world_base.specs.NextWorld.{sent_at}
 use Rattle.world_law.specs.Owners.{node_in}
 use Rattle.world_logs.proofs.Fits.{DoFits, PacketFits, StoresBytes, StoresOwn, do_tells, for_cleaner, in_range, stores_bytes}
 use Rattle.world_logs.proofs.Holding.{cleaner_owed}
-use Rattle.world_logs.proofs.Leading.{moment_then}
+use Rattle.world_logs.specs.Lines.{moment_then}
 use Rattle.world_logs.proofs.OwnerTurns.{cleaner_owner_turn}
-use Rattle.world_logs.proofs.Roles.{asker_by}
-use Rattle.world_logs.proofs.Roles.Role.{OfCleaner}
+use Rattle.world_logs.specs.Roles.{asker_by}
+use Rattle.world_logs.specs.Roles.Role.{OfCleaner}
 use Rattle.world_logs.proofs.Room.{cleaner_leaves_room}
-use Rattle.world_logs.proofs.Settings.{names_fit, setting_of}
-use Rattle.world_logs.proofs.Standing.{CleanerOwns, Stands}
+use Rattle.world_logs.proofs.Settings.{names_fit}
+use Rattle.world_logs.specs.Settings.{setting_of}
+use Rattle.world_logs.specs.Standing.{CleanerOwns, Stands}
 use Rattle.world_logs.proofs.Turns.{Next, turned}
 use Rattle.world_logs.specs.Shelves.{group_at}
 use Rattle.world_logs.proofs.Owed.{opening_owed}

@@ -25,15 +25,16 @@ use Rattle.world_law.specs.Owners.{node_in}
 use Rattle.world_logs.proofs.Fits.{DoFits, PacketFits, StoresBytes, do_tells, for_client, in_range, own_stores, stores_bytes}
 use Rattle.world_logs.proofs.Goods.{NodeLaws}
 use Rattle.world_logs.proofs.Holding.{client_owed}
-use Rattle.world_logs.proofs.Leading.{moment_then}
+use Rattle.world_logs.specs.Lines.{moment_then}
 use Rattle.world_logs.proofs.Owed.{in_those, number_is, of_log, phase_owed}
 use Rattle.world_logs.proofs.OwnerTurns.{owner_turn}
-use Rattle.world_logs.proofs.Roles.{asker_by}
-use Rattle.world_logs.proofs.Roles.Role.{OfClient}
+use Rattle.world_logs.specs.Roles.{asker_by}
+use Rattle.world_logs.specs.Roles.Role.{OfClient}
 use Rattle.world_logs.proofs.Room.{client_leaves_room}
 use Rattle.world_logs.proofs.Says.{OfLog}
-use Rattle.world_logs.proofs.Settings.{names_fit, setting_of}
-use Rattle.world_logs.proofs.Standing.{IsRoomy, OwnerSeen, Stands}
+use Rattle.world_logs.proofs.Settings.{names_fit}
+use Rattle.world_logs.specs.Settings.{setting_of}
+use Rattle.world_logs.specs.Standing.{IsRoomy, OwnerSeen, Stands}
 use Rattle.world_logs.proofs.Start.{log_small}
 use Rattle.world_logs.proofs.Turns.{Next, turned}
 use Rattle.world_logs.specs.Shelves.{group_at}

@@ -57,11 +57,12 @@ use Rattle.world_logs.proofs.Goods.{NodeLaws}
 use Rattle.world_logs.proofs.ManagerEvents as manager_log_events
 use Rattle.world_logs.proofs.Owed.{sent_from}
 use Rattle.world_logs.proofs.OwnerTurns.{idle_turn}
-use Rattle.world_logs.proofs.Roles.{Role, asker_by, high_log, log_by, no_server, owner_by, renews}
-use Rattle.world_logs.proofs.Roles.Role.{OfClient, OfCleaner, OfManager}
+use Rattle.world_logs.proofs.Roles.{high_log, no_server}
+use Rattle.world_logs.specs.Roles.{Role, asker_by, log_by, owner_by, renews}
+use Rattle.world_logs.specs.Roles.Role.{OfClient, OfCleaner, OfManager}
 use Rattle.world_logs.proofs.Says.{MaySay, OfLog, Plain, sent_apart}
 use Rattle.world_logs.proofs.Settings.{map_fits}
-use Rattle.world_logs.proofs.Standing.{CleanerAs, Seen, Stands}
+use Rattle.world_logs.specs.Standing.{CleanerAs, Seen, Stands}
 use Rattle.world_logs.proofs.StoreTurns.{cleaner_turn, registry_turn, server_turn}
 use Rattle.world_logs.proofs.Turns.{Next, next_so, turned}
 use Rattle.world_logs.specs.Doings.{owns}

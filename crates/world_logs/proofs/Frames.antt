@@ -31,7 +31,7 @@ use Rattle.node_log_tie.specs.Sight.{Later, Question}
 use Rattle.registry.specs.BoardState.{BoardState}
 use Rattle.store_nodes.specs.declared.server.Rebuilding.{Rebuilding}
 use Rattle.store_nodes.specs.declared.server.Server.{Server as ServerNode}
-use Rattle.world_logs.proofs.Standing.{IsRoomy}
+use Rattle.world_logs.specs.Standing.{IsRoomy}
 
 -- ---- the owner
 

@@ -40,8 +40,9 @@ use Rattle.world_logs.proofs.Events.{node_after}
 use Rattle.world_logs.proofs.Goods as logs
 use Rattle.world_logs.proofs.Goods.{Good, Known, NodeLaws}
 use Rattle.world_logs.proofs.Groups.{GroupsStay, StayIn, in_run}
-use Rattle.world_logs.proofs.Leading.{GrowsBy, IsLeft, LeadsOn, moment_then}
-use Rattle.world_logs.proofs.Roles.{Role, log_by, owner_by, renews}
+use Rattle.world_logs.proofs.Leading.{LeadsOn}
+use Rattle.world_logs.specs.Lines.{GrowsBy, IsLeft, moment_then}
+use Rattle.world_logs.specs.Roles.{Role, log_by, owner_by, renews}
 use Rattle.world_logs.proofs.Says.{may_say}
 use Rattle.world_logs.proofs.Settings.{names_at_end}
 use Rattle.world_logs.specs.Doings.{acts_by, acts_of, owns}

@@ -31,11 +31,13 @@ use Rattle.world_law.specs.Owners.{node_in}
 use Rattle.world_logs.proofs.Fits.{AllHold, PacketFits}
 use Rattle.world_logs.proofs.Leading.{stands_still}
 use Rattle.world_logs.proofs.Lists.{in_after, in_map}
-use Rattle.world_logs.proofs.Roles.{IsThere, Role, log_by, managers_log, renews}
-use Rattle.world_logs.proofs.Roles.Role.{OfManager}
+use Rattle.world_logs.proofs.Roles.{managers_log}
+use Rattle.world_logs.specs.Roles.{IsThere, Role, log_by, renews}
+use Rattle.world_logs.specs.Roles.Role.{OfManager}
 use Rattle.world_logs.proofs.Says.{MaySay}
-use Rattle.world_logs.proofs.Settings.{setting_of}
-use Rattle.world_logs.proofs.Standing.{Stands, stands_so}
+use Rattle.world_logs.specs.Settings.{setting_of}
+use Rattle.world_logs.proofs.Standing.{stands_so}
+use Rattle.world_logs.specs.Standing.{Stands}
 use Rattle.world_logs.proofs.Turns.{Next, next_so}
 use Rattle.world_logs.specs.Horizons.{Reached, board_of}
 use Rattle.world_logs.specs.Shelves.{group_at}

@@ -27,12 +27,13 @@ use Rattle.world_law.specs.Owners.{moment, node_in, node_named}
 use Rattle.world_logs.proofs.Fronts.{From, Steps, front_good, front_steps, named_so}
 use Rattle.world_logs.proofs.Goods.{Good, NodeLaws}
 use Rattle.world_logs.proofs.Groups.{GroupsStay, board_has_map, first_map, in_run, map_in_run}
-use Rattle.world_logs.proofs.Leading.{IsBegun}
-use Rattle.world_logs.proofs.Line.{HasLines, Line, RunsHaveLines}
+use Rattle.world_logs.specs.Lines.{IsBegun}
+use Rattle.world_logs.specs.Lines.{HasLines, Line, RunsHaveLines}
 use Rattle.world_logs.proofs.Reading.{has_text, is_whole, members_exist}
-use Rattle.world_logs.proofs.Roles.{IsThere, Role, log_by, renews}
-use Rattle.world_logs.proofs.Roles.Role.{OfClient, OfCleaner, OfManager}
-use Rattle.world_logs.proofs.Settings.{ids_fit, setting_of}
+use Rattle.world_logs.specs.Roles.{IsThere, Role, log_by, renews}
+use Rattle.world_logs.specs.Roles.Role.{OfClient, OfCleaner, OfManager}
+use Rattle.world_logs.proofs.Settings.{ids_fit}
+use Rattle.world_logs.specs.Settings.{setting_of}
 use Rattle.world_logs.proofs.Start.{first_scene, start_begins, start_holds, start_stands}
 use Rattle.world_logs.specs.Doings.{did}
 use Rattle.world_logs.specs.Logs.{CleanersLogStands, LogStands, LogsStand, ManagersLogsStand}

@@ -1,39 +1,19 @@
 -- How the small world of a log leads on from one moment of a run to the next: by the owner where the event is its own, and else with the log left as it was.
 use Rattle.std.proofs.Common.{◌≡◌, ℕ, List, ap, refl}
 use Rattle.cleaner_log_tie.proofs.Frames.{still_grows}
-use Rattle.cleaner_log_tie.specs.OwnerEvents.{Grows}
 use Rattle.client_log_tie.proofs.Frames.{grown_still}
-use Rattle.client_log_tie.specs.ClientEvents.{Grown}
 use Rattle.client_log_tie.specs.Owner.{Scene}
 use Rattle.log_law.specs.Events.{Runs}
-use Rattle.log_law.specs.Events.Runs.{Begun, On}
+use Rattle.log_law.specs.Events.Runs.{Begun}
 use Rattle.log_law.specs.Laws.{Moment}
 use Rattle.log_law.specs.Net.{Net, Owner}
-use Rattle.log_law.specs.Tails.{then_on}
 use Rattle.log_tie.specs.Setting.{Setting}
 use Rattle.segment_format.specs.declared.segment.Segment.{Segment}
-use Rattle.world_logs.proofs.Roles.{Role, owner_by}
-use Rattle.world_logs.proofs.Roles.Role.{OfClient, OfCleaner, OfManager}
+use Rattle.world_logs.specs.Lines.{GrowsBy, IsLeft, moment_then}
+use Rattle.world_logs.specs.Roles.{Role, owner_by}
+use Rattle.world_logs.specs.Roles.Role.{OfClient, OfCleaner, OfManager}
 use Rattle.xfs_base.specs.declared.node.NodeId.{NodeId}
 use Rattle.xfs_base.specs.declared.segment.SegName.{SegName}
-
--- a moment of a run that goes on
-abbrev pub moment_then : {g : Setting} {n next : Net} → Moment g n → Runs g n next → Moment g next
-moment_then m run = record { map = m.map; whole = m.whole; run = then_on m.run run }
-
--- nothing has happened yet
-abbrev pub IsBegun : {g : Setting} {n m : Net} → Runs g n m → Type 0
-IsBegun Begun = Unit {0}
-IsBegun (On run happens) = ⊥
-
--- what only the owner of a log changes, and the segments that are filed, in flight or in its feed, stay as they were
-pub record IsLeft (n next : Net) : Type 0 where
-  pub inc : next.inc ≡ n.inc
-  pub owner : next.owner ≡ n.owner
-  pub filed : next.filed ≡ n.filed
-  pub feed : next.feed ≡ n.feed
-  pub flown : next.flown ≡ n.flown
-  pub picked : next.picked ≡ n.picked
 
 -- what the owner alone changes
 pub record Its : Type 0 where
@@ -56,12 +36,6 @@ left_by n next same = record {
   flown = ap (λ (x : Its). x.flown) same;
   picked = ap (λ (x : Its). x.picked) same;
 }
-
--- what an event of the owner makes of its small world
-abbrev pub GrowsBy : Setting → Role → Scene → Scene → Type 0
-GrowsBy g (OfClient c) w v = Grown g w v
-GrowsBy g OfCleaner w v = Grows g w v
-GrowsBy g (OfManager j) w v = Grown g w v
 
 pub grows_still : (g : Setting) (r : Role) (w : Scene) → GrowsBy g r w w
 grows_still g (OfClient c) w = grown_still g w

@@ -25,5 +25,4 @@ pub mod Reading
 pub mod OwnFiling
 pub mod HorizonTurns
 pub mod Horizons
-pub mod Line
 pub mod Laws

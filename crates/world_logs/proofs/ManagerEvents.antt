@@ -25,15 +25,15 @@ use Rattle.world_base.specs.NextWorld.{sent_at}
 use Rattle.world_law.specs.Owners.{node_in}
 use Rattle.world_logs.proofs.Fits.{PacketFits, for_manager, manager_sends, own_stores, stores_bytes}
 use Rattle.world_logs.proofs.Goods.{NodeLaws}
-use Rattle.world_logs.proofs.Leading.{moment_then}
+use Rattle.world_logs.specs.Lines.{moment_then}
 use Rattle.world_logs.proofs.Managing.{asks_for_maps}
 use Rattle.world_logs.proofs.Owed.{in_those, of_log}
 use Rattle.world_logs.proofs.OwnerTurns.{manager_owner_turn}
-use Rattle.world_logs.proofs.Roles.{log_by}
-use Rattle.world_logs.proofs.Roles.Role.{OfManager}
+use Rattle.world_logs.specs.Roles.{log_by}
+use Rattle.world_logs.specs.Roles.Role.{OfManager}
 use Rattle.world_logs.proofs.Says.{OfLog}
-use Rattle.world_logs.proofs.Settings.{setting_of}
-use Rattle.world_logs.proofs.Standing.{Stands}
+use Rattle.world_logs.specs.Settings.{setting_of}
+use Rattle.world_logs.specs.Standing.{Stands}
 use Rattle.world_logs.proofs.Turns.{Next, turned}
 use Rattle.world_logs.specs.Shelves.{group_at}
 use Rattle.xfs_base.specs.declared.node.NodeId.TheVariants.{Manager}

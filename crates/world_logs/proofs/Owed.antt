@@ -31,7 +31,7 @@ use Rattle.wire_msg.specs.declared.body.Body.TheVariants as body
 use Rattle.wire_msg.specs.declared.packet.Packet.{Packet}
 use Rattle.world_logs.proofs.Room.{scan_has_room}
 use Rattle.world_logs.proofs.Says.{OfLog}
-use Rattle.world_logs.proofs.Standing.{CleanerOwns, IsRoomy, OwnerSeen}
+use Rattle.world_logs.specs.Standing.{CleanerOwns, IsRoomy, OwnerSeen}
 use Rattle.xfs_base.specs.declared.node.NodeId.{NodeId}
 use Rattle.xfs_base.specs.declared.segment.LogId.{LogId}
 

@@ -29,9 +29,9 @@ use Rattle.world_logs.proofs.Frames.{cleaner_still, registry_still, server_still
 use Rattle.world_logs.proofs.Leading.{left_by}
 use Rattle.world_logs.proofs.Lists.{in_listed}
 use Rattle.world_logs.proofs.Managing.{manager_body_more}
-use Rattle.world_logs.proofs.Roles.{Role, asker_by, owner_by}
-use Rattle.world_logs.proofs.Roles.Role.{OfClient, OfCleaner, OfManager}
-use Rattle.world_logs.proofs.Standing.{IsRoomy, Seen}
+use Rattle.world_logs.specs.Roles.{Role, asker_by, owner_by}
+use Rattle.world_logs.specs.Roles.Role.{OfClient, OfCleaner, OfManager}
+use Rattle.world_logs.specs.Standing.{IsRoomy, Seen}
 use Rattle.world_logs.proofs.Turns.{Keeps, Turn}
 use Rattle.xfs_base.specs.declared.node.NodeId.{NodeId}
 use Rattle.xfs_base.specs.declared.node.NodeId.TheVariants.{Client, Manager, Cleaner}

@@ -35,9 +35,10 @@ use Rattle.world_law.proofs.OtherTurns.{equal_or_not}
 use Rattle.world_law.proofs.Sent.{was_sent}
 use Rattle.world_law.specs.Owners.{node_in, node_named}
 use Rattle.world_logs.proofs.Lists.{in_was}
-use Rattle.world_logs.proofs.Roles.{Role, asker_by, log_by}
-use Rattle.world_logs.proofs.Settings.{setting_of, stripe_by, striped}
-use Rattle.world_logs.proofs.Standing.{Stands}
+use Rattle.world_logs.specs.Roles.{Role, asker_by, log_by}
+use Rattle.world_logs.proofs.Settings.{striped}
+use Rattle.world_logs.specs.Settings.{setting_of, stripe_by}
+use Rattle.world_logs.specs.Standing.{Stands}
 use Rattle.world_logs.specs.Logs.{IsText, IsWhole, NotDeleted, log_of}
 use Rattle.world_logs.specs.Shelves.{HoldsOrLost, IsKept, group_at, group_in, groups_of, piece, shelf_at, shelf_of}
 use Rattle.xfs_base.specs.declared.fragment.Fragment.{Fragment}

@@ -34,7 +34,7 @@ use Rattle.log_tie.specs.Setting.{Setting}
 use Rattle.node_base.specs.Room.{has_room}
 use Rattle.segment_format.specs.declared.segment.Segment.{Segment}
 use Rattle.wire_msg.specs.declared.packet.Do.{Do}
-use Rattle.world_logs.proofs.Standing.{IsRoomy}
+use Rattle.world_logs.specs.Standing.{IsRoomy}
 use Rattle.xfs_base.proofs.Booleans.{and_first, and_second}
 use Rattle.xfs_base.specs.Steps.{still}
 

@@ -13,7 +13,7 @@ use Rattle.wire_msg.specs.declared.body.Body.TheVariants as body
 use Rattle.wire_msg.specs.declared.packet.Packet.{Packet}
 use Rattle.world_base.specs.declared.cluster.Cluster.{Cluster}
 use Rattle.world_law.proofs.Standing as tokens
-use Rattle.world_logs.proofs.Roles.{IsOf, Role, asker_by, log_by, owner_by}
+use Rattle.world_logs.specs.Roles.{IsOf, Role, asker_by, log_by, owner_by}
 use Rattle.xfs_base.specs.declared.node.NodeId.{NodeId}
 use Rattle.xfs_base.specs.declared.node.NodeId.TheVariants.{Client, Manager, Server, Cleaner, Registry}
 use Rattle.xfs_base.specs.declared.segment.LogId.{LogId}

@@ -1,4 +1,4 @@
--- The setting of a log: its group ids name the stripes that the registry has at the end of the run.
+-- The stripes that the groups of a run's maps name are those of its settings, and their ids fit.
 use Rattle.std.proofs.Common.{◌≡◌, ◌^◌, ℕ, ◌+◌, ◌==◌, ◌<◌, ◌≤◌, List, [], ◌∷◌, Option, None, Some, length, unwrap_or, refl, sym, ap, subst, ◌∙◌, arith}
 use Rattle.std.specs.Prelude.{find}
 use Rattle.client_log.specs.Transition.{group_for, no_group}
@@ -9,24 +9,17 @@ use Rattle.group_map.specs.GroupMapState.{GroupMapState}
 use Rattle.group_map.specs.Groups.{chosen, group_of}
 use Rattle.group_map.specs.WellFormed.{IsGroupMap, IsNumbered}
 use Rattle.log_tie.proofs.Names.{equal}
-use Rattle.log_tie.specs.Setting.{Setting, Stripe, stripe_of_group}
+use Rattle.log_tie.specs.Setting.{Setting, Stripe}
 use Rattle.node_log_tie.proofs.WholeMaps.{Chosen, the_chosen}
 use Rattle.node_log_tie.specs.ServerEvents.{NamesStripes}
 use Rattle.world_base.specs.declared.world.World.{World}
 use Rattle.world_logs.proofs.Groups.{HasMap, Names}
-use Rattle.world_logs.proofs.Roles.{Role, log_by, renews}
+use Rattle.world_logs.specs.Roles.{Role}
+use Rattle.world_logs.specs.Settings.{setting_of, stripe_by}
 use Rattle.world_logs.specs.Shelves.{group_at, group_in, groups_of}
 use Rattle.xfs_base.proofs.Booleans.{by_test}
 
--- no stripe where there is no group
-abbrev pub stripe_by : Option Group → Stripe
-stripe_by None = record { members = []; parity = 0 }
-stripe_by (Some group) = stripe_of_group group
-
 module _ (base : Setting) (end : World AnyNode) (servers : ℕ) where
-  abbrev pub setting_of : Role → Setting
-  setting_of r = record base { log = record { 0 = log_by r }; servers = servers; doubts = renews r; stripe = λ id. stripe_by (group_at end id) }
-
   pub names_at_end : (o : Option Group) (stripe : Stripe) → Names o stripe → stripe_by o ≡ stripe
   names_at_end o stripe n = ap stripe_by n.is ∙ n.stripe_is
 

@@ -38,11 +38,11 @@ use Rattle.world_law.proofs.Laws.{one_node}
 use Rattle.world_law.proofs.Start.{first_stands}
 use Rattle.world_law.specs.Owners.{node_in}
 use Rattle.world_logs.proofs.Fits.{AllHold, NodeHolds}
-use Rattle.world_logs.proofs.Leading.{IsBegun}
+use Rattle.world_logs.specs.Lines.{IsBegun}
 use Rattle.world_logs.proofs.Settings.{map_fits}
-use Rattle.world_logs.proofs.Roles.{IsOf, IsThere, Role}
-use Rattle.world_logs.proofs.Roles.Role.{OfClient, OfCleaner, OfManager}
-use Rattle.world_logs.proofs.Standing.{CleanerAs, ClientAs, ManagerAs, OwnerSeen, Seen, Stands}
+use Rattle.world_logs.specs.Roles.{IsOf, IsThere, Role}
+use Rattle.world_logs.specs.Roles.Role.{OfClient, OfCleaner, OfManager}
+use Rattle.world_logs.specs.Standing.{CleanerAs, ClientAs, ManagerAs, OwnerSeen, Seen, Stands}
 use Rattle.xfs_base.specs.declared.node.NodeId.{NodeId}
 use Rattle.xfs_base.specs.declared.node.NodeId.TheVariants.{Client, Manager, Server, Cleaner, Registry}
 use Rattle.xfs_base.specs.declared.setup.Setup.{Setup}

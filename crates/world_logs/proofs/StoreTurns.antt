@@ -26,9 +26,10 @@ use Rattle.wire_msg.specs.declared.packet.Packet.{Packet}
 use Rattle.world_logs.proofs.Frames.{cleaner_owner_still, cleaner_still, client_still, manager_still, registry_still, room_still, server_still}
 use Rattle.world_logs.proofs.Leading.{its_of, left_by}
 use Rattle.world_logs.proofs.Lists.{in_listed}
-use Rattle.world_logs.proofs.Roles.{IsOf, Role, asker_by, no_registry, no_server, owner_by}
-use Rattle.world_logs.proofs.Roles.Role.{OfClient, OfCleaner, OfManager}
-use Rattle.world_logs.proofs.Standing.{CleanerAs, ClientAs, Deletes, ManagerAs}
+use Rattle.world_logs.proofs.Roles.{no_registry, no_server}
+use Rattle.world_logs.specs.Roles.{IsOf, Role, asker_by, owner_by}
+use Rattle.world_logs.specs.Roles.Role.{OfClient, OfCleaner, OfManager}
+use Rattle.world_logs.specs.Standing.{CleanerAs, ClientAs, Deletes, ManagerAs}
 use Rattle.world_logs.proofs.Turns.{Keeps, Turn}
 use Rattle.xfs_base.specs.declared.node.NodeId.{NodeId}
 use Rattle.xfs_base.specs.declared.node.NodeId.TheVariants.{Server, Cleaner, Registry}

@@ -29,9 +29,11 @@ use Rattle.world_law.proofs.Nodes as places
 use Rattle.world_law.proofs.Sent.{at_clock, in_append}
 use Rattle.world_law.specs.Owners.{node_in}
 use Rattle.world_logs.proofs.Lists.{in_after, in_before, in_map}
-use Rattle.world_logs.proofs.Leading.{GrowsBy, IsLeft, LeadsOn, moment_then}
-use Rattle.world_logs.proofs.Roles.{Role, asker_by, owner_by}
-use Rattle.world_logs.proofs.Standing.{CleanerAs, ClientAs, Deletes, ManagerAs, Seen, Stands, stands_so}
+use Rattle.world_logs.proofs.Leading.{LeadsOn}
+use Rattle.world_logs.specs.Lines.{GrowsBy, IsLeft, moment_then}
+use Rattle.world_logs.specs.Roles.{Role, asker_by, owner_by}
+use Rattle.world_logs.proofs.Standing.{stands_so}
+use Rattle.world_logs.specs.Standing.{CleanerAs, ClientAs, Deletes, ManagerAs, Seen, Stands}
 use Rattle.xfs_base.specs.declared.node.NodeId.{NodeId}
 use Rattle.xfs_base.specs.declared.node.NodeId.TheVariants.{Client, Manager, Server, Cleaner, Registry}
 use Rattle.xfs_base.specs.declared.segment.SegName.{SegName}

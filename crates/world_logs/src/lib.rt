@@ -1,9 +1,10 @@
 //! The laws of every run of the nodes' world about the logs of clients, of the cleaner and of managers: what was told to be filed is whole, and one name has one
 //! text. It has no code of the product: each function below calls the laws that it stands on, and its contract is a law. The proof carries, for each of these
-//! owners, a run of the small world of its log (`log_law`) beside the run of the nodes; `proofs/Standing.antt` says how the two stand to each other.
+//! owners, a run of the small world of its log (`log_law`) beside the run of the nodes; `specs/Standing.antt` says how the two stand to each other.
 #![tactic(auto)]
 
 ghost use Rattle.world_logs.specs.Horizons.{RunsReachHorizons};
+ghost use Rattle.world_logs.specs.Lines.{RunsHaveLines};
 ghost use Rattle.world_logs.specs.Logs.{RunsKeepLogs, RunsKeepManagersLogs, RunsKeepTheCleanersLog};
 
 use cleaner_log_tie::cleaner_log_events_are_seen;
@@ -39,6 +40,7 @@ pub fn runs_keep_logs()
     ensures keeps { RunsKeepLogs }
     ensures cleaners { RunsKeepTheCleanersLog }
     ensures managers { RunsKeepManagersLogs }
+    ensures lines { RunsHaveLines }
 {
     clients_ask_for_their_call();
     client_events_are_seen();

@@ -1,7 +1,7 @@
 use Rattle.world_law.proofs.Laws.{NodeLaws}
 use Rattle.world_logs.proofs.Horizons.{horizons_reached}
 use Rattle.world_logs.proofs.Laws.{Below, cleaners_log_stands, logs_stand, managers_logs_stand, runs_have_lines}
-use Rattle.world_logs.proofs.Line.{RunsHaveLines}
+use Rattle.world_logs.specs.Lines.{RunsHaveLines}
 use Rattle.world_logs.proofs.runs_keep_logs.Goals as goal
 use Rattle.world_logs.specs.Horizons.{RunsReachHorizons}
 
@@ -72,6 +72,7 @@ returns c =
     let lines : RunsHaveLines = runs_have_lines below.nodes below.groups horizons in
     record {
       horizons = horizons;
+      lines = lines;
       keeps = λ e ok run. logs_stand below e ok run (lines below.setting.0 e ok run);
       cleaners = λ e ok run. cleaners_log_stands below e ok run (lines below.setting.0 e ok run);
       managers = λ e ok run. managers_logs_stand below e ok run (lines below.setting.0 e ok run);

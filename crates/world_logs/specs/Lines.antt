@@ -1,9 +1,15 @@
--- The line of a log: its small world at each count of the events of a run, each of which runs on to the next.
-use Rattle.std.proofs.Common.{◌≡◌, ℕ, suc, Some, None, slice_get}
+-- The line of a log over a run: its small world at each count of the events, each of which runs on to the next.
+use Rattle.std.specs.Prelude.{◌≡◌, ℕ, suc, Some, None, slice_get}
+use Rattle.cleaner_log_tie.specs.OwnerEvents.{Grows}
+use Rattle.client_log_tie.specs.ClientEvents.{Grown}
 use Rattle.client_log_tie.specs.Owner.{Scene}
 use Rattle.core_world.specs.AnyNode.{any_start, any_step}
 use Rattle.core_world.specs.declared.any_node.AnyNode.{AnyNode}
 use Rattle.log_law.specs.Events.{Runs}
+use Rattle.log_law.specs.Events.Runs.{Begun, On}
+use Rattle.log_law.specs.Laws.{Moment}
+use Rattle.log_law.specs.Net.{Net}
+use Rattle.log_law.specs.Tails.{then_on}
 use Rattle.log_tie.specs.Setting.{Setting}
 use Rattle.node_base.specs.Setups.{IsSetup}
 use Rattle.world_base.specs.Cluster.{cluster_of}
@@ -13,11 +19,35 @@ use Rattle.world_base.specs.declared.event.Event.{Event}
 use Rattle.world_base.specs.Events.{node_of}
 use Rattle.world_base.specs.Runs.{IsRun}
 use Rattle.world_law.specs.Owners.{moment}
-pub use Rattle.world_logs.proofs.Leading.{GrowsBy, IsBegun, IsLeft, moment_then}
-use Rattle.world_logs.proofs.Roles.{IsThere, Role, log_by, owner_by}
-use Rattle.world_logs.proofs.Settings.{setting_of}
-use Rattle.world_logs.proofs.Standing.{Stands}
 use Rattle.world_logs.specs.Doings.{did}
+use Rattle.world_logs.specs.Roles.{IsThere, Role, log_by, owner_by}
+use Rattle.world_logs.specs.Roles.Role.{OfClient, OfCleaner, OfManager}
+use Rattle.world_logs.specs.Settings.{setting_of}
+use Rattle.world_logs.specs.Standing.{Stands}
+
+-- a moment of a run that goes on
+abbrev pub moment_then : {g : Setting} {n next : Net} → Moment g n → Runs g n next → Moment g next
+moment_then m run = record { map = m.map; whole = m.whole; run = then_on m.run run }
+
+-- nothing has happened yet
+abbrev pub IsBegun : {g : Setting} {n m : Net} → Runs g n m → Type 0
+IsBegun Begun = Unit {0}
+IsBegun (On run happens) = ⊥
+
+-- what only the owner of a log changes, and the segments that are filed, in flight or in its feed, stay as they were
+pub record IsLeft (n next : Net) : Type 0 where
+  pub inc : next.inc ≡ n.inc
+  pub owner : next.owner ≡ n.owner
+  pub filed : next.filed ≡ n.filed
+  pub feed : next.feed ≡ n.feed
+  pub flown : next.flown ≡ n.flown
+  pub picked : next.picked ≡ n.picked
+
+-- what an event of the owner makes of its small world
+abbrev pub GrowsBy : Setting → Role → Scene → Scene → Type 0
+GrowsBy g (OfClient c) w v = Grown g w v
+GrowsBy g OfCleaner w v = Grows g w v
+GrowsBy g (OfManager j) w v = Grown g w v
 
 -- The small world of the log at each count of the events of a run stands to the moment there, and runs on to the next: at an event of its owner by the owner
 -- alone, and at one of another node with the log left as it was; beyond the last event nothing happens.
