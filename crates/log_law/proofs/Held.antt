@@ -1,5 +1,5 @@
--- What the owner holds of its log was in flight: it is booked.
-use Rattle.std.proofs.Common.{ℕ, List, [], ◌∷◌, Option, Some, None, inl, inr, sym, subst, ◌∙◌}
+-- What the owner holds of its log was in flight: it is booked; and a booked name is one of the log.
+use Rattle.std.proofs.Common.{ℕ, List, [], ◌∷◌, Option, Some, None, inl, inr, sym, subst, ◌∙◌, ap}
 use Rattle.std.specs.Prelude.{IfSome}
 use Rattle.client_log.specs.LogState.{FlightState}
 use Rattle.log_protocol.specs.State.{State}
@@ -8,8 +8,9 @@ use Rattle.log_tie.specs.Openings.{Chained}
 use Rattle.log_tie.specs.Seen.{FlightShown, Flying}
 use Rattle.log_tie.specs.Setting.{Setting}
 use Rattle.segment_format.specs.declared.segment.Segment.{Segment}
+use Rattle.xfs_base.specs.declared.segment.SegName.{SegName}
 use Rattle.log_law.specs.Below.{Below}
-use Rattle.log_law.specs.Held.{OwnerFlew, WhatIsHeldFlew}
+use Rattle.log_law.specs.Held.{OwnerFlew, WhatFlewIsOfTheLog, WhatIsHeldFlew}
 use Rattle.log_law.specs.Net.{Net, Owner}
 use Rattle.log_law.specs.Net.Owner.{Down, Opening, Writing, Serving}
 use Rattle.log_law.proofs.Calmer.{doubtful}
@@ -43,3 +44,9 @@ owner_flew g n h (Serving s) shown = flight_flew g h.w h.book n.flown h.flown s.
 
 pub what_is_held_flew : Below → WhatIsHeldFlew
 what_is_held_flew k g n m = (let h : View (doubtful g) n = seen k g n m in owner_flew (doubtful g) n h n.owner h.owner)
+
+pub what_flew_is_of_the_log : Below → WhatFlewIsOfTheLog
+what_flew_is_of_the_log k g n m s among =
+    let h : View (doubtful g) n = seen k g n m in
+    let x = h.flown.booked s among in
+    ap (λ (z : Segment). z.name.log) x.2 ∙ ap (λ (name : SegName). name.log) (h.paged x.0 x.1).named

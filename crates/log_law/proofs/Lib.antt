@@ -21,7 +21,7 @@ mod Wholeness
 mod Hurting
 mod Flights
 mod Feeding
-mod Filing
+pub mod Filing
 mod Gapless
 mod Followed
 mod InLine

@@ -1,5 +1,5 @@
--- What the owner of a log holds of it, the segment that it has in flight and what it has read back, was in flight.
-use Rattle.std.specs.Prelude.{List, IfSome}
+-- What the owner of a log holds of it, the segment that it has in flight and what it has read back, was in flight; and what was in flight is of the log.
+use Rattle.std.specs.Prelude.{◌≡◌, List, IfSome}
 use Rattle.client_log.specs.LogState.{FlightState, LogState}
 use Rattle.log_protocol.specs.Tables.{In}
 use Rattle.log_tie.specs.Setting.{Setting}
@@ -26,3 +26,7 @@ OwnerFlew flown (Serving s) = FlightFlew flown s
 -- so it is at each moment of every run
 abbrev pub WhatIsHeldFlew : Type 0
 WhatIsHeldFlew = (g : Setting) (n : Net) → Moment g n → OwnerFlew n.flown n.owner
+
+-- each segment that was in flight bears the number of the log
+abbrev pub WhatFlewIsOfTheLog : Type 0
+WhatFlewIsOfTheLog = (g : Setting) (n : Net) → Moment g n → (s : Segment) → In s n.flown → s.name.log ≡ g.log

@@ -5,7 +5,7 @@
 #![tactic(auto)]
 
 ghost use Rattle.log_law.specs.Ends.{EndsAreLast, FilesItsFlight};
-ghost use Rattle.log_law.specs.Held.{WhatIsHeldFlew};
+ghost use Rattle.log_law.specs.Held.{WhatFlewIsOfTheLog, WhatIsHeldFlew};
 ghost use Rattle.log_law.specs.Laws.{AReopeningAdopts, LogsStayInLine, LogsStayWhole, OneNameOneText, SomeSegmentFiled, TheFeedIsWhole};
 ghost use Rattle.log_law.specs.Openings.{FliesNext, OpeningsGoOn};
 ghost use Rattle.log_law.specs.Places.{APlaceNamesOneContent};
@@ -69,9 +69,10 @@ pub fn a_place_names_one_content()
 }
 
 /// What an owner holds of its log was in flight: at each moment of every run the segment that it has in flight, and each that it has read back while its
-/// opening segment is written, is among those that were in flight.
+/// opening segment is written, is among those that were in flight; and each of these bears the number of the log.
 pub fn what_is_held_flew()
-    ensures { WhatIsHeldFlew }
+    ensures held { WhatIsHeldFlew }
+    ensures own { WhatFlewIsOfTheLog }
 {
     below();
 }

@@ -25,4 +25,6 @@ pub mod Reading
 pub mod OwnFiling
 pub mod HorizonTurns
 pub mod Horizons
+pub mod Line
+pub mod Texts
 pub mod Laws

@@ -61,7 +61,7 @@ decide a b = ⊎_elim
     (λ no. inr (λ e. no (ap (λ (n : SegName). n.log.0) e))) (equal_or_not a.log.0 b.log.0)
 
 -- a segment of this name, or none
-look : (name : SegName) (xs : List Segment) → ((s : Segment) × tables.In s xs × (s.name ≡ name)) ⊎ ((s : Segment) → tables.In s xs → s.name ≡ name → ⊥)
+pub look : (name : SegName) (xs : List Segment) → ((s : Segment) × tables.In s xs × (s.name ≡ name)) ⊎ ((s : Segment) → tables.In s xs → s.name ≡ name → ⊥)
 look name [] = inr (λ s is e. is)
 look name (x ∷ xs) = ⊎_elim (λ e. inl (x, inl refl, e))
     (λ no. ⊎_elim (λ (f : (s : Segment) × tables.In s xs × (s.name ≡ name)). inl (f.0, inr f.1, f.2))

@@ -10,8 +10,10 @@ use Rattle.log_law.specs.Events.Runs.{Begun, On}
 use Rattle.log_law.specs.Laws.{Moment}
 use Rattle.log_law.specs.Net.{Net}
 use Rattle.log_law.specs.Tails.{then_on}
+use Rattle.log_protocol.specs.Tables.{In}
 use Rattle.log_tie.specs.Setting.{Setting}
 use Rattle.node_base.specs.Setups.{IsSetup}
+use Rattle.segment_format.specs.declared.segment.Segment.{Segment}
 use Rattle.world_base.specs.Cluster.{cluster_of}
 use Rattle.world_base.specs.declared.cluster.Cluster.{Cluster}
 use Rattle.world_base.specs.declared.estate.Estate.{Estate}
@@ -24,6 +26,7 @@ use Rattle.world_logs.specs.Roles.{IsThere, Role, log_by, owner_by}
 use Rattle.world_logs.specs.Roles.Role.{OfClient, OfCleaner, OfManager}
 use Rattle.world_logs.specs.Settings.{setting_of}
 use Rattle.world_logs.specs.Standing.{Stands}
+use Rattle.xfs_base.specs.declared.segment.SegName.{SegName}
 
 -- a moment of a run that goes on
 abbrev pub moment_then : {g : Setting} {n next : Net} → Moment g n → Runs g n next → Moment g next
@@ -76,3 +79,16 @@ HasLines base e = (r : Role) → IsThere e.script.setup.clients e.script.setup.m
 
 abbrev pub RunsHaveLines : Type 0
 RunsHaveLines = (base : Setting) (e : Estate AnyNode) → IsSetup e.script.setup → IsRun any_step any_start e.script e.events e.world → HasLines base e
+
+-- ---- texts
+
+-- One text of each name for the whole run: each segment that was in flight in any log, at any count, is the text of its name.
+pub record Texts (base : Setting) (e : Estate AnyNode) (lines : HasLines base e) : Type 0 where
+  pub text : SegName → Segment
+  pub flown : (r : Role) (there : IsThere e.script.setup.clients e.script.setup.managers r) (count : ℕ) (s : Segment)
+      → In s ((lines r there).at count).net.flown
+      → text s.name ≡ s
+
+-- the lines of a run have one text of each name
+abbrev pub LinesHaveTexts : Type 0
+LinesHaveTexts = (base : Setting) (e : Estate AnyNode) → IsSetup e.script.setup → (lines : HasLines base e) → Texts base e lines

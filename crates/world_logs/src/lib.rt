@@ -4,7 +4,7 @@
 #![tactic(auto)]
 
 ghost use Rattle.world_logs.specs.Horizons.{RunsReachHorizons};
-ghost use Rattle.world_logs.specs.Lines.{RunsHaveLines};
+ghost use Rattle.world_logs.specs.Lines.{LinesHaveTexts, RunsHaveLines};
 ghost use Rattle.world_logs.specs.Logs.{RunsKeepLogs, RunsKeepManagersLogs, RunsKeepTheCleanersLog};
 
 use cleaner_log_tie::cleaner_log_events_are_seen;
@@ -34,13 +34,16 @@ use node_tie::{
 /// - `keeps`: the logs of clients are whole, and one name has one text, in every such run, however clients fall and open their logs again.
 /// - `cleaners`: so is the cleaner's log.
 /// - `managers`: so is the log of each manager, which begins anew wherever the manager restarts.
-/// - `lines`: each of these logs has a line in such a run: its small world at each count of the events, each of which runs on to the next.
+/// - `lines`: each of these logs has a line in such a run: its small world at each count of the events, each of which runs on to the next, by its owner alone
+///   at an event of its owner.
+/// - `texts`: lines have one text of each name: that of each segment of the name that was in flight in any log, at any count.
 pub fn runs_keep_logs()
     ensures horizons { RunsReachHorizons }
     ensures keeps { RunsKeepLogs }
     ensures cleaners { RunsKeepTheCleanersLog }
     ensures managers { RunsKeepManagersLogs }
     ensures lines { RunsHaveLines }
+    ensures texts { LinesHaveTexts }
 {
     clients_ask_for_their_call();
     client_events_are_seen();

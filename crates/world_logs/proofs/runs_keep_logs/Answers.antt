@@ -1,5 +1,6 @@
 use Rattle.world_law.proofs.Laws.{NodeLaws}
 use Rattle.world_logs.proofs.Horizons.{horizons_reached}
+use Rattle.world_logs.proofs.Texts.{texts_of}
 use Rattle.world_logs.proofs.Laws.{Below, cleaners_log_stands, logs_stand, managers_logs_stand, runs_have_lines}
 use Rattle.world_logs.specs.Lines.{RunsHaveLines}
 use Rattle.world_logs.proofs.runs_keep_logs.Goals as goal
@@ -61,7 +62,7 @@ returns c =
         servers_tell = c.what_servers_tell_is_bytes.ensures.events;
         goes_on = c.openings_go_on.ensures.on;
         flies = c.openings_go_on.ensures.flies;
-        held = c.what_is_held_flew.ensures;
+        held = c.what_is_held_flew.ensures.held;
         told = c.what_is_told_is_in_range.ensures;
       };
       groups = c.groups_stay_as_made.ensures;
@@ -73,6 +74,7 @@ returns c =
     record {
       horizons = horizons;
       lines = lines;
+      texts = λ base e ok all. texts_of below.text c.what_is_held_flew.ensures.own base e ok all;
       keeps = λ e ok run. logs_stand below e ok run (lines below.setting.0 e ok run);
       cleaners = λ e ok run. cleaners_log_stands below e ok run (lines below.setting.0 e ok run);
       managers = λ e ok run. managers_logs_stand below e ok run (lines below.setting.0 e ok run);
