@@ -1,0 +1,50 @@
+-- What a packet that is delivered brings: what it bears came among the packets, and maps that are taken are as said.
+use Rattle.std.proofs.Common.{◌≡◌, ℕ, List, Option, Some, None, refl, sym, subst}
+use Rattle.log_owner.specs.Sending.{server_in}
+use Rattle.log_protocol.specs.Tables.{In}
+use Rattle.node_base.specs.declared.maps.Maps.{Maps}
+use Rattle.node_base.specs.Maps.{is_older, taken}
+use Rattle.stripe_code.specs.declared.round.Told.{Told as Answered}
+use Rattle.stripe_code.specs.declared.round.Told.TheVariants.{Held, Missing}
+use Rattle.wire_msg.specs.declared.body.Body.{Body}
+use Rattle.wire_msg.specs.declared.body.Body.TheVariants as body
+use Rattle.wire_msg.specs.declared.packet.Do.{Do}
+use Rattle.wire_msg.specs.declared.packet.Do.TheVariants.{Begin, Deliver, Tick}
+use Rattle.wire_msg.specs.declared.packet.Packet.{Packet}
+use Rattle.wire_msg.specs.declared.registry.News.{News}
+use Rattle.xfs_base.proofs.Booleans.{by_test}
+use Rattle.reading_tie.specs.Arrivals.{AnswerBrought, BodyBrought, DoBrought, Tells, answered_in, Cuts, cut_by, BodyMaps, DoSent}
+use Rattle.reading_tie.specs.Came.{Striped, CameMore, MapStriped, MapsStriped}
+
+-- maps that are taken, where they are newer
+pub taken_so : (striped : Striped) (maps : Maps) (news : News) → MapsStriped striped maps.groups → MapStriped striped news.groups
+    → MapsStriped striped (taken maps news).groups
+taken_so striped maps news h is =
+    by_test (λ (m : Maps). MapsStriped striped m.groups) (is_older maps news) (record maps { version = news.version; groups = Some news.groups }) maps (λ _. is)
+    (λ _. h)
+
+module _ (packets : List Packet) (cuts : Cuts) where
+  answer_brought : (packet : Packet) (ask : ℕ) (told : Answered) (server : Option ℕ) → server_in packet.from ≡ server → In packet packets
+      → Tells ask told packet.body → AnswerBrought (answered_in packets) server ask told
+  answer_brought packet ask told None is among tells = tt
+  answer_brought packet ask told (Some server) is among tells = record { packet = packet; among = among; from = is; tells = tells }
+
+  body_brought : (packet : Packet) (b : Body) → packet.body ≡ b → In packet packets → BodyMaps cuts b
+      → BodyBrought (answered_in packets) (cut_by cuts) packet.from b
+  body_brought packet (body.Fragment m) is among maps =
+      answer_brought packet m.ask (Held m.fragment) (server_in packet.from) refl among (subst (Tells m.ask (Held m.fragment)) (sym is) (refl, refl))
+  body_brought packet (body.Missing m) is among maps =
+      answer_brought packet m.ask (Missing m.generation) (server_in packet.from) refl among (subst (Tells m.ask (Missing m.generation)) (sym is) (refl, refl))
+  body_brought packet (body.MapNews m) is among maps = maps
+  body_brought packet (body.Welcome m) is among maps = maps
+  body_brought packet _ is among maps = tt
+
+  pub do_brought : (what : Do) → DoSent packets cuts what → DoBrought (answered_in packets) (cut_by cuts) what
+  do_brought Begin h = tt
+  do_brought (Deliver packet) h = body_brought packet packet.body refl h.0 h.1
+  do_brought Tick h = tt
+
+-- what came in these packets came in more of them too
+pub answered_more : (packets more : List Packet) → ((p : Packet) → In p packets → In p more) → CameMore (answered_in packets) (answered_in more)
+answered_more packets more grows ask server told h =
+    record { packet = h.packet; among = grows h.packet h.among; from = h.from; tells = h.tells }
