@@ -136,15 +136,15 @@ module _ (came later : Came) (striped more : Striped) (grows : CameMore came lat
 -- ---- the laws
 
 pub cleaner_starts : CleanerStarts
-cleaner_starts packets cuts setup works known = record { maps = known; hand = tt }
+cleaner_starts packets to cuts setup works known = record { maps = known; hand = tt }
 
 pub cleaner_rises : CleanerHoldsRise
-cleaner_rises packets more cuts cleaner grows h =
-    phase_rises (answered_in packets) (answered_in more) (cut_by cuts) (cut_by cuts) (answered_more packets more grows)
+cleaner_rises packets more to cuts cleaner grows h =
+    phase_rises (answered_in packets to) (answered_in more to) (cut_by cuts) (cut_by cuts) (answered_more packets more to grows)
     (λ id members parity is. is) cleaner.phase h
 
 pub cleaner_keeps : CleanerEventsKeep
-cleaner_keeps packets cuts cleaner what h is = any_cleaner_keeps (answered_in packets) (cut_by cuts) cleaner what h (do_brought packets cuts what is)
+cleaner_keeps packets to cuts cleaner what h is = any_cleaner_keeps (answered_in packets to) (cut_by cuts) cleaner what h (do_brought packets to cuts what is)
 
 pub cleaner_reads : CleanerReadsWhatCame
-cleaner_reads packets cuts e ask server told segment h is read = told_reads (answered_in packets) (cut_by cuts) e ask server told segment h is read
+cleaner_reads packets to cuts e ask server told segment h is read = told_reads (answered_in packets to) (cut_by cuts) e ask server told segment h is read

@@ -150,16 +150,16 @@ module _ (came later : Came) (striped more : Striped) (grows : CameMore came lat
 -- ---- the laws
 
 pub client_starts : ClientStarts
-client_starts packets cuts number setup works known = record { maps = known; reading = tt }
+client_starts packets to cuts number setup works known = record { maps = known; reading = tt }
 
 pub client_rises : ClientHoldsRise
-client_rises packets more cuts client grows h =
-    phase_rises (answered_in packets) (answered_in more) (cut_by cuts) (cut_by cuts) (answered_more packets more grows)
+client_rises packets more to cuts client grows h =
+    phase_rises (answered_in packets to) (answered_in more to) (cut_by cuts) (cut_by cuts) (answered_more packets more to grows)
     (λ id members parity is. is) client.phase h
 
 pub client_keeps : ClientEventsKeep
-client_keeps packets cuts client what h is = any_client_keeps (answered_in packets) (cut_by cuts) client what h (do_brought packets cuts what is)
+client_keeps packets to cuts client what h is = any_client_keeps (answered_in packets to) (cut_by cuts) client what h (do_brought packets to cuts what is)
 
 pub clients_read : ClientsReadWhatCame
-clients_read packets cuts s ask server told segment h is e =
-    heard_reads (answered_in packets) (cut_by cuts) (reading_in s.call) s.maps.groups ask server told segment h.reading is e
+clients_read packets to cuts s ask server told segment h is e =
+    heard_reads (answered_in packets to) (cut_by cuts) (reading_in s.call) s.maps.groups ask server told segment h.reading is e

@@ -169,22 +169,22 @@ module _ (came later : Came) (striped more : Striped) (grows : CameMore came lat
 -- ---- the laws
 
 pub manager_starts : ManagerStarts
-manager_starts packets cuts number setup works known =
+manager_starts packets to cuts number setup works known =
     record { maps = known; slots = (one 0, (one 1, (one 2, (one 3, (one 4, (one 5, (one 6, (one 7, tt)))))))) }
   where
-    one : (slot : ℕ) → SlotHolds (answered_in packets) (cut_by cuts) (first_phase number (start_entries setup.managers) slot)
+    one : (slot : ℕ) → SlotHolds (answered_in packets to) (cut_by cuts) (first_phase number (start_entries setup.managers) slot)
     one slot =
-        by_test (SlotHolds (answered_in packets) (cut_by cuts)) ((entry_at (start_entries setup.managers) (slot_of slot)).manager == number) first_active
+        by_test (SlotHolds (answered_in packets to) (cut_by cuts)) ((entry_at (start_entries setup.managers) (slot_of slot)).manager == number) first_active
         (phase.Away 1) (λ _. tt) (λ _. tt)
 
 pub manager_rises : ManagerHoldsRise
-manager_rises packets more cuts manager grows h =
-    phase_rises (answered_in packets) (answered_in more) (cut_by cuts) (cut_by cuts) (answered_more packets more grows)
+manager_rises packets more to cuts manager grows h =
+    phase_rises (answered_in packets to) (answered_in more to) (cut_by cuts) (cut_by cuts) (answered_more packets more to grows)
     (λ id members parity is. is) manager.phase h
 
 pub manager_keeps : ManagerEventsKeep
-manager_keeps packets cuts manager what h is = any_manager_keeps (answered_in packets) (cut_by cuts) manager what h (do_brought packets cuts what is)
+manager_keeps packets to cuts manager what h is = any_manager_keeps (answered_in packets to) (cut_by cuts) manager what h (do_brought packets to cuts what is)
 
 pub takeovers_read : TakeoversReadWhatCame
-takeovers_read packets cuts s p r ask own server told segment h at reads is e =
-    take_reads (answered_in packets) (cut_by cuts) s p r ask own server told segment h at reads is e
+takeovers_read packets to cuts s p r ask own server told segment h at reads is e =
+    take_reads (answered_in packets to) (cut_by cuts) s p r ask own server told segment h at reads is e

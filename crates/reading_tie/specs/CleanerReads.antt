@@ -17,6 +17,7 @@ use Rattle.version_model.specs.declared.work.Work.{Work}
 use Rattle.wire_msg.specs.declared.packet.Packet.{Packet}
 use Rattle.xfs_base.specs.declared.segment.SegRef.{SegRef}
 use Rattle.xfs_base.specs.declared.setup.Setup.{Setup}
+use Rattle.xfs_base.specs.declared.node.NodeId.{NodeId}
 use Rattle.reading_tie.specs.Arrivals.{Cuts, answered_in, cut_by, AnsweredIn, HoldsRise, EventsKeep}
 use Rattle.reading_tie.specs.Came.{Came, Striped, MapStriped, MapsStriped, AnyReadingCame, ReadsJoined}
 
@@ -65,8 +66,8 @@ ReadsHand came striped (Some hand) segment = ReadsJoined came striped hand.seg s
 -- at its start the cleaner has no job, and knows the groups of the setup
 abbrev pub CleanerStarts : Type 0
 CleanerStarts =
-    (packets : List Packet) (cuts : Cuts) (setup : Setup) (works : List Work) → MapStriped (cut_by cuts) (started setup.servers setup.groups)
-    → CleanerHolds (answered_in packets) (cut_by cuts) (cleaner_start setup works)
+    (packets : List Packet) (to : NodeId) (cuts : Cuts) (setup : Setup) (works : List Work) → MapStriped (cut_by cuts) (started setup.servers setup.groups)
+    → CleanerHolds (answered_in packets to) (cut_by cuts) (cleaner_start setup works)
 
 abbrev pub CleanerHoldsRise : Type 0
 CleanerHoldsRise = HoldsRise Cleaner CleanerHolds
@@ -78,6 +79,7 @@ CleanerEventsKeep = EventsKeep Cleaner CleanerHolds cleaner_step
 -- Where an answer that came makes the reading of the segment in hand end with a segment, the segment is joined of what came.
 abbrev pub CleanerReadsWhatCame : Type 0
 CleanerReadsWhatCame =
-    (packets : List Packet) (cuts : Cuts) (e : Emptying) (ask server : ℕ) (told : Answered) (segment : Segment) → ServesSo (answered_in packets) (cut_by cuts) e
-    → AnsweredIn packets ask server told → (told_by e ask server told).next ≡ Read segment
-    → ReadsHand (answered_in packets) (cut_by cuts) (hand_of e.job) segment
+    (packets : List Packet) (to : NodeId) (cuts : Cuts) (e : Emptying) (ask server : ℕ) (told : Answered) (segment : Segment)
+    → ServesSo (answered_in packets to) (cut_by cuts) e
+    → AnsweredIn packets to ask server told → (told_by e ask server told).next ≡ Read segment
+    → ReadsHand (answered_in packets to) (cut_by cuts) (hand_of e.job) segment

@@ -17,6 +17,7 @@ use Rattle.stripe_code.specs.Reading.{ReadingState}
 use Rattle.version_model.specs.declared.work.Work.{Work}
 use Rattle.wire_msg.specs.declared.packet.Packet.{Packet}
 use Rattle.xfs_base.specs.declared.setup.Setup.{Setup}
+use Rattle.xfs_base.specs.declared.node.NodeId.{NodeId}
 use Rattle.reading_tie.specs.Arrivals.{Cuts, answered_in, cut_by, AnsweredIn, HoldsRise, EventsKeep}
 use Rattle.reading_tie.specs.Came.{Came, Striped, MapStriped, MapsStriped, AnyReadingCame, ReadsTarget}
 
@@ -51,8 +52,9 @@ ReadsPlace came striped (Some r) segment = ReadsTarget came striped r.target seg
 -- at its start a client reads nothing, and knows the groups of the setup
 abbrev pub ClientStarts : Type 0
 ClientStarts =
-    (packets : List Packet) (cuts : Cuts) (number : ℕ) (setup : Setup) (works : List Work) → MapStriped (cut_by cuts) (started setup.servers setup.groups)
-    → ClientHolds (answered_in packets) (cut_by cuts) (first_client number setup works)
+    (packets : List Packet) (to : NodeId) (cuts : Cuts) (number : ℕ) (setup : Setup) (works : List Work)
+    → MapStriped (cut_by cuts) (started setup.servers setup.groups)
+    → ClientHolds (answered_in packets to) (cut_by cuts) (first_client number setup works)
 
 abbrev pub ClientHoldsRise : Type 0
 ClientHoldsRise = HoldsRise Client ClientHolds
@@ -64,6 +66,7 @@ ClientEventsKeep = EventsKeep Client ClientHolds client_step
 -- Where an answer that came makes the reading end with a segment, the segment is joined of what came.
 abbrev pub ClientsReadWhatCame : Type 0
 ClientsReadWhatCame =
-    (packets : List Packet) (cuts : Cuts) (s : Serving) (ask server : ℕ) (told : Answered) (segment : Segment) → ServesSo (answered_in packets) (cut_by cuts) s
-    → AnsweredIn packets ask server told → (heard (reading_in s.call) s.maps.groups ask server told).next ≡ Read segment
-    → ReadsPlace (answered_in packets) (cut_by cuts) (reading_in s.call) segment
+    (packets : List Packet) (to : NodeId) (cuts : Cuts) (s : Serving) (ask server : ℕ) (told : Answered) (segment : Segment)
+    → ServesSo (answered_in packets to) (cut_by cuts) s
+    → AnsweredIn packets to ask server told → (heard (reading_in s.call) s.maps.groups ask server told).next ≡ Read segment
+    → ReadsPlace (answered_in packets to) (cut_by cuts) (reading_in s.call) segment

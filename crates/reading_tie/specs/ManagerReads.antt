@@ -13,6 +13,7 @@ use Rattle.manager_node.specs.Events.{first_manager, manager_step}
 use Rattle.version_model.specs.declared.work.Work.{Work}
 use Rattle.wire_msg.specs.declared.packet.Packet.{Packet}
 use Rattle.xfs_base.specs.declared.setup.Setup.{Setup}
+use Rattle.xfs_base.specs.declared.node.NodeId.{NodeId}
 use Rattle.reading_tie.specs.Arrivals.{Cuts, answered_in, cut_by, HoldsRise, EventsKeep}
 use Rattle.reading_tie.specs.Came.{Came, Striped, MapStriped, MapsStriped}
 use Rattle.reading_tie.specs.TakeoverReads.{TakeHolds}
@@ -45,8 +46,9 @@ ManagerHolds came striped manager = PhaseHolds came striped manager.phase
 -- at its start a manager takes nothing over, and knows the groups of the setup
 abbrev pub ManagerStarts : Type 0
 ManagerStarts =
-    (packets : List Packet) (cuts : Cuts) (number : ℕ) (setup : Setup) (works : List Work) → MapStriped (cut_by cuts) (started setup.servers setup.groups)
-    → ManagerHolds (answered_in packets) (cut_by cuts) (first_manager number setup works)
+    (packets : List Packet) (to : NodeId) (cuts : Cuts) (number : ℕ) (setup : Setup) (works : List Work)
+    → MapStriped (cut_by cuts) (started setup.servers setup.groups)
+    → ManagerHolds (answered_in packets to) (cut_by cuts) (first_manager number setup works)
 
 abbrev pub ManagerHoldsRise : Type 0
 ManagerHoldsRise = HoldsRise Manager ManagerHolds

@@ -11,6 +11,7 @@ use Rattle.takeover.specs.Sources.{sources_of, back_from}
 use Rattle.takeover.specs.TakeState.{TakeState}
 use Rattle.takeover.specs.Transition.{awaited, target_of}
 use Rattle.wire_msg.specs.declared.packet.Packet.{Packet}
+use Rattle.xfs_base.specs.declared.node.NodeId.{NodeId}
 use Rattle.reading_tie.specs.Arrivals.{Cuts, answered_in, cut_by, AnsweredIn}
 use Rattle.reading_tie.specs.Came.{Came, Striped, MapStriped, AnyReadingCame, ReadsJoined}
 
@@ -71,6 +72,7 @@ pub record TakeHolds (came : Came) (striped : Striped) (s : TakeState) : Type 0 
 -- Where an answer that came completes the segment that a takeover reads at present, the segment is joined of what came, for the source that is read.
 abbrev pub TakeoversReadWhatCame : Type 0
 TakeoversReadWhatCame =
-    (packets : List Packet) (cuts : Cuts) (s : TakeState) (p : Present) (r : ReadingState) (ask own server : ℕ) (told : Answered) (segment : Segment)
-    → TakeHolds (answered_in packets) (cut_by cuts) s → s.present ≡ Some p → p.reading ≡ Some r → AnsweredIn packets ask server told
-    → segment_of (on_answer r s.groups own server told).next ≡ Some segment → ReadsJoined (to_any (answered_in packets)) (cut_by cuts) p.source.seg segment
+    (packets : List Packet) (to : NodeId) (cuts : Cuts) (s : TakeState) (p : Present) (r : ReadingState) (ask own server : ℕ) (told : Answered)
+    (segment : Segment)
+    → TakeHolds (answered_in packets to) (cut_by cuts) s → s.present ≡ Some p → p.reading ≡ Some r → AnsweredIn packets to ask server told
+    → segment_of (on_answer r s.groups own server told).next ≡ Some segment → ReadsJoined (to_any (answered_in packets to)) (cut_by cuts) p.source.seg segment
