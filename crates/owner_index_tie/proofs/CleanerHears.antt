@@ -197,13 +197,15 @@ module _ (New : Filed → Segment → Type 0) (part : ℕ) (texts : Texts) (sinc
   no_later : (a b : ℕ) → nat_lt a b ≡ false → b ≤ a
   no_later a b is = grind (arith, nat_tests)
 
-  polled_by : (e : Emptying) (manager : ℕ) (p : Poll) → At e → PollGets part n p → Goes (polled e manager p)
+  polled_by : (e : Emptying) (manager : ℕ) (p : Poll) → At e → PollGets part n e p → Goes (polled e manager p)
   polled_by e manager p h gets =
       by_test Goes (nat_lt p.epoch (epoch_of e.promised p.slot)) (still e) (reports e manager p) (λ _. still_so e h)
-      (λ is. polled_so New part texts since answered small asked n p.slot p.epoch manager e h
-      (λ same. subst (λ k. epoch_of e.promised k ≤ p.epoch) same (no_later p.epoch (epoch_of e.promised p.slot) is)) gets)
+      (λ is. polled_so New part texts since answered small asked n p.slot p.epoch manager e h (late is) (λ same. gets same (late is same)))
+    where
+      late : nat_lt p.epoch (epoch_of e.promised p.slot) ≡ false → p.slot ≡ part → epoch_of e.promised part ≤ p.epoch
+      late is same = subst (λ k. epoch_of e.promised k ≤ p.epoch) same (no_later p.epoch (epoch_of e.promised p.slot) is)
 
-  pub poll_so : (e : Emptying) (from : NodeId) (p : Poll) → At e → PollGets part n p → Goes (on_poll e from p)
+  pub poll_so : (e : Emptying) (from : NodeId) (p : Poll) → At e → PollGets part n e p → Goes (on_poll e from p)
   unfolding on_poll
   poll_so e (node.Manager manager) p h gets = polled_by e manager p h gets
   poll_so e (node.Client k) p h gets = still_so e h

@@ -41,7 +41,7 @@ use Rattle.wire_msg.specs.declared.packet.Do.TheVariants.{Begin, Deliver, Tick}
 use Rattle.wire_msg.specs.declared.packet.Packet.{Packet}
 use Rattle.xfs_base.proofs.Booleans.{by_test}
 use Rattle.xfs_base.specs.Steps.{still, after}
-use Rattle.owner_index_tie.specs.ClientEvents.{RestingSeen, ClientAgrees, IsNews, BodyGets, EventGets, ReopensOn, WritesTexts, ClientEventGoes}
+use Rattle.owner_index_tie.specs.ClientEvents.{RestingSeen, ClientAgrees, IsNews, BodyGets, PacketGets, EventGets, ReopensOn, WritesTexts, ClientEventGoes}
 use Rattle.owner_index_tie.specs.Filing.{filing, filed_after}
 use Rattle.owner_index_tie.specs.Owners.{OpeningSeen, StageWrites, OwnerDoes}
 use Rattle.owner_index_tie.proofs.Frames as frames
@@ -206,7 +206,7 @@ module _ (part : ℕ) (texts : Texts) (n : Net) (c : ℕ) (some : 0 < c) (most :
   serves_so : (s : Serving) (d : Done) → serving.Files (IsNews part) part texts n c since some most n.filed d → Goes_to (Serves s) (serves_on d)
   serves_so s d p gets owed = (let k = p owed in record { at = k.at; says = k.says })
 
-  on_deliver_so : (capacity : ℕ) (p : Phase) (packet : Packet) → PhaseText p → BodyGets part texts n c packet.body → Goes_to p (on_deliver capacity p packet)
+  on_deliver_so : (capacity : ℕ) (p : Phase) (packet : Packet) → PhaseText p → PacketGets part texts n c p packet → Goes_to p (on_deliver capacity p packet)
   unfolding on_deliver
   on_deliver_so capacity (Down l) packet h owed = λ gets. still_so n.filed (Down l) h.0
   on_deliver_so capacity (Opening l o) packet h owed =
@@ -216,11 +216,11 @@ module _ (part : ℕ) (texts : Texts) (n : Net) (c : ℕ) (some : 0 < c) (most :
       serves_so s (after (packets.on_packet s packet).outs (runs (packets.on_packet s packet).state))
       (serving.packet_so (IsNews part) part texts n c since some most n.filed s h.0 h.1 packet (polled packet.body owed))
     where
-      polled : (b : Body) → BodyGets part texts n c b → serving.Polled part n c n.filed b
+      polled : (b : Body) → BodyGets part texts n c s.tokens b → serving.Polled part n c n.filed s b
       polled (body.Poll m) owed = owed
       polled _ owed = tt
 
-  delivers_so : (peers : Peers) (capacity : ℕ) (p : Phase) (packet : Packet) → PhaseText p → BodyGets part texts n c packet.body
+  delivers_so : (peers : Peers) (capacity : ℕ) (p : Phase) (packet : Packet) → PhaseText p → PacketGets part texts n c p packet
       → Goes_to p (delivers peers capacity p packet)
   delivers_so peers capacity p packet h owed =
       by_test (λ (w : Went_to). Goes_to p w) (is_well_formed peers packet) (on_deliver capacity p packet) (still p)
@@ -236,12 +236,12 @@ module _ (part : ℕ) (texts : Texts) (n : Net) (c : ℕ) (some : 0 < c) (most :
       serves_so s (after (packets.on_tick s).outs (runs (packets.on_tick s).state))
       (serving.time_so (IsNews part) part texts n c since some most n.filed s h.0 h.1)
 
-  happens_so : (client : Client) (what : Do) → PhaseText client.phase → EventGets part texts n c what → Goes_to client.phase (happens client what)
+  happens_so : (client : Client) (what : Do) → PhaseText client.phase → EventGets part texts n c client.phase what → Goes_to client.phase (happens client what)
   happens_so client Begin h owed = λ gets. on_begin_so client.peers.servers client.phase h.0
   happens_so client (Deliver packet) h owed = delivers_so client.peers client.cache client.phase packet h owed
   happens_so client Tick h owed = on_time_so client.cache client.phase h
 
-  takes_so : (client : Client) (what : Do) → PhaseText client.phase → EventGets part texts n c what → Goes_to client.phase (takes client what)
+  takes_so : (client : Client) (what : Do) → PhaseText client.phase → EventGets part texts n c client.phase what → Goes_to client.phase (takes client what)
   takes_so client what h owed =
       by_test (λ (w : Went_to). Goes_to client.phase w) (client_room client) (happens client what) (still client.phase) (λ _. happens_so client what h owed)
       (λ _ gets. still_so n.filed client.phase h.0)

@@ -1,5 +1,6 @@
 -- What packets that are not of the log or the maps, and time, make of a client that serves: it files nothing.
-use Rattle.std.proofs.Common.{◌≡◌, ◌<◌, ◌≤◌, ℕ, List, [], ◌∷◌, ◌++◌, Option, Some, None, nat_lt, ◌&&◌, not}
+use Rattle.std.proofs.Common.{◌≡◌, ◌<◌, ◌≤◌, ℕ, true, List, [], ◌∷◌, ◌++◌, Option, Some, None, nat_lt, nat_le, ◌&&◌, not, subst, arith}
+use Rattle.std.proofs.lemmas.Bool.Decides.{nat_tests}
 use Rattle.std.specs.List.{flat_map}
 use Rattle.client_log.specs.declared.input.In.TheVariants as log_in
 use Rattle.client_node.specs.declared.serving.Serving.{Serving}
@@ -23,6 +24,7 @@ use Rattle.stripe_code.specs.Reading.{ReadingState}
 use Rattle.token_client.specs.declared.input.In.TheVariants as input
 use Rattle.token_client.specs.declared.output.Out as outputs
 use Rattle.token_client.specs.declared.output.Out.TheVariants as output
+use Rattle.token_client.specs.State.{epoch_of}
 use Rattle.token_client.specs.Transition as client
 use Rattle.wire_msg.specs.declared.deltas.DeltaAck.{DeltaAck}
 use Rattle.wire_msg.specs.declared.deltas.Poll.{Poll}
@@ -45,6 +47,10 @@ use Rattle.owner_index_tie.proofs.Standing.{acked, renewed, pushes_all_plain, en
 -- from the horizon of an epoch on the log is linked
 abbrev pub LinkedFrom : Net → ℕ → Filed → ℕ → Type 0
 LinkedFrom n l f epoch = 0 < of_log (n.horizon epoch) l → Linked f l (of_log (n.horizon epoch) l) (f.head l)
+
+-- from the horizon of an epoch on that is polled, and that is none before the one that the tokens are of
+abbrev pub PollLinked : ℕ → Net → ℕ → Filed → Serving → Poll → Type 0
+PollLinked part n l f s p = p.slot ≡ part → epoch_of s.tokens.epochs part ≤ p.epoch → LinkedFrom n l f p.epoch
 
 module _ (part : ℕ) (n : Net) (l since : ℕ) (some : 0 < l) (most : l ≤ 9) (f : Filed) where
   abbrev At : Serving → Type 0
@@ -162,13 +168,20 @@ module _ (part : ℕ) (n : Net) (l since : ℕ) (some : 0 < l) (most : l ≤ 9) 
       )
       (tokens.follows_so part n l since some most f p.state p.outs h)
 
-  polled_so : (s : Serving) (manager : ℕ) (p : Poll) → At s → (p.slot ≡ part → LinkedFrom n l f p.epoch) → Goes (polled s manager p)
+  not_past : (s : Serving) (p : Poll) → may_report s p ≡ true → p.slot ≡ part → epoch_of s.tokens.epochs part ≤ p.epoch
+  not_past s p is same = subst (λ k. epoch_of s.tokens.epochs k ≤ p.epoch) same (no_later p.slot (epoch_of s.tokens.epochs p.slot) p.epoch is)
+    where
+      no_later : (slot a b : ℕ) → nat_lt slot 8 && nat_le a b ≡ true → a ≤ b
+      no_later slot a b is = grind (arith, nat_tests)
+
+  polled_so : (s : Serving) (manager : ℕ) (p : Poll) → At s → PollLinked part n l f s p → Goes (polled s manager p)
   unfolding polled
   polled_so s manager p h linked =
       by_test (λ (d : Done). Goes d) (may_report s p) (reports p.slot p.epoch (promises s p.slot p.epoch manager)) (still s)
-      (λ t. reports_so p.slot p.epoch (promises s p.slot p.epoch manager) (promises_so s p.slot p.epoch manager h) linked) (λ t. still_so s h)
+      (λ t. reports_so p.slot p.epoch (promises s p.slot p.epoch manager) (promises_so s p.slot p.epoch manager h) (λ same. linked same (not_past s p t same)))
+      (λ t. still_so s h)
 
-  pub on_poll_so : (s : Serving) (from : NodeId) (p : Poll) → At s → (p.slot ≡ part → LinkedFrom n l f p.epoch) → Goes (on_poll s from p)
+  pub on_poll_so : (s : Serving) (from : NodeId) (p : Poll) → At s → PollLinked part n l f s p → Goes (on_poll s from p)
   on_poll_so s (node.Manager manager) p h linked = polled_so s manager p h linked
   on_poll_so s (node.Client k) p h linked = still_so s h
   on_poll_so s (node.Server k) p h linked = still_so s h

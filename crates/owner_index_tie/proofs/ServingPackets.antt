@@ -103,9 +103,9 @@ all_hear_log s (news ∷ slots) = all_hear_log (hears s news).state slots ∙ he
 -- ---- packets
 
 -- a poll that comes is owed a linked log
-abbrev pub Polled : ℕ → Net → ℕ → Filed → Body → Type 0
-Polled part n l f (body.Poll m) = m.slot ≡ part → hearing.LinkedFrom n l f m.epoch
-Polled part n l f _ = Unit {0}
+abbrev pub Polled : ℕ → Net → ℕ → Filed → Serving → Body → Type 0
+Polled part n l f s (body.Poll m) = hearing.PollLinked part n l f s m
+Polled part n l f s _ = Unit {0}
 
 module _ (New : Filed → Segment → Type 0) (part : ℕ) (texts : Texts) (n : Net) (l since : ℕ) (some : 0 < l) (most : l ≤ 9) where
   abbrev At : Filed → Serving → Type 0
@@ -143,7 +143,7 @@ module _ (New : Filed → Segment → Type 0) (part : ℕ) (texts : Texts) (n : 
     unfolding on_welcome
     welcome_files m = by_test (Files f) (m.inc == s.lasting.inc) (on_news s m.news) (still s) (λ _. news_files m.news) (λ _. still_files)
 
-    body_files : (from : NodeId) (b : Body) → Polled part n l f b → Files f (on_body s from b)
+    body_files : (from : NodeId) (b : Body) → Polled part n l f s b → Files f (on_body s from b)
     body_files from (body.Grant m) owed = quiet f (on_body s from (body.Grant m)) (hearing.on_grant_so part n l since some most f s m h)
     body_files from (body.Supply m) owed = quiet f (on_body s from (body.Supply m)) (hearing.on_supply_so part n l since some most f s m h)
     body_files from (body.Forward m) owed = quiet f (on_body s from (body.Forward m)) (hearing.on_forward_so part n l since some most f s m h)
@@ -160,7 +160,7 @@ module _ (New : Filed → Segment → Type 0) (part : ℕ) (texts : Texts) (n : 
     body_files from (body.Welcome m) owed = welcome_files m
     body_files from _ owed = still_files
 
-    packet_files : (p : Packet) → Polled part n l f p.body → Files f (on_packet s p)
+    packet_files : (p : Packet) → Polled part n l f s p.body → Files f (on_packet s p)
     unfolding on_packet
     packet_files p owed =
         by_test (Files f) (names_known s.maps p.body) (on_body s p.from p.body) (asks_for_maps s) (λ _. body_files p.from p.body owed)
@@ -171,7 +171,7 @@ module _ (New : Filed → Segment → Type 0) (part : ℕ) (texts : Texts) (n : 
     runs_files d p = frames.goes_on New part texts n l since At f d (runs d.state) p
         (λ k. quiet (filed_after texts l f d.outs) (runs d.state) (calls.runs_so part n l since some most (filed_after texts l f d.outs) d.state k))
 
-    pub packet_so : (p : Packet) → Polled part n l f p.body → Files f (after (on_packet s p).outs (runs (on_packet s p).state))
+    pub packet_so : (p : Packet) → Polled part n l f s p.body → Files f (after (on_packet s p).outs (runs (on_packet s p).state))
     packet_so p owed = runs_files (on_packet s p) (packet_files p owed)
 
     pub time_so : Files f (after (on_tick s).outs (runs (on_tick s).state))

@@ -111,9 +111,10 @@ module _ (part : ℕ) (n : Net) where
   EffectOwed (Lose seg) = Unit {0}
   EffectOwed (Does act) = Unit {0}
 
-  -- from the horizon of an epoch on that is polled the log is linked
-  abbrev pub PollGets : Poll → Type 0
-  PollGets m = m.slot ≡ part → 0 < of_log (n.horizon m.epoch) 9 → Linked n.filed 9 (of_log (n.horizon m.epoch) 9) (n.filed.head 9)
+  -- from the horizon of an epoch on that is polled, and that is none before the promised one, the log is linked
+  abbrev pub PollGets : Emptying → Poll → Type 0
+  PollGets e m = m.slot ≡ part → epoch_of e.promised part ≤ m.epoch → 0 < of_log (n.horizon m.epoch) 9
+      → Linked n.filed 9 (of_log (n.horizon m.epoch) 9) (n.filed.head 9)
 
   -- a Dead that is awaited was told of the segment in hand, in answer to this job
   pub record DeadGiven (m : Dead) : Type 0 where
@@ -131,7 +132,7 @@ module _ (part : ℕ) (n : Net) where
   ReadGets e (Some server) ask told = (s : Segment) → (told_by e ask server told).next ≡ next.Read s → ReadFor n.filed (Some s) n.job.phase
 
   abbrev pub BodyGets : Emptying → NodeId → Body → Type 0
-  BodyGets e from (body.Poll m) = PollGets m
+  BodyGets e from (body.Poll m) = PollGets e m
   BodyGets e from (body.Dead m) = DeadGets e m
   BodyGets e from (body.Fragment m) = ReadGets e (server_in from) m.ask (Held m.fragment)
   BodyGets e from (body.Missing m) = ReadGets e (server_in from) m.ask (Lacks m.generation)

@@ -1,5 +1,5 @@
 -- How a client is seen in the small world of one slot's index, what the world owes each event of it, and what the event is there.
-use Rattle.std.specs.Prelude.{◌≡◌, ℕ, ◌<◌, List}
+use Rattle.std.specs.Prelude.{◌≡◌, ℕ, ◌<◌, ◌≤◌, List}
 use Rattle.std.specs.List.{All}
 use Rattle.client_node.specs.Phases.{Went_to, takes}
 use Rattle.client_node.specs.Starting.{first_client}
@@ -13,12 +13,14 @@ use Rattle.index_tie.specs.Takeovers.{of_log, Linked}
 use Rattle.node_index_tie.specs.Pages.{FlightIsText}
 use Rattle.node_index_tie.specs.Sight.{Texts, held_in, AreTexts}
 use Rattle.segment_format.specs.declared.segment.Segment.{Segment}
+use Rattle.token_client.specs.State.{TokensState, epoch_of}
 use Rattle.version_model.specs.declared.work.Work.{Work}
 use Rattle.wire_msg.specs.declared.body.Body.{Body}
 use Rattle.wire_msg.specs.declared.body.Body.TheVariants as body
 use Rattle.wire_msg.specs.declared.deltas.Poll.{Poll}
 use Rattle.wire_msg.specs.declared.packet.Do.{Do}
 use Rattle.wire_msg.specs.declared.packet.Do.TheVariants.{Begin, Deliver, Tick}
+use Rattle.wire_msg.specs.declared.packet.Packet.{Packet}
 use Rattle.xfs_base.specs.Blocks.{slot_of}
 use Rattle.xfs_base.specs.declared.block.BlockId.{BlockId}
 use Rattle.xfs_base.specs.declared.setup.Setup.{Setup}
@@ -46,18 +48,24 @@ abbrev pub IsNews : ℕ → Filed → Segment → Type 0
 IsNews part f s = (b : BlockId) → slot_of b.ino.0 ≡ part → IsNewer b f s
 
 module _ (part : ℕ) (texts : Texts) (n : Net) (c : ℕ) where
-  -- from the horizon of an epoch on that is polled the log is linked
-  abbrev pub PollGets : Poll → Type 0
-  PollGets m = m.slot ≡ part → 0 < of_log (n.horizon m.epoch) c → Linked n.filed c (of_log (n.horizon m.epoch) c) (n.filed.head c)
+  -- from the horizon of an epoch on that is polled, and that is none before the one that the tokens are of, the log is linked
+  abbrev pub PollGets : TokensState → Poll → Type 0
+  PollGets s m = m.slot ≡ part → epoch_of s.epochs part ≤ m.epoch → 0 < of_log (n.horizon m.epoch) c
+      → Linked n.filed c (of_log (n.horizon m.epoch) c) (n.filed.head c)
 
-  abbrev pub BodyGets : Body → Type 0
-  BodyGets (body.Poll m) = PollGets m
-  BodyGets _ = Unit {0}
+  abbrev pub BodyGets : TokensState → Body → Type 0
+  BodyGets s (body.Poll m) = PollGets s m
+  BodyGets s _ = Unit {0}
 
-  abbrev pub EventGets : Do → Type 0
-  EventGets (Deliver packet) = BodyGets packet.body
-  EventGets Begin = Unit {0}
-  EventGets Tick = Unit {0}
+  abbrev pub PacketGets : Phase → Packet → Type 0
+  PacketGets (Serves s) packet = BodyGets s.tokens packet.body
+  PacketGets (Opening l o) packet = Unit {0}
+  PacketGets (Down l) packet = Unit {0}
+
+  abbrev pub EventGets : Phase → Do → Type 0
+  EventGets p (Deliver packet) = PacketGets p packet
+  EventGets p Begin = Unit {0}
+  EventGets p Tick = Unit {0}
 
   -- where an opening ends in this event: what it read back is what was filed and adopted
   abbrev pub ReopensOn : Phase → Phase → Type 0
@@ -75,7 +83,7 @@ module _ (part : ℕ) (texts : Texts) (n : Net) (c : ℕ) where
   pub record ClientOwed (p : Phase) (what : Do) (w : Went_to) : Type 0 where
     pub files : FilesOwed (IsNews part) texts c n.filed w.outs
     pub reopens : ReopensOn p w.state
-    pub gets : EventGets what
+    pub gets : EventGets p what
     pub writes : WritesTexts w.state
 
 -- ---- what an event is
