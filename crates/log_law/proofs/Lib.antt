@@ -29,6 +29,7 @@ mod Adopting
 mod Ends
 mod Places
 mod Held
+mod Written
 mod Landing
 mod Tails
 mod Restarted

@@ -9,3 +9,4 @@ pub mod Openings
 pub mod Below
 pub mod Runs
 pub mod Held
+pub mod Written

@@ -12,6 +12,7 @@ ghost use Rattle.log_law.specs.Places.{APlaceNamesOneContent};
 ghost use Rattle.log_law.specs.Runs.{SomeRestarts};
 ghost use Rattle.log_law.specs.Tails.{ARestartFilesTheTail, ATailIsFiledOrNever};
 ghost use Rattle.log_law.specs.Below.{Below};
+ghost use Rattle.log_law.specs.Written.{WhatFlewIsWritten, WhatFliesIsNext};
 
 use client_log::laws::{end_rises_by_one, flight_is_next, settles_what_is_due};
 use log_protocol::{
@@ -73,6 +74,15 @@ pub fn a_place_names_one_content()
 pub fn what_is_held_flew()
     ensures held { WhatIsHeldFlew }
     ensures own { WhatFlewIsOfTheLog }
+{
+    below();
+}
+
+/// What its owner writes of a log: at each moment of every run each segment that was in flight is of the log, of a boot and a number from 1 on, and has a text;
+/// and what an owner that serves has in flight has the number after the end of its log, and names that end as the one before it.
+pub fn what_flew_is_written()
+    ensures written { WhatFlewIsWritten }
+    ensures next { WhatFliesIsNext }
 {
     below();
 }

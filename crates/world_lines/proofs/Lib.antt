@@ -1,0 +1,4 @@
+mod Rows
+mod Lines
+mod Turns
+mod Flights

@@ -1,0 +1,9 @@
+use Rattle.world_lines.proofs.Flights as flights
+use Rattle.world_lines.proofs.what_flies_is_its_text.Goals as goal
+
+pub returns : goal.returns
+returns c = record {
+  client = flights.clients_write_texts c.what_is_held_flew.ensures;
+  cleaner = flights.cleaner_writes_texts c.what_is_held_flew.ensures;
+  manager = flights.managers_write_texts c.what_is_held_flew.ensures;
+}

@@ -1,0 +1,60 @@
+//! What the logs of clients and of the cleaner filed is one line a log, and what their owners write and tell of it is so: what the small world of one slot's
+//! index is owed of logs by themselves. It has no code: each function below calls the laws that it stands on, and its contract is a law.
+//! `specs/Lines.antt` says what a line is, `specs/Turns.antt` what an event makes of it.
+#![tactic(auto)]
+
+ghost use Rattle.world_lines.specs.Flights.{CleanerWritesTexts, ClientsWriteTexts, ManagersWriteTexts};
+ghost use Rattle.world_lines.specs.Lines.{LinesAreFiled, LinesAreTexts, LinesGive};
+ghost use Rattle.world_lines.specs.Turns.{CleanersFilesAreOwed, ClientsFilesAreOwed, LinesBegin, LinesGoOn, LinesStay};
+
+use log_law::{
+    ends_are_last, logs_stay_in_line, logs_stay_whole, one_name_one_text, what_flew_is_written,
+    what_is_held_flew,
+};
+
+/// Lines are filed as the index wants it, and give what it is owed of logs.
+///
+/// - `filed`: where each log that somebody has is sure, and has its line in what is filed, each segment bears its log and its number, some boot wrote it, and it
+///   says of blocks versions from 1 on.
+/// - `texts`: each is the text of its name.
+/// - `give`: what they say of blocks fits its types; from the least horizon on a log is linked; and each filed name is that of the segment of its number.
+pub fn lines_are_filed()
+    ensures filed { LinesAreFiled }
+    ensures texts { LinesAreTexts }
+    ensures give { LinesGive }
+{
+    what_flew_is_written();
+    logs_stay_in_line();
+}
+
+/// Lines only go on by what their owners act to be filed.
+///
+/// - `begin`: at the start nothing is filed.
+/// - `stay`: in an event in which nothing more is filed of a log, its line stays.
+/// - `go_on`: in an event of its owner the line goes on by the segments that it acts to be filed, each the text of its name.
+pub fn lines_go_on()
+    ensures begin { LinesBegin }
+    ensures stay { LinesStay }
+    ensures go_on { LinesGoOn }
+{
+    logs_stay_whole();
+    ends_are_last();
+}
+
+/// What an owner acts to be filed is owed: it is the text of its name, the next segment of its log, fits its types, and its number isn't the last.
+pub fn what_is_filed_is_owed()
+    ensures client { ClientsFilesAreOwed }
+    ensures cleaner { CleanersFilesAreOwed }
+{
+    what_flew_is_written();
+    logs_stay_whole();
+}
+
+/// What clients, the cleaner and managers have in flight is the text of its name.
+pub fn what_flies_is_its_text()
+    ensures client { ClientsWriteTexts }
+    ensures cleaner { CleanerWritesTexts }
+    ensures manager { ManagersWriteTexts }
+{
+    what_is_held_flew();
+}
