@@ -80,7 +80,7 @@ module _ (g : Setting) (is : g.log ≡ cleaner_log) (w : Scene) where
     only : OnlyOrdered g (its_asker w) w.net next.net x.outs
 
   at_once : (p : Phase) (outs : List Effect) → CleanerAgrees g w p → AllDone g w outs → Goes (record { state = p; outs = outs })
-  at_once p outs sees does = record { next = w; grown = still_grows g w; agrees = sees; does = does; flies = inr refl; only = λ name is. inl is }
+  at_once p outs sees does = record { next = w; grown = still_grows g w; agrees = sees; does = does; flies = inr (refl, refl); only = λ name is. inl is }
 
   stays : (p : Phase) → CleanerAgrees g w p → Goes (still p)
   stays p sees = at_once p [] sees tt
@@ -157,7 +157,7 @@ module _ (g : Setting) (is : g.log ≡ cleaner_log) (w : Scene) where
     agrees = fallen_agrees w (record l { items = answered l.items }) lasts;
     does = all_append (CleanerDoes g (fallen w)) (answers_unanswered l.items.unanswered answer.Cut) _ (answers_do (fallen w) l.items.unanswered answer.Cut)
         (tt, tt);
-    flies = inr (fall_of w.net).flown;
+    flies = inr ((fall_of w.net).flown, (fall_of w.net).filed);
     only = λ name is. inl (subst (In name) (fall_of w.net).dropped is);
   }
 
@@ -212,7 +212,7 @@ module _ (g : Setting) (is : g.log ≡ cleaner_log) (w : Scene) where
           },
           tt,
         );
-        flies = inr refl;
+        flies = inr (refl, refl);
         only = λ name is. inl is;
       }
 
@@ -226,7 +226,7 @@ module _ (g : Setting) (is : g.log ≡ cleaner_log) (w : Scene) where
       in_boot still_up = inl (same_boot w.net t.next.net up still_up (t.lasts.inc ∙ sym lasts.inc))
 
       by_progress : (p : Progress) → ProgressSeen g its_number t.next x.questions.last p → ProgressAsks p x.questions.last
-          → (IsLost g its_number p → t.next.net.flown ≡ w.net.flown)
+          → (IsLost g its_number p → (t.next.net.flown ≡ w.net.flown) × (t.next.net.filed ≡ w.net.filed))
           → Goes (after x.effects (after_opening (record l { questions = x.questions }) p))
       by_progress (progress.Opening o) shows asks lost = record {
         next = t.next;
@@ -252,7 +252,7 @@ module _ (g : Setting) (is : g.log ≡ cleaner_log) (w : Scene) where
         agrees = fallen_agrees t.next (record l { questions = x.questions; items = answered l.items }) t.lasts;
         does = all_append (CleanerDoes g (fallen t.next)) x.effects (answers_unanswered l.items.unanswered (answer.Lost seg))
             (all_more g t.next (fallen t.next) (fallen_grows t.next) x.effects t.does) (answers_do (fallen t.next) l.items.unanswered (answer.Lost seg));
-        flies = inr ((fall_of t.next.net).flown ∙ lost tt);
+        flies = inr ((fall_of t.next.net).flown ∙ (lost tt).0, (fall_of t.next.net).filed ∙ (lost tt).1);
         only = λ name is. inl (subst (In name) ((fall_of t.next.net).dropped ∙ t.kept) is);
       }
 

@@ -154,8 +154,8 @@ module _ (g : Setting) where
     pub lasts : Lasts g its_number next its_number life x.questions.last
     pub shows : ProgressSeen g its_number next x.questions.last x.progress
     pub does : AllDone g next x.effects
-    -- where a segment is lost, nothing began to fly
-    pub lost : IsLost g its_number x.progress → next.net.flown ≡ w.net.flown
+    -- where a segment is lost, nothing began to fly, and nothing was filed
+    pub lost : IsLost g its_number x.progress → (next.net.flown ≡ w.net.flown) × (next.net.filed ≡ w.net.filed)
     pub kept : next.net.dropped ≡ w.net.dropped
 
   taken_over : (w : Scene) (life : ℕ) (its : Owner) (x : Went) → Behaves its x → WentTo g its_number w its_number life x → WentOn w life x

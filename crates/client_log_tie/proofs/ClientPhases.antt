@@ -80,7 +80,7 @@ module _ (g : Setting) (c : ℕ) (is : g.log ≡ record { 0 = c }) (small : is_l
 
   plain_so : (p : Phase) (outs : List Effect) → ClientAgrees g c w p → PhaseWritten p → frames.Plain g c outs → ClientDid g c w p outs
   plain_so p outs sees written plain =
-      record { next = w; grown = frames.grown_still g w; agrees = sees; written = written; does = plain w; flies = inr refl }
+      record { next = w; grown = frames.grown_still g w; agrees = sees; written = written; does = plain w; flies = inr (refl, refl) }
 
   still_so : (p : Phase) → ClientAgrees g c w p → PhaseWritten p → Goes (still p)
   still_so p sees written = plain_so p [] sees written (tokens.plain_nothing g c)
@@ -147,7 +147,7 @@ module _ (g : Setting) (c : ℕ) (is : g.log ≡ record { 0 = c }) (small : is_l
     agrees = fallen_agrees w l lasts;
     written = tt;
     does = plain (fallen w);
-    flies = inr (fall_of w.net).flown;
+    flies = inr ((fall_of w.net).flown, (fall_of w.net).filed);
   }
 
   crash_said : (l : Lasting) (number : ℕ) → frames.Plain g c (crashed l number).outs
@@ -211,7 +211,7 @@ module _ (g : Setting) (c : ℕ) (is : g.log ≡ record { 0 = c }) (small : is_l
               reached = tt;
             })
             (All-nil (ClientDoes g c v));
-        flies = inr refl;
+        flies = inr (refl, refl);
       }
 
   down_begins_so : (servers number : ℕ) (l : Lasting) (wanted : Option Work) → ClientAgrees g c w (Down l) → has_room l.inc ≡ true
@@ -245,7 +245,7 @@ module _ (g : Setting) (c : ℕ) (is : g.log ≡ record { 0 = c }) (small : is_l
         in_boot : is_down t.next.net.owner ≡ false → FliesInBoot w.net t.next.net
         in_boot still_up = inl (same_boot w.net t.next.net up still_up (t.lasts.inc ∙ sym lasts.inc))
 
-        by_progress : (p : Progress) → ProgressSeen g c t.next x.questions.last p → (IsLost g c p → t.next.net.flown ≡ w.net.flown)
+        by_progress : (p : Progress) → ProgressSeen g c t.next x.questions.last p → (IsLost g c p → (t.next.net.flown ≡ w.net.flown) × (t.next.net.filed ≡ w.net.filed))
             → ProgressAsks p x.questions.last
             → Goes (after x.effects (after_opening (record l { questions = x.questions }) capacity p))
         by_progress (progress.Opening o) shows lost asks = record {
@@ -272,7 +272,7 @@ module _ (g : Setting) (c : ℕ) (is : g.log ≡ record { 0 = c }) (small : is_l
           does = All-append (ClientDoes g c (fallen t.next)) x.effects (answers_unanswered l.items.unanswered (answer.Lost seg))
               (frames.all_more g c t.next (fallen t.next) (fallen_grown t.next) x.effects t.does)
               (tokens.plain_answers g c l.items.unanswered (answer.Lost seg) (fallen t.next));
-          flies = inr ((fall_of t.next.net).flown ∙ lost tt);
+          flies = inr ((fall_of t.next.net).flown ∙ (lost tt).0, (fall_of t.next.net).filed ∙ (lost tt).1);
         }
 
   its_log : is_log g.log.0 ≡ true

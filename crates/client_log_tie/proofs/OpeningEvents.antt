@@ -145,7 +145,7 @@ module _ (g : Setting) (c : ℕ) (small : is_log g.log.0 ≡ true) (w : Scene) (
   -- nothing changes
   stays_so : (o : Opening) → SeesStage g c w o.known q.last o.stage → StageWritten o.stage → Goes (drops o q)
   stays_so o sees written =
-      record { next = w; grown = frames.grown_still g w; lasts = lasts; shows = (sees, written); does = All-nil (ClientDoes g c w); lost = λ l. refl }
+      record { next = w; grown = frames.grown_still g w; lasts = lasts; shows = (sees, written); does = All-nil (ClientDoes g c w); lost = λ l. (refl, refl) }
 
   -- ---- the scan
 
@@ -431,7 +431,7 @@ module _ (g : Setting) (c : ℕ) (small : is_log g.log.0 ≡ true) (w : Scene) (
         does = All-cons (ClientDoes g c v) (hello o.known.owner.inc (next_ask q)) []
             (record { own = λ e. subst (AskedBy g (asker c v) v.net o.known.owner.inc) (sym (put_here w.asked (next_ask q) OfMaps)) tt; reached = tt })
             (All-nil (ClientDoes g c v));
-        lost = λ l. refl;
+        lost = λ l. (refl, refl);
       }
     where
       by_stage : (at : Stage) → SeesStage g c w o.known q.last at

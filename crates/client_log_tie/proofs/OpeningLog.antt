@@ -64,8 +64,8 @@ module _ (g : Setting) (c : ℕ) where
     pub lasts : Lasts g c next its life x.questions.last
     pub shows : ProgressSeen next x.questions.last x.progress
     pub does : All (ClientDoes g c next) x.effects
-    -- where a segment is lost, nothing began to fly
-    pub lost : IsLost x.progress → next.net.flown ≡ w.net.flown
+    -- where a segment is lost, nothing began to fly, and nothing was filed
+    pub lost : IsLost x.progress → (next.net.flown ≡ w.net.flown) × (next.net.filed ≡ w.net.filed)
 
   -- ---- the log of an opening took an input
 

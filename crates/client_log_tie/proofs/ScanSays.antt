@@ -125,7 +125,7 @@ module _ (g : Setting) (c : ℕ) where
         tt,
       );
       does = All-nil (ClientDoes g c (on (scan.goes o st []) w.asked));
-      lost = λ l. refl;
+      lost = λ l. (refl, refl);
     }
 
     -- ---- servers are fenced or asked
@@ -233,7 +233,7 @@ module _ (g : Setting) (c : ℕ) where
           does = All-append (ClientDoes g c v) r.outs []
               (rest_seen v o.ask o.low s.asked q outs rest (λ p among. in_before (scan_packets w.net.inc outs) w.net.sent p among))
               (All-nil (ClientDoes g c v));
-          lost = λ l. refl;
+          lost = λ l. (refl, refl);
         })
 
     -- ---- the registry is asked
@@ -273,7 +273,7 @@ module _ (g : Setting) (c : ℕ) where
                 reached = tt;
               })
               (All-nil (ClientDoes g c v));
-          lost = λ l. refl;
+          lost = λ l. (refl, refl);
         }
 
     pub hello_goes : (o : Opening) (st : Stage) → k.maps.groups ≡ o.groups → 0 < o.ask → ((o.ask == s.asked.own) ≡ true → w.asked s.asked.ask ≡ OfOpening o.ask)
@@ -309,7 +309,7 @@ module _ (g : Setting) (c : ℕ) where
           lasts = record { number = h.lasts.number; inc = h.lasts.inc; fresh = h.lasts.fresh };
           shows = tt;
           does = All-cons (ClientDoes g c (on d w.asked)) _ [] tt (All-nil (ClientDoes g c (on d w.asked)));
-          lost = λ l. refl;
+          lost = λ l. (refl, refl);
         }
 
     module _ (o : Opening) (segments : List Segment) (end : End) (prior : Prior) where
@@ -387,7 +387,7 @@ module _ (g : Setting) (c : ℕ) where
           tt,
         );
         does = All-nil (ClientDoes g c (on d w.asked));
-        lost = λ l. refl;
+        lost = λ l. (refl, refl);
       }
 
       pub chain_goes : k.maps.groups ≡ o.groups → AsksServers w.asked s.asked o.ask → s.asked.own ≤ o.ask → 0 < o.ask → Takes d

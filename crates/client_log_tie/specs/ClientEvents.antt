@@ -105,9 +105,9 @@ pub record Grown (g : Setting) (w v : Scene) : Type 0 where
   pub dropped : v.net.dropped ≡ w.net.dropped
   pub asked : (k : ℕ) → (w.asked k ≡ Unasked → ⊥) → v.asked k ≡ w.asked k
 
--- The owner doesn't fall on the way, or nothing begins to fly.
+-- The owner doesn't fall on the way, or nothing begins to fly and nothing is filed.
 abbrev pub FliesInBoot : Net → Net → Type 0
-FliesInBoot n o = (boot_of o ≡ boot_of n) ⊎ (o.flown ≡ n.flown)
+FliesInBoot n o = (boot_of o ≡ boot_of n) ⊎ ((o.flown ≡ n.flown) × (o.filed ≡ n.filed))
 
 -- It runs on to one in which the client is seen as it is then, all that it sends was sent, and all that it tells to be filed is filed; it stores to its own log
 -- alone.

@@ -54,8 +54,8 @@ writes_next k s i ran = record { rises = by rises; next = flies (log.transition 
     flies (Some f) line = line.seq
 
 -- from the first moment to a later one
-record Since (n o : Net) : Type 0 where
-  boots : boot_of n ≤ boot_of o
+pub record Since (n o : Net) : Type 0 where
+  pub boots : boot_of n ≤ boot_of o
   flown : boot_of o ≡ boot_of n → (s : Segment) → In s o.flown → In s n.flown ⊎ (s.name.seq ≤ next_number o.owner)
 
 -- one more event, in the same boot
@@ -185,7 +185,7 @@ module _ (k : Below) (g : Setting) (m : Net) (h : View (doubtful g) m) where
   happens_since n o since (Welcomes inc ask news map hello low whole) = goes_on n m o (aside o refl refl refl) since
   happens_since n o since (Drops lists meta listed within below) = goes_on n m o (aside o refl refl refl) since
 
-run_since : (k : Below) (g : Setting) (n o : Net) → Moment g n → Runs g n o → Since n o
+pub run_since : (k : Below) (g : Setting) (n o : Net) → Moment g n → Runs g n o → Since n o
 run_since k g n o at Begun = record { boots = omega arith; flown = λ same s among. inl among }
 run_since k g n o at (On {m = m} run happens) =
     happens_since k g m (seen k g m (record { map = at.map; whole = at.whole; run = then_on at.run run })) n o (run_since k g n m at run) happens

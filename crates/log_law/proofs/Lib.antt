@@ -40,3 +40,4 @@ mod Adopted
 mod ScanEnds
 mod GoingOn
 mod Flying
+mod Unfiled

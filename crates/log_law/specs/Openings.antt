@@ -1,5 +1,5 @@
 -- Openings that go on: behind the end that one tells a log can be started, as long as the number of all that was in flight has one after it.
-use Rattle.std.specs.Prelude.{◌≡◌, ◌+◌, ◌<◌, ◌≤◌, ◌⊎◌, ◌^◌, ℕ, suc, true, IfSome, if◌then◌else◌}
+use Rattle.std.specs.Prelude.{◌≡◌, ◌+◌, ◌<◌, ◌≤◌, ◌⊎◌, ◌^◌, ℕ, suc, true, false, IfSome, if◌then◌else◌}
 use Rattle.xfs_base.specs.declared.segment.End.{End}
 use Rattle.segment_format.specs.declared.segment.Segment.{Segment}
 use Rattle.segment_format.specs.Ranges.{FitsPass}
@@ -13,7 +13,7 @@ use Rattle.log_law.specs.Net.{Net, Owner, chain_in}
 use Rattle.log_law.specs.Net.Owner.{Down, Opening, Writing, Serving}
 use Rattle.log_law.specs.Events.{CameToScan, Runs}
 use Rattle.log_law.specs.Laws.{Moment}
-use Rattle.log_law.specs.Restarts.{is_down}
+use Rattle.log_law.specs.Restarts.{is_down, is_serving}
 
 -- ---- the end of an opening
 
@@ -53,3 +53,9 @@ abbrev pub FliesNext : Type 0
 FliesNext =
     (g : Setting) (n o : Net) → Moment g n → Runs g n o → boot_of o ≡ boot_of n → (s : Segment) → In s o.flown
     → In s n.flown ⊎ (s.name.seq ≤ next_number o.owner)
+
+-- ---- what is filed
+
+-- While a log is opened nothing is filed: along a run in one boot, up to a moment at which the owner doesn't serve.
+abbrev pub NothingFiledOpening : Type 0
+NothingFiledOpening = (g : Setting) (n o : Net) → Moment g n → Runs g n o → boot_of o ≡ boot_of n → is_serving o.owner ≡ false → o.filed ≡ n.filed

@@ -7,7 +7,7 @@
 ghost use Rattle.log_law.specs.Ends.{EndsAreLast, FilesItsFlight};
 ghost use Rattle.log_law.specs.Held.{WhatFlewIsOfTheLog, WhatIsHeldFlew};
 ghost use Rattle.log_law.specs.Laws.{AReopeningAdopts, LogsStayInLine, LogsStayWhole, OneNameOneText, SomeSegmentFiled, TheFeedIsWhole};
-ghost use Rattle.log_law.specs.Openings.{FliesNext, OpeningsGoOn};
+ghost use Rattle.log_law.specs.Openings.{FliesNext, NothingFiledOpening, OpeningsGoOn};
 ghost use Rattle.log_law.specs.Places.{APlaceNamesOneContent};
 ghost use Rattle.log_law.specs.Runs.{SomeRestarts};
 ghost use Rattle.log_law.specs.Tails.{ARestartFilesTheTail, ATailIsFiledOrNever};
@@ -133,10 +133,12 @@ pub fn the_feed_is_whole()
 }
 
 /// Openings go on: where the number of all that was in flight has one after it, a log can be started behind the end that an opening tells, whatever comes next;
-/// and unless the owner falls, what begins to fly has no number beyond the one after the end of its log.
+/// unless the owner falls, what begins to fly has no number beyond the one after the end of its log; and nothing is filed up to a moment at which it doesn't
+/// serve.
 pub fn openings_go_on()
     ensures on { OpeningsGoOn }
     ensures flies { FliesNext }
+    ensures unfiled { NothingFiledOpening }
 {
     below();
 }
