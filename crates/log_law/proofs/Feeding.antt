@@ -84,7 +84,7 @@ module _ (k : Below) (g : Setting) (none : g.doubts ≡ false) (n : Net) (h : Vi
   pub before : WritingShown g h.w h.book chain s × Behind g h.w h.book s
   before = subst (OwnerShown g h.w h.book h.hellos) is h.owner
 
-  after : ServesShown g u v.book d.state × Behind g u v.book d.state
+  pub after : ServesShown g u v.book d.state × Behind g u v.book d.state
   after = subst (OwnerShown g u v.book v.hellos) serves v.owner
 
   clean : u.clean ≡ 1

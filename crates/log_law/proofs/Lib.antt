@@ -30,6 +30,7 @@ mod Ends
 mod Places
 mod Held
 mod Written
+mod ReadingDown
 mod Landing
 mod Tails
 mod Restarted

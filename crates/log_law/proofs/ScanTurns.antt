@@ -83,7 +83,7 @@ pub record AllRead (g : Setting) (w : State) (book : ℕ → Segment) (o : Openi
   pub low : w.read_low ≡ o.low
   pub read : ReadShown g w book t.end t.segments map
 
-told_read : (g : Setting) (w : State) (book : ℕ → Segment) (o : OpeningState) (outs : List Out) → AllByRecursion (OutShown g w book o) outs
+pub told_read : (g : Setting) (w : State) (book : ℕ → Segment) (o : OpeningState) (outs : List Out) → AllByRecursion (OutShown g w book o) outs
     → IfSome (chain_in outs) (AllRead g w book o)
 told_read g w book o [] all = tt
 told_read g w book o (Hello ask ∷ os) all = told_read g w book o os all.1
@@ -109,10 +109,10 @@ over_rests o (scan_in.Maps groups) = record { over = refl; quiet = refl }
 over_rests o scan_in.Tick = record { over = refl; quiet = refl }
 
 module _ (k : Below) (g : Setting) (n : Net) (h : View g n) (s : ScanState) (i : Input) (is : n.owner ≡ Opening s) (came : CameToScan g n i) where
-  as_it_opens : ScanShown g h.w h.book h.hellos s
+  pub as_it_opens : ScanShown g h.w h.book h.hellos s
   as_it_opens = subst (OwnerShown g h.w h.book h.hellos) is h.owner
 
-  brings : (j : Input) → CameToScan g n j → BringsScan g h.w h.book h.hellos s j
+  pub brings : (j : Input) → CameToScan g n j → BringsScan g h.w h.book h.hellos s j
   brings (scan_in.Welcome ask news groups) c = let seen : WelcomeSeen g h.w h.hellos n.inc ask news c.0.0 = h.sent (WelcomeSent n.inc ask news c.0.0) c.0.1 in (
     record {
       question = seen.hello.question;

@@ -10,3 +10,4 @@ pub mod Below
 pub mod Runs
 pub mod Held
 pub mod Written
+pub mod ReadBack

@@ -9,6 +9,7 @@ ghost use Rattle.log_law.specs.Held.{WhatFlewIsOfTheLog, WhatIsHeldFlew};
 ghost use Rattle.log_law.specs.Laws.{AReopeningAdopts, LogsStayInLine, LogsStayWhole, OneNameOneText, SomeSegmentFiled, TheFeedIsWhole};
 ghost use Rattle.log_law.specs.Openings.{FliesNext, NothingFiledOpening, OpeningsGoOn};
 ghost use Rattle.log_law.specs.Places.{APlaceNamesOneContent};
+ghost use Rattle.log_law.specs.ReadBack.{OpeningsReadDown, ReopensBehind};
 ghost use Rattle.log_law.specs.Runs.{SomeRestarts};
 ghost use Rattle.log_law.specs.Tails.{ARestartFilesTheTail, ATailIsFiledOrNever};
 ghost use Rattle.log_law.specs.Below.{Below};
@@ -120,6 +121,16 @@ pub fn a_reopening_adopts()
 pub fn a_tail_is_filed_or_never()
     ensures tail { ATailIsFiledOrNever }
     ensures only { ARestartFilesTheTail }
+{
+    below();
+}
+
+/// What a reopening reads back: whatever comes to an opening, the chain that it tells has no gap from its end down to the horizon that it took last, which
+/// isn't beyond the least one; and while no restart that ended was doubtful, all that was filed before the event that ends a restart lies before the opening
+/// segment (the 1996 paper, on recovery).
+pub fn a_reopening_reads_back()
+    ensures down { OpeningsReadDown }
+    ensures behind { ReopensBehind }
 {
     below();
 }
