@@ -1,0 +1,7 @@
+mod Books
+mod Chains
+mod Steps
+mod Reopened
+mod Reading
+mod Flights
+mod Following
