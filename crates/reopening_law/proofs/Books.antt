@@ -9,7 +9,7 @@ apart : (q e : ℕ) → q < e → q ≡ e → ⊥
 apart q e less same = omega arith
 
 -- one segment that says nothing
-one : Books → ℕ → Books
+abbrev one : Books → ℕ → Books
 one k l = filed (sealed k l []) l
 
 one_end : (k : Books) (l : ℕ) → (one k l).end l ≡ suc (k.end l)
@@ -17,7 +17,7 @@ one_end k l = filed_end (sealed k l []) l
 
 -- so many more are filed
 pub empty_end : (count : ℕ) (k : Books) (l : ℕ) → (with_empty count k l).end l ≡ count + k.end l
-empty_end zero k l = refl
+empty_end zero k l = omega arith
 empty_end (suc count) k l = (let e = empty_end count (one k l) l in let f = one_end k l in omega arith)
 
 -- what was there says what it said
@@ -29,7 +29,7 @@ empty_keeps (suc count) k l q old =
 -- what is new says nothing
 pub empty_says : (count : ℕ) (k : Books) (l q : ℕ) → k.end l < q → q ≤ count + k.end l → (with_empty count k l).rows l q ≡ []
 empty_says zero k l q new within = absurd (omega arith)
-empty_says (suc count) k l q new within = by (nat_le q (suc (k.end l))) refl
+empty_says (suc count) k l q new within = by (nat_le q (suc (k.end l))) refl (empty_says count (one k l) l q)
   where
     is_le : (a b : ℕ) → nat_le a b ≡ true → a ≤ b
     is_le a b t = grind (arith, nat_tests)
@@ -37,16 +37,17 @@ empty_says (suc count) k l q new within = by (nat_le q (suc (k.end l))) refl
     is_not : (a b : ℕ) → nat_le a b ≡ false → b < a
     is_not a b t = grind (arith, nat_tests)
 
-    by : (t : Bool) → nat_le q (suc (k.end l)) ≡ t → (with_empty (suc count) k l).rows l q ≡ []
-    by true t =
+    by : (t : Bool) → nat_le q (suc (k.end l)) ≡ t
+        → ((one k l).end l < q → q ≤ count + (one k l).end l → (with_empty (suc count) k l).rows l q ≡ []) → (with_empty (suc count) k l).rows l q ≡ []
+    by true t rest =
         let low = is_le q (suc (k.end l)) t in
         let same : suc (k.end l) ≡ q = omega arith in
         empty_keeps count (one k l) l q (let e = one_end k l in omega arith)
         ∙ (ap ((one k l).rows l) (sym same) ∙ said_now k l [])
-    by false t =
+    by false t rest =
         let high = is_not q (suc (k.end l)) t in
         let e = one_end k l in
-        empty_says count (one k l) l q (omega arith) (omega arith)
+        rest (omega arith) (omega arith)
 
 pub empty_flies : (count : ℕ) (k : Books) (l : ℕ) → k.flying l ≡ false → (with_empty count k l).flying l ≡ false
 empty_flies zero k l none = none
@@ -60,6 +61,10 @@ adopted_end k l = filed_end k l
 pub discarded_keeps : (k : Books) (l q : ℕ) → q ≤ k.end l → (reopened k l false).rows l q ≡ k.rows l q
 discarded_keeps k l q old =
     ap (λ f. f q) (put_here k.rows l (put (k.rows l) (suc (k.end l)) [])) ∙ put_there (k.rows l) (suc (k.end l)) [] q (apart q (suc (k.end l)) (omega arith))
+
+pub reopened_rises : (k : Books) (l : ℕ) (adopted : Bool) → k.end l ≤ (reopened k l adopted).end l
+reopened_rises k l true = (let a = adopted_end k l in omega arith)
+reopened_rises k l false = omega arith
 
 pub reopened_flies : (k : Books) (l : ℕ) (adopted : Bool) → (reopened k l adopted).flying l ≡ false
 reopened_flies k l true = put_here k.flying l false

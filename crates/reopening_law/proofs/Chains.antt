@@ -82,7 +82,7 @@ or_either false b t = inr t
 
 pub holds : (chain : List Segment) (f : FlightState) → holds_flight (names_in chain) (flight_of (Some f)) ≡ true → Holds chain f
 holds [] f t = contrary t
-holds (s ∷ chain) f t = ⊎_elim here there (or_either ((s.name.seq == f.segment.name.seq) && (s.name.pass.inc == f.segment.name.pass.inc)) _ t)
+holds (s ∷ chain) f t = ⊎_elim here (λ u. there (holds chain f u)) (or_either ((s.name.seq == f.segment.name.seq) && (s.name.pass.inc == f.segment.name.pass.inc)) _ t)
   where
     here : ((s.name.seq == f.segment.name.seq) && (s.name.pass.inc == f.segment.name.pass.inc)) ≡ true → Holds (s ∷ chain) f
     here u = record {
@@ -93,8 +93,8 @@ holds (s ∷ chain) f t = ⊎_elim here there (or_either ((s.name.seq == f.segme
           (and_second (s.name.seq == f.segment.name.seq) (s.name.pass.inc == f.segment.name.pass.inc) u);
     }
 
-    there : holds_flight (names_in chain) (flight_of (Some f)) ≡ true → Holds (s ∷ chain) f
-    there u = (let h = holds chain f u in record { segment = h.segment; among = inr h.among; seq = h.seq; boot = h.boot })
+    there : Holds chain f → Holds (s ∷ chain) f
+    there h = record { segment = h.segment; among = inr h.among; seq = h.seq; boot = h.boot }
 
 both : (a b : Bool) → a ≡ true → b ≡ true → (a && b) ≡ true
 both true b t u = u

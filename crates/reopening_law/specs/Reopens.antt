@@ -43,7 +43,8 @@ pub record Reopens (g : Setting) (n o : Net) (chain : List Segment) (s r : LogSt
   pub calm : IsSureRun (On moment.run happens)
   pub writes : n.owner ≡ Writing chain s
   pub serves : o.owner ≡ Serving r
-  -- the opening segment says nothing
+  -- the opening segment is of the log, and says nothing
+  pub own : (f : FlightState) → s.flight ≡ Some f → f.segment.name.log ≡ g.log
   pub empty : (f : FlightState) → s.flight ≡ Some f → f.segment.items ≡ []
 
 -- What is filed of the log l there: a segment of each number up to its head, each of which was in flight, and no other.
