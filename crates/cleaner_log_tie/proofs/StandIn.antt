@@ -165,7 +165,7 @@ module _ (g : Setting) where
     lasts = t.lasts;
     shows = t.shows;
     does = all_so g t.next its x.effects may.does (recursion_from_All (ClientDoes g its_number t.next) x.effects t.does);
-    lost = t.lost;
+    lost = λ l. ((t.lost l).0, (t.lost l).1.0);
     kept = t.grown.dropped;
   }
 

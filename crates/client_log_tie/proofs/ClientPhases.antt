@@ -38,7 +38,7 @@ use Rattle.version_model.specs.declared.work.Work.TheVariants as work
 use Rattle.wire_msg.specs.declared.packet.Do.{Do}
 use Rattle.wire_msg.specs.declared.packet.Do.TheVariants.{Begin, Deliver, Tick}
 use Rattle.wire_msg.specs.declared.packet.Packet as wire
-use Rattle.xfs_base.proofs.Booleans.{by_test, and_first, and_second}
+use Rattle.xfs_base.proofs.Booleans.{by_test, and_first, and_second, contrary}
 use Rattle.xfs_base.specs.declared.segment.LogId.{LogId}
 use Rattle.xfs_base.specs.Limits.{u32_end}
 use Rattle.xfs_base.specs.Steps.{still, after}
@@ -50,14 +50,15 @@ use Rattle.log_law.specs.Net.Packet.{HelloSent}
 use Rattle.log_law.specs.Events.{Happens, Happens as happen}
 use Rattle.log_law.specs.Events.Happens.{Crashes}
 use Rattle.log_law.specs.Events.Runs.{Begun, On}
-use Rattle.log_law.specs.Restarts.{is_down}
+use Rattle.log_law.specs.Restarts.{is_down, is_serving}
 use Rattle.node_log_tie.specs.Sight.{AskedBy}
 use Rattle.node_log_tie.specs.Sight.Question.{OfOpening}
-use Rattle.client_log_tie.specs.Owner.{Scene, asker, LastsAs, ClientAgrees}
+use Rattle.client_log_tie.specs.Owner.{Scene, asker, LastsAs, ClientAgrees, SeesLog}
+use Rattle.client_log.specs.LogState.{LogState}
 use Rattle.client_log_tie.specs.Texts.{StaysWritten}
 use Rattle.opening_law.specs.Questions.{AsksOn, ProgressAsks}
 use Rattle.opening_law.proofs.Asking.{packet_few, starts_few, tick_few}
-use Rattle.client_log_tie.specs.ClientEvents.{StageWritten, StageTells, PhaseWritten, PhaseOwed, PacketOwed, ClientOwed, FliesInBoot, Grown}
+use Rattle.client_log_tie.specs.ClientEvents.{StageWritten, StageTells, PhaseWritten, PhaseOwed, PacketOwed, ClientOwed, FliesInBoot, Grown, NeverServes}
 use Rattle.client_log_tie.proofs.Boots.{same_boot, stage_up, log_up}
 use Rattle.client_log_tie.proofs.Frames.{ClientDoes, ClientDid}
 use Rattle.client_log_tie.proofs.Frames as frames
@@ -68,6 +69,7 @@ use Rattle.client_log_tie.proofs.Questions.{ask_rises, put_here, put_keeps, put_
 use Rattle.client_log_tie.proofs.ServingCalls as calls
 use Rattle.client_log_tie.proofs.ServingPackets as serving
 use Rattle.client_log_tie.proofs.ServingTokens as tokens
+use Rattle.client_log_tie.proofs.Straight.{away_straight, once_straight, served_straight}
 
 next_inc : (k : ℕ) → has_room k ≡ true → cond (nat_lt k u32_end) (k + 1) k ≡ suc k
 next_inc k room = grind (arith, nat_tests)
@@ -80,7 +82,15 @@ module _ (g : Setting) (c : ℕ) (is : g.log ≡ record { 0 = c }) (small : is_l
 
   plain_so : (p : Phase) (outs : List Effect) → ClientAgrees g c w p → PhaseWritten p → frames.Plain g c outs → ClientDid g c w p outs
   plain_so p outs sees written plain =
-      record { next = w; grown = frames.grown_still g w; agrees = sees; written = written; does = plain w; flies = inr (refl, refl) }
+      record {
+        next = w;
+        grown = frames.grown_still g w;
+        agrees = sees;
+        written = written;
+        does = plain w;
+        flies = inr (refl, refl);
+        straight = once_straight g w.net w.net (frames.grown_still g w).runs (frames.still_once g w);
+      }
 
   still_so : (p : Phase) → ClientAgrees g c w p → PhaseWritten p → Goes (still p)
   still_so p sees written = plain_so p [] sees written (tokens.plain_nothing g c)
@@ -136,6 +146,10 @@ module _ (g : Setting) (c : ℕ) (is : g.log ≡ record { 0 = c }) (small : is_l
         asked = λ k some. refl;
       }
 
+  fallen_never : (v : Scene) → NeverServes (fallen_grown v).runs
+  unfolding fallen_grown
+  fallen_never v = (ap is_serving (fall_of v.net).down, tt)
+
   -- one that fell
   fallen_agrees : (v : Scene) (l : Lasting) → LastsAs g c v l → ClientAgrees g c (fallen v) (Down l)
   fallen_agrees v l lasts = (record { number = lasts.number; inc = (fall_of v.net).inc ∙ lasts.inc; fresh = lasts.fresh }, (fall_of v.net).down)
@@ -148,6 +162,7 @@ module _ (g : Setting) (c : ℕ) (is : g.log ≡ record { 0 = c }) (small : is_l
     written = tt;
     does = plain (fallen w);
     flies = inr ((fall_of w.net).flown, (fall_of w.net).filed);
+    straight = away_straight g w.net (fallen w).net (fallen_grown w).runs (fallen_never w) (ap is_serving (fall_of w.net).down);
   }
 
   crash_said : (l : Lasting) (number : ℕ) → frames.Plain g c (crashed l number).outs
@@ -212,6 +227,7 @@ module _ (g : Setting) (c : ℕ) (is : g.log ≡ record { 0 = c }) (small : is_l
             })
             (All-nil (ClientDoes g c v));
         flies = inr (refl, refl);
+        straight = record { never = λ e. (refl, (refl, tt)); once = λ a b. contrary b };
       }
 
   down_begins_so : (servers number : ℕ) (l : Lasting) (wanted : Option Work) → ClientAgrees g c w (Down l) → has_room l.inc ≡ true
@@ -245,7 +261,7 @@ module _ (g : Setting) (c : ℕ) (is : g.log ≡ record { 0 = c }) (small : is_l
         in_boot : is_down t.next.net.owner ≡ false → FliesInBoot w.net t.next.net
         in_boot still_up = inl (same_boot w.net t.next.net up still_up (t.lasts.inc ∙ sym lasts.inc))
 
-        by_progress : (p : Progress) → ProgressSeen g c t.next x.questions.last p → (IsLost g c p → (t.next.net.flown ≡ w.net.flown) × (t.next.net.filed ≡ w.net.filed))
+        by_progress : (p : Progress) → ProgressSeen g c t.next x.questions.last p → (IsLost g c p → (t.next.net.flown ≡ w.net.flown) × ((t.next.net.filed ≡ w.net.filed) × (is_serving t.next.net.owner ≡ false)))
             → ProgressAsks p x.questions.last
             → Goes (after x.effects (after_opening (record l { questions = x.questions }) capacity p))
         by_progress (progress.Opening o) shows lost asks = record {
@@ -255,6 +271,7 @@ module _ (g : Setting) (c : ℕ) (is : g.log ≡ record { 0 = c }) (small : is_l
           written = shows.1;
           does = All-append (ClientDoes g c t.next) x.effects [] t.does (All-nil (ClientDoes g c t.next));
           flies = in_boot (stage_up g c t.next o.known x.questions.last o.stage shows.0);
+          straight = once_straight g w.net t.next.net t.grown.runs t.once;
         }
         by_progress (progress.Opened r) shows lost asks = record {
           next = t.next;
@@ -263,6 +280,7 @@ module _ (g : Setting) (c : ℕ) (is : g.log ≡ record { 0 = c }) (small : is_l
           written = shows.1;
           does = All-append (ClientDoes g c t.next) x.effects _ t.does (back_said r t.next);
           flies = in_boot (log_up g c t.next r.log shows.0);
+          straight = once_straight g w.net t.next.net t.grown.runs t.once;
         }
         by_progress (progress.Lost seg) shows lost asks = record {
           next = fallen t.next;
@@ -272,7 +290,11 @@ module _ (g : Setting) (c : ℕ) (is : g.log ≡ record { 0 = c }) (small : is_l
           does = All-append (ClientDoes g c (fallen t.next)) x.effects (answers_unanswered l.items.unanswered (answer.Lost seg))
               (frames.all_more g c t.next (fallen t.next) (fallen_grown t.next) x.effects t.does)
               (tokens.plain_answers g c l.items.unanswered (answer.Lost seg) (fallen t.next));
-          flies = inr ((fall_of t.next.net).flown ∙ (lost tt).0, (fall_of t.next.net).filed ∙ (lost tt).1);
+          flies = inr ((fall_of t.next.net).flown ∙ (lost tt).0, (fall_of t.next.net).filed ∙ (lost tt).1.0);
+          straight = away_straight g w.net (fallen t.next).net (frames.grown_on g w t.next (fallen t.next) t.grown (fallen_grown t.next)).runs
+              (frames.never_on g w t.next (fallen t.next) t.grown (fallen_grown t.next)
+              ((once_straight g w.net t.next.net t.grown.runs t.once).never (lost tt).1.1) (fallen_never t.next))
+              (ap is_serving (fall_of t.next.net).down);
         }
 
   its_log : is_log g.log.0 ≡ true
@@ -283,14 +305,15 @@ module _ (g : Setting) (c : ℕ) (is : g.log ≡ record { 0 = c }) (small : is_l
   abbrev AtServing : Serving → Type 0
   AtServing s = frames.At g c w s
 
-  serves_so : (d : Done) → is_down w.net.owner ≡ false → frames.Goes g c w d → Goes (serves_on d)
-  serves_so d up p = record {
+  serves_so : (d : Done) (log : LogState) → SeesLog g c w log → frames.Goes g c w d → Goes (serves_on d)
+  serves_so d log sees p = record {
     next = p.next;
     grown = p.grown;
     agrees = (p.stands.lasts, p.stands.sees);
     written = p.stands.written;
     does = p.does;
-    flies = inl (same_boot w.net p.next.net up (log_up g c p.next d.state.log p.stands.sees) p.boot);
+    flies = inl (same_boot w.net p.next.net (log_up g c w log sees) (log_up g c p.next d.state.log p.stands.sees) p.boot);
+    straight = served_straight g w.net p.next.net p.grown.runs (ap is_serving sees.owner) (ap is_serving p.stands.sees.owner);
   }
 
   stands : (s : Serving) → ClientAgrees g c w (Serves s) → StaysWritten s.log → AtServing s
@@ -321,8 +344,8 @@ module _ (g : Setting) (c : ℕ) (is : g.log ≡ record { 0 = c }) (small : is_l
       → Goes (serving_begins s number (wish_of wanted))
   serving_begins_so s number (Some (work.Crash node)) sees written = crashes_serving s number sees
   serving_begins_so s number (Some (work.Restart node)) sees written = answers_so (Serves s) number answer.Up sees written
-  serving_begins_so s number (Some _) sees written = serves_so (opens s number) (log_up g c w s.log sees.1) (opens_so s number (stands s sees written))
-  serving_begins_so s number None sees written = serves_so (opens s number) (log_up g c w s.log sees.1) (opens_so s number (stands s sees written))
+  serving_begins_so s number (Some _) sees written = serves_so (opens s number) s.log sees.1 (opens_so s number (stands s sees written))
+  serving_begins_so s number None sees written = serves_so (opens s number) s.log sees.1 (opens_so s number (stands s sees written))
 
   -- ---- the events
 
@@ -361,7 +384,7 @@ module _ (g : Setting) (c : ℕ) (is : g.log ≡ record { 0 = c }) (small : is_l
       (record { sees = sees.1; written = written; owed = owed l o sees brings.scans life room }))
       (packet_few o l.questions packet room sees.2)
   on_deliver_so capacity (Serves s) packet sees written brings life room =
-      serves_so (serving.and_runs g c is (packets.on_packet s packet)) (log_up g c w s.log sees.1)
+      serves_so (serving.and_runs g c is (packets.on_packet s packet)) s.log sees.1
       (serving.packet_so g c is w s packet brings.seen brings.fits room (stands s sees written))
 
   delivers_so : (peers : Peers) (capacity : ℕ) (p : Phase) (packet : wire.Packet) → ClientAgrees g c w p → PhaseWritten p → PacketOwed g c w p packet
@@ -381,7 +404,7 @@ module _ (g : Setting) (c : ℕ) (is : g.log ≡ record { 0 = c }) (small : is_l
       (record { sees = sees.1; written = written; owed = owed l o sees tells life room }))
       (tick_few o l.questions room sees.2)
   on_time_so capacity (Serves s) sees written tells life room =
-      serves_so (serving.and_runs g c is (packets.on_tick s)) (log_up g c w s.log sees.1) (serving.time_so g c is w s (stands s sees written))
+      serves_so (serving.and_runs g c is (packets.on_tick s)) s.log sees.1 (serving.time_so g c is w s (stands s sees written))
 
   happens_so : (client : Client) (what : Do) → ClientAgrees g c w client.phase → PhaseWritten client.phase → ClientOwed g c w client.phase what
       → client_room client ≡ true

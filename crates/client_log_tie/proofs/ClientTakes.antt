@@ -71,4 +71,5 @@ client_takes g c is small w client what sees written owed =
       acts = all_acted g c (lasting_of client.phase).number number d.next (takes client what).outs all;
       own = all_own g c (lasting_of client.phase).number number d.next (takes client what).outs all;
       flies = d.flies;
+      straight = d.straight;
     }

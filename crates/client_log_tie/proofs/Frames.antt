@@ -26,7 +26,7 @@ use Rattle.node_log_tie.specs.Sight.Question.{Unasked, OfMaps, OfOpening}
 use Rattle.client_node.specs.declared.phase.Phase.{Phase}
 use Rattle.client_log_tie.specs.Owner.{Scene, asker, Lasts, SeesLog, ClientAgrees}
 use Rattle.client_log_tie.specs.Texts.{StaysWritten}
-use Rattle.client_log_tie.specs.ClientEvents.{ActSeen, OfItsLog, PhaseWritten, FliesInBoot, Grown}
+use Rattle.client_log_tie.specs.ClientEvents.{ActSeen, OfItsLog, PhaseWritten, FliesInBoot, Grown, IsOnce, NeverServes, ServesStraight}
 
 -- ---- lists
 
@@ -70,6 +70,21 @@ module _ (g : Setting) where
     asked = λ k some. b.asked k (λ none. some (sym (a.asked k some) ∙ none)) ∙ a.asked k some;
   }
 
+  -- ---- where the owner serves on the way
+
+  pub still_once : (w : Scene) → IsOnce (grown_still w).runs
+  unfolding grown_still
+  still_once w = tt
+
+  never_through : (n m o : Net) (first : Runs g n m) (run : Runs g m o) → NeverServes first → NeverServes run → NeverServes (runs_on n m o first run)
+  unfolding runs_on
+  never_through n m o first Begun a b = a
+  never_through n m o first (On {m = k} run happens) a b = (b.0, never_through n m k first run a b.1)
+
+  pub never_on : (u v w : Scene) (a : Grown g u v) (b : Grown g v w) → NeverServes a.runs → NeverServes b.runs → NeverServes (grown_on u v w a b).runs
+  unfolding grown_on
+  never_on u v w a b x y = never_through u.net v.net w.net a.runs b.runs x y
+
 -- ---- what a client does
 
 module _ (g : Setting) (c : ℕ) where
@@ -104,6 +119,7 @@ module _ (g : Setting) (c : ℕ) where
     pub written : PhaseWritten p
     pub does : All (ClientDoes next) outs
     pub flies : FliesInBoot w.net next.net
+    pub straight : ServesStraight grown.runs
 
   -- ---- what was seen is seen
 

@@ -9,6 +9,7 @@ mod Fitting
 mod ServingCalls
 mod ServingPackets
 mod OpeningTurns
+pub mod Straight
 pub mod OpeningLog
 mod ScanSays
 mod ScanSteps

@@ -50,7 +50,8 @@ use Rattle.log_protocol.specs.Tables.{In, put}
 use Rattle.log_tie.specs.Setting.{Setting}
 use Rattle.log_tie.specs.Shelves.{is_of_log}
 use Rattle.log_tie.proofs.Names.{equal}
-use Rattle.log_law.specs.Net.{Told, chain_in, first_write}
+use Rattle.log_law.specs.Net.{Net, Told, chain_in, first_write}
+use Rattle.log_law.specs.ReadBack.{ReadsDown}
 use Rattle.log_law.specs.Net.{Owner as owner}
 use Rattle.log_law.specs.Net.Packet.{StoredSent, FragmentSent, FencedSent, MapSent, WelcomeSent}
 use Rattle.log_law.specs.Events.{CameToScan, StartsWith, WritesText}
@@ -78,9 +79,10 @@ starts_with : (g : Setting) (inc : ℕ) (d : scan.Done) (t : Told) (m : Option G
 starts_with g inc d t None h = tt
 starts_with g inc d t (Some m) h = writes_text (started g.log inc t.end m) (log_in.Parts []) h refl
 
-can_start : (g : Setting) (inc : ℕ) (d : scan.Done) (t : Option Told) → IfSome t (StartFits g inc d) → IfSome t (StartsWith g inc d)
-can_start g inc d None h = tt
-can_start g inc d (Some t) h = (h.0, starts_with g inc d t d.state.opening.groups h.1)
+can_start : (g : Setting) (n : Net) (d : scan.Done) (x : Option Told) → IfSome x (λ t. StartFits g n.inc d t × ReadsDown n d.state.opening.low t)
+    → IfSome x (StartsWith g n.inc d)
+can_start g n d None h = tt
+can_start g n d (Some t) h = (h.0.0, starts_with g n.inc d t d.state.opening.groups h.0.1)
 
 -- ---- what is asked stays so, where more is asked
 
@@ -145,7 +147,7 @@ module _ (g : Setting) (c : ℕ) (small : is_log g.log.0 ≡ true) (w : Scene) (
   -- nothing changes
   stays_so : (o : Opening) → SeesStage g c w o.known q.last o.stage → StageWritten o.stage → Goes (drops o q)
   stays_so o sees written =
-      record { next = w; grown = frames.grown_still g w; lasts = lasts; shows = (sees, written); does = All-nil (ClientDoes g c w); lost = λ l. (refl, refl) }
+      record { next = w; grown = frames.grown_still g w; lasts = lasts; shows = (sees, written); does = All-nil (ClientDoes g c w); lost = λ l. absurd l; once = frames.still_once g w }
 
   -- ---- the scan
 
@@ -167,7 +169,7 @@ module _ (g : Setting) (c : ℕ) (small : is_log g.log.0 ≡ true) (w : Scene) (
   unfolding scans_on
   scans_so k s i is came owed h takes =
       takes (owed.chain i came)
-      (happen.Opens s.scan i is came (can_start g w.net.inc (scan.transition s.scan i) (chain_in (scan.transition s.scan i).outs) (owed.chain i came)))
+      (happen.Opens s.scan i is came (can_start g w.net (scan.transition s.scan i) (chain_in (scan.transition s.scan i).outs) (owed.chain i came)))
 
   stood : (k : Known) (s : Scanning) (sees : SeesScan g c w k s q.last) → scanning.Stood g c w its life k q s (opens k s sees) s.scan.opening
   stood k s sees = record { groups = sees.groups; past = sees.past; some = sees.some }
@@ -309,7 +311,7 @@ module _ (g : Setting) (c : ℕ) (small : is_log g.log.0 ≡ true) (w : Scene) (
       (record { groups = is; past = h.sees.past; some = h.sees.some }) h.sees.asks)
   regrouped_so k (stage.Settling s) maps m h is came fits_so =
       writing.maps_so g c w its life (record k { maps = maps }) q s lasts
-      (record { owner = h.sees.owner; log = h.sees.log; own = h.sees.own; clear = h.sees.clear; flight = h.sees.flight; flies = h.sees.flies })
+      (record { owner = h.sees.owner; log = h.sees.log; own = h.sees.own; clear = h.sees.clear; flight = h.sees.flight; flies = h.sees.flies; empty = h.sees.empty; reads = h.sees.reads })
       h.written m came fits_so
 
   news_so : (o : Opening) (news : News) → Sees o.known o.stage → In (MapSent news.groups) w.net.sent → MapFits news.groups → Goes (on_news o q news)
@@ -431,7 +433,8 @@ module _ (g : Setting) (c : ℕ) (small : is_log g.log.0 ≡ true) (w : Scene) (
         does = All-cons (ClientDoes g c v) (hello o.known.owner.inc (next_ask q)) []
             (record { own = λ e. subst (AskedBy g (asker c v) v.net o.known.owner.inc) (sym (put_here w.asked (next_ask q) OfMaps)) tt; reached = tt })
             (All-nil (ClientDoes g c v));
-        lost = λ l. (refl, refl);
+        lost = λ l. absurd l;
+        once = tt;
       }
     where
       by_stage : (at : Stage) → SeesStage g c w o.known q.last at
@@ -454,7 +457,16 @@ module _ (g : Setting) (c : ℕ) (small : is_log g.log.0 ≡ true) (w : Scene) (
           still_came None came = tt
           still_came (Some m) came = came
       by_stage (stage.Settling s) sees =
-          record { owner = sees.owner; log = sees.log; own = sees.own; clear = sees.clear; flight = sees.flight; flies = sees.flies }
+          record {
+            owner = sees.owner;
+            log = sees.log;
+            own = sees.own;
+            clear = sees.clear;
+            flight = sees.flight;
+            flies = sees.flies;
+            empty = sees.empty;
+            reads = sees.reads;
+          }
 
   pub packet_so : (o : Opening) (p : packets.Packet) → p.to ≡ Client c → BodySeen g (asker c w) w.net p.from p.to p.body → BodyFits p.body
       → Sees o.known o.stage → Goes (on_packet o q p)

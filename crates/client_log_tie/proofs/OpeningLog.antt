@@ -31,13 +31,15 @@ use Rattle.log_tie.specs.Shelves.{is_of_log}
 use Rattle.log_law.specs.Net.{Packet, log_packets, names_of, after_flight, after_writing}
 use Rattle.log_law.specs.Net.{Owner as owner}
 use Rattle.log_law.specs.Net.Packet.{StoredSent, MapSent}
+use Rattle.log_law.specs.ReadBack.{ReadsDown}
+use Rattle.log_law.specs.Restarts.{is_serving}
 use Rattle.log_law.specs.Events.{Happens}
 use Rattle.log_law.specs.Events.Happens.{Writes}
 use Rattle.log_law.specs.Events.Runs.{Begun, On}
 use Rattle.node_log_tie.proofs.OwnLogs.{SendsOwn, own_log}
 use Rattle.client_log_tie.specs.Owner.{Scene, IsOwn, Lasts, SeesStage, SeesWriting, SeesLog}
 use Rattle.client_log_tie.specs.Texts.{InputFits, MapFits, StaysWritten}
-use Rattle.client_log_tie.specs.ClientEvents.{StageWritten, Grown}
+use Rattle.client_log_tie.specs.ClientEvents.{StageWritten, Grown, IsOnce}
 use Rattle.client_log_tie.proofs.Frames.{ClientDoes}
 use Rattle.client_log_tie.proofs.Frames as frames
 use Rattle.client_log_tie.proofs.Frames.{in_after, in_before}
@@ -64,21 +66,24 @@ module _ (g : Setting) (c : ℕ) where
     pub lasts : Lasts g c next its life x.questions.last
     pub shows : ProgressSeen next x.questions.last x.progress
     pub does : All (ClientDoes g c next) x.effects
-    -- where a segment is lost, nothing began to fly, and nothing was filed
-    pub lost : IsLost x.progress → (next.net.flown ≡ w.net.flown) × (next.net.filed ≡ w.net.filed)
+    -- where a segment is lost, nothing began to fly, nothing was filed, and the owner doesn't serve
+    pub lost : IsLost x.progress → (next.net.flown ≡ w.net.flown) × ((next.net.filed ≡ w.net.filed) × (is_serving next.net.owner ≡ false))
+    pub once : IsOnce grown.runs
 
   -- ---- the log of an opening took an input
 
-  pub record Aloft (v : Scene) (chain : List Segment) (d : log.Done) : Type 0 where
+  pub record Aloft (v : Scene) (chain : List Segment) (low : ℕ) (d : log.Done) : Type 0 where
     pub owner : v.net.owner ≡ owner.Writing chain d.state
-    pub flies : FliesOn d
+    pub end : End
+    pub flies : FliesOn end d
+    pub reads : ReadsDown v.net low (record { segments = chain; end = end })
 
   pub record Landed (v : Scene) (chain : List Segment) (d : log.Done) : Type 0 where
     pub owner : v.net.owner ≡ owner.Serving d.state
     pub lands : Lands d
     pub filed : (name : SegName) → In name (names_of chain) → In name v.net.filed
 
-  pub record Flew (w : Scene) (chain : List Segment) (its life last : ℕ) (d : log.Done) : Type 0 where
+  pub record Flew (w : Scene) (chain : List Segment) (low its life last : ℕ) (d : log.Done) : Type 0 where
     pub next : Scene
     pub grown : Grown g w next
     pub lasts : Lasts g c next its life last
@@ -87,7 +92,8 @@ module _ (g : Setting) (c : ℕ) where
     pub mine : AllByRecursion (SendsOwn g.log) d.outs
     pub own : IsOwn g d.state
     pub written : StaysWritten d.state
-    pub shows : Aloft next chain d ⊎ Landed next chain d
+    pub shows : Aloft next chain low d ⊎ Landed next chain d
+    pub once : IsOnce grown.runs
 
   -- what it said is seen
   said_seen : (v : Scene) (before : Option End) (outs : List Out) → ((p : Packet) → In p (log_packets outs) → In p v.net.sent)
@@ -109,19 +115,32 @@ module _ (g : Setting) (c : ℕ) where
     abbrev then_is : Settling
     then_is = record s { log = d.state }
 
-    went_aloft : (f : Flew w s.chain its life q.last d) → Aloft f.next s.chain d → WentTo w its life (asking q (logged k s d))
+    went_aloft : (f : Flew w s.chain s.low its life q.last d) → Aloft f.next s.chain s.low d → WentTo w its life (asking q (logged k s d))
     went_aloft f a =
         subst (λ (o : Option End). WentTo w its life (asking q (after (written d.outs).outs (opens k then_is o)))) (sym a.flies.quiet)
         (record {
           next = f.next;
           grown = f.grown;
           lasts = f.lasts;
-          shows = (record { owner = a.owner; log = log_is; own = f.own; clear = a.flies.clear; flight = a.flies.flight; flies = a.flies.flies }, f.written);
+          shows = (
+            record {
+              owner = a.owner;
+              log = log_is;
+              own = f.own;
+              clear = a.flies.clear;
+              flight = a.flies.flight;
+              flies = a.flies.flies;
+              empty = a.flies.empty;
+              reads = subst (λ (e : End). ReadsDown f.next.net s.low (record { segments = s.chain; end = e })) (sym a.flies.same) a.reads;
+            },
+            f.written,
+          );
           does = All-append (ClientDoes g c f.next) (written d.outs).outs [] (said_seen f.next None d.outs f.sent f.mine) (All-nil (ClientDoes g c f.next));
           lost = λ l. absurd l;
+          once = f.once;
         })
 
-    went_down : (f : Flew w s.chain its life q.last d) → Landed f.next s.chain d → WentTo w its life (asking q (logged k s d))
+    went_down : (f : Flew w s.chain s.low its life q.last d) → Landed f.next s.chain d → WentTo w its life (asking q (logged k s d))
     went_down f a =
         subst (λ (o : Option End). WentTo w its life (asking q (after (written d.outs).outs (opens k then_is o)))) (sym a.lands.told)
         (record {
@@ -133,14 +152,15 @@ module _ (g : Setting) (c : ℕ) where
               (All-append (ClientDoes g c f.next) (map filed s.chain) (Does (Filed (name_of k.owner.log a.lands.end)) ∷ []) (chain_seen f.next s.chain a.filed)
               (All-cons (ClientDoes g c f.next) (Does (Filed (name_of k.owner.log a.lands.end))) [] (end_filed f a) (All-nil (ClientDoes g c f.next))));
           lost = λ l. absurd l;
+          once = f.once;
         })
       where
-        end_filed : (f : Flew w s.chain its life q.last d) (a : Landed f.next s.chain d) → In (name_of k.owner.log a.lands.end) f.next.net.filed
+        end_filed : (f : Flew w s.chain s.low its life q.last d) (a : Landed f.next s.chain d) → In (name_of k.owner.log a.lands.end) f.next.net.filed
         end_filed f a =
             subst (λ log. In (name_of log a.lands.end) f.next.net.filed) (sym log_is)
             (f.filed (name_of g.log a.lands.end) (subst (λ outs. In (name_of g.log a.lands.end) (log_filed g.log outs)) (sym a.lands.outs) (inl refl)))
 
-    pub went_so : Flew w s.chain its life q.last d → WentTo w its life (asking q (logged k s d))
+    pub went_so : Flew w s.chain s.low its life q.last d → WentTo w its life (asking q (logged k s d))
     went_so f = ⊎_elim (went_aloft f) (went_down f) f.shows
 
   -- ---- the events
@@ -151,11 +171,11 @@ module _ (g : Setting) (c : ℕ) where
     chain = s.chain
 
     -- by an event of the small world
-    flew : (i : Input) → Happens g w.net (after_writing g w.net chain (log.transition s.log i)) → InputFits i → Turns (log.transition s.log i)
-        → Flew w chain its life q.last (log.transition s.log i)
+    flew : (i : Input) → Happens g w.net (after_writing g w.net chain (log.transition s.log i)) → InputFits i → Turns s.log.end (log.transition s.log i)
+        → Flew w chain s.low its life q.last (log.transition s.log i)
     flew i happens small turns = ⊎_elim aloft landed turns
       where
-        aloft : FliesOn (log.transition s.log i) → Flew w chain its life q.last (log.transition s.log i)
+        aloft : FliesOn s.log.end (log.transition s.log i) → Flew w chain s.low its life q.last (log.transition s.log i)
         aloft on = record {
           next = record w { net = after_flight g w.net chain (log.transition s.log i) (Some on.flight) };
           grown = record {
@@ -174,10 +194,16 @@ module _ (g : Setting) (c : ℕ) where
           mine = (own_log g.log s.log i (record { log = sees.own.log; flight = sees.own.flight })).outs;
           own = own_after g s.log i sees.own;
           written = written_after s.log i fits small;
-          shows = inl (record { owner = refl; flies = on });
+          shows = inl (record {
+            owner = refl;
+            end = s.log.end;
+            flies = on;
+            reads = record { some = sees.reads.some; past = sees.reads.past; numbers = sees.reads.numbers; down = sees.reads.down };
+          });
+          once = tt;
         }
 
-        landed : Lands (log.transition s.log i) → Flew w chain its life q.last (log.transition s.log i)
+        landed : Lands (log.transition s.log i) → Flew w chain s.low its life q.last (log.transition s.log i)
         landed down = record {
           next = record w { net = after_flight g w.net chain (log.transition s.log i) None };
           grown = record {
@@ -203,10 +229,11 @@ module _ (g : Setting) (c : ℕ) where
             filed = λ name is. in_after (log_filed g.log (log.transition s.log i).outs) (names_of chain ++ w.net.filed) name
                 (in_before (names_of chain) w.net.filed name is);
           });
+          once = tt;
         }
 
     -- nothing changes
-    flew_still : Flew w chain its life q.last (still s.log)
+    flew_still : Flew w chain s.low its life q.last (still s.log)
     flew_still = record {
       next = w;
       grown = frames.grown_still g w;
@@ -216,10 +243,16 @@ module _ (g : Setting) (c : ℕ) where
       mine = tt;
       own = sees.own;
       written = fits;
-      shows = inl (record { owner = sees.owner; flies = record { quiet = refl; clear = sees.clear; flight = sees.flight; flies = sees.flies } });
+      shows = inl (record {
+        owner = sees.owner;
+        end = s.log.end;
+        flies = record { quiet = refl; clear = sees.clear; flight = sees.flight; flies = sees.flies; empty = sees.empty; same = refl };
+        reads = sees.reads;
+      });
+      once = frames.still_once g w;
     }
 
-    writes_so : (i : Input) → Flew w chain its life q.last (log.transition s.log i) → WentTo w its life (asking q (writes k s i))
+    writes_so : (i : Input) → Flew w chain s.low its life q.last (log.transition s.log i) → WentTo w its life (asking q (writes k s i))
     unfolding writes
     writes_so i f = went_so w its life k q s sees.log (log.transition s.log i) f
 
@@ -227,12 +260,12 @@ module _ (g : Setting) (c : ℕ) where
     maps_so m came small =
         writes_so (log_in.Maps m)
         (flew (log_in.Maps m) (Writes chain s.log (log_in.Maps m) sees.owner came (writes_text s.log (log_in.Maps m) fits small)) small
-        (maps_turn s.log sees.flight sees.clear sees.flies m))
+        (maps_turn s.log sees.flight sees.clear sees.empty sees.flies m))
 
     pub tick_so : WentTo w its life (asking q (writes k s log_in.Tick))
     tick_so =
         writes_so log_in.Tick (flew log_in.Tick (Writes chain s.log log_in.Tick sees.owner tt (writes_text s.log log_in.Tick fits tt)) tt
-        (tick_turns s.log sees.flight sees.clear sees.flies))
+        (tick_turns s.log sees.flight sees.clear sees.empty sees.flies))
 
     pub stored_so : (name : SegName) (index generation : ℕ) → (is_of_log g name ≡ true → In (StoredSent name index generation) w.net.sent)
         → WentTo w its life (asking q (writes k s (log_in.Acked name index generation)))
@@ -241,8 +274,8 @@ module _ (g : Setting) (c : ℕ) where
         i : Input
         i = log_in.Acked name index generation
 
-        by_log : (t : Bool) → is_of_log g name ≡ t → Flew w chain its life q.last (log.on_acked s.log name index generation)
+        by_log : (t : Bool) → is_of_log g name ≡ t → Flew w chain s.low its life q.last (log.on_acked s.log name index generation)
         by_log true own = flew (log_in.Acked name index generation)
             (Writes chain s.log (log_in.Acked name index generation) sees.owner (seen own) (writes_text s.log (log_in.Acked name index generation) fits tt)) tt
-            (acked_turns s.log sees.flight sees.clear sees.flies name index generation)
-        by_log false own = subst (Flew w chain its life q.last) (sym (foreign_acked g s.log name index generation sees.own own)) flew_still
+            (acked_turns s.log sees.flight sees.clear sees.empty sees.flies name index generation)
+        by_log false own = subst (Flew w chain s.low its life q.last) (sym (foreign_acked g s.log name index generation sees.own own)) flew_still

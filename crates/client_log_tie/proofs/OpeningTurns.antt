@@ -23,11 +23,13 @@ use Rattle.client_log.specs.Transition.{Done, sends, all_sends, group_for, flown
 use Rattle.log_owner.specs.Opening.{wrote_one, written}
 
 -- it flies on, and no end is told
-pub record FliesOn (d : Done) : Type 0 where
+pub record FliesOn (end : End) (d : Done) : Type 0 where
   pub quiet : (written d.outs).state ≡ None
   pub clear : d.state.dirty ≡ []
   pub flight : FlightState
   pub flies : d.state.flight ≡ Some flight
+  pub empty : flight.segment.items ≡ []
+  pub same : d.state.end ≡ end
 
 -- it is settled, and its end is told
 pub record Lands (d : Done) : Type 0 where
@@ -37,8 +39,8 @@ pub record Lands (d : Done) : Type 0 where
   pub outs : d.outs ≡ Settled end rows ∷ []
   pub landed : d.state.flight ≡ None
 
-abbrev pub Turns : Done → Type 0
-Turns d = FliesOn d ⊎ Lands d
+abbrev pub Turns : End → Done → Type 0
+Turns end d = FliesOn end d ⊎ Lands d
 
 -- sending tells no end
 sends_quiet : (f : FlightState) (ms : List Member) (place : ℕ) → (written (sends f ms place)).state ≡ None
@@ -54,21 +56,24 @@ all_quiet : (f : FlightState) → (written (all_sends f)).state ≡ None
 unfolding all_sends
 all_quiet f = sends_quiet f f.group.members 0
 
-launched_flies : (s : LogState) (name : SegName) (prior : Prior) (items : List Item) → s.dirty ≡ [] → FliesOn (launched s name prior items)
+launched_flies : (s : LogState) (name : SegName) (prior : Prior) (items : List Item) → s.dirty ≡ [] → items ≡ []
+    → FliesOn s.end (launched s name prior items)
 unfolding launched
-launched_flies s name prior items clear = record {
+launched_flies s name prior items clear none = record {
   quiet = all_quiet (flown name prior items (group_for s.groups s.log.0 name.seq));
   clear = clear;
   flight = flown name prior items (group_for s.groups s.log.0 name.seq);
   flies = refl;
+  empty = none;
+  same = refl;
 }
 
 -- the segment without items begins
-pub begins : (s : LogState) → s.dirty ≡ [] → s.flight ≡ None → has_next s.end.seq ≡ true → FliesOn (on_parts s [])
+pub begins : (s : LogState) → s.dirty ≡ [] → s.flight ≡ None → has_next s.end.seq ≡ true → FliesOn s.end (on_parts s [])
 unfolding on_parts
 begins s clear idle next =
-    subst (λ (o : Option FlightState). FliesOn (cond (is_idle (record s { flight = o }) && has_next s.end.seq && true) (writes s []) (still s))) (sym idle)
-    (subst (λ b. FliesOn (cond (b && true) (writes s []) (still s))) (sym next) (launched_flies s (next_name s) (prior_from s.end) [] clear))
+    subst (λ (o : Option FlightState). FliesOn s.end (cond (is_idle (record s { flight = o }) && has_next s.end.seq && true) (writes s []) (still s))) (sym idle)
+    (subst (λ b. FliesOn s.end (cond (b && true) (writes s []) (still s))) (sym next) (launched_flies s (next_name s) (prior_from s.end) [] clear refl))
 
 not_full : (s : LogState) → s.dirty ≡ [] → nat_le segment_blocks (length s.dirty) ≡ false
 not_full s clear = ap (λ xs. nat_le segment_blocks (length xs)) clear
@@ -80,36 +85,36 @@ settled_lands s f clear =
     (sym (not_full s clear))
     (record { end = end_from f.segment; told = refl; rows = rows_of f.segment; outs = refl; landed = refl })
 
-module _ (s : LogState) (f : FlightState) (clear : s.dirty ≡ []) where
-  follows_on : (fate : Fate) → Turns (followed s f fate)
+module _ (s : LogState) (f : FlightState) (clear : s.dirty ≡ []) (none : f.segment.items ≡ []) where
+  follows_on : (fate : Fate) → Turns s.end (followed s f fate)
   unfolding restriped
-  follows_on Restripe = inl (launched_flies s (next_attempt f.segment.name) f.segment.prior f.segment.items clear)
+  follows_on Restripe = inl (launched_flies s (next_attempt f.segment.name) f.segment.prior f.segment.items clear none)
   follows_on Settle = inr (settled_lands s f clear)
-  follows_on Wait = inl (record { quiet = refl; clear = clear; flight = f; flies = refl })
+  follows_on Wait = inl (record { quiet = refl; clear = clear; flight = f; flies = refl; empty = none; same = refl })
 
-  looks_on : (before : LogState) → Turns (still before) → Turns (looked_at before s f)
+  looks_on : (before : LogState) → Turns s.end (still before) → Turns s.end (looked_at before s f)
   unfolding looked_at
   looks_on before h =
-      by_test Turns (can_follow s f (fate_of s.groups f)) (followed s f (fate_of s.groups f)) (still before) (λ t. follows_on (fate_of s.groups f)) (λ t. h)
+      by_test (Turns s.end) (can_follow s f (fate_of s.groups f)) (followed s f (fate_of s.groups f)) (still before) (λ t. follows_on (fate_of s.groups f)) (λ t. h)
 
-module _ (s : LogState) (f : FlightState) (clear : s.dirty ≡ []) (is : s.flight ≡ Some f) where
-  pub rests : Turns (still s)
-  rests = inl (record { quiet = refl; clear = clear; flight = f; flies = is })
+module _ (s : LogState) (f : FlightState) (clear : s.dirty ≡ []) (none : f.segment.items ≡ []) (is : s.flight ≡ Some f) where
+  pub rests : Turns s.end (still s)
+  rests = inl (record { quiet = refl; clear = clear; flight = f; flies = is; empty = none; same = refl })
 
-  pub acked_turns : (name : SegName) (index generation : ℕ) → Turns (on_acked s name index generation)
+  pub acked_turns : (name : SegName) (index generation : ℕ) → Turns s.end (on_acked s name index generation)
   unfolding on_acked
   acked_turns name index generation =
-      subst (λ o. Turns (elim o [ None ↦ still s | Some h ↦ cond (is_of h name index generation) (looked_at s s (noting h index)) (still s) ])) (sym is)
-      (by_test Turns (is_of f name index generation) (looked_at s s (noting f index)) (still s) (λ t. looks_on s (noting f index) clear s rests) (λ t. rests))
+      subst (λ o. Turns s.end (elim o [ None ↦ still s | Some h ↦ cond (is_of h name index generation) (looked_at s s (noting h index)) (still s) ])) (sym is)
+      (by_test (Turns s.end) (is_of f name index generation) (looked_at s s (noting f index)) (still s) (λ t. looks_on s (noting f index) clear none s rests) (λ t. rests))
 
-  pub maps_turn : (m : GroupMapState) → Turns (on_maps s m)
+  pub maps_turn : (m : GroupMapState) → Turns s.end (on_maps s m)
   unfolding on_maps
   maps_turn m =
       let t : LogState = record s { groups = m } in
-      subst (λ o. Turns (elim o [ None ↦ still t | Some h ↦ looked_at s t h ])) (sym is) (looks_on t f clear s rests)
+      subst (λ o. Turns s.end (elim o [ None ↦ still t | Some h ↦ looked_at s t h ])) (sym is) (looks_on t f clear none s rests)
 
-  pub tick_turns : Turns (on_tick s)
+  pub tick_turns : Turns s.end (on_tick s)
   unfolding on_tick
   tick_turns =
-      subst (λ (o : Option FlightState). Turns (elim o [ None ↦ still s | Some h ↦ record { state = s; outs = all_sends h } ])) (sym is)
-      (inl (record { quiet = all_quiet f; clear = clear; flight = f; flies = is }))
+      subst (λ (o : Option FlightState). Turns s.end (elim o [ None ↦ still s | Some h ↦ record { state = s; outs = all_sends h } ])) (sym is)
+      (inl (record { quiet = all_quiet f; clear = clear; flight = f; flies = is; empty = none; same = refl }))

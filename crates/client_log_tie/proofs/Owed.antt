@@ -22,6 +22,7 @@ use Rattle.log_law.specs.Net.{Net, Told, chain_in}
 use Rattle.log_law.specs.Net.Packet.{MapSent}
 use Rattle.log_law.specs.Events.{CameToScan}
 use Rattle.log_law.specs.Openings.{GoesOn}
+use Rattle.log_law.specs.ReadBack.{ReadsDown}
 use Rattle.client_log_tie.specs.ClientEvents.{ScanTells, StageTells}
 use Rattle.client_log_tie.specs.Owner.{Scene, MapCame, SeesScan, SeesStage}
 use Rattle.client_log_tie.specs.Texts.{MapFits, StaysWritten, StartFits, ChainFits}
@@ -39,7 +40,7 @@ AllFit groups = IfSome groups MapFits
 -- a scan can ask further, and the chain that it tells, whatever came, can be gone on with
 pub record ScanOwed (g : Setting) (n : Net) (s : ScanState) : Type 0 where
   pub asks : scan.can_ask s.opening ≡ true
-  pub chain : (i : Input) → CameToScan g n i → ChainFits g n.inc (scan.transition s i)
+  pub chain : (i : Input) → CameToScan g n i → ChainFits g n (scan.transition s i)
 
 abbrev pub StageOwed : Setting → Net → Stage → Type 0
 StageOwed g n (stage.Scanning s) = ScanOwed g n s.scan
@@ -72,15 +73,20 @@ module _ (g : Setting) (c : ℕ) (small : is_log g.log.0 ≡ true) (w : Scene) w
     starts_so end on None fit = tt
     starts_so end on (Some m) fit = what_fits_stays_written g.log w.net.inc end m its_log inc on.1 fit
 
-    chain_so : (i : Input) → CameToScan g w.net i → ChainFits g w.net.inc (scan.transition s.scan i)
-    chain_so i came = by_told (chain_in (scan.transition s.scan i).outs) (tells.end i came)
+    chain_so : (i : Input) → CameToScan g w.net i → ChainFits g w.net (scan.transition s.scan i)
+    chain_so i came = by_told (chain_in (scan.transition s.scan i).outs) (tells.end i came) (tells.reads i came)
       where
-        by_told : (told : Option Told) → IfSome told (λ t. GoesOn t.end) → IfSome told (StartFits g w.net.inc (scan.transition s.scan i))
-        by_told None on = tt
-        by_told (Some t) on = (
-          on.0,
-          starts_so t.end on (scan.transition s.scan i).state.opening.groups
-              (then_fit i came (scan.transition s.scan i).state.opening.groups (groups_come s.scan i few.reads)),
+        by_told : (told : Option Told) → IfSome told (λ t. GoesOn t.end)
+            → IfSome told (ReadsDown w.net (scan.transition s.scan i).state.opening.low)
+            → IfSome told (λ t. StartFits g w.net.inc (scan.transition s.scan i) t × ReadsDown w.net (scan.transition s.scan i).state.opening.low t)
+        by_told None on reads = tt
+        by_told (Some t) on reads = (
+          (
+            on.0,
+            starts_so t.end on (scan.transition s.scan i).state.opening.groups
+                (then_fit i came (scan.transition s.scan i).state.opening.groups (groups_come s.scan i few.reads)),
+          ),
+          reads,
         )
 
   pub owed_so : (k : Known) (at : Stage) (last : ℕ) → w.net.inc < 2 ^ 32 → has_room last ≡ true → SeesStage g c w k last at → StageAsks at last

@@ -35,6 +35,7 @@ use Rattle.log_protocol.specs.Tables.{In, put}
 use Rattle.log_tie.specs.Seen.{log_filed}
 use Rattle.log_tie.specs.Setting.{Setting}
 use Rattle.log_tie.proofs.Names.{equal}
+use Rattle.log_law.specs.ReadBack.{ReadsDown}
 use Rattle.log_law.specs.Net.{Packet, Told, log_packets, scan_packets, chain_in, first_write, scans_on, after_told, after_scan}
 use Rattle.log_law.specs.Net.Packet.{HelloSent, FenceSent}
 use Rattle.log_law.specs.Events.{Happens}
@@ -44,7 +45,7 @@ use Rattle.node_log_tie.specs.Sight.Question.{Unasked, OfOpening}
 use Rattle.node_log_tie.proofs.OwnLogs.{own_log}
 use Rattle.client_log_tie.specs.Owner.{Scene, asker, AsksRegistry, AsksServers, AsksAt, MapCame, Lasts}
 use Rattle.client_log_tie.specs.Texts.{StaysWritten, ChainFits}
-use Rattle.client_log_tie.specs.ClientEvents.{Grown}
+use Rattle.client_log_tie.specs.ClientEvents.{Grown, IsOnce}
 use Rattle.client_log_tie.proofs.Frames.{ClientDoes}
 use Rattle.client_log_tie.proofs.Frames.{in_after, in_before}
 use Rattle.client_log_tie.proofs.Logs.{own_after, written_after}
@@ -79,7 +80,7 @@ module _ (g : Setting) (c : ℕ) where
   module _ (w : Scene) (its life : ℕ) (k : Known) (q : Questions) (s : Scanning) (h : Opens w its life k q s) where
     -- where the small world takes this step of the scan, the client is seen after it
     abbrev pub Takes : scan.Done → Type 0
-    Takes d = ChainFits g w.net.inc d → Happens g w.net (after_scan g w.net s.scan d) → WentTo g c w its life (stepped k q s d)
+    Takes d = ChainFits g w.net d → Happens g w.net (after_scan g w.net s.scan d) → WentTo g c w its life (stepped k q s d)
 
     -- the small world, where the scan goes on, with what was asked then
     abbrev on : scan.Done → (ℕ → Question) → Scene
@@ -97,6 +98,11 @@ module _ (g : Setting) (c : ℕ) where
       dropped = refl;
       asked = keeps;
     }
+
+    on_once : (d : scan.Done) (t : ℕ → Question) (keeps : (j : ℕ) → (w.asked j ≡ Unasked → ⊥) → t j ≡ w.asked j)
+        (happens : Happens g w.net (scans_on w.net s.scan d)) → IsOnce (on_grown d t keeps happens).runs
+    unfolding on_grown
+    on_once d t keeps happens = tt
 
     on_came : (d : scan.Done) (t : ℕ → Question) → MapCame g c (on d t) k.maps.groups
     on_came d t = map_more w (on d t) (λ p among. in_after (scan_packets w.net.inc d.outs) w.net.sent p among) k.maps.groups h.came
@@ -125,7 +131,8 @@ module _ (g : Setting) (c : ℕ) where
         tt,
       );
       does = All-nil (ClientDoes g c (on (scan.goes o st []) w.asked));
-      lost = λ l. (refl, refl);
+      lost = λ l. (refl, (refl, refl));
+      once = on_once (scan.goes o st []) w.asked (λ j some. refl) happens;
     }
 
     -- ---- servers are fenced or asked
@@ -233,7 +240,9 @@ module _ (g : Setting) (c : ℕ) where
           does = All-append (ClientDoes g c v) r.outs []
               (rest_seen v o.ask o.low s.asked q outs rest (λ p among. in_before (scan_packets w.net.inc outs) w.net.sent p among))
               (All-nil (ClientDoes g c v));
-          lost = λ l. (refl, refl);
+          lost = λ l. (refl, (refl, refl));
+          once = on_once d w.asked (λ j some. refl)
+              (subst (λ (t : Option Told). Happens g w.net (after_told g w.net s.scan d t o.groups)) (rest_tells_none o.ask outs rest) happens);
         })
 
     -- ---- the registry is asked
@@ -273,7 +282,8 @@ module _ (g : Setting) (c : ℕ) where
                 reached = tt;
               })
               (All-nil (ClientDoes g c v));
-          lost = λ l. (refl, refl);
+          lost = λ l. (refl, (refl, refl));
+          once = on_once d t keeps happens;
         }
 
     pub hello_goes : (o : Opening) (st : Stage) → k.maps.groups ≡ o.groups → 0 < o.ask → ((o.ask == s.asked.own) ≡ true → w.asked s.asked.ask ≡ OfOpening o.ask)
@@ -309,7 +319,8 @@ module _ (g : Setting) (c : ℕ) where
           lasts = record { number = h.lasts.number; inc = h.lasts.inc; fresh = h.lasts.fresh };
           shows = tt;
           does = All-cons (ClientDoes g c (on d w.asked)) _ [] tt (All-nil (ClientDoes g c (on d w.asked)));
-          lost = λ l. (refl, refl);
+          lost = λ l. (refl, (refl, refl));
+          once = on_once d w.asked (λ j some. refl) happens;
         }
 
     module _ (o : Opening) (segments : List Segment) (end : End) (prior : Prior) where
@@ -321,11 +332,12 @@ module _ (g : Setting) (c : ℕ) where
 
       -- the log starts behind it
       module _ (m : GroupMapState) (next : log.has_next end.seq ≡ true) (written : StaysWritten (started g.log w.net.inc end m))
+          (reads : ReadsDown w.net o.low told)
           (happens : Happens g w.net (after_told g w.net s.scan d (Some told) (Some m))) where
         abbrev first : log.Done
         first = first_write g w.net.inc end m
 
-        flew : Flew g c w segments its life q.last first
+        flew : Flew g c w segments o.low its life q.last first
         flew = record {
           next = record w { net = after_told g w.net s.scan d (Some told) (Some m) };
           grown = record {
@@ -344,7 +356,13 @@ module _ (g : Setting) (c : ℕ) where
           mine = (own_log g.log (started g.log w.net.inc end m) (log_in.Parts []) (record { log = refl; flight = tt })).outs;
           own = own_after g (started g.log w.net.inc end m) (log_in.Parts []) (record { log = refl; flight = tt });
           written = written_after (started g.log w.net.inc end m) (log_in.Parts []) written refl;
-          shows = inl (record { owner = refl; flies = begins (started g.log w.net.inc end m) refl refl next });
+          shows = inl (record {
+            owner = refl;
+            end = end;
+            flies = begins (started g.log w.net.inc end m) refl refl next;
+            reads = record { some = reads.some; past = reads.past; numbers = reads.numbers; down = reads.down };
+          });
+          once = tt;
         }
 
         abbrev begun : LogId → ℕ → Settling
@@ -387,12 +405,13 @@ module _ (g : Setting) (c : ℕ) where
           tt,
         );
         does = All-nil (ClientDoes g c (on d w.asked));
-        lost = λ l. (refl, refl);
+        lost = λ l. (refl, (refl, refl));
+        once = on_once d w.asked (λ j some. refl) happens;
       }
 
       pub chain_goes : k.maps.groups ≡ o.groups → AsksServers w.asked s.asked o.ask → s.asked.own ≤ o.ask → 0 < o.ask → Takes d
       unfolding follows said
-      chain_goes groups asks past some fits happens = by_groups o.groups refl fits.1 happens
+      chain_goes groups asks past some fits happens = by_groups o.groups refl fits.0.1 happens
         where
           by_groups : (mo : Option GroupMapState) → o.groups ≡ mo → IfSome mo (λ m. StaysWritten (started g.log w.net.inc end m))
               → Happens g w.net (after_told g w.net s.scan d (Some told) mo)
@@ -407,4 +426,4 @@ module _ (g : Setting) (c : ℕ) where
               subst (λ mo. WentTo g c w its life
               (asking q (settles_over k (record { scan = d.state; asked = s.asked }) (record { segments = segments; end = end; low = o.low }) mo)))
               (sym (groups ∙ at))
-              (goes_behind m fits.0 written happens (record { scan = d.state; asked = s.asked }))
+              (goes_behind m fits.0.0 written fits.1 happens (record { scan = d.state; asked = s.asked }))

@@ -1,5 +1,5 @@
 -- What an event makes of a client, as the small world of its log sees it.
-use Rattle.std.specs.Prelude.{◌≡◌, ◌⊎◌, ℕ, true, List, All, IfSome}
+use Rattle.std.specs.Prelude.{◌≡◌, ◌⊎◌, ℕ, true, false, List, All, IfSome}
 use Rattle.client_node.specs.declared.client.Client as clients
 use Rattle.client_node.specs.declared.phase.Phase.{Phase}
 use Rattle.client_node.specs.declared.phase.Phase.TheVariants.{Down, Opening, Serving as Serves}
@@ -30,7 +30,10 @@ use Rattle.log_tie.specs.Setting.{Setting}
 use Rattle.log_law.specs.Net.{Net, Packet, chain_in, opening}
 use Rattle.log_law.specs.Net.Packet.{MapSent}
 use Rattle.log_law.specs.Events.{CameToScan, Runs}
+use Rattle.log_law.specs.Events.Runs.{Begun, On}
 use Rattle.log_law.specs.Openings.{GoesOn, boot_of}
+use Rattle.log_law.specs.ReadBack.{ReadsDown}
+use Rattle.log_law.specs.Restarts.{is_serving}
 use Rattle.node_log_tie.specs.Sight.{AllSeen, PacketSeen}
 use Rattle.node_log_tie.specs.Sight.Question.{Unasked}
 use Rattle.client_log_tie.specs.Owner.{Scene, asker, ClientAgrees}
@@ -48,10 +51,12 @@ PhaseWritten (Down l) = Unit {0}
 PhaseWritten (Opening l o) = StageWritten o.stage
 PhaseWritten (Serves s) = StaysWritten s.log
 
--- To a scan: the ids of the groups of maps that were sent fit, and behind the end of the chain that it tells, whatever comes next, the log can go on.
+-- To a scan: the ids of the groups of maps that were sent fit; and of the chain that it tells, whatever comes next, the log can go on behind the end, and it goes
+-- down to the horizon that was taken last.
 pub record ScanTells (g : Setting) (n : Net) (s : ScanState) : Type 0 where
   pub maps : (m : GroupMapState) → In (MapSent m) n.sent → MapFits m
   pub end : (i : scan_ins.In) → CameToScan g n i → IfSome (chain_in (scan.transition s i).outs) (λ t. GoesOn t.end)
+  pub reads : (i : scan_ins.In) → CameToScan g n i → IfSome (chain_in (scan.transition s i).outs) (ReadsDown n (scan.transition s i).state.opening.low)
 
 abbrev pub StageTells : Setting → Net → stages.Stage → Type 0
 StageTells g n (stage.Scanning s) = ScanTells g n s.scan
@@ -109,6 +114,22 @@ pub record Grown (g : Setting) (w v : Scene) : Type 0 where
 abbrev pub FliesInBoot : Net → Net → Type 0
 FliesInBoot n o = (boot_of o ≡ boot_of n) ⊎ ((o.flown ≡ n.flown) × (o.filed ≡ n.filed))
 
+-- once something happened, the owner serves nowhere on the way
+abbrev pub NeverServes : {g : Setting} {n o : Net} → Runs g n o → Type 0
+NeverServes Begun = Unit {0}
+NeverServes (On {o = o} run happens) = (is_serving o.owner ≡ false) × NeverServes run
+
+-- one thing happens at most
+abbrev pub IsOnce : {g : Setting} {n o : Net} → Runs g n o → Type 0
+IsOnce Begun = Unit {0}
+IsOnce (On Begun happens) = Unit {0}
+IsOnce (On (On run before) happens) = ⊥
+
+-- Unless the owner serves then, it served nowhere on the way; and where it didn't serve before and does then, that is by one thing that happens.
+pub record ServesStraight {g : Setting} {n o : Net} (runs : Runs g n o) : Type 0 where
+  pub never : is_serving o.owner ≡ false → NeverServes runs
+  pub once : is_serving n.owner ≡ false → is_serving o.owner ≡ true → IsOnce runs
+
 -- It runs on to one in which the client is seen as it is then, all that it sends was sent, and all that it tells to be filed is filed; it stores to its own log
 -- alone.
 pub record ClientGoes (g : Setting) (c : ℕ) (w : Scene) (d : NodeStep clients.Client) : Type 0 where
@@ -120,6 +141,7 @@ pub record ClientGoes (g : Setting) (c : ℕ) (w : Scene) (d : NodeStep clients.
   pub acts : All (ActSeen next) d.acts
   pub own : All (λ (p : packets.Packet). OfItsLog g p.body) d.packets
   pub flies : FliesInBoot w.net next.net
+  pub straight : ServesStraight grown.runs
 
 -- Each event of a client is a run of the small world of its log.
 abbrev pub ClientTakes : Type 0

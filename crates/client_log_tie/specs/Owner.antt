@@ -22,6 +22,7 @@ use Rattle.log_tie.specs.Setting.{Setting}
 use Rattle.log_law.specs.Net.{Net}
 use Rattle.log_law.specs.Net.{Owner as owner}
 use Rattle.log_law.specs.Net.Packet.{MapSent}
+use Rattle.log_law.specs.ReadBack.{ReadsDown}
 use Rattle.node_log_tie.specs.Sight.{Asker, Question}
 use Rattle.node_log_tie.specs.Sight.Question.{Unasked, OfOpening}
 use Rattle.opening_law.specs.Questions.{StageAsks}
@@ -108,6 +109,9 @@ module _ (g : Setting) (c : ℕ) (w : Scene) where
     pub clear : s.log.dirty ≡ []
     pub flight : FlightState
     pub flies : s.log.flight ≡ Some flight
+    -- it says nothing, and what was read back before it goes down to the horizon that was taken last
+    pub empty : flight.segment.items ≡ []
+    pub reads : ReadsDown w.net s.low (record { segments = s.chain; end = s.log.end })
 
   abbrev pub SeesStage : Known → ℕ → stages.Stage → Type 0
   SeesStage k last (stage.Scanning s) = SeesScan k s last

@@ -16,7 +16,8 @@ use Rattle.client_log.specs.LogState.{LogState, started}
 use Rattle.client_log.specs.Transition.{group_for, has_next}
 use Rattle.log_scan.specs.Transition as scan
 use Rattle.log_tie.specs.Setting.{Setting}
-use Rattle.log_law.specs.Net.{Told, chain_in}
+use Rattle.log_law.specs.Net.{Net, Told, chain_in}
+use Rattle.log_law.specs.ReadBack.{ReadsDown}
 use Rattle.log_law.specs.Events.{IsWritten}
 pub use Rattle.log_law.specs.Openings.{EndFits}
 
@@ -50,8 +51,9 @@ StaysWritten s = (later : List Input) → AllByRecursion InputFits later → IfS
 abbrev pub StartFits : Setting → ℕ → scan.Done → Told → Type 0
 StartFits g inc d t = (has_next t.end.seq ≡ true) × IfSome d.state.opening.groups (λ m. StaysWritten (started g.log inc t.end m))
 
-abbrev pub ChainFits : Setting → ℕ → scan.Done → Type 0
-ChainFits g inc d = IfSome (chain_in d.outs) (StartFits g inc d)
+-- and the chain goes down to the horizon that was taken last
+abbrev pub ChainFits : Setting → Net → scan.Done → Type 0
+ChainFits g n d = IfSome (chain_in d.outs) (λ t. StartFits g n.inc d t × ReadsDown n d.state.opening.low t)
 
 -- ---- what stays written
 
