@@ -56,7 +56,7 @@ module _ (part : ℕ) (holds : SegRef → Rows) where
       let tells = tells_same b f w v (ap (λ (x : IndexState). x.cleaner) frame) (λ l. ap (λ (x : IndexState). x.head l) frame)
       (λ l q. ap (λ (x : IndexState). x.version l q) frame) (λ l q. ap (λ (x : IndexState). x.hop l q) frame) i.tells in
       let polled : (d : ℕ) → v.polled d ≡ w.polled d = λ d. ap (λ (x : IndexState). x.polled d) frame in
-      let went_on = went part holds b n m i v r.steps (same_filed f) tells (λ d _. let p = polled d in omega arith) (omega arith) (λ _. omega arith) in
+      let went_on = went part holds b n m i v r.steps (same_filed f) tells (λ d _. let p = polled d in omega arith) in
       record {
         state = v;
         reached = went_on.reached;
@@ -128,7 +128,7 @@ module _ (part : ℕ) (holds : SegRef → Rows) where
       let frame = r.frame in
       let more = more_is_filed f l s in
       let polled : (d : ℕ) → v.polled d ≡ w.polled d = λ d. ap (λ (x : IndexState). x.polled d) frame in
-      let went_on = went part holds b n m i v r.steps more r.tells (λ d _. let p = polled d in omega arith) (omega arith) (λ _. omega arith) in
+      let went_on = went part holds b n m i v r.steps more r.tells (λ d _. let p = polled d in omega arith) in
       record {
         state = v;
         reached = went_on.reached;

@@ -30,7 +30,7 @@ use Rattle.log_protocol.specs.IndexSteps.IndexSteps.{Done as Ended, More}
 use Rattle.log_protocol.specs.IndexSteps.IndexStep.{Promises}
 use Rattle.log_protocol.proofs.IndexInduction.{index_always}
 use Rattle.index_tie.specs.Filed.{Filed}
-use Rattle.index_tie.specs.Cleaning.{is_filed_name, IsDropped, ReadFor, ToldFor, DeletesDropped, Cleaned}
+use Rattle.index_tie.specs.Cleaning.{is_filed_name, IsDropped, ReadFor, ToldFor, DeletesDropped, Cleaned, promise_of}
 use Rattle.index_tie.specs.Net.{Net, with_job, deletes_of, IsOther, IsInHand}
 use Rattle.index_tie.specs.Net.Packet.{AnsweredDead}
 use Rattle.index_tie.proofs.Cleaning.{polled_at, StaysOn, RisesOn, heard_at, welcome_rises, promise_rises, promise_stays, usage_stays, live_answered, dead_answered, read_stays, maps_stay, listed_stays, moved_stays_on, deleted_stays, tick_stays}
@@ -39,76 +39,6 @@ use Rattle.index_tie.proofs.JobsStay.{jobs_begin}
 use Rattle.index_tie.proofs.Registry.{Kept, kept_tells, kept_slots}
 use Rattle.index_tie.proofs.Views.{View, went, found, Sound, Good, same_filed}
 use Rattle.checkpoint.specs.Laws.{rows_in}
-
--- ---- a job's promises never fall
-
-set_rises : (xs : List ℕ) (i j v : ℕ) → get_or xs i 0 < v → get_or xs j 0 ≤ get_or (set xs i v) j 0
-set_rises [] i j v less = omega arith
-set_rises (x ∷ xs) zero zero v less = omega arith
-set_rises (x ∷ xs) zero (suc j) v less = omega arith
-set_rises (x ∷ xs) (suc i) zero v less = omega arith
-set_rises (x ∷ xs) (suc i) (suc j) v less = set_rises xs i j v less
-
-above_it : (t : Bool) (x y : ℕ) → (t && nat_lt x y) ≡ true → x < y
-above_it t x y h = grind (arith, nat_tests)
-
-with_rises : (promised : List ℕ) (slot epoch k : ℕ) → promised_at promised k ≤ promised_at (promised_with promised slot epoch) k
-with_rises promised slot epoch k =
-    by_test (λ (p : List ℕ). promised_at promised k ≤ promised_at p k) (is_above promised slot epoch) (set promised slot epoch) promised
-    (λ is. set_rises promised slot k epoch (above_it (nat_lt slot 8) (promised_at promised slot) epoch is))
-    (λ _. omega arith)
-
-all_rise : (slots : List SlotNews) (promised : List ℕ) (k : ℕ) → promised_at promised k ≤ promised_at (promised_of slots promised) k
-all_rise [] promised k = omega arith
-all_rise (news ∷ rest) promised k = let a = with_rises promised news.slot news.epoch k in let c =
-    all_rise rest (promised_with promised news.slot news.epoch) k in omega arith
-
-abbrev NoFall : CleaningState → ℕ → job.Done → Type 0
-NoFall s k d = promised_at s.promised k ≤ promised_at d.state.promised k
-
-welcome_no_fall : (s : CleaningState) (slots : List SlotNews) (groups : GroupMapState) (k : ℕ) → NoFall s k (job.on_welcome s slots groups)
-unfolding job.on_welcome
-welcome_no_fall s slots groups k =
-    by_test (NoFall s k) (job.is_greeting s.phase && (length slots == 8)) (job.welcomed s slots groups) (still s) (λ _. all_rise slots s.promised k)
-    (λ _. omega arith)
-
-promise_no_fall : (s : CleaningState) (slot epoch k : ℕ) → NoFall s k (job.on_promise s slot epoch)
-unfolding job.on_promise
-promise_no_fall s slot epoch k =
-    by_test (NoFall s k) (is_above s.promised slot epoch)
-    (job.turned (record s { promised = promised_with s.promised slot epoch }) (job.forgetting slot s.phase)) (still s) (λ _. with_rises s.promised slot epoch k)
-    (λ _. omega arith)
-
-usage_no_fall : (s : CleaningState) (slot epoch : ℕ) (counts : _) (k : ℕ) → NoFall s k (job.on_usage s slot epoch counts)
-unfolding job.on_usage
-usage_no_fall s slot epoch counts k =
-    by_test (NoFall s k) (is_promised s.promised slot epoch) (job.turned s (job.counted_in s.count slot counts s.phase)) (still s) (λ _. omega arith)
-    (λ _. omega arith)
-
-live_no_fall : (s : CleaningState) (block : BlockId) (epoch : ℕ) (entry : _) (k : ℕ) → NoFall s k (job.on_live s block epoch entry)
-unfolding job.on_live
-live_no_fall s block epoch entry k =
-    by_test (NoFall s k) (job.is_heard s.promised block epoch && job.may_move entry) (job.turned s (job.answered_in (live_at block entry) s.phase)) (still s)
-    (λ _. omega arith) (λ _. omega arith)
-
-dead_no_fall : (s : CleaningState) (block : BlockId) (epoch k : ℕ) → NoFall s k (job.on_dead s block epoch)
-unfolding job.on_dead
-dead_no_fall s block epoch k =
-    by_test (NoFall s k) (job.is_heard s.promised block epoch) (job.turned s (job.answered_in (dead_at block) s.phase)) (still s) (λ _. omega arith)
-    (λ _. omega arith)
-
-no_fall : (s : CleaningState) (i : job_inputs.In) (k : ℕ) → NoFall s k (job.transition s i)
-no_fall s (job_input.Welcome slots groups) k = welcome_no_fall s slots groups k
-no_fall s (job_input.Promise slot epoch) k = promise_no_fall s slot epoch k
-no_fall s (job_input.Maps groups) k = omega arith
-no_fall s (job_input.Listed server held) k = omega arith
-no_fall s (job_input.Usage slot epoch counts) k = usage_no_fall s slot epoch counts k
-no_fall s (job_input.Read read) k = omega arith
-no_fall s (job_input.Live block epoch entry) k = live_no_fall s block epoch entry k
-no_fall s (job_input.Dead block epoch) k = dead_no_fall s block epoch k
-no_fall s job_input.Moved k = omega arith
-no_fall s (job_input.Deleted server name) k = omega arith
-no_fall s job_input.Tick k = omega arith
 
 -- a promise of another slot is none of this one
 other_promise : (s : CleaningState) (slot epoch k : ℕ) → (slot ≡ k → ⊥) → promised_at (job.on_promise s slot epoch).state.promised k ≡ promised_at s.promised k
@@ -131,9 +61,9 @@ names_dropped b f dropped (o ∷ os) more all rest = names_dropped b f dropped o
 module _ (part : ℕ) (holds : SegRef → Rows) where
   job_view : (n : Net) (d : job.Done) (p : ℕ) (b : BlockId) (i : View part holds b n) (r : Cleaned b n.filed i.state d) → r.state.promised ≡ p
       → ((e : ℕ) → e ≤ i.state.promised → r.state.polled e ≤ i.state.polled e)
-      → ((e : ℕ) → r.state.polled e ≤ i.state.head 9) → promised_at n.job.promised part ≤ promised_at d.state.promised part
+      → ((e : ℕ) → r.state.polled e ≤ i.state.head 9)
       → View part holds b (record (with_job n d) { promised = p })
-  job_view n d p b i r promised polled headed rises =
+  job_view n d p b i r promised polled headed =
       let w = i.state in
       let v = r.state in
       let f = n.filed in
@@ -149,7 +79,7 @@ module _ (part : ℕ) (holds : SegRef → Rows) where
         index = λ e. ap (λ (x : IndexState). x.index e) frame;
       } in
       let tells = kept_tells part holds b f w v kept i.tells in
-      let went_on = went part holds b n m i v r.steps (same_filed f) tells polled (omega arith) (λ _. rises) in
+      let went_on = went part holds b n m i v r.steps (same_filed f) tells polled in
       record {
         state = v;
         reached = went_on.reached;
@@ -171,7 +101,7 @@ module _ (part : ℕ) (holds : SegRef → Rows) where
       → View part holds b (with_job n (job.transition n.job x))
   stays_view n x b i r =
       job_view n (job.transition n.job x) n.promised b i r.cleaned (r.promised ∙ i.promised) (λ e _. let p = r.polled e in omega arith)
-      (λ e. let p = r.polled e in let q = i.polled e in omega arith) (no_fall n.job x part)
+      (λ e. let p = r.polled e in let q = i.polled e in omega arith)
 
   stays_good : (n : Net) (x : job_inputs.In) → Good part holds n
       → ((b : BlockId) → slot_of b.ino.0 ≡ part → (i : View part holds b n) → StaysOn b n.filed i.state (job.transition n.job x))
@@ -205,28 +135,28 @@ module _ (part : ℕ) (holds : SegRef → Rows) where
   job_reads n read g owes = stays_good n (job_input.Read read) g (λ b inside i. read_stays b n.filed i.state n.job read i.job owes)
 
   -- a Dead of the segment in hand that is heard was told of its row
-  told_for : (n : Net) (b : BlockId) (i : View part holds b n) (epoch : ℕ) (name : SegName) (d : ℕ) (p : Phase) → n.slots 0 ≡ None
-      → Sound part holds b n i.state (AnsweredDead n.number b name d epoch) → epoch ≡ promised_at n.job.promised part → IsInHand name p
+  told_for : (n : Net) (b : BlockId) (i : View part holds b n) (number epoch : ℕ) (name : SegName) (d : ℕ) (p : Phase)
+      → Sound part holds b n i.state (AnsweredDead number b name d epoch) → epoch ≡ promise_of b n.job → IsInHand name p
       → ToldFor b n.filed i.state epoch p
-  told_for n b i epoch name d (Checking j segment checks) begun known at hand = λ is has.
-      let low = known.0.promised refl in
-      let told = known.1 refl (sym (ap (is_filed_name n.filed) hand) ∙ is) (omega arith) in
-      let active = (index_always i.state i.reached).dead.told_active epoch name.log.0 name.seq told in
-      (some_epoch epoch refl active, ap (λ (x : SegName). i.state.told epoch x.log.0 x.seq) hand ∙ told)
+  told_for n b i number epoch name d (Checking j segment checks) known at hand = λ is has. (
+    known.1,
+    ap (λ (x : SegName). i.state.told epoch x.log.0 x.seq) hand ∙ known.2 refl (sym (ap (is_filed_name n.filed) hand) ∙ is) (within i.job.promised),
+  )
     where
-      some_epoch : (e : ℕ) → e ≡ epoch → i.state.active epoch ≡ 1 → 0 < epoch
-      some_epoch zero is on = let off = i.none 0 begun in let same = ap i.state.active is in absurd (omega arith)
-      some_epoch (suc e) is on = omega arith
-  told_for n b i epoch name d p begun known at hand = tt
+      within : (promise_of b n.job ≡ 0) ⊎ (i.state.promised ≡ promise_of b n.job) → d ≤ epoch
+      within (inl none) = let some = known.1 in absurd (omega arith)
+      within (inr same) = let low = known.0.promised in omega arith
+  told_for n b i number epoch name d p known at hand = tt
 
-  pub job_hears_dead : (n : Net) (k : BlockId) (epoch : ℕ) (name : SegName) (d : ℕ) → Good part holds n → In (AnsweredDead n.number k name d epoch) n.sent
+  pub job_hears_dead : (n : Net) (number : ℕ) (k : BlockId) (epoch : ℕ) (name : SegName) (d : ℕ) → Good part holds n
+      → In (AnsweredDead number k name d epoch) n.sent
       → IsInHand name n.job.phase → Good part holds (with_job n (job.transition n.job (job_input.Dead k epoch)))
-  job_hears_dead n k epoch name d g answered hand =
+  job_hears_dead n number k epoch name d g answered hand =
       stays_good n (job_input.Dead k epoch) g (λ b inside i.
       dead_answered b n.filed i.state n.job k epoch i.job (λ same heard.
-      let known = found part holds b (Sound part holds b n i.state) (AnsweredDead n.number k name d epoch) n.sent i.sent answered in
-      let at : epoch ≡ promised_at n.job.promised part = heard_at b n.filed n.job k epoch same heard ∙ ap (promised_at n.job.promised) inside in
-      told_for n b i epoch name d n.job.phase g.begun (subst (λ x. Sound part holds b n i.state (AnsweredDead n.number x name d epoch)) same known) at hand))
+      let known = found part holds b (Sound part holds b n i.state) (AnsweredDead number k name d epoch) n.sent i.sent answered in
+      let at : epoch ≡ promise_of b n.job = heard_at b n.filed n.job k epoch same heard in
+      told_for n b i number epoch name d n.job.phase (subst (λ x. Sound part holds b n i.state (AnsweredDead number x name d epoch)) same known) at hand))
 
   -- ---- promises
 
@@ -236,7 +166,7 @@ module _ (part : ℕ) (holds : SegRef → Rows) where
   rises_view n x b inside i r =
       let d = job.transition n.job x in
       job_view n d (promised_at d.state.promised part) b i r.cleaned (r.promised ∙ ap (promised_at d.state.promised) inside)
-      (λ e low. polled_low e low (r.polled e)) (λ e. polled_head e (r.polled e)) (no_fall n.job x part)
+      (λ e low. polled_low e low (r.polled e)) (λ e. polled_head e (r.polled e))
     where
       polled_low : (e : ℕ) → e ≤ i.state.promised
           → (r.cleaned.state.polled e ≡ i.state.polled e) ⊎ ((i.state.promised < e) × (r.cleaned.state.polled e ≡ i.state.head i.state.cleaner))
@@ -293,8 +223,7 @@ module _ (part : ℕ) (holds : SegRef → Rows) where
       record { cleaner = refl; head = λ l. refl; version = λ l q. refl; hop = λ l q. refl; active = λ k. refl; applied = λ k l. refl; index = λ k. refl } in
       let tells = kept_tells part holds b f w v kept i.tells in
       let went_on =
-      went part holds b n m i v (More Ended (Promises e (record { rises = omega arith }))) (same_filed f) tells (λ d low. polled_low d low (polled_at w e d))
-      (omega arith) (λ _. omega arith) in
+      went part holds b n m i v (More Ended (Promises e (record { rises = omega arith }))) (same_filed f) tells (λ d low. polled_low d low (polled_at w e d)) in
       record {
         state = v;
         reached = went_on.reached;
@@ -339,7 +268,7 @@ module _ (part : ℕ) (holds : SegRef → Rows) where
         let i = g.views b inside in
         let m = record n { job = started count; number = suc n.number } in
         let went_on =
-        went part holds b n m i i.state Ended (same_filed n.filed) i.tells (λ d _. omega arith) (omega arith) (λ same. absurd (let h = same in omega arith)) in
+        went part holds b n m i i.state Ended (same_filed n.filed) i.tells (λ d _. omega arith) in
         record {
           state = i.state;
           reached = i.reached;

@@ -46,7 +46,7 @@ use Rattle.index_tie.specs.Filed.{Filed, row_at, IsFiled, Tells}
 use Rattle.index_tie.specs.Slots.{Manages}
 use Rattle.index_tie.specs.Takeovers.{of_log, Covers, MayBegin, TakeoverTold}
 use Rattle.index_tie.specs.Checkpoints.{IsNext, horizon_seen}
-use Rattle.index_tie.specs.Cleaning.{IsRow, is_filed_name, IsWithin}
+use Rattle.index_tie.specs.Cleaning.{IsRow, is_filed_name, IsWithin, promise_of}
 use Rattle.index_tie.specs.Net.{Net, Packet, with_slot, with_packet, answer_packets, HasRead}
 use Rattle.index_tie.specs.Net.Packet.{CheckpointPlanned, CheckpointDone, CleanerReported, Checked, AnsweredLive, AnsweredDead}
 use Rattle.index_tie.proofs.Answers.{live_is_filed, deads_are_beats}
@@ -112,7 +112,7 @@ module _ (part : ℕ) (holds : SegRef → Rows) where
       let f = n.filed in
       let m = record n { sent = new ++ n.sent } in
       let tells = kept_tells b f w v r.kept i.tells in
-      let went_on = went part holds b n m i v r.steps (same_filed f) tells (λ d _. let p = r.polled d in omega arith) (omega arith) (λ _. omega arith) in
+      let went_on = went part holds b n m i v r.steps (same_filed f) tells (λ d _. let p = r.polled d in omega arith) in
       record {
         state = v;
         reached = went_on.reached;
@@ -151,15 +151,18 @@ module _ (part : ℕ) (holds : SegRef → Rows) where
 
   -- ---- a slot answers a Check
 
-  -- what was asked, of a later net that has the same log, job and number
-  asked_as : (b : BlockId) (n m : Net) (w v : IndexState) (number : ℕ) (name : SegName) (d : ℕ) → m.filed ≡ n.filed → m.number ≡ n.number → m.job ≡ n.job
-      → ((e l : ℕ) → v.floor e l ≡ w.floor e l) → IsAsked part holds b n w number name d → IsAsked part holds b m v number name d
-  asked_as b n m w v number name d filed counts job floor a = record {
+  -- what was asked, of a later net that has the same log, and in whose index the same is promised
+  asked_as : (b : BlockId) (n m : Net) (w v : IndexState) (name : SegName) (d : ℕ) → m.filed ≡ n.filed → v.promised ≡ w.promised
+      → ((e l : ℕ) → v.floor e l ≡ w.floor e l) → IsAsked part holds b n w name d → IsAsked part holds b m v name d
+  asked_as b n m w v name d filed promised floor a = record {
     within = subst (λ f. IsWithin f name) (sym filed) a.within;
     below = let x = a.below in let y = floor d name.log.0 in omega arith;
-    count = let x = a.count in omega arith;
-    promised = λ same. let x = a.promised (same ∙ counts) in let y = ap (λ (j : CleaningState). promised_at j.promised part) job in omega arith;
+    promised = let x = a.promised in omega arith;
   }
+
+  above_zero : (e : ℕ) → (e ≡ 0 → ⊥) → 0 < e
+  above_zero zero none = absurd (none refl)
+  above_zero (suc e) none = omega arith
 
   -- a Live is a filed row
   lives : (n : Net) (s : SlotState) (k : BlockId) (place : Place) (b : BlockId) (w : IndexState) → Manages b n.filed w s
@@ -204,7 +207,8 @@ module _ (part : ℕ) (holds : SegRef → Rows) where
         dropped = λ k r. refl;
         sound = (
           (
-            asked_as b n m w v number place.seg.name d refl refl refl (λ k r. refl) asked.0,
+            asked_as b n m w v place.seg.name d refl refl (λ k r. refl) asked.0,
+            above_zero e (not_zero part holds n e s g at),
             λ _ _ _. at_same e (put_at (w.told e) l q 1 l q) (w.told e l q) ∙ at_same l (cond (q == q) 1 (w.told e l q)) (w.told e l q)
                 ∙ at_same q 1 (w.told e l q),
           ),
@@ -229,8 +233,9 @@ module _ (part : ℕ) (holds : SegRef → Rows) where
       untold known never =
           still_sends b n i (AnsweredDead number k place.seg.name d e ∷ []) (
             (
-              asked_as b n (record n { sent = AnsweredDead number k place.seg.name d e ∷ n.sent }) i.state i.state number place.seg.name d refl refl refl
+              asked_as b n (record n { sent = AnsweredDead number k place.seg.name d e ∷ n.sent }) i.state i.state place.seg.name d refl refl
                   (λ x y. refl) known.0,
+              above_zero e (not_zero part holds n e s g at),
               λ same is low. absurd (never same is low),
             ),
             tt,
@@ -298,6 +303,17 @@ module _ (part : ℕ) (holds : SegRef → Rows) where
       let x = i.polled n.promised in
       still_sends b n i (CleanerReported n.promised (n.filed.head 9) ∷ []) ((omega arith, omega arith), tt))
 
+  -- what its job has promised the cleaner has
+  asked_low : (n : Net) (d : ℕ) (b : BlockId) → slot_of b.ino.0 ≡ part → (i : View part holds b n) → d ≤ promised_at n.job.promised part → d ≤ i.state.promised
+  asked_low n d b inside i low = by i.job.promised
+    where
+      told : promise_of b n.job ≡ promised_at n.job.promised part
+      told = ap (promised_at n.job.promised) inside
+
+      by : (promise_of b n.job ≡ 0) ⊎ (i.state.promised ≡ promise_of b n.job) → d ≤ i.state.promised
+      by (inl none) = let t = told in omega arith
+      by (inr same) = let t = told in omega arith
+
   pub asks : (n : Net) (k : BlockId) (place : Place) (d : ℕ) → Good part holds n → d ≤ promised_at n.job.promised part → IsWithin n.filed place.seg.name
       → place.seg.name.seq < of_log (n.horizon d) place.seg.name.log.0
       → (is_filed_name n.filed place.seg.name ≡ true → (row_at n.filed k place.seg.name.log.0 place.seg.name.seq).place ≡ Some place)
@@ -308,7 +324,7 @@ module _ (part : ℕ) (holds : SegRef → Rows) where
       let h = i.horizon d place.seg.name.log.0 named.0 named.1 in
       still_sends b n i (Checked n.number k place d ∷ []) (
         (
-          record { within = within; below = omega arith; count = omega arith; promised = λ _. promised },
+          record { within = within; below = omega arith; promised = asked_low n d b inside i promised },
           (λ at is. ap (λ x. (row_at n.filed x place.seg.name.log.0 place.seg.name.seq).place) (sym at) ∙ lies is),
         ),
         tt,
@@ -332,7 +348,7 @@ module _ (part : ℕ) (holds : SegRef → Rows) where
       let kept : Kept w v =
       record { cleaner = refl; head = λ l. refl; version = λ l q. refl; hop = λ l q. refl; active = λ e. refl; applied = λ e l. refl; index = λ e. refl } in
       let tells = kept_tells b f w v kept i.tells in
-      let went_on = went part holds b n m i v (More Ended k.step) (same_filed f) tells (λ d _. omega arith) (omega arith) (λ _. omega arith) in
+      let went_on = went part holds b n m i v (More Ended k.step) (same_filed f) tells (λ d _. omega arith) in
       record {
         state = v;
         reached = went_on.reached;
@@ -384,7 +400,7 @@ module _ (part : ℕ) (holds : SegRef → Rows) where
         let kept : Kept w v =
         record { cleaner = refl; head = λ l. refl; version = λ l q. refl; hop = λ l q. refl; active = λ e. refl; applied = λ e l. refl; index = λ e. refl } in
         let tells = kept_tells b f w v kept i.tells in
-        let went_on = went part holds b n m i v (More Ended Moves) (same_filed f) tells (λ d _. omega arith) (omega arith) (λ _. omega arith) in
+        let went_on = went part holds b n m i v (More Ended Moves) (same_filed f) tells (λ d _. omega arith) in
         record {
           state = v;
           reached = went_on.reached;

@@ -59,7 +59,7 @@ keeps_good part holds n m Reports g = reports part holds n g
 keeps_good part holds n m (JobBegins count) g = job_begins part holds n count g
 keeps_good part holds n m (JobReads read owes) g = job_reads part holds n read g owes
 keeps_good part holds n m (Asks b place d promised within below_ lies) g = asks part holds n b place d g promised within below_ lies
-keeps_good part holds n m (JobHearsDead b epoch name d answered hand) g = job_hears_dead part holds n b epoch name d g answered hand
+keeps_good part holds n m (JobHearsDead number b epoch name d answered hand) g = job_hears_dead part holds n number b epoch name d g answered hand
 keeps_good part holds n m (JobTakes i other) g = job_takes part holds n i g other
 
 runs_good : (part : ℕ) (holds : SegRef → Rows) (n m : Net) → Runs part holds n m → Good part holds n → Good part holds m
@@ -175,7 +175,7 @@ opens part holds any = record {
 pub good_in : (part : ℕ) (holds : SegRef → Rows) (any : ℕ → ℕ → Segment) (n : Net) → Runs part holds (opening any) n → Good part holds n
 good_in part holds any n run = runs_good part holds (opening any) n run (opens part holds any)
 
-good_always : (part : ℕ) (holds : SegRef → Rows) (n : Net) (b : BlockId) → Moment part holds n b → Good part holds n
+pub good_always : (part : ℕ) (holds : SegRef → Rows) (n : Net) (b : BlockId) → Moment part holds n b → Good part holds n
 good_always part holds n b m = good_in part holds m.any n m.run
 
 -- ---- the laws

@@ -31,12 +31,11 @@ use Rattle.index_tie.proofs.JobsStay.{dropped_stays}
 use Rattle.index_tie.proofs.Growth.{row_stays, is_filed, parts_stay}
 
 module _ (part : ℕ) (holds : SegRef → Rows) (b : BlockId) where
-  -- what is asked about lies in its log, below a horizon of an epoch that the job has promised, if it is this job
-  pub record IsAsked (n : Net) (w : IndexState) (number : ℕ) (name : SegName) (d : ℕ) : Type 0 where
+  -- what is asked about lies in its log, below a horizon of an epoch that the cleaner has promised
+  pub record IsAsked (n : Net) (w : IndexState) (name : SegName) (d : ℕ) : Type 0 where
     pub within : IsWithin n.filed name
     pub below : name.seq < w.floor d name.log.0
-    pub count : number ≤ n.number
-    pub promised : number ≡ n.number → d ≤ promised_at n.job.promised part
+    pub promised : d ≤ w.promised
 
   -- what is planned covers what its horizon passes, once segments hold it
   pub record IsPlanned (n : Net) (w : IndexState) (e : ℕ) (events : List Event) (horizon : List ℕ) : Type 0 where
@@ -52,11 +51,11 @@ module _ (part : ℕ) (holds : SegRef → Rows) (b : BlockId) where
       (w.active e ≡ 1) × ((l : ℕ) → 0 < l → l ≤ 9 → of_log horizon l ≤ suc (w.applied e l)) × Covers b n.filed w horizon (rows_in holds parts)
   Sound n w (CleanerReported e end) = (w.polled e ≤ end) × (e ≤ w.promised)
   Sound n w (Checked number k place d) =
-      IsAsked n w number place.seg.name d
+      IsAsked n w place.seg.name d
       × (k ≡ b → is_filed_name n.filed place.seg.name ≡ true → (row_at n.filed b place.seg.name.log.0 place.seg.name.seq).place ≡ Some place)
   Sound n w (AnsweredLive k entry) = k ≡ b → IsRow b n.filed entry
   Sound n w (AnsweredDead number k name d e) =
-      IsAsked n w number name d × (k ≡ b → is_filed_name n.filed name ≡ true → d ≤ e → w.told e name.log.0 name.seq ≡ 1)
+      IsAsked n w name d × (0 < e) × (k ≡ b → is_filed_name n.filed name ≡ true → d ≤ e → w.told e name.log.0 name.seq ≡ 1)
 
   -- the small world is seen in the index of the block
   pub record View (n : Net) : Type 0 where
@@ -81,20 +80,12 @@ module _ (part : ℕ) (holds : SegRef → Rows) (b : BlockId) where
     pub new : Tells b m.filed v
     pub past : IndexPastStays w v
     pub polled : (e : ℕ) → e ≤ w.promised → v.polled e ≤ w.polled e
-    pub number : n.number ≤ m.number
-    pub promise : m.number ≡ n.number → promised_at n.job.promised part ≤ promised_at m.job.promised part
 
-  asked_later : (n m : Net) (w v : IndexState) (number : ℕ) (name : SegName) (d : ℕ) → Later n m w v → IsAsked n w number name d → IsAsked m v number name d
-  asked_later n m w v number name d t a = record {
+  asked_later : (n m : Net) (w v : IndexState) (name : SegName) (d : ℕ) → Later n m w v → IsAsked n w name d → IsAsked m v name d
+  asked_later n m w v name d t a = record {
     within = record { some = a.within.some; filed = let x = a.within.filed in let y = t.more.head name.log.0 in omega arith };
     below = let x = a.below in let y = t.past.floor d name.log.0 in omega arith;
-    count = let x = a.count in let y = t.number in omega arith;
-    promised = λ same.
-        let x = a.count in
-        let y = t.number in
-        let old = a.promised (omega arith) in
-        let rises = t.promise (omega arith) in
-        omega arith;
+    promised = let x = a.promised in let y = t.past.promised in omega arith;
   }
 
   same_test : (f g : Filed) (name : SegName) → IsMore f g → IsWithin f name → is_filed_name g name ≡ is_filed_name f name
@@ -124,14 +115,15 @@ module _ (part : ℕ) (holds : SegRef → Rows) (b : BlockId) where
       let p = t.past.promised in
       (omega arith, omega arith)
   sound_later n m w v (Checked number k place d) t s = (
-    asked_later n m w v number place.seg.name d t s.0,
+    asked_later n m w v place.seg.name d t s.0,
     λ at is. ap (λ (e : Entry). e.place) (row_stays b n.filed m.filed place.seg.name.log.0 place.seg.name.seq t.more s.0.within.filed)
         ∙ s.1 at (sym (same_test n.filed m.filed place.seg.name t.more s.0.within) ∙ is),
   )
   sound_later n m w v (AnsweredLive k entry) t s = λ at. row_later n.filed m.filed entry t.more (s at)
   sound_later n m w v (AnsweredDead number k name d e) t s = (
-    asked_later n m w v number name d t s.0,
-    λ at is low. t.past.told e name.log.0 name.seq (s.1 at (sym (same_test n.filed m.filed name t.more s.0.within) ∙ is) low),
+    asked_later n m w v name d t s.0,
+    s.1,
+    λ at is low. t.past.told e name.log.0 name.seq (s.2 at (sym (same_test n.filed m.filed name t.more s.0.within) ∙ is) low),
   )
 
   pub all_later : (n m : Net) (w v : IndexState) (ps : List Packet) → Later n m w v → AllByRecursion (Sound n w) ps → AllByRecursion (Sound m v) ps
@@ -163,11 +155,10 @@ module _ (part : ℕ) (holds : SegRef → Rows) (b : BlockId) where
     pub deleted : AllByRecursion (IsDropped b m.filed v.dropped) n.deleted
 
   pub went : (n m : Net) (i : View n) (v : IndexState) → IndexSteps i.state v → IsMore n.filed m.filed → Tells b m.filed v
-      → ((e : ℕ) → e ≤ i.state.promised → v.polled e ≤ i.state.polled e) → n.number ≤ m.number
-      → (m.number ≡ n.number → promised_at n.job.promised part ≤ promised_at m.job.promised part) → Went n m i.state v
-  went n m i v steps more new polled number promise =
+      → ((e : ℕ) → e ≤ i.state.promised → v.polled e ≤ i.state.polled e) → Went n m i.state v
+  went n m i v steps more new polled =
       let past = index_past_stays_always i.state v i.reached steps in
-      let t : Later n m i.state v = record { more = more; old = i.tells; new = new; past = past; polled = polled; number = number; promise = promise } in
+      let t : Later n m i.state v = record { more = more; old = i.tells; new = new; past = past; polled = polled } in
       record {
         reached = index_reached_on i.state v i.reached steps;
         later = t;

@@ -218,8 +218,9 @@ pub data Happens (part : ℕ) (holds : SegRef → Rows) : Net → Net → Type 0
       → place.seg.name.seq < of_log (n.horizon d) place.seg.name.log.0
       → (is_filed_name n.filed place.seg.name ≡ true → (row_at n.filed b place.seg.name.log.0 place.seg.name.seq).place ≡ Some place)
       → Happens part holds n (with_packet n (Checked n.number b place d))
-  -- it hears a Dead of the segment in hand
-  JobHearsDead : {n : Net} (b : BlockId) (epoch : ℕ) (name : SegName) (d : ℕ) → In (AnsweredDead n.number b name d epoch) n.sent → IsInHand name n.job.phase
+  -- it hears a Dead of the segment in hand, whichever job asked
+  JobHearsDead : {n : Net} (number : ℕ) (b : BlockId) (epoch : ℕ) (name : SegName) (d : ℕ) → In (AnsweredDead number b name d epoch) n.sent
+      → IsInHand name n.job.phase
       → Happens part holds n (with_job n (job.transition n.job (job_input.Dead b epoch)))
   -- it takes anything else
   JobTakes : {n : Net} (i : job_inputs.In) → IsOther part i → Happens part holds n (with_job n (job.transition n.job i))

@@ -117,7 +117,7 @@ module _ (New : Filed → Segment → Type 0) (part : ℕ) (texts : Texts) (sinc
 
       given : DeadGiven part n m → Goes (cleans e (input.Dead m.block m.epoch))
       given k = jobs.cleans_so New part texts since answered asked n e (input.Dead m.block m.epoch) h
-          (jobs.may_dead New part texts since answered n e m.block m.epoch k.name k.below h k.sent k.hand)
+          (jobs.may_dead New part texts since answered n e k.number m.block m.epoch k.name k.below h k.sent k.hand)
 
       by : is_out (check_of (hand_of e.job) m.block) m.ask ≡ true → (t : Bool) → (slot_of m.block.ino.0 == part) ≡ t
           → Goes (cleans e (input.Dead m.block m.epoch))

@@ -220,15 +220,15 @@ module _ (New : Filed → Segment → Type 0) (part : ℕ) (texts : Texts) (sinc
       }
 
   -- a Dead of the slot
-  pub may_dead : (n : Net) (e : Emptying) (block : BlockId) (epoch : ℕ) (name : SegName) (below : ℕ) → At n e
-      → In (AnsweredDead n.number block name below epoch) n.sent
+  pub may_dead : (n : Net) (e : Emptying) (number : ℕ) (block : BlockId) (epoch : ℕ) (name : SegName) (below : ℕ) → At n e
+      → In (AnsweredDead number block name below epoch) n.sent
       → IsInHand name n.job.phase → May n e (input.Dead block epoch)
-  may_dead n e block epoch name below h sent hand j same =
+  may_dead n e number block epoch name below h sent hand j same =
       let k = its n e j h same in
       let kept = same_promises j.cleaning (input.Dead block epoch) tt in
       record {
         happens = subst (λ s. Happens part (held_in part texts) n (with_job n (job.transition s (input.Dead block epoch)))) k.is
-            (JobHearsDead block epoch name below sent hand);
+            (JobHearsDead number block epoch name below sent hand);
         seen = record { is = refl; eight = ap length kept ∙ k.eight; told = ap (λ p. promised_at p part) kept ∙ k.told };
       }
 

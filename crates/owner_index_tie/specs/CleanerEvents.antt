@@ -116,11 +116,12 @@ module _ (part : ℕ) (n : Net) where
   PollGets e m = m.slot ≡ part → epoch_of e.promised part ≤ m.epoch → 0 < of_log (n.horizon m.epoch) 9
       → Linked n.filed 9 (of_log (n.horizon m.epoch) 9) (n.filed.head 9)
 
-  -- a Dead that is awaited was told of the segment in hand, in answer to this job
+  -- a Dead that is awaited was told of the segment in hand
   pub record DeadGiven (m : Dead) : Type 0 where
+    pub number : ℕ
     pub name : SegName
     pub below : ℕ
-    pub sent : In (AnsweredDead n.number m.block name below m.epoch) n.sent
+    pub sent : In (AnsweredDead number m.block name below m.epoch) n.sent
     pub hand : IsInHand name n.job.phase
 
   abbrev pub DeadGets : Emptying → Dead → Type 0
