@@ -1,7 +1,6 @@
 -- Each thing that happens in the small world keeps it seen: what the cleaner promises, and what its jobs take.
-use Rattle.std.proofs.Common.{◌≡◌, ℕ, zero, suc, ◌<◌, ◌≤◌, ◌⊎◌, ◌==◌, ◌&&◌, inl, inr, nat_lt, Bool, true, get_or, set, List, [], ◌∷◌, ◌++◌, length, Option, None, refl, sym, ap, subst, ◌∙◌, arith}
+use Rattle.std.proofs.Common.{◌≡◌, ℕ, suc, ◌<◌, ◌≤◌, ◌⊎◌, inl, inr, set, List, [], ◌∷◌, ◌++◌, Option, refl, sym, ap, subst, ◌∙◌, arith}
 use Rattle.std.specs.List.{AllByRecursion}
-use Rattle.std.proofs.lemmas.Bool.Decides.{nat_tests}
 use Rattle.std.proofs.lemmas.List.{get_or-set_other}
 use Rattle.group_map.specs.GroupMapState.{GroupMapState}
 use Rattle.xfs_base.specs.declared.block.BlockId.{BlockId}
@@ -19,16 +18,14 @@ use Rattle.stripe_cleaner.specs.declared.output.Out as job_outputs
 use Rattle.stripe_cleaner.specs.declared.output.Out.TheVariants as job_output
 use Rattle.stripe_cleaner.specs.declared.phase.Phase.{Phase}
 use Rattle.stripe_cleaner.specs.declared.phase.Phase.TheVariants.{Checking}
-use Rattle.stripe_cleaner.specs.Checks.{live_at, dead_at}
 use Rattle.stripe_cleaner.specs.CleaningState.{CleaningState, started}
-use Rattle.stripe_cleaner.specs.Promises.{promised_at, is_above, is_promised, promised_with, promised_of}
+use Rattle.stripe_cleaner.specs.Promises.{promised_at, is_above, promised_with}
 use Rattle.stripe_cleaner.specs.Transition as job
 use Rattle.log_protocol.specs.Tables.{In}
 use Rattle.log_protocol.specs.IndexState.{IndexState}
 use Rattle.log_protocol.specs.IndexSteps.{promises}
 use Rattle.log_protocol.specs.IndexSteps.IndexSteps.{Done as Ended, More}
 use Rattle.log_protocol.specs.IndexSteps.IndexStep.{Promises}
-use Rattle.log_protocol.proofs.IndexInduction.{index_always}
 use Rattle.index_tie.specs.Filed.{Filed}
 use Rattle.index_tie.specs.Cleaning.{is_filed_name, IsDropped, ReadFor, ToldFor, DeletesDropped, Cleaned, promise_of}
 use Rattle.index_tie.specs.Net.{Net, with_job, deletes_of, IsOther, IsInHand}

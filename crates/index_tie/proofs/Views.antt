@@ -11,7 +11,6 @@ use Rattle.checkpoint.specs.Laws.{Event, rows_in, after_event, slot_after, MayCo
 use Rattle.checkpoint.specs.Laws.Event.{Written}
 use Rattle.checkpoint.specs.WriterState.{Rows}
 use Rattle.stripe_cleaner.specs.Job.{same_name}
-use Rattle.stripe_cleaner.specs.Promises.{promised_at}
 use Rattle.token_manager.specs.SlotState.{SlotState}
 use Rattle.log_protocol.specs.Tables.{In}
 use Rattle.log_protocol.specs.IndexState.{IndexState}

@@ -73,7 +73,7 @@ within_nine : (clients : ℕ) → clients ≤ 8 → clients + 1 ≤ 9
 within_nine clients most = omega arith
 
 -- a node of a kind has a place where there are so many
-place_there : (first count number : ℕ) → 0 < number → number ≤ count → place_behind first count number ≡ Some (first + number - 1)
+pub place_there : (first count number : ℕ) → 0 < number → number ≤ count → place_behind first count number ≡ Some (first + number - 1)
 place_there first count number some most = ap (λ t. cond t (Some (first + number - 1)) None) (both number count some most)
   where
     both : (a c : ℕ) → 0 < a → a ≤ c → (nat_lt 0 a && nat_le a c) ≡ true

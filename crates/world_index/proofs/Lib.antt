@@ -1,0 +1,16 @@
+pub mod Horizons
+pub mod Asking
+pub mod Standing
+pub mod Facts
+pub mod Senders
+pub mod Placing
+pub mod Frames
+pub mod Gets
+pub mod CleanerGoing
+pub mod ClientTurns
+pub mod ManagerTurns
+pub mod CleanerTurns
+pub mod RegistryTurns
+pub mod AskingTurns
+pub mod Start
+pub mod Turns

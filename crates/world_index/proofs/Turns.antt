@@ -1,0 +1,274 @@
+-- Each event of the world keeps a moment standing to the small world of a slot's index, if logs and tokens give what they owe.
+use Rattle.std.proofs.Common.{◌≡◌, ◌⊎◌, ℕ, ◌+◌, ◌≤◌, ◌<◌, Bool, List, ◌++◌, Some, map, slice_get, slice_set, inl, inr, refl, sym, ap, subst, ◌∙◌, arith}
+use Rattle.client_node.specs.Phases.{takes}
+use Rattle.cleaner_node.specs.CleanerEvents as cleaners
+use Rattle.core_world.specs.AnyNode.{any_step}
+use Rattle.core_world.specs.declared.any_node.AnyNode.{AnyNode}
+use Rattle.core_world.specs.declared.any_node.AnyNode.TheVariants as any
+use Rattle.index_tie.specs.Net.{Net, opening}
+use Rattle.index_tie.specs.NetLaws.{CheckpointsHaveManagers}
+use Rattle.manager_node.specs.Events.{happens}
+use Rattle.node_index_tie.specs.ManagerEvents.{FirstManagerAgrees, ManagerEventGoes, ManagerGoes, ManagersStay}
+use Rattle.node_index_tie.specs.RegistryEvents.{RegistryEventGoes, RegistryGoes, RegistryStarts}
+use Rattle.node_index_tie.specs.Sight.{Texts}
+use Rattle.node_tie.specs.RegistryEvents.{RegistrySound}
+use Rattle.node_tie.specs.RegistryEvents as maps
+use Rattle.owner_index_tie.specs.CleanerEvents.{CleanerEventGoes, CleanerGoes, CleanerStartAgrees, CleanerStays}
+use Rattle.owner_index_tie.specs.ClientEvents.{ClientEventGoes, ClientGoes, ClientsStay, FirstClientAgrees}
+use Rattle.owner_index_tie.specs.ServerEvents.{ServerEventGoes}
+use Rattle.segment_format.specs.declared.segment.Segment.{Segment}
+use Rattle.store_nodes.specs.declared.server.Server.{Server as ServerNode}
+use Rattle.store_nodes.specs.RegistryEvents.{registry_step}
+use Rattle.token_protocol.specs.Basics.{In}
+use Rattle.version_model.specs.declared.act.Act.{Act}
+use Rattle.wire_msg.specs.declared.packet.Do.{Do}
+use Rattle.wire_msg.specs.declared.packet.Do.TheVariants.{Begin, Deliver, Tick}
+use Rattle.wire_msg.specs.declared.packet.Packet.{Packet}
+use Rattle.world_base.specs.Cluster.{place_of}
+use Rattle.world_base.specs.declared.cluster.Cluster.{Cluster}
+use Rattle.world_base.specs.declared.event.Event.{Event}
+use Rattle.world_base.specs.declared.event.Event.TheVariants as events
+use Rattle.world_base.specs.declared.world.World.{World}
+use Rattle.world_base.specs.Events.{node_of, what_of}
+use Rattle.world_base.specs.NextWorld.{next_world, sent_at}
+use Rattle.world_base.specs.Runs.{MayHappen}
+use Rattle.world_index.proofs.Asking.{CleanerAsks, book_with}
+use Rattle.world_index.proofs.AskingTurns.{asks_kept}
+use Rattle.world_index.proofs.CleanerGoing.{cleaner_goes}
+use Rattle.world_index.proofs.CleanerTurns as cleaning
+use Rattle.world_index.proofs.ClientTurns as clients
+use Rattle.world_index.proofs.Facts.{Grown}
+use Rattle.world_index.proofs.Frames.{grown_itself}
+use Rattle.world_index.proofs.Gets.{manager_gets, registry_gets}
+use Rattle.world_index.proofs.ManagerTurns as managers
+use Rattle.world_index.proofs.RegistryTurns as others
+use Rattle.world_index.proofs.Senders.{IsKind, IsSentBy}
+use Rattle.world_index.proofs.Standing.{Fact, Scene, SentBy, Stands, WasAsked, holder, members}
+use Rattle.world_index.specs.Owes.{IndexOwes, Makes}
+use Rattle.world_law.proofs.ManagerTurns.{delivered}
+use Rattle.world_law.proofs.Places.{Behind, behind}
+use Rattle.world_law.proofs.Sent.{was_sent}
+use Rattle.world_law.proofs.Turning.{next_keeps}
+use Rattle.world_law.proofs.Turns.{one_node}
+use Rattle.world_law.specs.Owners.{node_in}
+use Rattle.xfs_base.specs.declared.node.NodeId.{NodeId}
+use Rattle.xfs_base.specs.declared.node.NodeId.TheVariants.{Client, Manager, Server, Cleaner, Registry}
+
+-- the laws of the nodes, each of its kind, and of the small world
+pub record NodeLaws : Type 0 where
+  pub client_starts : FirstClientAgrees
+  pub client : ClientEventGoes
+  pub clients_stay : ClientsStay
+  pub manager_starts : FirstManagerAgrees
+  pub manager : ManagerEventGoes
+  pub managers_stay : ManagersStay
+  pub cleaner_starts : CleanerStartAgrees
+  pub cleaner : CleanerEventGoes
+  pub cleaner_stays : CleanerStays
+  pub server : ServerEventGoes
+  pub registry_starts : RegistryStarts
+  pub registry : RegistryEventGoes
+  pub begins : maps.RegistryStarts
+  pub maps : maps.RegistryEventGoes
+  pub managed : CheckpointsHaveManagers
+
+module _ (laws : NodeLaws) (k : Cluster) (part : ℕ) (of_eight : part < 8) (texts : Texts) (first : ℕ → ℕ → Segment) where
+  -- ---- one node takes its step
+
+  module _ (nodes : List AnyNode) (sent : List Packet) (s : Scene) (st : Stands k part texts first nodes sent RegistrySound s) (place clock : ℕ) (what : Do) where
+    -- The moment after it. From what the small world was it has gone on, and the event has made of it what an event of this node makes.
+    pub record Turned (name : NodeId) (node : AnyNode) : Type 0 where
+      pub next : Scene
+      pub stands : Stands k part texts first (slice_set nodes place (any_step node what).node) (sent ++ map (sent_at clock) (any_step node what).packets)
+          RegistrySound next
+      pub grown : Grown s.net next.net
+      pub makes : Makes part texts s.net next.net name node what
+
+    abbrev pub Owed : NodeId → AnyNode → Type 0
+    Owed name node = IndexOwes part texts s.asked k.managers (holder part s) s.net name node what
+
+    -- what comes to this node was sent, by a node that may send it
+    abbrev pub Brought : Type 0
+    Brought = (q : Packet) → what ≡ Deliver q → SentBy part s.net s.asked q.from q.body × IsSentBy q.from q.body
+
+    client_after : (c : ℕ) → place_of k (Client c) ≡ Some place → (node : AnyNode) → slice_get nodes place ≡ Some node → Owed (Client c) node
+        → Turned (Client c) node
+    client_after c at node is = subst (λ x. Owed (Client c) x → Turned (Client c) x) (one_node (any.Client (s.client c)) node (sym here ∙ is)) turned
+      where
+        b : Behind 0 k.clients c place
+        b = behind 0 k.clients c place at
+
+        less : c < members k
+        less = (let most = b.within in omega arith)
+
+        of_nine : c < 9
+        of_nine = (let few = st.few in let most = b.within in omega arith)
+
+        here : slice_get nodes place ≡ Some (any.Client (s.client c))
+        here = sym (ap (node_in nodes) at) ∙ st.placed.clients c b.some less
+
+        turned : Owed (Client c) (any.Client (s.client c)) → Turned (Client c) (any.Client (s.client c))
+        turned owed = went (laws.client part texts s.net c (s.client c) what b.some of_nine (st.clients c b.some less) owed)
+          where
+            went : ClientGoes part texts s.net c (takes (s.client c) what) → Turned (Client c) (any.Client (s.client c))
+            went go = record {
+              next = clients.client_scene laws.clients_stay laws.managers_stay laws.cleaner_stays k part texts first RegistrySound nodes sent s st c place clock
+                  b.some less at here (takes (s.client c) what) go;
+              stands = clients.client_turn laws.clients_stay laws.managers_stay laws.cleaner_stays k part texts first RegistrySound nodes sent s st c place clock
+                  b.some less at here (takes (s.client c) what) go;
+              grown = clients.grown laws.clients_stay laws.managers_stay laws.cleaner_stays k part texts first RegistrySound nodes sent s st c place clock
+                  b.some less at here (takes (s.client c) what) go;
+              makes = go.is;
+            }
+
+    manager_after : Brought → (j : ℕ) → place_of k (Manager j) ≡ Some place → (node : AnyNode) → slice_get nodes place ≡ Some node → Owed (Manager j) node
+        → Turned (Manager j) node
+    manager_after fact j at node is = subst (λ x. Owed (Manager j) x → Turned (Manager j) x) (one_node (any.Manager (s.manager j)) node (sym here ∙ is)) turned
+      where
+        b : Behind k.clients k.managers j place
+        b = behind k.clients k.managers j place at
+
+        here : slice_get nodes place ≡ Some (any.Manager (s.manager j))
+        here = sym (ap (node_in nodes) at) ∙ st.placed.managers j b.some b.within
+
+        turned : Owed (Manager j) (any.Manager (s.manager j)) → Turned (Manager j) (any.Manager (s.manager j))
+        turned owed =
+            went (laws.manager part texts s.asked j s.net (s.manager j) what of_eight owed.number (st.managers j b.some b.within)
+            (record {
+              gets = manager_gets part texts s.asked s.net j (s.manager j).phase what fact owed.gets;
+              filed = st.texts_of;
+              writes = owed.writes;
+            }))
+          where
+            went : ManagerGoes part texts s.asked j s.net (s.manager j).phase what (happens (s.manager j) what) → Turned (Manager j) (any.Manager (s.manager j))
+            went go = record {
+              next = managers.manager_scene laws.clients_stay laws.managers_stay laws.cleaner_stays k part texts first RegistrySound nodes sent s st j place clock
+                  b.some b.within at here what owed.number owed.apart (happens (s.manager j) what) go;
+              stands = managers.manager_turn laws.clients_stay laws.managers_stay laws.cleaner_stays k part texts first RegistrySound nodes sent s st j place
+                  clock b.some b.within at here what owed.number owed.apart (happens (s.manager j) what) go;
+              grown = managers.grown laws.clients_stay laws.managers_stay laws.cleaner_stays k part texts first RegistrySound nodes sent s st j place clock
+                  b.some b.within at here what owed.number owed.apart (happens (s.manager j) what) go;
+              makes = record { rest = go.rest; slots = go.slots; stay = go.stay };
+            }
+
+    server_after : (v : ℕ) → place_of k (Server v) ≡ Some place → (node : AnyNode) → slice_get nodes place ≡ Some node → Turned (Server v) node
+    server_after v at node is = subst (Turned (Server v)) (one_node (any.Server there.0) node (sym here ∙ is)) (record {
+      next = s;
+      stands = others.server_turn laws.clients_stay laws.managers_stay laws.cleaner_stays k part texts first nodes sent s st place clock what v at there.0 here
+          (laws.server there.0 what);
+      grown = grown_itself k part texts first nodes sent RegistrySound s st;
+      makes = refl;
+    })
+      where
+        b : Behind (k.clients + k.managers) k.servers v place
+        b = behind (k.clients + k.managers) k.servers v place at
+
+        there : (server : ServerNode) × (node_in nodes (place_of k (Server v)) ≡ Some (any.Server server))
+        there = st.placed.servers v b.some b.within
+
+        here : slice_get nodes place ≡ Some (any.Server there.0)
+        here = sym (ap (node_in nodes) at) ∙ there.1
+
+    cleaner_after : Brought → place_of k Cleaner ≡ Some place → (node : AnyNode) → slice_get nodes place ≡ Some node → Owed Cleaner node → Turned Cleaner node
+    cleaner_after fact at node is = subst (λ x. Owed Cleaner x → Turned Cleaner x) (one_node (any.Cleaner s.cleaner) node (sym here ∙ is)) turned
+      where
+        here : slice_get nodes place ≡ Some (any.Cleaner s.cleaner)
+        here = sym (ap (node_in nodes) at) ∙ st.placed.cleaner
+
+        asks : CleanerAsks (book_with (WasAsked s.asked) (cleaners.takes s.cleaner.peers s.cleaner.phase what).outs)
+            (cleaners.takes s.cleaner.peers s.cleaner.phase what).state
+        asks = asks_kept (WasAsked s.asked) s.cleaner.peers s.cleaner.phase what st.asks
+
+        turned : Owed Cleaner (any.Cleaner s.cleaner) → Turned Cleaner (any.Cleaner s.cleaner)
+        turned owed = went (cleaner_goes part texts s.asked s.net laws.cleaner of_eight s.cleaner what st.cleaner st.asks fact owed)
+          where
+            went : CleanerGoes part texts s.asked s.net (cleaners.takes s.cleaner.peers s.cleaner.phase what) → Turned Cleaner (any.Cleaner s.cleaner)
+            went go = record {
+              next = cleaning.cleaner_scene laws.clients_stay laws.managers_stay k part texts first RegistrySound nodes sent s st place clock at here what go asks;
+              stands = cleaning.cleaner_turn laws.clients_stay laws.managers_stay k part texts first RegistrySound nodes sent s st place clock at here what go
+                  asks;
+              grown = cleaning.grown laws.clients_stay laws.managers_stay k part texts first RegistrySound nodes sent s st place clock at here what go asks;
+              makes = record {
+                filed = go.filed;
+                slots = go.slots;
+                epoch = go.epoch;
+                horizon = go.horizon;
+                parts = go.parts;
+                promised = go.promised;
+                deleted = go.deleted;
+              };
+            }
+
+    registry_after : Brought → place_of k Registry ≡ Some place → (node : AnyNode) → slice_get nodes place ≡ Some node → Turned Registry node
+    registry_after fact at node is = subst (Turned Registry) (one_node (any.Registry s.registry) node (sym here ∙ is))
+        (went (laws.registry part texts s.net s.registry what of_eight st.sound st.registry
+        (registry_gets part texts s.asked s.net laws.managed (λ b inside. record { any = first; run = st.runs; inside = inside }) of_eight st.heads what fact)))
+      where
+        here : slice_get nodes place ≡ Some (any.Registry s.registry)
+        here = sym (ap (node_in nodes) at) ∙ st.placed.registry
+
+        board : maps.RegistryGoes part s.registry what
+        board = laws.maps part of_eight s.registry st.sound what
+
+        went : RegistryGoes part texts s.net s.registry what → Turned Registry (any.Registry s.registry)
+        went go = record {
+          next = others.registry_scene laws.clients_stay laws.managers_stay laws.cleaner_stays k part texts first nodes sent s st place clock what at here go board;
+          stands = others.registry_turn laws.clients_stay laws.managers_stay laws.cleaner_stays k part texts first nodes sent s st place clock what at here go
+              board;
+          grown = others.grown laws.clients_stay laws.managers_stay laws.cleaner_stays k part texts first nodes sent s st place clock what at here go board;
+          makes = record {
+            slots = go.slots;
+            filed = go.filed;
+            promised = go.promised;
+            deleted = go.deleted;
+            epoch = go.epoch;
+            horizon = go.horizon;
+            parts = go.parts;
+          };
+        }
+
+    -- what one node's step makes of the moment, if what is owed is given
+    pub turns : (name : NodeId) → Brought → place_of k name ≡ Some place → (node : AnyNode) → slice_get nodes place ≡ Some node → Owed name node
+        → Turned name node
+    turns (Client c) fact at node is owed = client_after c at node is owed
+    turns (Manager j) fact at node is owed = manager_after fact j at node is owed
+    turns (Server v) fact at node is owed = server_after v at node is
+    turns Cleaner fact at node is owed = cleaner_after fact at node is owed
+    turns Registry fact at node is owed = registry_after fact at node is
+
+  -- ---- an event of the world
+
+  -- what an event delivers was sent
+  delivered_fact : (sent : List Packet) (s : Scene) → ((q : Packet) → In q sent → Fact part s q) → ((q : Packet) → In q sent → IsKind q) → (w : World AnyNode)
+      → w.sent ≡ sent → (event : Event) → MayHappen w event
+      → (q : Packet) → what_of event ≡ Deliver q → Fact part s q × IsKind q
+  delivered_fact sent s facts kinds w same (events.Begin node) may q gets = absurd (cc)
+  delivered_fact sent s facts kinds w same (events.Tick node) may q gets = absurd (cc)
+  delivered_fact sent s facts kinds w same (events.Deliver packet) may q gets =
+      let is : packet ≡ q = delivered packet q gets in
+      let among = subst (λ xs. In q xs) same (was_sent w.sent q (subst (λ x. MayHappen w (events.Deliver x)) is may)) in
+      (facts q among, kinds q among)
+
+  module _ (w : World AnyNode) (event : Event) (s : Scene) where
+    -- the moment after an event: the node has its turn, or nothing happens
+    pub record EventTurned (nodes : List AnyNode) (sent : List Packet) (acts : List Act) : Type 0 where
+      pub next : Scene
+      pub stands : Stands k part texts first nodes sent RegistrySound next
+      pub grown : Grown s.net next.net
+      pub makes : (next.net ≡ s.net)
+          ⊎ ((node : AnyNode) × (node_in w.nodes (place_of k (node_of event)) ≡ Some node)
+          × Makes part texts s.net next.net (node_of event) node (what_of event))
+
+    -- The packets that were sent are of those who may send them, as the small world of tokens knows (`Senders`).
+    pub event_turns : w.cluster ≡ k → MayHappen w event → Stands k part texts first w.nodes w.sent RegistrySound s → ((q : Packet) → In q w.sent → IsKind q)
+        → ((node : AnyNode) → node_in w.nodes (place_of k (node_of event)) ≡ Some node
+        → IndexOwes part texts s.asked k.managers (holder part s) s.net (node_of event) node (what_of event))
+        → EventTurned (next_world any_step w event).nodes (next_world any_step w event).sent (next_world any_step w event).acts
+    event_turns cluster may st kinds owed = next_keeps any_step EventTurned w event
+        (record { next = s; stands = st; grown = grown_itself k part texts first w.nodes w.sent RegistrySound s st; makes = inl refl })
+        (λ place node clock at is.
+        let at_k : place_of k (node_of event) ≡ Some place = subst (λ c. place_of c (node_of event) ≡ Some place) cluster at in
+        let there : node_in w.nodes (place_of k (node_of event)) ≡ Some node = ap (node_in w.nodes) at_k ∙ is in
+        let t = turns w.nodes w.sent s st place clock (what_of event) (node_of event) (delivered_fact w.sent s st.facts kinds w refl event may) at_k node is
+        (owed node there) in
+        record { next = t.next; stands = t.stands; grown = t.grown; makes = inr (node, there, t.makes) })
