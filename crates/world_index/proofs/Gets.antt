@@ -40,7 +40,7 @@ use Rattle.wire_msg.specs.declared.packet.Packet.{Packet}
 use Rattle.wire_msg.specs.declared.registry.CkptDone.{CkptDone}
 use Rattle.wire_msg.specs.declared.registry.News.{News}
 use Rattle.wire_msg.specs.declared.registry.Welcome.{Welcome}
-use Rattle.world_index.proofs.Asking.{CleanerAsks, IsOfJob, JobAsks}
+use Rattle.world_index.proofs.Asking.{CleanerAsks, HandIn, IsOfJob, JobAsks}
 use Rattle.world_index.proofs.Horizons.{done_short}
 use Rattle.world_index.proofs.Senders.{IsCleaner, IsManager, IsRegistry, IsSentBy}
 use Rattle.world_index.proofs.Standing.{AllKept, SentBy, WasAsked}
@@ -162,31 +162,30 @@ module _ (part : ℕ) (texts : Texts) (asked : Questions) (n : Net) where
   out_is None ask is = absurd (some_none ask is)
   out_is (Some x) ask is = ap Some (eqb-true x ask is)
 
-  in_hand : (phase : Phase) (hand : Hand) (name : SegName) → IsOfJob phase hand → hand.seg.name ≡ name → IsInHand name phase
-  in_hand (Checking j segment checks) hand name of is = of ∙ is
-  in_hand _ hand name of is = tt
+  in_hand : (phase : Phase) (held name : SegName) → IsOfJob phase held → held ≡ name → IsInHand name phase
+  in_hand (Checking j segment checks) held name of is = of ∙ is
+  in_hand _ held name of is = tt
 
   module _ (q : Asker) (room : q.last < u32_end) (m : Dead) (known : DeadKnown part asked n m) where
     -- what is awaited of the segment in hand was told of that
-    given : (epoch : ℕ) (job : Job) (o : Option Hand) → job.hand ≡ o → JobAgrees part n epoch (Some job) → JobAsks (WasAsked asked) q (Some job)
+    given : (epoch : ℕ) (job : Job) (o : Option Hand) → JobAgrees part n epoch (Some job) → HandIn (WasAsked asked) q job.cleaning.phase o
         → is_out (check_of o m.block) m.ask ≡ true → DeadGiven part n m
-    given epoch job None is seen asks out = absurd (some_none m.ask out)
-    given epoch job (Some hand) is seen asks out =
-        let h = asks hand is in
-        let named = h.asks.named room m.block m.ask known.name (out_is (asked_of hand.checks m.block) m.ask out)
+    given epoch job None seen asks out = absurd (some_none m.ask out)
+    given epoch job (Some hand) seen asks out =
+        let named = asks.asks.named room m.block m.ask known.name (out_is (asked_of hand.checks m.block) m.ask out)
         (record { number = known.number; among = known.question }) in
         record {
           number = known.number;
           name = known.name;
           below = known.below;
           sent = known.sent;
-          hand = subst (λ (x : _). IsInHand known.name x.phase) (sym seen.is) (in_hand job.cleaning.phase hand known.name h.job named);
+          hand = subst (λ (x : _). IsInHand known.name x.phase) (sym seen.is) (in_hand job.cleaning.phase hand.seg.name known.name asks.job named);
         }
 
     given_by : (epoch : ℕ) (o : Option Job) → JobAgrees part n epoch o → JobAsks (WasAsked asked) q o → is_out (check_of (hand_of o) m.block) m.ask ≡ true
         → DeadGiven part n m
     given_by epoch None seen asks out = absurd (some_none m.ask out)
-    given_by epoch (Some job) seen asks out = given epoch job job.hand refl seen asks out
+    given_by epoch (Some job) seen asks out = given epoch job job.hand seen asks out
 
   body_gets : (e : Emptying) (epoch : ℕ) (from : NodeId) (m : Body) → JobAgrees part n epoch e.job → JobAsks (WasAsked asked) e.lasting.questions e.job
       → e.lasting.questions.last < u32_end
@@ -212,7 +211,7 @@ module _ (part : ℕ) (texts : Texts) (asked : Questions) (n : Net) where
   cleaner_gets p Tick seen asks room fact owed = tt
   cleaner_gets (cleaning.Serving e) (Deliver q) seen asks room fact owed =
       let f = fact q refl in
-      (body_gets e (epoch_of e.promised part) q.from q.body seen.0.job asks.1 room f.0 f.1 owed, answers q.from q.body f.0 f.1)
+      (body_gets e (epoch_of e.promised part) q.from q.body seen.0.job asks.job room f.0 f.1 owed, answers q.from q.body f.0 f.1)
   cleaner_gets (cleaning.Opening l o) (Deliver q) seen asks room fact owed = let f = fact q refl in (tt, answers q.from q.body f.0 f.1)
   cleaner_gets (cleaning.Down l) (Deliver q) seen asks room fact owed = let f = fact q refl in (tt, answers q.from q.body f.0 f.1)
 

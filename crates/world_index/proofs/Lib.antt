@@ -11,6 +11,11 @@ pub mod ClientTurns
 pub mod ManagerTurns
 pub mod CleanerTurns
 pub mod RegistryTurns
+pub mod AskingJobs
+pub mod AskingSays
+pub mod AskingCleans
+pub mod AskingOpenings
+pub mod AskingServing
 pub mod AskingTurns
 pub mod Start
 pub mod Turns

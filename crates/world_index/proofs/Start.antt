@@ -66,7 +66,7 @@ module _ (client_starts : FirstClientAgrees) (manager_starts : FirstManagerAgree
     clients = λ c some less. client_starts part texts first c script.setup (items_of script.lines (Client c));
     managers = λ j some most. manager_starts part texts first j script.setup (items_of script.lines (Manager j)) of_eight;
     cleaner = cleaner_starts part texts first script.setup (items_of script.lines Cleaner) of_eight;
-    asks = (λ room ask name was. absurd was.among, tt);
+    asks = record { drawn = λ room ask name was. absurd was.among; job = tt };
     few = omega arith;
     texts_of = λ l q some most. absurd (omega arith);
     heads = λ l. omega arith;
