@@ -34,7 +34,8 @@ use Rattle.stripe_code.specs.Reading.{ReadingState, to_ask}
 use Rattle.version_model.specs.declared.act.Act.TheVariants.{Dropped}
 use Rattle.version_model.specs.declared.answer.Answer.{Answer}
 use Rattle.wire_msg.specs.declared.body.Body.TheVariants as body
-use Rattle.world_index.proofs.Asking.{AsksSo, Book, HandAsks, HandIn, HandSeen, IsDrawn, IsOfJob, JobAsks, drawn_more}
+use Rattle.world_index.proofs.Asking.{drawn_more}
+use Rattle.world_index.specs.Asking.{AsksSo, Book, HandAsks, HandIn, HandSeen, IsDrawn, IsOfJob, JobAsks}
 use Rattle.world_index.proofs.AskingJobs.{CalmSo, ChecksSo, DoneSo, Follows, IsCalm, ReadsSo, TurnSo, transition_so}
 use Rattle.world_index.proofs.AskingSays.{AllSilent, At, Kept, SegIn, SegOf, all_checks, all_steps, below_next, list_so, maps_so, quiet, usage_so, went_on}
 use Rattle.xfs_base.proofs.Booleans.{by_test}

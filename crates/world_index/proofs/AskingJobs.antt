@@ -25,7 +25,7 @@ use Rattle.xfs_base.specs.declared.fragment.FragMeta.{FragMeta}
 use Rattle.xfs_base.specs.declared.segment.SegName.{SegName}
 use Rattle.xfs_base.specs.declared.segment.SegRef.{SegRef}
 use Rattle.xfs_base.specs.Steps.{still}
-use Rattle.world_index.proofs.Asking.{IsOfJob}
+use Rattle.world_index.specs.Asking.{IsOfJob}
 
 -- ---- what is said
 

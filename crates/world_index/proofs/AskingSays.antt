@@ -39,7 +39,8 @@ use Rattle.version_model.specs.declared.act.Act.TheVariants.{Dropped}
 use Rattle.version_model.specs.declared.answer.Answer.{Answer as Answers}
 use Rattle.wire_msg.specs.declared.body.Body.{Body}
 use Rattle.wire_msg.specs.declared.body.Body.TheVariants as body
-use Rattle.world_index.proofs.Asking.{AsksIn, AsksSo, BodyAsks, Book, EffectAsks, HandAsks, HandIn, HandSeen, IsDrawn, IsOfJob, JobAsks, book_with, drawn_fewer, drawn_more, hand_fewer, hand_more, job_more, so_fewer}
+use Rattle.world_index.proofs.Asking.{AsksIn, BodyAsks, EffectAsks, book_with, drawn_fewer, drawn_more, hand_fewer, hand_more, job_more, so_fewer}
+use Rattle.world_index.specs.Asking.{AsksSo, Book, HandAsks, HandIn, HandSeen, IsDrawn, IsOfJob, JobAsks}
 use Rattle.world_index.proofs.AskingJobs.{IsCalm, IsCheckOf}
 use Rattle.xfs_base.proofs.Booleans.{by_test}
 use Rattle.xfs_base.specs.Blocks.{block_cmp, slot_of}

@@ -45,7 +45,7 @@ use Rattle.wire_msg.specs.declared.registry.News.{News}
 use Rattle.wire_msg.specs.declared.registry.Welcome.{Welcome}
 use Rattle.wire_msg.specs.declared.storage.Deleted.{Deleted}
 use Rattle.wire_msg.specs.declared.storage.Listed.{Listed}
-use Rattle.world_index.proofs.Asking.{AsksSo, Book, HandIn, HandSeen, JobAsks}
+use Rattle.world_index.specs.Asking.{AsksSo, Book, HandIn, HandSeen, JobAsks}
 use Rattle.world_index.proofs.AskingCleans.{cleans_so, fetches_silent, rehand}
 use Rattle.world_index.proofs.AskingSays.{AllSilent, At, IsSilent, Kept, all_steps, quiet, so_drawn, went_behind, went_on}
 use Rattle.xfs_base.proofs.Booleans.{by_test}

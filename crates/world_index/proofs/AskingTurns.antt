@@ -34,7 +34,8 @@ use Rattle.wire_msg.specs.declared.body.Body.TheVariants as body
 use Rattle.wire_msg.specs.declared.packet.Do.{Do}
 use Rattle.wire_msg.specs.declared.packet.Do.TheVariants.{Begin, Deliver, Tick}
 use Rattle.wire_msg.specs.declared.packet.Packet.{Packet}
-use Rattle.world_index.proofs.Asking.{AsksSo, Book, CleanerAsks, IsDrawn, book_with, cleaner_fewer, drawn_more}
+use Rattle.world_index.proofs.Asking.{book_with, cleaner_fewer, drawn_more}
+use Rattle.world_index.specs.Asking.{AsksSo, Book, CleanerAsks, IsDrawn}
 use Rattle.world_index.proofs.AskingCleans.{answers_silent}
 use Rattle.world_index.proofs.AskingOpenings.{Rises, packet_more, tick_more}
 use Rattle.world_index.proofs.AskingSays.{AllSilent, At, IsSilent, IsSilentBody, Kept, below_next, drawn_silent, quiet}

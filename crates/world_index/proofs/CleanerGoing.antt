@@ -25,10 +25,11 @@ use Rattle.wire_msg.specs.declared.cleaning.Check.{Check}
 use Rattle.wire_msg.specs.declared.packet.Do.{Do}
 use Rattle.wire_msg.specs.declared.packet.Do.TheVariants.{Deliver}
 use Rattle.wire_msg.specs.declared.packet.Packet.{Packet}
-use Rattle.world_index.proofs.Asking.{AsksIn, BodyAsks, CleanerAsks, EffectAsks}
+use Rattle.world_index.proofs.Asking.{AsksIn, BodyAsks, EffectAsks}
+use Rattle.world_index.specs.Asking.{CleanerAsks}
 use Rattle.world_index.proofs.Gets.{cleaner_gets}
 use Rattle.world_index.proofs.Senders.{IsSentBy}
-use Rattle.world_index.proofs.Standing.{SentBy, WasAsked}
+use Rattle.world_index.specs.Standing.{SentBy, WasAsked}
 use Rattle.world_index.specs.Owes.{CleanerTold}
 use Rattle.xfs_base.specs.Blocks.{slot_of}
 use Rattle.xfs_base.specs.Limits.{u32_end, counter_room}

@@ -26,13 +26,14 @@ use Rattle.wire_msg.specs.declared.packet.Packet.{Packet}
 use Rattle.world_base.specs.Cluster.{place_of}
 use Rattle.world_base.specs.declared.cluster.Cluster.{Cluster}
 use Rattle.world_base.specs.NextWorld.{sent_at}
-use Rattle.world_index.proofs.Asking.{AsksIn, CleanerAsks, book_with, cleaner_fewer}
+use Rattle.world_index.proofs.Asking.{AsksIn, book_with, cleaner_fewer}
+use Rattle.world_index.specs.Asking.{CleanerAsks}
 use Rattle.world_index.proofs.CleanerGoing.{BodyKnown, EffectKnown, NewAsks, all_more, new_asks}
 use Rattle.world_index.proofs.Facts.{Grown, sent_stays}
 use Rattle.world_index.proofs.Frames.{cleaner_head, heads_stay, registry_frame}
 use Rattle.world_index.proofs.Horizons.{runs_stay, steady_always}
 use Rattle.world_index.proofs.Placing.{place_cleaner}
-use Rattle.world_index.proofs.Standing.{CleanerTells, Fact, Scene, Stands, WasAsked, members}
+use Rattle.world_index.specs.Standing.{CleanerTells, Fact, Scene, Stands, WasAsked, members}
 use Rattle.world_law.proofs.Sent.{in_append, sends}
 use Rattle.xfs_base.specs.declared.node.NodeId.{NodeId}
 use Rattle.xfs_base.specs.declared.node.NodeId.TheVariants.{Cleaner}

@@ -32,7 +32,7 @@ use Rattle.world_index.proofs.Facts.{Grown, sent_stays}
 use Rattle.world_index.proofs.Frames.{client_head, client_number, heads_stay, registry_frame}
 use Rattle.world_index.proofs.Horizons.{runs_stay, steady_always}
 use Rattle.world_index.proofs.Placing.{place_client}
-use Rattle.world_index.proofs.Standing.{Fact, OwnerTells, Scene, SentBy, Stands, members}
+use Rattle.world_index.specs.Standing.{Fact, OwnerTells, Scene, SentBy, Stands, members}
 use Rattle.world_law.proofs.Sent.{in_append, sends}
 use Rattle.xfs_base.specs.declared.node.NodeId.{NodeId}
 use Rattle.xfs_base.specs.declared.node.NodeId.TheVariants.{Client, Manager, Server, Cleaner, Registry}

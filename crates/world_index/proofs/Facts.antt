@@ -14,7 +14,7 @@ use Rattle.wire_msg.specs.declared.cleaning.Check.{Check}
 use Rattle.wire_msg.specs.declared.cleaning.Dead.{Dead}
 use Rattle.wire_msg.specs.declared.deltas.Deltas.{Deltas}
 use Rattle.world_index.proofs.Horizons.{Rises}
-use Rattle.world_index.proofs.Standing.{AllKept, CleanerTells, NewsKept, OwnerTells, RegistryTells, SentBy}
+use Rattle.world_index.specs.Standing.{AllKept, CleanerTells, NewsKept, OwnerTells, RegistryTells, SentBy}
 use Rattle.xfs_base.specs.declared.news.SlotNews.{SlotNews}
 use Rattle.xfs_base.specs.declared.node.NodeId.{NodeId}
 use Rattle.xfs_base.specs.declared.node.NodeId.TheVariants.{Client, Manager, Server, Cleaner, Registry}

@@ -20,7 +20,7 @@ use Rattle.wire_msg.specs.declared.packet.Packet.{Packet}
 use Rattle.world_base.specs.declared.cluster.Cluster.{Cluster}
 use Rattle.world_index.proofs.Facts.{Grown}
 use Rattle.world_index.proofs.Horizons.{steady_always}
-use Rattle.world_index.proofs.Standing.{Scene, Stands}
+use Rattle.world_index.specs.Standing.{Scene, Stands}
 use Rattle.world_law.proofs.OtherTurns.{equal_or_not}
 use Rattle.xfs_base.specs.Limits.{u32_end}
 use Rattle.xfs_base.specs.declared.segment.SegRef.{SegRef}

@@ -40,10 +40,10 @@ use Rattle.wire_msg.specs.declared.packet.Packet.{Packet}
 use Rattle.wire_msg.specs.declared.registry.CkptDone.{CkptDone}
 use Rattle.wire_msg.specs.declared.registry.News.{News}
 use Rattle.wire_msg.specs.declared.registry.Welcome.{Welcome}
-use Rattle.world_index.proofs.Asking.{CleanerAsks, HandIn, IsOfJob, JobAsks}
+use Rattle.world_index.specs.Asking.{CleanerAsks, HandIn, IsOfJob, JobAsks}
 use Rattle.world_index.proofs.Horizons.{done_short}
 use Rattle.world_index.proofs.Senders.{IsCleaner, IsManager, IsRegistry, IsSentBy}
-use Rattle.world_index.proofs.Standing.{AllKept, SentBy, WasAsked}
+use Rattle.world_index.specs.Standing.{AllKept, SentBy, WasAsked}
 use Rattle.world_index.specs.Owes.{CleanerDoOwed, CleanerBodyOwed, ManagerDoOwed, NewsFree, ServingOwed, WaitingOwed}
 use Rattle.xfs_base.specs.Blocks.{slot_of}
 use Rattle.xfs_base.specs.Limits.{u32_end}

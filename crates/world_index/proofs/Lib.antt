@@ -1,6 +1,5 @@
 pub mod Horizons
 pub mod Asking
-pub mod Standing
 pub mod Facts
 pub mod Senders
 pub mod Placing
@@ -19,3 +18,4 @@ pub mod AskingServing
 pub mod AskingTurns
 pub mod Start
 pub mod Turns
+pub mod Laws

@@ -31,7 +31,7 @@ use Rattle.world_index.proofs.Facts.{Grown, sent_stays}
 use Rattle.world_index.proofs.Frames.{registry_frame}
 use Rattle.world_index.proofs.Horizons.{runs_stay, steady_always}
 use Rattle.world_index.proofs.Placing.{place_manager}
-use Rattle.world_index.proofs.Standing.{Fact, Scene, SentBy, Stands, holder, members}
+use Rattle.world_index.specs.Standing.{Fact, Scene, SentBy, Stands, holder, members}
 use Rattle.world_index.specs.Owes.{HeldApart}
 use Rattle.world_law.proofs.Sent.{in_append, sends}
 use Rattle.xfs_base.specs.Limits.{u32_end}

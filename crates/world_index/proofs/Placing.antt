@@ -13,7 +13,7 @@ use Rattle.token_protocol.proofs.Refining.{put_each}
 use Rattle.token_protocol.specs.Basics.{put}
 use Rattle.world_base.specs.Cluster.{place_of}
 use Rattle.world_base.specs.declared.cluster.Cluster.{Cluster}
-use Rattle.world_index.proofs.Standing.{Placed, Scene, members}
+use Rattle.world_index.specs.Standing.{Placed, Scene, members}
 use Rattle.world_law.proofs.ClientTurns.{number}
 use Rattle.world_law.proofs.Nodes.{here, there}
 use Rattle.world_law.proofs.OtherTurns.{equal_or_not}

@@ -42,7 +42,7 @@ use Rattle.world_index.proofs.Facts.{Grown, sent_stays}
 use Rattle.world_index.proofs.Horizons.{runs_stay, steady_always}
 use Rattle.world_index.proofs.ManagerTurns.{same_log, same_more}
 use Rattle.world_index.proofs.Placing.{place_registry, place_server}
-use Rattle.world_index.proofs.Standing.{AllKept, Fact, NewsKept, RegistryTells, Scene, SentBy, Stands, members}
+use Rattle.world_index.specs.Standing.{AllKept, Fact, NewsKept, RegistryTells, Scene, SentBy, Stands, members}
 use Rattle.world_law.proofs.Sent.{at_clock, in_append, sends}
 use Rattle.xfs_base.specs.Limits.{u32_end}
 use Rattle.xfs_base.specs.declared.news.SlotNews.{SlotNews}

@@ -21,7 +21,7 @@ use Rattle.world_base.specs.Cluster.{cluster_of, place_of}
 use Rattle.world_base.specs.declared.cluster.Cluster.{Cluster}
 use Rattle.world_base.specs.Items.{items_of}
 use Rattle.world_base.specs.NextWorld.{first_nodes}
-use Rattle.world_index.proofs.Standing.{Placed, Scene, Stands}
+use Rattle.world_index.specs.Standing.{Placed, Scene, Stands}
 use Rattle.world_law.proofs.Start as starting
 use Rattle.xfs_base.specs.declared.node.NodeId.{NodeId}
 use Rattle.xfs_base.specs.declared.node.NodeId.TheVariants.{Client, Manager, Server, Cleaner, Registry}

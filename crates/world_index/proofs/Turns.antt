@@ -32,7 +32,8 @@ use Rattle.world_base.specs.declared.world.World.{World}
 use Rattle.world_base.specs.Events.{node_of, what_of}
 use Rattle.world_base.specs.NextWorld.{next_world, sent_at}
 use Rattle.world_base.specs.Runs.{MayHappen}
-use Rattle.world_index.proofs.Asking.{CleanerAsks, book_with}
+use Rattle.world_index.proofs.Asking.{book_with}
+use Rattle.world_index.specs.Asking.{CleanerAsks}
 use Rattle.world_index.proofs.AskingTurns.{asks_kept}
 use Rattle.world_index.proofs.CleanerGoing.{cleaner_goes}
 use Rattle.world_index.proofs.CleanerTurns as cleaning
@@ -43,7 +44,7 @@ use Rattle.world_index.proofs.Gets.{manager_gets, registry_gets}
 use Rattle.world_index.proofs.ManagerTurns as managers
 use Rattle.world_index.proofs.RegistryTurns as others
 use Rattle.world_index.proofs.Senders.{IsKind, IsSentBy}
-use Rattle.world_index.proofs.Standing.{Fact, Scene, SentBy, Stands, WasAsked, holder, members}
+use Rattle.world_index.specs.Standing.{Fact, Scene, SentBy, Stands, WasAsked, holder, members}
 use Rattle.world_index.specs.Owes.{IndexOwes, Makes}
 use Rattle.world_law.proofs.ManagerTurns.{delivered}
 use Rattle.world_law.proofs.Places.{Behind, behind}

@@ -1,2 +1,4 @@
+pub mod Asking
+pub mod Standing
 pub mod Owes
 pub mod Laws

@@ -1,5 +1,5 @@
 -- How a moment of a run stands to a moment of the small world of one slot's index: each node is seen there, and what packets tell of where blocks lie is so there.
-use Rattle.std.proofs.Common.{◌≡◌, ℕ, ◌+◌, ◌≤◌, ◌<◌, List, None, Some}
+use Rattle.std.specs.Prelude.{◌≡◌, ℕ, ◌+◌, ◌≤◌, ◌<◌, List, None, Some}
 use Rattle.client_node.specs.declared.client.Client.{Client as ClientNode}
 use Rattle.cleaner_node.specs.declared.cleaner.Cleaner.{Cleaner as CleanerNode}
 use Rattle.core_world.specs.declared.any_node.AnyNode.{AnyNode}
@@ -25,7 +25,7 @@ use Rattle.wire_msg.specs.declared.packet.Packet.{Packet}
 use Rattle.world_base.specs.Cluster.{place_of}
 use Rattle.world_base.specs.declared.cluster.Cluster.{Cluster}
 use Rattle.world_law.specs.Owners.{node_in}
-use Rattle.world_index.proofs.Asking.{CleanerAsks}
+use Rattle.world_index.specs.Asking.{CleanerAsks}
 use Rattle.xfs_base.specs.Blocks.{slot_of}
 use Rattle.xfs_base.specs.Limits.{u32_end}
 use Rattle.xfs_base.specs.declared.news.SlotNews.{SlotNews}

@@ -1,0 +1,140 @@
+-- Every run keeps the index of each slot: each event keeps a moment standing to the small world of it, in which indexes are joins and cleaning loses nothing.
+use Rattle.std.proofs.Common.{◌≡◌, ℕ, zero, suc, ◌≤◌, ◌<◌, true, false, List, [], ◌∷◌, Option, None, Some, take, slice_get, refl, sym, ap, subst, ◌∙◌, arith}
+use Rattle.std.specs.List.{fold}
+use Rattle.core_world.specs.AnyNode.{any_start, any_step}
+use Rattle.core_world.specs.declared.any_node.AnyNode.{AnyNode}
+use Rattle.core_world.specs.declared.any_node.AnyNode.TheVariants as any
+use Rattle.index_tie.specs.Net.{Net}
+use Rattle.index_tie.specs.NetLaws.{EachIndexIsTheJoin, NewestIsNeverDeleted}
+use Rattle.log_protocol.specs.Tables as tables
+use Rattle.manager_node.specs.declared.phase.Phase.{Phase as ManagerPhase}
+use Rattle.manager_node.specs.declared.phase.Phase.TheVariants as managing
+use Rattle.manager_node.specs.declared.slot_phase.SlotPhase.{SlotPhase}
+use Rattle.manager_node.specs.declared.slot_phase.SlotPhase.TheVariants as phase
+use Rattle.node_base.specs.Setups.{IsSetup}
+use Rattle.node_index_tie.specs.ManagerEvents.{ManagerAgrees, PhaseAgrees}
+use Rattle.node_index_tie.specs.Pages.{Desk, desk_of}
+use Rattle.node_index_tie.specs.Sight.{Texts, held_in}
+use Rattle.node_tie.specs.ManagerEvents.{phase_at, slot_in}
+use Rattle.node_tie.specs.RegistryEvents.{RegistrySound}
+use Rattle.segment_format.specs.declared.segment.Segment.{Segment}
+use Rattle.token_manager.specs.SlotState.{SlotState}
+use Rattle.token_protocol.specs.Basics.{In}
+use Rattle.wire_msg.specs.declared.body.Body.TheVariants as body
+use Rattle.wire_msg.specs.declared.packet.Packet.{Packet}
+use Rattle.world_base.specs.Cluster.{cluster_of, place_of}
+use Rattle.world_base.specs.declared.cluster.Cluster.{Cluster}
+use Rattle.world_base.specs.declared.estate.Estate.{Estate}
+use Rattle.world_base.specs.declared.event.Event.{Event}
+use Rattle.world_base.specs.declared.world.World.{World}
+use Rattle.world_base.specs.Events.{node_of, what_of}
+use Rattle.world_base.specs.NextWorld.{next_world, start_world}
+use Rattle.world_base.specs.Runs.{IsRun, Leads, WasSent}
+use Rattle.world_index.proofs.Senders.{IsKind, kinds_of_tokens}
+use Rattle.world_index.proofs.Start.{start_scene, start_stands}
+use Rattle.world_index.proofs.Turns.{NodeLaws, event_turns}
+use Rattle.world_index.specs.Laws.{AllOwed, EveryRunKeepsIndexes, KeepsIndexes, WasDeleted}
+use Rattle.world_index.specs.Owes.{IndexOwes}
+use Rattle.world_index.specs.Standing.{Scene, SentBy, Stands, holder}
+use Rattle.world_law.proofs.Laws as tokens
+use Rattle.world_law.proofs.Places.{behind}
+use Rattle.world_law.proofs.Sent.{was_sent}
+use Rattle.world_law.proofs.Turning.{next_cluster}
+use Rattle.world_law.specs.Managers.{active_in, active_of}
+use Rattle.world_law.specs.Owners.{moment, node_in}
+use Rattle.xfs_base.specs.Blocks.{slot_of}
+use Rattle.xfs_base.specs.declared.block.BlockId.{BlockId}
+use Rattle.xfs_base.specs.declared.node.NodeId.{NodeId}
+use Rattle.xfs_base.specs.declared.node.NodeId.TheVariants.{Cleaner, Manager}
+use Rattle.xfs_base.specs.declared.segment.SegName.{SegName}
+
+module _ (laws : NodeLaws) (k : Cluster) (part : ℕ) (of_eight : part < 8) (texts : Texts) (first : ℕ → ℕ → Segment) where
+  abbrev pub StandsIn : World AnyNode → Scene → Type 0
+  StandsIn w s = Stands k part texts first w.nodes w.sent RegistrySound s
+
+  abbrev pub Good : World AnyNode → Type 0
+  Good w = (w.cluster ≡ k) × ((s : Scene) × StandsIn w s)
+
+  -- what is owed to an event at a world
+  abbrev OwedAt : World AnyNode → Event → Type 0
+  OwedAt w event =
+      (s : Scene) (node : AnyNode) → StandsIn w s → node_in w.nodes (place_of w.cluster (node_of event)) ≡ Some node
+      → IndexOwes part texts s.asked k.managers (holder part s) s.net (node_of event) node (what_of event)
+
+  abbrev front : World AnyNode → List Event → ℕ → World AnyNode
+  front w events_ n = fold (next_world any_step) w (take n events_)
+
+  -- each front of a run stands, where each of its events gets what is owed
+  front_keeps : (events_ : List Event) (count : ℕ) (w end : World AnyNode) → Leads any_step w events_ end
+      → ((n : ℕ) (q : Packet) → In q (front w events_ n).sent → IsKind q)
+      → ((n : ℕ) (event : Event) → slice_get events_ n ≡ Some event → OwedAt (front w events_ n) event) → Good w → Good (front w events_ count)
+  front_keeps [] zero w end leads kinds owed good = good
+  front_keeps [] (suc count) w end leads kinds owed good = good
+  front_keeps (event ∷ more) zero w end leads kinds owed good = good
+  front_keeps (event ∷ more) (suc count) w end leads kinds owed good =
+      let cluster = good.0 in
+      let st = good.1 in
+      let t = event_turns laws k part of_eight texts first w event st.0 cluster leads.0 st.1 (kinds 0)
+      (λ node there. owed 0 event refl st.0 node st.1 (ap (λ c. node_in w.nodes (place_of c (node_of event))) cluster ∙ there)) in
+      front_keeps more count (next_world any_step w event) end leads.1 (λ n. kinds (suc n)) (λ n x is. owed (suc n) x is)
+      (next_cluster any_step w event ∙ cluster, (t.next, t.stands))
+
+  -- ---- what is read off
+
+  module _ (small_joins : EachIndexIsTheJoin) (small_kept : NewestIsNeverDeleted) (w : World AnyNode) (cluster : w.cluster ≡ k) (s : Scene)
+      (st : StandsIn w s) where
+    -- a slot that a manager manages is the small world's of its epoch
+    slot_there : (desk : Desk) (p : SlotPhase) → PhaseAgrees part texts s.net desk p → (z : SlotState) → active_in p ≡ Some z → s.net.slots z.epoch ≡ Some z
+    slot_there desk (phase.Active a) agreed z is = subst (λ x. s.net.slots x.epoch ≡ Some x) (tokens.one_node a.slot z is) agreed.there
+    slot_there desk (phase.Taking t) agreed z is = absurd (cc)
+    slot_there desk (phase.Away epoch) agreed z is = absurd (cc)
+    slot_there desk (phase.Broken epoch seg) agreed z is = absurd (cc)
+
+    phase_there : (p : ManagerPhase) → ManagerAgrees part texts s.net p → (z : SlotState) → active_in (slot_in part p) ≡ Some z → s.net.slots z.epoch ≡ Some z
+    phase_there (managing.Serving v) agreed z is = slot_there (desk_of v agreed.0.given) (phase_at v.slots part) agreed.0.here z is
+    phase_there (managing.Down kept) agreed z is = absurd (cc)
+    phase_there (managing.Waiting kept hello) agreed z is = absurd (cc)
+
+    manager_there : (j : ℕ) (z : SlotState) → active_of part (node_in w.nodes (place_of k (Manager j))) ≡ Some z → s.net.slots z.epoch ≡ Some z
+    manager_there j z is = by_place (place_of k (Manager j)) refl
+      where
+        by_place : (o : Option ℕ) → place_of k (Manager j) ≡ o → s.net.slots z.epoch ≡ Some z
+        by_place None at = (let clash : None ≡ Some z = sym (ap (λ o. active_of part (node_in w.nodes o)) at) ∙ is in absurd (cc))
+        by_place (Some p) at =
+            let b = behind k.clients k.managers j p at in
+            phase_there (s.manager j).phase (st.managers j b.some b.within) z (sym (ap (active_of part) (st.placed.managers j b.some b.within)) ∙ is)
+
+    was_to_be_deleted : (name : SegName) → WasDeleted w name → tables.In name s.net.deleted
+    was_to_be_deleted name d =
+        subst (λ b. SentBy part s.net s.asked Cleaner b) d.deletes
+        (subst (λ n. SentBy part s.net s.asked n d.packet.body) d.from (st.facts d.packet (was_sent w.sent d.packet d.sent)))
+
+    pub keeps : KeepsIndexes w part texts
+    keeps = record {
+      filed = s.net.filed;
+      named = st.texts_of;
+      joins = λ j z b is inside. small_joins part (held_in part texts) s.net b z.epoch z (record { any = first; run = st.runs; inside = inside })
+          (manager_there j z (subst (λ c. active_of part (node_in w.nodes (place_of c (Manager j))) ≡ Some z) cluster is));
+      kept = λ name b d inside filed has newest.
+          small_kept part (held_in part texts) s.net b name (record { any = first; run = st.runs; inside = inside }) (was_to_be_deleted name d) filed has newest;
+    }
+
+pub every_run_keeps : NodeLaws → tokens.NodeLaws → EachIndexIsTheJoin → NewestIsNeverDeleted → EveryRunKeepsIndexes
+unfolding start_world
+every_run_keeps laws token_laws small_joins small_kept e setup run part of_eight texts first owed count =
+    let k = cluster_of e.script.setup in
+    let w = start_world any_start e.script in
+    let kinds = λ (n : ℕ) (q : Packet) (sent : In q (moment e n).sent).
+    let t = (tokens.front token_laws e setup run n part of_eight).1 in kinds_of_tokens k part t.0 q (t.1.facts q sent) in
+    let start : Good laws k part of_eight texts first w = (
+      refl,
+      (
+        start_scene laws.client_starts laws.manager_starts laws.cleaner_starts laws.registry_starts laws.begins e.script setup.clients.1 part of_eight texts
+            first,
+        start_stands laws.client_starts laws.manager_starts laws.cleaner_starts laws.registry_starts laws.begins e.script setup.clients.1 part of_eight texts
+            first,
+      ),
+    ) in
+    let good = front_keeps laws k part of_eight texts first e.events count w e.world run kinds
+    (λ n event is s node st there. owed n event s node is st there) start in
+    keeps laws k part of_eight texts first small_joins small_kept (moment e count) good.0 good.1.0 good.1.1
