@@ -1,0 +1,7 @@
+use Rattle.place_law.proofs.Fetching.{fetches_read_there}
+use Rattle.place_law.proofs.a_fetch_reads_there.Goals as goal
+
+pub returns : goal.returns
+returns c = record {
+  there = fetches_read_there c.one_name_one_text.ensures.one_text c.a_place_names_one_content.ensures.content c.clients_read_what_came.ensures.reads;
+}

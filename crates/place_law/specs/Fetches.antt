@@ -1,0 +1,44 @@
+-- What is read of the place of a client's fetch is what the filed segment there says.
+use Rattle.std.specs.Prelude.{◌≡◌, ℕ, List, Some}
+use Rattle.client_node.specs.declared.serving.Serving.{Serving}
+use Rattle.client_node.specs.Flights.{held_at}
+use Rattle.client_node.specs.Reads.{reading_in}
+use Rattle.entry_tie.specs.ClientTells.{ServingHolds}
+use Rattle.entry_tie.specs.Told.{told_by}
+use Rattle.index_reads.specs.Ties.{BooksAre, ArePlain}
+use Rattle.index_tie.specs.Filed.{Filed, rows_at}
+use Rattle.log_protocol.specs.Tables.{In}
+use Rattle.node_index_tie.specs.Sight.{Texts}
+use Rattle.node_tie.specs.ClientEvents.{ServingReads}
+use Rattle.reading_tie.specs.Arrivals.{Cuts, answered_in, cut_by}
+use Rattle.reading_tie.specs.ClientReads.{ServesSo}
+use Rattle.stripe_code.specs.declared.target.BlockAt.{BlockAt}
+use Rattle.stripe_code.specs.Reading.{ReadingState}
+use Rattle.token_client.specs.declared.held.Fetch.{Fetch}
+use Rattle.token_law.specs.Net as tokens
+use Rattle.wire_msg.specs.declared.packet.Packet.{Packet}
+use Rattle.xfs_base.specs.declared.entry.Place.{Place}
+use Rattle.place_law.specs.Reads.{FiledKnown}
+
+-- where the reading looks for a block
+abbrev pub place_read : ReadingState → BlockAt → Place
+place_read r at = record { seg = r.target.seg; item = at.item }
+
+-- while a block is fetched, it is read where the fetch has it
+abbrev pub ReadsItsFetch : Serving → Type 0
+ReadsItsFetch s =
+    (r : ReadingState) (at : BlockAt) (f : Fetch) → reading_in s.call ≡ Some r → r.target.block ≡ Some at → (held_at s at.block).fetch ≡ Some f
+    → f.place ≡ place_read r at
+
+-- A client that serves, beside what logs filed: the place of each fetch and of its reading is what a filed segment says of the block, what it holds of the reading
+-- came, and the reading is the fetch's.
+pub record FetchesWell (packets : List Packet) (cuts : Cuts) (f : Filed) (s : Serving) : Type 0 where
+  pub told : ServingHolds (told_by (rows_at f)) s
+  pub came : ServesSo (answered_in packets) (cut_by cuts) s
+  pub its : ReadsItsFetch s
+
+-- Whatever packet that was sent makes its reading end, what is read of the block is what the filed segment says at the place of the fetch.
+abbrev pub FetchesReadThere : Type 0
+FetchesReadThere =
+    (texts : Texts) (packets : List Packet) (cuts : Cuts) (f : Filed) (s : Serving) (p : Packet) (part most c : ℕ) (n : tokens.Net)
+    → FiledKnown texts packets cuts f → BooksAre n.books f → ArePlain f → FetchesWell packets cuts f s → In p packets → ServingReads part most c n s p p.body

@@ -1,0 +1,36 @@
+//! What is read of a place is what the segment there says. It has no code: the functions below call the laws on which theirs rest, and their contracts are laws.
+//! `specs/Reads.antt` says what is known of a log, and that what is read under a name is its text.
+#![tactic(auto)]
+
+ghost use Rattle.place_law.specs.Fetches.{FetchesReadThere};
+ghost use Rattle.place_law.specs.Reads.{TakeoversReadTexts, WhatIsReadIsTheText};
+
+use log_law::{a_place_names_one_content, one_name_one_text};
+use manager_log_tie::what_is_told_is_in_range;
+use reading_tie::{clients_read_what_came, managers_read_what_came};
+
+/// What is read under a name is the text of the name.
+///
+/// - `own`: what is joined of fragments that came, in answer to one question, for a reference that bears the group of the text that it names, is that text.
+/// - `takeovers`: so is what a takeover reads, and each number in it is within its type.
+pub fn what_is_read_is_the_text()
+    ensures own { WhatIsReadIsTheText }
+    ensures takeovers { TakeoversReadTexts }
+{
+    one_name_one_text();
+    a_place_names_one_content();
+    what_is_told_is_in_range();
+    managers_read_what_came();
+}
+
+/// What a client reads of a block is what the filed segment says at the place of its fetch.
+///
+/// - `there`: where the place of each of its fetches is one that a filed segment says, its reading is of the place of the fetch, and what its reading holds came,
+///   whatever packet that was sent makes the reading end, the value at the place is that of the row of the block there.
+pub fn a_fetch_reads_there()
+    ensures there { FetchesReadThere }
+{
+    one_name_one_text();
+    a_place_names_one_content();
+    clients_read_what_came();
+}
