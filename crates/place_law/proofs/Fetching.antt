@@ -45,82 +45,33 @@ use Rattle.xfs_base.specs.declared.node.NodeId.TheVariants as node
 use Rattle.xfs_base.specs.declared.segment.SegName.{SegName}
 use Rattle.place_law.specs.Fetches.{FetchesReadThere, FetchesWell, place_read}
 use Rattle.place_law.specs.Reads.{FiledKnown, LogKnown, NamesItsGroup}
-use Rattle.place_law.proofs.Lying.{IsFiledAt, SaysAt, filed_at, says_at}
+use Rattle.place_law.proofs.Lying.{LiesAt, lies_there}
 use Rattle.place_law.proofs.Texts.{what_is_read_is_the_text}
-
--- a log that files has a number from 1 to 9
-pub one_of_nine : (f : Filed) → index.IsFiled f → (l q : ℕ) → 0 < q → q ≤ f.head l → (0 < l) × (l ≤ 9)
-one_of_nine f filed l q some most = (least (nat_lt 0 l) refl, greatest (nat_lt 9 l) refl)
-  where
-    least : (t : Bool) → nat_lt 0 l ≡ t → 0 < l
-    least true is = grind (arith, nat_tests)
-    least false is = absurd (let zero_is : l ≡ 0 = grind (arith, nat_tests) in let none = filed.others l (inl zero_is) in omega arith)
-
-    greatest : (t : Bool) → nat_lt 9 l ≡ t → l ≤ 9
-    greatest true is = absurd (let over : 9 < l = grind (arith, nat_tests) in let none = filed.others l (inr over) in omega arith)
-    greatest false is = grind (arith, nat_tests)
 
 module _ (texts : Texts) (packets : List Packet) (cuts : Cuts) (f : Filed) (known : FiledKnown texts packets cuts f) (k : Books) (books : BooksAre k f)
     (plain : ArePlain f) where
-  -- What a filed segment says of a block at a place: the log of the place is known, the place bears the group of the text, and the books say of the block what
-  -- lies there.
-  pub record IsSaid (b : BlockId) (e : Entry) (place : Place) : Type 0 where
-    pub log : LogKnown texts packets cuts place.seg.name.log
-    pub group : NamesItsGroup texts place.seg
-    pub filed : place.seg.name.seq ≤ k.end place.seg.name.log.0
-    pub version : (said k place.seg.name.log.0 place.seg.name.seq b).version ≡ e.ver
-    pub value : (said k place.seg.name.log.0 place.seg.name.seq b).value ≡ value_at (texts place.seg.name) place.item
-
-  said_so : (l q : ℕ) (b : BlockId) (e : Entry) (place : Place) → IsFiledAt f l q b e → e.place ≡ Some place → IsSaid b e place
-  said_so l q b e place at is =
-      let nine = one_of_nine f known.filed l q at.some at.most in
-      let segment : Segment = f.segment l q in
-      let its : IsSegment l q segment = known.filed.each l q at.some at.most in
-      let row : SaysAt segment (row_in (rows_told segment.items) b) e =
-      says_at segment b e (plain l q nine.0 nine.1 at.some at.most).once at.among in
-      let lies : LiesIn segment (row_in (rows_told segment.items) b).value place = row.lies place is in
-      let text : segment ≡ texts place.seg.name = known.texts_of l q at.some at.most ∙ ap texts (sym lies.name) in
-      let log : place.seg.name.log.0 ≡ l = ap (λ (n : SegName). n.log.0) lies.name ∙ its.log in
-      let seq : place.seg.name.seq ≡ q = ap (λ (n : SegName). n.seq) lies.name ∙ its.seq in
-      let rows : k.rows place.seg.name.log.0 place.seg.name.seq ≡ rows_told segment.items =
-      ap (λ x. k.rows x place.seg.name.seq) log ∙ ap (k.rows l) seq ∙ books.rows l q nine.0 nine.1 at.some at.most in
-      let end : k.end place.seg.name.log.0 ≡ f.head l = ap k.end log ∙ books.end l nine.0 nine.1 in
-      record {
-        log = subst (LogKnown texts packets cuts) (ap (λ x. record { 0 = x }) (sym log)) (known.logs l q at.some at.most);
-        group = lies.group ∙ ap (λ (s : Segment). s.group) text;
-        filed = (let most = at.most in omega arith);
-        version = ap (λ rs. (row_in rs b).version) rows ∙ row.version;
-        value = ap (λ rs. (row_in rs b).value) rows ∙ lies.item ∙ ap (λ (s : Segment). value_at s place.item) text;
-      }
-
-  -- an entry that is told, with a place, is said so
-  pub told_said : (b : BlockId) (e : Entry) (place : Place) → told_by (rows_at f) b e → e.place ≡ Some place → IsSaid b e place
-  told_said b e place (inl h) is = said_so h.log h.seq b e place (filed_at f h.log h.seq b e h.says) is
-  told_said b e place (inr none) is = absurd (nothing (sym (ap (λ (x : Entry). x.place) none) ∙ is))
-    where
-      nothing : None ≡ Some place → ⊥
-      nothing h = absurd (cc)
-
   -- ---- a client
 
   module _ (one : OneNameOneText) (place : APlaceNamesOneContent) (reads : ClientsReadWhatCame) (s : Serving) (well : FetchesWell packets cuts f s) where
-    lies_there : (b : BlockId) (x : Fetch) → (held_at s b).fetch ≡ Some x
-        → (hop : ℕ) × IsSaid b (record { ver = x.ver; hop = hop; place = Some x.place }) x.place
-    lies_there b x is =
-        let h : PlaceTold (told_by (rows_at f)) b x.ver x.place = subst (FetchTold (told_by (rows_at f)) b) is (well.told.fetches b) in
-        (h.hop, told_said b (record { ver = x.ver; hop = h.hop; place = Some x.place }) x.place h.is refl)
-
     read_there : (r : ReadingState) (at : BlockAt) (segment : Segment) → reading_in s.call ≡ Some r → r.target.block ≡ Some at
         → ReadsTarget (answered_in packets) (cut_by cuts) r.target segment → ReadsThere k s.tokens at.block (value_at segment at.item)
     read_there r at segment is block h x fetch =
-        let its = (lies_there at.block x fetch).1 in
+        let t : PlaceTold (told_by (rows_at f)) at.block x.ver x.place =
+        subst (FetchTold (told_by (rows_at f)) at.block) fetch (well.told.fetches at.block) in
+        let e : Entry = record { ver = x.ver; hop = t.hop; place = Some x.place } in
+        let lies : LiesAt f k at.block e x.place x.place.seg.name.log.0 x.place.seg.name.seq =
+        lies_there f k at.block e x.place known.filed books plain refl t.is in
+        let there : Segment = f.segment x.place.seg.name.log.0 x.place.seg.name.seq in
         let same : x.place ≡ place_read r at = well.its r at x is block fetch in
-        let text : segment ≡ texts r.target.seg.name =
-        what_is_read_is_the_text one place texts packets cuts r.target.seg segment
-        (subst (λ (p : Place). LogKnown texts packets cuts p.seg.name.log) same its.log) (subst (λ (p : Place). NamesItsGroup texts p.seg) same its.group)
-        h.joined
+        let named : there ≡ texts x.place.seg.name = known.texts_of _ _ lies.some lies.most ∙ ap texts (sym lies.name) in
+        let group : NamesItsGroup texts x.place.seg = lies.group ∙ ap (λ (z : Segment). z.group) named in
+        let log : LogKnown texts packets cuts x.place.seg.name.log = known.logs _ _ lies.some lies.most in
+        let read : segment ≡ texts r.target.seg.name =
+        what_is_read_is_the_text one place texts packets cuts r.target.seg segment (subst (λ (p : Place). LogKnown texts packets cuts p.seg.name.log) same log)
+        (subst (λ (p : Place). NamesItsGroup texts p.seg) same group) h.joined
         in
-        ap (λ (z : Segment). value_at z at.item) text ∙ sym (ap (λ (p : Place). value_at (texts p.seg.name) p.item) same) ∙ sym its.value
+        ap (λ (z : Segment). value_at z at.item) read ∙ sym (ap (λ (p : Place). value_at (texts p.seg.name) p.item) same)
+        ∙ sym (lies.value ∙ ap (λ (z : Segment). value_at z x.place.item) named)
 
     module _ (r : ReadingState) (is : reading_in s.call ≡ Some r) where
       brings : (b : Option BlockAt) (x : Next) → r.target.block ≡ b

@@ -1,109 +1,85 @@
--- What a filed segment says of a block at a place: the row of the block has the value that lies there.
-use Rattle.std.proofs.Common.{◌≡◌, ◌<◌, ◌≤◌, inl, inr, ℕ, zero, suc, ◌==◌, true, cond, List, [], ◌∷◌, length, Option, None, Some, unwrap_or, slice_index_or, refl, sym, ap, subst, ◌∙◌, arith}
+-- Where an entry that is told says that a block lies, a filed segment says so, and the books have the value that lies there.
+use Rattle.std.proofs.Common.{◌≡◌, ◌⊎◌, ◌<◌, ◌≤◌, inl, inr, ℕ, Bool, true, false, nat_lt, Option, None, Some, refl, sym, ap, subst, ◌∙◌, arith}
 use Rattle.std.specs.Prelude.{Contains}
-use Rattle.std.specs.List.{filter_map, list_any, slice_get}
-use Rattle.client_node.specs.Reads.{value_in}
-use Rattle.index_reads.specs.Rows.{LiesIn}
+use Rattle.std.proofs.lemmas.Bool.Decides.{nat_tests}
+use Rattle.client_node.specs.Reads.{value_at}
+use Rattle.entry_tie.specs.Told.{told_by}
+use Rattle.index_reads.proofs.Rows.{deltas_are_said, rows_are_entries}
+use Rattle.index_reads.specs.Rows.{IsPlain, SaysSame}
+use Rattle.index_reads.specs.Ties.{ArePlain, BooksAre}
 use Rattle.index_tie.proofs.Rows.{by_filed}
-use Rattle.index_tie.specs.Filed.{Filed, rows_at}
-use Rattle.log_protocol.specs.Tables.{In}
-use Rattle.node_tie.specs.LogRows.{row_told, rows_told}
-use Rattle.segment_format.specs.declared.segment.Item.{Item}
-use Rattle.segment_format.specs.declared.segment.Item.TheVariants.{Block, Delta, Part}
+use Rattle.index_tie.specs.Filed.{Filed, IsFiled, IsSegment, rows_at}
+use Rattle.node_tie.specs.LogRows.{rows_told}
 use Rattle.segment_format.specs.declared.segment.Segment.{Segment}
-use Rattle.segment_format.specs.Rows.{place_of, row_of, rows_of}
-use Rattle.segment_format.specs.Rule.{no_item}
-use Rattle.token_law.specs.Books.{AreOnce, Row, row_in}
-use Rattle.xfs_base.proofs.BlockOrder.{same_block_exact, same_block_itself}
-use Rattle.xfs_base.proofs.Booleans.{by_test, contrary, or_first, or_second}
-use Rattle.xfs_base.specs.Blocks.{same_block}
+use Rattle.segment_format.specs.Rows.{rows_of}
+use Rattle.token_law.specs.Books.{Books, row_in, said}
 use Rattle.xfs_base.specs.declared.block.BlockId.{BlockId}
 use Rattle.xfs_base.specs.declared.entry.Entry.{Entry}
 use Rattle.xfs_base.specs.declared.entry.Place.{Place}
+use Rattle.xfs_base.specs.declared.segment.SegName.{SegName}
 
--- what stands at some index of a list is in it
-pub in_of : {X : Type 0} (xs : List X) (x : X) → Contains xs x → In x xs
-in_of xs x c = at xs c.0 c.1 c.2
+-- a log that files has a number from 1 to 9
+pub one_of_nine : (f : Filed) → IsFiled f → (l q : ℕ) → 0 < q → q ≤ f.head l → (0 < l) × (l ≤ 9)
+one_of_nine f filed l q some most = (least (nat_lt 0 l) refl, greatest (nat_lt 9 l) refl)
   where
-    at : (ys : List _) (k : ℕ) → k < length ys → slice_index_or ys k x ≡ x → In x ys
-    at [] k less is = absurd (omega arith)
-    at (y ∷ ys) zero less is = inl (sym is)
-    at (y ∷ ys) (suc k) less is = inr (at ys k (omega arith) is)
+    least : (t : Bool) → nat_lt 0 l ≡ t → 0 < l
+    least true is = grind (arith, nat_tests)
+    least false is = absurd (let zero_is : l ≡ 0 = grind (arith, nat_tests) in let none = filed.others l (inl zero_is) in omega arith)
 
--- the row has the entry's version, and the value that lies at its place in the segment
-pub record SaysAt (s : Segment) (row : Row) (e : Entry) : Type 0 where
-  pub version : row.version ≡ e.ver
-  pub lies : (place : Place) → e.place ≡ Some place → LiesIn s row.value place
+    greatest : (t : Bool) → nat_lt 9 l ≡ t → l ≤ 9
+    greatest true is = absurd (let over : 9 < l = grind (arith, nat_tests) in let none = filed.others l (inr over) in omega arith)
+    greatest false is = grind (arith, nat_tests)
 
-module _ (s : Segment) where
-  abbrev told : List Item → List (BlockId × Row)
-  told items = filter_map (row_told s.items) items
+module _ (f : Filed) (k : Books) (b : BlockId) (e : Entry) (place : Place) where
+  -- The log has filed a segment at this number, under the name of the place and in its group; that says the entry of the block, and the books have its version there,
+  -- and the value of the item that the place names.
+  pub record LiesAt (l q : ℕ) : Type 0 where
+    pub some : 0 < q
+    pub most : q ≤ f.head l
+    pub nine : (0 < l) × (l ≤ 9)
+    pub says : Contains (rows_of (f.segment l q)) (b, e)
+    pub name : place.seg.name ≡ (f.segment l q).name
+    pub group : place.seg.group ≡ (f.segment l q).group
+    pub filed : q ≤ k.end l
+    pub version : (said k l q b).version ≡ e.ver
+    pub value : (said k l q b).value ≡ value_at (f.segment l q) place.item
 
-  abbrev entries : List Item → List (BlockId × Entry)
-  entries items = filter_map (row_of s) items
+  module _ (filed : IsFiled f) (books : BooksAre k f) (plain : ArePlain f) (at : e.place ≡ Some place) where
+    said_at : (l q : ℕ) → 0 < q → q ≤ f.head l → Contains (rows_of (f.segment l q)) (b, e) → LiesAt l q
+    said_at l q some most has =
+        let nine = one_of_nine f filed l q some most in
+        let s : Segment = f.segment l q in
+        let its : IsSegment l q s = filed.each l q some most in
+        let is_plain : IsPlain s = plain l q nine.0 nine.1 some most in
+        let row : SaysSame s (row_in (rows_told s.items) b) e =
+        subst (SaysSame s (row_in (rows_told s.items) b)) (deltas_are_said s b e is_plain its.versions has) (rows_are_entries s b is_plain its.versions) in
+        let rows : k.rows l q ≡ rows_told s.items = books.rows l q nine.0 nine.1 some most in
+        record {
+          some = some;
+          most = most;
+          nine = nine;
+          says = has;
+          name = (row.place place at).name;
+          group = (row.place place at).group;
+          filed = (let end = books.end l nine.0 nine.1 in omega arith);
+          version = ap (λ rs. (row_in rs b).version) rows ∙ row.version;
+          value = ap (λ rs. (row_in rs b).value) rows ∙ (row.place place at).item;
+        }
 
-  nowhere : (place : Place) → None ≡ Some place → ⊥
-  nowhere place h = absurd (cc)
+    -- so it is at the log and the number that the place names
+    there : (l q : ℕ) → LiesAt l q → LiesAt place.seg.name.log.0 place.seg.name.seq
+    there l q h =
+        let its : IsSegment l q (f.segment l q) = filed.each l q h.some h.most in
+        let log : l ≡ place.seg.name.log.0 = sym (ap (λ (n : SegName). n.log.0) h.name ∙ its.log) in
+        let seq : q ≡ place.seg.name.seq = sym (ap (λ (n : SegName). n.seq) h.name ∙ its.seq) in
+        subst (λ x. LiesAt x place.seg.name.seq) log (subst (LiesAt l) seq h)
 
-  placed : (item : ℕ) (place : Place) → place_of s item ≡ Some place → LiesIn s (value_in (slice_get s.items item)) place
-  placed item place =
-      by_test (λ (o : Option Place). o ≡ Some place → LiesIn s (value_in (slice_get s.items item)) place) (item == no_item) None
-      (Some (record { seg = record { name = s.name; group = s.group }; item = item })) (λ _ h. absurd (nowhere place h))
-      (λ _ h. subst (LiesIn s (value_in (slice_get s.items item))) (ap (λ (o : Option Place). unwrap_or o place) h)
-      (record { name = refl; group = refl; item = refl }))
-
-  -- a block of which an entry is has a row
-  stands : (items : List Item) (b : BlockId) (e : Entry) → In (b, e) (entries items) → list_any (λ (r : BlockId × Row). same_block b r.0) (told items) ≡ true
-  stands [] b e is = absurd is
-  stands (Block block value ∷ items) b e is = stands items b e is
-  stands (Part slot rows ∷ items) b e is = stands items b e is
-  stands (Delta block ver hop item ∷ items) b e (inl is) =
-      or_first (same_block b block) _
-      (subst (λ (k : BlockId). same_block b k ≡ true) (ap (λ (x : BlockId × Entry). x.0) is) (same_block_itself b))
-  stands (Delta block ver hop item ∷ items) b e (inr is) = or_second (same_block b block) _ (stands items b e is)
-
-  says : (items : List Item) (b : BlockId) (e : Entry) → AreOnce (told items) → In (b, e) (entries items) → SaysAt s (row_in (told items) b) e
-  says [] b e once is = absurd is
-  says (Block block value ∷ items) b e once is = says items b e once is
-  says (Part slot rows ∷ items) b e once is = says items b e once is
-  says (Delta block ver hop item ∷ items) b e once is = by is (λ later. says items b e once.1 later)
-    where
-      row : Row
-      row = record { version = ver; value = value_in (slice_get s.items item) }
-
-      entry : Entry
-      entry = record { ver = ver; hop = hop; place = place_of s item }
-
-      here : SaysAt s row entry
-      here = record { version = refl; lies = λ place lies. placed item place lies }
-
-      at_own : SaysAt s (row_in ((block, row) ∷ told items) block) entry
-      at_own = subst (λ t. SaysAt s (cond t row (row_in (told items) block)) entry) (sym (same_block_itself block)) here
-
-      by : In (b, e) (entries (Delta block ver hop item ∷ items)) → (In (b, e) (entries items) → SaysAt s (row_in (told items) b) e)
-          → SaysAt s (row_in ((block, row) ∷ told items) b) e
-      by (inl same) rest =
-          subst (λ (x : BlockId × Entry). SaysAt s (row_in ((block, row) ∷ told items) x.0) x.1) (sym same) at_own
-      by (inr later) rest =
-          by_test (λ (r : Row). SaysAt s r e) (same_block block b) row (row_in (told items) b)
-          (λ t. contrary (sym once.0
-          ∙ subst (λ (k : BlockId). list_any (λ (r : BlockId × Row). same_block k r.0) (told items) ≡ true) (same_block_exact block b t)
-          (stands items b e later)))
-          (λ _. rest later)
-
--- ---- what was filed
-
--- an entry of the block is in what the log filed at this number
-pub record IsFiledAt (f : Filed) (l q : ℕ) (b : BlockId) (e : Entry) : Type 0 where
-  pub some : 0 < q
-  pub most : q ≤ f.head l
-  pub among : In (b, e) (rows_of (f.segment l q))
-
-pub filed_at : (f : Filed) (l q : ℕ) (b : BlockId) (e : Entry) → Contains (rows_at f l q) (b, e) → IsFiledAt f l q b e
-filed_at f l q b e =
-    by_filed (λ rows. Contains rows (b, e) → IsFiledAt f l q b e) f l q
-    (λ some most c. record { some = some; most = most; among = in_of (rows_of (f.segment l q)) (b, e) c })
-    (λ c. absurd (let less = c.1 in omega arith))
-
-pub says_at : (s : Segment) (b : BlockId) (e : Entry) → AreOnce (rows_told s.items) → In (b, e) (rows_of s) → SaysAt s (row_in (rows_told s.items) b) e
-says_at s b e once is = says s s.items b e once is
+    pub lies_there : told_by (rows_at f) b e → LiesAt place.seg.name.log.0 place.seg.name.seq
+    lies_there (inr none) = absurd (nothing (sym (ap (λ (x : Entry). x.place) none) ∙ at))
+      where
+        nothing : None ≡ Some place → ⊥
+        nothing h = absurd (cc)
+    lies_there (inl h) =
+        there h.log h.seq
+        (by_filed (λ rows. Contains rows (b, e) → LiesAt h.log h.seq) f h.log h.seq (λ some most has. said_at h.log h.seq some most has)
+        (λ has. absurd (let less = has.1 in omega arith)) h.says)

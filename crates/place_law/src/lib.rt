@@ -2,6 +2,7 @@
 //! `specs/Reads.antt` says what is known of a log, and that what is read under a name is its text.
 #![tactic(auto)]
 
+ghost use Rattle.place_law.specs.Copies.{JobsChecksLie, LivesTellCopies};
 ghost use Rattle.place_law.specs.Fetches.{FetchesReadThere};
 ghost use Rattle.place_law.specs.Reads.{TakeoversReadTexts, WhatIsReadIsTheText};
 
@@ -34,3 +35,14 @@ pub fn a_fetch_reads_there()
     a_place_names_one_content();
     clients_read_what_came();
 }
+
+/// What is answered Live to the cleaner of a block is a copy of what a filed segment says.
+///
+/// - `checks`: at each moment of every run of the small world of a slot's index, what the cleaner's job asks for are Blocks of the segment that it has in hand,
+///   where that is the one filed at its number.
+/// - `copies`: where each Live that was sent answers a Check that was sent, at the place that its entry has, and what the cleaner awaits it asked of the segment
+///   in hand, and that has of a block one value, a Live that answers a question that is out tells, with the value that was read, what the filed segment says.
+pub fn a_live_tells_a_copy()
+    ensures checks { JobsChecksLie }
+    ensures copies { LivesTellCopies }
+{}
