@@ -3,12 +3,12 @@ mod Grouping
 mod Asking
 mod Effects
 mod Quiet
-mod Keeping
+pub mod Keeping
 mod Sounding
 mod Arriving
 mod Packets
 mod Calls
-mod Happening
+pub mod Happening
 mod Writing
 mod Giving
 mod Orders

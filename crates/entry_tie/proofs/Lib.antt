@@ -8,7 +8,7 @@ mod ServingTokens
 mod ServingLog
 mod ServingCalls
 mod ServingPackets
-mod Openings
+pub mod Openings
 pub mod ClientPhases
 mod Leaving
 pub mod Rows

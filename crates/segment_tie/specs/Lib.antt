@@ -1,0 +1,5 @@
+pub mod Segments
+pub mod Settings
+pub mod Clients
+pub mod Cleaners
+pub mod Managers
