@@ -34,7 +34,7 @@ use Rattle.node_log_tie.specs.Sight.Question.{Unasked, OfMaps, OfOpening}
 use Rattle.node_log_tie.proofs.Emptied.{OnlyOrdered, emptying_later, ordered_then}
 use Rattle.node_log_tie.proofs.Going.{run_later, runs_on}
 use Rattle.node_log_tie.proofs.Lists.{all_append, all_weaker, if_some}
-use Rattle.client_log_tie.specs.ClientEvents.{Grown}
+use Rattle.client_log_tie.specs.ClientEvents.{Grown, IsOnce}
 use Rattle.client_log_tie.specs.Owner.{Scene}
 use Rattle.client_log_tie.specs.Texts.{InputFits}
 use Rattle.client_log_tie.proofs.Frames as client_frames
@@ -121,6 +121,16 @@ module _ (g : Setting) where
     low = a.low;
     asked = a.asked;
   }
+
+  -- ---- where the owner serves on the way
+
+  pub still_once : (w : Scene) → IsOnce (still_grows w).runs
+  unfolding still_grows
+  still_once w = tt
+
+  pub owner_once : (w v : Scene) (a : Grown g w v) → IsOnce a.runs → IsOnce (owner_grows w v a).runs
+  unfolding owner_grows
+  owner_once w v a once = once
 
   pub is_later : (w v : Scene) → Grows g w v → Later w.net v.net
   is_later w v grown = run_later g w.net v.net grown.runs

@@ -3,7 +3,7 @@ use Rattle.std.proofs.Common.{◌≡◌, ◌<◌, ℕ, suc, ◌+◌, true, false
 use Rattle.std.specs.Prelude.{All}
 use Rattle.std.proofs.lemmas.Bool.Decides.{nat_tests}
 use Rattle.std.proofs.lemmas.List.Elements.{All-nil, All-cons, All-append}
-use Rattle.xfs_base.proofs.Booleans.{by_test, and_first, and_second}
+use Rattle.xfs_base.proofs.Booleans.{by_test, and_first, and_second, contrary}
 use Rattle.xfs_base.specs.declared.node.NodeId.TheVariants.{Cleaner as TheCleaner}
 use Rattle.xfs_base.specs.Limits.{u32_end}
 use Rattle.xfs_base.specs.Steps.{still, after}
@@ -47,13 +47,15 @@ use Rattle.log_law.specs.Net.Packet.{HelloSent}
 use Rattle.log_law.specs.Events.{Happens, Happens as happen}
 use Rattle.log_law.specs.Events.Happens.{Crashes}
 use Rattle.log_law.specs.Events.Runs.{Begun, On}
-use Rattle.log_law.specs.Restarts.{is_down}
+use Rattle.log_law.specs.Restarts.{is_down, is_serving}
+use Rattle.log_law.specs.Tails.{then_on}
 use Rattle.node_log_tie.specs.Sight.{AskedBy, BodySeen, PacketSeen, EffectSeen}
 use Rattle.node_log_tie.specs.Sight.Question.{OfOpening}
 use Rattle.node_log_tie.proofs.Emptied.{OnlyOrdered, only_deleted}
 use Rattle.node_log_tie.proofs.Lists.{all_append, all_weaker, answers_send, packets_all}
-use Rattle.client_log_tie.specs.ClientEvents.{FliesInBoot}
-use Rattle.client_log_tie.specs.Owner.{Scene}
+use Rattle.client_log_tie.specs.ClientEvents.{FliesInBoot, NeverServes, ServesStraight}
+use Rattle.client_log_tie.specs.Owner.{Scene, SeesLog}
+use Rattle.client_log.specs.LogState.{LogState}
 use Rattle.client_log_tie.proofs.Boots.{same_boot, stage_up, log_up}
 use Rattle.client_log_tie.proofs.OpeningLog.{IsLost, ProgressSeen}
 use Rattle.client_log_tie.proofs.Questions.{ask_rises, put_here, put_keeps, put_fresh}
@@ -61,7 +63,8 @@ use Rattle.opening_law.specs.Questions.{AsksOn, ProgressAsks}
 use Rattle.opening_law.proofs.Asking.{packet_few, starts_few, tick_few}
 use Rattle.cleaner_log_tie.specs.Owner.{its_asker, its_number, LastsAs, Stands, CleanerAgrees}
 use Rattle.cleaner_log_tie.specs.OwnerEvents.{OpeningOwed, PacketOwed, CleanerOwed, ActSeen, Grows, OwnerTakes}
-use Rattle.cleaner_log_tie.proofs.Frames.{CleanerDoes, AllDone, Gone, still_grows, grows_on, all_more}
+use Rattle.cleaner_log_tie.proofs.Frames.{CleanerDoes, AllDone, Gone, still_grows, still_once, grows_on, all_more}
+use Rattle.client_log_tie.proofs.Straight.{away_straight, never_then, once_straight, served_straight}
 use Rattle.cleaner_log_tie.proofs.Serving as serving
 use Rattle.cleaner_log_tie.proofs.StandIn as stand_in
 use Rattle.cleaner_log_tie.proofs.StandIn.{WentOn}
@@ -77,21 +80,23 @@ module _ (g : Setting) (is : g.log ≡ cleaner_log) (w : Scene) where
     agrees : CleanerAgrees g next x.state
     does : AllDone g next x.outs
     flies : FliesInBoot w.net next.net
+    straight : ServesStraight grown.runs
     only : OnlyOrdered g (its_asker w) w.net next.net x.outs
 
   at_once : (p : Phase) (outs : List Effect) → CleanerAgrees g w p → AllDone g w outs → Goes (record { state = p; outs = outs })
-  at_once p outs sees does = record { next = w; grown = still_grows g w; agrees = sees; does = does; flies = inr (refl, refl); only = λ name is. inl is }
+  at_once p outs sees does = record { next = w; grown = still_grows g w; agrees = sees; does = does; flies = inr (refl, refl); straight = once_straight g w.net w.net (still_grows g w).runs (still_once g w); only = λ name is. inl is }
 
   stays : (p : Phase) → CleanerAgrees g w p → Goes (still p)
   stays p sees = at_once p [] sees tt
 
-  serves : (d : Done) → is_down w.net.owner ≡ false → Gone g w d → Goes (serves_on d)
-  serves d up p = record {
+  serves : (d : Done) (log : LogState) → SeesLog g its_number w log → Gone g w d → Goes (serves_on d)
+  serves d log sees p = record {
     next = p.next;
     grown = p.grown;
     agrees = p.stands;
     does = p.does;
-    flies = inl (same_boot w.net p.next.net up (log_up g its_number p.next d.state.log p.stands.log) p.boot);
+    flies = inl (same_boot w.net p.next.net (log_up g its_number w log sees) (log_up g its_number p.next d.state.log p.stands.log) p.boot);
+    straight = served_straight g w.net p.next.net p.grown.runs (ap is_serving sees.owner) (ap is_serving p.stands.log.owner);
     only = p.only;
   }
 
@@ -146,6 +151,10 @@ module _ (g : Setting) (is : g.log ≡ cleaner_log) (w : Scene) where
         asked = λ k some. refl;
       }
 
+  fallen_never : (v : Scene) → NeverServes (fallen_grows v).runs
+  unfolding fallen_grows
+  fallen_never v = (ap is_serving (fall_of v.net).down, tt)
+
   fallen_agrees : (v : Scene) (l : Lasting) → LastsAs g v l → CleanerAgrees g (fallen v) (Down l)
   fallen_agrees v l lasts = (record { number = refl; inc = (fall_of v.net).inc ∙ lasts.inc; fresh = lasts.fresh }, (fall_of v.net).down)
 
@@ -158,6 +167,7 @@ module _ (g : Setting) (is : g.log ≡ cleaner_log) (w : Scene) where
     does = all_append (CleanerDoes g (fallen w)) (answers_unanswered l.items.unanswered answer.Cut) _ (answers_do (fallen w) l.items.unanswered answer.Cut)
         (tt, tt);
     flies = inr ((fall_of w.net).flown, (fall_of w.net).filed);
+    straight = away_straight g w.net (fallen w).net (fallen_grows w).runs (fallen_never w) (ap is_serving (fall_of w.net).down);
     only = λ name is. inl (subst (In name) (fall_of w.net).dropped is);
   }
 
@@ -213,6 +223,7 @@ module _ (g : Setting) (is : g.log ≡ cleaner_log) (w : Scene) where
           tt,
         );
         flies = inr (refl, refl);
+        straight = record { never = λ e. (refl, (refl, tt)); once = λ a b. contrary b };
         only = λ name is. inl is;
       }
 
@@ -226,7 +237,7 @@ module _ (g : Setting) (is : g.log ≡ cleaner_log) (w : Scene) where
       in_boot still_up = inl (same_boot w.net t.next.net up still_up (t.lasts.inc ∙ sym lasts.inc))
 
       by_progress : (p : Progress) → ProgressSeen g its_number t.next x.questions.last p → ProgressAsks p x.questions.last
-          → (IsLost g its_number p → (t.next.net.flown ≡ w.net.flown) × (t.next.net.filed ≡ w.net.filed))
+          → (IsLost g its_number p → (t.next.net.flown ≡ w.net.flown) × ((t.next.net.filed ≡ w.net.filed) × (is_serving t.next.net.owner ≡ false)))
           → Goes (after x.effects (after_opening (record l { questions = x.questions }) p))
       by_progress (progress.Opening o) shows asks lost = record {
         next = t.next;
@@ -234,6 +245,7 @@ module _ (g : Setting) (is : g.log ≡ cleaner_log) (w : Scene) where
         agrees = record { lasts = t.lasts; sees = shows.0; written = shows.1; asks = asks };
         does = all_append (CleanerDoes g t.next) x.effects [] t.does tt;
         flies = in_boot (stage_up g its_number t.next o.known x.questions.last o.stage shows.0);
+        straight = once_straight g w.net t.next.net t.grown.runs t.once;
         only = λ name is. inl (subst (In name) t.kept is);
       }
       by_progress (progress.Opened o) shows asks lost = record {
@@ -244,15 +256,20 @@ module _ (g : Setting) (is : g.log ≡ cleaner_log) (w : Scene) where
             (all_append (CleanerDoes g t.next) (pushes_all o.promised.managers o.feed) (answers_unanswered l.items.unanswered answer.Done)
             (serving.deltas_pushed g is t.next o.promised.managers o.feed) (answers_do t.next l.items.unanswered answer.Done));
         flies = in_boot (log_up g its_number t.next o.log shows.0);
+        straight = once_straight g w.net t.next.net t.grown.runs t.once;
         only = λ name is. inl (subst (In name) t.kept is);
       }
       by_progress (progress.Lost seg) shows asks lost = record {
         next = fallen t.next;
-        grown = grows_on g w t.next (fallen t.next) t.grown (fallen_grows t.next);
+        grown = record (grows_on g w t.next (fallen t.next) t.grown (fallen_grows t.next)) { runs = then_on t.grown.runs (fallen_grows t.next).runs };
         agrees = fallen_agrees t.next (record l { questions = x.questions; items = answered l.items }) t.lasts;
         does = all_append (CleanerDoes g (fallen t.next)) x.effects (answers_unanswered l.items.unanswered (answer.Lost seg))
             (all_more g t.next (fallen t.next) (fallen_grows t.next) x.effects t.does) (answers_do (fallen t.next) l.items.unanswered (answer.Lost seg));
-        flies = inr ((fall_of t.next.net).flown ∙ (lost tt).0, (fall_of t.next.net).filed ∙ (lost tt).1);
+        flies = inr ((fall_of t.next.net).flown ∙ (lost tt).0, (fall_of t.next.net).filed ∙ (lost tt).1.0);
+        straight = away_straight g w.net (fallen t.next).net (then_on t.grown.runs (fallen_grows t.next).runs)
+            (never_then g w.net t.next.net (fallen t.next).net t.grown.runs (fallen_grows t.next).runs
+            ((once_straight g w.net t.next.net t.grown.runs t.once).never (lost tt).1.1) (fallen_never t.next))
+            (ap is_serving (fall_of t.next.net).down);
         only = λ name is. inl (subst (In name) ((fall_of t.next.net).dropped ∙ t.kept) is);
       }
 
@@ -275,7 +292,7 @@ module _ (g : Setting) (is : g.log ≡ cleaner_log) (w : Scene) where
   serving_wish e number Crash sees room = crashed e.lasting number sees.lasts
   serving_wish e number Restart sees room = at_once (Serving e) _ sees (tt, tt)
   serving_wish e number (Clean count) sees room =
-      serves (on_clean e number count) (log_up g its_number w e.log sees.log) (serving.cleaning_wished g is w e number count room sees)
+      serves (on_clean e number count) e.log sees.log (serving.cleaning_wished g is w e number count room sees)
 
   down_item : (servers : ℕ) (l : Lasting) (item : Option ℕ) → CleanerAgrees g w (Down l) → lasting_room l ≡ true → Goes (down_at servers l item)
   down_item servers l None sees room = stays (Down l) sees
@@ -316,7 +333,7 @@ module _ (g : Setting) (is : g.log ≡ cleaner_log) (w : Scene) where
       (subst (λ to. BodySeen g (its_asker w) w.net packet.from to packet.body) owed.own owed.seen) owed.fits)
       (packet_few o l.questions packet (asks_room l room) sees.asks)
   heard (Serving e) packet sees owed room =
-      serves (on_packet e packet) (log_up g its_number w e.log sees.log)
+      serves (on_packet e packet) e.log sees.log
       (serving.packet_heard g is w e packet (asks_room e.lasting room) sees
       (subst (λ to. BodySeen g (its_asker w) w.net packet.from to packet.body) owed.own owed.seen)
       owed.fits)
@@ -328,7 +345,7 @@ module _ (g : Setting) (is : g.log ≡ cleaner_log) (w : Scene) where
       opened l (opening.on_tick o l.questions) sees.lasts (stage_up g its_number w o.known l.questions.last o.stage sees.sees)
       (stand_in.time_passes g is w l.inc l.questions sees.lasts (asks_room l room) (life_room l room) o sees.sees sees.written sees.asks owed)
       (tick_few o l.questions (asks_room l room) sees.asks)
-  passed (Serving e) sees owed room = serves (on_tick e) (log_up g its_number w e.log sees.log) (serving.time_passes g is w e (asks_room e.lasting room) sees)
+  passed (Serving e) sees owed room = serves (on_tick e) e.log sees.log (serving.time_passes g is w e (asks_room e.lasting room) sees)
 
   its_room : (p : Phase) → phase_room p ≡ true → lasting_room (lasting_of p) ≡ true
   its_room (Down l) room = room
@@ -379,5 +396,6 @@ owner_takes g is w cleaner what sees owed =
           (all_weaker (CleanerDoes g p.next) (EffectSeen g (its_asker p.next) p.next.net TheCleaner) (as_effect g p.next) outs p.does);
       acts = all_acts g p.next outs p.does;
       flies = p.flies;
+      straight = p.straight;
       only = only_deleted g (its_asker w) w.net p.next.net outs p.only;
     }

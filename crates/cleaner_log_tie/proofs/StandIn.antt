@@ -1,5 +1,5 @@
 -- An opening doesn't tell whose log it opens: what is proved of a client's is taken over to the cleaner's, as if a client bore the number of its log.
-use Rattle.std.proofs.Common.{◌≡◌, ℕ, true, cond, List, [], ◌∷◌, refl, ap, subst, arith}
+use Rattle.std.proofs.Common.{◌≡◌, ℕ, true, false, cond, List, [], ◌∷◌, refl, ap, subst, arith}
 use Rattle.std.specs.List.{AllByRecursion}
 use Rattle.std.proofs.lemmas.List.Elements.{recursion_from_All}
 use Rattle.xfs_base.specs.declared.node.NodeId.{NodeId}
@@ -30,9 +30,10 @@ use Rattle.log_tie.specs.Setting.{Setting}
 use Rattle.node_log_tie.specs.Sight.{Question, AnsweredBy, ReachedBy, BodySeen}
 use Rattle.node_log_tie.specs.Sight.Question.{Unasked, OfMaps, OfOpening}
 use Rattle.node_log_tie.proofs.Sights.{at_once}
-use Rattle.client_log_tie.specs.ClientEvents.{StageWritten, StageTells, BodyFits, ActSeen as ClientActs}
+use Rattle.client_log_tie.specs.ClientEvents.{IsOnce, StageWritten, StageTells, BodyFits, ActSeen as ClientActs}
 use Rattle.client_log_tie.specs.Owner.{Scene, asker, Lasts, SeesStage}
 use Rattle.client_log_tie.proofs.Frames.{ClientDoes, says_seen}
+use Rattle.log_law.specs.Restarts.{is_serving}
 use Rattle.client_log_tie.proofs.OpeningEvents as events
 use Rattle.client_log_tie.proofs.OpeningLog.{IsLost, ProgressSeen, WentTo}
 use Rattle.client_log_tie.proofs.Owed.{StageOwed, in_range, owed_so}
@@ -40,7 +41,7 @@ use Rattle.opening_law.specs.Questions.{StageAsks}
 use Rattle.cleaner_log_tie.specs.Fitting.{InRange}
 use Rattle.cleaner_log_tie.specs.Owner.{its_asker, its_number}
 use Rattle.cleaner_log_tie.specs.OwnerEvents.{ActSeen, Grows}
-use Rattle.cleaner_log_tie.proofs.Frames.{CleanerDoes, AllDone, said_as, owner_grows}
+use Rattle.cleaner_log_tie.proofs.Frames.{CleanerDoes, AllDone, said_as, owner_grows, owner_once}
 
 -- ---- what comes, as it comes to a client
 
@@ -154,9 +155,10 @@ module _ (g : Setting) where
     pub lasts : Lasts g its_number next its_number life x.questions.last
     pub shows : ProgressSeen g its_number next x.questions.last x.progress
     pub does : AllDone g next x.effects
-    -- where a segment is lost, nothing began to fly, and nothing was filed
-    pub lost : IsLost g its_number x.progress → (next.net.flown ≡ w.net.flown) × (next.net.filed ≡ w.net.filed)
+    -- where a segment is lost, nothing began to fly, nothing was filed, and the owner doesn't serve
+    pub lost : IsLost g its_number x.progress → (next.net.flown ≡ w.net.flown) × ((next.net.filed ≡ w.net.filed) × (is_serving next.net.owner ≡ false))
     pub kept : next.net.dropped ≡ w.net.dropped
+    pub once : IsOnce grown.runs
 
   taken_over : (w : Scene) (life : ℕ) (its : Owner) (x : Went) → Behaves its x → WentTo g its_number w its_number life x → WentOn w life x
   taken_over w life its x may t = record {
@@ -165,8 +167,9 @@ module _ (g : Setting) where
     lasts = t.lasts;
     shows = t.shows;
     does = all_so g t.next its x.effects may.does (recursion_from_All (ClientDoes g its_number t.next) x.effects t.does);
-    lost = λ l. ((t.lost l).0, (t.lost l).1.0);
+    lost = t.lost;
     kept = t.grown.dropped;
+    once = owner_once g w t.next t.grown t.once;
   }
 
   module _ (is : g.log ≡ cleaner_log) (w : Scene) (life : ℕ) (q : Questions) (lasts : Lasts g its_number w its_number life q.last)

@@ -24,7 +24,7 @@ use Rattle.log_law.specs.Events.{Runs}
 use Rattle.node_log_tie.specs.CleanerEvents.{OnlyDeleted}
 use Rattle.node_log_tie.specs.Sight.{AllSeen, PacketSeen}
 use Rattle.node_log_tie.specs.Sight.Question.{Unasked}
-use Rattle.client_log_tie.specs.ClientEvents.{FliesInBoot, StageTells}
+use Rattle.client_log_tie.specs.ClientEvents.{FliesInBoot, ServesStraight, StageTells}
 use Rattle.client_log_tie.specs.Owner.{Scene}
 use Rattle.client_log_tie.specs.Texts.{MapFits}
 use Rattle.cleaner_log_tie.specs.Fitting.{InRange}
@@ -80,6 +80,7 @@ pub record OwnerGoes (g : Setting) (w : Scene) (d : NodeStep cleaners.Cleaner) :
   pub acts : All (ActSeen g next) d.acts
   pub only : OnlyDeleted w.net next.net d.packets
   pub flies : FliesInBoot w.net next.net
+  pub straight : ServesStraight grown.runs
 
 -- Each event of the cleaner is a run of the small world of its log.
 abbrev pub OwnerTakes : Type 0
