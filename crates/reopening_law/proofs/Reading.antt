@@ -3,6 +3,7 @@ use Rattle.std.proofs.Common.{⊎_elim, ◌≡◌, ◌⊎◌, ◌≤◌, ◌<◌
 use Rattle.client_log.specs.LogState.{LogState}
 use Rattle.index_tie.specs.Filed.{Filed}
 use Rattle.log_law.specs.Net.{Net}
+use Rattle.log_law.specs.ReadBack.{ReadsDown}
 use Rattle.log_protocol.specs.Tables.{In}
 use Rattle.log_tie.specs.Setting.{Setting}
 use Rattle.node_index_tie.specs.Sight.{Texts}
@@ -11,13 +12,13 @@ use Rattle.segment_format.specs.declared.segment.Segment.{Segment}
 use Rattle.token_protocol.specs.Basics.{In as Among}
 use Rattle.xfs_base.specs.declared.segment.SegName.{SegName}
 use Rattle.reopening_law.specs.Below.{Below}
-use Rattle.reopening_law.specs.Reopens.{AreTextsThere, FiledOf, ReachesDown, ReopeningsReadBack, Reopens}
+use Rattle.reopening_law.specs.Reopens.{AreTextsThere, FiledOf, ReopeningsReadBack, Reopens}
 use Rattle.reopening_law.proofs.Chains.{all_so, among_in, numbers, short}
 use Rattle.reopening_law.proofs.Reopened as reopened
 use Rattle.reopening_law.proofs.Steps.{IsReached, is_reached}
 
 module _ (k : Below) (g : Setting) (n o : Net) (chain : List Segment) (s r : LogState) (e : Reopens g n o chain s r) (texts : Texts) (l : ℕ) (f : Filed) (low : ℕ)
-    (there : AreTextsThere texts n) (filed : FiledOf l f n) (reaches : ReachesDown n low s.end.seq chain) where
+    (there : AreTextsThere texts n) (filed : FiledOf l f n) (reaches : ReadsDown n low (record { segments = chain; end = s.end })) where
   -- the least horizon is no further than one beyond what is filed
   horizon : low ≤ suc (f.head l)
   horizon = ⊎_elim (λ few. (let p = reaches.past in omega arith)) (λ x. (let p = reaches.past in let a = x.2 in let b = (filed.all x.0 x.1).1 in omega arith))

@@ -1,3 +1,5 @@
 pub mod Flights
+pub mod Falls
 pub mod Reopens
+pub mod Openings
 pub mod Below

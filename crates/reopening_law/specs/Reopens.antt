@@ -8,7 +8,7 @@ use Rattle.log_law.specs.Events.Runs.{On}
 use Rattle.log_law.specs.Laws.{Moment}
 use Rattle.log_law.specs.Net.{Net}
 use Rattle.log_law.specs.Net.Owner.{Serving, Writing}
-use Rattle.log_law.specs.ReadBack.{EndsAt}
+use Rattle.log_law.specs.ReadBack.{ReadsDown}
 use Rattle.log_law.specs.Restarts.{IsSureRun, last_flight}
 use Rattle.log_owner.specs.declared.opened.Opened.{Opened}
 use Rattle.log_owner.specs.Opened.{names_in}
@@ -26,7 +26,8 @@ use Rattle.token_law.specs.Books.{Books, reopened, with_empty}
 use Rattle.version_model.specs.declared.act.Act.{Act}
 use Rattle.version_model.specs.Effects.{holds_flight}
 use Rattle.xfs_base.specs.declared.segment.SegName.{SegName}
-use Rattle.reopening_law.specs.Flights.{FellWith, LastFlew}
+use Rattle.reopening_law.specs.Falls.{FellWith}
+use Rattle.reopening_law.specs.Flights.{LastFlew}
 
 -- ---- the event
 
@@ -61,18 +62,11 @@ pub record AreTextsThere (texts : Texts) (n : Net) : Type 0 where
   pub texts_are : (t : Segment) → In t n.flown → texts t.name ≡ t
   pub fit : (t : Segment) → In t n.flown → RowsFit (rows_of t)
 
--- A chain that was read back has no gap from this end down to the horizon, which isn't beyond the least one.
-pub record ReachesDown (n : Net) (low end : ℕ) (chain : List Segment) : Type 0 where
-  pub some : 0 < low
-  pub past : low ≤ n.low
-  pub numbers : EndsAt end chain
-  pub down : end < low + length chain
-
 -- What was read back is then what was filed, and what is adopted behind that.
 abbrev pub ReopeningsReadBack : Type 0
 ReopeningsReadBack =
     (g : Setting) (n o : Net) (chain : List Segment) (s r : LogState) → Reopens g n o chain s r → (texts : Texts) (l : ℕ) (f : Filed) (low : ℕ)
-    → AreTextsThere texts n → FiledOf l f n → ReachesDown n low s.end.seq chain → ReadBack texts l f low s.end.seq chain
+    → AreTextsThere texts n → FiledOf l f n → ReadsDown n low (record { segments = chain; end = s.end }) → ReadBack texts l f low s.end.seq chain
 
 -- ---- what tokens are owed
 

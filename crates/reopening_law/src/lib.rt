@@ -1,10 +1,12 @@
 //! What the end of a restart makes of a log, in the small world of that log: what the small worlds of tokens and of the index are owed of it. It has no code:
-//! each function below calls the laws that it stands on, and its contract is a law. `specs/Reopens.antt` says what the event is, `specs/Flights.antt` what is
-//! known of the segment that the owner had in flight when it served last.
+//! each function below calls the laws that it stands on, and its contract is a law. `specs/Reopens.antt` says what the event is there, `specs/Openings.antt` what
+//! it is of a node, and `specs/Flights.antt` and `specs/Falls.antt` what is known of the segment that the owner had in flight when it served last.
 #![tactic(auto)]
 
 ghost use Rattle.reopening_law.specs.Below.{Below};
-ghost use Rattle.reopening_law.specs.Flights.{FlightsOfOwners};
+ghost use Rattle.reopening_law.specs.Falls.{FallsGoOn, FallsStay};
+ghost use Rattle.reopening_law.specs.Flights.{FlightsOfOwners, FlightsStay, OthersLeaveFlights};
+ghost use Rattle.reopening_law.specs.Openings.{OpeningsEndByOne};
 ghost use Rattle.reopening_law.specs.Reopens.{BooksFollow, ClientsReopenSo, ReopeningsReadBack, TheCleanerReopensSo};
 
 use client_log::laws::settles_what_is_due;
@@ -50,7 +52,28 @@ pub fn logs_reopen_as_the_books_do()
     below();
 }
 
-/// While the owner of a log serves, what it had in flight when it served last is what is in flight, and the books that see its log have it so.
+/// What the owner of a log had in flight when it served last, as the books of tokens have it.
+///
+/// - `serving`: while the owner serves, that is what is in flight, and the books that see its log have it so.
+/// - `away`: in an event in which the owner serves nowhere it stays, and so do books of which the same is known.
+/// - `others`: where others leave an owner that doesn't serve as it was, it served nowhere on the way.
 pub fn flights_are_in_the_books()
-    ensures flights { FlightsOfOwners }
+    ensures serving { FlightsOfOwners }
+    ensures away { FlightsStay }
+    ensures others { OthersLeaveFlights }
+{}
+
+/// What the acts tell of a client's fall: from the crash until its log is open again, one fall of it waits, told with what was in flight when it served last.
+///
+/// - `stays`: acts by which no fall of the client is told or settled leave it so.
+/// - `events`: so it goes on over each event of the client.
+pub fn falls_tell_their_flight()
+    ensures stays { FallsStay }
+    ensures events { FallsGoOn }
+{}
+
+/// The event of a node that ends a restart is one thing that happens in the small world of its log: its opening segment, which says nothing, is settled, behind
+/// what was read back down to the horizon that was taken last.
+pub fn openings_end_by_one_thing()
+    ensures ends { OpeningsEndByOne }
 {}
