@@ -8,6 +8,7 @@ use Rattle.core_world.specs.declared.any_node.AnyNode.{AnyNode}
 use Rattle.group_map.specs.declared.group.Group.{Group}
 use Rattle.log_law.specs.Held.{WhatIsHeldFlew}
 use Rattle.log_law.specs.Openings.{FliesNext, OpeningsGoOn}
+use Rattle.log_law.specs.ReadBack.{OpeningsReadDown}
 use Rattle.log_tie.specs.Setting.{Setting}
 use Rattle.manager_log_tie.specs.OwnerEvents.{ManagerStarts, ManagerTakes}
 use Rattle.manager_log_tie.specs.Servers.{ServersStartEmpty, ServersTellBytes}
@@ -65,9 +66,11 @@ pub record NodeLaws : Type 0 where
   pub manager : ManagerTakes
   pub servers_start : ServersStartEmpty
   pub servers_tell : ServersTellBytes
-  -- of the small world: behind what an opening tells a log goes on, what begins to fly is next, what is held flew, and what is told is bytes
+  -- of the small world: behind what an opening tells a log goes on, what begins to fly is next, what an opening reads goes down to its
+  -- horizon, what is held flew, and what is told is bytes
   pub goes_on : OpeningsGoOn
   pub flies : FliesNext
+  pub reads : OpeningsReadDown
   pub held : WhatIsHeldFlew
   pub told : WhatIsToldIsInRange
 

@@ -16,6 +16,7 @@ use Rattle.group_map.specs.GroupMapState.{GroupMapState}
 use Rattle.log_law.specs.Laws.{Moment}
 use Rattle.log_law.specs.Net.Packet.{MapSent}
 use Rattle.log_law.specs.Openings.{OpeningsGoOn}
+use Rattle.log_law.specs.ReadBack.{OpeningsReadDown}
 use Rattle.log_owner.specs.declared.opening.Stage as stages
 use Rattle.log_owner.specs.declared.opening.Stage.TheVariants as stage
 use Rattle.log_owner.specs.declared.known.Known.{Known}
@@ -57,10 +58,10 @@ of_log h d its _ own = tt
 
 -- what an opening is told: the ids of the groups of maps fit, and behind the end of a chain the log goes on
 module _ (g : Setting) (c : ℕ) (w : Scene) (at : Moment g w.net) (maps : (m : GroupMapState) → tables.In (MapSent m) w.net.sent → MapFits m)
-    (law : OpeningsGoOn) where
+    (law : OpeningsGoOn) (reads : OpeningsReadDown) where
   stage_told : (k : Known) (last : ℕ) (x : stages.Stage) → SeesStage g c w k last x → IsRoomy w.net → StageTells g w.net x
   stage_told k last (stage.Scanning s) sees room =
-      record { maps = maps; end = law g w.net at (scan_has_room w.net s.scan sees.owner room) s.scan sees.owner }
+      record { maps = maps; end = law g w.net at (scan_has_room w.net s.scan sees.owner room) s.scan sees.owner; reads = reads g w.net at s.scan sees.owner }
   stage_told k last (stage.Settling s) sees room = tt
 
   pub phase_owed : (p : Phase) → OwnerSeen g w c p → PhaseOwed g w.net p
@@ -68,12 +69,12 @@ module _ (g : Setting) (c : ℕ) (w : Scene) (at : Moment g w.net) (maps : (m : 
   phase_owed (clients.Opening l o) h = stage_told o.known l.questions.last o.stage h.agrees.1 h.room
   phase_owed (clients.Serving s) h = tt
 
-pub opening_owed : (g : Setting) (w : Scene) → Moment g w.net → ((m : GroupMapState) → tables.In (MapSent m) w.net.sent → MapFits m) → OpeningsGoOn
+pub opening_owed : (g : Setting) (w : Scene) → Moment g w.net → ((m : GroupMapState) → tables.In (MapSent m) w.net.sent → MapFits m) → OpeningsGoOn → OpeningsReadDown
     → (p : CleanerPhase)
     → CleanerOwns g w p → OpeningOwed g w p
-opening_owed g w at maps law (cleaners.Down l) h = tt
-opening_owed g w at maps law (cleaners.Opening l o) h = stage_told g its_number w at maps law o.known l.questions.last o.stage h.agrees.sees h.room
-opening_owed g w at maps law (cleaners.Serving e) h = tt
+opening_owed g w at maps law reads (cleaners.Down l) h = tt
+opening_owed g w at maps law reads (cleaners.Opening l o) h = stage_told g its_number w at maps law reads o.known l.questions.last o.stage h.agrees.sees h.room
+opening_owed g w at maps law reads (cleaners.Serving e) h = tt
 
 -- the number of a client that is seen
 pub number_is : (g : Setting) (c : ℕ) (w : Scene) (p : Phase) → ClientAgrees g c w p → (lasting_of p).number ≡ c

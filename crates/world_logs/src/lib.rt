@@ -14,7 +14,9 @@ use filed_tie::{
     registry_tells_what_is_filed, servers_tell_what_is_filed,
 };
 use group_map::laws::groups_stay_as_made;
-use log_law::{logs_stay_whole, one_name_one_text, openings_go_on, what_is_held_flew};
+use log_law::{
+    a_reopening_reads_back, logs_stay_whole, one_name_one_text, openings_go_on, what_is_held_flew,
+};
 use log_tie::settings_exist;
 use manager_log_tie::{
     manager_log_events_are_seen, what_is_told_is_in_range, what_servers_tell_is_bytes,
@@ -68,4 +70,5 @@ pub fn runs_keep_logs()
     logs_stay_whole();
     one_name_one_text();
     openings_go_on();
+    a_reopening_reads_back();
 }

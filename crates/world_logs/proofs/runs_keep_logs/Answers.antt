@@ -62,6 +62,7 @@ returns c =
         servers_tell = c.what_servers_tell_is_bytes.ensures.events;
         goes_on = c.openings_go_on.ensures.on;
         flies = c.openings_go_on.ensures.flies;
+        reads = c.a_reopening_reads_back.ensures.down;
         held = c.what_is_held_flew.ensures.held;
         told = c.what_is_told_is_in_range.ensures;
       };
