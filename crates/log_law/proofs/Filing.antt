@@ -31,8 +31,13 @@ same n = record { filed = λ name is. is; flown = λ s is. is; dropped = λ name
 module _ (g : Setting) (n : Net) where
   flight_grown : (chain : List Segment) (d : log.Done) (f : Option FlightState) → Grown n (after_flight g n chain d f)
   flight_grown chain d None =
-      record { filed = λ name is. in_right (log_filed g.log d.outs) _ name (in_right (names_of chain) n.filed name is); flown = λ s is. is; dropped = λ name is. is }
-  flight_grown chain d (Some f) = record { filed = λ name is. in_right (log_filed g.log d.outs) n.filed name is; flown = λ s is. inr is; dropped = λ name is. is }
+      record {
+        filed = λ name is. in_right (log_filed g.log d.outs) _ name (in_right (names_of chain) n.filed name is);
+        flown = λ s is. is;
+        dropped = λ name is. is;
+      }
+  flight_grown chain d (Some f) =
+      record { filed = λ name is. in_right (log_filed g.log d.outs) n.filed name is; flown = λ s is. inr is; dropped = λ name is. is }
 
   told_grown : (s : ScanState) (d : scan.Done) (t : Option Told) (groups : Option GroupMapState) → Grown n (after_told g n s d t groups)
   told_grown s d None groups = record { filed = λ name is. is; flown = λ x is. is; dropped = λ name is. is }

@@ -253,7 +253,8 @@ listed_goes node (Some server) m h =
     by_test Goes (awaits_list node.rebuilding m.ask) (rebuilds node (input.Listed server m.held (barred node.shelf))) (still node)
     (λ t. rebuilds_go node (input.Listed server m.held (barred node.shelf)) h tt) (λ t. quiet node [] h tt)
 
-found_for_goes : (node : nodes.Server) (server : ℕ) (m : Found) (own : Option ℕ) → ServerFits node → FragmentFits m.fragment → Goes (found_for node server m own)
+found_for_goes : (node : nodes.Server) (server : ℕ) (m : Found) (own : Option ℕ) → ServerFits node → FragmentFits m.fragment
+    → Goes (found_for node server m own)
 found_for_goes node server m None h new = quiet node [] h tt
 found_for_goes node server m (Some own) h new = rebuilds_go node (input.Got own server m.generation m.fragment) h new
 

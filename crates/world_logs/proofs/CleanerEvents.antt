@@ -56,7 +56,8 @@ module _ (laws : NodeLaws) (base : Setting) (end : World AnyNode) (setup : Setup
   abbrev g : Setting
   g = setting_of base end setup.servers OfCleaner
 
-  module _ (nodes : List AnyNode) (sent : List Packet) (told : List Act) (place clock : ℕ) (what : Do) (fits : (q : Packet) → In q sent → PacketFits q.to q.body)
+  module _ (nodes : List AnyNode) (sent : List Packet) (told : List Act) (place clock : ℕ) (what : Do)
+      (fits : (q : Packet) → In q sent → PacketFits q.to q.body)
       (gets : (q : Packet) → what ≡ Deliver q → In q sent × (q.to ≡ Cleaner)) (at : place_of k Cleaner ≡ Some place) (node : CleanerNode)
       (is : slice_get nodes place ≡ Some (any.Cleaner node)) (l : (v : Scene) × Stands g OfCleaner v k nodes sent told) where
     abbrev packets : List Packet

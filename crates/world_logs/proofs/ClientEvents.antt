@@ -49,7 +49,8 @@ module _ (laws : NodeLaws) (base : Setting) (end : World AnyNode) (setup : Setup
   abbrev g : Setting
   g = setting_of base end setup.servers (OfClient c)
 
-  module _ (nodes : List AnyNode) (sent : List Packet) (told : List Act) (place clock : ℕ) (what : Do) (fits : (q : Packet) → In q sent → PacketFits q.to q.body)
+  module _ (nodes : List AnyNode) (sent : List Packet) (told : List Act) (place clock : ℕ) (what : Do)
+      (fits : (q : Packet) → In q sent → PacketFits q.to q.body)
       (gets : (q : Packet) → what ≡ Deliver q → In q sent × (q.to ≡ Client c)) (at : place_of k (Client c) ≡ Some place) (node : ClientNode)
       (is : slice_get nodes place ≡ Some (any.Client node)) (l : (v : Scene) × Stands g (OfClient c) v k nodes sent told) where
     abbrev packets : List Packet

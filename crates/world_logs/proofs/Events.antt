@@ -134,7 +134,8 @@ module _ (laws : NodeLaws) (base : Setting) (end : World AnyNode) (setup : Setup
     all_say : (name : NodeId) (packets : List Packet) → All (λ (p : Packet). p.from ≡ name) packets → Says packets
         → All (λ (p : Packet). MaySay name p.body) packets
     all_say name packets from says i d less =
-        subst (λ f. MaySay f (get_or packets i d).body) (from i d less) (goods.all_say laws base end setup ok few nodes sent told good clock packets says i d less)
+        subst (λ f. MaySay f (get_or packets i d).body) (from i d less)
+        (goods.all_say laws base end setup ok few nodes sent told good clock packets says i d less)
 
     abbrev AllFit : List Packet → Type 0
     AllFit packets = (q : Packet) → In q (sent ++ map (sent_at clock) packets) → PacketFits q.to q.body
@@ -246,7 +247,8 @@ module _ (laws : NodeLaws) (base : Setting) (end : World AnyNode) (setup : Setup
           cleaner_apart (OfClient c) h (λ e. (let m = goods.eight laws base end setup ok few c h.1 in absurd (omega (arith, e)))) (λ e. absurd cc) (λ w p s. s)
           (λ w p s. s)
       cleaner_logs OfCleaner h =
-          cleaner_log_events.cleaner_mine laws base end setup few nodes sent (told cleaner_log.0) place clock what good.fits gets at node is (good.logs OfCleaner h)
+          cleaner_log_events.cleaner_mine laws base end setup few nodes sent (told cleaner_log.0) place clock what good.fits gets at node is
+          (good.logs OfCleaner h)
       cleaner_logs (OfManager j) h =
           cleaner_apart (OfManager j) h (λ e. (let m = high_log j h.0 in absurd (omega (arith, e)))) (λ e. absurd cc) (λ w p s. s) (λ w p s. s)
 
@@ -362,7 +364,8 @@ module _ (laws : NodeLaws) (base : Setting) (end : World AnyNode) (setup : Setup
     manager_after j gets at (any.Cleaner node) is known = absurd (first.1.seen (Manager j) (any.Cleaner node) (named (Manager j) _ at is))
     manager_after j gets at (any.Registry node) is known = absurd (first.1.seen (Manager j) (any.Registry node) (named (Manager j) _ at is))
     manager_after j gets at (any.Manager node) is known = record {
-      fits = all_fit packets (manager_log_events.all_fit laws base end setup few j b.some nodes sent (told (log_by (OfManager j))) place clock what good.fits gets
+      fits = all_fit packets
+          (manager_log_events.all_fit laws base end setup few j b.some nodes sent (told (log_by (OfManager j))) place clock what good.fits gets
           at node is own);
       holds = all_still nodes place (any.Manager (manager_step node what).node) good.holds tt;
       logs = by_owner;
@@ -390,7 +393,8 @@ module _ (laws : NodeLaws) (base : Setting) (end : World AnyNode) (setup : Setup
             → owns (log_by r) (Manager j) ≡ (log_by (OfManager j) == log_by r)
             → ((w : Scene) → Seen (g r) r w (Manager j) (any.Manager (manager_step node what).node)) → Now (Manager j) (any.Manager node) r
         away = apart (Manager j) (log_by (OfManager j)) at (any.Manager node) is from (all_say (Manager j) packets from known.says)
-            (manager_log_events.all_own laws base end setup few j b.some nodes sent (told (log_by (OfManager j))) place clock what good.fits gets at node is own)
+            (manager_log_events.all_own laws base end setup few j b.some nodes sent
+            (told (log_by (OfManager j))) place clock what good.fits gets at node is own)
             (λ r w generation. tt)
 
         by_owner : (r : Role) → Now (Manager j) (any.Manager node) r

@@ -150,7 +150,8 @@ module _ (laws : NodeLaws) (base : Setting) (end : World AnyNode) (setup : Setup
   -- each manager has a log of its own
   pub one_manager : (i j : ℕ) → There (OfManager i) → There (OfManager j) → log_by (OfManager i) ≡ log_by (OfManager j) → i ≡ j
   one_manager i j h k_ e =
-      (let m = managers_log setup.clients setup.managers i ok.managers.1 h in let n = managers_log setup.clients setup.managers j ok.managers.1 k_ in omega (arith, e))
+      (let m = managers_log setup.clients setup.managers i ok.managers.1 h in let n = managers_log setup.clients setup.managers j ok.managers.1 k_ in
+      omega (arith, e))
 
   -- ---- what is sent
 

@@ -130,7 +130,8 @@ module _ (laws : NodeLaws) (stay : GroupsStay) (base : Setting) (e : Estate AnyN
   abbrev good_at : (count : ℕ) → Good laws base e.world setup ok few (moment e count).nodes (moment e count).sent (λ c. did e c count)
   good_at count = front_good laws stay base e.world setup ok few e.events count Start (λ c. []) from_start first_good
 
-  steps : (count : ℕ) (r : Role) (h : There r) → Steps laws stay base e.world setup ok few r (slice_get e.events count) ((good_at count).logs r h).0 ((good_at count).logs r h).1.moment
+  steps : (count : ℕ) (r : Role) (h : There r)
+      → Steps laws stay base e.world setup ok few r (slice_get e.events count) ((good_at count).logs r h).0 ((good_at count).logs r h).1.moment
       ((good_at (suc count)).logs r h).0 ((good_at (suc count)).logs r h).1.moment
   steps count r h = front_steps laws stay base e.world setup ok few e.events count Start (λ c. []) from_start first_good r h
 

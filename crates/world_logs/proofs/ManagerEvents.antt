@@ -52,7 +52,8 @@ module _ (laws : NodeLaws) (base : Setting) (end : World AnyNode) (setup : Setup
   abbrev g : Setting
   g = setting_of base end setup.servers (OfManager j)
 
-  module _ (nodes : List AnyNode) (sent : List Packet) (told : List Act) (place clock : ℕ) (what : Do) (fits : (q : Packet) → In q sent → PacketFits q.to q.body)
+  module _ (nodes : List AnyNode) (sent : List Packet) (told : List Act) (place clock : ℕ) (what : Do)
+      (fits : (q : Packet) → In q sent → PacketFits q.to q.body)
       (gets : (q : Packet) → what ≡ Deliver q → In q sent × (q.to ≡ Manager j)) (at : place_of k (Manager j) ≡ Some place) (node : ManagerNode)
       (is : slice_get nodes place ≡ Some (any.Manager node)) (l : (v : Scene) × Stands g (OfManager j) v k nodes sent told) where
     abbrev packets : List Packet

@@ -89,7 +89,8 @@ module _ (law : OneNameOneText) (own : WhatFlewIsOfTheLog) (base : Setting) (e :
   unfolding of_managers
   from_managers zero most s is = absurd is
   from_managers (suc j) most s is =
-      ⊎_elim (λ here. record { role = OfManager (suc j); there = counted j managers most; here = here }) (λ more. from_managers j (one_less j managers most) s more)
+      ⊎_elim (λ here. record { role = OfManager (suc j); there = counted j managers most; here = here })
+      (λ more. from_managers j (one_less j managers most) s more)
       (in_either (flown_in (OfManager (suc j)) (counted j managers most)) (of_managers j (one_less j managers most)) s is)
 
   flew : (s : Segment) → In s all_flown → Flew s
@@ -116,7 +117,8 @@ module _ (law : OneNameOneText) (own : WhatFlewIsOfTheLog) (base : Setting) (e :
   in_clients s (suc c) most d h less is = ⊎_elim
       (λ same. in_left (flown_in (OfClient (suc c)) (counted c clients most)) (of_clients c (one_less c clients most)) s
       (moved s (OfClient d) (OfClient (suc c)) (ap OfClient same) h (counted c clients most) is))
-      (λ before. in_right (flown_in (OfClient (suc c)) (counted c clients most)) (of_clients c (one_less c clients most)) s (in_clients s c (one_less c clients most) d h before is))
+      (λ before. in_right (flown_in (OfClient (suc c)) (counted c clients most)) (of_clients c (one_less c clients most)) s
+      (in_clients s c (one_less c clients most) d h before is))
       (last_or_before d c less)
 
   in_managers : (s : Segment) (j : ℕ) (most : j ≤ managers) (d : ℕ) (h : There (OfManager d)) → d ≤ j → In s (flown_in (OfManager d) h)
@@ -126,7 +128,8 @@ module _ (law : OneNameOneText) (own : WhatFlewIsOfTheLog) (base : Setting) (e :
   in_managers s (suc j) most d h less is = ⊎_elim
       (λ same. in_left (flown_in (OfManager (suc j)) (counted j managers most)) (of_managers j (one_less j managers most)) s
       (moved s (OfManager d) (OfManager (suc j)) (ap OfManager same) h (counted j managers most) is))
-      (λ before. in_right (flown_in (OfManager (suc j)) (counted j managers most)) (of_managers j (one_less j managers most)) s (in_managers s j (one_less j managers most) d h before is))
+      (λ before. in_right (flown_in (OfManager (suc j)) (counted j managers most)) (of_managers j (one_less j managers most)) s
+      (in_managers s j (one_less j managers most) d h before is))
       (last_or_before d j less)
 
   among_all : (s : Segment) (r : Role) (h : There r) → In s (flown_in r h) → In s all_flown

@@ -1,5 +1,5 @@
--- Logs of clients, of the cleaner and of managers: what holds at each moment of a run of the segments that their owners told to be filed, and of all that is held or sent
--- under a name.
+-- Logs of clients, of the cleaner and of managers: what holds at each moment of a run of the segments that their owners told to be filed, and of all that is
+-- held or sent under a name.
 use Rattle.std.specs.Prelude.{◌≡◌, ◌≤◌, ℕ, Some}
 use Rattle.cleaner_node.specs.EmptyingEvents.{cleaner_log}
 use Rattle.core_world.specs.AnyNode.{any_start, any_step}

@@ -25,8 +25,7 @@ use xfs_base::Gate;
 /// (`nobody_holds`); and no client fell again before it was back, or fell with a block twice (`falls_apart`). The
 /// least horizon of a client's log, or of the cleaner's, was 1, or no more than one beyond a segment that its owner
 /// filed (`horizons_filed`). What clients filed stood whole on the servers' shelves, but for what was deleted and
-/// for lost disks, and one name had one text (`logs_stand`). So did what the cleaner filed, where
-/// the numbers of all packets were in the ranges of their types (`cleaners_log_stands`).
+/// for lost disks, and one name had one text (`logs_stand`). So did what the cleaner filed (`cleaners_log_stands`).
 pub fn solo<S: Source, K: Sink>(
     alloc: Global,
     words: &[String],
