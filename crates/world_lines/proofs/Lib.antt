@@ -2,3 +2,4 @@ mod Rows
 mod Lines
 mod Turns
 mod Flights
+mod Polls

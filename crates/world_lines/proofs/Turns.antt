@@ -66,6 +66,15 @@ lines_stay l n o f h filed flown same k = record {
   all = λ name is. (let a = k.all name (subst (In name) filed is) in (a.0, let b = a.1 in let e = same.head in omega arith));
 }
 
+-- a segment that is filed leaves those of other numbers
+pub older : (f : Filed) (l : ℕ) (s : Segment) (q : ℕ) → (q == suc (f.head l)) ≡ false → (with_segment f l s).segment l q ≡ f.segment l q
+older f l s q other = by (l == l) (q == suc (f.head l)) other
+  where
+    by : (t u : Bool) → u ≡ false → cond t (cond u s (f.segment l q)) (f.segment l q) ≡ f.segment l q
+    by true true is = absurd cc
+    by true false is = refl
+    by false u is = refl
+
 -- ---- the text of a filed name
 
 module _ (whole : LogsStayWhole) (texts : Texts) (l : ℕ) (g : Setting) (o : Net) (k : IsSure texts l g o) where
@@ -126,14 +135,6 @@ module _ (whole : LogsStayWhole) (texts : Texts) (l : ℕ) (g : Setting) (o : Ne
       later : Filed
       later = with_segment f l s
 
-      old : (q : ℕ) → (q == suc (f.head l)) ≡ false → later.segment l q ≡ f.segment l q
-      old q other = by (l == l) (q == suc (f.head l)) other
-        where
-          by : (t u : Bool) → u ≡ false → cond t (cond u s (f.segment l q)) (f.segment l q) ≡ f.segment l q
-          by true true is = absurd cc
-          by true false is = refl
-          by false u is = refl
-
       at : (P : ℕ → Segment → Type 0) → P (suc (f.head l)) s → ((q : ℕ) → 0 < q → q ≤ f.head l → P q (f.segment l q)) → (q : ℕ) → 0 < q → q ≤ later.head l
           → P q (later.segment l q)
       at P new was q some most = by (q == suc (f.head l)) refl
@@ -145,7 +146,7 @@ module _ (whole : LogsStayWhole) (texts : Texts) (l : ℕ) (g : Setting) (o : Ne
           by true is =
               let same : q ≡ suc (f.head l) = eqb-true q (suc (f.head l)) is in
               subst (λ r. P r (later.segment l r)) (sym same) (subst (P (suc (f.head l))) (sym (segment_is l f s)) new)
-          by false other = subst (P q) (sym (old q other)) (was q some (let w = within in grind (arith, nat_tests, w, other)))
+          by false other = subst (P q) (sym (older f l s q other)) (was q some (let w = within in grind (arith, nat_tests, w, other)))
 
   lined_name : (f : Filed) (name : SegName) → In name o.filed → IsLined l o f → IsLined l o (with_name texts l f name)
   lined_name f name is h =

@@ -1,3 +1,4 @@
 pub mod Lines
 pub mod Turns
 pub mod Flights
+pub mod Polls

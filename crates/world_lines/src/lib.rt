@@ -5,6 +5,7 @@
 
 ghost use Rattle.world_lines.specs.Flights.{CleanerWritesTexts, ClientsWriteTexts, ManagersWriteTexts};
 ghost use Rattle.world_lines.specs.Lines.{LinesAreFiled, LinesAreTexts, LinesGive};
+ghost use Rattle.world_lines.specs.Polls.{CleanersPollsAreOwed, ClientsPollsAreOwed, LinksGoOn, LinksStay, PresentIsLinked, ServersGoOnByFlights};
 ghost use Rattle.world_lines.specs.Turns.{CleanersFilesAreOwed, ClientsFilesAreOwed, LinesBegin, LinesGoOn, LinesStay};
 
 use log_law::{
@@ -57,4 +58,23 @@ pub fn what_flies_is_its_text()
     ensures manager { ManagersWriteTexts }
 {
     what_is_held_flew();
+}
+
+/// A log is linked from the horizons of the epochs on that its owner may be polled at.
+///
+/// - `client`, `cleaner`: then what an owner is owed of a Poll holds.
+/// - `present`: from the registry's epoch on it is linked so.
+/// - `stay`: it stays linked where horizons rise, later epochs are promised, and nothing is filed of it.
+/// - `files`: an owner that serves files its flight at most.
+/// - `go_on`: and the log stays linked.
+pub fn logs_are_linked()
+    ensures client { ClientsPollsAreOwed }
+    ensures cleaner { CleanersPollsAreOwed }
+    ensures present { PresentIsLinked }
+    ensures stay { LinksStay }
+    ensures files { ServersGoOnByFlights }
+    ensures go_on { LinksGoOn }
+{
+    what_flew_is_written();
+    lines_are_filed();
 }
