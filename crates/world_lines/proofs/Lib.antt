@@ -3,3 +3,4 @@ mod Lines
 mod Turns
 mod Flights
 mod Polls
+mod Owners

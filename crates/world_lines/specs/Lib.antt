@@ -2,3 +2,4 @@ pub mod Lines
 pub mod Turns
 pub mod Flights
 pub mod Polls
+pub mod Owners

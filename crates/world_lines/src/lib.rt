@@ -5,11 +5,12 @@
 
 ghost use Rattle.world_lines.specs.Flights.{CleanerWritesTexts, ClientsWriteTexts, ManagersWriteTexts};
 ghost use Rattle.world_lines.specs.Lines.{LinesAreFiled, LinesAreTexts, LinesGive};
+ghost use Rattle.world_lines.specs.Owners.{ActsAreDone, CleanerFilesShort, CleanersLineGoesOn, ClientsFileShort, ClientsLinesGoOn};
 ghost use Rattle.world_lines.specs.Polls.{CleanersPollsAreOwed, ClientsPollsAreOwed, LinksGoOn, LinksStay, PresentIsLinked, ServersGoOnByFlights};
 ghost use Rattle.world_lines.specs.Turns.{CleanersFilesAreOwed, ClientsFilesAreOwed, LinesBegin, LinesGoOn, LinesStay};
 
 use log_law::{
-    ends_are_last, logs_stay_in_line, logs_stay_whole, one_name_one_text, what_flew_is_written,
+    ends_are_last, logs_stay_in_line, logs_stay_whole, openings_go_on, what_flew_is_written,
     what_is_held_flew,
 };
 
@@ -77,4 +78,22 @@ pub fn logs_are_linked()
 {
     what_flew_is_written();
     lines_are_filed();
+}
+
+/// In the events of clients and of the cleaner the lines of their logs go on.
+///
+/// - `acts`: what is so of each segment that is acted to be filed is so of what is done.
+/// - `clients_short`, `cleaner_short`: the number of what was in flight, and is acted to be filed, has one after it: near the end of a counter an event changes
+///   nothing.
+/// - `clients`, `cleaner`: the line goes on to what is filed in the small world of one slot's index.
+pub fn owners_lines_go_on()
+    ensures acts { ActsAreDone }
+    ensures clients_short { ClientsFileShort }
+    ensures cleaner_short { CleanerFilesShort }
+    ensures clients { ClientsLinesGoOn }
+    ensures cleaner { CleanersLineGoesOn }
+{
+    logs_stay_whole();
+    ends_are_last();
+    openings_go_on();
 }
