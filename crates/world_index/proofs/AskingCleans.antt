@@ -1,12 +1,12 @@
 -- What an input of its job has the cleaner do, and what the cleaner awaits then.
-use Rattle.std.proofs.Common.{◌≡◌, ◌⊎◌, ◌==◌, ◌&&◌, ℕ, Bool, true, false, List, [], ◌∷◌, ◌++◌, Option, None, Some, inl, inr, refl, sym, ap, subst, ◌∙◌, arith}
+use Rattle.std.proofs.Common.{◌≡◌, ◌==◌, ◌&&◌, ℕ, Bool, true, false, List, [], ◌∷◌, Option, None, Some, inl, inr, refl, sym, ap, subst, ◌∙◌, arith}
 use Rattle.std.proofs.lemmas.Bool.Decides.{nat_tests}
 use Rattle.std.specs.List.{AllByRecursion, flat_map}
 use Rattle.cleaner_node.specs.declared.emptying.Emptying.{Emptying}
 use Rattle.cleaner_node.specs.declared.hand.Hand.{Hand}
 use Rattle.cleaner_node.specs.declared.job.Job.{Job}
-use Rattle.cleaner_node.specs.Hands.{Taken, asked_of, begun_hand, fetches, fetches_for, is_in_hand, known_group, same_segment, taken_over, takes_in_hand}
-use Rattle.cleaner_node.specs.Jobs.{Done, cleans, deletes, drops, dropped, finishes, hand_of, holds, holds_in, is_whole, job_takes, moves, puts, puts_block, reads, says, takes_in}
+use Rattle.cleaner_node.specs.Hands.{Taken, asked_of, fetches, fetches_for, is_in_hand, known_group, taken_over, takes_in_hand}
+use Rattle.cleaner_node.specs.Jobs.{cleans, deletes, drops, dropped, finishes, hand_of, holds, holds_in, is_whole, job_takes, moves, puts, puts_block, reads, says, takes_in}
 use Rattle.client_log.specs.declared.input.In.{In as LogIn}
 use Rattle.client_log.specs.declared.input.In.TheVariants as log_in
 use Rattle.client_log.specs.declared.output.Out.{Out as LogOut}
@@ -16,12 +16,10 @@ use Rattle.group_map.specs.declared.group.Group.{Group}
 use Rattle.log_owner.specs.Opening.{stored}
 use Rattle.log_owner.specs.Sending.{fetch}
 use Rattle.node_base.specs.Beginning.{answers_unanswered}
-use Rattle.node_base.specs.declared.effects.Effect.{Effect}
-use Rattle.node_base.specs.declared.effects.Effect.TheVariants.{Send, Does}
+use Rattle.node_base.specs.declared.effects.Effect.TheVariants.{Send}
 use Rattle.node_base.specs.declared.questions.Questions.{Questions}
 use Rattle.node_index_tie.proofs.Moves.{all_both}
 use Rattle.owner_index_tie.proofs.Frames.{all_map}
-use Rattle.stripe_cleaner.specs.CleaningState.{CleaningState}
 use Rattle.stripe_cleaner.specs.declared.input.In.{In}
 use Rattle.stripe_cleaner.specs.declared.output.Out.{Out}
 use Rattle.stripe_cleaner.specs.declared.output.Out.TheVariants as out
@@ -31,20 +29,19 @@ use Rattle.stripe_cleaner.specs.JobState.{JobState}
 use Rattle.stripe_cleaner.specs.Transition as job
 use Rattle.stripe_code.specs.Fragments.{same_name}
 use Rattle.stripe_code.specs.Reading.{ReadingState, to_ask}
-use Rattle.version_model.specs.declared.act.Act.TheVariants.{Dropped}
 use Rattle.version_model.specs.declared.answer.Answer.{Answer}
 use Rattle.wire_msg.specs.declared.body.Body.TheVariants as body
 use Rattle.world_index.proofs.Asking.{drawn_more}
 use Rattle.world_index.specs.Asking.{AsksSo, Book, HandAsks, HandIn, HandSeen, IsDrawn, IsOfJob, JobAsks}
-use Rattle.world_index.proofs.AskingJobs.{CalmSo, ChecksSo, DoneSo, Follows, IsCalm, ReadsSo, TurnSo, transition_so}
-use Rattle.world_index.proofs.AskingSays.{AllSilent, At, Kept, SegIn, SegOf, all_checks, all_steps, below_next, list_so, maps_so, quiet, usage_so, went_on}
+use Rattle.world_index.proofs.AskingJobs.{CalmSo, ChecksSo, DoneSo, Follows, IsCalm, ReadsSo, transition_so}
+use Rattle.world_index.proofs.AskingSays.{AllSilent, At, Kept, SegIn, all_checks, all_steps, below_next, list_so, maps_so, quiet, usage_so, went_on}
 use Rattle.xfs_base.proofs.Booleans.{by_test}
 use Rattle.xfs_base.specs.declared.block.BlockId.{BlockId}
 use Rattle.xfs_base.specs.declared.entry.Entry.{Entry}
 use Rattle.xfs_base.specs.declared.node.NodeId.TheVariants.{Server}
 use Rattle.xfs_base.specs.declared.segment.SegName.{SegName}
 use Rattle.xfs_base.specs.declared.segment.SegRef.{SegRef}
-use Rattle.xfs_base.specs.Steps.{after, still, steps}
+use Rattle.xfs_base.specs.Steps.{still, steps}
 
 -- ---- what it stores, fetches and answers
 
@@ -187,7 +184,8 @@ deletes_so : (book : Book) (e : Emptying) (o : Option Job) (server : ℕ) (name 
 deletes_so book e None server name same h = quiet book e [] tt h
 deletes_so book e (Some job) server name same h =
     quiet book (deletes e (Some job) server name).state (deletes e (Some job) server name).outs
-    (all_both _ (drops (is_whole job.hand) name) (Send (Server server) (body.Delete (record { name = name })) ∷ []) (drops_silent (is_whole job.hand) name) (tt, tt))
+    (all_both _ (drops (is_whole job.hand) name) (Send (Server server) (body.Delete (record { name = name })) ∷ []) (drops_silent (is_whole job.hand) name)
+    (tt, tt))
     (record {
       drawn = h.drawn;
       job = dropped_so book e.lasting.questions job.cleaning.phase job.hand (subst (AsksSo book e.lasting.questions) same h).job;

@@ -1,5 +1,5 @@
--- What each input makes of a job of the cleaner, as far as it asks: it reads a segment, checks blocks of the segment that it reads or checks, or asks about none.
-use Rattle.std.proofs.Common.{◌≡◌, ◌⊎◌, ◌==◌, ◌&&◌, not, ℕ, Bool, true, false, List, [], ◌∷◌, Option, None, Some, length, map, inl, inr, refl}
+-- What each input makes of a job of the cleaner, as far as it asks: it reads a segment, checks blocks of the segment that it has, or asks about none.
+use Rattle.std.proofs.Common.{◌≡◌, ◌⊎◌, ◌==◌, ◌&&◌, not, ℕ, Bool, List, [], ◌∷◌, Option, None, Some, length, map, inl, inr, refl}
 use Rattle.std.specs.List.{AllByRecursion, cons_option}
 use Rattle.group_map.specs.GroupMapState.{GroupMapState}
 use Rattle.owner_index_tie.proofs.Frames.{all_map}
@@ -98,7 +98,8 @@ deleted_so server name j segment servers =
 checking_so : (j : JobState) (segment : SegRef) (checks : List Check) → TurnSo (Reading j segment) (job.checking j segment checks)
 unfolding job.checking
 checking_so j segment checks =
-    by_test (TurnSo (Reading j segment)) (all_dead checks) (job.deleting j segment) (record { state = Checking j segment checks; outs = questions segment checks })
+    by_test (TurnSo (Reading j segment)) (all_dead checks) (job.deleting j segment)
+    (record { state = Checking j segment checks; outs = questions segment checks })
     (λ _. deleting_so (Reading j segment) j segment)
     (λ _. inr (inr (record {
       job = j;

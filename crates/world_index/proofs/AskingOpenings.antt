@@ -1,5 +1,5 @@
 -- An opening of a log takes back no question of its node: their numbers rise.
-use Rattle.std.proofs.Common.{◌≡◌, ◌==◌, ◌&&◌, ℕ, ◌≤◌, List, [], ◌∷◌, Option, None, Some, refl, arith}
+use Rattle.std.proofs.Common.{◌==◌, ◌&&◌, ℕ, ◌≤◌, List, [], ◌∷◌, Option, None, Some, arith}
 use Rattle.group_map.specs.GroupMapState.{GroupMapState}
 use Rattle.log_owner.specs.declared.ended.Owner.{Owner}
 use Rattle.log_owner.specs.declared.known.Known.{Known}
@@ -7,7 +7,7 @@ use Rattle.log_owner.specs.declared.opening.Opening.{Opening}
 use Rattle.log_owner.specs.declared.opening.Scanning.{Scanning}
 use Rattle.log_owner.specs.declared.opening.Stage.{Stage}
 use Rattle.log_owner.specs.declared.opening.Stage.TheVariants as stage
-use Rattle.log_owner.specs.Opening.{Went, answers, at_scan, by_server, drops, fenced_by, found_by, is_fenced, is_meant, missing_by, on_body, on_fenced, on_found, on_missing, on_news, on_packet, on_stored, on_tick, on_welcome, own_in, regrouped, said, scanned, scans, scans_at, scans_on, stays, stepped, welcomed, welcomed_as, welcomed_with}
+use Rattle.log_owner.specs.Opening.{Went, answers, at_scan, by_server, drops, fenced_by, found_by, is_fenced, is_meant, missing_by, on_body, on_fenced, on_found, on_missing, on_news, on_packet, on_stored, on_tick, on_welcome, own_in, regrouped, said, scans, scans_at, scans_on, stays, welcomed, welcomed_as, welcomed_with}
 use Rattle.log_owner.specs.Sending.{server_in}
 use Rattle.log_scan.specs.declared.input.In.{In}
 use Rattle.log_scan.specs.declared.input.In.TheVariants as input

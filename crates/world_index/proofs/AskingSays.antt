@@ -1,8 +1,8 @@
--- What a job has the cleaner do, and what the cleaner awaits then: a segment is taken in hand with nothing asked of it, and each Check is of the segment in hand.
-use Rattle.std.proofs.Common.{◌≡◌, ◌⊎◌, ◌==◌, ◌&&◌, ◌+◌, ℕ, ◌≤◌, ◌<◌, Bool, true, false, cond, nat_lt, List, [], ◌∷◌, ◌++◌, Option, None, Some, unwrap_or, inl, inr, refl, sym, ap, subst, ◌∙◌, arith}
+-- What of a job's sayings asks nothing, how one thing follows another, and that each Check is of the segment in hand, under a number that no other question has.
+use Rattle.std.proofs.Common.{◌≡◌, ◌⊎◌, ◌+◌, ℕ, ◌≤◌, ◌<◌, Bool, true, false, cond, nat_lt, List, [], ◌∷◌, ◌++◌, Option, None, Some, unwrap_or, inl, inr, refl, sym, ap, subst, ◌∙◌, arith}
 use Rattle.std.proofs.lemmas.Bool.Decides.{nat_tests}
 use Rattle.std.specs.BTreeMap.{insert_entry, is_at}
-use Rattle.std.specs.List.{AllByRecursion, flat_map}
+use Rattle.std.specs.List.{AllByRecursion}
 use Rattle.std.specs.Map.{lookup}
 use Rattle.std.specs.Ordering.{match_ordering}
 use Rattle.std.specs.declared.cmp.Ordering.{Ordering}
@@ -10,48 +10,28 @@ use Rattle.std.specs.declared.cmp.Ordering.TheVariants.{Less, Equal, Greater}
 use Rattle.cleaner_node.specs.declared.emptying.Emptying.{Emptying}
 use Rattle.cleaner_node.specs.declared.hand.Hand.{Hand}
 use Rattle.cleaner_node.specs.declared.job.Job.{Job}
-use Rattle.cleaner_node.specs.Hands.{Taken, asked_of, begun_hand, checks_under, fetches, fetches_for, is_in_hand, checks, kept_ask, known_group, taken_over, takes_in_hand}
-use Rattle.cleaner_node.specs.Jobs.{Done, asks_check, asks_list, asks_maps, asks_usage, check_sent, checked_in, checked_with, checks_block, deletes, drawn_unless, drops, dropped, finishes, hand_checks_in, hand_of, holds_in, is_whole, job_checked, job_checks, JobChecking, moves, puts, puts_block, reads, says}
-use Rattle.client_log.specs.declared.input.In.{In as LogIn}
-use Rattle.client_log.specs.declared.input.In.TheVariants as log_in
-use Rattle.client_log.specs.declared.output.Out.{Out as LogOut}
-use Rattle.client_log.specs.declared.output.Out.TheVariants as log_out
-use Rattle.client_log.specs.Transition as log
-use Rattle.group_map.specs.declared.group.Group.{Group}
-use Rattle.group_map.specs.GroupMapState.{GroupMapState}
-use Rattle.log_owner.specs.Opening.{stored}
-use Rattle.log_owner.specs.Sending.{fetch}
+use Rattle.cleaner_node.specs.Hands.{asked_of, checks_under, checks, kept_ask}
+use Rattle.cleaner_node.specs.Jobs.{Done, asks_check, asks_list, asks_maps, asks_usage, check_sent, checked_in, checked_with, checks_block, drawn_unless, hand_checks_in, job_checked, job_checks, JobChecking, says}
 use Rattle.node_base.specs.Asking.{drawn, next_ask}
-use Rattle.node_base.specs.Beginning.{answers_unanswered}
 use Rattle.node_base.specs.declared.effects.Effect.{Effect}
 use Rattle.node_base.specs.declared.effects.Effect.TheVariants.{Send, Answer, Lose, Does}
 use Rattle.node_base.specs.declared.questions.Questions.{Questions}
-use Rattle.node_index_tie.proofs.Moves.{all_both}
-use Rattle.owner_index_tie.proofs.Frames.{all_map}
 use Rattle.stripe_cleaner.specs.declared.output.Out.{Out}
 use Rattle.stripe_cleaner.specs.declared.output.Out.TheVariants as out
 use Rattle.stripe_cleaner.specs.declared.phase.Phase.{Phase}
-use Rattle.stripe_cleaner.specs.declared.phase.Phase.TheVariants.{Reading}
-use Rattle.stripe_cleaner.specs.JobState.{JobState}
-use Rattle.stripe_code.specs.Fragments.{same_name}
-use Rattle.stripe_code.specs.Reading.{ReadingState, to_ask}
-use Rattle.version_model.specs.declared.act.Act.TheVariants.{Dropped}
-use Rattle.version_model.specs.declared.answer.Answer.{Answer as Answers}
 use Rattle.wire_msg.specs.declared.body.Body.{Body}
 use Rattle.wire_msg.specs.declared.body.Body.TheVariants as body
-use Rattle.world_index.proofs.Asking.{AsksIn, BodyAsks, EffectAsks, book_with, drawn_fewer, drawn_more, hand_fewer, hand_more, job_more, so_fewer}
-use Rattle.world_index.specs.Asking.{AsksSo, Book, HandAsks, HandIn, HandSeen, IsDrawn, IsOfJob, JobAsks}
-use Rattle.world_index.proofs.AskingJobs.{IsCalm, IsCheckOf}
+use Rattle.world_index.proofs.Asking.{AsksIn, BodyAsks, EffectAsks, book_with, drawn_fewer, drawn_more, job_more, so_fewer}
+use Rattle.world_index.specs.Asking.{AsksSo, Book, HandIn, HandSeen, IsDrawn}
+use Rattle.world_index.proofs.AskingJobs.{IsCheckOf}
 use Rattle.xfs_base.proofs.Booleans.{by_test}
-use Rattle.xfs_base.specs.Blocks.{block_cmp, slot_of}
+use Rattle.xfs_base.specs.Blocks.{block_cmp}
 use Rattle.xfs_base.specs.Limits.{u32_end}
 use Rattle.xfs_base.specs.declared.block.BlockId.{BlockId}
-use Rattle.xfs_base.specs.declared.entry.Entry.{Entry}
 use Rattle.xfs_base.specs.declared.entry.Place.{Place}
-use Rattle.xfs_base.specs.declared.node.NodeId.TheVariants.{Server}
 use Rattle.xfs_base.specs.declared.segment.SegName.{SegName}
 use Rattle.xfs_base.specs.declared.segment.SegRef.{SegRef}
-use Rattle.xfs_base.specs.Steps.{after, still, steps}
+use Rattle.xfs_base.specs.Steps.{after, steps}
 
 -- ---- what asks nothing
 
@@ -117,7 +97,8 @@ quiet book e es silent h = so_silent book e.lasting.questions e.job es silent h
 
 pub went_on : (book : Book) (d e : Done) → Kept book d → ((b : Book) → At b d.state → Kept b e) → Kept book (after d.outs e)
 went_on book d e one next =
-    so_fewer (book_with (book_with book d.outs) e.outs) (book_with book (d.outs ++ e.outs)) (both_books book d.outs e.outs) e.state.lasting.questions e.state.job
+    so_fewer (book_with (book_with book d.outs) e.outs) (book_with book (d.outs ++ e.outs))
+    (both_books book d.outs e.outs) e.state.lasting.questions e.state.job
     (next (book_with book d.outs) one)
 
 pub went_behind : (book : Book) (es : List Effect) (d : Done) → AllSilent es → Kept book d → Kept book (after es d)
@@ -126,10 +107,12 @@ went_behind book es d silent h =
     (λ ask name is. elim (both_books book es d.outs ask name is) [ inl x ↦ inl (no_more book es silent ask name x) | inr y ↦ inr y ])
     d.state.lasting.questions d.state.job h
 
-pub all_steps : {A : Type 0} (step : Emptying → A → Done) → ((book : Book) (e : Emptying) (x : A) → At book e → Kept book (step e x)) → (book : Book) (e : Emptying)
+pub all_steps : {A : Type 0} (step : Emptying → A → Done) → ((book : Book) (e : Emptying) (x : A) → At book e → Kept book (step e x))
+    → (book : Book) (e : Emptying)
     (xs : List A) → At book e → Kept book (steps step e xs)
 all_steps step each book e [] h = quiet book e [] tt h
-all_steps step each book e (x ∷ xs) h = went_on book (step e x) (steps step (step e x).state xs) (each book e x h) (λ b k. all_steps step each b (step e x).state xs k)
+all_steps step each book e (x ∷ xs) h =
+    went_on book (step e x) (steps step (step e x).state xs) (each book e x h) (λ b k. all_steps step each b (step e x).state xs k)
 
 -- ---- more questions
 
@@ -324,7 +307,10 @@ module _ (book : Book) (e : Emptying) (block : BlockId) (place : Place) where
 
       by : (o : Option ℕ) → kept_ask hand block ≡ o → ChecksOn (with_checks (job_checked job (checks_under hand q block o)))
       by None known = record {
-        kept = record { drawn = new_book book q job.cleaning.phase hand seen drawn_so block place at; job = new_hand book q job.cleaning.phase hand seen drawn_so block place at };
+        kept = record {
+          drawn = new_book book q job.cleaning.phase hand seen drawn_so block place at;
+          job = new_hand book q job.cleaning.phase hand seen drawn_so block place at;
+        };
         seg = at;
       }
       by (Some ask) known =
@@ -349,7 +335,8 @@ module _ (book : Book) (e : Emptying) (block : BlockId) (place : Place) where
   checks_in job (Some hand) is h same seg =
       checks_hand job hand (subst (HandIn book e.lasting.questions job.cleaning.phase) is (subst (AsksSo book e.lasting.questions) same h).job) h.drawn seg
 
-  checks_by : (o : Option Job) → e.job ≡ o → At book e → SegOf place.seg o → ChecksOn (check_sent (checked_in e o block).state block place (checked_in e o block).ask)
+  checks_by : (o : Option Job) → e.job ≡ o → At book e → SegOf place.seg o
+      → ChecksOn (check_sent (checked_in e o block).state block place (checked_in e o block).ask)
   unfolding job_checks
   checks_by None same h seg = record { kept = quiet book e [] tt h; seg = subst (SegOf place.seg) (sym same) tt }
   checks_by (Some job) same h seg = checks_in job job.hand refl h same seg

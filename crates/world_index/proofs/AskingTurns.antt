@@ -1,5 +1,5 @@
 -- What the cleaner awaits of the segment in hand it asked of that segment: so it stays with each event.
-use Rattle.std.proofs.Common.{◌≡◌, ℕ, ◌≤◌, Bool, true, false, List, [], ◌∷◌, ◌++◌, Option, None, Some, refl, arith}
+use Rattle.std.proofs.Common.{ℕ, List, [], ◌∷◌, ◌++◌, Option, None, Some}
 use Rattle.std.specs.List.{AllByRecursion}
 use Rattle.cleaner_node.specs.declared.cleaner.Phase.{Phase}
 use Rattle.cleaner_node.specs.declared.cleaner.Phase.TheVariants.{Down, Opening, Serving}
@@ -8,10 +8,9 @@ use Rattle.cleaner_node.specs.declared.cleaner.Wish.TheVariants.{Crash, Restart,
 use Rattle.cleaner_node.specs.declared.emptying.Emptying.{Emptying}
 use Rattle.cleaner_node.specs.declared.lasting.Lasting.{Lasting}
 use Rattle.cleaner_node.specs.CleanerEvents.{Went_to, after_opening, answers, back, begun_life, crashes, down_at, down_wishes, happens, hears, next_life, on_begin, on_deliver, on_time, opened_on, opening_at, opening_wishes, owner_of, phase_room, restarts, serves_on, serving_at, serving_wishes, takes, wish_at}
-use Rattle.cleaner_node.specs.EmptyingEvents.{on_clean, on_packet, on_tick}
 use Rattle.cleaner_node.specs.Jobs.{Done}
 use Rattle.log_owner.proofs.Behaving as behaving
-use Rattle.log_owner.specs.Behaves.{MayAct, MayDo, MaySay}
+use Rattle.log_owner.specs.Behaves.{MayDo, MaySay}
 use Rattle.log_owner.specs.declared.ended.Owner.{Owner}
 use Rattle.log_owner.specs.declared.opened.Opened.{Opened}
 use Rattle.log_owner.specs.declared.opened.Progress.{Progress}
@@ -20,11 +19,10 @@ use Rattle.log_owner.specs.declared.opening.Opening as openings
 use Rattle.log_owner.specs.Opening as opening
 use Rattle.log_owner.specs.Opening.{Went}
 use Rattle.log_owner.specs.Sending.{pushes_all}
-use Rattle.node_base.specs.Beginning.{answered, answers_unanswered, next_item}
+use Rattle.node_base.specs.Beginning.{answers_unanswered, next_item}
 use Rattle.node_base.specs.declared.effects.Effect.{Effect}
 use Rattle.node_base.specs.declared.effects.Effect.TheVariants.{Send, Answer as Answers, Lose, Does}
 use Rattle.node_base.specs.declared.peers.Peers.{Peers}
-use Rattle.node_base.specs.declared.questions.Questions.{Questions}
 use Rattle.node_base.specs.Shape.{is_well_formed}
 use Rattle.node_index_tie.proofs.Moves.{all_both, all_weaker}
 use Rattle.version_model.specs.declared.answer.Answer.{Answer}
@@ -34,8 +32,8 @@ use Rattle.wire_msg.specs.declared.body.Body.TheVariants as body
 use Rattle.wire_msg.specs.declared.packet.Do.{Do}
 use Rattle.wire_msg.specs.declared.packet.Do.TheVariants.{Begin, Deliver, Tick}
 use Rattle.wire_msg.specs.declared.packet.Packet.{Packet}
-use Rattle.world_index.proofs.Asking.{book_with, cleaner_fewer, drawn_more}
-use Rattle.world_index.specs.Asking.{AsksSo, Book, CleanerAsks, IsDrawn}
+use Rattle.world_index.proofs.Asking.{book_with, drawn_more}
+use Rattle.world_index.specs.Asking.{Book, CleanerAsks, IsDrawn}
 use Rattle.world_index.proofs.AskingCleans.{answers_silent}
 use Rattle.world_index.proofs.AskingOpenings.{Rises, packet_more, tick_more}
 use Rattle.world_index.proofs.AskingSays.{AllSilent, At, IsSilent, IsSilentBody, Kept, below_next, drawn_silent, quiet}
@@ -119,7 +117,8 @@ opened_on_so : (book : Book) (owner : Owner) (l : Lasting) (w : Went) → IsDraw
     → AllByRecursion (MayDo owner) w.effects
     → PhaseKept book (opened_on l w)
 opened_on_so book owner l w h more may =
-    after_opening_so book (record l { questions = w.questions }) (drawn_more book l.questions w.questions more h) w.effects (all_may owner w.effects may) w.progress
+    after_opening_so book (record l { questions = w.questions }) (drawn_more book l.questions w.questions more h) w.effects
+    (all_may owner w.effects may) w.progress
 
 -- ---- the next item begins
 

@@ -1,9 +1,9 @@
 -- What an event makes of the cleaner in the small world: nothing, where a counter is near its end; and which questions it asked of blocks of the slot.
-use Rattle.std.proofs.Common.{◌≡◌, ◌⊎◌, ◌==◌, ◌&&◌, ◌-◌, ℕ, ◌≤◌, ◌<◌, Bool, true, false, List, [], ◌∷◌, ◌++◌, inl, inr, nat_le, refl, sym, ap, subst, ◌∙◌, arith}
+use Rattle.std.proofs.Common.{◌≡◌, ◌==◌, ◌&&◌, ◌-◌, ℕ, ◌<◌, Bool, true, false, List, [], ◌∷◌, inl, inr, nat_le, refl, sym, ap, subst, arith}
 use Rattle.std.proofs.lemmas.Bool.{eqb-true}
 use Rattle.std.proofs.lemmas.Bool.Decides.{nat_tests}
 use Rattle.std.specs.List.{AllByRecursion}
-use Rattle.cleaner_node.specs.CleanerEvents.{Went_to, lasting_of, phase_room, happens, takes}
+use Rattle.cleaner_node.specs.CleanerEvents.{lasting_of, phase_room, happens, takes}
 use Rattle.cleaner_node.specs.declared.cleaner.Cleaner.{Cleaner as CleanerNode}
 use Rattle.cleaner_node.specs.declared.cleaner.Phase.{Phase}
 use Rattle.cleaner_node.specs.declared.cleaner.Phase.TheVariants.{Down, Opening, Serving}
@@ -25,7 +25,7 @@ use Rattle.wire_msg.specs.declared.cleaning.Check.{Check}
 use Rattle.wire_msg.specs.declared.packet.Do.{Do}
 use Rattle.wire_msg.specs.declared.packet.Do.TheVariants.{Deliver}
 use Rattle.wire_msg.specs.declared.packet.Packet.{Packet}
-use Rattle.world_index.proofs.Asking.{AsksIn, BodyAsks, EffectAsks}
+use Rattle.world_index.proofs.Asking.{AsksIn}
 use Rattle.world_index.specs.Asking.{CleanerAsks}
 use Rattle.world_index.proofs.Gets.{cleaner_gets}
 use Rattle.world_index.proofs.Senders.{IsSentBy}

@@ -1,22 +1,17 @@
 -- A client that has its turn: the moment after it stands to the small world in which its log filed what it acted to be filed.
-use Rattle.std.proofs.Common.{◌≡◌, ◌⊎◌, ⊎_elim, ℕ, ◌+◌, ◌≤◌, ◌<◌, List, ◌++◌, None, Some, map, slice_get, slice_set, refl, sym, ap, subst, ◌∙◌, arith}
+use Rattle.std.proofs.Common.{◌≡◌, ⊎_elim, ℕ, ◌<◌, List, ◌++◌, Some, map, slice_get, slice_set, sym, ap, subst, ◌∙◌, arith}
 use Rattle.client_node.specs.declared.client.Client.{Client as ClientNode}
 use Rattle.client_node.specs.Phases.{Went_to, lasting_of}
 use Rattle.core_world.specs.declared.any_node.AnyNode.{AnyNode}
 use Rattle.core_world.specs.declared.any_node.AnyNode.TheVariants as any
-use Rattle.index_tie.specs.Filed.{Filed}
 use Rattle.index_tie.specs.Net.{Net, Packet as Said, opening}
 use Rattle.log_protocol.specs.Tables as tables
-use Rattle.manager_node.specs.declared.phase.Phase.{Phase as ManagerPhase}
-use Rattle.node_base.specs.declared.effects.Effect.{Effect}
 use Rattle.node_base.specs.Effects.{packets_of}
 use Rattle.node_index_tie.proofs.Moves.{runs_through}
 use Rattle.node_index_tie.specs.ManagerEvents.{ManagersStay}
 use Rattle.node_index_tie.specs.Sight.{Texts}
-use Rattle.node_tie.specs.ManagerEvents.{slot_in}
 use Rattle.owner_index_tie.specs.CleanerEvents.{CleanerStays}
 use Rattle.owner_index_tie.specs.ClientEvents.{ClientAgrees, ClientGoes, ClientsStay}
-use Rattle.owner_index_tie.specs.Filing.{filed_after, filing}
 use Rattle.owner_index_tie.specs.Owners.{OwnerDoes, OwnerSays}
 use Rattle.segment_format.specs.declared.segment.Segment.{Segment}
 use Rattle.store_nodes.specs.declared.registry_node.RegistryNode.{RegistryNode}
@@ -34,8 +29,7 @@ use Rattle.world_index.proofs.Horizons.{runs_stay, steady_always}
 use Rattle.world_index.proofs.Placing.{place_client}
 use Rattle.world_index.specs.Standing.{Fact, OwnerTells, Scene, SentBy, Stands, members}
 use Rattle.world_law.proofs.Sent.{in_append, sends}
-use Rattle.xfs_base.specs.declared.node.NodeId.{NodeId}
-use Rattle.xfs_base.specs.declared.node.NodeId.TheVariants.{Client, Manager, Server, Cleaner, Registry}
+use Rattle.xfs_base.specs.declared.node.NodeId.TheVariants.{Client}
 use Rattle.xfs_base.specs.declared.segment.SegRef.{SegRef}
 
 -- what an owner says, it tells

@@ -1,5 +1,5 @@
 -- What packets tell of where blocks lie goes on to be so, as the small world goes on.
-use Rattle.std.proofs.Common.{◌≡◌, ◌⊎◌, ℕ, suc, ◌≤◌, ◌<◌, List, None, inl, inr, sym, ap, ◌∙◌, arith}
+use Rattle.std.proofs.Common.{◌≡◌, ℕ, suc, ◌≤◌, ◌<◌, List, None, sym, ap, ◌∙◌, arith}
 use Rattle.index_tie.proofs.Growth.{deltas_stay}
 use Rattle.index_tie.proofs.Takeovers.{by_log, of_log_out}
 use Rattle.index_tie.specs.Growth.{IsMore}
@@ -21,7 +21,8 @@ use Rattle.xfs_base.specs.declared.node.NodeId.TheVariants.{Client, Manager, Ser
 use Rattle.xfs_base.specs.declared.segment.End.{End}
 use Rattle.xfs_base.specs.declared.segment.SegName.{SegName}
 
--- One small world may follow another: nothing that is filed, sent, begun or to be deleted is taken back, horizons rise, and those of epochs that have no manager stay.
+-- One small world may follow another: nothing that is filed, sent, begun or to be deleted is taken back, and horizons rise, but those of epochs without a manager
+-- stay.
 pub record Grown (n m : Net) : Type 0 where
   pub filed : IsMore n.filed m.filed
   pub stay : (e : ℕ) → m.slots e ≡ None → n.slots e ≡ None

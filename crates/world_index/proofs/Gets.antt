@@ -1,5 +1,5 @@
 -- What a packet that was sent tells the node that gets it is so, as far as it isn't owed.
-use Rattle.std.proofs.Common.{◌≡◌, ◌==◌, ℕ, zero, suc, ◌≤◌, ◌<◌, true, false, List, Option, None, Some, refl, sym, ap, subst, ◌∙◌, arith}
+use Rattle.std.proofs.Common.{◌≡◌, ℕ, ◌<◌, true, List, Option, None, Some, refl, sym, ap, subst, ◌∙◌}
 use Rattle.std.proofs.lemmas.Bool.{eqb-true}
 use Rattle.std.proofs.Math.Nat.{mod-eq_of_lt}
 use Rattle.cleaner_node.specs.CleanerEvents.{lasting_of}
@@ -19,14 +19,13 @@ use Rattle.manager_node.specs.declared.slot_phase.SlotPhase.{SlotPhase}
 use Rattle.node_base.specs.declared.questions.Questions.{Questions as Asker}
 use Rattle.node_index_tie.specs.ManagerEvents.{AllNewsGets, DeltasGets, EventGets, ReportGets, ServingGets, WaitingGets}
 use Rattle.node_index_tie.specs.RegistryEvents.{BodyGets as RegistryBodyGets, DoGets, RegistryOwed}
-use Rattle.node_index_tie.specs.Sight.{CheckKnown, CkptSeen, DeadKnown, NewsKnown, Questions, Texts, held_in}
+use Rattle.node_index_tie.specs.Sight.{CheckKnown, CkptSeen, DeadKnown, Questions, Texts, held_in}
 use Rattle.node_tie.specs.ManagerEvents.{epoch_in, phase_at}
 use Rattle.owner_index_tie.specs.CleanerEvents.{DeadGiven, JobAgrees, PhaseAgrees}
 use Rattle.owner_index_tie.specs.CleanerEvents as cleaners
 use Rattle.owner_index_tie.specs.CleanerMoves.{BodyAnswers}
 use Rattle.stripe_cleaner.specs.declared.phase.Phase.{Phase}
 use Rattle.stripe_cleaner.specs.declared.phase.Phase.TheVariants.{Checking}
-use Rattle.token_protocol.specs.Basics.{In}
 use Rattle.wire_msg.specs.declared.body.Body.{Body}
 use Rattle.wire_msg.specs.declared.body.Body.TheVariants as body
 use Rattle.wire_msg.specs.declared.cleaning.Check.{Check}

@@ -1,17 +1,14 @@
 -- Every run keeps the index of each slot: each event keeps a moment standing to the small world of it, in which indexes are joins and cleaning loses nothing.
-use Rattle.std.proofs.Common.{◌≡◌, ℕ, zero, suc, ◌≤◌, ◌<◌, true, false, List, [], ◌∷◌, Option, None, Some, take, slice_get, refl, sym, ap, subst, ◌∙◌, arith}
+use Rattle.std.proofs.Common.{◌≡◌, ℕ, zero, suc, ◌<◌, List, [], ◌∷◌, Option, None, Some, take, slice_get, refl, sym, ap, subst, ◌∙◌}
 use Rattle.std.specs.List.{fold}
 use Rattle.core_world.specs.AnyNode.{any_start, any_step}
 use Rattle.core_world.specs.declared.any_node.AnyNode.{AnyNode}
-use Rattle.core_world.specs.declared.any_node.AnyNode.TheVariants as any
-use Rattle.index_tie.specs.Net.{Net}
 use Rattle.index_tie.specs.NetLaws.{EachIndexIsTheJoin, NewestIsNeverDeleted}
 use Rattle.log_protocol.specs.Tables as tables
 use Rattle.manager_node.specs.declared.phase.Phase.{Phase as ManagerPhase}
 use Rattle.manager_node.specs.declared.phase.Phase.TheVariants as managing
 use Rattle.manager_node.specs.declared.slot_phase.SlotPhase.{SlotPhase}
 use Rattle.manager_node.specs.declared.slot_phase.SlotPhase.TheVariants as phase
-use Rattle.node_base.specs.Setups.{IsSetup}
 use Rattle.node_index_tie.specs.ManagerEvents.{ManagerAgrees, PhaseAgrees}
 use Rattle.node_index_tie.specs.Pages.{Desk, desk_of}
 use Rattle.node_index_tie.specs.Sight.{Texts, held_in}
@@ -20,20 +17,18 @@ use Rattle.node_tie.specs.RegistryEvents.{RegistrySound}
 use Rattle.segment_format.specs.declared.segment.Segment.{Segment}
 use Rattle.token_manager.specs.SlotState.{SlotState}
 use Rattle.token_protocol.specs.Basics.{In}
-use Rattle.wire_msg.specs.declared.body.Body.TheVariants as body
 use Rattle.wire_msg.specs.declared.packet.Packet.{Packet}
 use Rattle.world_base.specs.Cluster.{cluster_of, place_of}
 use Rattle.world_base.specs.declared.cluster.Cluster.{Cluster}
-use Rattle.world_base.specs.declared.estate.Estate.{Estate}
 use Rattle.world_base.specs.declared.event.Event.{Event}
 use Rattle.world_base.specs.declared.world.World.{World}
 use Rattle.world_base.specs.Events.{node_of, what_of}
 use Rattle.world_base.specs.NextWorld.{next_world, start_world}
-use Rattle.world_base.specs.Runs.{IsRun, Leads, WasSent}
+use Rattle.world_base.specs.Runs.{Leads}
 use Rattle.world_index.proofs.Senders.{IsKind, kinds_of_tokens}
 use Rattle.world_index.proofs.Start.{start_scene, start_stands}
 use Rattle.world_index.proofs.Turns.{NodeLaws, event_turns}
-use Rattle.world_index.specs.Laws.{AllOwed, EveryRunKeepsIndexes, KeepsIndexes, WasDeleted}
+use Rattle.world_index.specs.Laws.{EveryRunKeepsIndexes, KeepsIndexes, WasDeleted}
 use Rattle.world_index.specs.Owes.{IndexOwes}
 use Rattle.world_index.specs.Standing.{Scene, SentBy, Stands, holder}
 use Rattle.world_law.proofs.Laws as tokens
@@ -42,9 +37,6 @@ use Rattle.world_law.proofs.Sent.{was_sent}
 use Rattle.world_law.proofs.Turning.{next_cluster}
 use Rattle.world_law.specs.Managers.{active_in, active_of}
 use Rattle.world_law.specs.Owners.{moment, node_in}
-use Rattle.xfs_base.specs.Blocks.{slot_of}
-use Rattle.xfs_base.specs.declared.block.BlockId.{BlockId}
-use Rattle.xfs_base.specs.declared.node.NodeId.{NodeId}
 use Rattle.xfs_base.specs.declared.node.NodeId.TheVariants.{Cleaner, Manager}
 use Rattle.xfs_base.specs.declared.segment.SegName.{SegName}
 
@@ -116,7 +108,8 @@ module _ (laws : NodeLaws) (k : Cluster) (part : ℕ) (of_eight : part < 8) (tex
       joins = λ j z b is inside. small_joins part (held_in part texts) s.net b z.epoch z (record { any = first; run = st.runs; inside = inside })
           (manager_there j z (subst (λ c. active_of part (node_in w.nodes (place_of c (Manager j))) ≡ Some z) cluster is));
       kept = λ name b d inside filed has newest.
-          small_kept part (held_in part texts) s.net b name (record { any = first; run = st.runs; inside = inside }) (was_to_be_deleted name d) filed has newest;
+          small_kept part (held_in part texts) s.net b name (record { any = first; run = st.runs; inside = inside })
+          (was_to_be_deleted name d) filed has newest;
     }
 
 pub every_run_keeps : NodeLaws → tokens.NodeLaws → EachIndexIsTheJoin → NewestIsNeverDeleted → EveryRunKeepsIndexes

@@ -1,5 +1,5 @@
 -- A manager that has its turn: the moment after it stands to the small world that runs on with it.
-use Rattle.std.proofs.Common.{◌≡◌, ◌⊎◌, ⊎_elim, ℕ, ◌≤◌, ◌<◌, List, ◌++◌, None, Some, map, slice_get, slice_set, refl, sym, ap, subst, ◌∙◌, arith}
+use Rattle.std.proofs.Common.{◌≡◌, ⊎_elim, ℕ, ◌≤◌, ◌<◌, List, ◌++◌, Some, map, slice_get, slice_set, refl, sym, ap, subst, arith}
 use Rattle.core_world.specs.declared.any_node.AnyNode.{AnyNode}
 use Rattle.core_world.specs.declared.any_node.AnyNode.TheVariants as any
 use Rattle.index_tie.specs.Filed.{Filed}
@@ -7,13 +7,11 @@ use Rattle.index_tie.specs.Growth.{IsMore}
 use Rattle.index_tie.specs.Net.{Net, opening}
 use Rattle.log_protocol.specs.Tables as tables
 use Rattle.manager_node.specs.declared.manager.Manager.{Manager as ManagerNode}
-use Rattle.manager_node.specs.declared.phase.Phase.{Phase}
 use Rattle.manager_node.specs.Phases.{Went_to, lasting_of}
 use Rattle.node_base.specs.Effects.{packets_of}
 use Rattle.node_index_tie.proofs.Moves.{runs_through}
-use Rattle.node_index_tie.specs.ManagerEvents.{ManagerAgrees, ManagerGoes, ManagersStay, rest}
+use Rattle.node_index_tie.specs.ManagerEvents.{ManagerAgrees, ManagerGoes, ManagersStay}
 use Rattle.node_index_tie.specs.Sight.{AreTexts, ManagerDoes, Texts}
-use Rattle.node_tie.specs.ManagerEvents.{HeldAt, Names, slot_in}
 use Rattle.owner_index_tie.proofs.Frames.{more_itself}
 use Rattle.owner_index_tie.specs.CleanerEvents.{CleanerStays}
 use Rattle.owner_index_tie.specs.ClientEvents.{ClientsStay}
@@ -31,11 +29,10 @@ use Rattle.world_index.proofs.Facts.{Grown, sent_stays}
 use Rattle.world_index.proofs.Frames.{registry_frame}
 use Rattle.world_index.proofs.Horizons.{runs_stay, steady_always}
 use Rattle.world_index.proofs.Placing.{place_manager}
-use Rattle.world_index.specs.Standing.{Fact, Scene, SentBy, Stands, holder, members}
+use Rattle.world_index.specs.Standing.{Fact, Scene, Stands, holder}
 use Rattle.world_index.specs.Owes.{HeldApart}
 use Rattle.world_law.proofs.Sent.{in_append, sends}
 use Rattle.xfs_base.specs.Limits.{u32_end}
-use Rattle.xfs_base.specs.declared.node.NodeId.{NodeId}
 use Rattle.xfs_base.specs.declared.node.NodeId.TheVariants.{Manager}
 use Rattle.xfs_base.specs.declared.segment.SegRef.{SegRef}
 

@@ -1,5 +1,5 @@
 -- A node that has had its turn stands at its place, and all others where they stood.
-use Rattle.std.proofs.Common.{◌≡◌, ⊎_elim, ℕ, ◌≤◌, ◌<◌, List, Option, Some, slice_get, slice_set, sym, ap, subst, ◌∙◌}
+use Rattle.std.proofs.Common.{◌≡◌, ⊎_elim, ℕ, ◌≤◌, ◌<◌, List, Some, slice_get, slice_set, sym, ap, subst, ◌∙◌}
 use Rattle.client_node.specs.declared.client.Client.{Client as ClientNode}
 use Rattle.cleaner_node.specs.declared.cleaner.Cleaner.{Cleaner as CleanerNode}
 use Rattle.core_world.specs.declared.any_node.AnyNode.{AnyNode}

@@ -1,5 +1,5 @@
 -- The registry, or a server, that has its turn: the moment after it stands to the small world in which the slot's epoch rose, or a checkpoint was kept.
-use Rattle.std.proofs.Common.{◌≡◌, ◌⊎◌, ⊎_elim, ℕ, ◌≤◌, ◌<◌, List, ◌++◌, None, Some, map, slice_get, slice_set, refl, sym, ap, subst, ◌∙◌, arith}
+use Rattle.std.proofs.Common.{◌≡◌, ⊎_elim, ℕ, ◌≤◌, ◌<◌, List, ◌++◌, None, Some, map, slice_get, slice_set, sym, ap, subst, ◌∙◌, arith}
 use Rattle.std.specs.Prelude.{All}
 use Rattle.core_world.specs.declared.any_node.AnyNode.{AnyNode}
 use Rattle.core_world.specs.declared.any_node.AnyNode.TheVariants as any
@@ -23,7 +23,6 @@ use Rattle.node_tie.specs.RegistryEvents as maps
 use Rattle.owner_index_tie.specs.CleanerEvents.{CleanerStays}
 use Rattle.owner_index_tie.specs.ClientEvents.{ClientsStay}
 use Rattle.owner_index_tie.specs.ServerEvents.{DoesNothing}
-use Rattle.registry.specs.Board.{all_news}
 use Rattle.segment_format.specs.declared.segment.Segment.{Segment}
 use Rattle.store_nodes.specs.declared.registry_node.RegistryNode.{RegistryNode}
 use Rattle.store_nodes.specs.declared.server.Server.{Server as ServerNode}
@@ -42,7 +41,7 @@ use Rattle.world_index.proofs.Facts.{Grown, sent_stays}
 use Rattle.world_index.proofs.Horizons.{runs_stay, steady_always}
 use Rattle.world_index.proofs.ManagerTurns.{same_log, same_more}
 use Rattle.world_index.proofs.Placing.{place_registry, place_server}
-use Rattle.world_index.specs.Standing.{AllKept, Fact, NewsKept, RegistryTells, Scene, SentBy, Stands, members}
+use Rattle.world_index.specs.Standing.{AllKept, Fact, NewsKept, RegistryTells, Scene, SentBy, Stands}
 use Rattle.world_law.proofs.Sent.{at_clock, in_append, sends}
 use Rattle.xfs_base.specs.Limits.{u32_end}
 use Rattle.xfs_base.specs.declared.news.SlotNews.{SlotNews}

@@ -1,9 +1,8 @@
 -- The start of a run stands to the opening of the small world.
-use Rattle.std.proofs.Common.{◌≡◌, ℕ, ◌+◌, ◌-◌, ◌≤◌, ◌<◌, List, [], Some, refl, ◌∙◌, arith}
+use Rattle.std.proofs.Common.{ℕ, ◌+◌, ◌-◌, ◌≤◌, ◌<◌, List, [], refl, arith}
 use Rattle.client_node.specs.Starting.{first_client}
 use Rattle.cleaner_node.specs.CleanerEvents.{cleaner_start}
 use Rattle.core_world.specs.AnyNode.{any_start}
-use Rattle.core_world.specs.declared.any_node.AnyNode.TheVariants as any
 use Rattle.index_tie.specs.Net.{opening}
 use Rattle.index_tie.specs.Net.Runs.{Begun}
 use Rattle.manager_node.specs.Events.{first_manager}
@@ -17,13 +16,12 @@ use Rattle.script_text.specs.declared.script.Script.{Script}
 use Rattle.segment_format.specs.declared.segment.Segment.{Segment}
 use Rattle.store_nodes.specs.RegistryEvents.{registry_start}
 use Rattle.version_model.specs.declared.work.Work.{Work}
-use Rattle.world_base.specs.Cluster.{cluster_of, place_of}
+use Rattle.world_base.specs.Cluster.{cluster_of}
 use Rattle.world_base.specs.declared.cluster.Cluster.{Cluster}
 use Rattle.world_base.specs.Items.{items_of}
 use Rattle.world_base.specs.NextWorld.{first_nodes}
 use Rattle.world_index.specs.Standing.{Placed, Scene, Stands}
 use Rattle.world_law.proofs.Start as starting
-use Rattle.xfs_base.specs.declared.node.NodeId.{NodeId}
 use Rattle.xfs_base.specs.declared.node.NodeId.TheVariants.{Client, Manager, Server, Cleaner, Registry}
 use Rattle.xfs_base.specs.declared.setup.Setup.{Setup}
 

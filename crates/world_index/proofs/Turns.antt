@@ -1,11 +1,10 @@
 -- Each event of the world keeps a moment standing to the small world of a slot's index, if logs and tokens give what they owe.
-use Rattle.std.proofs.Common.{◌≡◌, ◌⊎◌, ℕ, ◌+◌, ◌≤◌, ◌<◌, Bool, List, ◌++◌, Some, map, slice_get, slice_set, inl, inr, refl, sym, ap, subst, ◌∙◌, arith}
+use Rattle.std.proofs.Common.{◌≡◌, ◌⊎◌, ℕ, ◌+◌, ◌<◌, List, ◌++◌, Some, map, slice_get, slice_set, inl, inr, refl, sym, ap, subst, ◌∙◌, arith}
 use Rattle.client_node.specs.Phases.{takes}
 use Rattle.cleaner_node.specs.CleanerEvents as cleaners
 use Rattle.core_world.specs.AnyNode.{any_step}
 use Rattle.core_world.specs.declared.any_node.AnyNode.{AnyNode}
 use Rattle.core_world.specs.declared.any_node.AnyNode.TheVariants as any
-use Rattle.index_tie.specs.Net.{Net, opening}
 use Rattle.index_tie.specs.NetLaws.{CheckpointsHaveManagers}
 use Rattle.manager_node.specs.Events.{happens}
 use Rattle.node_index_tie.specs.ManagerEvents.{FirstManagerAgrees, ManagerEventGoes, ManagerGoes, ManagersStay}
@@ -18,11 +17,10 @@ use Rattle.owner_index_tie.specs.ClientEvents.{ClientEventGoes, ClientGoes, Clie
 use Rattle.owner_index_tie.specs.ServerEvents.{ServerEventGoes}
 use Rattle.segment_format.specs.declared.segment.Segment.{Segment}
 use Rattle.store_nodes.specs.declared.server.Server.{Server as ServerNode}
-use Rattle.store_nodes.specs.RegistryEvents.{registry_step}
 use Rattle.token_protocol.specs.Basics.{In}
 use Rattle.version_model.specs.declared.act.Act.{Act}
 use Rattle.wire_msg.specs.declared.packet.Do.{Do}
-use Rattle.wire_msg.specs.declared.packet.Do.TheVariants.{Begin, Deliver, Tick}
+use Rattle.wire_msg.specs.declared.packet.Do.TheVariants.{Deliver}
 use Rattle.wire_msg.specs.declared.packet.Packet.{Packet}
 use Rattle.world_base.specs.Cluster.{place_of}
 use Rattle.world_base.specs.declared.cluster.Cluster.{Cluster}
@@ -76,7 +74,8 @@ pub record NodeLaws : Type 0 where
 module _ (laws : NodeLaws) (k : Cluster) (part : ℕ) (of_eight : part < 8) (texts : Texts) (first : ℕ → ℕ → Segment) where
   -- ---- one node takes its step
 
-  module _ (nodes : List AnyNode) (sent : List Packet) (s : Scene) (st : Stands k part texts first nodes sent RegistrySound s) (place clock : ℕ) (what : Do) where
+  module _ (nodes : List AnyNode) (sent : List Packet) (s : Scene) (st : Stands k part texts first nodes sent RegistrySound s) (place clock : ℕ)
+      (what : Do) where
     -- The moment after it. From what the small world was it has gone on, and the event has made of it what an event of this node makes.
     pub record Turned (name : NodeId) (node : AnyNode) : Type 0 where
       pub next : Scene

@@ -6,7 +6,6 @@ use Rattle.cleaner_node.specs.declared.cleaner.Cleaner.{Cleaner as CleanerNode}
 use Rattle.cleaner_node.specs.declared.cleaner.Phase.{Phase as CleanerPhase}
 use Rattle.cleaner_node.specs.declared.cleaner.Phase.TheVariants as cleaning
 use Rattle.cleaner_node.specs.declared.emptying.Emptying.{Emptying}
-use Rattle.client_node.specs.declared.client.Client.{Client as ClientNode}
 use Rattle.client_node.specs.Phases as clients
 use Rattle.core_world.specs.declared.any_node.AnyNode.{AnyNode}
 use Rattle.core_world.specs.declared.any_node.AnyNode.TheVariants as any
@@ -36,7 +35,7 @@ use Rattle.wire_msg.specs.declared.packet.Do.TheVariants.{Begin, Deliver, Tick}
 use Rattle.wire_msg.specs.declared.packet.Packet.{Packet}
 use Rattle.xfs_base.specs.declared.news.SlotNews.{SlotNews}
 use Rattle.xfs_base.specs.declared.node.NodeId.{NodeId}
-use Rattle.xfs_base.specs.declared.node.NodeId.TheVariants.{Client, Manager, Server, Cleaner, Registry}
+use Rattle.xfs_base.specs.declared.node.NodeId.TheVariants.{Client, Manager, Cleaner, Registry}
 use Rattle.xfs_base.specs.declared.segment.SegName.{SegName}
 
 -- ---- what is owed
@@ -59,7 +58,7 @@ module _ (part : ℕ) (texts : Texts) (n : Net) where
   CleanerDoOwed p Begin = Unit {0}
   CleanerDoOwed p Tick = Unit {0}
 
-  -- and that it may ask what it asks, that what a reopening of its log read back is what was filed and adopted, and that what it writes are the texts of their names
+  -- and that it may ask what it asks, that what a reopening of its log read back is what was filed and adopted, and that what it writes are texts of their names
   pub record CleanerTold (p : CleanerPhase) (what : Do) (w : cleaners.Went_to) : Type 0 where
     pub files : FilesOwed (NewFor part texts n p) texts 9 n.filed w.outs
     pub asks : AllByRecursion (EffectOwed part n) w.outs
@@ -106,8 +105,8 @@ module _ (part : ℕ) (texts : Texts) (asked : Questions) (j : ℕ) (n : Net) wh
     pub apart : HeldApart most holders p what
     pub writes : managed.WritesTexts part texts asked j n q
 
--- Of the node of this name, in a world of so many managers. A client is owed what `ClientOwed` says; servers and the registry are owed nothing. Of a Dead and a Live
--- that come to the cleaner, and of Deltas, Reports, Checks, news and checkpoints, nothing is owed: what they tell is so.
+-- Of the node of this name, in a world of so many managers. A client is owed what `ClientOwed` says; servers and the registry are owed nothing. Of a Dead and
+-- a Live that come to the cleaner, and of Deltas, Reports, Checks, news and checkpoints, nothing is owed: what they tell is so.
 abbrev pub IndexOwes : (part : ℕ) → Texts → Questions → (most : ℕ) → (ℕ → SlotPhase) → Net → NodeId → AnyNode → Do → Type 0
 IndexOwes part texts asked most holders n (Client c) (any.Client node) what = ClientOwed part texts n c node.phase what (clients.takes node what)
 IndexOwes part texts asked most holders n (Manager j) (any.Manager node) what =

@@ -1,4 +1,4 @@
--- How a moment of a run stands to a moment of the small world of one slot's index: each node is seen there, and what packets tell of where blocks lie is so there.
+-- How a moment of a run stands to a moment of the small world of one slot's index: each node is seen there, and what packets tell of where blocks lie is so.
 use Rattle.std.specs.Prelude.{◌≡◌, ℕ, ◌+◌, ◌≤◌, ◌<◌, List, None, Some}
 use Rattle.client_node.specs.declared.client.Client.{Client as ClientNode}
 use Rattle.cleaner_node.specs.declared.cleaner.Cleaner.{Cleaner as CleanerNode}
@@ -45,7 +45,7 @@ pub record Scene : Type 0 where
 -- ---- packets
 
 module _ (part : ℕ) (n : Net) where
-  -- What the owner of a log tells: Deltas of the slot, and ends of its log, which are filed; those that it reports to the slot's manager are so in that epoch, too.
+  -- What the owner of a log tells: Deltas of the slot, and ends of its log, which are filed; those that it reports to the slot's manager are known in that epoch.
   abbrev pub OwnerTells : ℕ → NodeId → Body → Type 0
   OwnerTells l from (body.Deltas m) = m.slot ≡ part → DeltasKnown part n l m
   OwnerTells l from (body.Report m) = (m.slot ≡ part → ReportKnown part n m.epoch from m.end) × (m.end.seq ≤ n.filed.head l)
