@@ -1,5 +1,5 @@
 -- Each event of a manager is a list of things that happen in the small world of one slot's index.
-use Rattle.std.proofs.Common.{◌≡◌, ℕ, zero, suc, ◌+◌, ◌==◌, ◌<◌, ◌&&◌, true, List, [], ◌∷◌, ◌++◌, length, Option, Some, None, refl, sym, ap, subst, ◌∙◌}
+use Rattle.std.proofs.Common.{◌≡◌, ℕ, zero, suc, ◌+◌, ◌==◌, ◌<◌, ◌&&◌, true, inl, inr, ⊎_elim, List, [], ◌∷◌, ◌++◌, length, Option, Some, None, refl, sym, ap, subst, ◌∙◌}
 use Rattle.std.proofs.lemmas.Bool.{eqb-true}
 use Rattle.std.proofs.lemmas.List.Elements.{All-from_recursion}
 use Rattle.xfs_base.proofs.Booleans.{by_test, and_first}
@@ -60,6 +60,7 @@ module _ (part : ℕ) (texts : Texts) (questions : Questions) (exists : part < 8
     agrees = (h.agrees, text);
     rest = h.grows.rest;
     slots = h.slots;
+    came = λ e none. ⊎_elim (λ free. inl free) (λ low. inr (refl, low)) (h.came e none);
     stay = h.grows.stay;
     grows = h.grows.sent;
     does = All-from_recursion (ManagerDoes part questions h.next) d.outs h.does;
@@ -74,6 +75,7 @@ module _ (part : ℕ) (texts : Texts) (questions : Questions) (exists : part < 8
     agrees = agrees;
     rest = refl;
     slots = λ e _ _. refl;
+    came = λ e none. inl none;
     stay = λ e h. h;
     grows = λ x is. is;
     does = All-from_recursion (ManagerDoes part questions n) outs done;
@@ -231,6 +233,7 @@ module _ (part : ℕ) (texts : Texts) (questions : Questions) (exists : part < 8
         agrees = (h.agrees, writes);
         rest = h.grows.rest;
         slots = λ e other not_named. h.slots e (λ at. subst (λ p. HeldAt p e) (unknown_at part) at) not_named;
+        came = λ e none. ⊎_elim (λ free. inl free) (λ low. inr (refl, low)) (h.came e none);
         stay = h.grows.stay;
         grows = h.grows.sent;
         does = All-from_recursion (ManagerDoes part questions h.next) _ h.does;

@@ -305,6 +305,7 @@ module _ (part : ℕ) (texts : Texts) (questions : Questions) (exists : part < 8
           runs = h.runs;
           grows = h.grows;
           slots = h.slots;
+          came = h.came;
           held = h.held;
           rises = h.rises;
           does = h.does;

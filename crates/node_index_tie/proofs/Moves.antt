@@ -141,12 +141,13 @@ module _ (part : ℕ) (texts : Texts) (asked : Questions) where
   -- ---- steps
 
   -- By things that happen there the small world comes to one in which this holds. The slot goes from one phase to another; only epochs that it held, and such as
-  -- are named, are touched or held after.
+  -- are named, are touched or held after, and none that it doesn't know comes to be managed.
   pub record Sees (named : ℕ → Type 0) (n : Net) (p q : SlotPhase) (outs : List Effect) (At : Net → Type 0) : Type 0 where
     pub next : Net
     pub runs : Runs part (held_in part texts) n next
     pub grows : Grows n next
     pub slots : (e : ℕ) → (HeldAt p e → ⊥) → (named e → ⊥) → next.slots e ≡ n.slots e
+    pub came : (e : ℕ) → n.slots e ≡ None → (next.slots e ≡ None) ⊎ (e ≤ epoch_of q)
     pub held : (e : ℕ) → HeldAt q e → HeldAt p e ⊎ named e
     pub rises : epoch_of p ≤ epoch_of q
     pub does : AllDone next outs
@@ -161,6 +162,7 @@ module _ (part : ℕ) (texts : Texts) (asked : Questions) where
       runs = Begun;
       grows = grows_itself n;
       slots = λ e other _. refl;
+      came = λ e none. inl none;
       held = held;
       rises = rises;
       does = done;
@@ -179,6 +181,7 @@ module _ (part : ℕ) (texts : Texts) (asked : Questions) where
       runs = On Begun happens;
       grows = grows_sent n new;
       slots = λ e other _. refl;
+      came = λ e none. inl none;
       held = λ e h. inl (held e h);
       rises = rises;
       does = done;
@@ -194,6 +197,8 @@ module _ (part : ℕ) (texts : Texts) (asked : Questions) where
       runs = On Begun happens;
       grows = grows_slot n e s;
       slots = λ d other _. put_there n.slots e (Some s) d (λ same. other (subst (HeldAt p) (sym same) here));
+      came = put_each (λ d o. n.slots d ≡ None → (o ≡ None) ⊎ (d ≤ epoch_of q)) n.slots e (Some s) (λ none. inr (let at = held_is p e here in omega arith))
+          (λ d other none. inl none);
       held = λ d h. inl (held d h);
       rises = rises;
       does = done;
@@ -209,6 +214,7 @@ module _ (part : ℕ) (texts : Texts) (asked : Questions) where
           runs = runs_through n h.next k.next h.runs k.runs;
           grows = grows_then n h.next k.next h.grows k.grows;
           slots = λ e other not_named. k.slots e (λ at. ⊎_elim other not_named (h.held e at)) not_named ∙ h.slots e other not_named;
+          came = λ e none. ⊎_elim (λ free. k.came e free) (λ low. inr (let b = k.rises in omega arith)) (h.came e none);
           held = λ e at. ⊎_elim (λ x. h.held e x) (λ x. inr x) (k.held e at);
           rises = let a = h.rises in let b = k.rises in omega arith;
           does = all_both (DoesAt k.next) outs more (done_on h.next k.next k.grows outs h.does) k.does;
@@ -222,6 +228,7 @@ module _ (part : ℕ) (texts : Texts) (asked : Questions) where
       runs = h.runs;
       grows = h.grows;
       slots = h.slots;
+      came = h.came;
       held = h.held;
       rises = h.rises;
       does = h.does;
@@ -235,6 +242,7 @@ module _ (part : ℕ) (texts : Texts) (asked : Questions) where
       runs = h.runs;
       grows = h.grows;
       slots = λ e other _. h.slots e other (λ no. no);
+      came = h.came;
       held = λ e at. ⊎_elim (λ x. inl x) (λ no. absurd no) (h.held e at);
       rises = h.rises;
       does = h.does;

@@ -42,6 +42,7 @@ use Rattle.node_index_tie.specs.Sight.{Texts, Questions, held_in}
 use Rattle.node_index_tie.proofs.Agreeing.{writer_on, done_seen}
 use Rattle.node_index_tie.proofs.Moves.{Sees, Grows, some_none, grows_then, grows_sent, grows_slot, put_here, put_there, sees_quiet, sees_slot, sees_then}
 use Rattle.node_index_tie.proofs.Tables.{by_part}
+use Rattle.index_tie.proofs.Tables.{put_each}
 use Rattle.node_index_tie.proofs.Turning.{some_is, changed_here, changed_there, changed_length}
 use Rattle.node_index_tie.proofs.Writing.{Serves, goes_on}
 
@@ -282,6 +283,8 @@ module _ (part : ℕ) (texts : Texts) (questions : Questions) (exists : part < 8
               (horizon_next a.slot k.short))) (Cleans epoch a.slot k.there);
           grows = grows;
           slots = λ d other _. put_there n.slots epoch (Some (slot.cleaned a.slot)) d (λ same. other (subst (λ p. HeldAt p d) (sym is_now) (sym same)));
+          came = λ d none. inl (put_each (λ x o. n.slots x ≡ None → o ≡ None) n.slots epoch (Some (slot.cleaned a.slot))
+              (λ free. absurd (some_none a.slot (sym k.there ∙ free))) (λ x other free. free) d none);
           held = λ e h. inl (held_before e h);
           rises = rises_not;
           does = tt;

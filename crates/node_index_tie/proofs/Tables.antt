@@ -137,6 +137,7 @@ module _ (part : ℕ) (texts : Texts) (asked : Questions) (exists : part < 8) (n
             runs = h.runs;
             grows = h.grows;
             slots = h.slots;
+            came = subst (λ x. (e : ℕ) → n.slots e ≡ None → (h.next.slots e ≡ None) ⊎ (e ≤ epoch_of x)) (sym at) h.came;
             held = subst (λ x. (e : ℕ) → HeldAt x e → HeldAt (phase_at t part) e ⊎ named e) (sym at) h.held;
             rises = subst (λ x. epoch_of (phase_at t part) ≤ epoch_of x) (sym at) h.rises;
             does = h.does;

@@ -1,5 +1,5 @@
 -- How a manager is seen in the small world of one slot's index, what the world owes each event of it, and what the event is there.
-use Rattle.std.specs.Prelude.{◌≡◌, ◌≤◌, ◌<◌, ℕ, List, [], Option, Some, None, length}
+use Rattle.std.specs.Prelude.{◌≡◌, ◌≤◌, ◌<◌, ◌⊎◌, ℕ, true, List, [], Option, Some, None, length}
 use Rattle.std.specs.List.{All, AllByRecursion}
 use Rattle.checkpoint.specs.WriterState.{Rows}
 use Rattle.group_map.specs.GroupMapState.{GroupMapState}
@@ -17,7 +17,7 @@ use Rattle.manager_node.specs.declared.slot_phase.SlotPhase.{SlotPhase}
 use Rattle.manager_node.specs.declared.slot_phase.SlotPhase.TheVariants as phase
 use Rattle.manager_node.specs.declared.slot_phase.Taking.{Taking}
 use Rattle.manager_node.specs.Slots.{fetch_of}
-use Rattle.node_tie.specs.ManagerEvents.{phase_at, HeldAt, Names, slot_in, epoch_in}
+use Rattle.node_tie.specs.ManagerEvents.{phase_at, HeldAt, Names, slot_in, epoch_in, is_serving}
 use Rattle.segment_format.specs.declared.segment.Segment.{Segment}
 use Rattle.stripe_code.specs.Reading.{ReadingState, on_answer}
 use Rattle.stripe_code.specs.declared.round.Told.{Told}
@@ -202,13 +202,14 @@ abbrev pub rest : Net → Net
 rest n = record n { slots = λ e. None; sent = [] }
 
 -- An event of manager j is a list of things that happen in the small world: only slots and packets change, of the slots those of the epochs that the manager held
--- or is given, and what it sends of the slot was sent there.
+-- or is given, and what it sends of the slot was sent there. An epoch at which nobody was active yet gets a manager only where this one serves and knows it.
 pub record ManagerGoes (part : ℕ) (texts : Texts) (asked : Questions) (j : ℕ) (n : Net) (p : Phase) (what : Do) (w : Went_to) : Type 0 where
   pub next : Net
   pub runs : Runs part (held_in part texts) n next
   pub agrees : ManagerAgrees part texts next w.state
   pub rest : rest next ≡ rest n
   pub slots : (e : ℕ) → (HeldAt (slot_in part p) e → ⊥) → (Names part j e what → ⊥) → next.slots e ≡ n.slots e
+  pub came : (e : ℕ) → n.slots e ≡ None → (next.slots e ≡ None) ⊎ ((is_serving w.state ≡ true) × (e ≤ epoch_in part w.state))
   pub stay : (e : ℕ) → next.slots e ≡ None → n.slots e ≡ None
   pub grows : (x : Packet) → In x n.sent → In x next.sent
   pub does : All (ManagerDoes part asked next) w.outs
