@@ -1,4 +1,4 @@
-mod Emptying
+pub mod Emptying
 mod Grouping
 mod Asking
 mod Effects

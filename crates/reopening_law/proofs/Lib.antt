@@ -5,3 +5,5 @@ mod Reopened
 mod Reading
 mod Flights
 mod Following
+mod Ending
+mod Falling
