@@ -4,3 +4,7 @@ pub mod Lying
 pub mod Fetching
 pub mod Checking
 pub mod Copying
+pub mod Saying
+pub mod SlotAnswers
+pub mod ManagerAnswers
+pub mod Answering

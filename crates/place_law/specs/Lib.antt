@@ -1,3 +1,4 @@
 pub mod Reads
 pub mod Fetches
 pub mod Copies
+pub mod Answers

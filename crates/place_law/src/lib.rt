@@ -2,12 +2,14 @@
 //! `specs/Reads.antt` says what is known of a log, and that what is read under a name is its text.
 #![tactic(auto)]
 
+ghost use Rattle.place_law.specs.Answers.{ManagersAnswer, RunsAnswer};
 ghost use Rattle.place_law.specs.Copies.{JobsChecksLie, LivesTellCopies};
 ghost use Rattle.place_law.specs.Fetches.{FetchesReadThere};
 ghost use Rattle.place_law.specs.Reads.{TakeoversReadTexts, WhatIsReadIsTheText};
 
 use log_law::{a_place_names_one_content, one_name_one_text};
 use manager_log_tie::what_is_told_is_in_range;
+use node_tie::{client_events_are_seen, clients_ask_for_their_call, manager_events_are_seen, other_events_are_seen};
 use reading_tie::{clients_read_what_came, managers_read_what_came};
 
 /// What is read under a name is the text of the name.
@@ -46,3 +48,18 @@ pub fn a_live_tells_a_copy()
     ensures checks { JobsChecksLie }
     ensures copies { LivesTellCopies }
 {}
+
+/// Each Live answers a Check.
+///
+/// - `managers`: whatever happens to a manager, each Live that it sends answers the Check that was delivered: of its block, under its question, and its entry
+///   lies at the place of that.
+/// - `runs`: at each moment of every run of a script of whose setup a run can be started each Live that was sent answers a Check that was sent.
+pub fn lives_answer_checks()
+    ensures managers { ManagersAnswer }
+    ensures runs { RunsAnswer }
+{
+    clients_ask_for_their_call();
+    client_events_are_seen();
+    manager_events_are_seen();
+    other_events_are_seen();
+}
