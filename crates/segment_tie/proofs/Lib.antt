@@ -7,3 +7,4 @@ pub mod CleanerServing
 pub mod Cleaners
 pub mod Managers
 pub mod Contents
+pub mod Running

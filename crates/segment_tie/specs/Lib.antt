@@ -3,3 +3,4 @@ pub mod Settings
 pub mod Clients
 pub mod Cleaners
 pub mod Managers
+pub mod Runs

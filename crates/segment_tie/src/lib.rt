@@ -6,6 +6,7 @@
 ghost use Rattle.segment_tie.specs.Cleaners.{CleanerStartsWriting, CleanerWritesCopies};
 ghost use Rattle.segment_tie.specs.Clients.{ClientsStartWriting, ClientsWriteOriginals};
 ghost use Rattle.segment_tie.specs.Managers.{ManagersStartWriting, ManagersWritePages};
+ghost use Rattle.segment_tie.specs.Runs.{RunsWriteCopies, RunsWriteOriginals};
 ghost use Rattle.segment_tie.specs.Segments.{AttemptsAreAlike, NothingIsAnyKind};
 ghost use Rattle.segment_tie.specs.Settings.{TellingSetting};
 
@@ -48,4 +49,13 @@ pub fn cleaner_writes_copies()
 pub fn managers_write_pages()
     ensures start { ManagersStartWriting }
     ensures events { ManagersWritePages }
+{}
+
+/// So it is at each moment of each run of the nodes.
+///
+/// - `originals`: each client and each manager writes so.
+/// - `copies`: so does the cleaner, up to which moment managers that told of live blocks told versions from 1 on.
+pub fn runs_write_so()
+    ensures originals { RunsWriteOriginals }
+    ensures copies { RunsWriteCopies }
 {}
