@@ -36,16 +36,16 @@ use Rattle.node_index_tie.specs.Pages.{Paged}
 use Rattle.node_index_tie.specs.Sight.{Texts, Questions, held_in, DeltasKnown, CheckKnown}
 use Rattle.node_index_tie.proofs.Agreeing.{phase_on}
 use Rattle.node_index_tie.proofs.Inputs.{tokens_same, deltas_take}
-use Rattle.node_index_tie.proofs.Moves.{AllDone, Sees, grows_slot, grows_sent, put_here, sees_same, sees_sent, sees_slot}
+use Rattle.node_index_tie.proofs.Moves.{Brought, AllDone, Sees, some_none, grows_slot, grows_sent, put_here, sees_same, sees_sent, sees_slot}
 use Rattle.node_index_tie.proofs.Puts.{paged_put, paged_on, pages-indexed_all}
 
-module _ (part : ℕ) (texts : Texts) (asked : Questions) (named : ℕ → Type 0) (desk : Desk) where
+module _ (part : ℕ) (texts : Texts) (asked : Questions) (brought : Brought) (desk : Desk) where
   -- an event of the slot
   abbrev pub Event : Net → SlotPhase → SlotPhase → List Effect → Type 0
-  Event n p q outs = Sees part texts asked named n p q outs (λ m. PhaseAgrees part texts m desk q)
+  Event n p q outs = Sees part texts asked brought n p q outs (λ m. PhaseAgrees part texts m desk q)
 
   pub event_same : (n : Net) (p : SlotPhase) (outs : List Effect) → PhaseAgrees part texts n desk p → AllDone part texts asked n outs → Event n p p outs
-  event_same n p outs agrees done = sees_same part texts asked named n p outs (λ m. PhaseAgrees part texts m desk p) done agrees
+  event_same n p outs agrees done = sees_same part texts asked brought n p outs (λ m. PhaseAgrees part texts m desk p) done agrees
 
   -- what a slot says of tokens tells nothing of where blocks lie
   pub said_done : (n : Net) (k epoch : ℕ) (outs : List Out) → AllDone part texts asked n (flat_map (said k epoch) outs)
@@ -66,13 +66,14 @@ module _ (part : ℕ) (texts : Texts) (asked : Questions) (named : ℕ → Type 
     pages : Paged part texts n desk a.slot.epoch (pages_of t.index) a.parts
 
   -- the slot steps in the small world
-  steps_to : (n : Net) (a : Active) (t : SlotState) (outs : List Effect) → Happens part (held_in part texts) n (with_slot n a.slot.epoch t) → Stands n a t
+  steps_to : (n : Net) (a : Active) (t : SlotState) (outs : List Effect) → n.slots a.slot.epoch ≡ Some a.slot
+      → Happens part (held_in part texts) n (with_slot n a.slot.epoch t) → Stands n a t
       → AllDone part texts asked (with_slot n a.slot.epoch t) outs
       → Event n (phase.Active a) (holding a t) outs
-  steps_to n a t outs happens stands done =
+  steps_to n a t outs there happens stands done =
       let e = a.slot.epoch in
-      sees_slot part texts asked named n (phase.Active a) (holding a t) e t outs (λ m. PhaseAgrees part texts m desk (holding a t)) happens refl
-      (λ d h. sym stands.epoch ∙ h) (let h = stands.epoch in omega arith) done
+      sees_slot part texts asked brought n (phase.Active a) (holding a t) e t outs (λ m. PhaseAgrees part texts m desk (holding a t)) happens refl
+      (λ d h. sym stands.epoch ∙ h) (λ none. absurd (some_none a.slot (sym there ∙ none))) stands.epoch (let h = stands.epoch in omega arith) done
       (record {
         there = ap (with_slot n e t).slots stands.epoch ∙ put_here n.slots e (Some t);
         nine = stands.nine;
@@ -95,7 +96,7 @@ module _ (part : ℕ) (texts : Texts) (asked : Questions) (named : ℕ → Type 
   unfolding takes
   slot_takes n k (phase.Active a) given of agrees =
       let d = slot.transition a.slot given in
-      steps_to n a d.state (flat_map (said k a.slot.epoch) d.outs) (GetsOther a.slot.epoch a.slot given agrees.there of)
+      steps_to n a d.state (flat_map (said k a.slot.epoch) d.outs) agrees.there (GetsOther a.slot.epoch a.slot given agrees.there of)
       (stands_same n a d.state (tokens_same a.slot given of) agrees)
       (said_done (with_slot n a.slot.epoch d.state) k a.slot.epoch d.outs)
   slot_takes n k (phase.Away epoch) given of agrees = event_same n (phase.Away epoch) [] agrees tt
@@ -156,7 +157,7 @@ module _ (part : ℕ) (texts : Texts) (asked : Questions) (named : ℕ → Type 
           let d = slot.transition a.slot (deltas_input of m) in
           let w = within of.0 is in
           let nine = agrees.nine in
-          steps_to n a d.state (flat_map (said m.slot a.slot.epoch) d.outs)
+          steps_to n a d.state (flat_map (said m.slot a.slot.epoch) d.outs) agrees.there
           (GetsDeltas a.slot.epoch a.slot of m.first m.upto m.rows agrees.there (omega arith) known.tells) (stands_deltas n a of m w known agrees)
           (said_done (with_slot n a.slot.epoch d.state) m.slot a.slot.epoch d.outs)
       by false is = subst (IsEvent n a m.slot) (sym (ap (λ t. cond t (slot.deltas_of a.slot of m.first m.upto m.rows) (still a.slot)) is))
@@ -183,11 +184,12 @@ module _ (part : ℕ) (texts : Texts) (asked : Questions) (named : ℕ → Type 
       { sent = answer_packets known.number check.block check.place.seg.name known.below e (o ∷ []) ++ n.sent })
       → Event n (phase.Active a) (phase.Active a) (flat_map (check_said check e) (o ∷ []))) (slot.is_place (slot.entry_at s check.block).place check.place)
       (out.Live (slot.entry_at s check.block)) out.Dead
-      (λ _ it. sees_sent part texts asked named n (phase.Active a) (phase.Active a) (AnsweredLive check.block (slot.entry_at s check.block) ∷ []) _
-      (λ m. PhaseAgrees part texts m desk (phase.Active a)) it (λ d h. h) (omega arith) ((λ _. inl refl), tt)
+      (λ _ it. sees_sent part texts asked brought n (phase.Active a) (phase.Active a) (AnsweredLive check.block (slot.entry_at s check.block) ∷ []) _
+      (λ m. PhaseAgrees part texts m desk (phase.Active a)) it (λ d h. h) (λ d h. h) (omega arith) ((λ _. inl refl), tt)
       (phase_on part texts n _ (grows_sent n (AnsweredLive check.block (slot.entry_at s check.block) ∷ [])) desk (phase.Active a) (λ d _. refl) agrees))
-      (λ _ it. sees_sent part texts asked named n (phase.Active a) (phase.Active a)
+      (λ _ it. sees_sent part texts asked brought n (phase.Active a) (phase.Active a)
       (AnsweredDead known.number check.block check.place.seg.name known.below e ∷ []) _ (λ m. PhaseAgrees part texts m desk (phase.Active a)) it (λ d h. h)
+      (λ d h. h)
       (omega arith)
       ((λ _. record { number = known.number; name = check.place.seg.name; below = known.below; sent = inl refl; question = known.question }), tt)
       (phase_on part texts n _ (grows_sent n (AnsweredDead known.number check.block check.place.seg.name known.below e ∷ [])) desk (phase.Active a)

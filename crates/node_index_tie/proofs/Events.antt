@@ -43,16 +43,25 @@ use Rattle.wire_msg.specs.declared.registry.Welcome.{Welcome}
 use Rattle.node_index_tie.specs.ManagerEvents.{PhaseAgrees, ServingAgrees, ManagerAgrees, AllNewsGets, WaitingGets, PacketGets, EventGets, WritesTexts, ManagerGoes, ManagerEventGoes}
 use Rattle.node_index_tie.specs.Pages.{FlightIsText}
 use Rattle.node_index_tie.specs.Sight.{Texts, Questions, AreTexts, ManagerDoes}
-use Rattle.node_index_tie.proofs.Hearing.{tick_serves, hears_serves, news_serves}
-use Rattle.node_index_tie.proofs.Moves.{AllDone, some_none}
+use Rattle.node_index_tie.proofs.Hearing.{MayEnd, tick_serves, hears_serves, news_serves}
+use Rattle.node_index_tie.proofs.Moves.{Brought, AllDone, some_none}
 use Rattle.node_index_tie.proofs.Serving.{Of, checkpoint_serves}
+
+-- the event may end a takeover
+abbrev MayEndBy : Do → Type 0
+MayEndBy (Deliver packet) = MayEnd packet.body
+MayEndBy Begin = Unit {0}
+MayEndBy Tick = Unit {0}
 
 module _ (part : ℕ) (texts : Texts) (questions : Questions) (exists : part < 8) (j : ℕ) (n : Net) where
   abbrev Goes : Phase → Do → Went_to → Type 0
   Goes p what w = ManagerGoes part texts questions j n p what w
 
+  abbrev brings : Do → Brought
+  brings what = record { names = λ e. Names part j e what; ends = MayEndBy what }
+
   -- it serves on
-  to_serving : (s : Serving) (what : Do) (d : Done) → FlightIsText texts d.state.log → Of part texts questions exists (λ e. Names part j e what) n s d
+  to_serving : (s : Serving) (what : Do) (d : Done) → FlightIsText texts d.state.log → Of part texts questions exists (brings what) n s d
       → Goes (Serves s) what (serves d)
   to_serving s what d text h = record {
     next = h.next;
@@ -62,6 +71,7 @@ module _ (part : ℕ) (texts : Texts) (questions : Questions) (exists : part < 8
     slots = h.slots;
     came = λ e none. ⊎_elim (λ free. inl free) (λ low. inr (refl, low)) (h.came e none);
     stay = h.grows.stay;
+    entered = λ e z some none. (h.enters e z some none).1;
     grows = h.grows.sent;
     does = All-from_recursion (ManagerDoes part questions h.next) d.outs h.does;
   }
@@ -77,6 +87,7 @@ module _ (part : ℕ) (texts : Texts) (questions : Questions) (exists : part < 8
     slots = λ e _ _. refl;
     came = λ e none. inl none;
     stay = λ e h. h;
+    entered = λ e z some none. absurd (some_none z (sym some ∙ none));
     grows = λ x is. is;
     does = All-from_recursion (ManagerDoes part questions n) outs done;
   }
@@ -134,7 +145,7 @@ module _ (part : ℕ) (texts : Texts) (questions : Questions) (exists : part < 8
           → Goes (Serves s) Begin (serves (on_checkpoint (record s { lasting = with_begun s.lasting }) number))
       checkpoint writes =
           let r : Serving = record s { lasting = with_begun s.lasting } in
-          to_serving s Begin (on_checkpoint r number) writes (checkpoint_serves part texts questions exists (λ e. Names part j e Begin) n r number
+          to_serving s Begin (on_checkpoint r number) writes (checkpoint_serves part texts questions exists (brings Begin) n r number
           (begun_agrees s agrees))
 
       by : (o : Option Work) → WritesTexts part texts questions j n (serving_wish (record s { lasting = with_begun s.lasting }) number (wish_at o)).state
@@ -172,7 +183,7 @@ module _ (part : ℕ) (texts : Texts) (questions : Questions) (exists : part < 8
   time_goes (Down kept) agrees filed writes = to_itself (Down kept) Tick agrees
   time_goes (Waiting kept ask) agrees filed writes = to_quiet (Waiting kept ask) (Waiting kept ask) Tick _ tt (tt, tt)
   time_goes (Serves s) agrees filed writes = to_serving s Tick (on_tick s) writes
-      (tick_serves part texts questions exists (λ e. Names part j e Tick) n s agrees.0 filed agrees.1)
+      (tick_serves part texts questions exists (brings Tick) n s agrees.0 filed agrees.1)
 
   -- ---- packets
 
@@ -222,7 +233,7 @@ module _ (part : ℕ) (texts : Texts) (questions : Questions) (exists : part < 8
       let same_inc : welcome.inc ≡ kept.inc = eqb-true welcome.inc kept.inc (and_first (welcome.inc == kept.inc) (welcome.ask == hello) answered) in
       let s : Serving = again kept (forgotten peers.servers) welcome.news.groups in
       let none : epoch_of (phase_at unknown_table part) ≡ 0 = ap epoch_of (unknown_at part) in
-      let h = news_serves part texts questions exists (λ e. Names part j e what) j n s peers.clients welcome.news number
+      let h = news_serves part texts questions exists (record { names = λ e. Names part j e what; ends = ⊥ }) j (λ no. no) n s peers.clients welcome.news number
       (begun_agreed kept (forgotten peers.servers) unknown_table welcome.news.groups refl (subst (PhaseAgrees part texts n _) (sym (unknown_at part)) tt))
       filed (λ f there. absurd (some_none f (sym there)))
       (subst (λ k. AllNewsGets part texts questions j n k welcome.news.slots) (sym none) (gets same_inc))
@@ -235,6 +246,7 @@ module _ (part : ℕ) (texts : Texts) (questions : Questions) (exists : part < 8
         slots = λ e other not_named. h.slots e (λ at. subst (λ p. HeldAt p e) (unknown_at part) at) not_named;
         came = λ e none. ⊎_elim (λ free. inl free) (λ low. inr (refl, low)) (h.came e none);
         stay = h.grows.stay;
+        entered = λ e z some none. (h.enters e z some none).1;
         grows = h.grows.sent;
         does = All-from_recursion (ManagerDoes part questions h.next) _ h.does;
       }
@@ -260,8 +272,8 @@ module _ (part : ℕ) (texts : Texts) (questions : Questions) (exists : part < 8
       writes
   packet_goes peers (Serves s) packet number agrees filed gets writes =
       to_serving s (Deliver packet) (hears s peers.clients packet) writes
-      (hears_serves part texts questions exists (λ e. Names part j e (Deliver packet)) j n s peers.clients packet number agrees.0 filed agrees.1 gets
-      (λ e is. is))
+      (hears_serves part texts questions exists (brings (Deliver packet)) j n s peers.clients packet number agrees.0 filed agrees.1 gets
+      (λ e is. is) ((λ x. x), (λ x. x)))
 
   deliver_goes : (peers : Peers) (p : Phase) (packet : Sent) → (lasting_of p).number ≡ j → ManagerAgrees part texts n p → AreTexts texts n.filed
       → PacketGets part texts questions j n p packet → WritesTexts part texts questions j n (on_deliver peers p packet).state

@@ -49,13 +49,13 @@ use Rattle.token_manager.specs.SlotState.{SlotState}
 use Rattle.token_manager.specs.Transition.{started as slot_started}
 use Rattle.token_protocol.specs.Basics.{In as Among}
 use Rattle.wire_msg.specs.declared.deltas.Report.{Report}
-use Rattle.node_index_tie.specs.ManagerEvents.{TakingAgrees, PhaseAgrees, completes}
+use Rattle.node_index_tie.specs.ManagerEvents.{ManagedAt, TakingAgrees, PhaseAgrees, completes}
 use Rattle.node_index_tie.specs.Sight.{Texts, Questions, held_in, RowsFit, IsRead, AreTexts, EndKnown, ReportKnown, NewsKnown}
 use Rattle.node_index_tie.proofs.Active.{Event, event_same}
-use Rattle.node_index_tie.proofs.Moves.{AllDone, put_here, grows_slot, sees_quiet, sees_slot}
+use Rattle.node_index_tie.proofs.Moves.{Brought, AllDone, put_here, grows_slot, sees_quiet, sees_slot}
 use Rattle.node_index_tie.proofs.Puts.{paged_first, paged_on}
 use Rattle.node_index_tie.proofs.Reading.{after_one, AllRead, read_on, tells_parts, its_texts, fit_by_all, end_from_is}
-use Rattle.node_index_tie.proofs.Taking.{all_fits, takes_done, Stays, stays_each, stays_ticks}
+use Rattle.node_index_tie.proofs.Taking.{all_fits, maps_plain, takes_done, Stays, stays_each, stays_ticks}
 
 -- ---- what the reports told
 
@@ -139,7 +139,7 @@ module _ (part : ℕ) (texts : Texts) (n : Net) where
         ready = h.ready;
       }
 
-module _ (part : ℕ) (texts : Texts) (asked : Questions) (named : ℕ → Type 0) (desk : Desk) where
+module _ (part : ℕ) (texts : Texts) (asked : Questions) (brought : Brought) (desk : Desk) where
   -- a checkpoint of the slot that is being written is of an epoch at which it was managed
   abbrev pub Busy : Net → Type 0
   Busy n = (w : WorkState) → desk.writer.work ≡ Some w → w.slot ≡ part → n.slots w.epoch ≡ None → ⊥
@@ -250,10 +250,10 @@ module _ (part : ℕ) (texts : Texts) (asked : Questions) (named : ℕ → Type 
           Activates epoch k.news k.groups k.clients k.inputs given hands.index beliefs applied none (subst (λ x. 0 < x) (sym over.of_epoch) k.known.some)
           (subst (λ x. x ≤ n.epoch) (sym over.of_epoch) k.known.begun) contains has
 
-      handed : Busy n → Event part texts asked named desk n (phase.Taking t) (managed slot) []
-      handed busy =
-          sees_slot part texts asked named n (phase.Taking t) (managed slot) epoch slot [] (λ m. PhaseAgrees part texts m desk (managed slot))
-          starts here (λ d at. here ∙ at) (let h = here in omega arith) tt
+      handed : brought.ends → Busy n → Event part texts asked brought desk n (phase.Taking t) (managed slot) []
+      handed may busy =
+          sees_slot part texts asked brought n (phase.Taking t) (managed slot) epoch slot [] (λ m. PhaseAgrees part texts m desk (managed slot))
+          starts here (λ d at. here ∙ at) (λ _. may) refl (let h = here in omega arith) tt
           (record {
             there = put_here n.slots epoch (Some slot);
             nine = nine later.news.horizon later.reports;
@@ -266,52 +266,79 @@ module _ (part : ℕ) (texts : Texts) (asked : Questions) (named : ℕ → Type 
   -- ---- any input
 
   abbrev pub AskEvent : Net → SlotPhase → Done → Type 0
-  AskEvent n p d = Event part texts asked named desk n p d.state.phase d.outs
+  AskEvent n p d = Event part texts asked brought desk n p d.state.phase d.outs
 
   -- nothing happens in the small world
-  pub event_staying : (n : Net) (p : SlotPhase) (d : Done) → Stays part texts asked desk n p d → AllDone part texts asked n d.outs → AskEvent n p d
-  event_staying n p d t done =
-      sees_quiet part texts asked named n p d.state.phase d.outs (λ m. PhaseAgrees part texts m desk d.state.phase) (λ e h. inl (t.held e h))
+  pub event_staying : (n : Net) (p : SlotPhase) (d : Done) → Stays part texts asked desk n p d
+      → (brought.ends → (e : ℕ) → ManagedAt p e → ManagedAt d.state.phase e) → AllDone part texts asked n d.outs → AskEvent n p d
+  event_staying n p d t managed done =
+      sees_quiet part texts asked brought n p d.state.phase d.outs (λ m. PhaseAgrees part texts m desk d.state.phase) (λ e h. inl (t.held e h))
+      managed
       (let e = t.epoch in omega arith) done t.agrees
 
   is_handed : (n : Net) (k : ℕ) (t : Taking) (q : Numbers) (given : Input) (agrees : TakingAgrees part texts n t.epoch t.take)
       (owes : Owes part texts n t.epoch t.take given) (filed : AreTexts texts n.filed)
-      (hands : Hands (transition t.take given).state (transition t.take given).outs) (busy : Busy n)
+      (hands : Hands (transition t.take given).state (transition t.take given).outs) (may : brought.ends) (busy : Busy n)
       → AskEvent n (phase.Taking t)
       (says_each k (asker (phase.Taking (record t { take = (transition t.take given).state })) q) (active (transition t.take given).state hands.index ∷ []))
   unfolding says_each says
-  is_handed n k t q given agrees owes filed hands busy = handed n t given agrees owes filed hands busy
+  is_handed n k t q given agrees owes filed hands may busy = handed n t given agrees owes filed hands may busy
 
-  pub slot_hears : (n : Net) (k : ℕ) (p : SlotPhase) (q : Numbers) (given : Input) → PhaseAgrees part texts n desk p → Busy n → AreTexts texts n.filed
+  pub slot_hears : brought.ends → (n : Net) (k : ℕ) (p : SlotPhase) (q : Numbers) (given : Input) → PhaseAgrees part texts n desk p → Busy n
+      → AreTexts texts n.filed
       → OwesAt part texts n p given → AskEvent n p (takes (asker p q) k given)
-  unfolding takes heard
-  slot_hears n k (phase.Away epoch) q given agrees busy filed owes = event_staying n (phase.Away epoch) _
-      (stays_each part texts asked desk n k (asker (phase.Away epoch) q) [] tt agrees) (takes_done part texts asked n k (asker (phase.Away epoch) q) given)
-  slot_hears n k (phase.Active a) q given agrees busy filed owes = event_staying n (phase.Active a) _
-      (stays_each part texts asked desk n k (asker (phase.Active a) q) [] tt agrees) (takes_done part texts asked n k (asker (phase.Active a) q) given)
-  slot_hears n k (phase.Broken epoch seg) q given agrees busy filed owes = event_staying n (phase.Broken epoch seg) _
-      (stays_each part texts asked desk n k (asker (phase.Broken epoch seg) q) [] tt agrees)
+  unfolding takes heard says_each
+  slot_hears may n k (phase.Away epoch) q given agrees busy filed owes = event_staying n (phase.Away epoch) _
+      (stays_each part texts asked desk n k (asker (phase.Away epoch) q) [] tt agrees) (λ _ e h. h)
+      (takes_done part texts asked n k (asker (phase.Away epoch) q) given)
+  slot_hears may n k (phase.Active a) q given agrees busy filed owes = event_staying n (phase.Active a) _
+      (stays_each part texts asked desk n k (asker (phase.Active a) q) [] tt agrees) (λ _ e h. h)
+      (takes_done part texts asked n k (asker (phase.Active a) q) given)
+  slot_hears may n k (phase.Broken epoch seg) q given agrees busy filed owes = event_staying n (phase.Broken epoch seg) _
+      (stays_each part texts asked desk n k (asker (phase.Broken epoch seg) q) [] tt agrees) (λ _ e h. h)
       (takes_done part texts asked n k (asker (phase.Broken epoch seg) q) given)
-  slot_hears n k (phase.Taking t) q given agrees busy filed owes =
+  slot_hears may n k (phase.Taking t) q given agrees busy filed owes =
       let u : Taking = record t { take = (transition t.take given).state } in
       ⊎_elim
       (λ plain. event_staying n (phase.Taking t) (says_each k (asker (phase.Taking u) q) (transition t.take given).outs)
       (let s = stays_each part texts asked desk n k (asker (phase.Taking u) q) (transition t.take given).outs plain
-      (taken_on part texts n t.epoch t.take given agrees owes) in record { agrees = s.agrees; held = s.held; epoch = s.epoch })
+      (taken_on part texts n t.epoch t.take given agrees owes) in record { agrees = s.agrees; held = s.held; epoch = s.epoch }) (λ _ e h. absurd h)
       (takes_done part texts asked n k (asker (phase.Taking t) q) given))
       (λ hands. subst (λ os. AskEvent n (phase.Taking t) (says_each k (asker (phase.Taking u) q) os)) (sym hands.is)
-      (is_handed n k t q given agrees owes filed hands busy))
+      (is_handed n k t q given agrees owes filed hands may busy))
       (took t.take given agrees.ready agrees.once).said
+
+  -- newer groups end no takeover
+  pub slot_regroups : (n : Net) (k : ℕ) (p : SlotPhase) (q : Numbers) (groups : GroupMapState) → PhaseAgrees part texts n desk p
+      → OwesAt part texts n p (input.Maps groups) → AskEvent n p (takes (asker p q) k (input.Maps groups))
+  unfolding takes heard says_each
+  slot_regroups n k (phase.Taking t) q groups agrees owes =
+      let given = input.Maps groups in
+      let u : Taking = record t { take = (transition t.take given).state } in
+      let s = stays_each part texts asked desk n k (asker (phase.Taking u) q) (transition t.take given).outs (maps_plain t.take groups)
+      (taken_on part texts n t.epoch t.take given agrees owes) in
+      event_staying n (phase.Taking t) (says_each k (asker (phase.Taking u) q) (transition t.take given).outs)
+      (record { agrees = s.agrees; held = s.held; epoch = s.epoch }) (λ _ e h. absurd h)
+      (takes_done part texts asked n k (asker (phase.Taking t) q) given)
+  slot_regroups n k (phase.Away epoch) q groups agrees owes = event_staying n (phase.Away epoch) _
+      (stays_each part texts asked desk n k (asker (phase.Away epoch) q) [] tt agrees) (λ _ e h. h)
+      (takes_done part texts asked n k (asker (phase.Away epoch) q) (input.Maps groups))
+  slot_regroups n k (phase.Active a) q groups agrees owes = event_staying n (phase.Active a) _
+      (stays_each part texts asked desk n k (asker (phase.Active a) q) [] tt agrees) (λ _ e h. h)
+      (takes_done part texts asked n k (asker (phase.Active a) q) (input.Maps groups))
+  slot_regroups n k (phase.Broken epoch seg) q groups agrees owes = event_staying n (phase.Broken epoch seg) _
+      (stays_each part texts asked desk n k (asker (phase.Broken epoch seg) q) [] tt agrees) (λ _ e h. h)
+      (takes_done part texts asked n k (asker (phase.Broken epoch seg) q) (input.Maps groups))
 
   -- ---- a report
 
-  pub slot_reports : (n : Net) (p : SlotPhase) (q : Numbers) (from : NodeId) (report : Report) → PhaseAgrees part texts n desk p → Busy n
+  pub slot_reports : brought.ends → (n : Net) (p : SlotPhase) (q : Numbers) (from : NodeId) (report : Report) → PhaseAgrees part texts n desk p → Busy n
       → AreTexts texts n.filed → ReportKnown part n report.epoch from report.end
       → AskEvent n p (on_report (asker p q) from report)
-  slot_reports n p q from report agrees busy filed known =
+  slot_reports may n p q from report agrees busy filed known =
       by_test (AskEvent n p) (report.epoch == epoch_of p) (takes (asker p q) report.slot (report_input from report)) (still (asker p q))
-      (λ same. slot_hears n report.slot p q (report_input from report) agrees busy filed (owes p (eqb-true report.epoch (epoch_of p) same)))
-      (λ _. event_same part texts asked named desk n p [] agrees tt)
+      (λ same. slot_hears may n report.slot p q (report_input from report) agrees busy filed (owes p (eqb-true report.epoch (epoch_of p) same)))
+      (λ _. event_same part texts asked brought desk n p [] agrees tt)
     where
       owes : (p : SlotPhase) → report.epoch ≡ epoch_of p → OwesAt part texts n p (report_input from report)
       owes (phase.Taking t) same = record {
@@ -331,16 +358,16 @@ module _ (part : ℕ) (texts : Texts) (asked : Questions) (named : ℕ → Type 
   -- the slot gets a later epoch, and nothing happens in the small world
   pub record Rose (n : Net) (p q : SlotPhase) : Type 0 where
     pub agrees : PhaseAgrees part texts n desk q
-    pub held : (e : ℕ) → HeldAt q e → HeldAt p e ⊎ named e
+    pub held : (e : ℕ) → HeldAt q e → HeldAt p e ⊎ brought.names e
     pub rises : epoch_of p ≤ epoch_of q
 
   record Begins (n : Net) (news : SlotNews) (r : SlotPhase) : Type 0 where
     agrees : PhaseAgrees part texts n desk r
-    held : (e : ℕ) → HeldAt r e → named e
+    held : (e : ℕ) → HeldAt r e → brought.names e
     epoch : epoch_of r ≡ news.epoch
 
   begins : (j : ℕ) (n : Net) (number : ℕ) (news : SlotNews) (groups : GroupMapState) (clients : ℕ) → number ≡ j → news.slot ≡ part
-      → (news.manager ≡ j → NewsKnown part n news) → (news.manager ≡ j → named news.epoch)
+      → (news.manager ≡ j → NewsKnown part n news) → (news.manager ≡ j → brought.names news.epoch)
       → Begins n news (phase_of number news groups clients)
   begins j n number news groups clients is_j of known named_ =
       by_test (Begins n news) (news.manager == number) (phase.Taking
@@ -361,7 +388,7 @@ module _ (part : ℕ) (texts : Texts) (asked : Questions) (named : ℕ → Type 
           once = λ r q is. absurd is;
           ready = λ p is. absurd (none p is);
         };
-        held = λ e h. subst named h (named_ ours);
+        held = λ e h. subst brought.names h (named_ ours);
         epoch = refl;
       })
       (λ _. record { agrees = tt; held = λ e h. absurd h; epoch = refl })
@@ -371,7 +398,7 @@ module _ (part : ℕ) (texts : Texts) (asked : Questions) (named : ℕ → Type 
 
   pub slot_hears_of : (j : ℕ) (n : Net) (h : Hearer) (news : SlotNews) (one : Asker) → h.ears.number ≡ j → news.slot ≡ part
       → PhaseAgrees part texts n desk one.phase
-      → (news.manager ≡ j → epoch_of one.phase < news.epoch → NewsKnown part n news) → (news.manager ≡ j → named news.epoch)
+      → (news.manager ≡ j → epoch_of one.phase < news.epoch → NewsKnown part n news) → (news.manager ≡ j → brought.names news.epoch)
       → Rose n one.phase (hears_of h news one).state.phase
   unfolding hears_of
   slot_hears_of j n h news one is_j of agrees known named_ =

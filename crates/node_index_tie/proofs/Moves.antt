@@ -1,5 +1,5 @@
 -- What a manager's steps are in the small world, how they compose, and that what was seen there stays seen.
-use Rattle.std.proofs.Common.{◌≡◌, ◌≤◌, ◌<◌, ℕ, List, [], ◌∷◌, ◌++◌, ◌⊎◌, inl, inr, ⊎_elim, Some, None, refl, sym, subst, ◌∙◌, arith}
+use Rattle.std.proofs.Common.{◌≡◌, ◌≤◌, ◌<◌, ℕ, List, [], ◌∷◌, ◌++◌, ◌⊎◌, inl, inr, ⊎_elim, Option, Some, None, refl, sym, subst, ◌∙◌, arith}
 use Rattle.std.specs.List.{AllByRecursion}
 use Rattle.xfs_base.specs.declared.news.SlotNews.{SlotNews}
 use Rattle.xfs_base.specs.declared.node.NodeId.{NodeId}
@@ -19,7 +19,7 @@ use Rattle.node_tie.specs.ManagerEvents.{HeldAt}
 use Rattle.token_manager.specs.SlotState.{SlotState}
 use Rattle.wire_msg.specs.declared.body.Body.{Body}
 use Rattle.wire_msg.specs.declared.body.Body.TheVariants as body
-use Rattle.node_index_tie.specs.ManagerEvents.{rest}
+use Rattle.node_index_tie.specs.ManagerEvents.{ManagedAt, rest}
 use Rattle.node_index_tie.specs.Sight.{Texts, Questions, held_in, EndKnown, ReportKnown, NewsKnown, ManagerSends, ManagerDoes}
 
 -- ---- lists
@@ -56,6 +56,17 @@ held_is (phase.Taking t) e h = h
 held_is (phase.Active a) e h = h
 held_is (phase.Away epoch) e h = absurd h
 held_is (phase.Broken epoch seg) e h = absurd h
+
+-- and so is what is managed
+managed_is : (p : SlotPhase) (e : ℕ) → ManagedAt p e → epoch_of p ≡ e
+managed_is (phase.Active a) e h = h
+managed_is (phase.Taking t) e h = absurd h
+managed_is (phase.Away epoch) e h = absurd h
+managed_is (phase.Broken epoch seg) e h = absurd h
+
+-- a slot that stays as it is is managed as before
+pub managed_as : (p q : SlotPhase) → q ≡ p → (e : ℕ) → ManagedAt p e → ManagedAt q e
+managed_as p q same e h = subst (λ x. ManagedAt x e) (sym same) h
 
 -- ---- what stays
 
@@ -111,9 +122,14 @@ pub runs_through : {part : ℕ} {holds : _} (n m o : Net) → Runs part holds n 
 runs_through n m o r Begun = r
 runs_through n m o r (On {m = x} s h) = On (runs_through n m x r s) h
 
+-- What an event brings: the epochs that it names, and whether it may end a takeover, which news of the maps don't.
+pub record Brought : Type 1 where
+  pub names : ℕ → Type 0
+  pub ends : Type 0
+
 -- no epoch is named
-abbrev pub Nothing : ℕ → Type 0
-Nothing e = ⊥
+abbrev pub nothing : Type 0 → Brought
+nothing ends = record { names = λ e. ⊥; ends = ends }
 
 module _ (part : ℕ) (texts : Texts) (asked : Questions) where
   abbrev pub DoesAt : Net → Effect → Type 0
@@ -141,47 +157,55 @@ module _ (part : ℕ) (texts : Texts) (asked : Questions) where
   -- ---- steps
 
   -- By things that happen there the small world comes to one in which this holds. The slot goes from one phase to another; only epochs that it held, and such as
-  -- are named, are touched or held after, and none that it doesn't know comes to be managed.
-  pub record Sees (named : ℕ → Type 0) (n : Net) (p q : SlotPhase) (outs : List Effect) (At : Net → Type 0) : Type 0 where
+  -- are named, are touched or held after. Where the event may end a takeover, a slot that is managed stays so; else none enters the small world,
+  -- and none that it doesn't know ever does.
+  pub record Sees (brought : Brought) (n : Net) (p q : SlotPhase) (outs : List Effect) (At : Net → Type 0) : Type 0 where
     pub next : Net
     pub runs : Runs part (held_in part texts) n next
     pub grows : Grows n next
-    pub slots : (e : ℕ) → (HeldAt p e → ⊥) → (named e → ⊥) → next.slots e ≡ n.slots e
+    pub slots : (e : ℕ) → (HeldAt p e → ⊥) → (brought.names e → ⊥) → next.slots e ≡ n.slots e
+    pub enters : (e : ℕ) (z : SlotState) → next.slots e ≡ Some z → n.slots e ≡ None → brought.ends × ManagedAt q e
+    pub stays : brought.ends → (e : ℕ) → ManagedAt p e → ManagedAt q e
     pub came : (e : ℕ) → n.slots e ≡ None → (next.slots e ≡ None) ⊎ (e ≤ epoch_of q)
-    pub held : (e : ℕ) → HeldAt q e → HeldAt p e ⊎ named e
+    pub held : (e : ℕ) → HeldAt q e → HeldAt p e ⊎ brought.names e
     pub rises : epoch_of p ≤ epoch_of q
     pub does : AllDone next outs
     pub agrees : At next
 
-  module _ (named : ℕ → Type 0) where
+  module _ (brought : Brought) where
     -- nothing happens there
-    pub sees_quiet : (n : Net) (p q : SlotPhase) (outs : List Effect) (At : Net → Type 0) → ((e : ℕ) → HeldAt q e → HeldAt p e ⊎ named e)
-        → epoch_of p ≤ epoch_of q → AllDone n outs → At n → Sees named n p q outs At
-    sees_quiet n p q outs At held rises done at = record {
+    pub sees_quiet : (n : Net) (p q : SlotPhase) (outs : List Effect) (At : Net → Type 0) → ((e : ℕ) → HeldAt q e → HeldAt p e ⊎ brought.names e)
+        → (brought.ends → (e : ℕ) → ManagedAt p e → ManagedAt q e) → epoch_of p ≤ epoch_of q → AllDone n outs → At n → Sees brought n p q outs At
+    sees_quiet n p q outs At held stays rises done at = record {
       next = n;
       runs = Begun;
       grows = grows_itself n;
       slots = λ e other _. refl;
       came = λ e none. inl none;
+      enters = λ e z some none. absurd (some_none z (sym some ∙ none));
+      stays = stays;
       held = held;
       rises = rises;
       does = done;
       agrees = at;
     }
 
-    pub sees_same : (n : Net) (p : SlotPhase) (outs : List Effect) (At : Net → Type 0) → AllDone n outs → At n → Sees named n p p outs At
-    sees_same n p outs At done at = sees_quiet n p p outs At (λ e h. inl h) (omega arith) done at
+    pub sees_same : (n : Net) (p : SlotPhase) (outs : List Effect) (At : Net → Type 0) → AllDone n outs → At n → Sees brought n p p outs At
+    sees_same n p outs At done at = sees_quiet n p p outs At (λ e h. inl h) (λ _ e h. h) (omega arith) done at
 
     -- one thing happens there, which changes packets alone
     pub sees_sent : (n : Net) (p q : SlotPhase) (new : List Packet) (outs : List Effect) (At : Net → Type 0)
         → Happens part (held_in part texts) n (record n { sent = new ++ n.sent }) → ((d : ℕ) → HeldAt q d → HeldAt p d)
-        → epoch_of p ≤ epoch_of q → AllDone (record n { sent = new ++ n.sent }) outs → At (record n { sent = new ++ n.sent }) → Sees named n p q outs At
-    sees_sent n p q new outs At happens held rises done at = record {
+        → ((d : ℕ) → ManagedAt p d → ManagedAt q d)
+        → epoch_of p ≤ epoch_of q → AllDone (record n { sent = new ++ n.sent }) outs → At (record n { sent = new ++ n.sent }) → Sees brought n p q outs At
+    sees_sent n p q new outs At happens held stays rises done at = record {
       next = record n { sent = new ++ n.sent };
       runs = On Begun happens;
       grows = grows_sent n new;
       slots = λ e other _. refl;
       came = λ e none. inl none;
+      enters = λ e z some none. absurd (some_none z (sym some ∙ none));
+      stays = λ _ e h. stays e h;
       held = λ e h. inl (held e h);
       rises = rises;
       does = done;
@@ -191,22 +215,33 @@ module _ (part : ℕ) (texts : Texts) (asked : Questions) where
     -- one thing happens there, which changes a slot that is held
     pub sees_slot : (n : Net) (p q : SlotPhase) (e : ℕ) (s : SlotState) (outs : List Effect) (At : Net → Type 0)
         → Happens part (held_in part texts) n (with_slot n e s) → HeldAt p e → ((d : ℕ) → HeldAt q d → HeldAt p d)
-        → epoch_of p ≤ epoch_of q → AllDone (with_slot n e s) outs → At (with_slot n e s) → Sees named n p q outs At
-    sees_slot n p q e s outs At happens here held rises done at = record {
+        → (n.slots e ≡ None → brought.ends) → ManagedAt q e
+        → epoch_of p ≤ epoch_of q → AllDone (with_slot n e s) outs → At (with_slot n e s) → Sees brought n p q outs At
+    sees_slot n p q e s outs At happens here held ends managed rises done at = record {
       next = with_slot n e s;
       runs = On Begun happens;
       grows = grows_slot n e s;
       slots = λ d other _. put_there n.slots e (Some s) d (λ same. other (subst (HeldAt p) (sym same) here));
       came = put_each (λ d o. n.slots d ≡ None → (o ≡ None) ⊎ (d ≤ epoch_of q)) n.slots e (Some s) (λ none. inr (let at = held_is p e here in omega arith))
           (λ d other none. inl none);
+      enters = λ d z. put_each (λ x o. o ≡ Some z → n.slots x ≡ None → brought.ends × ManagedAt q x) n.slots e (Some s)
+          (λ _ none. (ends none, managed)) (λ x other some none. absurd (some_none z (sym some ∙ none))) d;
+      stays = λ _ d h. subst (ManagedAt q) (sym (held_is p e here) ∙ managed_is p d h) managed;
       held = λ d h. inl (held d h);
       rises = rises;
       does = done;
       agrees = at;
     }
 
-    pub sees_then : (n : Net) (p q r : SlotPhase) (outs more : List Effect) (At Bt : Net → Type 0) → Sees named n p q outs At
-        → ((m : Net) → Grows n m → At m → Sees named m q r more Bt) → Sees named n p r (outs ++ more) Bt
+    one_enters : {X : Type 0} (m : Net) (e : ℕ) → (m.slots e ≡ None → X) → ((z : SlotState) → m.slots e ≡ Some z → X) → X
+    one_enters {X = X} m e none some = by (m.slots e) refl
+      where
+        by : (o : Option SlotState) → m.slots e ≡ o → X
+        by None is = none is
+        by (Some z) is = some z is
+
+    pub sees_then : (n : Net) (p q r : SlotPhase) (outs more : List Effect) (At Bt : Net → Type 0) → Sees brought n p q outs At
+        → ((m : Net) → Grows n m → At m → Sees brought m q r more Bt) → Sees brought n p r (outs ++ more) Bt
     sees_then n p q r outs more At Bt h f =
         let k = f h.next h.grows h.agrees in
         record {
@@ -215,20 +250,25 @@ module _ (part : ℕ) (texts : Texts) (asked : Questions) where
           grows = grows_then n h.next k.next h.grows k.grows;
           slots = λ e other not_named. k.slots e (λ at. ⊎_elim other not_named (h.held e at)) not_named ∙ h.slots e other not_named;
           came = λ e none. ⊎_elim (λ free. k.came e free) (λ low. inr (let b = k.rises in omega arith)) (h.came e none);
+          enters = λ e z some none. one_enters h.next e (λ still. k.enters e z some still)
+              (λ x is. let first = h.enters e x is none in (first.0, k.stays first.0 e first.1));
+          stays = λ ends e at. k.stays ends e (h.stays ends e at);
           held = λ e at. ⊎_elim (λ x. h.held e x) (λ x. inr x) (k.held e at);
           rises = let a = h.rises in let b = k.rises in omega arith;
           does = all_both (DoesAt k.next) outs more (done_on h.next k.next k.grows outs h.does) k.does;
           agrees = k.agrees;
         }
 
-    pub sees_as : (n : Net) (p q : SlotPhase) (outs : List Effect) (At Bt : Net → Type 0) → ((m : Net) → Grows n m → At m → Bt m) → Sees named n p q outs At
-        → Sees named n p q outs Bt
+    pub sees_as : (n : Net) (p q : SlotPhase) (outs : List Effect) (At Bt : Net → Type 0) → ((m : Net) → Grows n m → At m → Bt m) → Sees brought n p q outs At
+        → Sees brought n p q outs Bt
     sees_as n p q outs At Bt f h = record {
       next = h.next;
       runs = h.runs;
       grows = h.grows;
       slots = h.slots;
       came = h.came;
+      enters = h.enters;
+      stays = h.stays;
       held = h.held;
       rises = h.rises;
       does = h.does;
@@ -236,13 +276,16 @@ module _ (part : ℕ) (texts : Texts) (asked : Questions) where
     }
 
     -- where nothing is named, the more so
-    pub sees_named : (n : Net) (p q : SlotPhase) (outs : List Effect) (At : Net → Type 0) → Sees Nothing n p q outs At → Sees named n p q outs At
+    pub sees_named : (n : Net) (p q : SlotPhase) (outs : List Effect) (At : Net → Type 0) → Sees (nothing brought.ends) n p q outs At
+        → Sees brought n p q outs At
     sees_named n p q outs At h = record {
       next = h.next;
       runs = h.runs;
       grows = h.grows;
       slots = λ e other _. h.slots e other (λ no. no);
       came = h.came;
+      enters = h.enters;
+      stays = h.stays;
       held = λ e at. ⊎_elim (λ x. inl x) (λ no. absurd no) (h.held e at);
       rises = h.rises;
       does = h.does;

@@ -35,12 +35,12 @@ use Rattle.token_manager.specs.Index.{Indexed, pages_of, cleaned_index}
 use Rattle.token_manager.specs.Recalls.{applied_of}
 use Rattle.token_manager.specs.SlotState.{SlotState}
 use Rattle.token_manager.specs.Transition as slot
-use Rattle.node_index_tie.specs.ManagerEvents.{ActiveAgrees, PhaseAgrees, ServingAgrees}
+use Rattle.node_index_tie.specs.ManagerEvents.{ManagedAt, ActiveAgrees, PhaseAgrees, ServingAgrees}
 use Rattle.node_index_tie.specs.Pages.{checkpointed, desk_of, IsWork, Paged, WorkSeen, WriterAgrees}
 use Rattle.node_index_tie.specs.Pages.Paged.{Covered, Written, Ended}
 use Rattle.node_index_tie.specs.Sight.{Texts, Questions, held_in}
 use Rattle.node_index_tie.proofs.Agreeing.{writer_on, done_seen}
-use Rattle.node_index_tie.proofs.Moves.{Sees, Grows, some_none, grows_then, grows_sent, grows_slot, put_here, put_there, sees_quiet, sees_slot, sees_then}
+use Rattle.node_index_tie.proofs.Moves.{Brought, Sees, Grows, managed_as, some_none, grows_then, grows_sent, grows_slot, put_here, put_there, sees_quiet, sees_slot, sees_then}
 use Rattle.node_index_tie.proofs.Tables.{by_part}
 use Rattle.index_tie.proofs.Tables.{put_each}
 use Rattle.node_index_tie.proofs.Turning.{some_is, changed_here, changed_there, changed_length}
@@ -121,7 +121,7 @@ cleaned_pages : (i : Indexed) → pages_of (cleaned_index i) ≡ cleaned (pages_
 unfolding cleaned
 cleaned_pages i = refl
 
-module _ (part : ℕ) (texts : Texts) (questions : Questions) (exists : part < 8) (named : ℕ → Type 0) where
+module _ (part : ℕ) (texts : Texts) (questions : Questions) (exists : part < 8) (brought : Brought) where
   -- nothing is given out
   record Clear (n : Net) (v : Serving) : Type 0 where
     agrees : ServingAgrees part texts n v
@@ -129,16 +129,16 @@ module _ (part : ℕ) (texts : Texts) (questions : Questions) (exists : part < 8
 
   -- the writer goes on with a checkpoint that was begun
   begins_on : (n : Net) (s v : Serving) (w : WorkState) (p : SlotPhase) → v.writer.work ≡ Some w → v.log.flight ≡ None → p ≡ phase_at s.slots part
-      → Sees part texts questions named n p (phase_at v.slots part) [] (λ m. Clear m v)
-      → Sees part texts questions named n p
+      → Sees part texts questions brought n p (phase_at v.slots part) [] (λ m. Clear m v)
+      → Sees part texts questions brought n p
       (phase_at (node.says_each (record v { writer = (go_on v.writer w).state }) (go_on v.writer w).outs).state.slots part)
       (node.says_each (record v { writer = (go_on v.writer w).state }) (go_on v.writer w).outs).outs
       (λ m. ServingAgrees part texts m (node.says_each (record v { writer = (go_on v.writer w).state }) (go_on v.writer w).outs).state)
   begins_on n s v w p there landed at h =
       let d = node.says_each (record v { writer = (go_on v.writer w).state }) (go_on v.writer w).outs in
-      sees_then part texts questions named n p (phase_at v.slots part) (phase_at d.state.slots part) [] d.outs (λ m. Clear m v)
+      sees_then part texts questions brought n p (phase_at v.slots part) (phase_at d.state.slots part) [] d.outs (λ m. Clear m v)
       (λ m. ServingAgrees part texts m d.state) h
-      (λ m g k. goes_on part texts questions exists named m v w there k.agrees k.none landed)
+      (λ m g k. goes_on part texts questions exists brought m v w there k.agrees k.none landed)
 
   module _ (n : Net) (s : Serving) (open_item : s.lasting.items.unanswered ≡ None → ⊥) (no_work : s.writer.work ≡ None) (no_asked : s.writer.asked ≡ None)
       (agrees : ServingAgrees part texts n s) where
@@ -198,17 +198,21 @@ module _ (part : ℕ) (texts : Texts) (questions : Questions) (exists : part < 8
       held_before : (e : ℕ) → HeldAt (phase_at cleaned_here.slots part) e → HeldAt now e
       held_before e h = subst (λ p. HeldAt p e) (sym is_now) (subst (λ p. HeldAt p e) cleaned_active h)
 
+      managed_now : (e : ℕ) → epoch ≡ e → ManagedAt (phase_at cleaned_here.slots part) e
+      managed_now e h = subst (λ p. ManagedAt p e) (sym cleaned_active) h
+
       rises_not : epoch_of now ≤ epoch_of (phase_at cleaned_here.slots part)
       rises_not = let x = ap epoch_of is_now in let y = ap epoch_of cleaned_active in omega arith
 
       -- the writer begins no more
-      ends : is_idle s.writer ≡ false → Serves part texts questions exists named n s (still cleaned_here)
+      ends : is_idle s.writer ≡ false → Serves part texts questions exists brought n s (still cleaned_here)
       ends busy =
           let t = slot.cleaned a.slot in
           let m : Net = with_slot n epoch t in
           let g = grows_slot n epoch t in
-          sees_slot part texts questions named n now (phase_at cleaned_here.slots part) epoch t [] (λ m. ServingAgrees part texts m cleaned_here)
-          (Cleans epoch a.slot k.there) (subst (λ p. HeldAt p epoch) (sym is_now) refl) held_before rises_not tt
+          sees_slot part texts questions brought n now (phase_at cleaned_here.slots part) epoch t [] (λ m. ServingAgrees part texts m cleaned_here)
+          (Cleans epoch a.slot k.there) (subst (λ p. HeldAt p epoch) (sym is_now) refl) held_before (λ none. absurd (some_none a.slot (sym k.there ∙ none)))
+          (managed_now epoch refl) rises_not tt
           (record {
             eight = cleaned_eight;
             given = agrees.given;
@@ -275,7 +279,7 @@ module _ (part : ℕ) (texts : Texts) (questions : Questions) (exists : part < 8
           none = refl;
         }
 
-        begins_covered : Serves part texts questions exists named n s
+        begins_covered : Serves part texts questions exists brought n s
             (node.said_by cleaned_here (go_on (record s.writer { number = s.writer.number + 1 }) asked_work))
         begins_covered = begins_on n s virtual asked_work now refl landed refl (record {
           next = later;
@@ -285,34 +289,39 @@ module _ (part : ℕ) (texts : Texts) (questions : Questions) (exists : part < 8
           slots = λ d other _. put_there n.slots epoch (Some (slot.cleaned a.slot)) d (λ same. other (subst (λ p. HeldAt p d) (sym is_now) (sym same)));
           came = λ d none. inl (put_each (λ x o. n.slots x ≡ None → o ≡ None) n.slots epoch (Some (slot.cleaned a.slot))
               (λ free. absurd (some_none a.slot (sym k.there ∙ free))) (λ x other free. free) d none);
+          enters = λ d z. put_each (λ x o. o ≡ Some z → n.slots x ≡ None → brought.ends × ManagedAt (phase_at cleaned_here.slots part) x) n.slots epoch
+              (Some (slot.cleaned a.slot))
+              (λ _ none. absurd (some_none a.slot (sym k.there ∙ none))) (λ x other some none. absurd (some_none z (sym some ∙ none))) d;
+          stays = λ _ e h. managed_now e (subst (λ p. ManagedAt p e) is_now h);
           held = λ e h. inl (held_before e h);
           rises = rises_not;
           does = tt;
           agrees = clear;
         })
 
-      begins_active : Serves part texts questions exists named n s (node.writer_takes cleaned_here (begin_with part a))
+      begins_active : Serves part texts questions exists brought n s (node.writer_takes cleaned_here (begin_with part a))
       unfolding node.writer_takes node.says_each
       begins_active =
-          by_test (λ (r : Stepped WriterState Out). Serves part texts questions exists named n s (node.said_by cleaned_here r)) (is_idle s.writer)
+          by_test (λ (r : Stepped WriterState Out). Serves part texts questions exists brought n s (node.said_by cleaned_here r)) (is_idle s.writer)
           (go_on (record s.writer { number = s.writer.number + 1 }) asked_work) (still s.writer)
           (λ idle. by idle k.pages) (λ busy. refused busy)
         where
           by : is_idle s.writer ≡ true → Paged part texts n (desk_of s agrees.given) epoch (pages_of a.slot.index) a.parts
-              → Serves part texts questions exists named n s (node.said_by cleaned_here (go_on (record s.writer { number = s.writer.number + 1 }) asked_work))
+              → Serves part texts questions exists brought n s (node.said_by cleaned_here (go_on (record s.writer { number = s.writer.number + 1 }) asked_work))
           by idle (Covered events may is never) = begins_covered events may is
           by idle (Written events w rows it of at work_ fits is) = absurd (some_none w (sym it ∙ no_work))
           by idle (Ended number none) = absurd (not_spent s.writer no_work no_asked idle number)
 
-          refused : is_idle s.writer ≡ false → Serves part texts questions exists named n s (node.said_by cleaned_here (still s.writer))
+          refused : is_idle s.writer ≡ false → Serves part texts questions exists brought n s (node.said_by cleaned_here (still s.writer))
           refused busy = ends busy
 
     -- a slot that isn't managed
-    begins_nothing : (p : SlotPhase) → now ≡ p → cleaned_phase p ≡ p → Serves part texts questions exists named n s (still cleaned_here)
+    begins_nothing : (p : SlotPhase) → now ≡ p → cleaned_phase p ≡ p → Serves part texts questions exists brought n s (still cleaned_here)
     begins_nothing p is same =
         let at : phase_at cleaned_here.slots part ≡ now = cleaned_is p is ∙ same ∙ sym is in
-        sees_quiet part texts questions named n now (phase_at cleaned_here.slots part) [] (λ m. ServingAgrees part texts m cleaned_here)
-        (λ e h. inl (subst (λ q. HeldAt q e) at h)) (let e = ap epoch_of at in omega arith) tt
+        sees_quiet part texts questions brought n now (phase_at cleaned_here.slots part) [] (λ m. ServingAgrees part texts m cleaned_here)
+        (λ e h. inl (subst (λ q. HeldAt q e) at h)) (λ _ e h. managed_as now (phase_at cleaned_here.slots part) at e h)
+        (let e = ap epoch_of at in omega arith) tt
         (record {
           eight = cleaned_eight;
           given = agrees.given;
@@ -322,7 +331,7 @@ module _ (part : ℕ) (texts : Texts) (questions : Questions) (exists : part < 8
           done = agrees.done;
         })
 
-    begins_here : (p : SlotPhase) → now ≡ p → Serves part texts questions exists named n s (node.writes_slot cleaned_here (begin_in part p))
+    begins_here : (p : SlotPhase) → now ≡ p → Serves part texts questions exists brought n s (node.writes_slot cleaned_here (begin_in part p))
     unfolding cleaned_phase
     begins_here (phase.Active a) is = begins_active a is (subst (PhaseAgrees part texts n (desk_of s agrees.given)) is agrees.here)
     begins_here (phase.Away epoch_) is = begins_nothing (phase.Away epoch_) is refl
@@ -343,10 +352,11 @@ module _ (part : ℕ) (texts : Texts) (questions : Questions) (exists : part < 8
       unfolding cleaned_at
       eight_there = changed_length s.slots k cleaned_phase ∙ agrees.eight
 
-      stays_there : Serves part texts questions exists named n s (still cleaned_there)
+      stays_there : Serves part texts questions exists brought n s (still cleaned_there)
       stays_there =
-          sees_quiet part texts questions named n now (phase_at cleaned_there.slots part) [] (λ m. ServingAgrees part texts m cleaned_there)
-          (λ e h. inl (subst (λ q. HeldAt q e) same_there h)) (let e = ap epoch_of same_there in omega arith) tt
+          sees_quiet part texts questions brought n now (phase_at cleaned_there.slots part) [] (λ m. ServingAgrees part texts m cleaned_there)
+          (λ e h. inl (subst (λ q. HeldAt q e) same_there h)) (λ _ e h. managed_as now (phase_at cleaned_there.slots part) same_there e h)
+          (let e = ap epoch_of same_there in omega arith) tt
           (record {
             eight = eight_there;
             given = agrees.given;
@@ -379,10 +389,11 @@ module _ (part : ℕ) (texts : Texts) (questions : Questions) (exists : part < 8
         phase_there (phase.Taking t) h = h
         phase_there (phase.Broken e seg) h = tt
 
-        begins_other : Serves part texts questions exists named n s (node.said_by cleaned_there (go_on (record s.writer { number = s.writer.number + 1 }) w))
+        begins_other : Serves part texts questions exists brought n s (node.said_by cleaned_there (go_on (record s.writer { number = s.writer.number + 1 }) w))
         begins_other = begins_on n s virtual_there w now refl landed refl
-            (sees_quiet part texts questions named n now (phase_at virtual_there.slots part) [] (λ m. Clear m virtual_there)
-            (λ e h. inl (subst (λ q. HeldAt q e) same_there h)) (let e = ap epoch_of same_there in omega arith) tt (record {
+            (sees_quiet part texts questions brought n now (phase_at virtual_there.slots part) [] (λ m. Clear m virtual_there)
+            (λ e h. inl (subst (λ q. HeldAt q e) same_there h)) (λ _ e h. managed_as now (phase_at virtual_there.slots part) same_there e h)
+            (let e = ap epoch_of same_there in omega arith) tt (record {
               agrees = record {
                 eight = eight_there;
                 given = [];
@@ -394,13 +405,13 @@ module _ (part : ℕ) (texts : Texts) (questions : Questions) (exists : part < 8
               none = refl;
             }))
 
-      begins_there : (p : SlotPhase) → Serves part texts questions exists named n s (node.writes_slot cleaned_there (begin_in k p))
+      begins_there : (p : SlotPhase) → Serves part texts questions exists brought n s (node.writes_slot cleaned_there (begin_in k p))
       unfolding node.writer_takes node.says_each
       begins_there (phase.Away e) = stays_there
       begins_there (phase.Taking t) = stays_there
       begins_there (phase.Broken e seg) = stays_there
       begins_there (phase.Active a) =
-          by_test (λ (r : Stepped WriterState Out). Serves part texts questions exists named n s (node.said_by cleaned_there r)) (is_idle s.writer)
+          by_test (λ (r : Stepped WriterState Out). Serves part texts questions exists brought n s (node.said_by cleaned_there r)) (is_idle s.writer)
           (go_on (record s.writer { number = s.writer.number + 1 })
           (record {
             slot = k;
@@ -419,17 +430,17 @@ module _ (part : ℕ) (texts : Texts) (questions : Questions) (exists : part < 8
           }) refl idle)
           (λ _. refused)
         where
-          refused : Serves part texts questions exists named n s (node.said_by cleaned_there (still s.writer))
+          refused : Serves part texts questions exists brought n s (node.said_by cleaned_there (still s.writer))
           refused = stays_there
 
     -- ---- any slot
 
-    pub begins_serves : (k : ℕ) → Serves part texts questions exists named n s (node.begins_slot s k)
+    pub begins_serves : (k : ℕ) → Serves part texts questions exists brought n s (node.begins_slot s k)
     unfolding node.begins_slot
     begins_serves k =
-        subst (λ o. Serves part texts questions exists named n s (node.writes_slot (record s { slots = cleaned_at s.slots k }) o)) (sym (begin_is s.slots k))
-        (by_part k part (Serves part texts questions exists named n s
+        subst (λ o. Serves part texts questions exists brought n s (node.writes_slot (record s { slots = cleaned_at s.slots k }) o)) (sym (begin_is s.slots k))
+        (by_part k part (Serves part texts questions exists brought n s
         (node.writes_slot (record s { slots = cleaned_at s.slots k }) (begin_in k (phase_at s.slots k))))
-        (λ same. subst (λ x. Serves part texts questions exists named n s
+        (λ same. subst (λ x. Serves part texts questions exists brought n s
         (node.writes_slot (record s { slots = cleaned_at s.slots x }) (begin_in x (phase_at s.slots x)))) (sym same) (begins_here now refl))
         (λ other. begins_there k other (phase_at s.slots k)))

@@ -25,17 +25,17 @@ use Rattle.wire_msg.specs.declared.registry.CkptDone.{CkptDone}
 use Rattle.node_index_tie.specs.ManagerEvents.{ServingAgrees}
 use Rattle.node_index_tie.specs.Pages.{desk_of, DoneIn, DoneSeen}
 use Rattle.node_index_tie.specs.Sight.{Texts, Questions}
-use Rattle.node_index_tie.proofs.Moves.{AllDone, some_none, sees_quiet}
+use Rattle.node_index_tie.proofs.Moves.{Brought, AllDone, some_none, sees_quiet}
 use Rattle.node_index_tie.proofs.Planning.{begins_serves}
 use Rattle.node_index_tie.proofs.Turning.{Turn, phase_turn}
 use Rattle.node_index_tie.proofs.Writing.{Serves, serves_same}
 
-module _ (part : ℕ) (texts : Texts) (questions : Questions) (exists : part < 8) (named : ℕ → Type 0) where
+module _ (part : ℕ) (texts : Texts) (questions : Questions) (exists : part < 8) (brought : Brought) where
   abbrev pub Of : Net → Serving → Done → Type 0
-  Of n s d = Serves part texts questions exists named n s d
+  Of n s d = Serves part texts questions exists brought n s d
 
   pub still_of : (n : Net) (s : Serving) → ServingAgrees part texts n s → Of n s (still s)
-  still_of n s agrees = serves_same part texts questions exists named n s [] agrees tt
+  still_of n s agrees = serves_same part texts questions exists brought n s [] agrees tt
 
   -- ---- one slot after the other
 
@@ -50,13 +50,14 @@ module _ (part : ℕ) (texts : Texts) (questions : Questions) (exists : part < 8
       (agrees : ServingAgrees part texts n s) where
     from_serves : (job : Checkpointing) (o : Option ℕ) → DoneIn part n job.done → Of n s (node.next_from s job o)
     from_serves job None done =
-        sees_quiet part texts questions named n (phase_at s.slots part) (phase_at s.slots part)
+        sees_quiet part texts questions brought n (phase_at s.slots part) (phase_at s.slots part)
         (answers_unanswered s.lasting.items.unanswered (answer.Count job.count)) (λ m. ServingAgrees part texts m (node.no_more s job).state) (λ e h. inl h)
+        (λ _ e h. h)
         (omega arith)
         (answers_done n s.lasting.items.unanswered (answer.Count job.count))
         (record { eight = agrees.eight; given = agrees.given; here = agrees.here; writer = agrees.writer; closed = λ _. (no_work, no_asked); done = tt })
     from_serves job (Some k) done =
-        begins_serves part texts questions exists named n (next_job s job k) open_item no_work no_asked
+        begins_serves part texts questions exists brought n (next_job s job k) open_item no_work no_asked
         (record { eight = agrees.eight; given = agrees.given; here = agrees.here; writer = agrees.writer; closed = agrees.closed; done = done }) k
 
     job_serves : (o : Option Checkpointing) → DoneSeen part n o → Of n s (node.next_for s o)
@@ -86,7 +87,7 @@ module _ (part : ℕ) (texts : Texts) (questions : Questions) (exists : part < 8
             closed = λ none. absurd (some_none number none);
             done = tt;
           })
-      by_item (Some x) is = serves_same part texts questions exists named n s (Answers number answer.Busy ∷ []) agrees (tt, tt)
+      by_item (Some x) is = serves_same part texts questions exists brought n s (Answers number answer.Busy ∷ []) agrees (tt, tt)
 
   -- ---- the registry answers a checkpoint
 
@@ -160,7 +161,7 @@ module _ (part : ℕ) (texts : Texts) (questions : Questions) (exists : part < 8
 
   pub tells_serves : (n : Net) (s : Serving) → ServingAgrees part texts n s → Of n s (node.tells_again s)
   unfolding node.tells_again
-  tells_serves n s agrees = serves_same part texts questions exists named n s (node.told_again s.checkpoint) agrees (by s.checkpoint agrees.done)
+  tells_serves n s agrees = serves_same part texts questions exists brought n s (node.told_again s.checkpoint) agrees (by s.checkpoint agrees.done)
     where
       by_done : (o : Option CkptDone) → DoneIn part n o → AllDone part texts questions n (node.done_again o)
       by_done None seen = tt

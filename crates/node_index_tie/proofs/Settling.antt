@@ -28,25 +28,25 @@ use Rattle.node_index_tie.specs.ManagerEvents.{ServingAgrees}
 use Rattle.node_index_tie.specs.Pages.{Desk, desk_of, IsWork, FlightIsText}
 use Rattle.node_index_tie.specs.Sight.{Texts, Questions, held_in}
 use Rattle.node_index_tie.proofs.Flights.{IsSend, GoesOn, Lands, IsNoWrite, log_went}
-use Rattle.node_index_tie.proofs.Moves.{some_none, sees_then}
+use Rattle.node_index_tie.proofs.Moves.{Brought, some_none, sees_then}
 use Rattle.node_index_tie.proofs.Turning.{some_is, Forth, Turn, seen_turn, phase_turn}
 use Rattle.node_index_tie.proofs.Writing.{items_rows, Serves, serves_same, serves_one, serves_then, goes_on}
 
-module _ (part : ℕ) (texts : Texts) (questions : Questions) (exists : part < 8) (named : ℕ → Type 0) where
+module _ (part : ℕ) (texts : Texts) (questions : Questions) (exists : part < 8) (brought : Brought) where
   -- ---- fragments are sent
 
   sends_each : (n : Net) (s : Serving) (outs : List LogOut) → AllByRecursion IsSend outs → ServingAgrees part texts n s
-      → Serves part texts questions exists named n s (steps node.log_says s outs)
+      → Serves part texts questions exists brought n s (steps node.log_says s outs)
   unfolding node.log_says
-  sends_each n s [] all agrees = serves_same part texts questions exists named n s [] agrees tt
+  sends_each n s [] all agrees = serves_same part texts questions exists brought n s [] agrees tt
   sends_each n s (log_out.Send fragment member ∷ os) all agrees =
-      serves_then part texts questions exists named n s (node.log_says s (log_out.Send fragment member)) (steps node.log_says s os)
-      (serves_same part texts questions exists named n s _ agrees (tt, tt)) (λ m g k. sends_each m s os all.1 k)
+      serves_then part texts questions exists brought n s (node.log_says s (log_out.Send fragment member)) (steps node.log_says s os)
+      (serves_same part texts questions exists brought n s _ agrees (tt, tt)) (λ m g k. sends_each m s os all.1 k)
   sends_each n s (log_out.Settled end rows ∷ os) all agrees = absurd all.0
 
   -- what is in flight goes on
   goes : (n : Net) (s : Serving) (r : log.Done) → GoesOn s.log r → ServingAgrees part texts n s
-      → Serves part texts questions exists named n s (steps node.log_says (record s { log = r.state }) r.outs)
+      → Serves part texts questions exists brought n s (steps node.log_says (record s { log = r.state }) r.outs)
   goes n s r g agrees =
       let desk = desk_of s agrees.given in
       let later : Desk = record { log = r.state; given = agrees.given; writer = s.writer } in
@@ -169,39 +169,39 @@ module _ (part : ℕ) (texts : Texts) (questions : Questions) (exists : part < 8
         done = agrees.done;
       }
 
-      writes_on : Serves part texts questions exists named n s (node.said_by (record s { log = t }) (settled s.writer (Some w) (log.end_from old.segment)))
+      writes_on : Serves part texts questions exists brought n s (node.said_by (record s { log = t }) (settled s.writer (Some w) (log.end_from old.segment)))
       unfolding virtual_agrees
-      writes_on = goes_on part texts questions exists named n virtual next_work refl virtual_agrees refl landed
+      writes_on = goes_on part texts questions exists brought n virtual next_work refl virtual_agrees refl landed
 
-    takes_settled : Serves part texts questions exists named n s (node.writer_takes (record s { log = t }) (writer_in.Settled (log.end_from old.segment)))
+    takes_settled : Serves part texts questions exists brought n s (node.writer_takes (record s { log = t }) (writer_in.Settled (log.end_from old.segment)))
     unfolding node.writer_takes
     takes_settled = by s.writer.work refl
       where
         by : (o : Option WorkState) → s.writer.work ≡ o
-            → Serves part texts questions exists named n s (node.said_by (record s { log = t }) (settled s.writer o (log.end_from old.segment)))
+            → Serves part texts questions exists brought n s (node.said_by (record s { log = t }) (settled s.writer o (log.end_from old.segment)))
         by None none = absurd (some_none old (sym was ∙ agrees.writer.idle none))
         by (Some w) there = writes_on w there
 
   lands : (n : Net) (s : Serving) (r : log.Done) → Lands s.log r → ServingAgrees part texts n s → FlightIsText texts s.log
-      → Serves part texts questions exists named n s (steps node.log_says (record s { log = r.state }) r.outs)
+      → Serves part texts questions exists brought n s (steps node.log_says (record s { log = r.state }) r.outs)
   unfolding node.log_says node.on_settled
   lands n s r l agrees text =
       let t = record s { log = r.state } in
       let end = log.end_from l.old.segment in
       let filed = node.filed t end in
-      subst (λ os. Serves part texts questions exists named n s (steps node.log_says t os)) (sym l.outs)
-      (serves_one part texts questions exists named node.log_says n s t (log_out.Settled end l.rows)
-      (sees_then part texts questions named n (phase_at s.slots part) (phase_at s.slots part)
+      subst (λ os. Serves part texts questions exists brought n s (steps node.log_says t os)) (sym l.outs)
+      (serves_one part texts questions exists brought node.log_says n s t (log_out.Settled end l.rows)
+      (sees_then part texts questions brought n (phase_at s.slots part) (phase_at s.slots part)
       (phase_at (node.writer_takes t (writer_in.Settled end)).state.slots part) filed (node.writer_takes t (writer_in.Settled end)).outs
       (λ m. ServingAgrees part texts m s)
       (λ m. ServingAgrees part texts m (node.writer_takes t (writer_in.Settled end)).state)
-      (serves_same part texts questions exists named n s filed agrees (tt, tt))
+      (serves_same part texts questions exists brought n s filed agrees (tt, tt))
       (λ m g k. takes_settled m s r.state l.old l.was l.same_log l.dirty l.flight k text)))
 
   -- ---- any input that writes nothing new
 
   pub writes_serves : (n : Net) (s : Serving) (given : LogIn) → IsNoWrite s.log given → ServingAgrees part texts n s → FlightIsText texts s.log
-      → Serves part texts questions exists named n s (node.writes s given)
+      → Serves part texts questions exists brought n s (node.writes s given)
   unfolding node.writes node.log_says_each
   writes_serves n s given bars agrees text =
       ⊎_elim (λ g. goes n s (log.transition s.log given) g agrees) (λ l. lands n s (log.transition s.log given) l agrees text)

@@ -37,9 +37,9 @@ use Rattle.wire_msg.specs.declared.tokens.Want.{Want}
 use Rattle.node_index_tie.specs.ManagerEvents.{PhaseAgrees}
 use Rattle.node_index_tie.specs.Sight.{Texts, Questions, AreTexts, DeltasKnown, ReportKnown, CheckKnown, NewsKnown}
 use Rattle.node_index_tie.proofs.Active.{Event, slot_takes, slot_wants, slot_deltas, slot_checks, other_checks, other_takes, other_wants, usage_done}
-use Rattle.node_index_tie.proofs.Handing.{Busy, OwesAt, AskEvent, event_staying, slot_hears, slot_reports, slot_hears_of}
-use Rattle.node_index_tie.proofs.Moves.{Grows, AllDone, DoesAt, Sees, some_none, sees_same, sees_then, all_both}
-use Rattle.node_index_tie.proofs.Taking.{takes_done, asks_done, reports_done, hears_done, stays_asks}
+use Rattle.node_index_tie.proofs.Handing.{Busy, OwesAt, AskEvent, event_staying, slot_hears, slot_regroups, slot_reports, slot_hears_of}
+use Rattle.node_index_tie.proofs.Moves.{Brought, Grows, AllDone, DoesAt, Sees, managed_as, some_none, sees_same, sees_then, all_both}
+use Rattle.node_index_tie.proofs.Taking.{takes_done, asks_done, reports_done, hears_done, stays_asks, asks_managed}
 
 -- ---- one slot of a table
 
@@ -92,20 +92,20 @@ by_part k part P f g = by (k == part) refl
     by true is = f (eqb-true k part is)
     by false is = g (apart is)
 
-module _ (part : ℕ) (texts : Texts) (asked : Questions) (exists : part < 8) (named : ℕ → Type 0) (desk : Desk) where
+module _ (part : ℕ) (texts : Texts) (asked : Questions) (exists : part < 8) (brought : Brought) (desk : Desk) where
   -- how a table is seen
   pub record TableAgrees (n : Net) (t : Table) : Type 0 where
     pub eight : length t ≡ 8
     pub here : PhaseAgrees part texts n desk (phase_at t part)
-    pub busy : Busy part texts asked named desk n
+    pub busy : Busy part texts asked brought desk n
     pub filed : AreTexts texts n.filed
 
   -- what an event of the table makes of the small world
   abbrev pub TableEvent : Net → Table → Table → List Effect → Type 0
-  TableEvent n t u outs = Sees part texts asked named n (phase_at t part) (phase_at u part) outs (λ m. TableAgrees m u)
+  TableEvent n t u outs = Sees part texts asked brought n (phase_at t part) (phase_at u part) outs (λ m. TableAgrees m u)
 
   pub table_same : (n : Net) (t : Table) (outs : List Effect) → TableAgrees n t → AllDone part texts asked n outs → TableEvent n t t outs
-  table_same n t outs agrees done = sees_same part texts asked named n (phase_at t part) outs (λ m. TableAgrees m t) done agrees
+  table_same n t outs agrees done = sees_same part texts asked brought n (phase_at t part) outs (λ m. TableAgrees m t) done agrees
 
   -- what is said of the table but its slot stays
   rest_on : (n m : Net) (t : Table) (u : Table) → Grows n m → TableAgrees n t → length u ≡ 8 → PhaseAgrees part texts m desk (phase_at u part)
@@ -118,7 +118,7 @@ module _ (part : ℕ) (texts : Texts) (asked : Questions) (exists : part < 8) (n
   }
 
   pub at_slot-goes : (n : Net) (t : Table) (k : ℕ) (event : SlotPhase → Stepped SlotPhase Effect) → TableAgrees n t
-      → (k ≡ part → Event part texts asked named desk n (phase_at t part) (event (phase_at t part)).state (event (phase_at t part)).outs)
+      → (k ≡ part → Event part texts asked brought desk n (phase_at t part) (event (phase_at t part)).state (event (phase_at t part)).outs)
       → ((k ≡ part → ⊥) → AllDone part texts asked n (event (phase_at t k)).outs)
       → TableEvent n t (table.at_slot t k event).state (table.at_slot t k event).outs
   at_slot-goes n t k event agrees here there =
@@ -138,7 +138,9 @@ module _ (part : ℕ) (texts : Texts) (asked : Questions) (exists : part < 8) (n
             grows = h.grows;
             slots = h.slots;
             came = subst (λ x. (e : ℕ) → n.slots e ≡ None → (h.next.slots e ≡ None) ⊎ (e ≤ epoch_of x)) (sym at) h.came;
-            held = subst (λ x. (e : ℕ) → HeldAt x e → HeldAt (phase_at t part) e ⊎ named e) (sym at) h.held;
+            enters = λ e z some none. let x = h.enters e z some none in (x.0, managed_as q (phase_at (slice_set t k q) part) at e x.1);
+            stays = λ ends e m. managed_as q (phase_at (slice_set t k q) part) at e (h.stays ends e m);
+            held = subst (λ x. (e : ℕ) → HeldAt x e → HeldAt (phase_at t part) e ⊎ brought.names e) (sym at) h.held;
             rises = subst (λ x. epoch_of (phase_at t part) ≤ epoch_of x) (sym at) h.rises;
             does = h.does;
             agrees = rest_on n h.next t (slice_set t k q) h.grows agrees (length-set t k q ∙ agrees.eight)
@@ -149,8 +151,8 @@ module _ (part : ℕ) (texts : Texts) (asked : Questions) (exists : part < 8) (n
       others other =
           let q = (event (phase_at t k)).state in
           let at : phase_at (slice_set t k q) part ≡ phase_at t part = set_there t k part q (λ e. other (sym e)) in
-          subst (λ x. Sees part texts asked named n (phase_at t part) x (event (phase_at t k)).outs (λ m. TableAgrees m (slice_set t k q))) (sym at)
-          (sees_same part texts asked named n (phase_at t part) (event (phase_at t k)).outs (λ m. TableAgrees m (slice_set t k q)) (there other)
+          subst (λ x. Sees part texts asked brought n (phase_at t part) x (event (phase_at t k)).outs (λ m. TableAgrees m (slice_set t k q))) (sym at)
+          (sees_same part texts asked brought n (phase_at t part) (event (phase_at t k)).outs (λ m. TableAgrees m (slice_set t k q)) (there other)
           (record {
             eight = length-set t k q ∙ agrees.eight;
             here = subst (PhaseAgrees part texts n desk) (sym at) agrees.here;
@@ -163,7 +165,7 @@ module _ (part : ℕ) (texts : Texts) (asked : Questions) (exists : part < 8) (n
   AskTable n t d = TableEvent n t d.state.table d.outs
 
   pub at_taken-goes : (n : Net) (a : TableAsker) (k : ℕ) (event : Asker → Stepped Asker Effect) → TableAgrees n a.table
-      → (k ≡ part → AskEvent part texts asked named desk n (phase_at a.table part) (event (asker (phase_at a.table part) a.questions)))
+      → (k ≡ part → AskEvent part texts asked brought desk n (phase_at a.table part) (event (asker (phase_at a.table part) a.questions)))
       → ((k ≡ part → ⊥) → AllDone part texts asked n (event (asker (phase_at a.table k) a.questions)).outs) → AskTable n a.table (table.at_taken a k event)
   at_taken-goes n a k event agrees here there = by_taken (TableEvent n a.table) a k event
       (at_slot-goes n a.table k (as_slot a.questions event) agrees here there)
@@ -175,34 +177,34 @@ module _ (part : ℕ) (texts : Texts) (asked : Questions) (exists : part < 8) (n
   unfolding table.on_want
   table_wants n t c want agrees =
       at_slot-goes n t (slot_of want.block.ino.0) (λ p. tokens.on_want p c want) agrees
-      (λ same. slot_wants part texts asked named desk n (phase_at t part) c want agrees.here)
-      (λ other. other_wants part texts asked named desk n (phase_at t (slot_of want.block.ino.0)) c want)
+      (λ same. slot_wants part texts asked brought desk n (phase_at t part) c want agrees.here)
+      (λ other. other_wants part texts asked brought desk n (phase_at t (slot_of want.block.ino.0)) c want)
 
   pub table_gaves : (n : Net) (t : Table) (c : ℕ) (gave : Gave) → TableAgrees n t
       → TableEvent n t (table.on_gave t c gave).state (table.on_gave t c gave).outs
   unfolding table.on_gave
   table_gaves n t c gave agrees =
       let k = slot_of gave.block.ino.0 in
-      at_slot-goes n t k (λ p. tokens.on_gave p c gave) agrees (λ same. slot_takes part texts asked named desk n k (phase_at t part)
+      at_slot-goes n t k (λ p. tokens.on_gave p c gave) agrees (λ same. slot_takes part texts asked brought desk n k (phase_at t part)
       (tokens.gave_input c gave) tt agrees.here)
-      (λ other. other_takes part texts asked named desk n k (phase_at t k) (tokens.gave_input c gave))
+      (λ other. other_takes part texts asked brought desk n k (phase_at t k) (tokens.gave_input c gave))
 
   pub table_deltas : (n : Net) (t : Table) (of : LogId) (m : Deltas) → TableAgrees n t → (m.slot ≡ part → DeltasKnown part n of.0 m)
       → TableEvent n t (table.on_deltas t of m).state (table.on_deltas t of m).outs
   unfolding table.on_deltas
   table_deltas n t of m agrees known =
       at_slot-goes n t m.slot (λ p. tokens.on_deltas p of m) agrees
-      (λ same. slot_deltas part texts asked named desk n (phase_at t part) of m (known same) agrees.here)
-      (λ other. other_takes part texts asked named desk n m.slot (phase_at t m.slot) (tokens.deltas_input of m))
+      (λ same. slot_deltas part texts asked brought desk n (phase_at t part) of m (known same) agrees.here)
+      (λ other. other_takes part texts asked brought desk n m.slot (phase_at t m.slot) (tokens.deltas_input of m))
 
   pub table_checks : (n : Net) (t : Table) (check : Check) → TableAgrees n t → (slot_of check.block.ino.0 ≡ part → CheckKnown part asked n check)
       → TableEvent n t (table.on_check t check).state (table.on_check t check).outs
   unfolding table.on_check
   table_checks n t check agrees known =
       let k = slot_of check.block.ino.0 in
-      at_slot-goes n t k (λ p. tokens.on_check p check) agrees (λ same. slot_checks part texts asked named desk n (phase_at t part) check (known same)
+      at_slot-goes n t k (λ p. tokens.on_check p check) agrees (λ same. slot_checks part texts asked brought desk n (phase_at t part) check (known same)
       agrees.here)
-      (λ other. other_checks part texts asked named desk n (phase_at t k) check other)
+      (λ other. other_checks part texts asked brought desk n (phase_at t k) check other)
 
   pub table_usage : (n : Net) (t : Table) (ask : UsageAsk) → AllDone part texts asked n (table.on_usage_ask t ask)
   unfolding table.on_usage_ask
@@ -210,38 +212,40 @@ module _ (part : ℕ) (texts : Texts) (asked : Questions) (exists : part < 8) (n
     where
       by : (o : Option SlotPhase) → AllDone part texts asked n (table.usage_in ask o)
       by None = tt
-      by (Some p) = usage_done part texts asked named desk n p ask
+      by (Some p) = usage_done part texts asked brought desk n p ask
 
   pub table_recalls : (n : Net) (t : Table) (k : ℕ) → TableAgrees n t → TableEvent n t (table.recalls t k).state (table.recalls t k).outs
   unfolding table.recalls
   table_recalls n t k agrees =
-      at_slot-goes n t k (λ p. tokens.on_tick p k) agrees (λ same. slot_takes part texts asked named desk n k (phase_at t part) told.Tick tt agrees.here)
-      (λ other. other_takes part texts asked named desk n k (phase_at t k) told.Tick)
+      at_slot-goes n t k (λ p. tokens.on_tick p k) agrees (λ same. slot_takes part texts asked brought desk n k (phase_at t part) told.Tick tt agrees.here)
+      (λ other. other_takes part texts asked brought desk n k (phase_at t k) told.Tick)
 
   -- ---- takeovers
 
-  pub table_takes : (n : Net) (a : TableAsker) (k : ℕ) (given : Input) → TableAgrees n a.table
+  pub table_takes : brought.ends → (n : Net) (a : TableAsker) (k : ℕ) (given : Input) → TableAgrees n a.table
       → (k ≡ part → OwesAt part texts n (phase_at a.table part) given) → AskTable n a.table (table.takes a k given)
   unfolding table.takes
-  table_takes n a k given agrees owes =
+  table_takes ends n a k given agrees owes =
       at_taken-goes n a k (λ one. takeovers.takes one k given) agrees
-      (λ same. slot_hears part texts asked named desk n k (phase_at a.table part) a.questions given agrees.here agrees.busy agrees.filed (owes same))
+      (λ same. slot_hears part texts asked brought desk ends n k (phase_at a.table part) a.questions given agrees.here agrees.busy agrees.filed (owes same))
       (λ other. takes_done part texts asked n k (asker (phase_at a.table k) a.questions) given)
 
-  pub table_reports : (n : Net) (a : TableAsker) (from : NodeId) (report : Report) → TableAgrees n a.table
+  pub table_reports : brought.ends → (n : Net) (a : TableAsker) (from : NodeId) (report : Report) → TableAgrees n a.table
       → (report.slot ≡ part → ReportKnown part n report.epoch from report.end) → AskTable n a.table (table.on_report a from report)
   unfolding table.on_report
-  table_reports n a from report agrees known =
+  table_reports ends n a from report agrees known =
       at_taken-goes n a report.slot (λ one. takeovers.on_report one from report) agrees
-      (λ same. slot_reports part texts asked named desk n (phase_at a.table part) a.questions from report agrees.here agrees.busy agrees.filed (known same))
+      (λ same. slot_reports part texts asked brought desk ends n (phase_at a.table part) a.questions from report agrees.here agrees.busy agrees.filed
+      (known same))
       (λ other. reports_done part texts asked n (asker (phase_at a.table report.slot) a.questions) from report)
 
   pub table_asks : (n : Net) (polls : Bool) (a : TableAsker) (k : ℕ) → TableAgrees n a.table → AskTable n a.table (table.asks polls a k)
   unfolding table.asks
   table_asks n polls a k agrees =
       at_taken-goes n a k (λ one. takeovers.asks_again one k polls) agrees
-      (λ same. event_staying part texts asked named desk n (phase_at a.table part) _
+      (λ same. event_staying part texts asked brought desk n (phase_at a.table part) _
       (stays_asks part texts asked desk n k (phase_at a.table part) a.questions polls agrees.here)
+      (λ _ e h. asks_managed part texts asked desk k (phase_at a.table part) a.questions polls e h)
       (asks_done part texts asked n k (asker (phase_at a.table part) a.questions) polls))
       (λ other. asks_done part texts asked n k (asker (phase_at a.table k) a.questions) polls)
 
@@ -252,6 +256,16 @@ module _ (part : ℕ) (texts : Texts) (asked : Questions) (exists : part < 8) (n
   regroup_owes n (phase.Away epoch) groups = tt
   regroup_owes n (phase.Broken epoch seg) groups = tt
 
+  -- and end no takeover
+  table_regroup : (n : Net) (groups : GroupMapState) (a : TableAsker) (k : ℕ) → TableAgrees n a.table
+      → AskTable n a.table (table.takes a k (input.Maps groups))
+  unfolding table.takes
+  table_regroup n groups a k agrees =
+      at_taken-goes n a k (λ one. takeovers.takes one k (input.Maps groups)) agrees
+      (λ same. slot_regroups part texts asked brought desk n k (phase_at a.table part) a.questions groups agrees.here
+      (regroup_owes n (phase_at a.table part) groups))
+      (λ other. takes_done part texts asked n k (asker (phase_at a.table k) a.questions) (input.Maps groups))
+
   -- ---- all slots, one after another
 
   module _ {S X : Type 0} (tab : S → Table) (f : S → X → Stepped S Effect)
@@ -259,7 +273,7 @@ module _ (part : ℕ) (texts : Texts) (asked : Questions) (exists : part < 8) (n
     pub each_goes : (n : Net) (s : S) (xs : List X) → TableAgrees n (tab s) → TableEvent n (tab s) (tab (steps f s xs).state) (steps f s xs).outs
     each_goes n s [] agrees = table_same n (tab s) [] agrees tt
     each_goes n s (x ∷ xs) agrees =
-        sees_then part texts asked named n (phase_at (tab s) part) (phase_at (tab (f s x).state) part) (phase_at (tab (steps f (f s x).state xs).state) part)
+        sees_then part texts asked brought n (phase_at (tab s) part) (phase_at (tab (f s x).state) part) (phase_at (tab (steps f (f s x).state xs).state) part)
         (f s x).outs (steps f (f s x).state xs).outs (λ m. TableAgrees m (tab (f s x).state))
         (λ m. TableAgrees m (tab (steps f (f s x).state xs).state)) (each n s x agrees) (λ m g h. each_goes m (f s x).state xs h)
 
@@ -272,14 +286,14 @@ module _ (part : ℕ) (texts : Texts) (asked : Questions) (exists : part < 8) (n
   pub table_regroups : (n : Net) (groups : GroupMapState) (a : TableAsker) → TableAgrees n a.table → AskTable n a.table (table.regroups_all groups a)
   table_regroups n groups a agrees =
       each_goes (λ (b : TableAsker). b.table) (table.regroups groups)
-      (λ n b k h. table_takes n b k (input.Maps groups) h (λ _. regroup_owes n (phase_at b.table part) groups)) n a all_slots agrees
+      (λ n b k h. table_regroup n groups b k h) n a all_slots agrees
 
   -- ---- news
 
   -- the table has later epochs, and nothing happens in the small world
   pub record TableRose (n : Net) (t u : Table) (outs : List Effect) : Type 0 where
     pub agrees : TableAgrees n u
-    pub held : (e : ℕ) → HeldAt (phase_at u part) e → HeldAt (phase_at t part) e ⊎ named e
+    pub held : (e : ℕ) → HeldAt (phase_at u part) e → HeldAt (phase_at t part) e ⊎ brought.names e
     pub rises : epoch_of (phase_at t part) ≤ epoch_of (phase_at u part)
     pub does : AllDone part texts asked n outs
 
@@ -295,7 +309,7 @@ module _ (part : ℕ) (texts : Texts) (asked : Questions) (exists : part < 8) (n
 
   table_hears : (j : ℕ) (n : Net) (h : Hearer) (a : TableAsker) (news : SlotNews) → h.ears.number ≡ j → TableAgrees n a.table
       → (news.slot ≡ part → news.manager ≡ j → epoch_of (phase_at a.table part) < news.epoch → NewsKnown part n news)
-      → (news.slot ≡ part → news.manager ≡ j → named news.epoch)
+      → (news.slot ≡ part → news.manager ≡ j → brought.names news.epoch)
       → TableRose n a.table (table.hears h a news).state.table (table.hears h a news).outs
   unfolding table.hears
   table_hears j n h a news is_j agrees known named_ =
@@ -309,7 +323,7 @@ module _ (part : ℕ) (texts : Texts) (asked : Questions) (exists : part < 8) (n
           let q = (heard_at h a news part).state.phase in
           let at : phase_at (slice_set a.table news.slot q) part ≡ q = ap (phase_at (slice_set a.table news.slot q)) (sym same) ∙ set_here a.table news.slot
           q within in
-          let r = slot_hears_of part texts asked named desk j n h news (asker (phase_at a.table part) a.questions) is_j same agrees.here (known same)
+          let r = slot_hears_of part texts asked brought desk j n h news (asker (phase_at a.table part) a.questions) is_j same agrees.here (known same)
           (named_ same) in
           record {
             agrees = record {
@@ -318,7 +332,7 @@ module _ (part : ℕ) (texts : Texts) (asked : Questions) (exists : part < 8) (n
               busy = agrees.busy;
               filed = agrees.filed;
             };
-            held = subst (λ x. (e : ℕ) → HeldAt x e → HeldAt (phase_at a.table part) e ⊎ named e) (sym at) r.held;
+            held = subst (λ x. (e : ℕ) → HeldAt x e → HeldAt (phase_at a.table part) e ⊎ brought.names e) (sym at) r.held;
             rises = subst (λ x. epoch_of (phase_at a.table part) ≤ epoch_of x) (sym at) r.rises;
             does = hears_done part texts asked n h news (asker (phase_at a.table part) a.questions);
           }
@@ -334,14 +348,14 @@ module _ (part : ℕ) (texts : Texts) (asked : Questions) (exists : part < 8) (n
               busy = agrees.busy;
               filed = agrees.filed;
             };
-            held = subst (λ x. (e : ℕ) → HeldAt x e → HeldAt (phase_at a.table part) e ⊎ named e) (sym at) (λ e at_e. inl at_e);
+            held = subst (λ x. (e : ℕ) → HeldAt x e → HeldAt (phase_at a.table part) e ⊎ brought.names e) (sym at) (λ e at_e. inl at_e);
             rises = subst (λ x. epoch_of (phase_at a.table part) ≤ epoch_of x) (sym at) (omega arith);
             does = hears_done part texts asked n h news (asker (phase_at a.table news.slot) a.questions);
           }
 
   pub table_hears_all : (j : ℕ) (n : Net) (h : Hearer) (a : TableAsker) (slots : List SlotNews) → h.ears.number ≡ j → TableAgrees n a.table
       → ((news : SlotNews) → Among news slots → news.slot ≡ part → news.manager ≡ j → epoch_of (phase_at a.table part) < news.epoch → NewsKnown part n news)
-      → ((news : SlotNews) → Among news slots → news.slot ≡ part → news.manager ≡ j → named news.epoch)
+      → ((news : SlotNews) → Among news slots → news.slot ≡ part → news.manager ≡ j → brought.names news.epoch)
       → TableRose n a.table (table.hears_all h a slots).state.table (table.hears_all h a slots).outs
   table_hears_all j n h a [] is_j agrees known named_ = rose_same n a.table agrees
   table_hears_all j n h a (news ∷ slots) is_j agrees known named_ =

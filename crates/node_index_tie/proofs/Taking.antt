@@ -1,5 +1,5 @@
 -- What a takeover makes of its inputs in the small world: nothing, or in the end that the slot is active there.
-use Rattle.std.proofs.Common.{◌≡◌, ℕ, ◌^◌, ◌<◌, ◌==◌, nat_lt, Bool, List, [], ◌∷◌, filter, refl, ◌∙◌}
+use Rattle.std.proofs.Common.{◌≡◌, ℕ, ◌^◌, ◌<◌, ◌==◌, nat_lt, Bool, ◌+◌, List, [], ◌∷◌, Option, Some, None, filter, refl, ◌∙◌}
 use Rattle.std.specs.BTreeMap.{insert_entry}
 use Rattle.std.specs.Ordering.{match_ordering}
 use Rattle.std.specs.declared.cmp.Ordering.{Ordering}
@@ -24,16 +24,47 @@ use Rattle.manager_node.specs.declared.slot_phase.SlotPhase.{SlotPhase}
 use Rattle.manager_node.specs.declared.slot_phase.SlotPhase.TheVariants as phase
 use Rattle.node_base.specs.declared.questions.Questions.{Questions as Numbers}
 use Rattle.node_tie.specs.ManagerEvents.{HeldAt}
-use Rattle.node_tie.proofs.ManagerTakes.{IsPlain, ArePlain, tick_said, kept_plain}
-use Rattle.takeover.specs.Transition.{transition}
+use Rattle.node_tie.proofs.ManagerTakes.{IsPlain, ArePlain, fetches_plain, tick_said, kept_plain}
+use Rattle.group_map.specs.GroupMapState.{GroupMapState}
+use Rattle.group_map.specs.Groups.{group_of}
+use Rattle.group_map.specs.declared.group.Group.{Group}
+use Rattle.stripe_code.specs.Reading.{ReadingState, begun, to_ask}
+use Rattle.takeover.specs.TakeState.{TakeState}
+use Rattle.takeover.specs.Transition.{Done as Told, can_ask, target_of, sought_over, sought, waits_in, waiting, sought_again, on_maps, transition}
+use Rattle.takeover.specs.declared.source.Present.{Present}
+use Rattle.takeover.specs.declared.source.Source.{Source}
 use Rattle.takeover.specs.declared.input.In.{In as Input}
 use Rattle.takeover.specs.declared.input.In.TheVariants as input
 use Rattle.takeover.specs.declared.output.Out.{Out}
 use Rattle.takeover.specs.declared.output.Out.TheVariants as out
 use Rattle.wire_msg.specs.declared.deltas.Report.{Report}
-use Rattle.node_index_tie.specs.ManagerEvents.{PhaseAgrees}
+use Rattle.node_index_tie.specs.ManagerEvents.{ManagedAt, PhaseAgrees}
 use Rattle.node_index_tie.specs.Sight.{Texts, Questions, RowsFit}
 use Rattle.node_index_tie.proofs.Moves.{all_both, DoesAt, AllDone}
+
+-- ---- newer groups
+
+sought_plain : (s : TakeState) (source : Source) → ArePlain (sought s source).outs
+unfolding sought
+sought_plain s source = by (group_of s.groups source.seg.group)
+  where
+    by : (g : Option Group) → ArePlain (sought_over s source g).outs
+    by None = tt
+    by (Some group) = fetches_plain source.seg.name (s.ask + 1) (to_ask (begun (target_of source) group (s.ask + 1)))
+
+-- newer groups end no takeover
+pub maps_plain : (s : TakeState) (groups : GroupMapState) → ArePlain (on_maps s groups).outs
+unfolding on_maps
+maps_plain s groups = by s.present
+  where
+    by_reading : (source : Source) (r : Option ReadingState) → ArePlain (sought_again (record s { groups = groups }) (waits_in source r)).outs
+    by_reading source None = by_test (λ (d : Told). ArePlain d.outs) (can_ask s) (sought (record s { groups = groups }) source)
+        (still (record s { groups = groups })) (λ _. sought_plain (record s { groups = groups }) source) (λ _. tt)
+    by_reading source (Some r) = tt
+
+    by : (o : Option Present) → ArePlain (sought_again (record s { groups = groups }) (waiting o)).outs
+    by None = tt
+    by (Some p) = by_reading p.source p.reading
 
 -- ---- rows that fit
 
@@ -149,3 +180,11 @@ module _ (part : ℕ) (texts : Texts) (asked : Questions) where
     stays_asks n k (phase.Away epoch) q polls agrees = stays_each n k (asker (phase.Away epoch) q) [] tt agrees
     stays_asks n k (phase.Active a) q polls agrees = stays_each n k (asker (phase.Active a) q) [] tt agrees
     stays_asks n k (phase.Broken epoch seg) q polls agrees = stays_each n k (asker (phase.Broken epoch seg) q) [] tt agrees
+
+    -- and a slot that is managed stays so
+    pub asks_managed : (k : ℕ) (p : SlotPhase) (q : Numbers) (polls : Bool) (e : ℕ) → ManagedAt p e → ManagedAt (asks_again (asker p q) k polls).state.phase e
+    unfolding asks_again heard says_each
+    asks_managed k (phase.Active a) q polls e h = h
+    asks_managed k (phase.Taking t) q polls e h = absurd h
+    asks_managed k (phase.Away epoch) q polls e h = absurd h
+    asks_managed k (phase.Broken epoch seg) q polls e h = absurd h

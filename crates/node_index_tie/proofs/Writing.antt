@@ -36,13 +36,13 @@ use Rattle.node_tie.specs.ManagerEvents.{phase_at, HeldAt}
 use Rattle.segment_format.specs.declared.segment.Item.{Item}
 use Rattle.token_manager.specs.Index.{pages_of}
 use Rattle.wire_msg.specs.declared.registry.CkptDone.{CkptDone}
-use Rattle.node_index_tie.specs.ManagerEvents.{PhaseAgrees, ServingAgrees}
+use Rattle.node_index_tie.specs.ManagerEvents.{ManagedAt, PhaseAgrees, ServingAgrees}
 use Rattle.node_index_tie.specs.Pages.{checkpointed, Desk, desk_of, Paged, WriterAgrees, DoneSeen}
 use Rattle.node_index_tie.specs.Pages.Paged.{Covered, Written, Ended}
 use Rattle.node_index_tie.specs.Sight.{Texts, Questions, held_in, CkptSeen}
 use Rattle.node_index_tie.proofs.Agreeing.{phase_on}
 use Rattle.node_index_tie.proofs.Flights.{Writes, parts_went}
-use Rattle.node_index_tie.proofs.Moves.{AllDone, Sees, Grows, some_none, grows_sent, sees_quiet, sees_same, sees_sent, sees_then}
+use Rattle.node_index_tie.proofs.Moves.{Brought, AllDone, Sees, Grows, managed_as, some_none, grows_sent, sees_quiet, sees_same, sees_sent, sees_then}
 use Rattle.node_index_tie.proofs.Puts.{merges, after_both, may_both, after_merges, may_merges}
 use Rattle.node_index_tie.proofs.Tables.{by_part}
 use Rattle.node_index_tie.proofs.Turning.{some_is, changed_here, changed_there, changed_length, Forth, Turn, seen_turn, phase_turn}
@@ -65,20 +65,20 @@ laid_of holds segments given left all none nil is =
     sym (append-nil (rows_in holds segments)) ∙ sym (ap (λ g. rows_in holds segments ++ (rows_of g ++ rows_of [])) none) ∙ sym
     (ap (λ l. rows_in holds segments ++ (rows_of given ++ rows_of l)) nil) ∙ is
 
-module _ (part : ℕ) (texts : Texts) (questions : Questions) (exists : part < 8) (named : ℕ → Type 0) where
+module _ (part : ℕ) (texts : Texts) (questions : Questions) (exists : part < 8) (brought : Brought) where
   -- what an event makes of a manager that serves, and of the small world
   abbrev pub Serves : Net → Serving → Done → Type 0
-  Serves n s d = Sees part texts questions named n (phase_at s.slots part) (phase_at d.state.slots part) d.outs (λ m. ServingAgrees part texts m d.state)
+  Serves n s d = Sees part texts questions brought n (phase_at s.slots part) (phase_at d.state.slots part) d.outs (λ m. ServingAgrees part texts m d.state)
 
   pub serves_same : (n : Net) (s : Serving) (outs : List Effect) → ServingAgrees part texts n s → AllDone part texts questions n outs
       → Serves n s (record { state = s; outs = outs })
-  serves_same n s outs agrees done = sees_same part texts questions named n (phase_at s.slots part) outs (λ m. ServingAgrees part texts m s) done agrees
+  serves_same n s outs agrees done = sees_same part texts questions brought n (phase_at s.slots part) outs (λ m. ServingAgrees part texts m s) done agrees
 
   -- one of a list
   pub serves_one : {X : Type 0} (f : Serving → X → Done) (n : Net) (s t : Serving) (x : X) → Serves n s (f t x) → Serves n s (steps f t (x ∷ []))
   serves_one f n s t x h =
       let u = (f t x).state in
-      sees_then part texts questions named n (phase_at s.slots part) (phase_at u.slots part) (phase_at u.slots part) (f t x).outs []
+      sees_then part texts questions brought n (phase_at s.slots part) (phase_at u.slots part) (phase_at u.slots part) (f t x).outs []
       (λ m. ServingAgrees part texts m u) (λ m. ServingAgrees part texts m u) h
       (λ m g k. serves_same m u [] k tt)
 
@@ -86,7 +86,7 @@ module _ (part : ℕ) (texts : Texts) (questions : Questions) (exists : part < 8
   pub serves_then : (n : Net) (s : Serving) (d e : Done) → Serves n s d → ((m : Net) → Grows n m → ServingAgrees part texts m d.state → Serves m d.state e)
       → Serves n s (after d.outs e)
   serves_then n s d e h f =
-      sees_then part texts questions named n (phase_at s.slots part) (phase_at d.state.slots part) (phase_at e.state.slots part) d.outs e.outs
+      sees_then part texts questions brought n (phase_at s.slots part) (phase_at d.state.slots part) (phase_at e.state.slots part) d.outs e.outs
       (λ m. ServingAgrees part texts m d.state) (λ m. ServingAgrees part texts m e.state) h f
 
   -- ---- all is written
@@ -193,6 +193,14 @@ module _ (part : ℕ) (texts : Texts) (questions : Questions) (exists : part < 8
       named_held (phase.Away x) e h = h
       named_held (phase.Broken x seg) e h = h
 
+      named_managed : (p : SlotPhase) (e : ℕ) → ManagedAt p e → ManagedAt (named_phase w.epoch w.parts p) e
+      unfolding named_phase
+      named_managed (phase.Active a) e h = by_test (λ q. ManagedAt q e) (a.slot.epoch == w.epoch) (phase.Active (record a { parts = w.parts })) (phase.Active a)
+          (λ _. h) (λ _. h)
+      named_managed (phase.Taking t) e h = h
+      named_managed (phase.Away x) e h = h
+      named_managed (phase.Broken x seg) e h = h
+
       named_epoch : (p : SlotPhase) → epoch_of (named_phase w.epoch w.parts p) ≡ epoch_of p
       unfolding named_phase
       named_epoch (phase.Active a) = by_test (λ q. epoch_of q ≡ epoch_of (phase.Active a)) (a.slot.epoch == w.epoch)
@@ -225,10 +233,11 @@ module _ (part : ℕ) (texts : Texts) (questions : Questions) (exists : part < 8
           let at : phase_at registered.state.slots part ≡ named_phase w.epoch w.parts p = subst
           (λ x. phase_at (named_at v.slots w.slot w.epoch w.parts) x ≡ named_phase w.epoch w.parts (phase_at v.slots x)) ours
           (changed_here v.slots w.slot (named_phase w.epoch w.parts) within) in
-          sees_sent part texts questions named n p (phase_at registered.state.slots part) (packet ∷ []) registered.outs
+          sees_sent part texts questions brought n p (phase_at registered.state.slots part) (packet ∷ []) registered.outs
           (λ m. ServingAgrees part texts m registered.state)
           (Checkpoints w.epoch k.events w.horizon k.is.segments k.is.planned laid)
           (subst (λ q. (d : ℕ) → HeldAt q d → HeldAt p d) (sym at) (named_held p))
+          (subst (λ q. (d : ℕ) → ManagedAt p d → ManagedAt q d) (sym at) (named_managed p))
           (let e = ap epoch_of at in let f = named_epoch p in omega arith)
           (seen, tt)
           (record {
@@ -246,8 +255,9 @@ module _ (part : ℕ) (texts : Texts) (questions : Questions) (exists : part < 8
           let seen : CkptSeen part n done = λ same. absurd (other same) in
           let p = phase_at v.slots part in
           let at : phase_at registered.state.slots part ≡ p = changed_there v.slots w.slot part (named_phase w.epoch w.parts) (λ e. other (sym e)) in
-          sees_quiet part texts questions named n p (phase_at registered.state.slots part) registered.outs (λ m. ServingAgrees part texts m registered.state)
-          (λ e h. inl (subst (λ q. HeldAt q e) at h)) (let e = ap epoch_of at in omega arith) (seen, tt)
+          sees_quiet part texts questions brought n p (phase_at registered.state.slots part) registered.outs (λ m. ServingAgrees part texts m registered.state)
+          (λ e h. inl (subst (λ q. HeldAt q e) at h)) (λ _ e h. managed_as p (phase_at registered.state.slots part) at e h)
+          (let e = ap epoch_of at in omega arith) (seen, tt)
           (record {
             eight = length_on;
             given = agrees.given;
@@ -330,7 +340,7 @@ module _ (part : ℕ) (texts : Texts) (questions : Questions) (exists : part < 8
     gives_on : Serves n v given_out
     unfolding node.gives_parts
     gives_on =
-        sees_same part texts questions named n (phase_at v.slots part) given_out.outs (λ m. ServingAgrees part texts m given_out.state)
+        sees_same part texts questions brought n (phase_at v.slots part) given_out.outs (λ m. ServingAgrees part texts m given_out.state)
         (stored_done (log.transition v.log (log_input.Parts pages_out)).outs)
         (record {
           eight = agrees.eight;

@@ -31,6 +31,7 @@ use Rattle.takeover.specs.declared.report.Report.{Report as Heard}
 use Rattle.takeover.specs.declared.source.Present.{Present}
 use Rattle.token_manager.specs.Index.{pages_of}
 use Rattle.token_manager.specs.Recalls.{applied_of}
+use Rattle.token_manager.specs.SlotState.{SlotState}
 use Rattle.token_protocol.specs.Basics.{In as Among}
 use Rattle.version_model.specs.declared.work.Work.{Work}
 use Rattle.wire_msg.specs.declared.body.Body.{Body}
@@ -197,12 +198,20 @@ module _ (part : ℕ) (texts : Texts) (asked : Questions) (j : ℕ) (n : Net) wh
 
 -- ---- what an event is
 
+-- the slot is managed at this epoch
+abbrev pub ManagedAt : SlotPhase → ℕ → Type 0
+ManagedAt (phase.Active a) e = a.slot.epoch ≡ e
+ManagedAt (phase.Taking t) e = ⊥
+ManagedAt (phase.Away epoch) e = ⊥
+ManagedAt (phase.Broken epoch seg) e = ⊥
+
 -- the small world, but for slots and packets
 abbrev pub rest : Net → Net
 rest n = record n { slots = λ e. None; sent = [] }
 
 -- An event of manager j is a list of things that happen in the small world: only slots and packets change, of the slots those of the epochs that the manager held
--- or is given, and what it sends of the slot was sent there. An epoch at which nobody was active yet gets a manager only where this one serves and knows it.
+-- or is given, and what it sends of the slot was sent there. An epoch at which nobody was active yet gets a manager only where this one serves and knows it, and
+-- a slot that enters the small world is managed from then on.
 pub record ManagerGoes (part : ℕ) (texts : Texts) (asked : Questions) (j : ℕ) (n : Net) (p : Phase) (what : Do) (w : Went_to) : Type 0 where
   pub next : Net
   pub runs : Runs part (held_in part texts) n next
@@ -211,6 +220,7 @@ pub record ManagerGoes (part : ℕ) (texts : Texts) (asked : Questions) (j : ℕ
   pub slots : (e : ℕ) → (HeldAt (slot_in part p) e → ⊥) → (Names part j e what → ⊥) → next.slots e ≡ n.slots e
   pub came : (e : ℕ) → n.slots e ≡ None → (next.slots e ≡ None) ⊎ ((is_serving w.state ≡ true) × (e ≤ epoch_in part w.state))
   pub stay : (e : ℕ) → next.slots e ≡ None → n.slots e ≡ None
+  pub entered : (e : ℕ) (z : SlotState) → next.slots e ≡ Some z → n.slots e ≡ None → ManagedAt (slot_in part w.state) e
   pub grows : (x : Packet) → In x n.sent → In x next.sent
   pub does : All (ManagerDoes part asked next) w.outs
 
