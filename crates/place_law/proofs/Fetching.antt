@@ -48,13 +48,13 @@ use Rattle.place_law.specs.Reads.{FiledKnown, LogKnown, NamesItsGroup}
 use Rattle.place_law.proofs.Lying.{LiesAt, lies_there}
 use Rattle.place_law.proofs.Texts.{what_is_read_is_the_text}
 
-module _ (texts : Texts) (packets : List Packet) (cuts : Cuts) (f : Filed) (known : FiledKnown texts packets cuts f) (k : Books) (books : BooksAre k f)
+module _ (texts : Texts) (packets : List Packet) (to : NodeId) (cuts : Cuts) (f : Filed) (known : FiledKnown texts packets cuts f) (k : Books) (books : BooksAre k f)
     (plain : ArePlain f) where
   -- ---- a client
 
-  module _ (one : OneNameOneText) (place : APlaceNamesOneContent) (reads : ClientsReadWhatCame) (s : Serving) (well : FetchesWell packets cuts f s) where
+  module _ (one : OneNameOneText) (place : APlaceNamesOneContent) (reads : ClientsReadWhatCame) (s : Serving) (well : FetchesWell packets to cuts f s) where
     read_there : (r : ReadingState) (at : BlockAt) (segment : Segment) → reading_in s.call ≡ Some r → r.target.block ≡ Some at
-        → ReadsTarget (answered_in packets) (cut_by cuts) r.target segment → ReadsThere k s.tokens at.block (value_at segment at.item)
+        → ReadsTarget (answered_in packets to) (cut_by cuts) r.target segment → ReadsThere k s.tokens at.block (value_at segment at.item)
     read_there r at segment is block h x fetch =
         let t : PlaceTold (told_by (rows_at f)) at.block x.ver x.place =
         subst (FetchTold (told_by (rows_at f)) at.block) fetch (well.told.fetches at.block) in
@@ -67,7 +67,7 @@ module _ (texts : Texts) (packets : List Packet) (cuts : Cuts) (f : Filed) (know
         let group : NamesItsGroup texts x.place.seg = lies.group ∙ ap (λ (z : Segment). z.group) named in
         let log : LogKnown texts packets cuts x.place.seg.name.log = known.logs _ _ lies.some lies.most in
         let read : segment ≡ texts r.target.seg.name =
-        what_is_read_is_the_text one place texts packets cuts r.target.seg segment (subst (λ (p : Place). LogKnown texts packets cuts p.seg.name.log) same log)
+        what_is_read_is_the_text one place texts packets to cuts r.target.seg segment (subst (λ (p : Place). LogKnown texts packets cuts p.seg.name.log) same log)
         (subst (λ (p : Place). NamesItsGroup texts p.seg) same group) h.joined
         in
         ap (λ (z : Segment). value_at z at.item) read ∙ sym (ap (λ (p : Place). value_at (texts p.seg.name) p.item) same)
@@ -75,7 +75,7 @@ module _ (texts : Texts) (packets : List Packet) (cuts : Cuts) (f : Filed) (know
 
     module _ (r : ReadingState) (is : reading_in s.call ≡ Some r) where
       brings : (b : Option BlockAt) (x : Next) → r.target.block ≡ b
-          → ((segment : Segment) → x ≡ next.Read segment → ReadsTarget (answered_in packets) (cut_by cuts) r.target segment) → BringsRead k s b x
+          → ((segment : Segment) → x ≡ next.Read segment → ReadsTarget (answered_in packets to) (cut_by cuts) r.target segment) → BringsRead k s b x
       brings None x at h = tt
       brings (Some at) (next.Read segment) block h = read_there r at segment is block (h segment refl)
       brings (Some at) next.Again block h = tt
@@ -83,7 +83,7 @@ module _ (texts : Texts) (packets : List Packet) (cuts : Cuts) (f : Filed) (know
       brings (Some at) next.Ask block h = tt
       brings (Some at) next.Lost block h = tt
 
-    tells : (from : NodeId) (ask : ℕ) (t : Answered) → ((server : ℕ) → from ≡ node.Server server → AnsweredIn packets ask server t) → Tells k s from ask t
+    tells : (from : NodeId) (ask : ℕ) (t : Answered) → ((server : ℕ) → from ≡ node.Server server → AnsweredIn packets to ask server t) → Tells k s from ask t
     tells (node.Client n) ask t came = tt
     tells (node.Manager n) ask t came = tt
     tells node.Cleaner ask t came = tt
@@ -93,16 +93,17 @@ module _ (texts : Texts) (packets : List Packet) (cuts : Cuts) (f : Filed) (know
         by : (o : Option ReadingState) → reading_in s.call ≡ o → BringsRead k s (block_read o) (heard o s.maps.groups ask server t).next
         by None is = tt
         by (Some r) is = brings r is r.target.block (heard (Some r) s.maps.groups ask server t).next refl
-            (λ segment done. subst (λ (o : Option ReadingState). ReadsPlace (answered_in packets) (cut_by cuts) o segment) is
-            (reads packets cuts s ask server t segment well.came (came server refl) (ap (λ o. (heard o s.maps.groups ask server t).next) is ∙ done)))
+            (λ segment done. subst (λ (o : Option ReadingState). ReadsPlace (answered_in packets to) (cut_by cuts) o segment) is
+            (reads packets to cuts s ask server t segment well.came (came server refl) (ap (λ o. (heard o s.maps.groups ask server t).next) is ∙ done)))
 
     -- a packet that was sent
-    module _ (p : Packet) (among : In p packets) (part most c : ℕ) (n : tokens.Net) (its : n.books ≡ k) where
+    module _ (p : Packet) (among : In p packets) (own : p.to ≡ to) (part most c : ℕ) (n : tokens.Net) (its : n.books ≡ k) where
       came_so : (m : Body) (ask : ℕ) (t : Answered) → p.body ≡ m → came.Tells ask t m → (server : ℕ) → p.from ≡ node.Server server
-          → AnsweredIn packets ask server t
+          → AnsweredIn packets to ask server t
       came_so m ask t is told server from = record {
         packet = p;
         among = among;
+        reader = own;
         from = ap server_in from;
         tells = subst (came.Tells ask t) (sym is) told;
       }
@@ -117,5 +118,5 @@ module _ (texts : Texts) (packets : List Packet) (cuts : Cuts) (f : Filed) (know
       reads_so _ is = tt
 
 pub fetches_read_there : OneNameOneText → APlaceNamesOneContent → ClientsReadWhatCame → FetchesReadThere
-fetches_read_there one place reads texts packets cuts f s p part most c n known books plain well among =
-    reads_so texts packets cuts f known n.books books plain one place reads s well p among part most c n refl p.body refl
+fetches_read_there one place reads texts packets to cuts f s p part most c n known books plain well among own =
+    reads_so texts packets to cuts f known n.books books plain one place reads s well p among own part most c n refl p.body refl

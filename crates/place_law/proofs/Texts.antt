@@ -25,6 +25,7 @@ use Rattle.takeover.specs.Rows.{is_of, part_rows, told_of}
 use Rattle.wire_msg.specs.declared.body.Body.{Body}
 use Rattle.wire_msg.specs.declared.body.Body.TheVariants as body
 use Rattle.wire_msg.specs.declared.packet.Packet.{Packet}
+use Rattle.xfs_base.specs.declared.node.NodeId.{NodeId}
 use Rattle.xfs_base.proofs.Booleans.{by_test}
 use Rattle.xfs_base.specs.declared.block.BlockId.{BlockId}
 use Rattle.xfs_base.specs.declared.entry.Entry.{Entry}
@@ -35,7 +36,7 @@ use Rattle.place_law.proofs.Joined.{CameOf, IsFlown, joined}
 
 -- ---- what came was sent
 
-module _ (texts : Texts) (packets : List Packet) (cuts : Cuts) (seg : SegRef) (l : LogKnown texts packets cuts seg.name.log) where
+module _ (texts : Texts) (packets : List Packet) (to : NodeId) (cuts : Cuts) (seg : SegRef) (l : LogKnown texts packets cuts seg.name.log) where
   abbrev WasSent : Fragment → Type 0
   WasSent f = is_of_log l.setting f.meta.name ≡ true → In (FragmentSent f) l.net.sent
 
@@ -50,10 +51,10 @@ module _ (texts : Texts) (packets : List Packet) (cuts : Cuts) (seg : SegRef) (l
   bears p ask f (body.Missing m) among is t own = absurd (let clash = t.1 in cc)
   bears p ask f _ among is t own = absurd t
 
-  pub was_sent : CameOf (answered_in packets) WasSent
+  pub was_sent : CameOf (answered_in packets to) WasSent
   was_sent ask server f h = bears h.packet ask f h.packet.body h.among refl h.tells
 
-  pub any_was_sent : CameOf (to_any (answered_in packets)) WasSent
+  pub any_was_sent : CameOf (to_any (answered_in packets to)) WasSent
   any_was_sent own server f h = was_sent h.ask server f h.came_so
 
 -- ---- its numbers are within their types
@@ -86,20 +87,20 @@ module _ (part : ℕ) (s : Segment) where
 -- ---- the laws
 
 pub what_is_read_is_the_text : OneNameOneText → APlaceNamesOneContent → WhatIsReadIsTheText
-what_is_read_is_the_text one place texts packets cuts seg s l group h =
-    (joined one place texts packets cuts (answered_in packets) seg l group (was_sent texts packets cuts seg l) s h).is
+what_is_read_is_the_text one place texts packets to cuts seg s l group h =
+    (joined one place texts packets cuts (answered_in packets to) seg l group (was_sent texts packets to cuts seg l) s h).is
 
 pub takeovers_read_texts : OneNameOneText → APlaceNamesOneContent → WhatIsToldIsInRange → TakeoversReadWhatCame → TakeoversReadTexts
-takeovers_read_texts one place ranged reads part texts packets cuts take p ask own server told s h at answered l group completes =
+takeovers_read_texts one place ranged reads part texts packets to cuts take p ask own server told s h at answered l group completes =
     by p.reading refl (subst (λ o. completes_at take o own server told ≡ Some s) at completes)
   where
     by : (o : Option ReadingState) → p.reading ≡ o → completes_in take o own server told ≡ Some s → IsRead part texts s
     by None is done = absurd (cc)
     by (Some r) is done =
-        let flown : IsFlown one place texts packets cuts (to_any (answered_in packets)) p.source.seg l group
-        (any_was_sent texts packets cuts p.source.seg l) s =
-        joined one place texts packets cuts (to_any (answered_in packets)) p.source.seg l group (any_was_sent texts packets cuts p.source.seg l) s
-        (reads packets cuts take p r ask own server told s h at is answered done)
+        let flown : IsFlown one place texts packets cuts (to_any (answered_in packets to)) p.source.seg l group
+        (any_was_sent texts packets to cuts p.source.seg l) s =
+        joined one place texts packets cuts (to_any (answered_in packets to)) p.source.seg l group (any_was_sent texts packets to cuts p.source.seg l) s
+        (reads packets to cuts take p r ask own server told s h at is answered done)
         in
         record {
           text = sym (l.texts_of s flown.among);

@@ -17,6 +17,7 @@ use Rattle.stripe_code.specs.Reading.{ReadingState}
 use Rattle.token_client.specs.declared.held.Fetch.{Fetch}
 use Rattle.token_law.specs.Net as tokens
 use Rattle.wire_msg.specs.declared.packet.Packet.{Packet}
+use Rattle.xfs_base.specs.declared.node.NodeId.{NodeId}
 use Rattle.xfs_base.specs.declared.entry.Place.{Place}
 use Rattle.place_law.specs.Reads.{FiledKnown}
 
@@ -32,13 +33,13 @@ ReadsItsFetch s =
 
 -- A client that serves, beside what logs filed: the place of each fetch and of its reading is what a filed segment says of the block, what it holds of the reading
 -- came, and the reading is the fetch's.
-pub record FetchesWell (packets : List Packet) (cuts : Cuts) (f : Filed) (s : Serving) : Type 0 where
+pub record FetchesWell (packets : List Packet) (to : NodeId) (cuts : Cuts) (f : Filed) (s : Serving) : Type 0 where
   pub told : ServingHolds (told_by (rows_at f)) s
-  pub came : ServesSo (answered_in packets) (cut_by cuts) s
+  pub came : ServesSo (answered_in packets to) (cut_by cuts) s
   pub its : ReadsItsFetch s
 
--- Whatever packet that was sent makes its reading end, what is read of the block is what the filed segment says at the place of the fetch.
+-- Whatever packet that was sent to it makes its reading end, what is read of the block is what the filed segment says at the place of the fetch.
 abbrev pub FetchesReadThere : Type 0
 FetchesReadThere =
-    (texts : Texts) (packets : List Packet) (cuts : Cuts) (f : Filed) (s : Serving) (p : Packet) (part most c : ℕ) (n : tokens.Net)
-    → FiledKnown texts packets cuts f → BooksAre n.books f → ArePlain f → FetchesWell packets cuts f s → In p packets → ServingReads part most c n s p p.body
+    (texts : Texts) (packets : List Packet) (to : NodeId) (cuts : Cuts) (f : Filed) (s : Serving) (p : Packet) (part most c : ℕ) (n : tokens.Net)
+    → FiledKnown texts packets cuts f → BooksAre n.books f → ArePlain f → FetchesWell packets to cuts f s → In p packets → p.to ≡ to → ServingReads part most c n s p p.body
