@@ -16,6 +16,7 @@ use Rattle.manager_node.specs.declared.slot_phase.Taking.{Taking}
 use Rattle.node_index_tie.specs.ManagerEvents as places
 use Rattle.node_index_tie.specs.Pages.{Desk}
 use Rattle.node_index_tie.specs.Sight.{Texts, Questions, AreTexts, held_in}
+use Rattle.node_index_tie.proofs.Moves.{nothing}
 use Rattle.node_index_tie.proofs.Handing.{Owes, starts}
 use Rattle.node_index_tie.proofs.Moves.{put_here}
 use Rattle.node_tie.specs.ManagerEvents as owners
@@ -141,7 +142,7 @@ module _ (members part : ℕ) (texts : Texts) (t : tokens.Net) (i : index.Net) (
       handed =
           gathered later.news.epoch hands.index later.news.horizon later.reports
           (good_in part (held_in part texts) tied.any _
-          (ThenIndex tied.index_run (starts part texts asked (λ e. Unit {0}) desk i u given k owes filed hands)))
+          (ThenIndex tied.index_run (starts part texts asked (nothing (Unit {0})) desk i u given k owes filed hands)))
 
     pub completes : owners.Completes members part t u.take given
     completes rows is latest =
