@@ -44,7 +44,7 @@ use Rattle.wire_msg.specs.declared.registry.Hello.{Hello}
 use Rattle.world_base.specs.declared.world.World.{World}
 use Rattle.world_base.specs.NextWorld.{sent_at}
 use Rattle.world_logs.proofs.Groups.{Names}
-use Rattle.world_logs.proofs.Says.{NoMap, MaySay, plain_no_map}
+use Rattle.world_logs.proofs.Says.{MaySay, Plain, SaidByCleaner, SaidByServer}
 use Rattle.world_logs.specs.Shelves.{group_at, groups_of}
 use Rattle.xfs_base.proofs.Booleans.{by_test}
 use Rattle.xfs_base.specs.declared.node.NodeId.{NodeId}
@@ -106,6 +106,27 @@ Any e = Unit {0}
 any_each : (es : List Effect) → AllByRecursion Any es
 any_each [] = tt
 any_each (e ∷ es) = (tt, any_each es)
+
+-- it bears no map
+abbrev NoMap : Body → Type 0
+NoMap (body.Welcome m) = ⊥
+NoMap (body.MapNews m) = ⊥
+NoMap _ = Unit {0}
+
+plain_no_map : (m : Body) → Plain m → NoMap m
+plain_no_map (body.Welcome m) h = h
+plain_no_map (body.MapNews m) h = h
+plain_no_map _ h = tt
+
+servers_no_map : (m : Body) → SaidByServer m → NoMap m
+servers_no_map (body.Welcome m) h = h
+servers_no_map (body.MapNews m) h = h
+servers_no_map _ h = tt
+
+cleaners_no_map : (m : Body) → SaidByCleaner m → NoMap m
+cleaners_no_map (body.Welcome m) h = h
+cleaners_no_map (body.MapNews m) h = h
+cleaners_no_map _ h = tt
 
 module _ (cuts : Cuts) where
   no_map : (m : Body) → NoMap m → BodyMaps cuts m
@@ -279,13 +300,13 @@ pub new_maps : (cuts : Cuts) (x : AnyNode) (name : NodeId) (what : Do) (clock : 
     → ((q : Packet) → In q (map (sent_at clock) (any_step x what).packets) → MaySay q.from q.body)
     → (q : Packet) → In q (map (sent_at clock) (any_step x what).packets) → BodyMaps cuts q.body
 new_maps cuts (any.Client node) name what clock kind own says =
-    none_sent cuts (Client (clients.lasting_of node.phase).number) clock (clients.takes node what).outs plain_no_map says
+    none_sent cuts (Client (clients.lasting_of node.phase).number) clock (clients.takes node what).outs (λ m h. plain_no_map m h.0) says
 new_maps cuts (any.Manager node) name what clock kind own says =
-    none_sent cuts (Manager (lasting_of node.phase).number) clock (managers.happens node what).outs (λ m h. plain_no_map m h.0) says
+    none_sent cuts (Manager (lasting_of node.phase).number) clock (managers.happens node what).outs plain_no_map says
 new_maps cuts (any.Server node) name what clock kind own says =
-    none_sent cuts (Server node.number) clock (servers.takes node what).outs (λ m h. h) says
+    none_sent cuts (Server node.number) clock (servers.takes node what).outs servers_no_map says
 new_maps cuts (any.Cleaner node) name what clock kind own says =
-    none_sent cuts Cleaner clock (cleaners.takes node.peers node.phase what).outs (λ m h. h) says
+    none_sent cuts Cleaner clock (cleaners.takes node.peers node.phase what).outs cleaners_no_map says
 new_maps cuts (any.Registry node) name what clock kind own says =
     sent_so Registry clock (Says cuts) (λ (p : Packet). BodyMaps cuts p.body) (λ to said d. d) (takes node what).outs
     (takes_says cuts node what (own (registry_step node what).node.board.groups refl (registry_named name kind)))
