@@ -1,8 +1,8 @@
 -- The books of a log that is opened again: its end, what is said up to it, and that nothing is said behind what was there before.
-use Rattle.std.proofs.Common.{◌≡◌, ◌≤◌, ◌<◌, ◌+◌, ℕ, zero, suc, Bool, true, false, [], nat_le, nat_lt, refl, sym, ap, subst, ◌∙◌, arith}
+use Rattle.std.proofs.Common.{◌≡◌, ◌≤◌, ◌<◌, ◌+◌, ℕ, zero, suc, Bool, true, false, [], nat_le, refl, sym, ap, ◌∙◌, arith}
 use Rattle.std.proofs.lemmas.Bool.Decides.{nat_tests}
 use Rattle.node_tie.proofs.ClientBooks.{filed_end, put_here, put_there, said_now, said_still}
-use Rattle.token_law.specs.Books.{Books, discarded, filed, reopened, sealed, with_empty}
+use Rattle.token_law.specs.Books.{Books, filed, reopened, sealed, with_empty}
 use Rattle.token_protocol.specs.Basics.{put}
 
 apart : (q e : ℕ) → q < e → q ≡ e → ⊥

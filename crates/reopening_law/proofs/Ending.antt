@@ -5,17 +5,17 @@ use Rattle.client_law.proofs.Emptying.{packet_empty, tick_empty}
 use Rattle.client_law.specs.Empty.{OpensEmpty, WaitsForNothing}
 use Rattle.client_log.specs.declared.input.In.{In as LogIn}
 use Rattle.client_log.specs.declared.input.In.TheVariants as log_in
-use Rattle.client_log.specs.LogState.{FlightState, LogState}
+use Rattle.client_log.specs.LogState.{FlightState}
 use Rattle.client_log.specs.Transition as log
 use Rattle.client_log_tie.specs.ClientEvents.{IsOnce, ServesStraight}
-use Rattle.client_log_tie.specs.Owner.{Scene, SeesLog, SeesScan, SeesStage, SeesWriting}
+use Rattle.client_log_tie.specs.Owner.{Scene, SeesLog, SeesStage}
 use Rattle.group_map.specs.GroupMapState.{GroupMapState}
 use Rattle.log_law.specs.Events.{Happens, Runs}
 use Rattle.log_law.specs.Events.Happens.{Acts, Writes, Opens, Crashes, Restarts, Renews, Serves, Bars, Lists, Hears, Raises, Publishes, Welcomes, Drops}
 use Rattle.log_law.specs.Events.Runs.{Begun, On}
-use Rattle.log_law.specs.Net.{Net, Told, after_flight, after_told, after_writing, chain_in}
-use Rattle.log_law.specs.Net.Owner.{Opening as Scans, Serving, Writing}
-use Rattle.log_law.specs.Restarts.{is_serving, is_writing}
+use Rattle.log_law.specs.Net.{Net, Told, after_told, chain_in}
+use Rattle.log_law.specs.Net.Owner.{Opening as Scans}
+use Rattle.log_law.specs.Restarts.{is_serving}
 use Rattle.log_owner.specs.declared.known.Known.{Known}
 use Rattle.log_owner.specs.declared.opened.Opened.{Opened}
 use Rattle.log_owner.specs.declared.opened.Progress.{Progress}
@@ -43,9 +43,7 @@ use Rattle.wire_msg.specs.declared.registry.News.{News}
 use Rattle.xfs_base.proofs.Booleans.{by_test, contrary}
 use Rattle.xfs_base.specs.declared.node.NodeId.{NodeId}
 use Rattle.xfs_base.specs.declared.segment.End.{End}
-use Rattle.xfs_base.specs.declared.segment.SegName.{SegName}
 use Rattle.reopening_law.specs.Openings.{EndsByOne, EndsSo, OpeningsEndByOne}
-use Rattle.reopening_law.specs.Reopens.{IsOpened}
 
 -- ---- the chain of a log that is open
 
@@ -189,10 +187,12 @@ module _ (g : Setting) (c : ℕ) (o : Opening) where
 
 pub openings_end_by_one : OpeningsEndByOne
 openings_end_by_one g c o q = (
-  λ p. ends_so g c o (on_packet o q p).progress
-      (λ waits. packet_empty o q p waits,
-      λ s is. subst (λ (at : Stage). HasChain s.chain (on_packet (record o { stage = at }) q p).progress) (sym is) (packet_chain q s o p)),
-  ends_so g c o (on_tick o q).progress
-      (λ waits. tick_empty o q waits,
-      λ s is. subst (λ (at : Stage). HasChain s.chain (on_tick (record o { stage = at }) q).progress) (sym is) (tick_chain q s o)),
+  λ p. ends_so g c o (on_packet o q p).progress (
+    λ waits. packet_empty o q p waits,
+    λ s is. subst (λ (at : Stage). HasChain s.chain (on_packet (record o { stage = at }) q p).progress) (sym is) (packet_chain q s o p),
+  ),
+  ends_so g c o (on_tick o q).progress (
+    λ waits. tick_empty o q waits,
+    λ s is. subst (λ (at : Stage). HasChain s.chain (on_tick (record o { stage = at }) q).progress) (sym is) (tick_chain q s o),
+  ),
 )

@@ -1,5 +1,5 @@
 -- What the owner had in flight when it served last is what is in flight while it serves; it stays while the owner serves nowhere.
-use Rattle.std.proofs.Common.{⊎_elim, ◌≡◌, ◌⊎◌, ◌≤◌, ◌<◌, ℕ, suc, true, false, List, Option, Some, None, refl, sym, ap, subst, ◌∙◌, inl, inr, arith}
+use Rattle.std.proofs.Common.{◌≡◌, ◌≤◌, ℕ, suc, false, List, Option, Some, None, refl, sym, ap, subst, ◌∙◌, arith}
 use Rattle.std.specs.Prelude.{IfSome}
 use Rattle.client_log.specs.LogState.{FlightState, LogState}
 use Rattle.client_log.specs.Transition as log
@@ -8,7 +8,7 @@ use Rattle.group_map.specs.GroupMapState.{GroupMapState}
 use Rattle.log_law.specs.Events.{Happens, Runs}
 use Rattle.log_law.specs.Events.Happens.{Acts, Writes, Opens, Crashes, Restarts, Renews, Serves, Bars, Lists, Hears, Raises, Publishes, Welcomes, Drops}
 use Rattle.log_law.specs.Events.Runs.{Begun, On}
-use Rattle.log_law.specs.Net.{Net, Owner, Told, after_flight, after_told, after_writing, after_scan, chain_in}
+use Rattle.log_law.specs.Net.{Net, Owner, Told, after_flight, after_told, chain_in}
 use Rattle.log_law.specs.Net.Owner.{Down, Opening, Serving, Writing}
 use Rattle.log_law.specs.Restarts.{flight_in, is_serving, last_flight}
 use Rattle.log_law.specs.Tails.{then_on}
@@ -20,7 +20,7 @@ use Rattle.node_tie.specs.Sight.{SameLog}
 use Rattle.segment_format.specs.declared.segment.Segment.{Segment}
 use Rattle.token_law.specs.Books.{Books}
 use Rattle.xfs_base.proofs.Booleans.{contrary}
-use Rattle.reopening_law.specs.Flights.{FlightsOfOwners, FlightsStay, LastFlew, OthersLeaveFlights, ServesWithIt}
+use Rattle.reopening_law.specs.Flights.{FlightsOfOwners, FlightsStay, LastFlew, OthersLeaveFlights}
 
 -- ---- while it serves
 

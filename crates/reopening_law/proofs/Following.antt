@@ -1,5 +1,5 @@
 -- The books of a log that is opened again: they go on to its end, and have what is filed then.
-use Rattle.std.proofs.Common.{⊎_elim, ◌≡◌, ◌⊎◌, ◌≤◌, ◌<◌, ◌+◌, ◌-◌, ℕ, zero, suc, Bool, true, false, List, [], ◌∷◌, ◌++◌, Option, Some, None, is_some, nat_le, refl, sym, ap, subst, ◌∙◌, inl, inr, arith}
+use Rattle.std.proofs.Common.{⊎_elim, ◌≡◌, ◌⊎◌, ◌≤◌, ◌<◌, ◌+◌, ◌-◌, ℕ, zero, suc, Bool, true, false, List, [], ◌++◌, Option, Some, None, is_some, nat_le, refl, sym, ap, subst, ◌∙◌, inl, inr, arith}
 use Rattle.std.proofs.lemmas.Bool.Decides.{nat_tests}
 use Rattle.std.specs.Prelude.{IfSome}
 use Rattle.client_log.specs.LogState.{FlightState, LogState}
@@ -21,13 +21,11 @@ use Rattle.act_tie.specs.BlockActs.{is_adopted}
 use Rattle.log_owner.specs.declared.opened.Opened.{Opened}
 use Rattle.token_law.specs.Owed as owned
 use Rattle.segment_format.specs.declared.segment.Segment.{Segment}
-use Rattle.segment_format.specs.declared.segment.Item.{Item}
 use Rattle.token_law.specs.Books.{Books, reopened, with_empty}
 use Rattle.version_model.specs.Effects.{holds_flight}
 use Rattle.xfs_base.proofs.Booleans.{contrary}
 use Rattle.xfs_base.specs.declared.segment.SegName.{SegName}
 use Rattle.reopening_law.specs.Below.{Below}
-use Rattle.reopening_law.specs.Flights.{LastFlew}
 use Rattle.reopening_law.specs.Reopens.{BooksAfter, BooksFollow, BooksThen, ClientsReopenSo, FiledOf, IsOpened, Reopens, TheCleanerReopensSo, has_flight}
 use Rattle.reopening_law.proofs.Books.{adopted_end, empty_end, empty_flies, empty_keeps, empty_says, reopened_flies, reopened_keeps, reopened_rises}
 use Rattle.reopening_law.proofs.Chains.{Holds, found, holds, in_either, its_segment}

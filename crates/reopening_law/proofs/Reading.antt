@@ -1,21 +1,19 @@
 -- What a reopening read back is what was filed, and what it adopts.
-use Rattle.std.proofs.Common.{⊎_elim, ◌≡◌, ◌⊎◌, ◌≤◌, ◌<◌, ◌+◌, ◌-◌, ℕ, suc, List, length, refl, sym, ap, subst, ◌∙◌, arith}
+use Rattle.std.proofs.Common.{⊎_elim, ◌≡◌, ◌≤◌, ◌<◌, ◌+◌, ◌-◌, ℕ, suc, List, length, sym, arith}
 use Rattle.client_log.specs.LogState.{LogState}
 use Rattle.index_tie.specs.Filed.{Filed}
 use Rattle.log_law.specs.Net.{Net}
 use Rattle.log_law.specs.ReadBack.{ReadsDown}
-use Rattle.log_protocol.specs.Tables.{In}
 use Rattle.log_tie.specs.Setting.{Setting}
 use Rattle.node_index_tie.specs.Sight.{Texts}
 use Rattle.owner_index_tie.specs.Owners.{ReadBack}
 use Rattle.segment_format.specs.declared.segment.Segment.{Segment}
 use Rattle.token_protocol.specs.Basics.{In as Among}
-use Rattle.xfs_base.specs.declared.segment.SegName.{SegName}
 use Rattle.reopening_law.specs.Below.{Below}
 use Rattle.reopening_law.specs.Reopens.{AreTextsThere, FiledOf, ReopeningsReadBack, Reopens}
 use Rattle.reopening_law.proofs.Chains.{all_so, among_in, numbers, short}
 use Rattle.reopening_law.proofs.Reopened as reopened
-use Rattle.reopening_law.proofs.Steps.{IsReached, is_reached}
+use Rattle.reopening_law.proofs.Steps.{is_reached}
 
 module _ (k : Below) (g : Setting) (n o : Net) (chain : List Segment) (s r : LogState) (e : Reopens g n o chain s r) (texts : Texts) (l : ℕ) (f : Filed) (low : ℕ)
     (there : AreTextsThere texts n) (filed : FiledOf l f n) (reaches : ReadsDown n low (record { segments = chain; end = s.end })) where

@@ -1,5 +1,5 @@
 -- The step of the small world by which a restart ends: the log of the owner takes an input by which its opening segment is settled.
-use Rattle.std.proofs.Common.{⊎_elim, ◌≡◌, ◌⊎◌, ◌≤◌, ℕ, suc, true, false, List, [], ◌∷◌, ◌++◌, Option, Some, None, refl, sym, ap, subst, ◌∙◌, inl, inr, arith}
+use Rattle.std.proofs.Common.{◌≡◌, ◌⊎◌, ◌≤◌, suc, List, [], ◌∷◌, ◌++◌, Option, Some, None, refl, sym, ap, subst, ◌∙◌, inl, inr, arith}
 use Rattle.std.specs.List.{AllByRecursion}
 use Rattle.client_log.specs.declared.input.In.{In as Input}
 use Rattle.client_log.specs.declared.output.Out.{Out}
@@ -11,8 +11,8 @@ use Rattle.log_law.specs.Events.{Happens, Runs}
 use Rattle.log_law.specs.Events.Happens.{Acts, Writes, Opens, Crashes, Restarts, Renews, Serves, Bars, Lists, Hears, Raises, Publishes, Welcomes, Drops}
 use Rattle.log_law.specs.Events.Runs.{Begun, On}
 use Rattle.log_law.specs.Laws.{Moment}
-use Rattle.log_law.specs.Net.{Net, Owner, Told, after_flight, after_scan, after_told, after_writing, chain_in, flown_with, names_of, first_write, opening}
-use Rattle.log_law.specs.Net.Owner.{Down, Opening, Serving, Writing}
+use Rattle.log_law.specs.Net.{Net, Owner, Told, after_flight, after_told, after_writing, chain_in, names_of, first_write, opening}
+use Rattle.log_law.specs.Net.Owner.{Serving, Writing}
 use Rattle.log_law.specs.Restarts.{is_serving, is_writing}
 use Rattle.log_protocol.specs.Tables.{In}
 use Rattle.log_scan.specs.ScanState.{ScanState}
