@@ -84,7 +84,16 @@ module _ (g : Setting) (is : g.log ≡ cleaner_log) (w : Scene) where
     only : OnlyOrdered g (its_asker w) w.net next.net x.outs
 
   at_once : (p : Phase) (outs : List Effect) → CleanerAgrees g w p → AllDone g w outs → Goes (record { state = p; outs = outs })
-  at_once p outs sees does = record { next = w; grown = still_grows g w; agrees = sees; does = does; flies = inr (refl, refl); straight = once_straight g w.net w.net (still_grows g w).runs (still_once g w); only = λ name is. inl is }
+  at_once p outs sees does =
+      record {
+        next = w;
+        grown = still_grows g w;
+        agrees = sees;
+        does = does;
+        flies = inr (refl, refl);
+        straight = once_straight g w.net w.net (still_grows g w).runs (still_once g w);
+        only = λ name is. inl is;
+      }
 
   stays : (p : Phase) → CleanerAgrees g w p → Goes (still p)
   stays p sees = at_once p [] sees tt

@@ -147,7 +147,15 @@ module _ (g : Setting) (c : ℕ) (small : is_log g.log.0 ≡ true) (w : Scene) (
   -- nothing changes
   stays_so : (o : Opening) → SeesStage g c w o.known q.last o.stage → StageWritten o.stage → Goes (drops o q)
   stays_so o sees written =
-      record { next = w; grown = frames.grown_still g w; lasts = lasts; shows = (sees, written); does = All-nil (ClientDoes g c w); lost = λ l. absurd l; once = frames.still_once g w }
+      record {
+        next = w;
+        grown = frames.grown_still g w;
+        lasts = lasts;
+        shows = (sees, written);
+        does = All-nil (ClientDoes g c w);
+        lost = λ l. absurd l;
+        once = frames.still_once g w;
+      }
 
   -- ---- the scan
 
@@ -311,7 +319,16 @@ module _ (g : Setting) (c : ℕ) (small : is_log g.log.0 ≡ true) (w : Scene) (
       (record { groups = is; past = h.sees.past; some = h.sees.some }) h.sees.asks)
   regrouped_so k (stage.Settling s) maps m h is came fits_so =
       writing.maps_so g c w its life (record k { maps = maps }) q s lasts
-      (record { owner = h.sees.owner; log = h.sees.log; own = h.sees.own; clear = h.sees.clear; flight = h.sees.flight; flies = h.sees.flies; empty = h.sees.empty; reads = h.sees.reads })
+      (record {
+        owner = h.sees.owner;
+        log = h.sees.log;
+        own = h.sees.own;
+        clear = h.sees.clear;
+        flight = h.sees.flight;
+        flies = h.sees.flies;
+        empty = h.sees.empty;
+        reads = h.sees.reads;
+      })
       h.written m came fits_so
 
   news_so : (o : Opening) (news : News) → Sees o.known o.stage → In (MapSent news.groups) w.net.sent → MapFits news.groups → Goes (on_news o q news)

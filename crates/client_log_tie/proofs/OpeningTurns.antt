@@ -72,7 +72,8 @@ launched_flies s name prior items clear none = record {
 pub begins : (s : LogState) → s.dirty ≡ [] → s.flight ≡ None → has_next s.end.seq ≡ true → FliesOn s.end (on_parts s [])
 unfolding on_parts
 begins s clear idle next =
-    subst (λ (o : Option FlightState). FliesOn s.end (cond (is_idle (record s { flight = o }) && has_next s.end.seq && true) (writes s []) (still s))) (sym idle)
+    subst (λ (o : Option FlightState). FliesOn s.end (cond (is_idle (record s { flight = o }) && has_next s.end.seq && true) (writes s []) (still s)))
+    (sym idle)
     (subst (λ b. FliesOn s.end (cond (b && true) (writes s []) (still s))) (sym next) (launched_flies s (next_name s) (prior_from s.end) [] clear refl))
 
 not_full : (s : LogState) → s.dirty ≡ [] → nat_le segment_blocks (length s.dirty) ≡ false
@@ -95,7 +96,8 @@ module _ (s : LogState) (f : FlightState) (clear : s.dirty ≡ []) (none : f.seg
   looks_on : (before : LogState) → Turns s.end (still before) → Turns s.end (looked_at before s f)
   unfolding looked_at
   looks_on before h =
-      by_test (Turns s.end) (can_follow s f (fate_of s.groups f)) (followed s f (fate_of s.groups f)) (still before) (λ t. follows_on (fate_of s.groups f)) (λ t. h)
+      by_test (Turns s.end) (can_follow s f (fate_of s.groups f)) (followed s f (fate_of s.groups f)) (still before) (λ t. follows_on (fate_of s.groups f))
+      (λ t. h)
 
 module _ (s : LogState) (f : FlightState) (clear : s.dirty ≡ []) (none : f.segment.items ≡ []) (is : s.flight ≡ Some f) where
   pub rests : Turns s.end (still s)
@@ -105,7 +107,8 @@ module _ (s : LogState) (f : FlightState) (clear : s.dirty ≡ []) (none : f.seg
   unfolding on_acked
   acked_turns name index generation =
       subst (λ o. Turns s.end (elim o [ None ↦ still s | Some h ↦ cond (is_of h name index generation) (looked_at s s (noting h index)) (still s) ])) (sym is)
-      (by_test (Turns s.end) (is_of f name index generation) (looked_at s s (noting f index)) (still s) (λ t. looks_on s (noting f index) clear none s rests) (λ t. rests))
+      (by_test (Turns s.end) (is_of f name index generation) (looked_at s s (noting f index)) (still s) (λ t. looks_on s (noting f index) clear none s rests)
+      (λ t. rests))
 
   pub maps_turn : (m : GroupMapState) → Turns s.end (on_maps s m)
   unfolding on_maps

@@ -82,7 +82,8 @@ or_either false b t = inr t
 
 pub holds : (chain : List Segment) (f : FlightState) → holds_flight (names_in chain) (flight_of (Some f)) ≡ true → Holds chain f
 holds [] f t = contrary t
-holds (s ∷ chain) f t = ⊎_elim here (λ u. there (holds chain f u)) (or_either ((s.name.seq == f.segment.name.seq) && (s.name.pass.inc == f.segment.name.pass.inc)) _ t)
+holds (s ∷ chain) f t =
+    ⊎_elim here (λ u. there (holds chain f u)) (or_either ((s.name.seq == f.segment.name.seq) && (s.name.pass.inc == f.segment.name.pass.inc)) _ t)
   where
     here : ((s.name.seq == f.segment.name.seq) && (s.name.pass.inc == f.segment.name.pass.inc)) ≡ true → Holds (s ∷ chain) f
     here u = record {

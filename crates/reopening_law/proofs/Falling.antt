@@ -140,7 +140,8 @@ module _ (acts : List Act) (c : ℕ) (flight : Option FlightState) where
   abbrev Tells : Went_to → Type 0
   Tells x = FallTells (acts ++ acts_of (Client c) x.outs) c flight x.state
 
-  away_tells : (p : Phase) (outs : List Effect) → FellWith acts c flight → AllByRecursion (IsQuiet c) outs → FallTells (acts ++ acts_of (Client c) outs) c flight p
+  away_tells : (p : Phase) (outs : List Effect) → FellWith acts c flight → AllByRecursion (IsQuiet c) outs
+      → FallTells (acts ++ acts_of (Client c) outs) c flight p
   away_tells (Down l) outs fell quiet = falls_stay acts (acts_of (Client c) outs) c flight (quiet_acts c outs quiet) fell
   away_tells (Opening l o) outs fell quiet = falls_stay acts (acts_of (Client c) outs) c flight (quiet_acts c outs quiet) fell
   away_tells (Serves s) outs fell quiet = tt

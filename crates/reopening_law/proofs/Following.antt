@@ -164,7 +164,8 @@ module _ (k : Below) (g : Setting) (n o : Net) (chain : List Segment) (s r : Log
       discards none = ⊎_elim (λ nothing. nothing) by tells
         where
           by_name : (x : FlightState) → flight ≡ Some x → IsAttemptOf g x it
-              → In it.name (log_filed g.log (log.transition s (then.by k g n o chain s r e).input).outs) ⊎ In it.name (names_of chain ++ n.filed) → it.items ≡ []
+              → In it.name (log_filed g.log (log.transition s (then.by k g n o chain s r e).input).outs) ⊎ In it.name (names_of chain ++ n.filed)
+              → it.items ≡ []
           by_name x is attempt (inl opening) =
               let z = landed s (then.by k g n o chain s r e).input g.log (log.transition s (then.by k g n o chain s r e).input).outs
               (k.due s (then.by k g n o chain s r e).input) it.name opening in

@@ -15,7 +15,8 @@ use Rattle.reopening_law.proofs.Chains.{all_so, among_in, numbers, short}
 use Rattle.reopening_law.proofs.Reopened as reopened
 use Rattle.reopening_law.proofs.Steps.{is_reached}
 
-module _ (k : Below) (g : Setting) (n o : Net) (chain : List Segment) (s r : LogState) (e : Reopens g n o chain s r) (texts : Texts) (l : ℕ) (f : Filed) (low : ℕ)
+module _ (k : Below) (g : Setting) (n o : Net) (chain : List Segment) (s r : LogState) (e : Reopens g n o chain s r) (texts : Texts) (l : ℕ) (f : Filed)
+    (low : ℕ)
     (there : AreTextsThere texts n) (filed : FiledOf l f n) (reaches : ReadsDown n low (record { segments = chain; end = s.end })) where
   -- the least horizon is no further than one beyond what is filed
   horizon : low ≤ suc (f.head l)
