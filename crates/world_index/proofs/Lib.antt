@@ -19,3 +19,4 @@ pub mod AskingTurns
 pub mod Start
 pub mod Turns
 pub mod Laws
+pub mod Tokens

@@ -1,15 +1,19 @@
 -- Each event of the world keeps a moment standing to the small world of a slot's index, if logs and tokens give what they owe.
-use Rattle.std.proofs.Common.{◌≡◌, ◌⊎◌, ℕ, ◌+◌, ◌<◌, List, ◌++◌, Some, map, slice_get, slice_set, inl, inr, refl, sym, ap, subst, ◌∙◌, arith}
+use Rattle.std.proofs.Common.{◌≡◌, ◌⊎◌, ℕ, ◌+◌, ◌<◌, List, ◌++◌, Some, map, slice_get, slice_set, inl, inr, refl, sym, ap, subst, ◌∙◌, arith, ⊎_elim, true, Option, None, ◌≤◌}
 use Rattle.client_node.specs.Phases.{takes}
 use Rattle.cleaner_node.specs.CleanerEvents as cleaners
 use Rattle.core_world.specs.AnyNode.{any_step}
 use Rattle.core_world.specs.declared.any_node.AnyNode.{AnyNode}
 use Rattle.core_world.specs.declared.any_node.AnyNode.TheVariants as any
+use Rattle.index_tie.specs.Net.{Net}
 use Rattle.index_tie.specs.NetLaws.{CheckpointsHaveManagers}
+use Rattle.manager_node.specs.declared.manager.Manager.{Manager as ManagerNode}
 use Rattle.manager_node.specs.Events.{happens}
+use Rattle.node_index_tie.proofs.Moves.{some_none}
 use Rattle.node_index_tie.specs.ManagerEvents.{FirstManagerAgrees, ManagerEventGoes, ManagerGoes, ManagersStay}
 use Rattle.node_index_tie.specs.RegistryEvents.{RegistryEventGoes, RegistryGoes, RegistryStarts}
 use Rattle.node_index_tie.specs.Sight.{Texts}
+use Rattle.node_tie.specs.ManagerEvents.{epoch_in, is_serving}
 use Rattle.node_tie.specs.RegistryEvents.{RegistrySound}
 use Rattle.node_tie.specs.RegistryEvents as maps
 use Rattle.owner_index_tie.specs.CleanerEvents.{CleanerEventGoes, CleanerGoes, CleanerStartAgrees, CleanerStays}
@@ -17,7 +21,9 @@ use Rattle.owner_index_tie.specs.ClientEvents.{ClientEventGoes, ClientGoes, Clie
 use Rattle.owner_index_tie.specs.ServerEvents.{ServerEventGoes}
 use Rattle.segment_format.specs.declared.segment.Segment.{Segment}
 use Rattle.store_nodes.specs.declared.server.Server.{Server as ServerNode}
-use Rattle.token_protocol.specs.Basics.{In}
+use Rattle.token_manager.specs.SlotState.{SlotState}
+use Rattle.token_protocol.specs.Basics.{In, put}
+use Rattle.token_tie.proofs.Frames.{put_here}
 use Rattle.version_model.specs.declared.act.Act.{Act}
 use Rattle.wire_msg.specs.declared.packet.Do.{Do}
 use Rattle.wire_msg.specs.declared.packet.Do.TheVariants.{Deliver}
@@ -42,7 +48,7 @@ use Rattle.world_index.proofs.Gets.{manager_gets, registry_gets}
 use Rattle.world_index.proofs.ManagerTurns as managers
 use Rattle.world_index.proofs.RegistryTurns as others
 use Rattle.world_index.proofs.Senders.{IsKind, IsSentBy}
-use Rattle.world_index.specs.Standing.{Fact, Scene, SentBy, Stands, WasAsked, holder, members}
+use Rattle.world_index.specs.Standing.{Came, Fact, Scene, SentBy, Stands, WasAsked, holder, members}
 use Rattle.world_index.specs.Owes.{IndexOwes, Makes}
 use Rattle.world_law.proofs.ManagerTurns.{delivered}
 use Rattle.world_law.proofs.Places.{Behind, behind}
@@ -83,6 +89,7 @@ module _ (laws : NodeLaws) (k : Cluster) (part : ℕ) (of_eight : part < 8) (tex
           RegistrySound next
       pub grown : Grown s.net next.net
       pub makes : Makes part texts s.net next.net name node what
+      pub came : (e : ℕ) (z : SlotState) → next.net.slots e ≡ Some z → s.net.slots e ≡ None → Came k part s next name what e
 
     abbrev pub Owed : NodeId → AnyNode → Type 0
     Owed name node = IndexOwes part texts s.asked k.managers (holder part s) s.net name node what
@@ -90,6 +97,11 @@ module _ (laws : NodeLaws) (k : Cluster) (part : ℕ) (of_eight : part < 8) (tex
     -- what comes to this node was sent, by a node that may send it
     abbrev pub Brought : Type 0
     Brought = (q : Packet) → what ≡ Deliver q → SentBy part s.net s.asked q.from q.body × IsSentBy q.from q.body
+
+    -- where slots are as they were, no epoch gets a manager
+    none_came : (name : NodeId) (next : Scene) → next.net.slots ≡ s.net.slots → (e : ℕ) (z : SlotState) → next.net.slots e ≡ Some z → s.net.slots e ≡ None
+        → Came k part s next name what e
+    none_came name next same e z there none = absurd (some_none z (sym there ∙ (ap (λ (f : ℕ → Option SlotState). f e) same ∙ none)))
 
     client_after : (c : ℕ) → place_of k (Client c) ≡ Some place → (node : AnyNode) → slice_get nodes place ≡ Some node → Owed (Client c) node
         → Turned (Client c) node
@@ -119,6 +131,7 @@ module _ (laws : NodeLaws) (k : Cluster) (part : ℕ) (of_eight : part < 8) (tex
               grown = clients.grown laws.clients_stay laws.managers_stay laws.cleaner_stays k part texts first RegistrySound nodes sent s st c place clock
                   b.some less at here (takes (s.client c) what) go;
               makes = go.is;
+              came = none_came (Client c) _ (ap (λ (x : Net). x.slots) go.is);
             }
 
     manager_after : Brought → (j : ℕ) → place_of k (Manager j) ≡ Some place → (node : AnyNode) → slice_get nodes place ≡ Some node → Owed (Manager j) node
@@ -140,6 +153,11 @@ module _ (laws : NodeLaws) (k : Cluster) (part : ℕ) (of_eight : part < 8) (tex
               writes = owed.writes;
             }))
           where
+            after_here : (go : ManagerGoes part texts s.asked j s.net (s.manager j).phase what (happens (s.manager j) what))
+                → put s.manager j (record (s.manager j) { phase = (happens (s.manager j) what).state }) j
+                ≡ record (s.manager j) { phase = (happens (s.manager j) what).state }
+            after_here go = put_here s.manager j (record (s.manager j) { phase = (happens (s.manager j) what).state })
+
             went : ManagerGoes part texts s.asked j s.net (s.manager j).phase what (happens (s.manager j) what) → Turned (Manager j) (any.Manager (s.manager j))
             went go = record {
               next = managers.manager_scene laws.clients_stay laws.managers_stay laws.cleaner_stays k part texts first RegistrySound nodes sent s st j place clock
@@ -149,6 +167,16 @@ module _ (laws : NodeLaws) (k : Cluster) (part : ℕ) (of_eight : part < 8) (tex
               grown = managers.grown laws.clients_stay laws.managers_stay laws.cleaner_stays k part texts first RegistrySound nodes sent s st j place clock
                   b.some b.within at here what owed.number owed.apart (happens (s.manager j) what) go;
               makes = record { rest = go.rest; slots = go.slots; stay = go.stay };
+              came = λ e z there none. ⊎_elim (λ free. absurd (some_none z (sym there ∙ free)))
+                  (λ known. record {
+                    manager = j;
+                    some = b.some;
+                    most = b.within;
+                    is = refl;
+                    serves = subst (λ (x : ManagerNode). is_serving x.phase ≡ true) (sym (after_here go)) known.0;
+                    knows = subst (λ (x : ManagerNode). e ≤ epoch_in part x.phase) (sym (after_here go)) known.1;
+                    by = λ not_held not_named. some_none z (sym there ∙ (go.slots e not_held not_named ∙ none));
+                  }) (go.came e none);
             }
 
     server_after : (v : ℕ) → place_of k (Server v) ≡ Some place → (node : AnyNode) → slice_get nodes place ≡ Some node → Turned (Server v) node
@@ -158,6 +186,7 @@ module _ (laws : NodeLaws) (k : Cluster) (part : ℕ) (of_eight : part < 8) (tex
           (laws.server there.0 what);
       grown = grown_itself k part texts first nodes sent RegistrySound s st;
       makes = refl;
+      came = none_came (Server v) s refl;
     })
       where
         b : Behind (k.clients + k.managers) k.servers v place
@@ -197,6 +226,7 @@ module _ (laws : NodeLaws) (k : Cluster) (part : ℕ) (of_eight : part < 8) (tex
                 promised = go.promised;
                 deleted = go.deleted;
               };
+              came = none_came Cleaner _ go.slots;
             }
 
     registry_after : Brought → place_of k Registry ≡ Some place → (node : AnyNode) → slice_get nodes place ≡ Some node → Turned Registry node
@@ -225,6 +255,7 @@ module _ (laws : NodeLaws) (k : Cluster) (part : ℕ) (of_eight : part < 8) (tex
             horizon = go.horizon;
             parts = go.parts;
           };
+          came = none_came Registry _ go.slots;
         }
 
     -- what one node's step makes of the moment, if what is owed is given
@@ -258,6 +289,7 @@ module _ (laws : NodeLaws) (k : Cluster) (part : ℕ) (of_eight : part < 8) (tex
       pub makes : (next.net ≡ s.net)
           ⊎ ((node : AnyNode) × (node_in w.nodes (place_of k (node_of event)) ≡ Some node)
           × Makes part texts s.net next.net (node_of event) node (what_of event))
+      pub came : (e : ℕ) (z : SlotState) → next.net.slots e ≡ Some z → s.net.slots e ≡ None → Came k part s next (node_of event) (what_of event) e
 
     -- The packets that were sent are of those who may send them, as the small world of tokens knows (`Senders`).
     pub event_turns : w.cluster ≡ k → MayHappen w event → Stands k part texts first w.nodes w.sent RegistrySound s → ((q : Packet) → In q w.sent → IsKind q)
@@ -265,10 +297,10 @@ module _ (laws : NodeLaws) (k : Cluster) (part : ℕ) (of_eight : part < 8) (tex
         → IndexOwes part texts s.asked k.managers (holder part s) s.net (node_of event) node (what_of event))
         → EventTurned (next_world any_step w event).nodes (next_world any_step w event).sent (next_world any_step w event).acts
     event_turns cluster may st kinds owed = next_keeps any_step EventTurned w event
-        (record { next = s; stands = st; grown = grown_itself k part texts first w.nodes w.sent RegistrySound s st; makes = inl refl })
+        (record { next = s; stands = st; grown = grown_itself k part texts first w.nodes w.sent RegistrySound s st; makes = inl refl; came = λ e z there none. absurd (some_none z (sym there ∙ none)) })
         (λ place node clock at is.
         let at_k : place_of k (node_of event) ≡ Some place = subst (λ c. place_of c (node_of event) ≡ Some place) cluster at in
         let there : node_in w.nodes (place_of k (node_of event)) ≡ Some node = ap (node_in w.nodes) at_k ∙ is in
         let t = turns w.nodes w.sent s st place clock (what_of event) (node_of event) (delivered_fact w.sent s st.facts kinds w refl event may) at_k node is
         (owed node there) in
-        record { next = t.next; stands = t.stands; grown = t.grown; makes = inr (node, there, t.makes) })
+        record { next = t.next; stands = t.stands; grown = t.grown; makes = inr (node, there, t.makes); came = t.came })

@@ -101,7 +101,7 @@ module _ (logs : Bool) (k : Cluster) (part : ℕ) (RegistrySound : RegistryNode 
   promised : go.next.promised ≡ s.net.promised
   promised = promised_stays logs (members k part) part s.net go.next go.runs
 
-  grown : Grown k part s client_scene
+  pub grown : Grown k part s client_scene
   grown = record {
     sent = go.grows;
     lives = put_each (λ d (x : ClientNode). life_of_client s d ≤ (lasting_of x.phase).inc) s.client c after_node go.later (λ d other. omega arith);

@@ -124,7 +124,7 @@ module _ (logs : Bool) (k : Cluster) (part : ℕ) (RegistrySound : RegistryNode 
   promised : go.next.promised ≡ s.net.promised
   promised = promised_stays logs (members k part) part s.net go.next go.runs
 
-  grown : Grown k part s manager_scene
+  pub grown : Grown k part s manager_scene
   grown = record {
     sent = go.grows;
     lives = λ c. omega arith;
@@ -290,7 +290,7 @@ module _ (logs : Bool) (k : Cluster) (part : ℕ) (RegistrySound : RegistryNode 
 
   -- ---- what was entered stays entered
 
-  past_after : (life e : ℕ) → PastAt k part before life e → PastAt k part w.state life e
+  pub past_after : (life e : ℕ) → PastAt k part before life e → PastAt k part w.state life e
   past_after life e (inl less) = inl (let later = go.later in omega arith)
   past_after life e (inr in_life) = by_state w.state refl
     where
@@ -313,6 +313,10 @@ module _ (logs : Bool) (k : Cluster) (part : ℕ) (RegistrySound : RegistryNode 
           (λ was_not. absurd (been_waits_not k part before e (ap is_waiting (go.opens serves was_not).was) in_life.1))
           (one_of (is_serving before))
 
+  pub past_on : (d life e : ℕ) → PastAt k part (s.manager d).phase life e → PastAt k part (put s.manager j after_node d).phase life e
+  past_on d life e = put_each (λ d (x : ManagerNode). PastAt k part (s.manager d).phase life e → PastAt k part x.phase life e) s.manager j after_node
+      (past_after life e) (λ d other q. q) d
+
   entered_after : (e : ℕ) (z : SlotState) → go.next.slots e ≡ Some z
       → (e ≤ epoch_now k part s) × (0 < s.lord e) × (s.lord e ≤ k.managers) × PastAt k part (put s.manager j after_node (s.lord e)).phase (s.since e) e
       × (e ≤ go.next.promised)
@@ -326,8 +330,7 @@ module _ (logs : Bool) (k : Cluster) (part : ℕ) (RegistrySound : RegistryNode 
             h.0,
             h.1,
             h.2,
-            put_each (λ d (x : ManagerNode). PastAt k part (s.manager d).phase (s.since e) e → PastAt k part x.phase (s.since e) e) s.manager j after_node
-                (past_after (s.since e) e) (λ d other q. q) (s.lord e) h.3,
+            past_on (s.lord e) (s.since e) e h.3,
             subst (λ x. e ≤ x) (sym promised) h.4,
           )
       by_slot None none =

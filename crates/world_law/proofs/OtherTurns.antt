@@ -60,7 +60,7 @@ module _ (logs : Bool) (k : Cluster) (part : ℕ) (RegistrySound : RegistryNode 
   abbrev pub said_scene : Scene
   said_scene = record s { net = acted s.net more }
 
-  said_grown : Grown k part s said_scene
+  pub said_grown : Grown k part s said_scene
   said_grown = record {
     sent = λ x h. h;
     lives = λ c. omega arith;
@@ -209,7 +209,7 @@ module _ (logs : Bool) (k : Cluster) (part : ℕ) (RegistrySound : RegistryNode 
   abbrev sent_now : List Packet
   sent_now = sent ++ map (sent_at clock) (packets_of Cleaner w.outs)
 
-  grown : Grown k part s cleaner_scene
+  pub grown : Grown k part s cleaner_scene
   grown = record {
     sent = λ x h. h;
     lives = λ c. omega arith;

@@ -120,7 +120,7 @@ module _ (logs : Bool) (k : Cluster) (part : ℕ) (nodes : List AnyNode) (sent :
   new_given = put_each_two (λ d x y. old < d → d ≤ new → life_told registry_scene x ≤ y) s.lord s.since new lord (inc_in after_node.board lord)
       (λ less within. omega arith) (λ d other less within. absurd (other (let b = by_one in omega arith)))
 
-  grown : Grown k part s registry_scene
+  pub grown : Grown k part s registry_scene
   grown = record {
     sent = λ x h. h;
     lives = λ c. omega arith;

@@ -1,5 +1,5 @@
 -- Each event of the world keeps a moment standing to the small world of a slot, if logs are owed no more than they give.
-use Rattle.std.proofs.Common.{◌≡◌, ◌⊎◌, ℕ, ◌+◌, ◌<◌, Bool, List, ◌++◌, Some, map, slice_get, slice_set, unwrap_or, inl, inr, refl, sym, ap, subst, ◌∙◌, arith}
+use Rattle.std.proofs.Common.{◌≡◌, ◌⊎◌, ℕ, ◌+◌, ◌≤◌, ◌<◌, Bool, List, ◌++◌, Some, map, slice_get, slice_set, unwrap_or, inl, inr, refl, sym, ap, subst, ◌∙◌, arith}
 use Rattle.std.proofs.lemmas.List.Elements.{recursion_from_All}
 use Rattle.client_node.specs.Phases.{lasting_of, takes}
 use Rattle.core_world.specs.AnyNode.{any_step}
@@ -35,15 +35,20 @@ use Rattle.world_base.specs.declared.world.World.{World}
 use Rattle.world_base.specs.Events.{node_of, what_of}
 use Rattle.world_base.specs.NextWorld.{next_world, sent_at}
 use Rattle.world_base.specs.Runs.{MayHappen}
+use Rattle.world_law.proofs.ClientTurns as clients
 use Rattle.world_law.proofs.ClientTurns.{client_scene, client_turn}
+use Rattle.world_law.proofs.Facts.{Grown}
 use Rattle.world_law.proofs.Falls.{FallsStand, client_falls, falls_stay}
 use Rattle.world_law.proofs.Gets.{client_gets, cleaner_gets, manager_gets}
+use Rattle.world_law.proofs.ManagerTurns as reigning
 use Rattle.world_law.proofs.ManagerTurns.{delivered, manager_scene, manager_turn}
-use Rattle.world_law.proofs.OtherTurns.{cleaner_scene, cleaner_turn, said_fact, said_scene, said_stands, server_turn}
+use Rattle.world_law.proofs.OtherTurns as others
+use Rattle.world_law.proofs.OtherTurns.{cleaner_scene, cleaner_turn, said_fact, said_grown, said_scene, said_stands, server_turn}
 use Rattle.world_law.proofs.Places.{Behind, behind}
+use Rattle.world_law.proofs.RegistryTurns as boards
 use Rattle.world_law.proofs.RegistryTurns.{registry_scene, registry_turn}
 use Rattle.world_law.proofs.Sent.{was_sent}
-use Rattle.world_law.proofs.Standing.{Fact, ManagerSees, Scene, Stands, epoch_now, members}
+use Rattle.world_law.proofs.Standing.{Fact, ManagerSees, PastAt, Scene, Stands, epoch_now, life_of_manager, members}
 use Rattle.world_law.proofs.Turning.{next_keeps}
 use Rattle.world_law.specs.Owes.{BooksGo, ClientTold, ManagerTold, TurnOwes}
 use Rattle.world_law.specs.Owners.{node_in}
@@ -66,6 +71,18 @@ pub record NodeLaws : Type 0 where
 pub one_node : {X : Type 0} (a b : X) → Some a ≡ Some b → a ≡ b
 one_node a b same = ap (λ o. unwrap_or o a) same
 
+-- From one moment to a later one what was given stays given, and who was at an epoch in the incarnation in which that was given to it was so.
+module _ (k : Cluster) (part : ℕ) where
+  pub record Since (s t : Scene) : Type 0 where
+    pub epochs : epoch_now k part s ≤ epoch_now k part t
+    pub reigns : (j : ℕ) → life_of_manager s j ≤ life_of_manager t j
+    pub given : (e : ℕ) → e ≤ epoch_now k part s → (t.lord e ≡ s.lord e) × (t.since e ≡ s.since e)
+    pub past : (j life e : ℕ) → PastAt k part (s.manager j).phase life e → PastAt k part (t.manager j).phase life e
+
+  since_of : (s t : Scene) → Grown k part s t
+      → ((j life e : ℕ) → PastAt k part (s.manager j).phase life e → PastAt k part (t.manager j).phase life e) → Since s t
+  since_of s t g past = record { epochs = g.epochs; reigns = g.reigns; given = g.given; past = past }
+
 module _ (laws : NodeLaws) (logs : Bool) (k : Cluster) (part : ℕ) (of_eight : part < 8) where
   -- ---- one node takes its step
 
@@ -76,6 +93,7 @@ module _ (laws : NodeLaws) (logs : Bool) (k : Cluster) (part : ℕ) (of_eight : 
       pub next : Scene
       pub stands : Stands logs k part (slice_set nodes place (any_step node what).node) (sent ++ map (sent_at clock) (any_step node what).packets)
           (acts ++ (any_step node what).acts) RegistrySound next
+      pub since : Since k part s next
       pub books : BooksGo logs s.net next.net name node what
       pub falls : FallsStand (members k part) s.net acts → FallsStand (members k part) next.net (acts ++ (any_step node what).acts)
 
@@ -123,6 +141,8 @@ module _ (laws : NodeLaws) (logs : Bool) (k : Cluster) (part : ℕ) (of_eight : 
             went go = record {
               next = client_scene logs k part RegistrySound nodes sent acts s st c place clock b.some less at here (takes (s.client c) what) go asks;
               stands = client_turn logs k part RegistrySound nodes sent acts s st c place clock b.some less at here (takes (s.client c) what) go asks;
+              since = since_of k part s _ (clients.grown logs k part RegistrySound nodes sent acts s st c place clock b.some less at here
+                  (takes (s.client c) what) go asks) (λ j life e past. past);
               books = record { others = go.books; own = go.log };
               falls = λ falls. client_falls (members k part) logs part (epoch_now k part s) c b.some less s.net
                   (Client (lasting_of (s.client c).phase).number) acts falls
@@ -165,6 +185,10 @@ module _ (laws : NodeLaws) (logs : Bool) (k : Cluster) (part : ℕ) (of_eight : 
                   (happens (s.manager j) what) go;
               stands = manager_turn logs k part RegistrySound nodes sent acts s st j place clock b.some b.within at here what fact
                   (happens (s.manager j) what) go;
+              since = since_of k part s _ (reigning.grown logs k part RegistrySound nodes sent acts s st j place clock b.some b.within at here what fact
+                  (happens (s.manager j) what) go)
+                  (reigning.past_on logs k part RegistrySound nodes sent acts s st j place clock b.some b.within at here what fact
+                  (happens (s.manager j) what) go);
               books = go.books;
               falls = falls_stay (members k part) s.net go.next acts _ go.tokens go.up
                   (all_neutral (ManagerDoes part go.next.sent (epoch_now k part s) (managers.lasting_of after.state).inc)
@@ -179,6 +203,7 @@ module _ (laws : NodeLaws) (logs : Bool) (k : Cluster) (part : ℕ) (of_eight : 
       stands = server_turn logs k part RegistrySound nodes sent (acts ++ (server_step there.0 what).acts)
           (said_scene logs k part RegistrySound nodes sent acts s st (server_step there.0 what).acts says.1)
           (said_stands logs k part RegistrySound nodes sent acts s st (server_step there.0 what).acts says.1) place clock what n at there.0 here says.0;
+      since = since_of k part s _ (said_grown logs k part RegistrySound nodes sent acts s st (server_step there.0 what).acts says.1) (λ j life e past. past);
       books = refl;
       falls = falls_stay (members k part) s.net _ acts _ refl refl says.1;
     })
@@ -221,6 +246,7 @@ module _ (laws : NodeLaws) (logs : Bool) (k : Cluster) (part : ℕ) (of_eight : 
             goes go run = record {
               next = cleaner_scene logs k part RegistrySound nodes sent acts s st place clock at here went go run;
               stands = cleaner_turn logs k part RegistrySound nodes sent acts s st place clock at here went go run;
+              since = since_of k part s _ (others.grown logs k part RegistrySound nodes sent acts s st place clock at here went go run) (λ j life e past. past);
               books = record { others = run.others; own = run.own };
               falls = falls_stay (members k part) s.net _ acts _ refl refl
                   (all_neutral (CleanerDoes part go.next (cleaners.lasting_of went.state).inc) Cleaner (λ a is. is) went.outs
@@ -232,6 +258,13 @@ module _ (laws : NodeLaws) (logs : Bool) (k : Cluster) (part : ℕ) (of_eight : 
     registry_after fact at node is = subst (Turned Registry) (one_node (any.Registry s.registry) node (sym here ∙ is)) (record {
       next = registry_scene logs k part nodes sent _ said said_st place clock at here what said_facts go;
       stands = registry_turn logs k part nodes sent _ said said_st place clock at here what said_facts go;
+      since =
+          (let g = boards.grown logs k part nodes sent _ said said_st place clock at here what said_facts go in record {
+            epochs = g.epochs;
+            reigns = g.reigns;
+            given = g.given;
+            past = λ j life e past. past;
+          });
       books = refl;
       falls = falls_stay (members k part) s.net _ acts _ refl refl go.acts;
     })
@@ -277,6 +310,7 @@ module _ (laws : NodeLaws) (logs : Bool) (k : Cluster) (part : ℕ) (of_eight : 
     pub record EventTurned (nodes : List AnyNode) (sent : List Packet) (acts : List Act) : Type 0 where
       pub next : Scene
       pub stands : Stands logs k part nodes sent acts RegistrySound next
+      pub since : Since k part s next
       pub books : (next.net.books ≡ s.net.books)
           ⊎ ((node : AnyNode) × (node_in w.nodes (place_of k (node_of event)) ≡ Some node) × BooksGo logs s.net next.net (node_of event) node (what_of event))
       pub falls : FallsStand (members k part) s.net w.acts → FallsStand (members k part) next.net acts
@@ -285,10 +319,16 @@ module _ (laws : NodeLaws) (logs : Bool) (k : Cluster) (part : ℕ) (of_eight : 
         → ((node : AnyNode) → node_in w.nodes (place_of k (node_of event)) ≡ Some node
         → TurnOwes logs (members k part) part (epoch_now k part s) s.net (node_of event) node (what_of event))
         → EventTurned (next_world any_step w event).nodes (next_world any_step w event).sent (next_world any_step w event).acts
-    event_turns cluster may st owed = next_keeps any_step EventTurned w event (record { next = s; stands = st; books = inl refl; falls = λ falls. falls })
+    event_turns cluster may st owed = next_keeps any_step EventTurned w event (record {
+      next = s;
+      stands = st;
+      since = record { epochs = omega arith; reigns = λ j. omega arith; given = λ e low. (refl, refl); past = λ j life e past. past };
+      books = inl refl;
+      falls = λ falls. falls;
+    })
         (λ place node clock at is.
         let at_k : place_of k (node_of event) ≡ Some place = subst (λ c. place_of c (node_of event) ≡ Some place) cluster at in
         let there : node_in w.nodes (place_of k (node_of event)) ≡ Some node = ap (node_in w.nodes) at_k ∙ is in
         let t = turns w.nodes w.sent w.acts s st place clock (what_of event) (node_of event) (delivered_fact w.sent s st.facts w refl event may) at_k node is
         (owed node there) in
-        record { next = t.next; stands = t.stands; books = inr (node, there, t.books); falls = t.falls })
+        record { next = t.next; stands = t.stands; since = t.since; books = inr (node, there, t.books); falls = t.falls })
