@@ -4,19 +4,22 @@ use Rattle.std.proofs.Common.{◌≡◌, ◌⊎◌, ⊎_elim, ◌==◌, ℕ, ◌
 use Rattle.std.proofs.lemmas.Bool.Decides.{nat_tests}
 use Rattle.core_world.specs.declared.any_node.AnyNode.{AnyNode}
 use Rattle.core_world.specs.declared.any_node.AnyNode.TheVariants as any
-use Rattle.index_tie.specs.Net.{Net}
+use Rattle.index_tie.proofs.Tables.{put_each}
+use Rattle.index_tie.specs.Net.{Net, opening}
 use Rattle.manager_node.specs.declared.lasting.Lasting.{Lasting as Kept}
 use Rattle.manager_node.specs.declared.manager.Manager.{Manager as ManagerNode}
 use Rattle.manager_node.specs.declared.phase.Phase.{Phase}
 use Rattle.manager_node.specs.declared.phase.Phase.TheVariants.{Down, Waiting, Serving as Serves}
 use Rattle.manager_node.specs.Phases.{lasting_of}
+use Rattle.manager_node.specs.declared.serving.Serving.{Serving}
 use Rattle.manager_node.specs.declared.slot_phase.SlotPhase.{SlotPhase}
-use Rattle.node_base.specs.declared.questions.Questions.{Questions as Asker}
+use Rattle.node_index_tie.proofs.Moves.{some_none}
 use Rattle.node_index_tie.specs.ManagerEvents.{AbsentGets, FoundGets}
 use Rattle.node_index_tie.specs.ManagerEvents as managed
 use Rattle.node_index_tie.specs.Sight.{Questions, Texts}
 use Rattle.node_tie.specs.ManagerEvents.{HeldAt, NamedBy, NamedIn, Names, epoch_in, is_serving, phase_at, slot_in}
 use Rattle.node_tie.specs.RegistryEvents.{RegistrySound}
+use Rattle.segment_format.specs.declared.segment.Segment.{Segment}
 use Rattle.token_manager.specs.SlotState.{SlotState}
 use Rattle.token_protocol.specs.Basics.{In}
 use Rattle.version_model.specs.declared.act.Act.{Act}
@@ -28,7 +31,7 @@ use Rattle.wire_msg.specs.declared.packet.Packet.{Packet}
 use Rattle.wire_msg.specs.declared.registry.Welcome.{Welcome}
 use Rattle.world_base.specs.Cluster.{place_of}
 use Rattle.world_base.specs.declared.cluster.Cluster.{Cluster}
-use Rattle.world_index.specs.Owes.{HeldApart, ManagerDoOwed, ManagerTold, NewsFree}
+use Rattle.world_index.specs.Owes.{HeldApart, ManagerDoOwed, ManagerTold, NewsFree, ServingOwed, WaitingOwed}
 use Rattle.world_index.specs.Standing.{Came, Placed, Scene, holder}
 use Rattle.world_law.proofs.Gets.{news_told, welcome_told}
 use Rattle.world_law.proofs.ManagerTurns.{manager_number}
@@ -233,3 +236,76 @@ module _ (logs : Bool) (k : Cluster) (part : ℕ) (nodes later_nodes : List AnyN
           (past_by (u.manager c.manager).phase (t.since e) e (subst (λ (x : ManagerNode). is_serving x.phase ≡ true) same c.serves)
           (subst (λ (x : ManagerNode). e ≤ epoch_in part x.phase) same c.knows)
           (let low = g.since in let rise = since.reigns c.manager in omega arith)))
+
+-- ---- all that a manager is owed but for what it reads and writes
+
+module _ (part : ℕ) (texts : Texts) (asked : Questions) (j : ℕ) (n : Net) where
+  -- what an answer to a question of the slot's takeover completes is the text of its name
+  abbrev pub BodyReads : SlotPhase → NodeId → Body → Type 0
+  BodyReads p from (body.Fragment m) = FoundGets part texts asked j n p from m
+  BodyReads p from (body.Missing m) = AbsentGets part texts asked j n p from m
+  BodyReads p from _ = Unit {0}
+
+  abbrev pub PacketReads : Phase → Packet → Type 0
+  PacketReads (Serves v) packet = BodyReads (phase_at v.slots part) packet.from packet.body
+  PacketReads (Down kept) packet = Unit {0}
+  PacketReads (Waiting kept hello) packet = Unit {0}
+
+  abbrev pub DoReads : Phase → Do → Type 0
+  DoReads p (Deliver packet) = PacketReads p packet
+  DoReads p Begin = Unit {0}
+  DoReads p Tick = Unit {0}
+
+module _ (logs : Bool) (k : Cluster) (part : ℕ) (nodes : List AnyNode) (sent : List Packet) (acts : List Act) (t : tokens.Scene)
+    (st : tokens.Stands logs k part nodes sent acts RegistrySound t) (texts : Texts) (asked : Questions) (s : Scene) (placed : Placed k nodes s)
+    (entered : Entered k part t s.net) (j : ℕ) (some : 0 < j) (most : j ≤ k.managers) where
+  serving_owed : (v : Serving) → (t.manager j).phase ≡ Serves v → (from to : NodeId) (m : Body) → tokens.SentBy k part t from to m
+      → BodyReads part texts asked j s.net (phase_at v.slots part) from m
+      → ServingOwed part texts asked j s.net v.lasting.inc (epoch_in part (Serves v)) (phase_at v.slots part) from m
+  serving_owed v is from to (body.Fragment m) h reads = reads
+  serving_owed v is from to (body.Missing m) h reads = reads
+  serving_owed v is from to (body.MapNews m) h reads =
+      serving_free logs k part nodes sent acts t st s.net entered texts asked j some most v is m.slots (news_told k part t from to m h)
+  serving_owed v is from to (body.Welcome m) h reads =
+      λ life. serving_free logs k part nodes sent acts t st s.net entered texts asked j some most v is m.news.slots (welcome_told k part t from to m h).0
+  serving_owed v is from to _ h reads = tt
+
+  waiting_owed : (kept : Kept) (hello : ℕ) → (t.manager j).phase ≡ Waiting kept hello → (from to : NodeId) (m : Body) → tokens.SentBy k part t from to m
+      → to ≡ Manager j → WaitingOwed part texts asked j s.net kept.inc m
+  waiting_owed kept hello is from to (body.Welcome m) h same =
+      λ life. (let w = welcome_told k part t from to m h in
+      waiting_free logs k part nodes sent acts t st s.net entered texts asked j kept hello is m life w.0
+      (subst (λ x. tokens.Welcomed k part t x m) same w.1))
+  waiting_owed kept hello is from to _ h same = tt
+
+  do_owed : (p : Phase) (what : Do) → (t.manager j).phase ≡ p → ((q : Packet) → what ≡ Deliver q → tokens.Fact k part t q × (q.to ≡ Manager j))
+      → DoReads part texts asked j s.net p what → ManagerDoOwed part texts asked j s.net p what
+  do_owed p Begin is fact reads = tt
+  do_owed p Tick is fact reads = tt
+  do_owed (Serves v) (Deliver q) is fact reads = serving_owed v is q.from q.to q.body (fact q refl).0 reads
+  do_owed (Waiting kept hello) (Deliver q) is fact reads = let f = fact q refl in waiting_owed kept hello is q.from q.to q.body f.0 f.1
+  do_owed (Down kept) (Deliver q) is fact reads = tt
+
+  -- what comes to manager j was sent to it, as the small world of tokens knows
+  pub manager_told : (what : Do) (later : Phase) → ((q : Packet) → what ≡ Deliver q → tokens.Fact k part t q × (q.to ≡ Manager j))
+      → DoReads part texts asked j s.net (s.manager j).phase what → managed.WritesTexts part texts asked j s.net later
+      → ManagerTold part texts asked j s.net k.managers (holder part s) (s.manager j).phase what later
+  manager_told what later fact reads writes =
+      let same = same_manager logs k part nodes sent acts t st s placed j some most in
+      record {
+        number = subst (λ (x : ManagerNode). (lasting_of x.phase).number ≡ j) (sym same)
+            (manager_number (tokens.members k part) part j t.net (t.manager j).phase (st.managers j some most).agrees);
+        gets = do_owed (s.manager j).phase what (ap (λ (x : ManagerNode). x.phase) (sym same)) fact reads;
+        apart = apart logs k part nodes sent acts t st what (λ q is. (fact q is).0) texts asked s.net s placed j some most;
+        writes = writes;
+      }
+
+-- ---- the start
+
+-- where the tokens' slot of epoch 1 is managed, as it is at the start
+pub entered_starts : (logs : Bool) (k : Cluster) (part : ℕ) (nodes : List AnyNode) (sent : List Packet) (acts : List Act) (t : tokens.Scene)
+    → tokens.Stands logs k part nodes sent acts RegistrySound t → (y : SlotState) → t.net.slots 1 ≡ Some y → (first : ℕ → ℕ → Segment)
+    → Entered k part t (opening first)
+entered_starts logs k part nodes sent acts t st y managed_there first =
+    put_each (λ e o. (z : SlotState) → o ≡ Some z → (e ≤ tokens.epoch_now k part t) × tokens.PastAt k part (t.manager (t.lord e)).phase (t.since e) e)
+    (λ e. None) 1 ((opening first).slots 1) (λ z is. let was = st.entered 1 y managed_there in (was.0, was.3)) (λ e other z is. absurd (some_none z (sym is)))
