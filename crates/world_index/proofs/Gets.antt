@@ -43,7 +43,7 @@ use Rattle.world_index.specs.Asking.{CleanerAsks, HandIn, IsOfJob, JobAsks}
 use Rattle.world_index.proofs.Horizons.{done_short}
 use Rattle.world_index.proofs.Senders.{IsCleaner, IsManager, IsRegistry, IsSentBy}
 use Rattle.world_index.specs.Standing.{AllKept, SentBy, WasAsked}
-use Rattle.world_index.specs.Owes.{CleanerDoOwed, CleanerBodyOwed, ManagerDoOwed, NewsFree, ServingOwed, WaitingOwed}
+use Rattle.world_index.specs.Owes.{BodyReads, CleanerBodyOwed, CleanerDoOwed, DoFree, DoReads, NewsFree, ServingFree, WaitingFree}
 use Rattle.xfs_base.specs.Blocks.{slot_of}
 use Rattle.xfs_base.specs.Limits.{u32_end}
 use Rattle.xfs_base.specs.declared.block.BlockId.{BlockId}
@@ -108,7 +108,7 @@ module _ (part : ℕ) (texts : Texts) (asked : Questions) (n : Net) where
     report_told Registry m h = λ inside. tt
 
     -- news of an epoch at which nobody was active yet are what the registry kept
-    news_known : (known : ℕ) (slots : List SlotNews) → AllKept part n slots → NewsFree part texts asked j n known slots
+    news_known : (known : ℕ) (slots : List SlotNews) → AllKept part n slots → NewsFree part j n known slots
         → AllNewsGets part texts asked j n known slots
     news_known known slots kept free news is same mine new =
         let t = kept news is same in
@@ -124,33 +124,34 @@ module _ (part : ℕ) (texts : Texts) (asked : Questions) (n : Net) where
         }
 
     serving_gets : (life known : ℕ) (p : SlotPhase) (from : NodeId) (m : Body) → SentBy part n asked from m → IsSentBy from m
-        → ServingOwed part texts asked j n life known p from m
+        → BodyReads part texts asked j n p from m → ServingFree part j n life known m
         → ServingGets part texts asked j n life known p from m
-    serving_gets life known p from (body.Deltas m) h kind owed = deltas_told from m h
-    serving_gets life known p from (body.Report m) h kind owed = report_told from m h
-    serving_gets life known p from (body.Check m) h kind owed = check_told from m kind h
-    serving_gets life known p from (body.Fragment m) h kind owed = owed
-    serving_gets life known p from (body.Missing m) h kind owed = owed
-    serving_gets life known p from (body.MapNews m) h kind owed = news_known known m.slots (news_told from m kind h) owed
-    serving_gets life known p from (body.Welcome m) h kind owed = λ same. news_known known m.news.slots (welcome_told from m kind h) (owed same)
-    serving_gets life known p from _ h kind owed = tt
+    serving_gets life known p from (body.Deltas m) h kind reads free = deltas_told from m h
+    serving_gets life known p from (body.Report m) h kind reads free = report_told from m h
+    serving_gets life known p from (body.Check m) h kind reads free = check_told from m kind h
+    serving_gets life known p from (body.Fragment m) h kind reads free = reads
+    serving_gets life known p from (body.Missing m) h kind reads free = reads
+    serving_gets life known p from (body.MapNews m) h kind reads free = news_known known m.slots (news_told from m kind h) free
+    serving_gets life known p from (body.Welcome m) h kind reads free = λ same. news_known known m.news.slots (welcome_told from m kind h) (free same)
+    serving_gets life known p from _ h kind reads free = tt
 
-    waiting_gets : (life : ℕ) (from : NodeId) (m : Body) → SentBy part n asked from m → IsSentBy from m → WaitingOwed part texts asked j n life m
+    waiting_gets : (life : ℕ) (from : NodeId) (m : Body) → SentBy part n asked from m → IsSentBy from m → WaitingFree part j n life m
         → WaitingGets part texts asked j n life m
-    waiting_gets life from (body.Welcome m) h kind owed = λ same. news_known 0 m.news.slots (welcome_told from m kind h) (owed same)
-    waiting_gets life from _ h kind owed = tt
+    waiting_gets life from (body.Welcome m) h kind free = λ same. news_known 0 m.news.slots (welcome_told from m kind h) (free same)
+    waiting_gets life from _ h kind free = tt
 
     -- ... and so it is of each event
     pub manager_gets : (p : ManagerPhase) (what : Do)
-        → ((q : Packet) → what ≡ Deliver q → SentBy part n asked q.from q.body × IsSentBy q.from q.body) → ManagerDoOwed part texts asked j n p what
+        → ((q : Packet) → what ≡ Deliver q → SentBy part n asked q.from q.body × IsSentBy q.from q.body) → DoReads part texts asked j n p what
+        → DoFree part j n p what
         → EventGets part texts asked j n p what
-    manager_gets p Begin fact owed = tt
-    manager_gets p Tick fact owed = tt
-    manager_gets (managing.Serving s) (Deliver q) fact owed =
+    manager_gets p Begin fact reads free = tt
+    manager_gets p Tick fact reads free = tt
+    manager_gets (managing.Serving s) (Deliver q) fact reads free =
         let f = fact q refl in
-        serving_gets s.lasting.inc (epoch_in part (managing.Serving s)) (phase_at s.slots part) q.from q.body f.0 f.1 owed
-    manager_gets (managing.Waiting kept hello) (Deliver q) fact owed = let f = fact q refl in waiting_gets kept.inc q.from q.body f.0 f.1 owed
-    manager_gets (managing.Down kept) (Deliver q) fact owed = tt
+        serving_gets s.lasting.inc (epoch_in part (managing.Serving s)) (phase_at s.slots part) q.from q.body f.0 f.1 reads free
+    manager_gets (managing.Waiting kept hello) (Deliver q) fact reads free = let f = fact q refl in waiting_gets kept.inc q.from q.body f.0 f.1 free
+    manager_gets (managing.Down kept) (Deliver q) fact reads free = tt
 
   -- ---- the cleaner
 

@@ -1,5 +1,5 @@
 -- Every run keeps the index of each slot: each event keeps a moment standing to the small world of it, in which indexes are joins and cleaning loses nothing.
-use Rattle.std.proofs.Common.{◌≡◌, ℕ, zero, suc, ◌<◌, List, [], ◌∷◌, Option, None, Some, take, slice_get, refl, sym, ap, subst, ◌∙◌}
+use Rattle.std.proofs.Common.{false, ◌≡◌, ℕ, zero, suc, ◌<◌, List, [], ◌∷◌, Option, None, Some, take, slice_get, refl, sym, ap, subst, ◌∙◌}
 use Rattle.std.specs.List.{fold}
 use Rattle.core_world.specs.AnyNode.{any_start, any_step}
 use Rattle.core_world.specs.declared.any_node.AnyNode.{AnyNode}
@@ -16,7 +16,7 @@ use Rattle.node_tie.specs.ManagerEvents.{phase_at, slot_in}
 use Rattle.node_tie.specs.RegistryEvents.{RegistrySound}
 use Rattle.segment_format.specs.declared.segment.Segment.{Segment}
 use Rattle.token_manager.specs.SlotState.{SlotState}
-use Rattle.token_protocol.specs.Basics.{In}
+use Rattle.wire_msg.specs.declared.packet.Do.TheVariants.{Deliver}
 use Rattle.wire_msg.specs.declared.packet.Packet.{Packet}
 use Rattle.world_base.specs.Cluster.{cluster_of, place_of}
 use Rattle.world_base.specs.declared.cluster.Cluster.{Cluster}
@@ -24,52 +24,81 @@ use Rattle.world_base.specs.declared.event.Event.{Event}
 use Rattle.world_base.specs.declared.world.World.{World}
 use Rattle.world_base.specs.Events.{node_of, what_of}
 use Rattle.world_base.specs.NextWorld.{next_world, start_world}
-use Rattle.world_base.specs.Runs.{Leads}
-use Rattle.world_index.proofs.Senders.{IsKind, kinds_of_tokens}
+use Rattle.world_base.specs.Runs.{Leads, MayHappen}
+use Rattle.world_index.proofs.Senders.{kinds_of_tokens}
 use Rattle.world_index.proofs.Start.{start_scene, start_stands}
+use Rattle.world_index.proofs.Tokens.{Entered, entered_starts, entered_stays, tokens_give}
 use Rattle.world_index.proofs.Turns.{NodeLaws, event_turns}
 use Rattle.world_index.specs.Laws.{EveryRunKeepsIndexes, KeepsIndexes, WasDeleted}
 use Rattle.world_index.specs.Owes.{IndexOwes}
-use Rattle.world_index.specs.Standing.{Scene, SentBy, Stands, holder}
+use Rattle.world_index.specs.Standing.{Scene, SentBy, Stands}
 use Rattle.world_law.proofs.Laws as tokens
 use Rattle.world_law.proofs.Places.{behind}
 use Rattle.world_law.proofs.Sent.{was_sent}
+use Rattle.world_law.proofs.Standing.{Scene as TokenScene, Stands as TokensStand}
+use Rattle.world_law.proofs.Start.{start_stands as token_start}
 use Rattle.world_law.proofs.Turning.{next_cluster}
+use Rattle.world_law.proofs.Turns.{delivered_fact, event_turns as token_turns}
 use Rattle.world_law.specs.Managers.{active_in, active_of}
 use Rattle.world_law.specs.Owners.{moment, node_in}
 use Rattle.xfs_base.specs.declared.node.NodeId.TheVariants.{Cleaner, Manager}
 use Rattle.xfs_base.specs.declared.segment.SegName.{SegName}
 
-module _ (laws : NodeLaws) (k : Cluster) (part : ℕ) (of_eight : part < 8) (texts : Texts) (first : ℕ → ℕ → Segment) where
+module _ (laws : NodeLaws) (token_laws : tokens.NodeLaws) (k : Cluster) (part : ℕ) (of_eight : part < 8) (texts : Texts) (first : ℕ → ℕ → Segment) where
   abbrev pub StandsIn : World AnyNode → Scene → Type 0
   StandsIn w s = Stands k part texts first w.nodes w.sent RegistrySound s
 
-  abbrev pub Good : World AnyNode → Type 0
-  Good w = (w.cluster ≡ k) × ((s : Scene) × StandsIn w s)
+  abbrev TokensIn : World AnyNode → TokenScene → Type 0
+  TokensIn w t = TokensStand false k part w.nodes w.sent w.acts RegistrySound t
+
+  -- it stands to both small worlds
+  pub record Good (w : World AnyNode) : Type 0 where
+    pub cluster : w.cluster ≡ k
+    pub tokens : TokenScene
+    pub tokens_stand : TokensIn w tokens
+    pub scene : Scene
+    pub stands : StandsIn w scene
+    pub entered : Entered k part tokens scene.net
 
   -- what is owed to an event at a world
   abbrev OwedAt : World AnyNode → Event → Type 0
   OwedAt w event =
       (s : Scene) (node : AnyNode) → StandsIn w s → node_in w.nodes (place_of w.cluster (node_of event)) ≡ Some node
-      → IndexOwes part texts s.asked k.managers (holder part s) s.net (node_of event) node (what_of event)
+      → IndexOwes part texts s.asked s.net (node_of event) node (what_of event)
+
+  event_keeps : (w : World AnyNode) (event : Event) → MayHappen w event → OwedAt w event → Good w → Good (next_world any_step w event)
+  event_keeps w event may owed good =
+      let fact = λ (q : Packet) (gets : what_of event ≡ Deliver q).
+      delivered_fact token_laws false k part of_eight w.sent good.tokens good.tokens_stand.facts w refl event may q gets in
+      let u = token_turns token_laws false k part of_eight w event good.tokens good.cluster may good.tokens_stand (λ node there. tt) in
+      let v = event_turns laws k part of_eight texts first w event good.scene good.cluster may good.stands
+      (λ q sent. kinds_of_tokens k part good.tokens q (good.tokens_stand.facts q sent))
+      (λ node there. owed good.scene node good.stands (ap (λ c. node_in w.nodes (place_of c (node_of event))) good.cluster ∙ there))
+      (λ node there. tokens_give false k part w.nodes w.sent w.acts good.tokens good.tokens_stand good.scene good.stands.placed good.entered (node_of event)
+      (what_of event) node there fact) in
+      record {
+        cluster = next_cluster any_step w event ∙ good.cluster;
+        tokens = u.next;
+        tokens_stand = u.stands;
+        scene = v.next;
+        stands = v.stands;
+        entered = entered_stays false k part w.nodes (next_world any_step w event).nodes w.sent (next_world any_step w event).sent w.acts
+            (next_world any_step w event).acts good.tokens u.next good.tokens_stand u.stands u.since (what_of event) (λ q gets. (fact q gets).0) good.scene
+            v.next good.stands.placed v.stands.placed (node_of event) v.came good.entered;
+      }
 
   abbrev front : World AnyNode → List Event → ℕ → World AnyNode
   front w events_ n = fold (next_world any_step) w (take n events_)
 
   -- each front of a run stands, where each of its events gets what is owed
   front_keeps : (events_ : List Event) (count : ℕ) (w end : World AnyNode) → Leads any_step w events_ end
-      → ((n : ℕ) (q : Packet) → In q (front w events_ n).sent → IsKind q)
       → ((n : ℕ) (event : Event) → slice_get events_ n ≡ Some event → OwedAt (front w events_ n) event) → Good w → Good (front w events_ count)
-  front_keeps [] zero w end leads kinds owed good = good
-  front_keeps [] (suc count) w end leads kinds owed good = good
-  front_keeps (event ∷ more) zero w end leads kinds owed good = good
-  front_keeps (event ∷ more) (suc count) w end leads kinds owed good =
-      let cluster = good.0 in
-      let st = good.1 in
-      let t = event_turns laws k part of_eight texts first w event st.0 cluster leads.0 st.1 (kinds 0)
-      (λ node there. owed 0 event refl st.0 node st.1 (ap (λ c. node_in w.nodes (place_of c (node_of event))) cluster ∙ there)) in
-      front_keeps more count (next_world any_step w event) end leads.1 (λ n. kinds (suc n)) (λ n x is. owed (suc n) x is)
-      (next_cluster any_step w event ∙ cluster, (t.next, t.stands))
+  front_keeps [] zero w end leads owed good = good
+  front_keeps [] (suc count) w end leads owed good = good
+  front_keeps (event ∷ more) zero w end leads owed good = good
+  front_keeps (event ∷ more) (suc count) w end leads owed good =
+      front_keeps more count (next_world any_step w event) end leads.1 (λ n x is. owed (suc n) x is)
+      (event_keeps w event leads.0 (owed 0 event refl) good)
 
   -- ---- what is read off
 
@@ -117,17 +146,19 @@ unfolding start_world
 every_run_keeps laws token_laws small_joins small_kept e setup run part of_eight texts first owed count =
     let k = cluster_of e.script.setup in
     let w = start_world any_start e.script in
-    let kinds = λ (n : ℕ) (q : Packet) (sent : In q (moment e n).sent).
-    let t = (tokens.front token_laws e setup run n part of_eight).1 in kinds_of_tokens k part t.0 q (t.1.facts q sent) in
-    let start : Good laws k part of_eight texts first w = (
-      refl,
-      (
-        start_scene laws.client_starts laws.manager_starts laws.cleaner_starts laws.registry_starts laws.begins e.script setup.clients.1 part of_eight texts
-            first,
-        start_stands laws.client_starts laws.manager_starts laws.cleaner_starts laws.registry_starts laws.begins e.script setup.clients.1 part of_eight texts
-            first,
-      ),
-    ) in
-    let good = front_keeps laws k part of_eight texts first e.events count w e.world run kinds
+    let tokens_start =
+    token_start false token_laws.starts_asking token_laws.first_manager token_laws.cleaner_starts token_laws.begins e.script setup.clients.1 setup.managers.0
+    part of_eight in
+    let start : Good laws token_laws k part of_eight texts first w = record {
+      cluster = refl;
+      tokens = _;
+      tokens_stand = tokens_start;
+      scene = start_scene laws.client_starts laws.manager_starts laws.cleaner_starts laws.registry_starts laws.begins e.script setup.clients.1 part of_eight
+          texts first;
+      stands = start_stands laws.client_starts laws.manager_starts laws.cleaner_starts laws.registry_starts laws.begins e.script setup.clients.1 part of_eight
+          texts first;
+      entered = entered_starts false k part w.nodes w.sent w.acts _ tokens_start _ refl first;
+    } in
+    let good = front_keeps laws token_laws k part of_eight texts first e.events count w e.world run
     (λ n event is s node st there. owed n event s node is st there) start in
-    keeps laws k part of_eight texts first small_joins small_kept (moment e count) good.0 good.1.0 good.1.1
+    keeps laws token_laws k part of_eight texts first small_joins small_kept (moment e count) good.cluster good.scene good.stands

@@ -49,7 +49,7 @@ module _ (clients_stay : ClientsStay) (managers_stay : ManagersStay) (cleaner_st
     (st : Stands k part texts first nodes sent RegistrySound s)
     (j p clock : ℕ) (some : 0 < j) (most : j ≤ k.managers) (at : place_of k (Manager j) ≡ Some p) (is : slice_get nodes p ≡ Some (any.Manager (s.manager j)))
     (what : Do) (number : (lasting_of (s.manager j).phase).number ≡ j)
-    (apart : HeldApart part texts s.asked j s.net k.managers (holder part s) (s.manager j).phase what) (w : Went_to)
+    (apart : HeldApart part j s.net k.managers (holder part s) (s.manager j).phase what) (w : Went_to)
     (go : ManagerGoes part texts s.asked j s.net (s.manager j).phase what w) where
   abbrev after_node : ManagerNode
   after_node = record (s.manager j) { phase = w.state }

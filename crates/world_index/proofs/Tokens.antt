@@ -1,6 +1,6 @@
 -- What the small world of tokens gives the index of the slot: who was active at an epoch is the manager to which that was given, so that no other holds the epoch,
 -- and news never give one at which somebody was active.
-use Rattle.std.proofs.Common.{◌≡◌, ◌⊎◌, ⊎_elim, ◌==◌, ℕ, ◌≤◌, ◌<◌, Bool, true, false, nat_lt, nat_le, List, Option, None, Some, unwrap_or, inl, inr, refl, sym, ap, subst, ◌∙◌, arith}
+use Rattle.std.proofs.Common.{◌≡◌, ⊎_elim, ◌==◌, ℕ, ◌≤◌, ◌<◌, Bool, true, false, nat_lt, nat_le, List, Option, None, Some, unwrap_or, inl, inr, refl, sym, ap, subst, ◌∙◌, arith}
 use Rattle.std.proofs.lemmas.Bool.Decides.{nat_tests}
 use Rattle.core_world.specs.declared.any_node.AnyNode.{AnyNode}
 use Rattle.core_world.specs.declared.any_node.AnyNode.TheVariants as any
@@ -12,16 +12,11 @@ use Rattle.manager_node.specs.declared.phase.Phase.{Phase}
 use Rattle.manager_node.specs.declared.phase.Phase.TheVariants.{Down, Waiting, Serving as Serves}
 use Rattle.manager_node.specs.Phases.{lasting_of}
 use Rattle.manager_node.specs.declared.serving.Serving.{Serving}
-use Rattle.manager_node.specs.declared.slot_phase.SlotPhase.{SlotPhase}
 use Rattle.node_index_tie.proofs.Moves.{some_none}
-use Rattle.node_index_tie.specs.ManagerEvents.{AbsentGets, FoundGets}
-use Rattle.node_index_tie.specs.ManagerEvents as managed
-use Rattle.node_index_tie.specs.Sight.{Questions, Texts}
-use Rattle.node_tie.specs.ManagerEvents.{HeldAt, NamedBy, NamedIn, Names, epoch_in, is_serving, phase_at, slot_in}
+use Rattle.node_tie.specs.ManagerEvents.{HeldAt, NamedBy, NamedIn, Names, epoch_in, is_serving, slot_in}
 use Rattle.node_tie.specs.RegistryEvents.{RegistrySound}
 use Rattle.segment_format.specs.declared.segment.Segment.{Segment}
 use Rattle.token_manager.specs.SlotState.{SlotState}
-use Rattle.token_protocol.specs.Basics.{In}
 use Rattle.version_model.specs.declared.act.Act.{Act}
 use Rattle.wire_msg.specs.declared.body.Body.{Body}
 use Rattle.wire_msg.specs.declared.body.Body.TheVariants as body
@@ -31,17 +26,18 @@ use Rattle.wire_msg.specs.declared.packet.Packet.{Packet}
 use Rattle.wire_msg.specs.declared.registry.Welcome.{Welcome}
 use Rattle.world_base.specs.Cluster.{place_of}
 use Rattle.world_base.specs.declared.cluster.Cluster.{Cluster}
-use Rattle.world_index.specs.Owes.{HeldApart, ManagerDoOwed, ManagerTold, NewsFree, ServingOwed, WaitingOwed}
+use Rattle.world_index.specs.Owes.{DoFree, HeldApart, ManagerGiven, NewsFree, ServingFree, TokensGive, WaitingFree}
 use Rattle.world_index.specs.Standing.{Came, Placed, Scene, holder}
 use Rattle.world_law.proofs.Gets.{news_told, welcome_told}
 use Rattle.world_law.proofs.ManagerTurns.{manager_number}
 use Rattle.world_law.proofs.RegistryTurns.{held_known}
 use Rattle.world_law.proofs.Standing as tokens
-use Rattle.world_law.proofs.Turns.{Since}
+use Rattle.world_law.proofs.Places.{behind}
+use Rattle.world_law.proofs.Turns.{Since, one_node}
 use Rattle.world_law.specs.Owners.{node_in}
 use Rattle.xfs_base.specs.declared.news.SlotNews.{SlotNews}
 use Rattle.xfs_base.specs.declared.node.NodeId.{NodeId}
-use Rattle.xfs_base.specs.declared.node.NodeId.TheVariants.{Manager}
+use Rattle.xfs_base.specs.declared.node.NodeId.TheVariants.{Client, Manager, Server, Cleaner, Registry}
 
 -- who was active at an epoch in the index's small world was so in the incarnation in which that was given to it
 abbrev pub Entered : Cluster → ℕ → tokens.Scene → Net → Type 0
@@ -127,11 +123,10 @@ module _ (logs : Bool) (k : Cluster) (part : ℕ) (nodes : List AnyNode) (sent :
         by (Deliver q) is named = named_by j e some most q.from q.to q.body (fact q is) named
 
     -- no other manager holds an epoch that this one holds, or that news give to it
-    pub apart : (texts : Texts) (asked : Questions) (n : Net) (s : Scene) → Placed k nodes s → (j : ℕ) → 0 < j → j ≤ k.managers
-        → HeldApart part texts asked j n k.managers (holder part s) (s.manager j).phase what
-    apart texts asked n s placed j some most d e pos less other held =
-        let its = (held_given d e pos less (subst (λ (x : ManagerNode). HeldAt (slot_in part x.phase) e) (same_manager s placed d pos less) held)).lord in
-        (
+    pub apart : (n : Net) (s : Scene) → Placed k nodes s → (j : ℕ) → 0 < j → j ≤ k.managers
+        → HeldApart part j n k.managers (holder part s) (s.manager j).phase what
+    apart n s placed j some most d e pos less other held =
+        let its = (held_given d e pos less (subst (λ (x : ManagerNode). HeldAt (slot_in part x.phase) e) (same_manager s placed d pos less) held)).lord in (
           λ mine. other (sym its
               ∙ (held_given j e some most (subst (λ (x : ManagerNode). HeldAt (slot_in part x.phase) e) (same_manager s placed j some most) mine)).lord),
           λ named. other (sym its ∙ (named_given j e some most named).lord),
@@ -155,9 +150,9 @@ module _ (logs : Bool) (k : Cluster) (part : ℕ) (nodes : List AnyNode) (sent :
         subst (λ r. tokens.PastAt k part r (t.since news.epoch) news.epoch) is
         (subst (λ x. tokens.PastAt k part (t.manager x).phase (t.since news.epoch) news.epoch) (told.given ∙ mine) (entered news.epoch z there).1)
 
-    pub serving_free : (texts : Texts) (asked : Questions) (j : ℕ) → 0 < j → j ≤ k.managers → (v : _) → (t.manager j).phase ≡ Serves v → (slots : List SlotNews)
-        → tokens.AllTold k part t slots → NewsFree part texts asked j n (epoch_in part (Serves v)) slots
-    serving_free texts asked j some most v is slots all news among same mine less =
+    pub serving_free : (j : ℕ) → 0 < j → j ≤ k.managers → (v : _) → (t.manager j).phase ≡ Serves v → (slots : List SlotNews)
+        → tokens.AllTold k part t slots → NewsFree part j n (epoch_in part (Serves v)) slots
+    serving_free j some most v is slots all news among same mine less =
         let told = all.each news among same in
         none_where news.epoch (λ z there. clash told (past_of j (Serves v) is news told mine z there))
       where
@@ -169,10 +164,10 @@ module _ (logs : Bool) (k : Cluster) (part : ℕ) (nodes : List AnyNode) (sent :
             (λ before. let fresh = sees.fresh refl news.epoch less told.within (told.given ∙ mine) in absurd (omega arith))
             (λ in_life. let been = in_life.1 in absurd (omega arith)) past
 
-    pub waiting_free : (texts : Texts) (asked : Questions) (j : ℕ) (kept : Kept) (hello : ℕ) → (t.manager j).phase ≡ Waiting kept hello → (m : Welcome)
+    pub waiting_free : (j : ℕ) (kept : Kept) (hello : ℕ) → (t.manager j).phase ≡ Waiting kept hello → (m : Welcome)
         → m.inc ≡ kept.inc → tokens.AllTold k part t m.news.slots → tokens.Welcomed k part t (Manager j) m
-        → NewsFree part texts asked j n 0 m.news.slots
-    waiting_free texts asked j kept hello is m life all welcomed news among same mine less =
+        → NewsFree part j n 0 m.news.slots
+    waiting_free j kept hello is m life all welcomed news among same mine less =
         let told = all.each news among same in
         let own = welcomed.own news among same mine in
         none_where news.epoch (λ z there. ⊎_elim (λ before. absurd (omega arith)) (λ in_life. in_life.1)
@@ -237,68 +232,64 @@ module _ (logs : Bool) (k : Cluster) (part : ℕ) (nodes later_nodes : List AnyN
           (subst (λ (x : ManagerNode). e ≤ epoch_in part x.phase) same c.knows)
           (let low = g.since in let rise = since.reigns c.manager in omega arith)))
 
--- ---- all that a manager is owed but for what it reads and writes
-
-module _ (part : ℕ) (texts : Texts) (asked : Questions) (j : ℕ) (n : Net) where
-  -- what an answer to a question of the slot's takeover completes is the text of its name
-  abbrev pub BodyReads : SlotPhase → NodeId → Body → Type 0
-  BodyReads p from (body.Fragment m) = FoundGets part texts asked j n p from m
-  BodyReads p from (body.Missing m) = AbsentGets part texts asked j n p from m
-  BodyReads p from _ = Unit {0}
-
-  abbrev pub PacketReads : Phase → Packet → Type 0
-  PacketReads (Serves v) packet = BodyReads (phase_at v.slots part) packet.from packet.body
-  PacketReads (Down kept) packet = Unit {0}
-  PacketReads (Waiting kept hello) packet = Unit {0}
-
-  abbrev pub DoReads : Phase → Do → Type 0
-  DoReads p (Deliver packet) = PacketReads p packet
-  DoReads p Begin = Unit {0}
-  DoReads p Tick = Unit {0}
+-- ---- all that tokens give
 
 module _ (logs : Bool) (k : Cluster) (part : ℕ) (nodes : List AnyNode) (sent : List Packet) (acts : List Act) (t : tokens.Scene)
-    (st : tokens.Stands logs k part nodes sent acts RegistrySound t) (texts : Texts) (asked : Questions) (s : Scene) (placed : Placed k nodes s)
-    (entered : Entered k part t s.net) (j : ℕ) (some : 0 < j) (most : j ≤ k.managers) where
-  serving_owed : (v : Serving) → (t.manager j).phase ≡ Serves v → (from to : NodeId) (m : Body) → tokens.SentBy k part t from to m
-      → BodyReads part texts asked j s.net (phase_at v.slots part) from m
-      → ServingOwed part texts asked j s.net v.lasting.inc (epoch_in part (Serves v)) (phase_at v.slots part) from m
-  serving_owed v is from to (body.Fragment m) h reads = reads
-  serving_owed v is from to (body.Missing m) h reads = reads
-  serving_owed v is from to (body.MapNews m) h reads =
-      serving_free logs k part nodes sent acts t st s.net entered texts asked j some most v is m.slots (news_told k part t from to m h)
-  serving_owed v is from to (body.Welcome m) h reads =
-      λ life. serving_free logs k part nodes sent acts t st s.net entered texts asked j some most v is m.news.slots (welcome_told k part t from to m h).0
-  serving_owed v is from to _ h reads = tt
+    (st : tokens.Stands logs k part nodes sent acts RegistrySound t) (s : Scene) (placed : Placed k nodes s) (entered : Entered k part t s.net) where
+  module _ (j : ℕ) (some : 0 < j) (most : j ≤ k.managers) where
+    serving_given : (v : Serving) → (t.manager j).phase ≡ Serves v → (from to : NodeId) (m : Body) → tokens.SentBy k part t from to m
+        → ServingFree part j s.net v.lasting.inc (epoch_in part (Serves v)) m
+    serving_given v is from to (body.MapNews m) h =
+        serving_free logs k part nodes sent acts t st s.net entered j some most v is m.slots (news_told k part t from to m h)
+    serving_given v is from to (body.Welcome m) h =
+        λ life. serving_free logs k part nodes sent acts t st s.net entered j some most v is m.news.slots (welcome_told k part t from to m h).0
+    serving_given v is from to _ h = tt
 
-  waiting_owed : (kept : Kept) (hello : ℕ) → (t.manager j).phase ≡ Waiting kept hello → (from to : NodeId) (m : Body) → tokens.SentBy k part t from to m
-      → to ≡ Manager j → WaitingOwed part texts asked j s.net kept.inc m
-  waiting_owed kept hello is from to (body.Welcome m) h same =
-      λ life. (let w = welcome_told k part t from to m h in
-      waiting_free logs k part nodes sent acts t st s.net entered texts asked j kept hello is m life w.0
-      (subst (λ x. tokens.Welcomed k part t x m) same w.1))
-  waiting_owed kept hello is from to _ h same = tt
+    waiting_given : (kept : Kept) (hello : ℕ) → (t.manager j).phase ≡ Waiting kept hello → (from to : NodeId) (m : Body) → tokens.SentBy k part t from to m
+        → to ≡ Manager j → WaitingFree part j s.net kept.inc m
+    waiting_given kept hello is from to (body.Welcome m) h same =
+        λ life. (let w = welcome_told k part t from to m h in
+        waiting_free logs k part nodes sent acts t st s.net entered j kept hello is m life w.0 (subst (λ x. tokens.Welcomed k part t x m) same w.1))
+    waiting_given kept hello is from to _ h same = tt
 
-  do_owed : (p : Phase) (what : Do) → (t.manager j).phase ≡ p → ((q : Packet) → what ≡ Deliver q → tokens.Fact k part t q × (q.to ≡ Manager j))
-      → DoReads part texts asked j s.net p what → ManagerDoOwed part texts asked j s.net p what
-  do_owed p Begin is fact reads = tt
-  do_owed p Tick is fact reads = tt
-  do_owed (Serves v) (Deliver q) is fact reads = serving_owed v is q.from q.to q.body (fact q refl).0 reads
-  do_owed (Waiting kept hello) (Deliver q) is fact reads = let f = fact q refl in waiting_owed kept hello is q.from q.to q.body f.0 f.1
-  do_owed (Down kept) (Deliver q) is fact reads = tt
+    do_given : (p : Phase) (what : Do) → (t.manager j).phase ≡ p → ((q : Packet) → what ≡ Deliver q → tokens.Fact k part t q × (q.to ≡ Manager j))
+        → DoFree part j s.net p what
+    do_given p Begin is fact = tt
+    do_given p Tick is fact = tt
+    do_given (Serves v) (Deliver q) is fact = serving_given v is q.from q.to q.body (fact q refl).0
+    do_given (Waiting kept hello) (Deliver q) is fact = let f = fact q refl in waiting_given kept hello is q.from q.to q.body f.0 f.1
+    do_given (Down kept) (Deliver q) is fact = tt
 
-  -- what comes to manager j was sent to it, as the small world of tokens knows
-  pub manager_told : (what : Do) (later : Phase) → ((q : Packet) → what ≡ Deliver q → tokens.Fact k part t q × (q.to ≡ Manager j))
-      → DoReads part texts asked j s.net (s.manager j).phase what → managed.WritesTexts part texts asked j s.net later
-      → ManagerTold part texts asked j s.net k.managers (holder part s) (s.manager j).phase what later
-  manager_told what later fact reads writes =
-      let same = same_manager logs k part nodes sent acts t st s placed j some most in
-      record {
-        number = subst (λ (x : ManagerNode). (lasting_of x.phase).number ≡ j) (sym same)
-            (manager_number (tokens.members k part) part j t.net (t.manager j).phase (st.managers j some most).agrees);
-        gets = do_owed (s.manager j).phase what (ap (λ (x : ManagerNode). x.phase) (sym same)) fact reads;
-        apart = apart logs k part nodes sent acts t st what (λ q is. (fact q is).0) texts asked s.net s placed j some most;
-        writes = writes;
-      }
+    -- what comes to manager j was sent to it, as the small world of tokens knows
+    manager_given : (what : Do) → ((q : Packet) → what ≡ Deliver q → tokens.Fact k part t q × (q.to ≡ Manager j))
+        → ManagerGiven part j s.net k.managers (holder part s) (s.manager j).phase what
+    manager_given what fact =
+        let same = same_manager logs k part nodes sent acts t st s placed j some most in
+        record {
+          number = subst (λ (x : ManagerNode). (lasting_of x.phase).number ≡ j) (sym same)
+              (manager_number (tokens.members k part) part j t.net (t.manager j).phase (st.managers j some most).agrees);
+          free = do_given (s.manager j).phase what (ap (λ (x : ManagerNode). x.phase) (sym same)) fact;
+          apart = apart logs k part nodes sent acts t st what (λ q is. (fact q is).0) s.net s placed j some most;
+        }
+
+  -- so it is of each node of the world
+  pub tokens_give : (name : NodeId) (what : Do) (node : AnyNode) → node_in nodes (place_of k name) ≡ Some node
+      → ((q : Packet) → what ≡ Deliver q → tokens.Fact k part t q × (q.to ≡ name)) → TokensGive part k.managers (holder part s) s.net name node what
+  tokens_give (Manager j) what node there fact = by (place_of k (Manager j)) refl
+    where
+      at_node : 0 < j → j ≤ k.managers → TokensGive part k.managers (holder part s) s.net (Manager j) node what
+      at_node some most =
+          subst (λ x. TokensGive part k.managers (holder part s) s.net (Manager j) x what)
+          (one_node (any.Manager (s.manager j)) node (sym (placed.managers j some most) ∙ there))
+          (manager_given j some most what fact)
+
+      by : (o : Option ℕ) → place_of k (Manager j) ≡ o → TokensGive part k.managers (holder part s) s.net (Manager j) node what
+      by None at = (let clash : None ≡ Some node = sym (ap (node_in nodes) at) ∙ there in absurd (cc))
+      by (Some p) at = let b = behind k.clients k.managers j p at in at_node b.some b.within
+  tokens_give (Client c) what node there fact = tt
+  tokens_give (Server v) what node there fact = tt
+  tokens_give Cleaner what node there fact = tt
+  tokens_give Registry what node there fact = tt
 
 -- ---- the start
 

@@ -1,4 +1,4 @@
--- Each event of the world keeps a moment standing to the small world of a slot's index, if logs and tokens give what they owe.
+-- Each event of the world keeps a moment standing to the small world of a slot's index, if logs give what they owe, and tokens theirs.
 use Rattle.std.proofs.Common.{◌≡◌, ◌⊎◌, ℕ, ◌+◌, ◌<◌, List, ◌++◌, Some, map, slice_get, slice_set, inl, inr, refl, sym, ap, subst, ◌∙◌, arith, ⊎_elim, true, Option, None, ◌≤◌}
 use Rattle.client_node.specs.Phases.{takes}
 use Rattle.cleaner_node.specs.CleanerEvents as cleaners
@@ -49,7 +49,7 @@ use Rattle.world_index.proofs.ManagerTurns as managers
 use Rattle.world_index.proofs.RegistryTurns as others
 use Rattle.world_index.proofs.Senders.{IsKind, IsSentBy}
 use Rattle.world_index.specs.Standing.{Came, Fact, Scene, SentBy, Stands, WasAsked, holder, members}
-use Rattle.world_index.specs.Owes.{IndexOwes, Makes}
+use Rattle.world_index.specs.Owes.{IndexOwes, Makes, TokensGive}
 use Rattle.world_law.proofs.ManagerTurns.{delivered}
 use Rattle.world_law.proofs.Places.{Behind, behind}
 use Rattle.world_law.proofs.Sent.{was_sent}
@@ -92,7 +92,10 @@ module _ (laws : NodeLaws) (k : Cluster) (part : ℕ) (of_eight : part < 8) (tex
       pub came : (e : ℕ) (z : SlotState) → next.net.slots e ≡ Some z → s.net.slots e ≡ None → Came k part s next name what e
 
     abbrev pub Owed : NodeId → AnyNode → Type 0
-    Owed name node = IndexOwes part texts s.asked k.managers (holder part s) s.net name node what
+    Owed name node = IndexOwes part texts s.asked s.net name node what
+
+    abbrev pub Given : NodeId → AnyNode → Type 0
+    Given name node = TokensGive part k.managers (holder part s) s.net name node what
 
     -- what comes to this node was sent, by a node that may send it
     abbrev pub Brought : Type 0
@@ -135,8 +138,10 @@ module _ (laws : NodeLaws) (k : Cluster) (part : ℕ) (of_eight : part < 8) (tex
             }
 
     manager_after : Brought → (j : ℕ) → place_of k (Manager j) ≡ Some place → (node : AnyNode) → slice_get nodes place ≡ Some node → Owed (Manager j) node
+        → Given (Manager j) node
         → Turned (Manager j) node
-    manager_after fact j at node is = subst (λ x. Owed (Manager j) x → Turned (Manager j) x) (one_node (any.Manager (s.manager j)) node (sym here ∙ is)) turned
+    manager_after fact j at node is =
+        subst (λ x. Owed (Manager j) x → Given (Manager j) x → Turned (Manager j) x) (one_node (any.Manager (s.manager j)) node (sym here ∙ is)) turned
       where
         b : Behind k.clients k.managers j place
         b = behind k.clients k.managers j place at
@@ -144,11 +149,11 @@ module _ (laws : NodeLaws) (k : Cluster) (part : ℕ) (of_eight : part < 8) (tex
         here : slice_get nodes place ≡ Some (any.Manager (s.manager j))
         here = sym (ap (node_in nodes) at) ∙ st.placed.managers j b.some b.within
 
-        turned : Owed (Manager j) (any.Manager (s.manager j)) → Turned (Manager j) (any.Manager (s.manager j))
-        turned owed =
-            went (laws.manager part texts s.asked j s.net (s.manager j) what of_eight owed.number (st.managers j b.some b.within)
+        turned : Owed (Manager j) (any.Manager (s.manager j)) → Given (Manager j) (any.Manager (s.manager j)) → Turned (Manager j) (any.Manager (s.manager j))
+        turned owed given =
+            went (laws.manager part texts s.asked j s.net (s.manager j) what of_eight given.number (st.managers j b.some b.within)
             (record {
-              gets = manager_gets part texts s.asked s.net j (s.manager j).phase what fact owed.gets;
+              gets = manager_gets part texts s.asked s.net j (s.manager j).phase what fact owed.reads given.free;
               filed = st.texts_of;
               writes = owed.writes;
             }))
@@ -161,11 +166,11 @@ module _ (laws : NodeLaws) (k : Cluster) (part : ℕ) (of_eight : part < 8) (tex
             went : ManagerGoes part texts s.asked j s.net (s.manager j).phase what (happens (s.manager j) what) → Turned (Manager j) (any.Manager (s.manager j))
             went go = record {
               next = managers.manager_scene laws.clients_stay laws.managers_stay laws.cleaner_stays k part texts first RegistrySound nodes sent s st j place clock
-                  b.some b.within at here what owed.number owed.apart (happens (s.manager j) what) go;
+                  b.some b.within at here what given.number given.apart (happens (s.manager j) what) go;
               stands = managers.manager_turn laws.clients_stay laws.managers_stay laws.cleaner_stays k part texts first RegistrySound nodes sent s st j place
-                  clock b.some b.within at here what owed.number owed.apart (happens (s.manager j) what) go;
+                  clock b.some b.within at here what given.number given.apart (happens (s.manager j) what) go;
               grown = managers.grown laws.clients_stay laws.managers_stay laws.cleaner_stays k part texts first RegistrySound nodes sent s st j place clock
-                  b.some b.within at here what owed.number owed.apart (happens (s.manager j) what) go;
+                  b.some b.within at here what given.number given.apart (happens (s.manager j) what) go;
               makes = record { rest = go.rest; slots = go.slots; stay = go.stay };
               came = λ e z there none. ⊎_elim (λ free. absurd (some_none z (sym there ∙ free)))
                   (λ known. record {
@@ -260,12 +265,13 @@ module _ (laws : NodeLaws) (k : Cluster) (part : ℕ) (of_eight : part < 8) (tex
 
     -- what one node's step makes of the moment, if what is owed is given
     pub turns : (name : NodeId) → Brought → place_of k name ≡ Some place → (node : AnyNode) → slice_get nodes place ≡ Some node → Owed name node
+        → Given name node
         → Turned name node
-    turns (Client c) fact at node is owed = client_after c at node is owed
-    turns (Manager j) fact at node is owed = manager_after fact j at node is owed
-    turns (Server v) fact at node is owed = server_after v at node is
-    turns Cleaner fact at node is owed = cleaner_after fact at node is owed
-    turns Registry fact at node is owed = registry_after fact at node is
+    turns (Client c) fact at node is owed given = client_after c at node is owed
+    turns (Manager j) fact at node is owed given = manager_after fact j at node is owed given
+    turns (Server v) fact at node is owed given = server_after v at node is
+    turns Cleaner fact at node is owed given = cleaner_after fact at node is owed
+    turns Registry fact at node is owed given = registry_after fact at node is
 
   -- ---- an event of the world
 
@@ -294,13 +300,21 @@ module _ (laws : NodeLaws) (k : Cluster) (part : ℕ) (of_eight : part < 8) (tex
     -- The packets that were sent are of those who may send them, as the small world of tokens knows (`Senders`).
     pub event_turns : w.cluster ≡ k → MayHappen w event → Stands k part texts first w.nodes w.sent RegistrySound s → ((q : Packet) → In q w.sent → IsKind q)
         → ((node : AnyNode) → node_in w.nodes (place_of k (node_of event)) ≡ Some node
-        → IndexOwes part texts s.asked k.managers (holder part s) s.net (node_of event) node (what_of event))
+        → IndexOwes part texts s.asked s.net (node_of event) node (what_of event))
+        → ((node : AnyNode) → node_in w.nodes (place_of k (node_of event)) ≡ Some node
+        → TokensGive part k.managers (holder part s) s.net (node_of event) node (what_of event))
         → EventTurned (next_world any_step w event).nodes (next_world any_step w event).sent (next_world any_step w event).acts
-    event_turns cluster may st kinds owed = next_keeps any_step EventTurned w event
-        (record { next = s; stands = st; grown = grown_itself k part texts first w.nodes w.sent RegistrySound s st; makes = inl refl; came = λ e z there none. absurd (some_none z (sym there ∙ none)) })
+    event_turns cluster may st kinds owed given = next_keeps any_step EventTurned w event
+        (record {
+          next = s;
+          stands = st;
+          grown = grown_itself k part texts first w.nodes w.sent RegistrySound s st;
+          makes = inl refl;
+          came = λ e z there none. absurd (some_none z (sym there ∙ none));
+        })
         (λ place node clock at is.
         let at_k : place_of k (node_of event) ≡ Some place = subst (λ c. place_of c (node_of event) ≡ Some place) cluster at in
         let there : node_in w.nodes (place_of k (node_of event)) ≡ Some node = ap (node_in w.nodes) at_k ∙ is in
         let t = turns w.nodes w.sent s st place clock (what_of event) (node_of event) (delivered_fact w.sent s st.facts kinds w refl event may) at_k node is
-        (owed node there) in
+        (owed node there) (given node there) in
         record { next = t.next; stands = t.stands; grown = t.grown; makes = inr (node, there, t.makes); came = t.came })

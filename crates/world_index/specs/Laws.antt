@@ -1,4 +1,4 @@
--- Where blocks lie, in every run of the nodes to whose events logs and tokens give what they are owed.
+-- Where blocks lie, in every run of the nodes to whose events it is given what they are owed.
 use Rattle.std.specs.Prelude.{◌≡◌, ◌<◌, ℕ, true, Some, slice_get}
 use Rattle.core_world.specs.AnyNode.{any_start, any_step}
 use Rattle.core_world.specs.declared.any_node.AnyNode.{AnyNode}
@@ -20,7 +20,7 @@ use Rattle.world_base.specs.declared.world.World.{World}
 use Rattle.world_base.specs.Events.{node_of, what_of}
 use Rattle.world_base.specs.Runs.{IsRun, WasSent}
 use Rattle.world_index.specs.Owes.{IndexOwes}
-use Rattle.world_index.specs.Standing.{Scene, Stands, holder}
+use Rattle.world_index.specs.Standing.{Scene, Stands}
 use Rattle.world_law.specs.Managers.{active_at}
 use Rattle.world_law.specs.Owners.{moment, node_named}
 use Rattle.xfs_base.specs.Blocks.{slot_of}
@@ -34,13 +34,13 @@ module _ (e : Estate AnyNode) (part : ℕ) (texts : Texts) (first : ℕ → ℕ 
   abbrev pub its_cluster : Cluster
   its_cluster = cluster_of e.script.setup
 
-  -- Logs and tokens give each event of a run what they owe it, wherever the moment before it stands to the small world of the slot's index.
+  -- Each event of a run is given what it is owed, wherever the moment before it stands to the small world of the slot's index.
   abbrev pub AllOwed : Type 0
   AllOwed =
       (count : ℕ) (event : Event) (s : Scene) (node : AnyNode) → slice_get e.events count ≡ Some event
       → Stands its_cluster part texts first (moment e count).nodes (moment e count).sent RegistrySound s
       → node_named (moment e count) (node_of event) ≡ Some node
-      → IndexOwes part texts s.asked its_cluster.managers (holder part s) s.net (node_of event) node (what_of event)
+      → IndexOwes part texts s.asked s.net (node_of event) node (what_of event)
 
 -- ---- what follows
 
@@ -61,7 +61,7 @@ pub record KeepsIndexes (w : World AnyNode) (part : ℕ) (texts : Texts) : Type 
   pub kept : (name : SegName) (b : BlockId) → WasDeleted w name → slot_of b.ino.0 ≡ part → is_filed_name filed name ≡ true → has_block b filed name ≡ true
       → IsNewest b filed name.log.0 name.seq → ⊥
 
--- So it is at each moment of each run of a script of whose setup a run can be started, where logs and tokens give what they owe.
+-- So it is at each moment of each run of a script of whose setup a run can be started, where its events are given what they are owed.
 abbrev pub EveryRunKeepsIndexes : Type 0
 EveryRunKeepsIndexes =
     (e : Estate AnyNode) → IsSetup e.script.setup → IsRun any_step any_start e.script e.events e.world → (part : ℕ) → part < 8 → (texts : Texts)

@@ -1,4 +1,4 @@
--- What logs and tokens owe an event of a node, as the small world of one slot's index sees it, and what the event makes of that world.
+-- What logs owe an event of a node, as the small world of one slot's index sees it, what tokens give it, and what the event makes of that world.
 use Rattle.std.specs.Prelude.{◌≡◌, ◌<◌, ◌≤◌, ℕ, List, None}
 use Rattle.std.specs.List.{AllByRecursion}
 use Rattle.cleaner_node.specs.CleanerEvents as cleaners
@@ -67,53 +67,75 @@ module _ (part : ℕ) (texts : Texts) (n : Net) where
     pub writes : WritesTexts part texts n w.state
 
 module _ (part : ℕ) (texts : Texts) (asked : Questions) (j : ℕ) (n : Net) where
-  -- a manager: where news give it an epoch that is new to it, nobody was active at that
+  -- a manager: that what an answer to a question of the slot's takeover completes is the text of its name
+  abbrev pub BodyReads : SlotPhase → NodeId → Body → Type 0
+  BodyReads p from (body.Fragment m) = FoundGets part texts asked j n p from m
+  BodyReads p from (body.Missing m) = AbsentGets part texts asked j n p from m
+  BodyReads p from _ = Unit {0}
+
+  abbrev pub PacketReads : ManagerPhase → Packet → Type 0
+  PacketReads (managing.Serving s) packet = BodyReads (phase_at s.slots part) packet.from packet.body
+  PacketReads (managing.Waiting kept hello) packet = Unit {0}
+  PacketReads (managing.Down kept) packet = Unit {0}
+
+  abbrev pub DoReads : ManagerPhase → Do → Type 0
+  DoReads p (Deliver packet) = PacketReads p packet
+  DoReads p Begin = Unit {0}
+  DoReads p Tick = Unit {0}
+
+  -- and that what it writes are texts of their names
+  pub record ManagerTold (p : ManagerPhase) (what : Do) (q : ManagerPhase) : Type 0 where
+    pub reads : DoReads p what
+    pub writes : managed.WritesTexts part texts asked j n q
+
+-- Of the node of this name. A client is owed what `ClientOwed` says; servers and the registry are owed nothing. Of a Dead and a Live that come to the cleaner, and
+-- of Deltas, Reports, Checks, news and checkpoints, nothing is owed: what they tell is so.
+abbrev pub IndexOwes : (part : ℕ) → Texts → Questions → Net → NodeId → AnyNode → Do → Type 0
+IndexOwes part texts asked n (Client c) (any.Client node) what = ClientOwed part texts n c node.phase what (clients.takes node what)
+IndexOwes part texts asked n (Manager j) (any.Manager node) what = ManagerTold part texts asked j n node.phase what (happens node what).state
+IndexOwes part texts asked n Cleaner (any.Cleaner node) what = CleanerTold part texts n node.phase what (cleaners.takes node.peers node.phase what)
+IndexOwes part texts asked n name node what = Unit {0}
+
+-- ---- what the small world of tokens gives
+
+module _ (part j : ℕ) (n : Net) where
+  -- where news give a manager an epoch that is new to it, nobody was active at that
   abbrev pub NewsFree : ℕ → List SlotNews → Type 0
   NewsFree known slots = (news : SlotNews) → In news slots → news.slot ≡ part → news.manager ≡ j → known < news.epoch → n.slots news.epoch ≡ None
 
-  -- and what an answer to a question of the slot's takeover completes is the text of its name
-  abbrev pub ServingOwed : ℕ → ℕ → SlotPhase → NodeId → Body → Type 0
-  ServingOwed life known p from (body.Fragment m) = FoundGets part texts asked j n p from m
-  ServingOwed life known p from (body.Missing m) = AbsentGets part texts asked j n p from m
-  ServingOwed life known p from (body.MapNews m) = NewsFree known m.slots
-  ServingOwed life known p from (body.Welcome m) = m.inc ≡ life → NewsFree known m.news.slots
-  ServingOwed life known p from _ = Unit {0}
+  abbrev pub ServingFree : ℕ → ℕ → Body → Type 0
+  ServingFree life known (body.MapNews m) = NewsFree known m.slots
+  ServingFree life known (body.Welcome m) = m.inc ≡ life → NewsFree known m.news.slots
+  ServingFree life known _ = Unit {0}
 
-  abbrev pub WaitingOwed : ℕ → Body → Type 0
-  WaitingOwed life (body.Welcome m) = m.inc ≡ life → NewsFree 0 m.news.slots
-  WaitingOwed life _ = Unit {0}
+  abbrev pub WaitingFree : ℕ → Body → Type 0
+  WaitingFree life (body.Welcome m) = m.inc ≡ life → NewsFree 0 m.news.slots
+  WaitingFree life _ = Unit {0}
 
-  abbrev pub PacketOwed : ManagerPhase → Packet → Type 0
-  PacketOwed (managing.Serving s) packet =
-      ServingOwed s.lasting.inc (epoch_in part (managing.Serving s)) (phase_at s.slots part) packet.from packet.body
-  PacketOwed (managing.Waiting kept hello) packet = WaitingOwed kept.inc packet.body
-  PacketOwed (managing.Down kept) packet = Unit {0}
+  abbrev pub PacketFree : ManagerPhase → Packet → Type 0
+  PacketFree (managing.Serving s) packet = ServingFree s.lasting.inc (epoch_in part (managing.Serving s)) packet.body
+  PacketFree (managing.Waiting kept hello) packet = WaitingFree kept.inc packet.body
+  PacketFree (managing.Down kept) packet = Unit {0}
 
-  abbrev pub ManagerDoOwed : ManagerPhase → Do → Type 0
-  ManagerDoOwed p (Deliver packet) = PacketOwed p packet
-  ManagerDoOwed p Begin = Unit {0}
-  ManagerDoOwed p Tick = Unit {0}
+  abbrev pub DoFree : ManagerPhase → Do → Type 0
+  DoFree p (Deliver packet) = PacketFree p packet
+  DoFree p Begin = Unit {0}
+  DoFree p Tick = Unit {0}
 
-  -- of tokens: no other manager holds an epoch that this one holds, or that news give to it. `holders` has of each manager the slot.
+  -- no other of so many managers holds an epoch that this one holds, or that news give to it. `holders` has of each manager the slot.
   abbrev pub HeldApart : (most : ℕ) → (ℕ → SlotPhase) → ManagerPhase → Do → Type 0
   HeldApart most holders p what =
       (d e : ℕ) → 0 < d → d ≤ most → (d ≡ j → ⊥) → HeldAt (holders d) e → (HeldAt (slot_in part p) e → ⊥) × (Names part j e what → ⊥)
 
-  pub record ManagerTold (most : ℕ) (holders : ℕ → SlotPhase) (p : ManagerPhase) (what : Do) (q : ManagerPhase) : Type 0 where
+  pub record ManagerGiven (most : ℕ) (holders : ℕ → SlotPhase) (p : ManagerPhase) (what : Do) : Type 0 where
     pub number : (managers.lasting_of p).number ≡ j
-    pub gets : ManagerDoOwed p what
+    pub free : DoFree p what
     pub apart : HeldApart most holders p what
-    pub writes : managed.WritesTexts part texts asked j n q
 
--- Of the node of this name, in a world of so many managers. A client is owed what `ClientOwed` says; servers and the registry are owed nothing. Of a Dead and
--- a Live that come to the cleaner, and of Deltas, Reports, Checks, news and checkpoints, nothing is owed: what they tell is so.
-abbrev pub IndexOwes : (part : ℕ) → Texts → Questions → (most : ℕ) → (ℕ → SlotPhase) → Net → NodeId → AnyNode → Do → Type 0
-IndexOwes part texts asked most holders n (Client c) (any.Client node) what = ClientOwed part texts n c node.phase what (clients.takes node what)
-IndexOwes part texts asked most holders n (Manager j) (any.Manager node) what =
-    ManagerTold part texts asked j n most holders node.phase what (happens node what).state
-IndexOwes part texts asked most holders n Cleaner (any.Cleaner node) what =
-    CleanerTold part texts n node.phase what (cleaners.takes node.peers node.phase what)
-IndexOwes part texts asked most holders n name node what = Unit {0}
+-- of the node of this name; other nodes are given nothing
+abbrev pub TokensGive : (part most : ℕ) → (ℕ → SlotPhase) → Net → NodeId → AnyNode → Do → Type 0
+TokensGive part most holders n (Manager j) (any.Manager node) what = ManagerGiven part j n most holders node.phase what
+TokensGive part most holders n name node what = Unit {0}
 
 -- ---- what an event makes of the small world
 

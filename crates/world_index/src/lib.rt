@@ -1,8 +1,9 @@
 //! The law of every run of the nodes' world about where blocks lie: the index of each slot is the join of what it has applied, and cleaning
 //! loses nothing. It has no code of the product: its function calls the laws that it stands on, and its contract is a law. The proof
-//! carries, for each slot of the map, a run of the small world of the slot's index (`index_tie`) beside the run of the nodes;
-//! `specs/Standing.antt` says how the two stand to each other, and `specs/Owes.antt` what logs and tokens owe each event, of which this
-//! crate proves nothing. Each event keeps them so (`proofs/Turns.antt`).
+//! carries, for each slot of the map, a run of the small world of the slot's index (`index_tie`) beside the run of the nodes and that of the
+//! small world of tokens (`world_law`); `specs/Standing.antt` says how the two stand to each other. Each event keeps them so
+//! (`proofs/Turns.antt`), where it is given what `specs/Owes.antt` says that it is owed, which is not shown here; what that file says that
+//! tokens give is shown (`proofs/Tokens.antt`).
 #![tactic(auto)]
 
 ghost use Rattle.world_index.specs.Laws.{EveryRunKeepsIndexes};
@@ -17,8 +18,7 @@ use owner_index_tie::{
     cleaner_index_events_are_seen, client_index_events_are_seen, server_index_events_are_seen,
 };
 
-/// In every run in which logs and tokens give each event what they owe it, whatever messages are lost, repeated or reordered and whichever
-/// nodes stop, the index of a slot says of each block the newest that it was told, and the cleaner deletes no segment that has the newest
+/// In every run whose events are given what they are owed, whatever messages are lost, repeated or reordered and whichever nodes stop, the index of a slot says of each block the newest that it was told, and the cleaner deletes no segment that has the newest
 /// version of a block (the 1996 paper, on the log cleaner).
 ///
 /// - `keeps`: so it is of every run of a script of whose setup a run can be started, at each moment and of each slot: the index of each
