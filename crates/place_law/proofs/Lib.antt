@@ -8,3 +8,4 @@ pub mod Saying
 pub mod SlotAnswers
 pub mod ManagerAnswers
 pub mod Answering
+pub mod Handling

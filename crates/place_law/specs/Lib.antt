@@ -2,3 +2,4 @@ pub mod Reads
 pub mod Fetches
 pub mod Copies
 pub mod Answers
+pub mod Hands

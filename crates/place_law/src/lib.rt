@@ -5,25 +5,29 @@
 ghost use Rattle.place_law.specs.Answers.{ManagersAnswer, RunsAnswer};
 ghost use Rattle.place_law.specs.Copies.{JobsChecksLie, LivesTellCopies};
 ghost use Rattle.place_law.specs.Fetches.{FetchesReadThere};
+ghost use Rattle.place_law.specs.Hands.{HandsReadTexts};
 ghost use Rattle.place_law.specs.Reads.{TakeoversReadTexts, WhatIsReadIsTheText};
 
 use log_law::{a_place_names_one_content, one_name_one_text};
 use manager_log_tie::what_is_told_is_in_range;
 use node_tie::{client_events_are_seen, clients_ask_for_their_call, manager_events_are_seen, other_events_are_seen};
-use reading_tie::{clients_read_what_came, managers_read_what_came};
+use reading_tie::{cleaner_reads_what_came, clients_read_what_came, managers_read_what_came};
 
 /// What is read under a name is the text of the name.
 ///
 /// - `own`: what is joined of fragments that came, in answer to one question, for a reference that bears the group of the text that it names, is that text.
 /// - `takeovers`: so is what a takeover reads, and each number in it is within its type.
+/// - `hands`: what the cleaner reads of the segment in its hand is the segment that was filed at its number, where that bears its name.
 pub fn what_is_read_is_the_text()
     ensures own { WhatIsReadIsTheText }
     ensures takeovers { TakeoversReadTexts }
+    ensures hands { HandsReadTexts }
 {
     one_name_one_text();
     a_place_names_one_content();
     what_is_told_is_in_range();
     managers_read_what_came();
+    cleaner_reads_what_came();
 }
 
 /// What a client reads of a block is what the filed segment says at the place of its fetch.
