@@ -9,3 +9,7 @@ pub mod SlotAnswers
 pub mod ManagerAnswers
 pub mod Answering
 pub mod Handling
+pub mod Aims
+pub mod AimsReads
+pub mod AimsServing
+pub mod AimsClients

@@ -1,8 +1,13 @@
 -- What is read of the place of a client's fetch is what the filed segment there says.
 use Rattle.std.specs.Prelude.{◌≡◌, ℕ, List, Some}
+use Rattle.client_node.specs.declared.client.Client.{Client}
+use Rattle.client_node.specs.declared.phase.Phase.{Phase}
+use Rattle.client_node.specs.declared.phase.Phase.TheVariants.{Down, Opening, Serving as Serves}
 use Rattle.client_node.specs.declared.serving.Serving.{Serving}
 use Rattle.client_node.specs.Flights.{held_at}
+use Rattle.client_node.specs.Phases.{takes}
 use Rattle.client_node.specs.Reads.{reading_in}
+use Rattle.client_node.specs.Starting.{first_client}
 use Rattle.entry_tie.specs.ClientTells.{ServingHolds}
 use Rattle.entry_tie.specs.Told.{told_by}
 use Rattle.index_reads.specs.Ties.{BooksAre, ArePlain}
@@ -16,9 +21,12 @@ use Rattle.stripe_code.specs.declared.target.BlockAt.{BlockAt}
 use Rattle.stripe_code.specs.Reading.{ReadingState}
 use Rattle.token_client.specs.declared.held.Fetch.{Fetch}
 use Rattle.token_law.specs.Net as tokens
+use Rattle.version_model.specs.declared.work.Work.{Work}
+use Rattle.wire_msg.specs.declared.packet.Do.{Do}
 use Rattle.wire_msg.specs.declared.packet.Packet.{Packet}
 use Rattle.xfs_base.specs.declared.node.NodeId.{NodeId}
 use Rattle.xfs_base.specs.declared.entry.Place.{Place}
+use Rattle.xfs_base.specs.declared.setup.Setup.{Setup}
 use Rattle.place_law.specs.Reads.{FiledKnown}
 
 -- where the reading looks for a block
@@ -30,6 +38,18 @@ abbrev pub ReadsItsFetch : Serving → Type 0
 ReadsItsFetch s =
     (r : ReadingState) (at : BlockAt) (f : Fetch) → reading_in s.call ≡ Some r → r.target.block ≡ Some at → (held_at s at.block).fetch ≡ Some f
     → f.place ≡ place_read r at
+
+abbrev pub PhaseReadsItsFetch : Phase → Type 0
+PhaseReadsItsFetch (Down l) = Unit {0}
+PhaseReadsItsFetch (Opening l o) = Unit {0}
+PhaseReadsItsFetch (Serves s) = ReadsItsFetch s
+
+-- So it is at the start, and after each event, whatever a packet says.
+abbrev pub ClientsStartSo : Type 0
+ClientsStartSo = (number : ℕ) (setup : Setup) (works : List Work) → PhaseReadsItsFetch (first_client number setup works).phase
+
+abbrev pub ClientsKeepSo : Type 0
+ClientsKeepSo = (client : Client) (what : Do) → PhaseReadsItsFetch client.phase → PhaseReadsItsFetch (takes client what).state
 
 -- A client that serves, beside what logs filed: the place of each fetch and of its reading is what a filed segment says of the block, what it holds of the reading
 -- came, and the reading is the fetch's.
