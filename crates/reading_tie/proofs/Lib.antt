@@ -11,3 +11,6 @@ pub mod Cleaners
 mod Slots
 mod ManagerServing
 pub mod Managers
+mod Choosing
+mod Meeting
+pub mod MeetingEvents

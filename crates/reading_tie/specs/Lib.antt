@@ -4,3 +4,4 @@ pub mod ClientReads
 pub mod TakeoverReads
 pub mod ManagerReads
 pub mod CleanerReads
+pub mod CleanerMeets

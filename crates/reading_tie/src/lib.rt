@@ -1,11 +1,12 @@
 //! What a reader of segments holds came, and what it reads is joined of what came: a client's call that reads a block from a log, a manager's takeover, and the
-//! cleaner with a segment in its hand. It has no code: each function below has an empty body, and its contract is a law. `specs/Came.antt` says when the answers
-//! of a reading came, and `specs/Arrivals.antt` what a packet brings.
+//! cleaner with a segment in its hand. It has no code: each function below has an empty body, and its contract is a law. `specs/Came.antt` says when the
+//! answers of a reading came, and `specs/Arrivals.antt` what a packet brings.
 //!
 //! The laws are stated of the packets that were sent to a node; they are proved of whatever came, in `proofs/Clients.antt`, `proofs/Managers.antt` and
 //! `proofs/Cleaners.antt`. The reading of an opening is told of by the law of logs.
 #![tactic(auto)]
 
+ghost use Rattle.reading_tie.specs.CleanerMeets.{CleanerEventsMeet, CleanerMeetsRise, CleanerStartsMet};
 ghost use Rattle.reading_tie.specs.CleanerReads.{CleanerEventsKeep, CleanerHoldsRise, CleanerReadsWhatCame, CleanerStarts};
 ghost use Rattle.reading_tie.specs.ClientReads.{ClientEventsKeep, ClientHoldsRise, ClientStarts, ClientsReadWhatCame};
 ghost use Rattle.reading_tie.specs.ManagerReads.{ManagerEventsKeep, ManagerHoldsRise, ManagerStarts};
@@ -53,4 +54,16 @@ pub fn cleaner_reads_what_came()
     ensures rises { CleanerHoldsRise }
     ensures events { CleanerEventsKeep }
     ensures reads { CleanerReadsWhatCame }
+{}
+
+/// What a job of the cleaner is about was listed.
+///
+/// - `start`: the cleaner at its start has no job.
+/// - `rises`: what was listed in packets was listed in more packets too.
+/// - `events`: where of each candidate of its job, of each segment that is to be emptied, and of the one in its hand, a server listed a fragment of that name
+///   and over that group, and the packet that is delivered was sent, then it is so after the event.
+pub fn cleaner_empties_what_was_listed()
+    ensures start { CleanerStartsMet }
+    ensures rises { CleanerMeetsRise }
+    ensures events { CleanerEventsMeet }
 {}
