@@ -9,6 +9,7 @@ use Rattle.node_log_tie.proofs.Others.{same_or_other}
 use Rattle.token_protocol.specs.Basics.{In}
 use Rattle.version_model.specs.declared.work.Work.{Work}
 use Rattle.wire_msg.specs.declared.packet.Do.{Do}
+use Rattle.wire_msg.specs.declared.packet.Do.TheVariants as done
 use Rattle.wire_msg.specs.declared.packet.Packet.{Packet}
 use Rattle.world_base.specs.Cluster.{place_of}
 use Rattle.world_base.specs.declared.cluster.Cluster.{Cluster}
@@ -33,6 +34,7 @@ use Rattle.reading_law.specs.Readings.{AnyHolds}
 use Rattle.reading_law.proofs.Maps.{KindOf, kind_stays, new_maps}
 use Rattle.reading_tie.specs.Arrivals.{Cuts, cut_by, BodyMaps, DoSent}
 use Rattle.reading_tie.specs.Came.{MapStriped}
+use Rattle.reading_tie.specs.CleanerMeets.{IsSent, CleanerStartsMet, CleanerMeetsRise, CleanerEventsMeet}
 use Rattle.reading_tie.specs.CleanerReads.{CleanerStarts, CleanerHoldsRise, CleanerEventsKeep}
 use Rattle.reading_tie.specs.ClientReads.{ClientStarts, ClientHoldsRise, ClientEventsKeep}
 use Rattle.reading_tie.specs.ManagerReads.{ManagerStarts, ManagerHoldsRise, ManagerEventsKeep}
@@ -48,6 +50,9 @@ pub record NodeLaws : Type 0 where
   pub cleaner_starts : CleanerStarts
   pub cleaner_rises : CleanerHoldsRise
   pub cleaner : CleanerEventsKeep
+  pub met_starts : CleanerStartsMet
+  pub met_rises : CleanerMeetsRise
+  pub met : CleanerEventsMeet
 
 module _ (laws : NodeLaws) (cuts : Cuts) where
   pub any_starts : (name : NodeId) (setup : Setup) (items : List Work) → MapStriped (cut_by cuts) (groups.started setup.servers setup.groups)
@@ -55,7 +60,8 @@ module _ (laws : NodeLaws) (cuts : Cuts) where
   any_starts (nodes.Client c) setup items is = laws.client_starts [] (nodes.Client c) cuts c setup items is
   any_starts (nodes.Manager j) setup items is = laws.manager_starts [] (nodes.Manager j) cuts j setup items is
   any_starts (nodes.Server v) setup items is = tt
-  any_starts nodes.Cleaner setup items is = laws.cleaner_starts [] nodes.Cleaner cuts setup items is
+  any_starts nodes.Cleaner setup items is =
+      record { holds = laws.cleaner_starts [] nodes.Cleaner cuts setup items is; meets = laws.met_starts [] nodes.Cleaner setup items }
   any_starts nodes.Registry setup items is = tt
 
   any_rises : (sent more : List Packet) (name : NodeId) (x : AnyNode) → ((p : Packet) → In p sent → In p more) → AnyHolds sent name cuts x
@@ -63,15 +69,22 @@ module _ (laws : NodeLaws) (cuts : Cuts) where
   any_rises sent more name (any.Client node) grows h = laws.client_rises sent more name cuts node grows h
   any_rises sent more name (any.Manager node) grows h = laws.manager_rises sent more name cuts node grows h
   any_rises sent more name (any.Server node) grows h = tt
-  any_rises sent more name (any.Cleaner node) grows h = laws.cleaner_rises sent more name cuts node grows h
+  any_rises sent more name (any.Cleaner node) grows h =
+      record { holds = laws.cleaner_rises sent more name cuts node grows h.holds; meets = laws.met_rises sent more name node grows h.meets }
   any_rises sent more name (any.Registry node) grows h = tt
+
+  only_sent : (sent : List Packet) (name : NodeId) (what : Do) → DoSent sent name cuts what → IsSent sent name what
+  only_sent sent name done.Begin is = tt
+  only_sent sent name (done.Deliver packet) is = (is.0, is.1)
+  only_sent sent name done.Tick is = tt
 
   any_keeps : (sent : List Packet) (name : NodeId) (x : AnyNode) (what : Do) → DoSent sent name cuts what → AnyHolds sent name cuts x
       → AnyHolds sent name cuts (any_step x what).node
   any_keeps sent name (any.Client node) what is h = laws.client sent name cuts node what h is
   any_keeps sent name (any.Manager node) what is h = laws.manager sent name cuts node what h is
   any_keeps sent name (any.Server node) what is h = tt
-  any_keeps sent name (any.Cleaner node) what is h = laws.cleaner sent name cuts node what h is
+  any_keeps sent name (any.Cleaner node) what is h =
+      record { holds = laws.cleaner sent name cuts node what h.holds is; meets = laws.met sent name node what h.meets (only_sent sent name what is) }
   any_keeps sent name (any.Registry node) what is h = tt
 
   -- ---- a moment

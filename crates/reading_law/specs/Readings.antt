@@ -1,11 +1,13 @@
 -- What holds of the readers of segments at each moment of a run: what they hold came in packets that were sent to them, and is cut as the registry's map says.
 use Rattle.std.specs.Prelude.{◌≡◌, ℕ, List, length, Option, Some, None}
+use Rattle.cleaner_node.specs.declared.cleaner.Cleaner.{Cleaner}
 use Rattle.core_world.specs.AnyNode.{any_start, any_step}
 use Rattle.core_world.specs.declared.any_node.AnyNode.{AnyNode}
 use Rattle.core_world.specs.declared.any_node.AnyNode.TheVariants as any
 use Rattle.group_map.specs.declared.group.Group.{Group}
 use Rattle.node_base.specs.Setups.{IsSetup}
 use Rattle.reading_tie.specs.Arrivals.{Cut, Cuts, answered_in, cut_by, BodyMaps}
+use Rattle.reading_tie.specs.CleanerMeets.{CleanerMeets, listed_in}
 use Rattle.reading_tie.specs.CleanerReads.{CleanerHolds}
 use Rattle.reading_tie.specs.ClientReads.{ClientHolds}
 use Rattle.reading_tie.specs.ManagerReads.{ManagerHolds}
@@ -27,12 +29,17 @@ cut_of (Some group) = record { members = length group.members; parity = group.pa
 abbrev pub cuts_at : World AnyNode → Cuts
 cuts_at end id = cut_of (group_at end id)
 
+-- what the cleaner holds came in these packets, and each segment that its job is about was listed in them
+pub record CleanerCame (packets : List Packet) (to : NodeId) (cuts : Cuts) (cleaner : Cleaner) : Type 0 where
+  pub holds : CleanerHolds (answered_in packets to) (cut_by cuts) cleaner
+  pub meets : CleanerMeets (listed_in packets to) cleaner
+
 -- what a node of this name holds came in these packets, and is cut so; servers and the registry read nothing
 abbrev pub AnyHolds : List Packet → NodeId → Cuts → AnyNode → Type 0
 AnyHolds packets to cuts (any.Client node) = ClientHolds (answered_in packets to) (cut_by cuts) node
 AnyHolds packets to cuts (any.Manager node) = ManagerHolds (answered_in packets to) (cut_by cuts) node
 AnyHolds packets to cuts (any.Server node) = Unit {0}
-AnyHolds packets to cuts (any.Cleaner node) = CleanerHolds (answered_in packets to) (cut_by cuts) node
+AnyHolds packets to cuts (any.Cleaner node) = CleanerCame packets to cuts node
 AnyHolds packets to cuts (any.Registry node) = Unit {0}
 
 -- What each node holds came in packets that were sent to it by then, and all that it reads is cut as the registry's map at the end of the run says, as are the

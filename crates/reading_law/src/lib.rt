@@ -10,19 +10,24 @@ use node_tie::{
     client_events_are_seen, clients_ask_for_their_call, manager_events_are_seen,
     other_events_are_seen,
 };
-use reading_tie::{cleaner_reads_what_came, clients_read_what_came, managers_read_what_came};
+use reading_tie::{
+    cleaner_empties_what_was_listed, cleaner_reads_what_came, clients_read_what_came,
+    managers_read_what_came,
+};
 
 /// Whatever messages are lost, repeated or reordered, and whichever nodes stop and start again, readers hold what came.
 ///
 /// - `runs`: at each moment of every run of a script of whose setup a run can be started, each answer in the round of a reader was sent to it by a server, in
 ///   answer to the question of the round; each fragment among them is of the name that is looked for; and the group of the segment has the members and the
-///   parity that the registry's map gives it at the end of the run, as have the groups of all maps that were sent.
+///   parity that the registry's map gives it at the end of the run, as have the groups of all maps that were sent. A fragment of each segment that the
+///   cleaner's job is about, over its group, was listed to the cleaner by a server.
 pub fn readers_hold_what_came()
     ensures runs { RunsReadWhatCame }
 {
     clients_read_what_came();
     managers_read_what_came();
     cleaner_reads_what_came();
+    cleaner_empties_what_was_listed();
     groups_stay_as_made();
     clients_ask_for_their_call();
     client_events_are_seen();

@@ -14,6 +14,9 @@ returns c = record {
       cleaner_starts = c.cleaner_reads_what_came.ensures.start;
       cleaner_rises = c.cleaner_reads_what_came.ensures.rises;
       cleaner = c.cleaner_reads_what_came.ensures.events;
+      met_starts = c.cleaner_empties_what_was_listed.ensures.start;
+      met_rises = c.cleaner_empties_what_was_listed.ensures.rises;
+      met = c.cleaner_empties_what_was_listed.ensures.events;
     };
     tokens = record {
       starts_asking = c.clients_ask_for_their_call.ensures.start;
