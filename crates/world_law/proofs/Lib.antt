@@ -1,6 +1,7 @@
 pub mod Places
 pub mod Sent
 pub mod Turning
+pub mod Leaving
 pub mod Standing
 pub mod Facts
 pub mod Frames

@@ -41,6 +41,7 @@ use Rattle.world_law.proofs.Facts.{Grown}
 use Rattle.world_law.proofs.Falls.{FallsStand, client_falls, falls_stay}
 use Rattle.world_law.proofs.Gets.{client_gets, cleaner_gets, manager_gets}
 use Rattle.world_law.proofs.ManagerTurns as reigning
+use Rattle.world_law.proofs.Leaving.{NoneLeaves, none_leaves}
 use Rattle.world_law.proofs.ManagerTurns.{delivered, manager_scene, manager_turn}
 use Rattle.world_law.proofs.OtherTurns as others
 use Rattle.world_law.proofs.OtherTurns.{cleaner_scene, cleaner_turn, said_fact, said_grown, said_scene, said_stands, server_turn}
@@ -88,12 +89,13 @@ module _ (laws : NodeLaws) (logs : Bool) (k : Cluster) (part : ℕ) (of_eight : 
 
   module _ (nodes : List AnyNode) (sent : List Packet) (acts : List Act) (s : Scene) (st : Stands logs k part nodes sent acts RegistrySound s) (place clock : ℕ)
       (what : Do) where
-    -- the moment after it: it stands to a small world whose books went on as this node's events make them go
+    -- the moment after it: it stands to a small world that no slot has left, whose books went on as this node's events make them go
     pub record Turned (name : NodeId) (node : AnyNode) : Type 0 where
       pub next : Scene
       pub stands : Stands logs k part (slice_set nodes place (any_step node what).node) (sent ++ map (sent_at clock) (any_step node what).packets)
           (acts ++ (any_step node what).acts) RegistrySound next
       pub since : Since k part s next
+      pub stay : NoneLeaves s.net next.net
       pub books : BooksGo logs s.net next.net name node what
       pub falls : FallsStand (members k part) s.net acts → FallsStand (members k part) next.net (acts ++ (any_step node what).acts)
 
@@ -143,6 +145,7 @@ module _ (laws : NodeLaws) (logs : Bool) (k : Cluster) (part : ℕ) (of_eight : 
               stands = client_turn logs k part RegistrySound nodes sent acts s st c place clock b.some less at here (takes (s.client c) what) go asks;
               since = since_of k part s _ (clients.grown logs k part RegistrySound nodes sent acts s st c place clock b.some less at here
                   (takes (s.client c) what) go asks) (λ j life e past. past);
+              stay = λ e none. sym (go.slots e) ∙ none;
               books = record { others = go.books; own = go.log };
               falls = λ falls. client_falls (members k part) logs part (epoch_now k part s) c b.some less s.net
                   (Client (lasting_of (s.client c).phase).number) acts falls
@@ -189,6 +192,7 @@ module _ (laws : NodeLaws) (logs : Bool) (k : Cluster) (part : ℕ) (of_eight : 
                   (happens (s.manager j) what) go)
                   (reigning.past_on logs k part RegistrySound nodes sent acts s st j place clock b.some b.within at here what fact
                   (happens (s.manager j) what) go);
+              stay = none_leaves logs (members k part) part s.net go.next go.runs;
               books = go.books;
               falls = falls_stay (members k part) s.net go.next acts _ go.tokens go.up
                   (all_neutral (ManagerDoes part go.next.sent (epoch_now k part s) (managers.lasting_of after.state).inc)
@@ -204,6 +208,7 @@ module _ (laws : NodeLaws) (logs : Bool) (k : Cluster) (part : ℕ) (of_eight : 
           (said_scene logs k part RegistrySound nodes sent acts s st (server_step there.0 what).acts says.1)
           (said_stands logs k part RegistrySound nodes sent acts s st (server_step there.0 what).acts says.1) place clock what n at there.0 here says.0;
       since = since_of k part s _ (said_grown logs k part RegistrySound nodes sent acts s st (server_step there.0 what).acts says.1) (λ j life e past. past);
+      stay = λ e none. none;
       books = refl;
       falls = falls_stay (members k part) s.net _ acts _ refl refl says.1;
     })
@@ -247,6 +252,7 @@ module _ (laws : NodeLaws) (logs : Bool) (k : Cluster) (part : ℕ) (of_eight : 
               next = cleaner_scene logs k part RegistrySound nodes sent acts s st place clock at here went go run;
               stands = cleaner_turn logs k part RegistrySound nodes sent acts s st place clock at here went go run;
               since = since_of k part s _ (others.grown logs k part RegistrySound nodes sent acts s st place clock at here went go run) (λ j life e past. past);
+              stay = λ e none. none;
               books = record { others = run.others; own = run.own };
               falls = falls_stay (members k part) s.net _ acts _ refl refl
                   (all_neutral (CleanerDoes part go.next (cleaners.lasting_of went.state).inc) Cleaner (λ a is. is) went.outs
@@ -265,6 +271,7 @@ module _ (laws : NodeLaws) (logs : Bool) (k : Cluster) (part : ℕ) (of_eight : 
             given = g.given;
             past = λ j life e past. past;
           });
+      stay = λ e none. none;
       books = refl;
       falls = falls_stay (members k part) s.net _ acts _ refl refl go.acts;
     })
@@ -311,6 +318,7 @@ module _ (laws : NodeLaws) (logs : Bool) (k : Cluster) (part : ℕ) (of_eight : 
       pub next : Scene
       pub stands : Stands logs k part nodes sent acts RegistrySound next
       pub since : Since k part s next
+      pub stay : NoneLeaves s.net next.net
       pub books : (next.net.books ≡ s.net.books)
           ⊎ ((node : AnyNode) × (node_in w.nodes (place_of k (node_of event)) ≡ Some node) × BooksGo logs s.net next.net (node_of event) node (what_of event))
       pub falls : FallsStand (members k part) s.net w.acts → FallsStand (members k part) next.net acts
@@ -326,9 +334,11 @@ module _ (laws : NodeLaws) (logs : Bool) (k : Cluster) (part : ℕ) (of_eight : 
       books = inl refl;
       falls = λ falls. falls;
     })
+    event_turns cluster may st owed = next_keeps any_step EventTurned w event (record { next = s; stands = st; stay = λ e none. none; books = inl refl; falls = λ falls. falls })
         (λ place node clock at is.
         let at_k : place_of k (node_of event) ≡ Some place = subst (λ c. place_of c (node_of event) ≡ Some place) cluster at in
         let there : node_in w.nodes (place_of k (node_of event)) ≡ Some node = ap (node_in w.nodes) at_k ∙ is in
         let t = turns w.nodes w.sent w.acts s st place clock (what_of event) (node_of event) (delivered_fact w.sent s st.facts w refl event may) at_k node is
         (owed node there) in
         record { next = t.next; stands = t.stands; since = t.since; books = inr (node, there, t.books); falls = t.falls })
+        record { next = t.next; stands = t.stands; stay = t.stay; books = inr (node, there, t.books); falls = t.falls })
