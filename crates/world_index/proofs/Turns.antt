@@ -171,7 +171,7 @@ module _ (laws : NodeLaws) (k : Cluster) (part : ℕ) (of_eight : part < 8) (tex
                   clock b.some b.within at here what given.number given.apart (happens (s.manager j) what) go;
               grown = managers.grown laws.clients_stay laws.managers_stay laws.cleaner_stays k part texts first RegistrySound nodes sent s st j place clock
                   b.some b.within at here what given.number given.apart (happens (s.manager j) what) go;
-              makes = record { rest = go.rest; slots = go.slots; stay = go.stay };
+              makes = record { rest = go.rest; slots = go.slots; stay = go.stay; entered = go.entered };
               came = λ e z there none. ⊎_elim (λ free. absurd (some_none z (sym there ∙ free)))
                   (λ known. record {
                     manager = j;

@@ -1,5 +1,5 @@
 -- What logs owe an event of a node, as the small world of one slot's index sees it, what tokens give it, and what the event makes of that world.
-use Rattle.std.specs.Prelude.{◌≡◌, ◌<◌, ◌≤◌, ℕ, List, None}
+use Rattle.std.specs.Prelude.{◌≡◌, ◌<◌, ◌≤◌, ℕ, List, None, Some}
 use Rattle.std.specs.List.{AllByRecursion}
 use Rattle.cleaner_node.specs.CleanerEvents as cleaners
 use Rattle.cleaner_node.specs.declared.cleaner.Cleaner.{Cleaner as CleanerNode}
@@ -19,7 +19,7 @@ use Rattle.manager_node.specs.declared.phase.Phase.TheVariants as managing
 use Rattle.manager_node.specs.declared.slot_phase.SlotPhase.{SlotPhase}
 use Rattle.manager_node.specs.Events.{happens}
 use Rattle.manager_node.specs.Phases as managers
-use Rattle.node_index_tie.specs.ManagerEvents.{FoundGets, AbsentGets, rest}
+use Rattle.node_index_tie.specs.ManagerEvents.{FoundGets, AbsentGets, ManagedAt, rest}
 use Rattle.node_index_tie.specs.ManagerEvents as managed
 use Rattle.node_index_tie.specs.Sight.{Texts, Questions}
 use Rattle.node_tie.specs.ManagerEvents.{HeldAt, Names, epoch_in, phase_at, slot_in}
@@ -27,6 +27,7 @@ use Rattle.owner_index_tie.specs.CleanerEvents.{EffectOwed, NewFor, PollGets, Re
 use Rattle.owner_index_tie.specs.ClientEvents.{ClientOwed}
 use Rattle.owner_index_tie.specs.Filing.{FilesOwed, filed_after, filing}
 use Rattle.stripe_code.specs.declared.round.Told.TheVariants.{Held, Missing as Lacks}
+use Rattle.token_manager.specs.SlotState.{SlotState}
 use Rattle.token_protocol.specs.Basics.{In}
 use Rattle.wire_msg.specs.declared.body.Body.{Body}
 use Rattle.wire_msg.specs.declared.body.Body.TheVariants as body
@@ -150,11 +151,12 @@ module _ (part : ℕ) (texts : Texts) (n next : Net) where
     pub promised : n.promised ≤ next.promised
     pub deleted : (name : SegName) → tables.In name n.deleted → tables.In name next.deleted
 
-  -- of a manager only slots and packets: of the slots those of the epochs that it held or is given
+  -- of a manager only slots and packets: of the slots those of the epochs that it held or is given; one that enters is managed by it then
   pub record ManagerMakes (j : ℕ) (node : ManagerNode) (what : Do) : Type 0 where
     pub rest : rest next ≡ rest n
     pub slots : (e : ℕ) → (HeldAt (slot_in part node.phase) e → ⊥) → (Names part j e what → ⊥) → next.slots e ≡ n.slots e
     pub stay : (e : ℕ) → next.slots e ≡ None → n.slots e ≡ None
+    pub entered : (e : ℕ) (z : SlotState) → next.slots e ≡ Some z → n.slots e ≡ None → ManagedAt (slot_in part (happens node what).state) e
 
   -- of the registry only its epoch, horizons and parts: those of an epoch that has no manager yet stay
   pub record RegistryMakes : Type 0 where

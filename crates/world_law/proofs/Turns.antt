@@ -331,14 +331,13 @@ module _ (laws : NodeLaws) (logs : Bool) (k : Cluster) (part : ℕ) (of_eight : 
       next = s;
       stands = st;
       since = record { epochs = omega arith; reigns = λ j. omega arith; given = λ e low. (refl, refl); past = λ j life e past. past };
+      stay = λ e none. none;
       books = inl refl;
       falls = λ falls. falls;
     })
-    event_turns cluster may st owed = next_keeps any_step EventTurned w event (record { next = s; stands = st; stay = λ e none. none; books = inl refl; falls = λ falls. falls })
         (λ place node clock at is.
         let at_k : place_of k (node_of event) ≡ Some place = subst (λ c. place_of c (node_of event) ≡ Some place) cluster at in
         let there : node_in w.nodes (place_of k (node_of event)) ≡ Some node = ap (node_in w.nodes) at_k ∙ is in
         let t = turns w.nodes w.sent w.acts s st place clock (what_of event) (node_of event) (delivered_fact w.sent s st.facts w refl event may) at_k node is
         (owed node there) in
-        record { next = t.next; stands = t.stands; since = t.since; books = inr (node, there, t.books); falls = t.falls })
-        record { next = t.next; stands = t.stands; stay = t.stay; books = inr (node, there, t.books); falls = t.falls })
+        record { next = t.next; stands = t.stands; since = t.since; stay = t.stay; books = inr (node, there, t.books); falls = t.falls })
