@@ -71,7 +71,7 @@ module _ (laws : NodeLaws) (base : Setting) (end : World AnyNode) (setup : Setup
 
     opens : OpeningOwed g l.0 node.phase
     opens = opening_owed g l.0 l.1.moment
-        (λ m sent. names_fit base end setup.servers OfCleaner few m (laws.maps g l.0.net l.1.moment m sent)) laws.goes_on laws.reads node.phase seen
+        (λ m sent. names_fit base end setup.servers OfCleaner few m (laws.maps g l.0.net l.1.moment m sent)) laws.goes_on laws.reads_down node.phase seen
 
     owed : (x : Do) → what ≡ x → owner_events.CleanerOwed g l.0 node.phase x
     owed Begin same = tt

@@ -17,8 +17,6 @@ use Rattle.log_owner.specs.declared.opening.Stage as stages
 use Rattle.log_owner.specs.declared.opening.Stage.TheVariants as stage
 use Rattle.log_protocol.specs.Tables.{In}
 use Rattle.log_tie.specs.Setting.{Setting}
-use Rattle.log_law.specs.Net.{Told}
-use Rattle.log_law.specs.ReadBack.{ReadsDown}
 use Rattle.manager_log_tie.specs.Owner as managing
 use Rattle.manager_node.specs.declared.lasting.Lasting as managers
 use Rattle.manager_node.specs.declared.phase.Phase.{Phase as ManagerPhase}
@@ -51,9 +49,6 @@ module _ (g : Setting) (c : ℕ) (n next : Net) (asked : ℕ → Question) (late
   lasts_still : (l : Lasting) → LastsAs g c before l → LastsAs g c now l
   lasts_still l h = record { number = h.number; inc = inc ∙ h.inc; fresh = h.fresh }
 
-  reads_still : (down : ℕ) (t : Told) → ReadsDown n down t → ReadsDown next down t
-  reads_still down t h = record { some = h.some; past = (let a = h.past in let b = later.low in omega arith); numbers = h.numbers; down = h.down }
-
   stage_still : (k : Known) (last : ℕ) (s : stages.Stage) → SeesStage g c before k last s → SeesStage g c now k last s
   stage_still k last (stage.Scanning s) h = record {
     owner = owner ∙ h.owner;
@@ -66,7 +61,21 @@ module _ (g : Setting) (c : ℕ) (n next : Net) (asked : ℕ → Question) (late
     some = h.some;
     number = h.number;
   }
-  stage_still k last (stage.Settling s) h = record { owner = owner ∙ h.owner; log = h.log; own = h.own; clear = h.clear; flight = h.flight; flies = h.flies; empty = h.empty; reads = reads_still s.low _ h.reads }
+  stage_still k last (stage.Settling s) h = record {
+    owner = owner ∙ h.owner;
+    log = h.log;
+    own = h.own;
+    clear = h.clear;
+    flight = h.flight;
+    flies = h.flies;
+    empty = h.empty;
+    reads = record {
+      some = h.reads.some;
+      past = (let a = h.reads.past in let b = later.low in omega arith);
+      numbers = h.reads.numbers;
+      down = h.reads.down;
+    };
+  }
 
   pub client_still : (p : Phase) → ClientAgrees g c before p → ClientAgrees g c now p
   client_still (clients.Down l) h = (lasts_still l h.0, owner ∙ h.1)

@@ -66,11 +66,11 @@ pub record NodeLaws : Type 0 where
   pub manager : ManagerTakes
   pub servers_start : ServersStartEmpty
   pub servers_tell : ServersTellBytes
-  -- of the small world: behind what an opening tells a log goes on, what begins to fly is next, what an opening reads goes down to its
-  -- horizon, what is held flew, and what is told is bytes
+  -- of the small world: behind what an opening tells a log goes on, and that goes down to the horizon; what begins to fly is next, what is held flew, and what
+  -- is told is bytes
   pub goes_on : OpeningsGoOn
+  pub reads_down : OpeningsReadDown
   pub flies : FliesNext
-  pub reads : OpeningsReadDown
   pub held : WhatIsHeldFlew
   pub told : WhatIsToldIsInRange
 

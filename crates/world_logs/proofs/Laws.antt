@@ -143,6 +143,7 @@ module _ (laws : NodeLaws) (stay : GroupsStay) (base : Setting) (e : Estate AnyN
     begins = first_begins r there;
     joined = λ count. (steps count r there).joined;
     own = λ count. (steps count r there).own;
+    straight = λ count. (steps count r there).straight;
     others = λ count. (steps count r there).left;
     ended = λ count. (steps count r there).ended;
   }

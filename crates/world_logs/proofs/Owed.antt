@@ -56,12 +56,12 @@ of_log h d its (body.Store m) own = ap (λ (l : LogId). l.0) (own ∙ its)
 of_log h d its (body.Fence m) own = ap (λ (l : LogId). l.0) (own ∙ its)
 of_log h d its _ own = tt
 
--- what an opening is told: the ids of the groups of maps fit, and behind the end of a chain the log goes on
+-- what an opening is told: the ids of the groups of maps fit, behind the end of a chain the log goes on, and a chain goes down to the horizon
 module _ (g : Setting) (c : ℕ) (w : Scene) (at : Moment g w.net) (maps : (m : GroupMapState) → tables.In (MapSent m) w.net.sent → MapFits m)
-    (law : OpeningsGoOn) (reads : OpeningsReadDown) where
+    (law : OpeningsGoOn) (down : OpeningsReadDown) where
   stage_told : (k : Known) (last : ℕ) (x : stages.Stage) → SeesStage g c w k last x → IsRoomy w.net → StageTells g w.net x
   stage_told k last (stage.Scanning s) sees room =
-      record { maps = maps; end = law g w.net at (scan_has_room w.net s.scan sees.owner room) s.scan sees.owner; reads = reads g w.net at s.scan sees.owner }
+      record { maps = maps; end = law g w.net at (scan_has_room w.net s.scan sees.owner room) s.scan sees.owner; reads = down g w.net at s.scan sees.owner }
   stage_told k last (stage.Settling s) sees room = tt
 
   pub phase_owed : (p : Phase) → OwnerSeen g w c p → PhaseOwed g w.net p
@@ -72,9 +72,9 @@ module _ (g : Setting) (c : ℕ) (w : Scene) (at : Moment g w.net) (maps : (m : 
 pub opening_owed : (g : Setting) (w : Scene) → Moment g w.net → ((m : GroupMapState) → tables.In (MapSent m) w.net.sent → MapFits m) → OpeningsGoOn → OpeningsReadDown
     → (p : CleanerPhase)
     → CleanerOwns g w p → OpeningOwed g w p
-opening_owed g w at maps law reads (cleaners.Down l) h = tt
-opening_owed g w at maps law reads (cleaners.Opening l o) h = stage_told g its_number w at maps law reads o.known l.questions.last o.stage h.agrees.sees h.room
-opening_owed g w at maps law reads (cleaners.Serving e) h = tt
+opening_owed g w at maps law down (cleaners.Down l) h = tt
+opening_owed g w at maps law down (cleaners.Opening l o) h = stage_told g its_number w at maps law down o.known l.questions.last o.stage h.agrees.sees h.room
+opening_owed g w at maps law down (cleaners.Serving e) h = tt
 
 -- the number of a client that is seen
 pub number_is : (g : Setting) (c : ℕ) (w : Scene) (p : Phase) → ClientAgrees g c w p → (lasting_of p).number ≡ c

@@ -56,6 +56,7 @@ module _ (g : Setting) (c : ℕ) (w : Scene) (d : NodeStep ClientNode) (go : Cli
   owner_turn = record {
     runs = go.grown.runs;
     own = λ e. go.grown;
+    straight = λ e. go.straight;
     left = λ away. absurd (away refl);
     there = λ e. record { agrees = go.agrees; written = go.written; room = room };
     others = others;
@@ -86,6 +87,7 @@ module _ (g : Setting) (j : ℕ) (w : Scene) (asks : (k : ℕ) → w.asked k ≡
   manager_owner_turn = record {
     runs = go.grown.runs;
     own = λ e. go.grown;
+    straight = λ e. tt;
     left = λ away. absurd (away refl);
     there = λ e. go.agrees;
     others = manager_others;
@@ -116,6 +118,7 @@ module _ (g : Setting) (w : Scene) (d : NodeStep CleanerNode) (go : OwnerGoes g 
   cleaner_owner_turn = record {
     runs = go.grown.runs;
     own = λ e. go.grown;
+    straight = λ e. go.straight;
     left = λ away. absurd (away refl);
     there = record { agrees = go.agrees; room = room };
     others = cleaner_others;
@@ -135,6 +138,7 @@ module _ (g : Setting) (r : Role) (w : Scene) where
   idle_turn name after packets away there sends = record {
     runs = Begun;
     own = λ e. absurd (away e);
+    straight = λ e. absurd (away e);
     left = λ no. left_by w.net w.net refl;
     there = there;
     others = record {

@@ -82,6 +82,7 @@ module _ (g : Setting) (r : Role) (is : IsOf g r) (w : Scene) where
   server_turn v node what go = record {
     runs = go.runs;
     own = λ e. absurd (no_server r v e);
+    straight = λ e. absurd (no_server r v e);
     left = λ away. left_by w.net go.next (ap its_of go.rest);
     there = go.seen;
     others = keeps g r is w go.next go.runs (Server v) (ap (λ (n : Net). n.inc) go.rest) (ap (λ (n : Net). n.owner) go.rest)
@@ -99,6 +100,7 @@ module _ (g : Setting) (r : Role) (is : IsOf g r) (w : Scene) where
   registry_turn node what go = record {
     runs = go.runs;
     own = λ e. absurd (no_registry r e);
+    straight = λ e. absurd (no_registry r e);
     left = λ away. left_by w.net go.next (ap its_of go.rest);
     there = go.seen;
     others = keeps g r is w go.next go.runs Registry (ap (λ (n : Net). n.inc) go.rest) (ap (λ (n : Net). n.owner) go.rest)
@@ -118,6 +120,7 @@ module _ (g : Setting) (r : Role) (is : IsOf g r) (w : Scene) where
   cleaner_turn away seen node what go = record {
     runs = go.runs;
     own = λ e. absurd (away e);
+    straight = λ e. absurd (away e);
     left = λ no. left_by w.net go.next (ap its_of go.rest);
     there = seen (record w { net = go.next }) (cleaner_step node what).node.phase go.seen;
     others = keeps g r is w go.next go.runs Cleaner (ap (λ (n : Net). n.inc) go.rest) (ap (λ (n : Net). n.owner) go.rest)

@@ -1,7 +1,7 @@
 -- The line of a log over a run: its small world at each count of the events, each of which runs on to the next.
 use Rattle.std.specs.Prelude.{◌≡◌, ℕ, suc, Some, None, slice_get}
 use Rattle.cleaner_log_tie.specs.OwnerEvents.{Grows}
-use Rattle.client_log_tie.specs.ClientEvents.{Grown}
+use Rattle.client_log_tie.specs.ClientEvents.{Grown, ServesStraight}
 use Rattle.client_log_tie.specs.Owner.{Scene}
 use Rattle.core_world.specs.AnyNode.{any_start, any_step}
 use Rattle.core_world.specs.declared.any_node.AnyNode.{AnyNode}
@@ -52,6 +52,12 @@ GrowsBy g (OfClient c) w v = Grown g w v
 GrowsBy g OfCleaner w v = Grows g w v
 GrowsBy g (OfManager j) w v = Grown g w v
 
+-- A client that owns the log, or the cleaner, comes to serve by one thing that happens; and where it doesn't serve then, it served nowhere on the way.
+abbrev pub StraightBy : {g : Setting} {n next : Net} → Role → Runs g n next → Type 0
+StraightBy (OfClient c) runs = ServesStraight runs
+StraightBy OfCleaner runs = ServesStraight runs
+StraightBy (OfManager j) runs = Unit {0}
+
 -- The small world of the log at each count of the events of a run stands to the moment there, and runs on to the next: at an event of its owner by the owner
 -- alone, and at one of another node with the log left as it was; beyond the last event nothing happens.
 module _ (base : Setting) (e : Estate AnyNode) where
@@ -69,6 +75,7 @@ module _ (base : Setting) (e : Estate AnyNode) where
     pub joined : (count : ℕ) → (stands (suc count)).moment ≡ moment_then (stands count).moment (goes count)
     pub own : (count : ℕ) (event : Event) → slice_get e.events count ≡ Some event → owner_by r ≡ node_of event
         → GrowsBy (setting r) r (at count) (at (suc count))
+    pub straight : (count : ℕ) (event : Event) → slice_get e.events count ≡ Some event → owner_by r ≡ node_of event → StraightBy r (goes count)
     pub others : (count : ℕ) (event : Event) → slice_get e.events count ≡ Some event → (owner_by r ≡ node_of event → ⊥)
         → IsLeft (at count).net (at (suc count)).net
     pub ended : (count : ℕ) → slice_get e.events count ≡ None → at (suc count) ≡ at count

@@ -61,8 +61,8 @@ returns c =
         servers_start = c.what_servers_tell_is_bytes.ensures.start;
         servers_tell = c.what_servers_tell_is_bytes.ensures.events;
         goes_on = c.openings_go_on.ensures.on;
+        reads_down = c.a_reopening_reads_back.ensures.down;
         flies = c.openings_go_on.ensures.flies;
-        reads = c.a_reopening_reads_back.ensures.down;
         held = c.what_is_held_flew.ensures.held;
         told = c.what_is_told_is_in_range.ensures;
       };
