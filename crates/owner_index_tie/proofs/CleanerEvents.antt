@@ -30,8 +30,8 @@ pub cleaner_event_goes : CleanerEventGoes
 cleaner_event_goes part texts asked n cleaner what small agreed owed =
     let w = takes cleaner.peers cleaner.phase what in
     let new = NewFor part texts n cleaner.phase in
-    let k = takes_so new part texts n small asked cleaner.peers cleaner.phase what (opens_moved part texts n small cleaner.phase)
-    (stands new part texts n small cleaner.phase agreed.phase agreed.moves) owed.gets owed.reopens
+    let k = (takes_so new part texts n small asked cleaner.peers cleaner.phase what (opens_moved part texts n small cleaner.phase)
+    (stands new part texts n small cleaner.phase agreed.phase agreed.moves) owed.gets owed.reopens).0
     (record { files = owed.files; asks = owed.asks }) in
     record {
       next = k.next;

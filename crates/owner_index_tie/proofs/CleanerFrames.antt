@@ -33,10 +33,11 @@ use Rattle.wire_msg.specs.declared.cleaning.Check.{Check}
 use Rattle.xfs_base.specs.Steps.{Stepped, after, steps}
 use Rattle.xfs_base.specs.declared.segment.SegName.{SegName}
 use Rattle.owner_index_tie.specs.CleanerEvents.{JobAgrees, EmptyingSeen, IsMoved, MayAsk, SaysOwed, EffectOwed, CleanerSays, CleanerActs, CleanerDoes}
+use Rattle.owner_index_tie.specs.Acting.{ActSo, AllSo, EffectSo}
 use Rattle.owner_index_tie.specs.Filing.{IsSameLog, filing, after_act, after_effect, filed_after, FilesNext, FilesOwed}
 use Rattle.owner_index_tie.proofs.Feeds.{same_owner}
 use Rattle.owner_index_tie.proofs.Growing.{next_files}
-use Rattle.owner_index_tie.proofs.Frames.{says_on, more_itself, more_then, after_both, owed_before, owed_behind}
+use Rattle.owner_index_tie.proofs.Frames.{says_on, more_itself, more_then, after_both, owed_before, owed_behind, AllMay, IsNamed, owed_named}
 
 -- ---- lists
 
@@ -191,8 +192,12 @@ module _ (New : Filed → Segment → Type 0) (part : ℕ) (texts : Texts) (sinc
     pub at : P next s
     pub says : AllByRecursion (CleanerDoes part questions next since) outs
 
+  -- where what is asked may be, and texts that bear their names may be filed, no others are
+  abbrev pub NamedOnly : Net → List Effect → Type 0
+  NamedOnly n outs = AllByRecursion (EffectOwed part n) outs → AllMay New texts 9 → AllSo (IsNamed texts) outs
+
   abbrev pub Goes_to : {S : Type 0} → (Net → S → Type 0) → Questions → Net → Stepped S Effect → Type 0
-  Goes_to P asked n d = Owed n d.outs → Went asked n P d.state d.outs
+  Goes_to P asked n d = (Owed n d.outs → Went asked n P d.state d.outs) × NamedOnly n d.outs
 
   abbrev pub Goes : Questions → Net → Stepped Emptying Effect → Type 0
   Goes asked n d = Goes_to At asked n d
@@ -201,30 +206,41 @@ module _ (New : Filed → Segment → Type 0) (part : ℕ) (texts : Texts) (sinc
     -- one thing follows another
     pub went_through : (asked : Questions) (n : Net) (d : Stepped S Effect) (e : Stepped T Effect) → Goes_to P asked n d
         → ((w : Went asked n P d.state d.outs) → Goes_to Q w.questions w.next e) → Goes_to Q asked n (record { state = e.state; outs = d.outs ++ e.outs })
-    went_through asked n d e p k owed =
-        let one = p (record {
-          files = owed_before New texts 9 n.filed d.outs e.outs owed.files;
-          asks = all_before
-              (EffectOwed part n) d.outs e.outs owed.asks;
-        }) in
-        let two = k one (record {
-          files = subst (λ f. FilesOwed New texts 9 f e.outs) (sym one.filed)
-              (owed_behind New texts 9 n.filed d.outs e.outs owed.files);
-          asks = all_owed_later part n one.next one.grows e.outs (all_behind (EffectOwed part n) d.outs e.outs owed.asks);
-        }) in
-        record {
-          next = two.next;
-          runs = runs_through n one.next two.next one.runs two.runs;
-          grows = grows_then n one.next two.next one.grows two.grows;
-          filed = two.filed ∙ ap (λ f. filed_after texts 9 f e.outs) one.filed ∙ sym (after_both texts 9 n.filed d.outs e.outs);
-          questions = two.questions;
-          kept = λ x is. two.kept x (one.kept x is);
-          at = two.at;
-          says = all_both (CleanerDoes part two.questions two.next since) d.outs e.outs
-              (all_weaker (CleanerDoes part one.questions one.next since) (CleanerDoes part two.questions two.next since)
-              (does_later part since one.questions two.questions two.kept one.next two.next two.grows) d.outs one.says)
-              two.says;
-        }
+    went_through asked n d e p k = (λ owed. through owed, λ asks may. named asks may)
+      where
+        through : Owed n (d.outs ++ e.outs) → Went asked n Q e.state (d.outs ++ e.outs)
+        through owed =
+            let one = p.0 (record {
+              files = owed_before New texts 9 n.filed d.outs e.outs owed.files;
+              asks = all_before
+                  (EffectOwed part n) d.outs e.outs owed.asks;
+            }) in
+            let two = (k one).0 (record {
+              files = subst (λ f. FilesOwed New texts 9 f e.outs) (sym one.filed)
+                  (owed_behind New texts 9 n.filed d.outs e.outs owed.files);
+              asks = all_owed_later part n one.next one.grows e.outs (all_behind (EffectOwed part n) d.outs e.outs owed.asks);
+            }) in
+            record {
+              next = two.next;
+              runs = runs_through n one.next two.next one.runs two.runs;
+              grows = grows_then n one.next two.next one.grows two.grows;
+              filed = two.filed ∙ ap (λ f. filed_after texts 9 f e.outs) one.filed ∙ sym (after_both texts 9 n.filed d.outs e.outs);
+              questions = two.questions;
+              kept = λ x is. two.kept x (one.kept x is);
+              at = two.at;
+              says = all_both (CleanerDoes part two.questions two.next since) d.outs e.outs
+                  (all_weaker (CleanerDoes part one.questions one.next since) (CleanerDoes part two.questions two.next since)
+                  (does_later part since one.questions two.questions two.kept one.next two.next two.grows) d.outs one.says)
+                  two.says;
+            }
+
+        named : NamedOnly n (d.outs ++ e.outs)
+        named asks may =
+            let first = all_before (EffectOwed part n) d.outs e.outs asks in
+            let these = p.1 first may in
+            let one = p.0 (record { files = owed_named New texts 9 may n.filed d.outs these; asks = first }) in
+            all_both (EffectSo (IsNamed texts)) d.outs e.outs these
+            ((k one).1 (all_owed_later part n one.next one.grows e.outs (all_behind (EffectOwed part n) d.outs e.outs asks)) may)
 
   pub went_on : (asked : Questions) (n : Net) (d e : Stepped Emptying Effect) → Goes asked n d
       → ((w : Went asked n At d.state d.outs) → Goes w.questions w.next e) → Goes asked n (after d.outs e)
@@ -233,16 +249,19 @@ module _ (New : Filed → Segment → Type 0) (part : ℕ) (texts : Texts) (sinc
   pub went_steps : {A : Type 0} (step : Emptying → A → Stepped Emptying Effect)
       → ((asked : Questions) (n : Net) (e : Emptying) (x : A) → At n e → Goes asked n (step e x))
       → (asked : Questions) (n : Net) (e : Emptying) (xs : List A) → At n e → Goes asked n (steps step e xs)
-  went_steps step one asked n e [] h = λ owed. record {
-    next = n;
-    runs = Begun;
-    grows = grows_itself n;
-    filed = refl;
-    questions = asked;
-    kept = λ x is. is;
-    at = h;
-    says = tt;
-  }
+  went_steps step one asked n e [] h = (
+    λ owed. record {
+      next = n;
+      runs = Begun;
+      grows = grows_itself n;
+      filed = refl;
+      questions = asked;
+      kept = λ x is. is;
+      at = h;
+      says = tt;
+    },
+    λ asks may. tt,
+  )
   went_steps step one asked n e (x ∷ xs) h =
       went_on asked n (step e x) (steps step (step e x).state xs) (one asked n e x h) (λ w. went_steps step one w.questions w.next (step e x).state xs w.at)
 
@@ -288,18 +307,34 @@ module _ (New : Filed → Segment → Type 0) (part : ℕ) (texts : Texts) (sinc
     plain_does (Lose seg) h = tt
     plain_does (Does act) h = plain_acts act h
 
+    act_named : (a : Act) → Quiets a → ActSo (IsNamed texts) a
+    act_named (ActsFiled name) h = absurd h
+    act_named _ h = tt
+
+    effect_named : (e : Effect) → Plain e → EffectSo (IsNamed texts) e
+    effect_named (Send to b) h = tt
+    effect_named (Answers item answer) h = tt
+    effect_named (Lose seg) h = tt
+    effect_named (Does act) h = act_named act h
+
+    plain_named : (outs : List Effect) → AllPlain outs → AllSo (IsNamed texts) outs
+    plain_named outs all = all_weaker Plain (EffectSo (IsNamed texts)) effect_named outs all
+
     pub went_quiet : {S : Type 0} (P : Net → S → Type 0) (s : S) (outs : List Effect) → P n s → AllPlain outs
         → Goes_to P asked n (record { state = s; outs = outs })
-    went_quiet P s outs h all owed = record {
-      next = n;
-      runs = Begun;
-      grows = grows_itself n;
-      filed = sym (plain_files outs all);
-      questions = asked;
-      kept = λ x is. is;
-      at = h;
-      says = all_weaker Plain (CleanerDoes part asked n since) plain_does outs all;
-    }
+    went_quiet P s outs h all = (
+      λ owed. record {
+        next = n;
+        runs = Begun;
+        grows = grows_itself n;
+        filed = sym (plain_files outs all);
+        questions = asked;
+        kept = λ x is. is;
+        at = h;
+        says = all_weaker Plain (CleanerDoes part asked n since) plain_does outs all;
+      },
+      λ asks may. plain_named outs all,
+    )
 
   pub quiet : (asked : Questions) (n : Net) (e : Emptying) (outs : List Effect) → At n e → AllPlain asked n outs
       → Goes asked n (record { state = e; outs = outs })
@@ -308,26 +343,32 @@ module _ (New : Filed → Segment → Type 0) (part : ℕ) (texts : Texts) (sinc
   -- what files nothing is told before
   pub went_behind : (asked : Questions) (n : Net) (outs : List Effect) (d : Stepped Emptying Effect) → AllPlain asked n outs → Goes asked n d
       → Goes asked n (after outs d)
-  went_behind asked n outs d all p owed =
-      let same = plain_files asked n outs all in
-      let w = p (record {
-        files = subst (λ f. FilesOwed New texts 9 f d.outs) same
-            (owed_behind New texts 9 n.filed outs d.outs owed.files);
-        asks = all_behind (EffectOwed part n) outs d.outs owed.asks;
-      }) in
-      record {
-        next = w.next;
-        runs = w.runs;
-        grows = w.grows;
-        filed = w.filed ∙ ap (λ f. filed_after texts 9 f d.outs) (sym same) ∙ sym (after_both texts 9 n.filed outs d.outs);
-        questions = w.questions;
-        kept = w.kept;
-        at = w.at;
-        says = all_both (CleanerDoes part w.questions w.next since) outs d.outs
-            (all_weaker (Plain asked n) (CleanerDoes part w.questions w.next since)
-            (λ e k. does_later part since asked w.questions w.kept n w.next w.grows e (plain_does asked n e k)) outs all)
-            w.says;
-      }
+  went_behind asked n outs d all p = (
+    λ owed. behind owed,
+    λ asks may. all_both (EffectSo (IsNamed texts)) outs d.outs (plain_named asked n outs all) (p.1 (all_behind (EffectOwed part n) outs d.outs asks) may),
+  )
+    where
+      behind : Owed n (outs ++ d.outs) → Went asked n At d.state (outs ++ d.outs)
+      behind owed =
+          let same = plain_files asked n outs all in
+          let w = p.0 (record {
+            files = subst (λ f. FilesOwed New texts 9 f d.outs) same
+                (owed_behind New texts 9 n.filed outs d.outs owed.files);
+            asks = all_behind (EffectOwed part n) outs d.outs owed.asks;
+          }) in
+          record {
+            next = w.next;
+            runs = w.runs;
+            grows = w.grows;
+            filed = w.filed ∙ ap (λ f. filed_after texts 9 f d.outs) (sym same) ∙ sym (after_both texts 9 n.filed outs d.outs);
+            questions = w.questions;
+            kept = w.kept;
+            at = w.at;
+            says = all_both (CleanerDoes part w.questions w.next since) outs d.outs
+                (all_weaker (Plain asked n) (CleanerDoes part w.questions w.next since)
+                (λ e k. does_later part since asked w.questions w.kept n w.next w.grows e (plain_does asked n e k)) outs all)
+                w.says;
+          }
 
   -- ---- things that happen in the small world first
 
@@ -335,21 +376,24 @@ module _ (New : Filed → Segment → Type 0) (part : ℕ) (texts : Texts) (sinc
   pub went_after : {S : Type 0} (P : Net → S → Type 0) (asked more : Questions) (n m : Net) (d : Stepped S Effect) → Runs part (held_in part texts) n m
       → Grows n m
       → m.filed ≡ n.filed → Asked_more asked more → Goes_to P more m d → Goes_to P asked n d
-  went_after P asked more n m d runs grows same kept p owed =
-      let w = p (record {
-        files = subst (λ f. FilesOwed New texts 9 f d.outs) (sym same) owed.files;
-        asks = all_owed_later part n m grows d.outs owed.asks;
-      }) in
-      record {
-        next = w.next;
-        runs = runs_through n m w.next runs w.runs;
-        grows = grows_then n m w.next grows w.grows;
-        filed = w.filed ∙ ap (λ f. filed_after texts 9 f d.outs) same;
-        questions = w.questions;
-        kept = λ x is. w.kept x (kept x is);
-        at = w.at;
-        says = w.says;
-      }
+  went_after P asked more n m d runs grows same kept p = (λ owed. after_these owed, λ asks may. p.1 (all_owed_later part n m grows d.outs asks) may)
+    where
+      after_these : Owed n d.outs → Went asked n P d.state d.outs
+      after_these owed =
+          let w = p.0 (record {
+            files = subst (λ f. FilesOwed New texts 9 f d.outs) (sym same) owed.files;
+            asks = all_owed_later part n m grows d.outs owed.asks;
+          }) in
+          record {
+            next = w.next;
+            runs = runs_through n m w.next runs w.runs;
+            grows = grows_then n m w.next grows w.grows;
+            filed = w.filed ∙ ap (λ f. filed_after texts 9 f d.outs) same;
+            questions = w.questions;
+            kept = λ x is. w.kept x (kept x is);
+            at = w.at;
+            says = w.says;
+          }
 
   -- the small world, where the log has filed the text of a name
   abbrev pub files_one : Net → SegName → Net
@@ -368,24 +412,30 @@ module _ (New : Filed → Segment → Type 0) (part : ℕ) (texts : Texts) (sinc
   }
 
   -- a segment of the log
-  pub went_filing : (asked : Questions) (n : Net) (name : SegName) (d : Stepped Emptying Effect) → name.seq ≡ suc (n.filed.head 9)
+  pub went_filing : (asked : Questions) (n : Net) (name : SegName) (d : Stepped Emptying Effect) → IsNamed texts name → name.seq ≡ suc (n.filed.head 9)
       → IsMoved part n.sent n.filed (texts name) → (FilesNext New texts 9 n.filed name → Goes asked (files_one n name) d)
       → Goes asked n (after (Does (ActsFiled name) ∷ []) d)
-  went_filing asked n name d at moved k owed =
-      let it = owed.files.0 at in
-      let m = files_one n name in
-      let same = next_files texts 9 n.filed name at in
-      let w = k it (record {
-        files = subst (λ f. FilesOwed New texts 9 f d.outs) same owed.files.1;
-        asks = all_owed_later part n m (grows_filing n name) d.outs owed.asks.1;
-      }) in
-      record {
-        next = w.next;
-        runs = runs_through n m w.next (On Begun (CleanerFiles (texts name) it.segment moved)) w.runs;
-        grows = grows_then n m w.next (grows_filing n name) w.grows;
-        filed = w.filed ∙ ap (λ f. filed_after texts 9 f d.outs) (sym same);
-        questions = w.questions;
-        kept = w.kept;
-        at = w.at;
-        says = (tt, w.says);
-      }
+  went_filing asked n name d named at moved k = (
+    λ owed. filing_it owed,
+    λ asks may. (named, (k (may n.filed name named at)).1 (all_owed_later part n (files_one n name) (grows_filing n name) d.outs asks.1) may),
+  )
+    where
+      filing_it : Owed n (Does (ActsFiled name) ∷ d.outs) → Went asked n At d.state (Does (ActsFiled name) ∷ d.outs)
+      filing_it owed =
+          let it = owed.files.0 at in
+          let m = files_one n name in
+          let same = next_files texts 9 n.filed name at in
+          let w = (k it).0 (record {
+            files = subst (λ f. FilesOwed New texts 9 f d.outs) same owed.files.1;
+            asks = all_owed_later part n m (grows_filing n name) d.outs owed.asks.1;
+          }) in
+          record {
+            next = w.next;
+            runs = runs_through n m w.next (On Begun (CleanerFiles (texts name) it.segment moved)) w.runs;
+            grows = grows_then n m w.next (grows_filing n name) w.grows;
+            filed = w.filed ∙ ap (λ f. filed_after texts 9 f d.outs) (sym same);
+            questions = w.questions;
+            kept = w.kept;
+            at = w.at;
+            says = (tt, w.says);
+          }

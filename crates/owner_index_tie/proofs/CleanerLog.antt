@@ -159,7 +159,8 @@ module _ (New : Filed → Segment → Type 0) (part : ℕ) (texts : Texts) (sinc
 
     lands_so : Goes asked n (steps writes_one (record e { log = r.state }) (Settled (end_from old) (rows_of old) ∷ k.rest))
     unfolding writes_one settles
-    lands_so = frames.went_filing New part texts since answered asked n its_name behind at_next moved behind_so
+    lands_so = frames.went_filing New part texts since answered asked n its_name behind (ap (λ (x : Segment). x.name) text_is ∙ sym name_is) at_next moved
+        behind_so
 
   turns_so : (asked : Questions) (n : Net) (e : Emptying) (r : log.Done) → At n e → FlightKnown part texts answered e.log → Turns 9 e.log r
       → Goes asked n (steps writes_one (record e { log = r.state }) r.outs)

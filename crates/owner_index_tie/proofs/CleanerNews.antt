@@ -131,29 +131,35 @@ module _ (New : Filed → Segment → Type 0) (part : ℕ) (texts : Texts) (sinc
   holding : (P : Net → Emptying → Type 0) (X : Net → Type 0) → ((u v : Net) → Grows u v → X u → X v) → (asked : Questions) (n : Net) (d : Done) → X n
       → Goes_to P asked n d
       → Goes_to (λ v s. P v s × X v) asked n d
-  holding P X later asked n d x goes owed = (let w = goes owed in record {
-    next = w.next;
-    runs = w.runs;
-    grows = w.grows;
-    filed = w.filed;
-    questions = w.questions;
-    kept = w.kept;
-    at = (w.at, later n w.next w.grows x);
-    says = w.says;
-  })
+  holding P X later asked n d x goes = (
+    λ owed. (let w = goes.0 owed in record {
+      next = w.next;
+      runs = w.runs;
+      grows = w.grows;
+      filed = w.filed;
+      questions = w.questions;
+      kept = w.kept;
+      at = (w.at, later n w.next w.grows x);
+      says = w.says;
+    }),
+    goes.1,
+  )
 
   weaker : (P Q : Net → Emptying → Type 0) → ((v : Net) (s : Emptying) → P v s → Q v s) → (asked : Questions) (n : Net) (d : Done) → Goes_to P asked n d
       → Goes_to Q asked n d
-  weaker P Q to asked n d goes owed = (let w = goes owed in record {
-    next = w.next;
-    runs = w.runs;
-    grows = w.grows;
-    filed = w.filed;
-    questions = w.questions;
-    kept = w.kept;
-    at = to w.next d.state w.at;
-    says = w.says;
-  })
+  weaker P Q to asked n d goes = (
+    λ owed. (let w = goes.0 owed in record {
+      next = w.next;
+      runs = w.runs;
+      grows = w.grows;
+      filed = w.filed;
+      questions = w.questions;
+      kept = w.kept;
+      at = to w.next d.state w.at;
+      says = w.says;
+    }),
+    goes.1,
+  )
 
   -- ---- slots
 

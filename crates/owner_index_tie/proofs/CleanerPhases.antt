@@ -113,16 +113,19 @@ module _ (New : Filed → Segment → Type 0) (part : ℕ) (texts : Texts) (n : 
   answers_so asked v p number a h = quiet asked v p (Answers number a ∷ []) h (tt, tt)
 
   serves_so : (asked : Questions) (v : Net) (d : Done) → frames.Goes New part texts since n.sent asked v d → Goes asked v (serves_on d)
-  serves_so asked v d goes owed = (let w = goes owed in record {
-    next = w.next;
-    runs = w.runs;
-    grows = w.grows;
-    filed = w.filed;
-    questions = w.questions;
-    kept = w.kept;
-    at = w.at;
-    says = w.says;
-  })
+  serves_so asked v d goes = (
+    λ owed. (let w = goes.0 owed in record {
+      next = w.next;
+      runs = w.runs;
+      grows = w.grows;
+      filed = w.filed;
+      questions = w.questions;
+      kept = w.kept;
+      at = w.at;
+      says = w.says;
+    }),
+    goes.1,
+  )
 
   -- ---- falls and restarts
 
@@ -183,29 +186,32 @@ module _ (New : Filed → Segment → Type 0) (part : ℕ) (texts : Texts) (n : 
   opening_went : (moved : IsMovedThere) (asked : Questions) (owner : Owner) (w : Went)
       → effects.Goes New part texts n 9 since (log.ProgressSeen part n 9 since) n.filed (record { state = w.progress; outs = w.effects })
       → AllByRecursion (MayDo owner) w.effects → frames.Goes_to New part texts since n.sent Files asked n (record { state = w.progress; outs = w.effects })
-  opening_went moved asked owner w goes may owed =
-      let m = filing n (filed_after texts 9 n.filed w.effects) in
-      let k = goes owed.files in
-      record {
-        next = m;
-        runs = runs_after New part texts (held_in part texts) n 9
-            (λ g name it. CleanerFiles (texts name) it.segment (moved g (texts name) it.new)) n.filed w.effects owed.files;
-        grows = record {
-          slots = refl;
-          epoch = refl;
-          horizon = refl;
-          parts = refl;
-          promised = let p = n.promised in omega arith;
-          filed = effects.more_after texts 9 n.filed w.effects;
-          sent = λ x is. is;
-          deleted = λ name is. is;
-        };
-        filed = refl;
-        questions = asked;
-        kept = λ x is. is;
-        at = record { is = refl; seen = k.at };
-        says = opener_all part asked m since owner w.effects may;
-      }
+  opening_went moved asked owner w goes may = (λ owed. went owed, λ asks all. goes.1 all)
+    where
+      went : frames.Owed New part texts since n.sent n w.effects → frames.Went New part texts since n.sent asked n Files w.progress w.effects
+      went owed =
+          let m = filing n (filed_after texts 9 n.filed w.effects) in
+          let k = goes.0 owed.files in
+          record {
+            next = m;
+            runs = runs_after New part texts (held_in part texts) n 9
+                (λ g name it. CleanerFiles (texts name) it.segment (moved g (texts name) it.new)) n.filed w.effects owed.files;
+            grows = record {
+              slots = refl;
+              epoch = refl;
+              horizon = refl;
+              parts = refl;
+              promised = let p = n.promised in omega arith;
+              filed = effects.more_after texts 9 n.filed w.effects;
+              sent = λ x is. is;
+              deleted = λ name is. is;
+            };
+            filed = refl;
+            questions = asked;
+            kept = λ x is. is;
+            at = record { is = refl; seen = k.at };
+            says = opener_all part asked m since owner w.effects may;
+          }
 
   module _ (none : promised_at n.job.promised part ≡ 0) where
     none_in : (v : Net) → v ≡ filing n v.filed → promised_at v.job.promised part ≡ 0

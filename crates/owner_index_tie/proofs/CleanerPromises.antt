@@ -89,17 +89,19 @@ module _ (New : Filed → Segment → Type 0) (part : ℕ) (texts : Texts) (sinc
     ups : (m : Net) (d : Done) → Grows n m → m.promised ≡ epoch → Runs part (held_in part texts) n m → m.filed ≡ n.filed → Goes asked m d
         → frames.Goes_to New part texts since answered Up asked n d
     ups m d grows is runs same goes =
-        frames.went_after New part texts since answered Up asked asked n m d runs grows same (λ x there. there)
-        (λ owed. let w = goes owed in record {
-          next = w.next;
-          runs = w.runs;
-          grows = w.grows;
-          filed = w.filed;
-          questions = w.questions;
-          kept = w.kept;
-          at = (w.at, let a = w.grows.promised in omega arith);
-          says = w.says;
-        })
+        frames.went_after New part texts since answered Up asked asked n m d runs grows same (λ x there. there) (
+          λ owed. let w = goes.0 owed in record {
+            next = w.next;
+            runs = w.runs;
+            grows = w.grows;
+            filed = w.filed;
+            questions = w.questions;
+            kept = w.kept;
+            at = (w.at, let a = w.grows.promised in omega arith);
+            says = w.says;
+          },
+          goes.1,
+        )
 
     promised_alone : e.job ≡ None → HasPromised alone None
     promised_alone none =
@@ -307,16 +309,19 @@ module _ (New : Filed → Segment → Type 0) (part : ℕ) (texts : Texts) (sinc
 
   pub weaker : {P Q : Net → Emptying → Type 0} → ((v : Net) (s : Emptying) → P v s → Q v s) → (asked : Questions) (n : Net) (d : Done)
       → frames.Goes_to New part texts since answered P asked n d → frames.Goes_to New part texts since answered Q asked n d
-  weaker to asked n d goes owed = (let w = goes owed in record {
-    next = w.next;
-    runs = w.runs;
-    grows = w.grows;
-    filed = w.filed;
-    questions = w.questions;
-    kept = w.kept;
-    at = to w.next d.state w.at;
-    says = w.says;
-  })
+  weaker to asked n d goes = (
+    λ owed. (let w = goes.0 owed in record {
+      next = w.next;
+      runs = w.runs;
+      grows = w.grows;
+      filed = w.filed;
+      questions = w.questions;
+      kept = w.kept;
+      at = to w.next d.state w.at;
+      says = w.says;
+    }),
+    goes.1,
+  )
 
   module _ (asked : Questions) (n : Net) (slot epoch manager : ℕ) where
     at_slot : (slot == part) ≡ true → slot ≡ part

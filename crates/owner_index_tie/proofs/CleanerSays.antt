@@ -172,8 +172,8 @@ module _ (New : Filed → Segment → Type 0) (part : ℕ) (texts : Texts) (sinc
   -- a Check is sent: it is asked there, where it is of the slot
   sends_check : (asked : Questions) (n : Net) (e : Emptying) (job : Job) (block : BlockId) (place : Place) (ask : Option ℕ) → e.job ≡ Some job → At n e
       → Goes asked n (check_sent e block place ask)
-  sends_check asked n e job block place None same h owed = quiet asked n e [] h tt owed
-  sends_check asked n e job block place (Some ask) same h owed = by (slot_of block.ino.0 == part) refl
+  sends_check asked n e job block place None same h = quiet asked n e [] h tt
+  sends_check asked n e job block place (Some ask) same h = (λ owed. by owed (slot_of block.ino.0 == part) refl, λ asks may. (tt, tt))
     where
       c : Check
       c = record { block = block; place = place; ask = ask }
@@ -212,9 +212,10 @@ module _ (New : Filed → Segment → Type 0) (part : ℕ) (texts : Texts) (sinc
             says = (λ inside. record { number = n.number; below = may.epoch; sent = inl refl; question = inl refl }, tt);
           }
 
-      by : (t : Bool) → (slot_of block.ino.0 == part) ≡ t → frames.Went New part texts since answered asked n At e (check_sent e block place (Some ask)).outs
-      by true is = asked_there (owed.asks.0 (of_slot is))
-      by false is = quiet asked n e (check_sent e block place (Some ask)).outs h ((λ inside. absurd (of_other is inside)), tt) owed
+      by : frames.Owed New part texts since answered n (check_sent e block place (Some ask)).outs → (t : Bool) → (slot_of block.ino.0 == part) ≡ t
+          → frames.Went New part texts since answered asked n At e (check_sent e block place (Some ask)).outs
+      by owed true is = asked_there (owed.asks.0 (of_slot is))
+      by owed false is = (quiet asked n e (check_sent e block place (Some ask)).outs h ((λ inside. absurd (of_other is inside)), tt)).0 owed
 
   checks_in : (asked : Questions) (n : Net) (e : Emptying) (o : Option Job) (block : BlockId) (place : Place) → e.job ≡ o → At n e
       → Goes asked n (check_sent (checked_in e o block).state block place (checked_in e o block).ask)

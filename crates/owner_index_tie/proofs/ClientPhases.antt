@@ -41,6 +41,7 @@ use Rattle.wire_msg.specs.declared.packet.Do.TheVariants.{Begin, Deliver, Tick}
 use Rattle.wire_msg.specs.declared.packet.Packet.{Packet}
 use Rattle.xfs_base.proofs.Booleans.{by_test}
 use Rattle.xfs_base.specs.Steps.{still, after}
+use Rattle.segment_format.specs.declared.segment.Segment.{Segment}
 use Rattle.owner_index_tie.specs.ClientEvents.{RestingSeen, ClientAgrees, IsNews, BodyGets, PacketGets, EventGets, ReopensOn, WritesTexts, ClientEventGoes}
 use Rattle.owner_index_tie.specs.Filing.{filing, filed_after}
 use Rattle.owner_index_tie.specs.Owners.{OpeningSeen, StageWrites, OwnerDoes}
@@ -52,7 +53,7 @@ use Rattle.owner_index_tie.proofs.ServingCalls as calls
 use Rattle.owner_index_tie.proofs.ServingPackets as serving
 use Rattle.owner_index_tie.proofs.Standing.{Stands, pushes_all_plain}
 
-module _ (part : ℕ) (texts : Texts) (n : Net) (c : ℕ) (some : 0 < c) (most : c ≤ 9) where
+module _ (New : Filed → Segment → Type 0) (part : ℕ) (texts : Texts) (n : Net) (c : ℕ) (some : 0 < c) (most : c ≤ 9) where
   abbrev since : ℕ
   since = n.filed.head c
 
@@ -66,10 +67,10 @@ module _ (part : ℕ) (texts : Texts) (n : Net) (c : ℕ) (some : 0 < c) (most :
   PhaseSo f (Serves s) = Stood f s
 
   abbrev Goes : Filed → Went_to → Type 0
-  Goes f w = frames.Goes (IsNews part) part texts n c since PhaseSo f w
+  Goes f w = frames.Goes New part texts n c since PhaseSo f w
 
   quiet : (f : Filed) (p : Phase) (outs : List Effect) → PhaseSo f p → frames.AllPlain part n c since f outs → Goes f (record { state = p; outs = outs })
-  quiet f p outs h all = frames.goes_quiet (IsNews part) part texts n c since PhaseSo f (record { state = p; outs = outs })
+  quiet f p outs h all = frames.goes_quiet New part texts n c since PhaseSo f (record { state = p; outs = outs })
       (frames.quiet_plain part n c since f (PhaseSo f) p outs h all)
 
   still_so : (f : Filed) (p : Phase) → PhaseSo f p → Goes f (still p)
@@ -117,12 +118,12 @@ module _ (part : ℕ) (texts : Texts) (n : Net) (c : ℕ) (some : 0 < c) (most :
       (frames.answers_plain part n c since f l.items.unanswered (answer.Lost seg))
 
   opened_on_so : (l : Lasting) (capacity : ℕ) (w : Went) → l.number ≡ c
-      → frames.Goes (IsNews part) part texts n c since ProgressSeen n.filed (record { state = w.progress; outs = w.effects })
+      → frames.Goes New part texts n c since ProgressSeen n.filed (record { state = w.progress; outs = w.effects })
       → Goes n.filed (opened_on l capacity w)
   opened_on_so l capacity w own p =
       let m : Lasting = record l { questions = w.questions } in
       let e : Went_to = after_opening m capacity w.progress in
-      frames.goes_through (IsNews part) part texts n c since ProgressSeen PhaseSo n.filed (record { state = w.progress; outs = w.effects }) e p
+      frames.goes_through New part texts n c since ProgressSeen PhaseSo n.filed (record { state = w.progress; outs = w.effects }) e p
       (λ h. after_opening_so (filed_after texts c n.filed w.effects) m capacity w.progress own h)
 
   -- ---- the next item begins
@@ -160,7 +161,7 @@ module _ (part : ℕ) (texts : Texts) (n : Net) (c : ℕ) (some : 0 < c) (most :
 
   serving_so : (f : Filed) (s : Serving) (number : ℕ) (wanted : Option Work) → Stood f s → Goes f (serving_begins s number (wish_of wanted))
   serving_so f s number (Some (work.Crash node)) h =
-      frames.goes_behind (IsNews part) part texts n c since PhaseSo f (falls s ∷ []) (crashed s.lasting number) (tt, tt)
+      frames.goes_behind New part texts n c since PhaseSo f (falls s ∷ []) (crashed s.lasting number) (tt, tt)
       (crashes_so f s.lasting number (rests_from f s h))
   serving_so f s number (Some (work.Restart node)) h = answers_so f (Serves s) number answer.Up h
   serving_so f s number (Some _) h = opens_so f s number h
@@ -199,22 +200,22 @@ module _ (part : ℕ) (texts : Texts) (n : Net) (c : ℕ) (some : 0 < c) (most :
   gets_end l o m capacity (progress.Lost seg) gets = tt
 
   opens_to : (l : Lasting) (o : openings.Opening) (capacity : ℕ) (w : Went) → PhaseSo n.filed (Opening l o)
-      → log.WentSo (IsNews part) part texts n c since n.filed o.stage w → Goes_to (Opening l o) (opened_on l capacity w)
+      → log.WentSo New part texts n c since n.filed o.stage w → Goes_to (Opening l o) (opened_on l capacity w)
   opens_to l o capacity w h p gets =
       opened_on_so l capacity w h.0.number_is (p (gets_end l o (record l { questions = w.questions }) capacity w.progress gets))
 
-  serves_so : (s : Serving) (d : Done) → serving.Files (IsNews part) part texts n c since some most n.filed d → Goes_to (Serves s) (serves_on d)
-  serves_so s d p gets owed = (let k = p owed in record { at = k.at; says = k.says })
+  serves_so : (s : Serving) (d : Done) → serving.Files New part texts n c since some most n.filed d → Goes_to (Serves s) (serves_on d)
+  serves_so s d p gets = (λ owed. (let k = p.0 owed in record { at = k.at; says = k.says }), p.1)
 
   on_deliver_so : (capacity : ℕ) (p : Phase) (packet : Packet) → PhaseText p → PacketGets part texts n c p packet → Goes_to p (on_deliver capacity p packet)
   unfolding on_deliver
   on_deliver_so capacity (Down l) packet h owed = λ gets. still_so n.filed (Down l) h.0
   on_deliver_so capacity (Opening l o) packet h owed =
       opens_to l o capacity (opening.on_packet o l.questions packet) h.0
-      (events.packet_goes (IsNews part) part texts n c since n.filed (omega arith) h.0.0.fits o.stage o l.questions packet h.0.1 (is_stage o.stage h.1))
+      (events.packet_goes New part texts n c since n.filed (omega arith) h.0.0.fits o.stage o l.questions packet h.0.1 (is_stage o.stage h.1))
   on_deliver_so capacity (Serves s) packet h owed =
       serves_so s (after (packets.on_packet s packet).outs (runs (packets.on_packet s packet).state))
-      (serving.packet_so (IsNews part) part texts n c since some most n.filed s h.0 h.1 packet (polled packet.body owed))
+      (serving.packet_so New part texts n c since some most n.filed s h.0 h.1 packet (polled packet.body owed))
     where
       polled : (b : Body) → BodyGets part texts n c s.tokens b → serving.Polled part n c n.filed s b
       polled (body.Poll m) owed = owed
@@ -231,24 +232,24 @@ module _ (part : ℕ) (texts : Texts) (n : Net) (c : ℕ) (some : 0 < c) (most :
   on_time_so capacity (Down l) h = λ gets. still_so n.filed (Down l) h.0
   on_time_so capacity (Opening l o) h =
       opens_to l o capacity (opening.on_tick o l.questions) h.0
-      (events.tick_goes (IsNews part) part texts n c since n.filed (omega arith) h.0.0.fits o.stage o l.questions h.0.1 (is_stage o.stage h.1))
+      (events.tick_goes New part texts n c since n.filed (omega arith) h.0.0.fits o.stage o l.questions h.0.1 (is_stage o.stage h.1))
   on_time_so capacity (Serves s) h =
       serves_so s (after (packets.on_tick s).outs (runs (packets.on_tick s).state))
-      (serving.time_so (IsNews part) part texts n c since some most n.filed s h.0 h.1)
+      (serving.time_so New part texts n c since some most n.filed s h.0 h.1)
 
   happens_so : (client : Client) (what : Do) → PhaseText client.phase → EventGets part texts n c client.phase what → Goes_to client.phase (happens client what)
   happens_so client Begin h owed = λ gets. on_begin_so client.peers.servers client.phase h.0
   happens_so client (Deliver packet) h owed = delivers_so client.peers client.cache client.phase packet h owed
   happens_so client Tick h owed = on_time_so client.cache client.phase h
 
-  takes_so : (client : Client) (what : Do) → PhaseText client.phase → EventGets part texts n c client.phase what → Goes_to client.phase (takes client what)
+  pub takes_so : (client : Client) (what : Do) → PhaseText client.phase → EventGets part texts n c client.phase what → Goes_to client.phase (takes client what)
   takes_so client what h owed =
       by_test (λ (w : Went_to). Goes_to client.phase w) (client_room client) (happens client what) (still client.phase) (λ _. happens_so client what h owed)
       (λ _ gets. still_so n.filed client.phase h.0)
 
   -- ---- what it is there
 
-  stands : (p : Phase) → ClientAgrees part texts n c p → PhaseText p
+  pub stands : (p : Phase) → ClientAgrees part texts n c p → PhaseText p
   stands (Down l) h = (h, tt)
   stands (Opening l o) h = ((h.0, h.1.0), h.1.1)
   stands (Serves s) h = (record { late = omega arith; seen = h.0 }, h.1)
@@ -263,7 +264,8 @@ client_event_goes part texts n c client what some below agreed owed =
     let w = takes client what in
     let most : c ≤ 9 = omega arith in
     let f = filed_after texts c n.filed w.outs in
-    let k = takes_so part texts n c some most client what (stands part texts n c some most client.phase agreed) owed.gets owed.reopens owed.files in
+    let k = (takes_so (IsNews part) part texts n c some most client what (stands (IsNews part) part texts n c some most client.phase agreed) owed.gets
+    owed.reopens).0 owed.files in
     record {
       next = filing n f;
       is = refl;
@@ -271,7 +273,7 @@ client_event_goes part texts n c client what some below agreed owed =
       others = λ l other. others_after texts c l other n.filed w.outs;
       runs = runs_after (IsNews part) part texts (held_in part texts) n c
           (λ g name it. ClientFiles c (texts name) some below it.segment it.new) n.filed w.outs owed.files;
-      agrees = agrees part texts n c some most f w.state k.at owed.writes;
+      agrees = agrees (IsNews part) part texts n c some most f w.state k.at owed.writes;
       named = λ are. texts_after (IsNews part) texts c n.filed w.outs owed.files are;
       does = All-from_recursion (OwnerDoes part (filing n f) c (n.filed.head c)) w.outs k.says;
     }

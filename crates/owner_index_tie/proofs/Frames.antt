@@ -22,7 +22,8 @@ use Rattle.xfs_base.proofs.Booleans.{by_test}
 use Rattle.xfs_base.specs.Steps.{Stepped, still, after, steps}
 use Rattle.xfs_base.specs.declared.segment.End.{End}
 use Rattle.xfs_base.specs.declared.segment.SegName.{SegName}
-use Rattle.owner_index_tie.specs.Filing.{filing, with_name, after_act, after_effect, filed_after, OwedAct, FilesOwed}
+use Rattle.owner_index_tie.specs.Acting.{ActSo, AllSo, EffectSo}
+use Rattle.owner_index_tie.specs.Filing.{filing, with_name, after_act, after_effect, filed_after, FilesNext, OwedAct, OwedEffect, FilesOwed}
 use Rattle.owner_index_tie.specs.Owners.{EndTold, OwnerSays, OwnerDoes}
 
 pub all_map : {X Y : Type 0} (P : Y → Type 0) (f : X → Y) → ((x : X) → P (f x)) → (xs : List X) → AllByRecursion P (map f xs)
@@ -111,6 +112,33 @@ module _ (New : Filed → Segment → Type 0) (texts : Texts) (l : ℕ) where
   owed_behind f [] ys owed = owed
   owed_behind f (x ∷ xs) ys owed = owed_behind (after_effect texts l f x) xs ys owed.1
 
+-- ---- what is acted to be filed
+
+-- the text of this name bears it
+abbrev pub IsNamed : Texts → SegName → Type 0
+IsNamed texts name = (texts name).name ≡ name
+
+module _ (New : Filed → Segment → Type 0) (texts : Texts) (l : ℕ) where
+  -- wherever the text of a name bears it, it may be filed next
+  abbrev pub AllMay : Type 0
+  AllMay = (f : Filed) (name : SegName) → IsNamed texts name → name.seq ≡ suc (f.head l) → FilesNext New texts l f name
+
+  module _ (may : AllMay) where
+    may_act : (f : Filed) (a : Act) → ActSo (IsNamed texts) a → OwedAct New texts l f a
+    may_act f (ActsFiled name) named = may f name named
+    may_act f _ named = tt
+
+    may_effect : (f : Filed) (e : Effect) → EffectSo (IsNamed texts) e → OwedEffect New texts l f e
+    may_effect f (Send to m) named = tt
+    may_effect f (Answers item answer) named = tt
+    may_effect f (Lose seg) named = tt
+    may_effect f (Does act) named = may_act f act named
+
+    -- then what is named is owed
+    pub owed_named : (f : Filed) (es : List Effect) → AllSo (IsNamed texts) es → FilesOwed New texts l f es
+    owed_named f [] named = tt
+    owed_named f (e ∷ es) named = (may_effect f e named.0, owed_named (after_effect texts l f e) es named.1)
+
 -- ---- steps that file nothing
 
 abbrev IsNoFiling : Act → Type 0
@@ -151,6 +179,20 @@ module _ (part : ℕ) (n : Net) (l since : ℕ) (f : Filed) where
     pub files_none : (outs : List Effect) → AllPlain outs → filed_after texts l f outs ≡ f
     files_none [] all = refl
     files_none (e ∷ es) all = ap (λ g. filed_after texts l g es) (effect_files e all.0) ∙ files_none es all.1
+
+  module _ (So : SegName → Type 0) where
+    act_so : (a : Act) → IsNoFiling a → ActSo So a
+    act_so (ActsFiled name) h = absurd h
+    act_so _ h = tt
+
+    effect_so : (e : Effect) → Plain e → EffectSo So e
+    effect_so (Send to m) h = tt
+    effect_so (Answers item answer) h = tt
+    effect_so (Lose seg) h = tt
+    effect_so (Does act) h = act_so act h
+
+    pub plain_so : (outs : List Effect) → AllPlain outs → AllSo So outs
+    plain_so outs all = all_weaker Plain (EffectSo So) effect_so outs all
 
   pub answers_plain : (item : Option ℕ) (answer : Answer) → AllPlain (answers_unanswered item answer)
   answers_plain None answer = tt
@@ -199,36 +241,45 @@ module _ (New : Filed → Segment → Type 0) (part : ℕ) (texts : Texts) (n : 
     pub at : At f s
     pub says : AllByRecursion (OwnerDoes part (filing n f) l since) outs
 
-  -- where what is filed next is owed
+  -- where what is filed next is owed; and texts that bear their names alone are filed, where those may be
   abbrev pub Goes : Filed → Stepped S Effect → Type 0
-  Goes f d = FilesOwed New texts l f d.outs → Ends (filed_after texts l f d.outs) d.state d.outs
+  Goes f d = (FilesOwed New texts l f d.outs → Ends (filed_after texts l f d.outs) d.state d.outs) × (AllMay New texts l → AllSo (IsNamed texts) d.outs)
 
   pub goes_quiet : (f : Filed) (d : Stepped S Effect) → Quiet part n l since f (At f) d → Goes f d
-  goes_quiet f d q owed = subst (λ g. Ends g d.state d.outs) (sym (files_none part n l since f texts d.outs q.plain))
-      (record { at = q.at; says = all_do part n l since f d.outs q.plain })
+  goes_quiet f d q = (
+    λ owed. subst (λ g. Ends g d.state d.outs) (sym (files_none part n l since f texts d.outs q.plain))
+        (record { at = q.at; says = all_do part n l since f d.outs q.plain }),
+    λ may. plain_so part n l since f (IsNamed texts) d.outs q.plain,
+  )
 
   -- what files nothing goes before
   pub goes_behind : (f : Filed) (outs : List Effect) (d : Stepped S Effect) → AllPlain part n l since f outs → Goes f d → Goes f (after outs d)
-  goes_behind f outs d all p owed =
-      let same = files_none part n l since f texts outs all in
-      let two = p (subst (λ g. FilesOwed New texts l g d.outs) same (owed_behind New texts l f outs d.outs owed)) in
-      let g = filed_after texts l f d.outs in
-      subst (λ h. Ends h d.state (outs ++ d.outs)) (sym (after_both texts l f outs d.outs ∙ ap (λ h. filed_after texts l h d.outs) same)) (record {
-        at = two.at;
-        says = all_both (Says g) outs d.outs
-            (all_weaker (Says f) (Says g) (does_on part (filing n f) (filing n g) l since (more_after texts l f d.outs) refl) outs
-            (all_do part n l since f outs all)) two.says;
-      })
+  goes_behind f outs d all p =
+      (λ owed. behind owed, λ may. all_both (EffectSo (IsNamed texts)) outs d.outs (plain_so part n l since f (IsNamed texts) outs all) (p.1 may))
+    where
+      behind : FilesOwed New texts l f (outs ++ d.outs) → Ends (filed_after texts l f (outs ++ d.outs)) d.state (outs ++ d.outs)
+      behind owed =
+          let same = files_none part n l since f texts outs all in
+          let two = p.0 (subst (λ g. FilesOwed New texts l g d.outs) same (owed_behind New texts l f outs d.outs owed)) in
+          let g = filed_after texts l f d.outs in
+          subst (λ h. Ends h d.state (outs ++ d.outs)) (sym (after_both texts l f outs d.outs ∙ ap (λ h. filed_after texts l h d.outs) same)) (record {
+            at = two.at;
+            says = all_both (Says g) outs d.outs
+                (all_weaker (Says f) (Says g) (does_on part (filing n f) (filing n g) l since (more_after texts l f d.outs) refl) outs
+                (all_do part n l since f outs all)) two.says;
+          })
 
   -- a name is acted to be filed first, and then nothing is
-  pub goes_filed : (f : Filed) (name : SegName) (d : Stepped S Effect)
+  pub goes_filed : (f : Filed) (name : SegName) (d : Stepped S Effect) → IsNamed texts name
       → (OwedAct New texts l f (ActsFiled name) → Quiet part n l since (with_name texts l f name) (At (with_name texts l f name)) d)
       → Goes f (after (Does (ActsFiled name) ∷ []) d)
-  goes_filed f name d k owed =
-      let g = with_name texts l f name in
-      let q = k owed.0 in
-      subst (λ h. Ends h d.state (Does (ActsFiled name) ∷ d.outs)) (sym (files_none part n l since g texts d.outs q.plain))
-      (record { at = q.at; says = (tt, all_do part n l since g d.outs q.plain) })
+  goes_filed f name d named k = (
+    λ owed. let g = with_name texts l f name in
+        let q = k owed.0 in
+        subst (λ h. Ends h d.state (Does (ActsFiled name) ∷ d.outs)) (sym (files_none part n l since g texts d.outs q.plain))
+        (record { at = q.at; says = (tt, all_do part n l since g d.outs q.plain) }),
+    λ may. (named, plain_so part n l since (with_name texts l f name) (IsNamed texts) d.outs (k (may f name named)).plain),
+  )
 
 -- one thing follows another, maybe of another state
 module _ (New : Filed → Segment → Type 0) (part : ℕ) (texts : Texts) (n : Net) (l since : ℕ) {S T : Type 0} (At : Filed → S → Type 0)
@@ -236,18 +287,25 @@ module _ (New : Filed → Segment → Type 0) (part : ℕ) (texts : Texts) (n : 
   pub goes_through : (f : Filed) (d : Stepped S Effect) (e : Stepped T Effect) → Goes New part texts n l since At f d
       → (At (filed_after texts l f d.outs) d.state → Goes New part texts n l since Bt (filed_after texts l f d.outs) e)
       → Goes New part texts n l since Bt f (record { state = e.state; outs = d.outs ++ e.outs })
-  goes_through f d e p k owed =
-      let g = filed_after texts l f d.outs in
-      let h = filed_after texts l g e.outs in
-      let one = p (owed_before New texts l f d.outs e.outs owed) in
-      let two = k one.at (owed_behind New texts l f d.outs e.outs owed) in
-      subst (λ x. Ends New part texts n l since Bt x e.state (d.outs ++ e.outs)) (sym (after_both texts l f d.outs e.outs)) (record {
-        at = two.at;
-        says = all_both (OwnerDoes part (filing n h) l since) d.outs e.outs
-            (all_weaker (OwnerDoes part (filing n g) l since) (OwnerDoes part (filing n h) l since)
-            (does_on part (filing n g) (filing n h) l since (more_after texts l g e.outs) refl) d.outs one.says)
-            two.says;
-      })
+  goes_through f d e p k = (
+    λ owed. through owed,
+    λ may. all_both (EffectSo (IsNamed texts)) d.outs e.outs (p.1 may) ((k (p.0 (owed_named New texts l may f d.outs (p.1 may))).at).1 may),
+  )
+    where
+      through : FilesOwed New texts l f (d.outs ++ e.outs)
+          → Ends New part texts n l since Bt (filed_after texts l f (d.outs ++ e.outs)) e.state (d.outs ++ e.outs)
+      through owed =
+          let g = filed_after texts l f d.outs in
+          let h = filed_after texts l g e.outs in
+          let one = p.0 (owed_before New texts l f d.outs e.outs owed) in
+          let two = (k one.at).0 (owed_behind New texts l f d.outs e.outs owed) in
+          subst (λ x. Ends New part texts n l since Bt x e.state (d.outs ++ e.outs)) (sym (after_both texts l f d.outs e.outs)) (record {
+            at = two.at;
+            says = all_both (OwnerDoes part (filing n h) l since) d.outs e.outs
+                (all_weaker (OwnerDoes part (filing n g) l since) (OwnerDoes part (filing n h) l since)
+                (does_on part (filing n g) (filing n h) l since (more_after texts l g e.outs) refl) d.outs one.says)
+                two.says;
+          })
 
 module _ (New : Filed → Segment → Type 0) (part : ℕ) (texts : Texts) (n : Net) (l since : ℕ) {S : Type 0} (At : Filed → S → Type 0) where
   pub goes_on : (f : Filed) (d e : Stepped S Effect) → Goes New part texts n l since At f d

@@ -35,3 +35,4 @@ pub mod MovesJob
 pub mod MovesOpening
 pub mod MovesServing
 pub mod Moving
+pub mod Acting

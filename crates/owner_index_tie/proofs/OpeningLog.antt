@@ -50,6 +50,7 @@ use Rattle.std.specs.List.{filter_map}
 use Rattle.version_model.specs.declared.act.Act.TheVariants.{Filed as ActsFiled}
 use Rattle.xfs_base.specs.declared.segment.LogId.{LogId}
 use Rattle.xfs_base.specs.declared.segment.SegName.{SegName}
+use Rattle.owner_index_tie.specs.Acting.{AllSo, EffectSo}
 use Rattle.owner_index_tie.specs.Filing.{filing, with_name, filed_after, FilesOwed}
 use Rattle.owner_index_tie.specs.Owners.{LogNext, LogFits, SettlingSeen, StageSeen, OpeningSeen, ReadBack, EndOwed, OwnerDoes}
 use Rattle.owner_index_tie.proofs.Frames as frames
@@ -171,8 +172,17 @@ module _ (New : Filed → Segment → Type 0) (part : ℕ) (texts : Texts) (n : 
       filed_says : (x : Filed) (chain : List Segment) → AllByRecursion (OwnerDoes part (filing n x) l since) (map filed chain)
       filed_says x chain = frames.all_map (OwnerDoes part (filing n x) l since) filed (λ s. tt) chain
 
-      opened_goes : Moves (opens k (record s { log = r.state }) (Some (log_steps.end_from old)))
-      opened_goes owed =
+      chain_named : (chain : List Segment) → AllByRecursion (λ s. s ≡ texts s.name) chain → AllSo (frames.IsNamed texts) (map filed chain)
+      chain_named [] all = tt
+      chain_named (x ∷ chain) all = (ap (λ (y : Segment). y.name) (sym all.0), chain_named chain all.1)
+
+      its_named : frames.IsNamed texts its_name
+      its_named = ap (λ (x : Segment). x.name) (ap texts name_is ∙ text a.old a.was) ∙ sym name_is
+
+      opened_ends : FilesOwed New texts l f (chained ++ Does (ActsFiled its_name) ∷ [])
+          → frames.Ends New part texts n l since Seen (filed_after texts l f (chained ++ Does (ActsFiled its_name) ∷ []))
+          (progress.Opened (opened k (record s { log = r.state }) (log_steps.end_from old))) (chained ++ Does (ActsFiled its_name) ∷ [])
+      opened_ends owed =
           let x = with_name texts l g its_name in
           subst (λ y. frames.Ends New part texts n l since Seen y (progress.Opened (opened k (record s { log = r.state }) (log_steps.end_from old)))
           (chained ++ Does (ActsFiled its_name) ∷ []))
@@ -181,6 +191,12 @@ module _ (New : Filed → Segment → Type 0) (part : ℕ) (texts : Texts) (n : 
             at = opens_at owed;
             says = all_both (OwnerDoes part (filing n x) l since) chained (Does (ActsFiled its_name) ∷ []) (filed_says x s.chain) (tt, tt);
           })
+
+      opened_goes : Moves (opens k (record s { log = r.state }) (Some (log_steps.end_from old)))
+      opened_goes = (
+        opened_ends,
+        λ may. all_both (EffectSo (frames.IsNamed texts)) chained (Does (ActsFiled its_name) ∷ []) (chain_named s.chain back.named) (its_named, tt),
+      )
 
     -- the opening segment stays in flight
     rests_so : (s : Settling) (r : log_steps.Done) → Rests s.log r → SettlingSeen l (record s { log = r.state }) → Moves (logged k s r)

@@ -161,7 +161,8 @@ module _ (New : Filed → Segment → Type 0) (part : ℕ) (texts : Texts) (n : 
 
     lands_so : Files f (said part n l since some most f t (Settled (end_from old) (rows_of old) ∷ k.rest))
     unfolding writes_one settles
-    lands_so = frames.goes_filed New part texts n l since Stood f name behind behind_so
+    lands_so = frames.goes_filed New part texts n l since Stood f name behind
+        (ap (λ (x : Segment). x.name) (ap texts name_is ∙ text k.old k.was) ∙ sym name_is) behind_so
 
   turns_so : (f : Filed) (s : Serving) (r : log.Done) → Stood f s → FlightIsText texts s.log → Turns l s.log r
       → Files f (said part n l since some most f (record s { log = r.state }) r.outs)

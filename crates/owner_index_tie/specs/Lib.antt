@@ -4,3 +4,4 @@ pub mod ClientEvents
 pub mod ServerEvents
 pub mod CleanerMoves
 pub mod CleanerEvents
+pub mod Acting

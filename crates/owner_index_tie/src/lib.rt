@@ -6,6 +6,7 @@
 //! back is what was filed and adopted, is owed.
 #![tactic(auto)]
 
+ghost use Rattle.owner_index_tie.specs.Acting.{CleanerFilesFlights, ClientsFileFlights};
 ghost use Rattle.owner_index_tie.specs.CleanerEvents.{CleanerEventGoes, CleanerStartAgrees, CleanerStays};
 ghost use Rattle.owner_index_tie.specs.CleanerMoves.{CleanerMovesAnswered, CleanerStartsMoving, FlightsAreMoves};
 ghost use Rattle.owner_index_tie.specs.ClientEvents.{ClientEventGoes, ClientsStay, FirstClientAgrees};
@@ -53,4 +54,10 @@ pub fn cleaner_moves_what_was_live()
 /// What an event makes of a storage server is nothing in the small world: it files and drops nothing, and tells nothing of where blocks lie.
 pub fn server_index_events_are_seen()
     ensures { ServerEventGoes }
+{}
+
+/// What an owner that serves acts to be filed in an event was in flight before it, where that may be filed next: of a client, and of the cleaner.
+pub fn owners_file_their_flights()
+    ensures client { ClientsFileFlights }
+    ensures cleaner { CleanerFilesFlights }
 {}
