@@ -25,6 +25,7 @@ use Rattle.stripe_code.specs.declared.round.Told.TheVariants.{Held, Missing}
 use Rattle.wire_msg.specs.declared.body.Body.{Body}
 use Rattle.wire_msg.specs.declared.body.Body.TheVariants as body
 use Rattle.wire_msg.specs.declared.packet.Packet.{Packet}
+use Rattle.xfs_base.specs.declared.node.NodeId.TheVariants.{Cleaner}
 use Rattle.xfs_base.proofs.Orders.{seg_cmp_exact}
 use Rattle.xfs_base.specs.declared.segment.LogId.{LogId}
 use Rattle.xfs_base.specs.declared.segment.SegName.{SegName}
@@ -35,7 +36,7 @@ use Rattle.place_law.proofs.Texts.{what_is_read_is_the_text}
 module _ (one : OneNameOneText) (place : APlaceNamesOneContent) (reads : CleanerReadsWhatCame) (texts : Texts) (packets : List Packet) (cuts : Cuts) (i : index.Net)
     (known : FiledKnown texts packets cuts i.filed) where
   -- what is read of the segment in hand, for a job in this phase
-  read_for : (o : Option Hand) (s : Segment) (p : Phase) → HandRefers texts o → ReadsWithin i.filed p → ReadsHand (answered_in packets) (cut_by cuts) o s
+  read_for : (o : Option Hand) (s : Segment) (p : Phase) → HandRefers texts o → ReadsWithin i.filed p → ReadsHand (answered_in packets Cleaner) (cut_by cuts) o s
       → ReadFor i.filed (Some s) p
   read_for None s p refers within is = absurd is
   read_for (Some hand) s (Reading j segment) refers within is = (within, λ filed named. at filed named)
@@ -47,7 +48,7 @@ module _ (one : OneNameOneText) (place : APlaceNamesOneContent) (reads : Cleaner
           subst (λ (n : SegName). LogKnown texts packets cuts n.log) same (known.logs segment.name.log.0 segment.name.seq within.some within.filed) in
           let there : Segment = i.filed.segment segment.name.log.0 segment.name.seq in
           let its : segment.name ≡ there.name = tells_apart seg_cmp_exact segment.name there.name filed in
-          what_is_read_is_the_text one place texts packets cuts hand.seg s log refers is ∙ ap texts (sym same ∙ its)
+          what_is_read_is_the_text one place texts packets Cleaner cuts hand.seg s log refers is ∙ ap texts (sym same ∙ its)
           ∙ sym (known.texts_of segment.name.log.0 segment.name.seq within.some within.filed)
   read_for (Some hand) s Greeting refers within is = tt
   read_for (Some hand) s (Listing l) refers within is = tt
@@ -56,12 +57,12 @@ module _ (one : OneNameOneText) (place : APlaceNamesOneContent) (reads : Cleaner
   read_for (Some hand) s (Deleting j segment servers) refers within is = tt
   read_for (Some hand) s Over refers within is = tt
 
-  module _ (part : ℕ) (e : Emptying) (well : ReadsWell texts packets cuts i e) (p : Packet) (among : In p packets) where
+  module _ (part : ℕ) (e : Emptying) (well : ReadsWell texts packets cuts i e) (p : Packet) (among : In p packets) (own : p.to ≡ Cleaner) where
     gets : (o : Option ℕ) (ask : ℕ) (t : Told) → server_in p.from ≡ o → Tells ask t p.body → ReadGets part i e o ask t
     gets None ask t from told = tt
     gets (Some server) ask t from told =
         λ s done. read_for (hand_of e.job) s i.job.phase well.refers well.within
-        (reads packets cuts e ask server t s well.came (record { packet = p; among = among; from = from; tells = told }) done)
+        (reads packets Cleaner cuts e ask server t s well.came (record { packet = p; among = among; reader = own; from = from; tells = told }) done)
 
     pub answer_reads : (m : Body) → p.body ≡ m → AnswerReads part i e p.from m
     answer_reads (body.Fragment m) is =
@@ -71,4 +72,4 @@ module _ (one : OneNameOneText) (place : APlaceNamesOneContent) (reads : Cleaner
     answer_reads _ is = tt
 
 pub hands_read_texts : OneNameOneText → APlaceNamesOneContent → CleanerReadsWhatCame → HandsReadTexts
-hands_read_texts one place reads part texts packets cuts i e p known well among = answer_reads one place reads texts packets cuts i known part e well p among p.body refl
+hands_read_texts one place reads part texts packets cuts i e p known well among own = answer_reads one place reads texts packets cuts i known part e well p among own p.body refl

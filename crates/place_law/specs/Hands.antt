@@ -18,6 +18,7 @@ use Rattle.stripe_code.specs.declared.round.Told.TheVariants.{Held, Missing}
 use Rattle.wire_msg.specs.declared.body.Body.{Body}
 use Rattle.wire_msg.specs.declared.body.Body.TheVariants as body
 use Rattle.wire_msg.specs.declared.packet.Packet.{Packet}
+use Rattle.xfs_base.specs.declared.node.NodeId.TheVariants.{Cleaner}
 use Rattle.xfs_base.specs.declared.node.NodeId.{NodeId}
 use Rattle.place_law.specs.Copies.{HasJob}
 use Rattle.place_law.specs.Reads.{FiledKnown, NamesItsGroup}
@@ -35,7 +36,7 @@ HandRefers texts (Some hand) = NamesItsGroup texts hand.seg
 -- The cleaner that reads a segment for its job: that is the small world's, and what it holds of the reading came.
 pub record ReadsWell (texts : Texts) (packets : List Packet) (cuts : Cuts) (i : index.Net) (e : Emptying) : Type 0 where
   pub job : HasJob i e
-  pub came : ServesSo (answered_in packets) (cut_by cuts) e
+  pub came : ServesSo (answered_in packets Cleaner) (cut_by cuts) e
   pub within : ReadsWithin i.filed i.job.phase
   pub refers : HandRefers texts (hand_of e.job)
 
@@ -45,8 +46,8 @@ AnswerReads part i e from (body.Fragment m) = ReadGets part i e (server_in from)
 AnswerReads part i e from (body.Missing m) = ReadGets part i e (server_in from) m.ask (Missing m.generation)
 AnswerReads part i e from _ = Unit {0}
 
--- Whatever packet that was sent makes the reading end, the segment that is read is the filed one, where that bears its name.
+-- Whatever packet that was sent to it makes the reading end, the segment that is read is the filed one, where that bears its name.
 abbrev pub HandsReadTexts : Type 0
 HandsReadTexts =
     (part : ℕ) (texts : Texts) (packets : List Packet) (cuts : Cuts) (i : index.Net) (e : Emptying) (p : Packet) → FiledKnown texts packets cuts i.filed
-    → ReadsWell texts packets cuts i e → In p packets → AnswerReads part i e p.from p.body
+    → ReadsWell texts packets cuts i e → In p packets → p.to ≡ Cleaner → AnswerReads part i e p.from p.body

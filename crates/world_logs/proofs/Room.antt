@@ -67,7 +67,7 @@ module _ (law : FliesNext) (g : Setting) (n o : Net) (at : Moment g n) (run : Ru
   old s was = ⊎_elim (λ has. inl has) (λ low. kept s owner low) (room s was)
 
   pub turn_leaves_room : IsRoomy o
-  turn_leaves_room s among = ⊎_elim (λ boot. ⊎_elim (old s) (λ low. inr low) (law g n o at run boot s among)) (λ same. old s (subst (In s) same among)) flies
+  turn_leaves_room s among = ⊎_elim (λ boot. ⊎_elim (old s) (λ low. inr low) (law g n o at run boot s among)) (λ same. old s (subst (In s) same.0 among)) flies
 
 -- an opening that scans has room
 pub scan_has_room : (n : Net) (s : ScanState) → n.owner ≡ Opening s → IsRoomy n → AllHaveNext n
