@@ -1,4 +1,4 @@
--- What of a job's sayings asks nothing, how one thing follows another, and that each Check is of the segment in hand, under a number that no other question has.
+-- What of a job's sayings asks nothing, how one follows another, and that each Check is of the segment in hand, under a number that no other question has.
 use Rattle.std.proofs.Common.{◌≡◌, ◌⊎◌, ◌+◌, ℕ, ◌≤◌, ◌<◌, Bool, true, false, cond, nat_lt, List, [], ◌∷◌, ◌++◌, Option, None, Some, unwrap_or, inl, inr, refl, sym, ap, subst, ◌∙◌, arith}
 use Rattle.std.proofs.lemmas.Bool.Decides.{nat_tests}
 use Rattle.std.specs.BTreeMap.{insert_entry, is_at}

@@ -21,7 +21,7 @@ use Rattle.xfs_base.specs.declared.node.NodeId.TheVariants.{Client, Manager, Ser
 use Rattle.xfs_base.specs.declared.segment.End.{End}
 use Rattle.xfs_base.specs.declared.segment.SegName.{SegName}
 
--- One small world may follow another: nothing that is filed, sent, begun or to be deleted is taken back, and horizons rise, but those of epochs without a manager
+-- One small world may follow another: nothing that is filed, sent, begun or to be deleted is taken back, and horizons rise; those of epochs that have no manager
 -- stay.
 pub record Grown (n m : Net) : Type 0 where
   pub filed : IsMore n.filed m.filed

@@ -1,5 +1,5 @@
--- What the small world of tokens gives the index of the slot: who was active at an epoch is the manager to which that was given, so that no other holds the epoch,
--- and news never give one at which somebody was active.
+-- What the small world of tokens gives the index of the slot: who was active at an epoch is the manager to which that was given, so that no other holds it, and
+-- news never give one at which somebody was active.
 use Rattle.std.proofs.Common.{◌≡◌, ⊎_elim, ◌==◌, ℕ, ◌≤◌, ◌<◌, Bool, true, false, nat_lt, nat_le, List, Option, None, Some, unwrap_or, inl, inr, refl, sym, ap, subst, ◌∙◌, arith}
 use Rattle.std.proofs.lemmas.Bool.Decides.{nat_tests}
 use Rattle.core_world.specs.declared.any_node.AnyNode.{AnyNode}

@@ -59,7 +59,7 @@ module _ (part : ℕ) (texts : Texts) (n : Net) where
   CleanerDoOwed p Begin = Unit {0}
   CleanerDoOwed p Tick = Unit {0}
 
-  -- and that it may ask what it asks, that what a reopening of its log read back is what was filed and adopted, and that what it writes are texts of their names
+  -- and that it may ask what it asks, that what a reopening of its log read back is what was filed and adopted, and that it writes texts of their names
   pub record CleanerTold (p : CleanerPhase) (what : Do) (w : cleaners.Went_to) : Type 0 where
     pub files : FilesOwed (NewFor part texts n p) texts 9 n.filed w.outs
     pub asks : AllByRecursion (EffectOwed part n) w.outs
@@ -89,8 +89,8 @@ module _ (part : ℕ) (texts : Texts) (asked : Questions) (j : ℕ) (n : Net) wh
     pub reads : DoReads p what
     pub writes : managed.WritesTexts part texts asked j n q
 
--- Of the node of this name. A client is owed what `ClientOwed` says; servers and the registry are owed nothing. Of a Dead and a Live that come to the cleaner, and
--- of Deltas, Reports, Checks, news and checkpoints, nothing is owed: what they tell is so.
+-- Of the node of this name. A client is owed what `ClientOwed` says; servers and the registry are owed nothing. Of a Dead and a Live that come to the cleaner,
+-- and of Deltas, Reports, Checks, news and checkpoints, nothing is owed: what they tell is so.
 abbrev pub IndexOwes : (part : ℕ) → Texts → Questions → Net → NodeId → AnyNode → Do → Type 0
 IndexOwes part texts asked n (Client c) (any.Client node) what = ClientOwed part texts n c node.phase what (clients.takes node what)
 IndexOwes part texts asked n (Manager j) (any.Manager node) what = ManagerTold part texts asked j n node.phase what (happens node what).state

@@ -46,7 +46,7 @@ pub record Scene : Type 0 where
 -- ---- packets
 
 module _ (part : ℕ) (n : Net) where
-  -- What the owner of a log tells: Deltas of the slot, and ends of its log, which are filed; those that it reports to the slot's manager are known in that epoch.
+  -- What the owner of a log tells: Deltas of the slot, and ends of its log, which are filed; those that it reports to the slot's manager are known at its epoch.
   abbrev pub OwnerTells : ℕ → NodeId → Body → Type 0
   OwnerTells l from (body.Deltas m) = m.slot ≡ part → DeltasKnown part n l m
   OwnerTells l from (body.Report m) = (m.slot ≡ part → ReportKnown part n m.epoch from m.end) × (m.end.seq ≤ n.filed.head l)
@@ -129,8 +129,8 @@ module _ (k : Cluster) (part : ℕ) (texts : Texts) (first : ℕ → ℕ → Seg
     pub heads : (l : ℕ) → s.net.filed.head l < u32_end
     pub facts : (p : Packet) → In p sent → Fact part s p
 
--- An epoch at which nobody was active yet has got a manager in an event of the node of this name: one that serves then and knows the epoch, and that held it before, or
--- was given it in the event.
+-- An epoch at which nobody was active yet has got a manager in an event of the node of this name: one that serves then and knows the epoch, and that held it
+-- before, or was given it in the event.
 pub record Came (k : Cluster) (part : ℕ) (s t : Scene) (name : NodeId) (what : Do) (e : ℕ) : Type 0 where
   pub manager : ℕ
   pub some : 0 < manager
