@@ -4,3 +4,4 @@ mod Turns
 mod Flights
 mod Polls
 mod Owners
+mod Filing

@@ -37,6 +37,7 @@ use Rattle.node_base.specs.Room.{has_room}
 use Rattle.node_base.specs.declared.effects.Effect.{Effect}
 use Rattle.node_base.specs.declared.effects.Effect.TheVariants.{Send, Answer, Lose, Does}
 use Rattle.node_index_tie.specs.Sight.{Texts}
+use Rattle.owner_index_tie.proofs.Acting.{all_then}
 use Rattle.owner_index_tie.specs.CleanerEvents as cleaner_index
 use Rattle.owner_index_tie.specs.ClientEvents as client_index
 use Rattle.owner_index_tie.specs.Filing.{filed_after}
@@ -50,7 +51,7 @@ use Rattle.xfs_base.specs.declared.segment.SegName.{SegName}
 use Rattle.world_lines.proofs.Turns.{lines_go_on}
 use Rattle.world_lines.specs.Lines.{IsLine}
 use Rattle.world_lines.specs.Owners.{ActsAreDone, CleanerFilesShort, CleanersLineGoesOn, ClientsFileShort, ClientsLinesGoOn, HasFlown, IsRoomy}
-use Rattle.world_lines.specs.Turns.{ActSo, AllSo, EffectSo}
+use Rattle.world_lines.specs.Turns.{ActSo, AllSo}
 
 -- ---- acts
 
@@ -69,29 +70,13 @@ module _ (So : SegName → Type 0) where
 pub acts_are_done : ActsAreDone
 acts_are_done n node outs so = done_so (λ name. In name n.filed) node outs so
 
--- what is so of each name may be said otherwise
-module _ (So Then : SegName → Type 0) (so : (name : SegName) → So name → Then name) where
-  act_then : (act : Act) → ActSo So act → ActSo Then act
-  act_then (ActsFiled name) h = so name h
-  act_then _ h = tt
-
-  effect_then : (e : Effect) → EffectSo So e → EffectSo Then e
-  effect_then (Send to m) h = tt
-  effect_then (Answer item answer) h = tt
-  effect_then (Lose seg) h = tt
-  effect_then (Does act) h = act_then act h
-
-  pub all_then : (outs : List Effect) → AllSo So outs → AllSo Then outs
-  all_then [] h = tt
-  all_then (e ∷ es) h = (effect_then e h.0, all_then es h.1)
-
 -- ---- numbers
 
 -- the numbers up to the one after the end have one after them
-abbrev NextFits : Owner → Type 0
+abbrev pub NextFits : Owner → Type 0
 NextFits o = (k : ℕ) → k ≤ next_number o → has_next k ≡ true
 
-short_all : (n : Net) → IsRoomy n → NextFits n.owner → (outs : List Effect) → AllSo (HasFlown n) outs → AllSo (λ name. has_next name.seq ≡ true) outs
+pub short_all : (n : Net) → IsRoomy n → NextFits n.owner → (outs : List Effect) → AllSo (HasFlown n) outs → AllSo (λ name. has_next name.seq ≡ true) outs
 short_all n room fits outs =
     all_then (HasFlown n) (λ name. has_next name.seq ≡ true)
     (λ name h. subst (λ (x : SegName). has_next x.seq ≡ true) h.2 (⊎_elim (λ has. has) (fits h.0.name.seq) (room h.0 h.1))) outs
@@ -123,7 +108,7 @@ module _ (g : Setting) (c : ℕ) (w : Scene) where
   stage_fits k last (stage.Scanning s) sees fits = subst NextFits (sym sees.owner) fits
   stage_fits k last (stage.Settling s) sees fits = subst NextFits (sym sees.owner) fits
 
-  client_fits : (p : Phase) → ClientAgrees g c w p → clients.phase_room p ≡ true → NextFits w.net.owner
+  pub client_fits : (p : Phase) → ClientAgrees g c w p → clients.phase_room p ≡ true → NextFits w.net.owner
   client_fits (client.Down l) sees room = subst NextFits (sym sees.1) first_next
   client_fits (client.Opening l o) sees room = stage_fits o.known l.questions.last o.stage sees.1 (opening_next o room)
   client_fits (client.Serving s) sees room = subst NextFits (sym sees.1.owner)
@@ -131,7 +116,7 @@ module _ (g : Setting) (c : ℕ) (w : Scene) where
       (and_first (log_room s.log) (epochs_room s.tokens)
       (and_second (has_room s.tokens.req) (log_room s.log && epochs_room s.tokens) (and_second (has_room s.maps.version) _ room))))
 
-cleaner_fits : (g : Setting) (w : Scene) (p : CleanerPhase) → cleaner_log.CleanerAgrees g w p → cleaners.phase_room p ≡ true → NextFits w.net.owner
+pub cleaner_fits : (g : Setting) (w : Scene) (p : CleanerPhase) → cleaner_log.CleanerAgrees g w p → cleaners.phase_room p ≡ true → NextFits w.net.owner
 cleaner_fits g w (cleaning.Down l) sees room = subst NextFits (sym sees.1) first_next
 cleaner_fits g w (cleaning.Opening l o) sees room =
     stage_fits g cleaner_log.its_number w o.known l.questions.last o.stage sees.sees

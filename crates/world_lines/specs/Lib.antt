@@ -3,3 +3,4 @@ pub mod Turns
 pub mod Flights
 pub mod Polls
 pub mod Owners
+pub mod Filing

@@ -1,6 +1,5 @@
 -- What an event makes of the lines of logs: in one of another node they stay, and in one of its owner a log's line goes on by what the owner acts to be filed.
 use Rattle.std.specs.Prelude.{◌≡◌, ℕ, suc, true, false, [], ◌∷◌, List}
-use Rattle.std.specs.List.{AllByRecursion}
 use Rattle.cleaner_node.specs.declared.cleaner.Phase.{Phase as CleanerPhase}
 use Rattle.client_log.specs.LogState.{LogState}
 use Rattle.client_log.specs.Transition.{has_next}
@@ -16,13 +15,13 @@ use Rattle.log_tie.specs.Setting.{Setting}
 use Rattle.node_base.specs.declared.effects.Effect.{Effect}
 use Rattle.node_base.specs.declared.effects.Effect.TheVariants.{Send, Answer, Lose, Does}
 use Rattle.node_index_tie.specs.Sight.{Texts}
+pub use Rattle.owner_index_tie.specs.Acting.{ActSo, AllSo, EffectSo}
 use Rattle.owner_index_tie.specs.CleanerEvents.{NewFor}
 use Rattle.owner_index_tie.specs.ClientEvents.{IsNews}
 use Rattle.owner_index_tie.specs.Filing.{FilesOwed, IsSameLog, after_effect, filed_after}
 use Rattle.segment_format.specs.declared.segment.Segment.{Segment}
 use Rattle.version_model.specs.declared.act.Act.{Act}
 use Rattle.version_model.specs.declared.act.Act.TheVariants.{Filed as ActsFiled}
-use Rattle.xfs_base.specs.declared.segment.SegName.{SegName}
 use Rattle.world_lines.specs.Lines.{IsLine, IsSure}
 
 -- ---- at the start, and in an event of another
@@ -35,21 +34,6 @@ abbrev pub LinesStay : Type 0
 LinesStay = (l : ℕ) (n o : Net) (f h : Filed) → o.filed ≡ n.filed → o.flown ≡ n.flown → IsSameLog l f h → IsLine l n f → IsLine l o h
 
 -- ---- in an event of the owner
-
--- this is so of each name that is acted to be filed
-module _ (So : SegName → Type 0) where
-  abbrev pub ActSo : Act → Type 0
-  ActSo (ActsFiled name) = So name
-  ActSo _ = Unit {0}
-
-  abbrev pub EffectSo : Effect → Type 0
-  EffectSo (Send to m) = Unit {0}
-  EffectSo (Answer item answer) = Unit {0}
-  EffectSo (Lose seg) = Unit {0}
-  EffectSo (Does act) = ActSo act
-
-  abbrev pub AllSo : List Effect → Type 0
-  AllSo outs = AllByRecursion EffectSo outs
 
 -- what is new of each segment that is acted to be filed where it is the next one, with what is filed before it
 module _ (New : Filed → Segment → Type 0) (texts : Texts) (l : ℕ) where

@@ -3,16 +3,19 @@
 //! `specs/Lines.antt` says what a line is, `specs/Turns.antt` what an event makes of it.
 #![tactic(auto)]
 
+ghost use Rattle.world_lines.specs.Filing.{CleanerFilesItsFlights, ClientsFileTheirFlights, OpeningsFileWhatFlew, WhatIsFiledFlew};
 ghost use Rattle.world_lines.specs.Flights.{CleanerWritesTexts, ClientsWriteTexts, ManagersWriteTexts};
 ghost use Rattle.world_lines.specs.Lines.{LinesAreFiled, LinesAreTexts, LinesGive};
 ghost use Rattle.world_lines.specs.Owners.{ActsAreDone, CleanerFilesShort, CleanersLineGoesOn, ClientsFileShort, ClientsLinesGoOn};
 ghost use Rattle.world_lines.specs.Polls.{CleanersPollsAreOwed, ClientsPollsAreOwed, LinksGoOn, LinksStay, PresentIsLinked, ServersGoOnByFlights};
 ghost use Rattle.world_lines.specs.Turns.{CleanersFilesAreOwed, ClientsFilesAreOwed, LinesBegin, LinesGoOn, LinesStay};
 
+use client_log::laws::settles_what_is_due;
 use log_law::{
     ends_are_last, logs_stay_in_line, logs_stay_whole, openings_go_on, what_flew_is_written,
     what_is_held_flew,
 };
+use owner_index_tie::owners_file_their_flights;
 
 /// Lines are filed as the index wants it, and give what it is owed of logs.
 ///
@@ -96,4 +99,22 @@ pub fn owners_lines_go_on()
     logs_stay_whole();
     ends_are_last();
     openings_go_on();
+}
+
+/// What owners act to be filed flew before the event.
+///
+/// - `filed`: so did all that is filed, where nothing more is.
+/// - `openings`: so did all that is filed by one thing that happens to an owner whose opening segment is in flight.
+/// - `clients`, `cleaner`: an owner that serves acts nothing to be filed but what it had in flight, and its number has one after it.
+pub fn what_is_filed_flew()
+    ensures filed { WhatIsFiledFlew }
+    ensures openings { OpeningsFileWhatFlew }
+    ensures clients { ClientsFileTheirFlights }
+    ensures cleaner { CleanerFilesItsFlights }
+{
+    logs_stay_whole();
+    what_is_held_flew();
+    what_flew_is_written();
+    settles_what_is_due();
+    owners_file_their_flights();
 }

@@ -1,0 +1,13 @@
+use Rattle.world_lines.proofs.Filing as filing
+use Rattle.world_lines.proofs.what_is_filed_flew.Goals as goal
+
+pub returns : goal.returns
+returns c = record {
+  filed = filing.what_is_filed_flew c.logs_stay_whole.ensures.whole;
+  openings = filing.openings_file_what_flew c.logs_stay_whole.ensures.whole c.what_is_held_flew.ensures.held c.what_flew_is_written.ensures.written
+      c.settles_what_is_due.ensures;
+  clients = filing.clients_file_their_flights c.what_is_held_flew.ensures.held c.what_flew_is_written.ensures.written c.what_flew_is_written.ensures.next
+      c.owners_file_their_flights.ensures.client;
+  cleaner = filing.cleaner_files_its_flights c.what_is_held_flew.ensures.held c.what_flew_is_written.ensures.written c.what_flew_is_written.ensures.next
+      c.owners_file_their_flights.ensures.cleaner;
+}
