@@ -7,3 +7,4 @@ mod Flights
 mod Following
 mod Ending
 mod Falling
+mod Backing

@@ -6,7 +6,7 @@
 ghost use Rattle.reopening_law.specs.Below.{Below};
 ghost use Rattle.reopening_law.specs.Falls.{FallsGoOn, FallsStay};
 ghost use Rattle.reopening_law.specs.Flights.{FlightsOfOwners, FlightsStay, OthersLeaveFlights};
-ghost use Rattle.reopening_law.specs.Openings.{OpeningsEndByOne};
+ghost use Rattle.reopening_law.specs.Openings.{ClientsComeBack, OpeningsEndByOne};
 ghost use Rattle.reopening_law.specs.Reopens.{BooksFollow, ClientsReopenSo, ReopeningsReadBack, TheCleanerReopensSo};
 
 use client_log::laws::settles_what_is_due;
@@ -74,6 +74,10 @@ pub fn falls_tell_their_flight()
 
 /// The event of a node that ends a restart is one thing that happens in the small world of its log: its opening segment, which says nothing, is settled, behind
 /// what was read back down to the horizon that was taken last.
+///
+/// - `ends`: so it is of a client, and of the cleaner.
+/// - `back`: a client that comes to serve serves with the log that is open, and acts that it is back with the chain that was found.
 pub fn openings_end_by_one_thing()
     ensures ends { OpeningsEndByOne }
+    ensures back { ClientsComeBack }
 {}

@@ -1,5 +1,6 @@
+use Rattle.reopening_law.proofs.Backing.{clients_come_back}
 use Rattle.reopening_law.proofs.Ending.{openings_end_by_one}
 use Rattle.reopening_law.proofs.openings_end_by_one_thing.Goals as goal
 
 pub returns : goal.returns
-returns c = record { ends = openings_end_by_one }
+returns c = record { ends = openings_end_by_one; back = clients_come_back }
