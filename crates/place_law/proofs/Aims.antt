@@ -1,5 +1,5 @@
 -- A reading of the place of a fetch: it stays so while the reading is of the same target, and no fetch begins.
-use Rattle.std.proofs.Common.{◌≡◌, ◌==◌, ◌&&◌, ℕ, Bool, true, List, [], ◌∷◌, Option, None, Some, refl, sym, ap, subst, ◌∙◌}
+use Rattle.std.proofs.Common.{◌≡◌, ◌==◌, ◌&&◌, ℕ, Bool, true, Option, None, Some, refl, sym, ap, subst, ◌∙◌}
 use Rattle.std.specs.List.{AllByRecursion}
 use Rattle.client_node.specs.Packets.{heard}
 use Rattle.client_node.specs.Reads.{is_fetched, kept_while, same_at, same_target, target_of}
@@ -30,14 +30,14 @@ use Rattle.xfs_base.proofs.BlockOrder.{same_block_exact}
 use Rattle.xfs_base.proofs.Booleans.{and_first, and_second, by_test, contrary}
 use Rattle.xfs_base.specs.Blocks.{same_block}
 use Rattle.xfs_base.specs.declared.block.BlockId.{BlockId}
-use Rattle.xfs_base.specs.declared.entry.Entry.{Entry}
 use Rattle.xfs_base.specs.declared.entry.Place.{Place}
 use Rattle.place_law.specs.Fetches.{place_read}
 
 -- the fetch of the block that is read is of the place that is read
 abbrev pub Its : Option ReadingState → TokensState → Type 0
 Its r t =
-    (x : ReadingState) (at : BlockAt) (f : Fetch) → r ≡ Some x → x.target.block ≡ Some at → (held_of t.blocks at.block).fetch ≡ Some f → f.place ≡ place_read x at
+    (x : ReadingState) (at : BlockAt) (f : Fetch) → r ≡ Some x → x.target.block ≡ Some at → (held_of t.blocks at.block).fetch ≡ Some f
+    → f.place ≡ place_read x at
 
 -- ---- the reading
 
@@ -63,7 +63,8 @@ HasPlace t block place = (f : Fetch) → (held_of t.blocks block).fetch ≡ Some
 one_at : (x y : BlockAt) → Some x ≡ Some y → x ≡ y
 one_at x y is = cc
 
-pub its_place : (x : ReadingState) (t : TokensState) (block : BlockId) (place : Place) → x.target ≡ target_of block place → HasPlace t block place → Its (Some x) t
+pub its_place : (x : ReadingState) (t : TokensState) (block : BlockId) (place : Place) → x.target ≡ target_of block place → HasPlace t block place
+    → Its (Some x) t
 its_place x t block place target has y at f is its fetch =
     let same : y.target ≡ target_of block place = ap (λ (r : ReadingState). r.target) (sym (one_reading x y is)) ∙ target in
     let here : record { item = place.item; block = block } ≡ at =

@@ -1,13 +1,12 @@
 -- What each event makes of a client: its reading is of the place of its fetch.
-use Rattle.std.proofs.Common.{ℕ, Option, Some, None, is_some, [], ◌∷◌, ◌≡◌, refl}
+use Rattle.std.proofs.Common.{ℕ, Option, Some, None, is_some, [], ◌∷◌, ◌≡◌}
 use Rattle.client_node.specs.declared.call.Going.{Going}
 use Rattle.client_node.specs.declared.client.Client.{Client}
 use Rattle.client_node.specs.declared.lasting.Lasting.{Lasting}
 use Rattle.client_node.specs.declared.phase.Phase.{Phase}
 use Rattle.client_node.specs.declared.phase.Phase.TheVariants.{Down, Opening, Serving as Serves}
 use Rattle.client_node.specs.declared.serving.Serving.{Serving}
-use Rattle.client_node.specs.Phases.{client_step, Went_to, after_opening, opened_on, begins_call, call_at, opens, wish_of, down_begins, opening_begins, serving_begins, lasting_of, begins_item, on_begin, on_deliver, on_time, delivers, happens, client_room, takes}
-use Rattle.client_node.specs.Reads.{reading_in}
+use Rattle.client_node.specs.Phases.{Went_to, after_opening, opened_on, begins_call, call_at, opens, wish_of, down_begins, opening_begins, serving_begins, lasting_of, begins_item, on_begin, on_deliver, on_time, delivers, happens, client_room}
 use Rattle.client_node.specs.Running.{goes_on}
 use Rattle.client_node.specs.Sends.{Done, gives}
 use Rattle.log_owner.specs.declared.opened.Progress.{Progress}
@@ -27,7 +26,6 @@ use Rattle.wire_msg.specs.declared.packet.Do.TheVariants.{Begin, Deliver, Tick}
 use Rattle.wire_msg.specs.declared.packet.Packet.{Packet}
 use Rattle.xfs_base.proofs.Booleans.{by_test}
 use Rattle.xfs_base.specs.Steps.{still}
-use Rattle.stripe_code.specs.Reading.{ReadingState}
 use Rattle.place_law.specs.Fetches.{ClientsKeepSo, ClientsStartSo, PhaseReadsItsFetch, ReadsItsFetch}
 use Rattle.place_law.proofs.Aims.{its_none}
 use Rattle.place_law.proofs.AimsReads.{Aimed, AnyGoingNew, begun_new}

@@ -1,5 +1,5 @@
--- While no place is granted, a client's reading stays that of its fetch, whatever its tokens, its cache and its log do: so it does beside any reading that is put by.
-use Rattle.std.proofs.Common.{◌≡◌, ℕ, Bool, true, false, cond, List, [], ◌∷◌, Option, Some, None, is_none, unwrap_or, refl, sym, ap, subst, ◌∙◌}
+-- A client's reading stays that of its fetch, whatever its tokens, its cache and its log do, also while a call is put by; where a place is granted it is read.
+use Rattle.std.proofs.Common.{◌≡◌, ℕ, Bool, true, List, [], ◌∷◌, Option, Some, None, is_none, unwrap_or, refl, sym, ap, ◌∙◌}
 use Rattle.std.specs.List.{AllByRecursion}
 use Rattle.std.specs.Prelude.{fold}
 use Rattle.client_node.specs.declared.call.Call.{Call}
@@ -9,8 +9,7 @@ use Rattle.client_node.specs.declared.call.Plan.{Plan}
 use Rattle.client_node.specs.declared.call.Plan.TheVariants.{One, File}
 use Rattle.client_node.specs.declared.serving.Serving.{Serving}
 use Rattle.client_node.specs.Follow.{evicts, notes_clean, notes_gone, notes_copy, seals, follows_one, follows, hands, takes_back}
-use Rattle.client_node.specs.Packets.{heard}
-use Rattle.client_node.specs.Reads.{ends_reading, with_reading, draws, reading_in, call_with, is_fetched, kept_while, loses, loses_at, group_in, begins_over, begins, confirmed_next, ask_after, drawn_after, confirms, target_of, same_target, reads_over, reads}
+use Rattle.client_node.specs.Reads.{ends_reading, with_reading, draws, reading_in, call_with, kept_while, loses, loses_at, group_in, begins_over, begins, confirmed_next, ask_after, drawn_after, confirms, target_of, same_target, reads_over, reads}
 use Rattle.client_node.specs.Running.{going_by, after_answer, may_make, file_call, call_of}
 use Rattle.client_node.specs.Sends.{Done}
 use Rattle.coop_cache.specs.declared.output.Out as cache_out
@@ -22,14 +21,11 @@ use Rattle.file_plan.specs.declared.block_call.Next.TheVariants.{Step as Steps, 
 use Rattle.file_plan.specs.declared.state.PlanState.{PlanState}
 use Rattle.file_plan.specs.Plan as plans
 use Rattle.group_map.specs.declared.group.Group.{Group}
-use Rattle.group_map.specs.GroupMapState.{GroupMapState}
 use Rattle.node_base.specs.Asking.{next_ask}
-use Rattle.segment_format.specs.declared.segment.Segment.{Segment}
 use Rattle.stripe_code.specs.declared.reading.Next.{Next}
 use Rattle.stripe_code.specs.declared.reading.Next.TheVariants as next
 use Rattle.stripe_code.specs.declared.reading.Stage.{Stage}
 use Rattle.stripe_code.specs.declared.reading.Stage.TheVariants.{Asking, Between, Doubted, Over}
-use Rattle.stripe_code.specs.declared.round.Told.{Told as Answered}
 use Rattle.stripe_code.specs.declared.target.BlockAt.{BlockAt}
 use Rattle.stripe_code.specs.declared.target.Target.{Target}
 use Rattle.stripe_code.specs.Reading.{ReadingState, Step, begun, on_confirmed}
@@ -43,18 +39,17 @@ use Rattle.version_model.specs.declared.file_call.FileCall.{FileCall}
 use Rattle.version_model.specs.declared.work.Work.{Work}
 use Rattle.version_model.specs.declared.work.Work.TheVariants as work
 use Rattle.xfs_base.proofs.Booleans.{by_test}
-use Rattle.xfs_base.proofs.StepLoops.{steps_keep}
 use Rattle.xfs_base.specs.declared.block.BlockId.{BlockId}
 use Rattle.xfs_base.specs.declared.entry.Place.{Place}
 use Rattle.xfs_base.specs.declared.segment.SegName.{SegName}
 use Rattle.xfs_base.specs.declared.token.Mode.TheVariants.{Nothing, Copy, Own}
 use Rattle.xfs_base.specs.declared.token.Stamp.{Stamp}
-use Rattle.xfs_base.specs.Modes.{same_mode, is_nothing, is_own}
+use Rattle.xfs_base.specs.Modes.{same_mode, is_nothing}
 use Rattle.xfs_base.specs.declared.token.Mode.{Mode}
 use Rattle.xfs_base.specs.declared.entry.Entry.{Entry}
 use Rattle.xfs_base.specs.Steps.{still}
 use Rattle.entry_tie.proofs.ClientReads.{OutTold}
-use Rattle.place_law.proofs.Aims.{Its, HasPlace, NoGrant, Nowhere, confirmed-target, its_heard, its_kept, its_none, its_place, its_same, its_taken, reads_nothing, target_exact}
+use Rattle.place_law.proofs.Aims.{Its, HasPlace, NoGrant, Nowhere, confirmed-target, its_kept, its_none, its_place, its_taken, reads_nothing, target_exact}
 use Rattle.token_client.specs.declared.held.Fetch.{Fetch}
 use Rattle.token_client.specs.declared.held.Held.{Held}
 use Rattle.token_client.specs.Held.{fetched_from}
@@ -259,7 +254,9 @@ module _ (s : Serving) (h : Alone s) (block : BlockId) (stamp : Stamp) (inc req 
   own_granted entry = hands_so None s (input.Granted block stamp inc req Own (record entry { place = None })) refl h
 
   -- a copy that lies at a place is read there
-  there : (ver : ℕ) (place : Place) → AloneDone (follows (ends_reading (record s { tokens = with_held s.tokens block (fetched_from (held_of s.tokens.blocks block) stamp ver place) })) (output.Read block place ∷ []))
+  there : (ver : ℕ) (place : Place)
+      → AloneDone (follows (ends_reading (record s { tokens = with_held s.tokens block (fetched_from (held_of s.tokens.blocks block) stamp ver place) }))
+      (output.Read block place ∷ []))
   unfolding follows follows_one
   there ver place =
       let g : Held = fetched_from (held_of s.tokens.blocks block) stamp ver place in
@@ -272,7 +269,8 @@ module _ (s : Serving) (h : Alone s) (block : BlockId) (stamp : Stamp) (inc req 
   unfolding hands client.on_granted follows
   copied ver hop None = hands_so None s (input.Granted block stamp inc req Copy (record { ver = ver; hop = hop; place = None })) refl h
   copied ver hop (Some place) =
-      by_test (λ (d : client.Done). AloneDone (follows (ends_reading (record s { tokens = d.state })) d.outs)) (client.accepts s.tokens block stamp inc req Copy)
+      by_test (λ (d : client.Done). AloneDone (follows (ends_reading (record s { tokens = d.state })) d.outs))
+      (client.accepts s.tokens block stamp inc req Copy)
       (record { state = with_held s.tokens block (fetched_from (held_of s.tokens.blocks block) stamp ver place); outs = output.Read block place ∷ [] })
       (still s.tokens) (λ _. there ver place) (λ _. ends_so None s h)
 
@@ -282,7 +280,8 @@ module _ (s : Serving) (h : Alone s) (block : BlockId) (stamp : Stamp) (inc req 
   unfolding hands client.on_granted follows
   nothing_granted ver hop None = hands_so None s (input.Granted block stamp inc req Nothing (record { ver = ver; hop = hop; place = None })) refl h
   nothing_granted ver hop (Some place) =
-      by_test (λ (d : client.Done). AloneDone (follows (ends_reading (record s { tokens = d.state })) d.outs)) (client.accepts s.tokens block stamp inc req Nothing)
+      by_test (λ (d : client.Done). AloneDone (follows (ends_reading (record s { tokens = d.state })) d.outs))
+      (client.accepts s.tokens block stamp inc req Nothing)
       (record { state = with_held s.tokens block (fetched_from (held_of s.tokens.blocks block) stamp ver place); outs = output.Read block place ∷ [] })
       (still s.tokens) (λ _. there ver place) (λ _. ends_so None s h)
 

@@ -1,5 +1,5 @@
 -- A client's reading stays that of its fetch, whatever packet comes, however its call runs and time passes.
-use Rattle.std.proofs.Common.{◌≡◌, ℕ, zero, suc, ◌+◌, ◌==◌, ◌&&◌, Bool, not, List, Option, Some, None, is_none, refl, sym, ap, subst}
+use Rattle.std.proofs.Common.{ℕ, zero, suc, ◌+◌, ◌==◌, ◌&&◌, Bool, not, List, Option, Some, None, is_none, sym, subst}
 use Rattle.std.specs.Prelude.{fold, nat_lt}
 use Rattle.std.specs.List.{AllByRecursion, list_any}
 use Rattle.client_log.specs.declared.input.In.{In as LogIn}
@@ -25,8 +25,6 @@ use Rattle.file_plan.specs.declared.block_call.BlockCall.{BlockCall}
 use Rattle.file_plan.specs.declared.block_call.BlockCall.TheVariants.{Get, Put, PutAt, Sync}
 use Rattle.group_map.specs.GroupMapState.{GroupMapState}
 use Rattle.log_owner.specs.Promised.{manager_set}
-use Rattle.log_owner.specs.Sending.{server_in}
-use Rattle.node_base.specs.declared.maps.Maps.{Maps}
 use Rattle.node_base.specs.Known.{names_known}
 use Rattle.node_base.specs.Maps.{fits, is_older, taken}
 use Rattle.node_base.specs.Room.{has_long_room}
@@ -64,7 +62,6 @@ use Rattle.xfs_base.specs.declared.token.Mode.TheVariants.{Copy, Own}
 use Rattle.xfs_base.specs.Modes.{is_held, is_nothing, is_own}
 use Rattle.xfs_base.specs.Steps.{still, after, steps}
 use Rattle.stripe_code.specs.Reading.{ReadingState}
-use Rattle.token_client.specs.State.{TokensState}
 use Rattle.entry_tie.proofs.ClientReads.{OutTold}
 use Rattle.place_law.proofs.Aims.{Nowhere, Its, its_heard, its_none, reads_nothing}
 use Rattle.place_law.proofs.AimsReads.{Aimed, GoingNew, ends_so, fold_keeps, follows_so, granted_so, hands_so, loses_so, next_new, notes_clean_so, notes_gone_so, read_so, seals_so, taken_so, takes_back_so}
@@ -291,14 +288,16 @@ unfolding promises
 promises_so s slot epoch manager h =
     let t : Serving = renews s slot epoch in
     let u : Serving = record t { managers = manager_set t.managers slot manager; tokens = (client.on_promise t.tokens slot epoch).state } in
-    let k : Alone (record t { tokens = (client.on_promise t.tokens slot epoch).state }) = taken_so None t (input.Promise slot epoch) tt (renews_so s slot epoch h) in
+    let k : Alone (record t { tokens = (client.on_promise t.tokens slot epoch).state }) =
+    taken_so None t (input.Promise slot epoch) tt (renews_so s slot epoch h) in
     ends_so None u (record { other = k.other; own = k.own })
 
 nothing_read : (s : Serving) (slot epoch manager : ℕ) → AllByRecursion (OutTold Nowhere) (promises s slot epoch manager).outs
 unfolding promises
 nothing_read s slot epoch manager = reads_nothing (renews s slot epoch).tokens (input.Promise slot epoch) tt
 
-follows_promise : (s : Serving) (slot epoch manager : ℕ) → Alone s → AloneDone (follows (promises s slot epoch manager).state (promises s slot epoch manager).outs)
+follows_promise : (s : Serving) (slot epoch manager : ℕ) → Alone s
+    → AloneDone (follows (promises s slot epoch manager).state (promises s slot epoch manager).outs)
 follows_promise s slot epoch manager h =
     follows_so None (promises s slot epoch manager).state (promises s slot epoch manager).outs (nothing_read s slot epoch manager)
     (promises_so s slot epoch manager h)

@@ -1,5 +1,5 @@
 -- In every run each Live that was sent answers a Check that was sent: managers alone send Lives, and each of them answers what was delivered.
-use Rattle.std.proofs.Common.{◌≡◌, ◌⊎◌, ◌<◌, inl, inr, ℕ, zero, suc, List, [], ◌∷◌, ◌++◌, map, take, refl, sym, ap, subst, ◌∙◌, arith}
+use Rattle.std.proofs.Common.{◌≡◌, ◌⊎◌, inl, inr, ℕ, zero, suc, List, [], ◌∷◌, ◌++◌, map, take, refl, sym, subst, ◌∙◌, arith}
 use Rattle.std.specs.List.{AllByRecursion, fold}
 use Rattle.cleaner_node.specs.CleanerEvents as cleaners
 use Rattle.client_node.specs.Phases as clients
@@ -8,7 +8,6 @@ use Rattle.core_world.specs.declared.any_node.AnyNode.{AnyNode}
 use Rattle.core_world.specs.declared.any_node.AnyNode.TheVariants as any
 use Rattle.node_base.specs.declared.effects.Effect.{Effect}
 use Rattle.node_base.specs.Effects.{packets_of}
-use Rattle.node_base.specs.Setups.{IsSetup}
 use Rattle.store_nodes.specs.RegistryEvents as registries
 use Rattle.store_nodes.specs.ServerEvents as servers
 use Rattle.token_protocol.specs.Basics.{In}
@@ -21,18 +20,16 @@ use Rattle.wire_msg.specs.declared.packet.Do.TheVariants.{Begin, Deliver, Tick}
 use Rattle.wire_msg.specs.declared.packet.Packet.{Packet}
 use Rattle.world_base.specs.Cluster.{cluster_of}
 use Rattle.world_base.specs.declared.cluster.Cluster.{Cluster}
-use Rattle.world_base.specs.declared.estate.Estate.{Estate}
 use Rattle.world_base.specs.declared.event.Event.{Event}
 use Rattle.world_base.specs.declared.event.Event.TheVariants as events
 use Rattle.world_base.specs.declared.world.World.{World}
 use Rattle.world_base.specs.Events.{what_of}
 use Rattle.world_base.specs.NextWorld.{next_world, sent_at, start_world}
-use Rattle.world_base.specs.Runs.{IsRun, Leads, MayHappen}
+use Rattle.world_base.specs.Runs.{Leads, MayHappen}
 use Rattle.world_law.proofs.Laws as tokens
 use Rattle.world_law.proofs.Sent.{in_append, sends, was_sent}
 use Rattle.world_law.proofs.Standing.{Fact, Scene, SentBy}
 use Rattle.world_law.proofs.Turning.{next_cluster, next_keeps}
-use Rattle.world_law.specs.Owners.{moment}
 use Rattle.xfs_base.specs.declared.node.NodeId.{NodeId}
 use Rattle.xfs_base.specs.declared.node.NodeId.TheVariants.{Client, Manager, Server, Cleaner, Registry}
 use Rattle.place_law.specs.Answers.{AnswersBody, AnswersDo, IfLive, ManagersAnswer, RunsAnswer}
@@ -104,7 +101,8 @@ module _ (k : Cluster) (part : ℕ) (s : Scene) (m : Live) where
       no_live q.from q.to q.body live (subst IsNoManager (sym from) other) fact
 
 -- what is known of packets is known of them with the clock
-clocked : (A : Live → Type 0) (clock : ℕ) (ps : List Packet) → AllByRecursion (λ (p : Packet). IfLive A p.body) ps → (q : Packet) → In q (map (sent_at clock) ps)
+clocked : (A : Live → Type 0) (clock : ℕ) (ps : List Packet) → AllByRecursion (λ (p : Packet). IfLive A p.body) ps → (q : Packet)
+    → In q (map (sent_at clock) ps)
     → IfLive A q.body
 clocked A clock [] all q is = absurd is
 clocked A clock (p ∷ ps) all q (inl is) = subst (λ (x : Packet). IfLive A x.body) (sym is) all.0
@@ -118,9 +116,12 @@ module _ (manager : ManagersAnswer) (k : Cluster) (s : Scene) (sent : List Packe
       → q.body ≡ body.Live m → Fact k 0 s q → LiveAnswers sent m
   fresh (any.Manager node) what was clock q m is live fact =
       do_answers sent what was m (subst (IfLive (AnswersDo what)) live (clocked (AnswersDo what) clock _ (manager node what) q is))
-  fresh (any.Client node) what was clock q m is live fact = absurd (none_sent k 0 s m (Client (clients.lasting_of node.phase).number) tt clock (clients.takes node what).outs q is live fact)
-  fresh (any.Server node) what was clock q m is live fact = absurd (none_sent k 0 s m (Server node.number) tt clock (servers.takes node what).outs q is live fact)
-  fresh (any.Cleaner node) what was clock q m is live fact = absurd (none_sent k 0 s m Cleaner tt clock (cleaners.takes node.peers node.phase what).outs q is live fact)
+  fresh (any.Client node) what was clock q m is live fact =
+      absurd (none_sent k 0 s m (Client (clients.lasting_of node.phase).number) tt clock (clients.takes node what).outs q is live fact)
+  fresh (any.Server node) what was clock q m is live fact =
+      absurd (none_sent k 0 s m (Server node.number) tt clock (servers.takes node what).outs q is live fact)
+  fresh (any.Cleaner node) what was clock q m is live fact =
+      absurd (none_sent k 0 s m Cleaner tt clock (cleaners.takes node.peers node.phase what).outs q is live fact)
   fresh (any.Registry node) what was clock q m is live fact = absurd (none_sent k 0 s m Registry tt clock (registries.takes node what).outs q is live fact)
 
   -- where each packet of then is a fact, each Live of then answers

@@ -1,12 +1,12 @@
 -- What a job of the cleaner asks for are Blocks of the filed segment that it has in hand: in the small world of a slot's index, whatever happens there.
-use Rattle.std.proofs.Common.{◌≡◌, ◌<◌, ◌≤◌, ◌-◌, ℕ, suc, ◌+◌, ◌==◌, Bool, true, false, cond, ◌&&◌, not, inl, inr, List, [], ◌∷◌, ◌++◌, length, map, Option, None, Some, refl, sym, ap, subst, ◌∙◌, arith}
+use Rattle.std.proofs.Common.{◌≡◌, ℕ, ◌+◌, ◌==◌, Bool, true, ◌&&◌, not, inl, inr, List, [], ◌∷◌, length, map, Option, None, Some, refl, sym, subst, arith}
 use Rattle.std.specs.List.{AllByRecursion}
 use Rattle.std.proofs.lemmas.Map.Views.{tells_apart}
 use Rattle.checkpoint.specs.WriterState.{Rows}
 use Rattle.filed_tie.proofs.Frames.{all_append}
 use Rattle.group_map.specs.GroupMapState.{GroupMapState}
 use Rattle.index_tie.proofs.Growth.{more_is_filed}
-use Rattle.index_tie.specs.Cleaning.{is_filed_name, IsWithin, ReadFor}
+use Rattle.index_tie.specs.Cleaning.{ReadFor}
 use Rattle.index_tie.specs.Filed.{Filed}
 use Rattle.index_tie.specs.Growth.{IsMore, with_segment}
 use Rattle.index_tie.specs.Net.{Net, Happens, IsOther, Runs, opening}
@@ -100,7 +100,8 @@ module _ (f : Filed) where
 
   lie_mapped : (g : Check → Check) → ((s : Segment) (c : Check) → CheckLies s c → CheckLies s (g c)) → (name : SegName) (checks : List Check)
       → ChecksLie f name checks → ChecksLie f name (map g checks)
-  lie_mapped g each name checks h = record { within = h.within; lie = λ is. (let s : Segment = f.segment name.log.0 name.seq in all_mapped s g (each s) checks (h.lie is)) }
+  lie_mapped g each name checks h =
+      record { within = h.within; lie = λ is. (let s : Segment = f.segment name.log.0 name.seq in all_mapped s g (each s) checks (h.lie is)) }
 
   next_keeps : (j : JobState) → Keeps (next j)
   next_keeps j = by j.left

@@ -1,21 +1,16 @@
 -- A Live that answers the cleaner's question tells a copy of what a filed segment says.
-use Rattle.std.proofs.Common.{◌≡◌, ◌<◌, ◌≤◌, ℕ, Bool, true, false, ◌==◌, List, [], ◌∷◌, Option, None, Some, refl, sym, ap, subst, ◌∙◌, arith}
+use Rattle.std.proofs.Common.{◌≡◌, ℕ, true, ◌==◌, List, [], ◌∷◌, Option, None, Some, refl, sym, ap, subst, ◌∙◌, arith}
 use Rattle.std.specs.Prelude.{IfSome}
 use Rattle.std.specs.List.{AllByRecursion}
 use Rattle.std.proofs.lemmas.Bool.Decides.{nat_tests}
-use Rattle.checkpoint.specs.WriterState.{Rows}
-use Rattle.cleaner_node.specs.declared.emptying.Emptying.{Emptying}
 use Rattle.cleaner_node.specs.declared.job.Job.{Job}
 use Rattle.cleaner_node.specs.Jobs.{check_of, hand_of, is_out}
-use Rattle.entry_tie.specs.Told.{told_by}
 use Rattle.index_reads.proofs.Worlds.{good}
-use Rattle.index_reads.specs.Ties.{Tied}
 use Rattle.index_tie.specs.Cleaning.{is_filed_name}
-use Rattle.index_tie.specs.Filed.{Filed, IsFiled, rows_at}
-use Rattle.index_tie.specs.Net as index
+use Rattle.index_tie.specs.Filed.{Filed}
 use Rattle.index_tie.specs.Net.{IsInHand}
 use Rattle.log_protocol.specs.Tables.{In}
-use Rattle.node_tie.specs.CleanerLogs.{FateTold, IsCopy, LiveTold, PhaseTold}
+use Rattle.node_tie.specs.CleanerLogs.{FateTold, PhaseTold}
 use Rattle.segment_format.specs.declared.segment.Item.TheVariants.{Block}
 use Rattle.segment_format.specs.declared.segment.Segment.{Segment}
 use Rattle.stripe_cleaner.specs.declared.checks.Check.{Check}
@@ -24,18 +19,14 @@ use Rattle.stripe_cleaner.specs.declared.checks.Fate.TheVariants.{Asked, Live as
 use Rattle.stripe_cleaner.specs.declared.phase.Phase.{Phase}
 use Rattle.stripe_cleaner.specs.declared.phase.Phase.TheVariants.{Greeting, Listing, Counting, Reading, Checking, Deleting, Over}
 use Rattle.stripe_cleaner.specs.Job.{same_name}
-use Rattle.token_law.specs.Books.{Books, Row, said}
-use Rattle.token_law.specs.Net as tokens
-use Rattle.wire_msg.specs.declared.cleaning.Live.{Live}
-use Rattle.wire_msg.specs.declared.packet.Packet.{Packet}
+use Rattle.token_law.specs.Books.{Books, said}
 use Rattle.xfs_base.proofs.BlockOrder.{same_block_exact}
 use Rattle.xfs_base.specs.Blocks.{same_block}
 use Rattle.xfs_base.specs.declared.block.BlockId.{BlockId}
 use Rattle.xfs_base.specs.declared.entry.Entry.{Entry}
 use Rattle.xfs_base.specs.declared.entry.Place.{Place}
 use Rattle.xfs_base.specs.declared.segment.SegName.{SegName}
-use Rattle.xfs_base.specs.declared.segment.SegRef.{SegRef}
-use Rattle.place_law.specs.Copies.{AreExact, AsksOfHand, CheckLies, ChecksLie, FateLies, HasJob, LiveAnswers, LivesAnswer, LivesTellCopies, PhaseLies}
+use Rattle.place_law.specs.Copies.{AreExact, CheckLies, FateLies, LiveAnswers, LivesTellCopies, PhaseLies}
 use Rattle.place_law.proofs.Checking.{jobs_checks_lie}
 use Rattle.place_law.proofs.Lying.{LiesAt, lies_there}
 
@@ -63,10 +54,10 @@ module _ (k : Books) (f : Filed) (exact : AreExact f) (b : BlockId) (e : Entry) 
     segment = place.seg.name.seq;
     filed = lies.filed;
     is =
-      let its : (said k place.seg.name.log.0 place.seg.name.seq b).value ≡ value =
-      lies.value ∙ exact _ _ lies.some lies.most b value e place (subst (λ x. In (Block x value) there.items) same is) lies.says at
-      in
-      λ i. record { version = sym lies.version i; value = sym its i };
+        let its : (said k place.seg.name.log.0 place.seg.name.seq b).value ≡ value =
+        lies.value ∙ exact _ _ lies.some lies.most b value e place (subst (λ x. In (Block x value) there.items) same is) lies.says at
+        in
+        λ i. record { version = sym lies.version i; value = sym its i };
   }
   fate_told block (IsLive entry value) same is = tt
   fate_told block Moved same is = tt
@@ -80,7 +71,8 @@ module _ (k : Books) (f : Filed) (exact : AreExact f) (b : BlockId) (e : Entry) 
   phase_told : (p : Phase) → PhaseLies f p → IsInHand place.seg.name p → PhaseTold k b e p
   phase_told (Checking j segment checks) h named =
       let is : is_filed_name f segment.name ≡ true =
-      subst (λ (n : SegName). is_filed_name f n ≡ true) (sym named) (subst (λ (n : SegName). same_name place.seg.name n ≡ true) lies.name (itself place.seg.name))
+      subst (λ (n : SegName). is_filed_name f n ≡ true) (sym named)
+      (subst (λ (n : SegName). same_name place.seg.name n ≡ true) lies.name (itself place.seg.name))
       in
       checks_told checks (subst (λ (n : SegName). AllByRecursion (CheckLies (f.segment n.log.0 n.seq)) checks) named (h.lie is))
   phase_told Greeting h named = tt
@@ -104,4 +96,5 @@ lives_tell_copies members part holds t i packets e p m tied exact has answers as
         let lie : PhaseLies i.filed job.cleaning.phase =
         subst (λ c. PhaseLies i.filed c.phase) (has job at) (jobs_checks_lie part holds tied.any i tied.index_run) in
         phase_told t.books i.filed exact m.block m.entry a.place a.at
-        (lies_there i.filed t.books m.block m.entry a.place (good members part holds t i tied).filed tied.books tied.plain a.at told) job.cleaning.phase lie named
+        (lies_there i.filed t.books m.block m.entry a.place (good members part holds t i tied).filed tied.books tied.plain a.at told)
+        job.cleaning.phase lie named

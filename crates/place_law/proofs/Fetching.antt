@@ -1,16 +1,12 @@
 -- What a client reads of the place of its fetch is what the filed segment there says.
-use Rattle.std.proofs.Common.{◌≡◌, ◌<◌, ◌≤◌, inl, inr, ℕ, Bool, true, false, nat_lt, List, Option, None, Some, refl, sym, ap, subst, ◌∙◌, arith}
-use Rattle.std.proofs.lemmas.Bool.Decides.{nat_tests}
+use Rattle.std.proofs.Common.{◌≡◌, ℕ, List, Option, None, Some, refl, sym, ap, subst, ◌∙◌}
 use Rattle.client_node.specs.declared.serving.Serving.{Serving}
-use Rattle.client_node.specs.Flights.{held_at}
 use Rattle.client_node.specs.Packets.{block_read, heard}
 use Rattle.client_node.specs.Reads.{reading_in, value_at}
 use Rattle.entry_tie.specs.ClientTells.{FetchTold}
 use Rattle.entry_tie.specs.Told.{PlaceTold, told_by}
-use Rattle.index_reads.specs.Rows.{LiesIn}
 use Rattle.index_reads.specs.Ties.{ArePlain, BooksAre}
-use Rattle.index_tie.specs.Filed as index
-use Rattle.index_tie.specs.Filed.{Filed, IsSegment, rows_at}
+use Rattle.index_tie.specs.Filed.{Filed, rows_at}
 use Rattle.log_owner.specs.Sending.{server_in}
 use Rattle.log_law.specs.Laws.{OneNameOneText}
 use Rattle.log_law.specs.Places.{APlaceNamesOneContent}
@@ -18,7 +14,6 @@ use Rattle.log_protocol.specs.Tables.{In}
 use Rattle.node_index_tie.specs.Sight.{Texts}
 use Rattle.node_tie.specs.ClientEvents.{ServingReads}
 use Rattle.node_tie.specs.ClientLogs.{BringsRead, Tells}
-use Rattle.node_tie.specs.LogRows.{rows_told}
 use Rattle.reading_tie.specs.Arrivals as came
 use Rattle.reading_tie.specs.Arrivals.{AnsweredIn, Cuts, answered_in, cut_by}
 use Rattle.reading_tie.specs.Came.{ReadsTarget}
@@ -30,19 +25,16 @@ use Rattle.stripe_code.specs.declared.round.Told.{Told as Answered}
 use Rattle.stripe_code.specs.declared.round.Told.TheVariants as answered
 use Rattle.stripe_code.specs.declared.target.BlockAt.{BlockAt}
 use Rattle.stripe_code.specs.Reading.{ReadingState}
-use Rattle.token_client.specs.declared.held.Fetch.{Fetch}
-use Rattle.token_law.specs.Books.{Books, row_in, said}
+use Rattle.token_law.specs.Books.{Books}
 use Rattle.token_law.specs.Net as tokens
 use Rattle.token_law.specs.Owed.{ReadsThere}
 use Rattle.wire_msg.specs.declared.body.Body.{Body}
 use Rattle.wire_msg.specs.declared.body.Body.TheVariants as body
 use Rattle.wire_msg.specs.declared.packet.Packet.{Packet}
-use Rattle.xfs_base.specs.declared.block.BlockId.{BlockId}
 use Rattle.xfs_base.specs.declared.entry.Entry.{Entry}
 use Rattle.xfs_base.specs.declared.entry.Place.{Place}
 use Rattle.xfs_base.specs.declared.node.NodeId.{NodeId}
 use Rattle.xfs_base.specs.declared.node.NodeId.TheVariants as node
-use Rattle.xfs_base.specs.declared.segment.SegName.{SegName}
 use Rattle.place_law.specs.Fetches.{FetchesReadThere, FetchesWell, place_read}
 use Rattle.place_law.specs.Reads.{FiledKnown, LogKnown, NamesItsGroup}
 use Rattle.place_law.proofs.Lying.{LiesAt, lies_there}

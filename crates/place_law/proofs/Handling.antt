@@ -1,11 +1,10 @@
 -- What the cleaner reads of the segment in its hand is the filed one.
-use Rattle.std.proofs.Common.{◌≡◌, ◌<◌, ◌≤◌, ℕ, true, Option, None, Some, refl, sym, ap, subst, ◌∙◌}
+use Rattle.std.proofs.Common.{◌≡◌, ℕ, true, Option, None, Some, refl, sym, ap, subst, ◌∙◌}
 use Rattle.std.specs.Prelude.{List}
 use Rattle.std.proofs.lemmas.Map.Views.{tells_apart}
 use Rattle.cleaner_node.specs.declared.emptying.Emptying.{Emptying}
 use Rattle.cleaner_node.specs.declared.hand.Hand.{Hand}
-use Rattle.cleaner_node.specs.declared.job.Job.{Job}
-use Rattle.cleaner_node.specs.Jobs.{hand_of, told_by}
+use Rattle.cleaner_node.specs.Jobs.{hand_of}
 use Rattle.index_tie.specs.Cleaning.{is_filed_name, ReadFor}
 use Rattle.index_tie.specs.Net as index
 use Rattle.log_law.specs.Laws.{OneNameOneText}
@@ -14,12 +13,11 @@ use Rattle.log_owner.specs.Sending.{server_in}
 use Rattle.log_protocol.specs.Tables.{In}
 use Rattle.node_index_tie.specs.Sight.{Texts}
 use Rattle.owner_index_tie.specs.CleanerEvents.{ReadGets}
-use Rattle.reading_tie.specs.Arrivals.{AnsweredIn, Cuts, Tells, answered_in, cut_by}
+use Rattle.reading_tie.specs.Arrivals.{Cuts, Tells, answered_in, cut_by}
 use Rattle.reading_tie.specs.CleanerReads.{CleanerReadsWhatCame, ReadsHand}
 use Rattle.segment_format.specs.declared.segment.Segment.{Segment}
 use Rattle.stripe_cleaner.specs.declared.phase.Phase.{Phase}
 use Rattle.stripe_cleaner.specs.declared.phase.Phase.TheVariants.{Greeting, Listing, Counting, Reading, Checking, Deleting, Over}
-use Rattle.stripe_code.specs.declared.reading.Next.TheVariants as next
 use Rattle.stripe_code.specs.declared.round.Told.{Told}
 use Rattle.stripe_code.specs.declared.round.Told.TheVariants.{Held, Missing}
 use Rattle.wire_msg.specs.declared.body.Body.{Body}
@@ -27,16 +25,17 @@ use Rattle.wire_msg.specs.declared.body.Body.TheVariants as body
 use Rattle.wire_msg.specs.declared.packet.Packet.{Packet}
 use Rattle.xfs_base.specs.declared.node.NodeId.TheVariants.{Cleaner}
 use Rattle.xfs_base.proofs.Orders.{seg_cmp_exact}
-use Rattle.xfs_base.specs.declared.segment.LogId.{LogId}
 use Rattle.xfs_base.specs.declared.segment.SegName.{SegName}
 use Rattle.place_law.specs.Hands.{AnswerReads, HandRefers, HandsReadTexts, ReadsWell, ReadsWithin}
 use Rattle.place_law.specs.Reads.{FiledKnown, LogKnown}
 use Rattle.place_law.proofs.Texts.{what_is_read_is_the_text}
 
-module _ (one : OneNameOneText) (place : APlaceNamesOneContent) (reads : CleanerReadsWhatCame) (texts : Texts) (packets : List Packet) (cuts : Cuts) (i : index.Net)
+module _ (one : OneNameOneText) (place : APlaceNamesOneContent) (reads : CleanerReadsWhatCame) (texts : Texts) (packets : List Packet) (cuts : Cuts)
+    (i : index.Net)
     (known : FiledKnown texts packets cuts i.filed) where
   -- what is read of the segment in hand, for a job in this phase
-  read_for : (o : Option Hand) (s : Segment) (p : Phase) → HandRefers texts o → ReadsWithin i.filed p → ReadsHand (answered_in packets Cleaner) (cut_by cuts) o s
+  read_for : (o : Option Hand) (s : Segment) (p : Phase) → HandRefers texts o → ReadsWithin i.filed p
+      → ReadsHand (answered_in packets Cleaner) (cut_by cuts) o s
       → ReadFor i.filed (Some s) p
   read_for None s p refers within is = absurd is
   read_for (Some hand) s (Reading j segment) refers within is = (within, λ filed named. at filed named)
@@ -72,4 +71,5 @@ module _ (one : OneNameOneText) (place : APlaceNamesOneContent) (reads : Cleaner
     answer_reads _ is = tt
 
 pub hands_read_texts : OneNameOneText → APlaceNamesOneContent → CleanerReadsWhatCame → HandsReadTexts
-hands_read_texts one place reads part texts packets cuts i e p known well among own = answer_reads one place reads texts packets cuts i known part e well p among own p.body refl
+hands_read_texts one place reads part texts packets cuts i e p known well among own =
+    answer_reads one place reads texts packets cuts i known part e well p among own p.body refl

@@ -1,5 +1,5 @@
 -- Where an entry that is told says that a block lies, a filed segment says so, and the books have the value that lies there.
-use Rattle.std.proofs.Common.{◌≡◌, ◌⊎◌, ◌<◌, ◌≤◌, inl, inr, ℕ, Bool, true, false, nat_lt, Option, None, Some, refl, sym, ap, subst, ◌∙◌, arith}
+use Rattle.std.proofs.Common.{◌≡◌, ◌<◌, ◌≤◌, inl, inr, ℕ, Bool, true, false, nat_lt, None, Some, refl, sym, ap, subst, ◌∙◌, arith}
 use Rattle.std.specs.Prelude.{Contains}
 use Rattle.std.proofs.lemmas.Bool.Decides.{nat_tests}
 use Rattle.client_node.specs.Reads.{value_at}
@@ -31,8 +31,8 @@ one_of_nine f filed l q some most = (least (nat_lt 0 l) refl, greatest (nat_lt 9
     greatest false is = grind (arith, nat_tests)
 
 module _ (f : Filed) (k : Books) (b : BlockId) (e : Entry) (place : Place) where
-  -- The log has filed a segment at this number, under the name of the place and in its group; that says the entry of the block, and the books have its version there,
-  -- and the value of the item that the place names.
+  -- The log has filed a segment at this number, under the name of the place and in its group; that says the entry of the block, and the books have its version
+  -- there, and the value of the item that the place names.
   pub record LiesAt (l q : ℕ) : Type 0 where
     pub some : 0 < q
     pub most : q ≤ f.head l

@@ -1,6 +1,6 @@
 -- Whatever happens to a manager, each Live that it sends answers the Check that was delivered.
-use Rattle.std.proofs.Common.{◌≡◌, ℕ, ◌==◌, List, [], ◌∷◌, true, false, Option, None, Some, is_some, length, refl}
-use Rattle.std.specs.List.{AllByRecursion, flat_map}
+use Rattle.std.proofs.Common.{ℕ, ◌==◌, List, [], ◌∷◌, true, false, Option, None, Some, is_some, length}
+use Rattle.std.specs.List.{AllByRecursion}
 use Rattle.std.specs.Prelude.{fold}
 use Rattle.checkpoint.specs.declared.input.In.{In}
 use Rattle.checkpoint.specs.declared.input.In.TheVariants as input
@@ -32,7 +32,6 @@ use Rattle.node_base.specs.Maps.{fits, forgotten, is_older, taken}
 use Rattle.node_base.specs.Shape.{is_well_formed}
 use Rattle.node_log_tie.proofs.Lists.{all_append, all_flat_map}
 use Rattle.segment_format.specs.declared.segment.Item.{Item}
-
 use Rattle.version_model.specs.declared.answer.Answer.TheVariants as answer
 use Rattle.version_model.specs.declared.work.Work.{Work}
 use Rattle.version_model.specs.declared.work.Work.TheVariants as work
@@ -50,7 +49,6 @@ use Rattle.xfs_base.specs.declared.news.SlotNews.{SlotNews}
 use Rattle.xfs_base.specs.declared.node.NodeId.{NodeId}
 use Rattle.xfs_base.specs.declared.node.NodeId.TheVariants.{Manager}
 use Rattle.xfs_base.specs.declared.segment.LogId.{LogId}
-use Rattle.xfs_base.specs.declared.setup.Setup.{Setup}
 use Rattle.xfs_base.specs.Steps.{still}
 use Rattle.client_log.specs.declared.output.Out.TheVariants as log_out
 use Rattle.manager_node.specs.Events.{manager_step}
@@ -149,7 +147,8 @@ module _ (A : Live → Type 0) where
 
   -- ---- the maps
 
-  hears_with_so : (s : Serving) (clients : ℕ) (slots : List SlotNews) (groups : Option GroupMapState) → AllSay A (serving.hears_with s clients slots groups).outs
+  hears_with_so : (s : Serving) (clients : ℕ) (slots : List SlotNews) (groups : Option GroupMapState)
+      → AllSay A (serving.hears_with s clients slots groups).outs
   hears_with_so s clients slots None = tt
   hears_with_so s clients slots (Some groups) = hears_say A (serving.hearer_of s clients groups) (serving.asker_of s) slots
 
@@ -310,7 +309,8 @@ module _ (A : Live → Type 0) where
   unfolding events.on_welcome
   welcomed_so peers kept hello m =
       let s : Serving = serving.again kept (forgotten peers.servers) m.news.groups in
-      by_test (λ (w : Went_to). AllSay A w.outs) (events.takes_welcome peers kept hello m) (serves (serving.on_news s peers.clients m.news)) (still (Waiting kept hello))
+      by_test (λ (w : Went_to). AllSay A w.outs) (events.takes_welcome peers kept hello m) (serves (serving.on_news s peers.clients m.news))
+      (still (Waiting kept hello))
       (λ t. news_so s peers.clients m.news)
       (λ t. tt)
 
@@ -333,7 +333,8 @@ module _ (A : Live → Type 0) where
   unfolding events.on_deliver
   event_so peers p Begin may = begins_so p
   event_so peers p (Deliver packet) may =
-      by_test (λ (w : Went_to). AllSay A w.outs) (is_well_formed peers packet) (events.on_packet peers p packet) (still p) (λ t. packet_so peers p packet may) (λ t. tt)
+      by_test (λ (w : Went_to). AllSay A w.outs) (is_well_formed peers packet) (events.on_packet peers p packet) (still p) (λ t. packet_so peers p packet may)
+      (λ t. tt)
   event_so peers p Tick may = time_so p
 
   happens_so : (m : ManagerNode) (what : Do) → ((l : Live) → AnswersDo what l → A l) → AllSay A (events.happens m what).outs

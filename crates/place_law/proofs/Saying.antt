@@ -7,7 +7,7 @@ use Rattle.node_base.specs.declared.effects.Effect.TheVariants.{Send, Answer, Lo
 use Rattle.node_log_tie.proofs.Lists.{all_append, answers_send}
 use Rattle.version_model.specs.declared.answer.Answer.{Answer as Answered}
 use Rattle.wire_msg.specs.declared.cleaning.Live.{Live}
-use Rattle.xfs_base.specs.Steps.{Stepped, after, still, steps}
+use Rattle.xfs_base.specs.Steps.{Stepped, steps}
 use Rattle.place_law.specs.Answers.{IfLive}
 
 module _ (A : Live → Type 0) where

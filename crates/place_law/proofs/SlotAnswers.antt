@@ -92,8 +92,11 @@ module _ (A : Live → Type 0) where
     found_so epoch entry = by (is_place entry.place check.place) refl
       where
         by : (t : Bool) → is_place entry.place check.place ≡ t → AllSay A (flat_map (tokens.check_said check epoch) (cond t (out.Live entry) out.Dead ∷ []))
-        by true is =
-            (may (record { block = check.block; ask = check.ask; epoch = epoch; entry = entry }) (record { block = refl; ask = refl; at = is_at entry.place check.place is }), tt)
+        by true is = (
+          may (record { block = check.block; ask = check.ask; epoch = epoch; entry = entry })
+              (record { block = refl; ask = refl; at = is_at entry.place check.place is }),
+          tt,
+        )
         by false is = (tt, tt)
 
     check_so : (p : SlotPhase) → AllSay A (tokens.on_check p check).outs
@@ -135,7 +138,8 @@ module _ (A : Live → Type 0) where
 
   pub checks_say : (t : Table) (check : Check) → ((m : Live) → AnswersCheck check m → A m) → AllSay A (table.on_check t check).outs
   unfolding table.on_check
-  checks_say t check may = in_slot_so t (slot_of check.block.ino.0) (λ p. tokens.on_check p check) (check_so check may) (slice_get t (slot_of check.block.ino.0))
+  checks_say t check may =
+      in_slot_so t (slot_of check.block.ino.0) (λ p. tokens.on_check p check) (check_so check may) (slice_get t (slot_of check.block.ino.0))
 
   pub usages_say : (t : Table) (asked : UsageAsk) → AllSay A (table.on_usage_ask t asked)
   unfolding table.on_usage_ask

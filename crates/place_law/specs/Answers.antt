@@ -1,5 +1,5 @@
 -- Managers alone answer Live, and each Live answers a Check, of its block and its question, at the place that its entry has.
-use Rattle.std.specs.Prelude.{◌≡◌, ℕ, List, Some}
+use Rattle.std.specs.Prelude.{◌≡◌, ℕ, Some}
 use Rattle.std.specs.List.{AllByRecursion}
 use Rattle.core_world.specs.AnyNode.{any_start, any_step}
 use Rattle.core_world.specs.declared.any_node.AnyNode.{AnyNode}

@@ -62,4 +62,5 @@ pub record FetchesWell (packets : List Packet) (to : NodeId) (cuts : Cuts) (f : 
 abbrev pub FetchesReadThere : Type 0
 FetchesReadThere =
     (texts : Texts) (packets : List Packet) (to : NodeId) (cuts : Cuts) (f : Filed) (s : Serving) (p : Packet) (part most c : ℕ) (n : tokens.Net)
-    → FiledKnown texts packets cuts f → BooksAre n.books f → ArePlain f → FetchesWell packets to cuts f s → In p packets → p.to ≡ to → ServingReads part most c n s p p.body
+    → FiledKnown texts packets cuts f → BooksAre n.books f → ArePlain f → FetchesWell packets to cuts f s → In p packets → p.to ≡ to
+    → ServingReads part most c n s p p.body

@@ -25,8 +25,8 @@ use Rattle.xfs_base.specs.declared.segment.SegRef.{SegRef}
 
 -- ---- what is known of a log
 
--- The small world of a log at a moment: each segment that was in flight there is the text of its name, each fragment of the log that these packets bear was sent
--- there, and its group ids name stripes that are cut so.
+-- The small world of a log at a moment: each segment that was in flight there is the text of its name, each fragment of the log that these packets bear was
+-- sent there, and its group ids name stripes that are cut so.
 pub record LogKnown (texts : Texts) (packets : List Packet) (cuts : Cuts) (log : LogId) : Type 0 where
   pub setting : Setting
   pub net : Net

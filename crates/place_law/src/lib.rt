@@ -10,7 +10,10 @@ ghost use Rattle.place_law.specs.Reads.{TakeoversReadTexts, WhatIsReadIsTheText}
 
 use log_law::{a_place_names_one_content, one_name_one_text};
 use manager_log_tie::what_is_told_is_in_range;
-use node_tie::{client_events_are_seen, clients_ask_for_their_call, manager_events_are_seen, other_events_are_seen};
+use node_tie::{
+    client_events_are_seen, clients_ask_for_their_call, manager_events_are_seen,
+    other_events_are_seen,
+};
 use reading_tie::{cleaner_reads_what_came, clients_read_what_came, managers_read_what_came};
 
 /// What is read under a name is the text of the name.
