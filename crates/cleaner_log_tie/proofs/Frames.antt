@@ -3,6 +3,7 @@ use Rattle.std.proofs.Common.{◌≡◌, ℕ, List, [], ◌∷◌, Option, Some,
 use Rattle.std.specs.Prelude.{IfSome}
 use Rattle.std.specs.List.{AllByRecursion}
 use Rattle.client_log.specs.declared.input.In.{In as LogIn}
+use Rattle.client_log.specs.declared.input.In.TheVariants as log_in
 use Rattle.client_log.specs.LogState.{FlightState}
 use Rattle.client_log.specs.Transition as log
 use Rattle.node_base.specs.declared.effects.Effect.{Effect}
@@ -214,9 +215,10 @@ module _ (g : Setting) where
       pub boot : next.net.inc ≡ w.net.inc
       pub kept : next.net.dropped ≡ w.net.dropped
 
-    took_so : (w : Scene) (e : Emptying) (d : log.Done) → Stands g w e → logs.Took g its_number w its_number e.lasting.inc e.lasting.questions.last d
+    took_so : (w : Scene) (e : Emptying) (i : LogIn) (d : log.Done) → Stands g w e
+        → logs.Took g its_number w its_number e.lasting.inc e.lasting.questions.last i d
         → LogTook w e d
-    took_so w e d h t = record {
+    took_so w e i d h t = record {
       next = t.next;
       grown = owner_grows w t.next t.grown;
       stands = record { lasts = t.stands.lasts; log = t.stands.sees; written = t.stands.written; job = job_more w t.next (owner_grows w t.next t.grown) e h };
@@ -231,13 +233,14 @@ module _ (g : Setting) where
 
     pub log_takes : (w : Scene) (e : Emptying) (i : LogIn) → Stands g w e → CameToLog w.net i → InputFits i → LogTook w e (log.transition e.log i)
     log_takes w e i h came fits =
-        took_so w e (log.transition e.log i) h (logs.takes g its_number w e.log its_number e.lasting.inc e.lasting.questions.last i (as_client w e h) came fits)
+        took_so w e i (log.transition e.log i) h
+        (logs.takes g its_number w e.log its_number e.lasting.inc e.lasting.questions.last i (as_client w e h) came fits)
 
     pub log_takes_stored : (w : Scene) (e : Emptying) (name : SegName) (index generation : ℕ) → Stands g w e
         → (is_of_log g name ≡ true → In (StoredSent name index generation) w.net.sent)
         → LogTook w e (log.on_acked e.log name index generation)
     log_takes_stored w e name index generation h seen =
-        took_so w e (log.on_acked e.log name index generation) h
+        took_so w e (log_in.Acked name index generation) (log.on_acked e.log name index generation) h
         (logs.takes_stored g its_number w e.log its_number e.lasting.inc e.lasting.questions.last name index generation (as_client w e h) seen)
 
   -- ---- how it goes on

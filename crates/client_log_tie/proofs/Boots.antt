@@ -7,7 +7,7 @@ use Rattle.log_owner.specs.declared.opening.Stage.TheVariants as stage
 use Rattle.log_tie.specs.Setting.{Setting}
 use Rattle.log_law.specs.Net.{Net}
 use Rattle.log_law.specs.Openings.{boot_of}
-use Rattle.log_law.specs.Restarts.{is_down}
+use Rattle.log_law.specs.Restarts.{is_down, is_serving}
 use Rattle.client_log_tie.specs.Owner.{Scene, SeesStage, SeesLog}
 
 up_boot : (n : Net) → is_down n.owner ≡ false → boot_of n ≡ n.inc
@@ -21,6 +21,11 @@ module _ (g : Setting) (c : ℕ) (w : Scene) where
   pub stage_up : (k : Known) (last : ℕ) (at : Stage) → SeesStage g c w k last at → is_down w.net.owner ≡ false
   stage_up k last (stage.Scanning s) sees = ap is_down sees.owner
   stage_up k last (stage.Settling s) sees = ap is_down sees.owner
+
+  -- one that opens its log doesn't serve
+  pub stage_away : (k : Known) (last : ℕ) (at : Stage) → SeesStage g c w k last at → is_serving w.net.owner ≡ false
+  stage_away k last (stage.Scanning s) sees = ap is_serving sees.owner
+  stage_away k last (stage.Settling s) sees = ap is_serving sees.owner
 
   pub log_up : (s : LogState) → SeesLog g c w s → is_down w.net.owner ≡ false
   log_up s sees = ap is_down sees.owner

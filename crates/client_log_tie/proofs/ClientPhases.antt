@@ -59,7 +59,9 @@ use Rattle.client_log_tie.specs.Texts.{StaysWritten}
 use Rattle.opening_law.specs.Questions.{AsksOn, ProgressAsks}
 use Rattle.opening_law.proofs.Asking.{packet_few, starts_few, tick_few}
 use Rattle.client_log_tie.specs.ClientEvents.{StageWritten, StageTells, PhaseWritten, PhaseOwed, PacketOwed, ClientOwed, FliesInBoot, Grown, NeverServes}
-use Rattle.client_log_tie.proofs.Boots.{same_boot, stage_up, log_up}
+use Rattle.client_log_tie.specs.Puts.{PutsOwn}
+use Rattle.client_log_tie.proofs.Boots.{same_boot, stage_away, stage_up, log_up}
+use Rattle.client_log_tie.proofs.Puts.{took_nothing}
 use Rattle.client_log_tie.proofs.Frames.{ClientDoes, ClientDid}
 use Rattle.client_log_tie.proofs.Frames as frames
 use Rattle.client_log_tie.proofs.OpeningEvents as events
@@ -90,6 +92,7 @@ module _ (g : Setting) (c : ℕ) (is : g.log ≡ record { 0 = c }) (small : is_l
         does = plain w;
         flies = inr (refl, refl);
         straight = once_straight g w.net w.net (frames.grown_still g w).runs (frames.still_once g w);
+        puts = λ s owns serves. took_nothing PutsOwn w.net s owns;
       }
 
   still_so : (p : Phase) → ClientAgrees g c w p → PhaseWritten p → Goes (still p)
@@ -163,6 +166,7 @@ module _ (g : Setting) (c : ℕ) (is : g.log ≡ record { 0 = c }) (small : is_l
     does = plain (fallen w);
     flies = inr ((fall_of w.net).flown, (fall_of w.net).filed);
     straight = away_straight g w.net (fallen w).net (fallen_grown w).runs (fallen_never w) (ap is_serving (fall_of w.net).down);
+    puts = λ s owns serves. contrary (sym (ap is_serving (fall_of w.net).down) ∙ serves);
   }
 
   crash_said : (l : Lasting) (number : ℕ) → frames.Plain g c (crashed l number).outs
@@ -228,6 +232,7 @@ module _ (g : Setting) (c : ℕ) (is : g.log ≡ record { 0 = c }) (small : is_l
             (All-nil (ClientDoes g c v));
         flies = inr (refl, refl);
         straight = record { never = λ e. (refl, (refl, tt)); once = λ a b. contrary b };
+        puts = λ s owns serves. contrary serves;
       }
 
   down_begins_so : (servers number : ℕ) (l : Lasting) (wanted : Option Work) → ClientAgrees g c w (Down l) → has_room l.inc ≡ true
@@ -254,14 +259,16 @@ module _ (g : Setting) (c : ℕ) (is : g.log ≡ record { 0 = c }) (small : is_l
         (All-append (ClientDoes g c v) (pushes_all r.promised.managers r.feed) (answers_unanswered l.items.unanswered answer.Done)
         (tokens.plain_pushes_all g c r.promised.managers r.feed v) (tokens.plain_answers g c l.items.unanswered answer.Done v))
 
-    opened_so : (capacity : ℕ) (x : Went) → LastsAs g c w l → is_down w.net.owner ≡ false → WentTo g c w l.number l.inc x → AsksOn x
+    opened_so : (capacity : ℕ) (x : Went) → LastsAs g c w l → is_down w.net.owner ≡ false → is_serving w.net.owner ≡ false
+        → WentTo g c w l.number l.inc x → AsksOn x
         → Goes (opened_on l capacity x)
-    opened_so capacity x lasts up t few = by_progress x.progress t.shows t.lost few
+    opened_so capacity x lasts up away t few = by_progress x.progress t.shows t.lost few
       where
         in_boot : is_down t.next.net.owner ≡ false → FliesInBoot w.net t.next.net
         in_boot still_up = inl (same_boot w.net t.next.net up still_up (t.lasts.inc ∙ sym lasts.inc))
 
-        by_progress : (p : Progress) → ProgressSeen g c t.next x.questions.last p → (IsLost g c p → (t.next.net.flown ≡ w.net.flown) × ((t.next.net.filed ≡ w.net.filed) × (is_serving t.next.net.owner ≡ false)))
+        by_progress : (p : Progress) → ProgressSeen g c t.next x.questions.last p
+            → (IsLost g c p → (t.next.net.flown ≡ w.net.flown) × ((t.next.net.filed ≡ w.net.filed) × (is_serving t.next.net.owner ≡ false)))
             → ProgressAsks p x.questions.last
             → Goes (after x.effects (after_opening (record l { questions = x.questions }) capacity p))
         by_progress (progress.Opening o) shows lost asks = record {
@@ -272,6 +279,7 @@ module _ (g : Setting) (c : ℕ) (is : g.log ≡ record { 0 = c }) (small : is_l
           does = All-append (ClientDoes g c t.next) x.effects [] t.does (All-nil (ClientDoes g c t.next));
           flies = in_boot (stage_up g c t.next o.known x.questions.last o.stage shows.0);
           straight = once_straight g w.net t.next.net t.grown.runs t.once;
+          puts = λ s owns serves. contrary (sym away ∙ ap is_serving owns);
         }
         by_progress (progress.Opened r) shows lost asks = record {
           next = t.next;
@@ -281,6 +289,7 @@ module _ (g : Setting) (c : ℕ) (is : g.log ≡ record { 0 = c }) (small : is_l
           does = All-append (ClientDoes g c t.next) x.effects _ t.does (back_said r t.next);
           flies = in_boot (log_up g c t.next r.log shows.0);
           straight = once_straight g w.net t.next.net t.grown.runs t.once;
+          puts = λ s owns serves. contrary (sym away ∙ ap is_serving owns);
         }
         by_progress (progress.Lost seg) shows lost asks = record {
           next = fallen t.next;
@@ -295,6 +304,7 @@ module _ (g : Setting) (c : ℕ) (is : g.log ≡ record { 0 = c }) (small : is_l
               (frames.never_on g w t.next (fallen t.next) t.grown (fallen_grown t.next)
               ((once_straight g w.net t.next.net t.grown.runs t.once).never (lost tt).1.1) (fallen_never t.next))
               (ap is_serving (fall_of t.next.net).down);
+          puts = λ s owns serves. contrary (sym away ∙ ap is_serving owns);
         }
 
   its_log : is_log g.log.0 ≡ true
@@ -314,6 +324,7 @@ module _ (g : Setting) (c : ℕ) (is : g.log ≡ record { 0 = c }) (small : is_l
     does = p.does;
     flies = inl (same_boot w.net p.next.net (log_up g c w log sees) (log_up g c p.next d.state.log p.stands.sees) p.boot);
     straight = served_straight g w.net p.next.net p.grown.runs (ap is_serving sees.owner) (ap is_serving p.stands.sees.owner);
+    puts = λ s owns serves. p.puts s owns;
   }
 
   stands : (s : Serving) → ClientAgrees g c w (Serves s) → StaysWritten s.log → AtServing s
@@ -380,6 +391,7 @@ module _ (g : Setting) (c : ℕ) (is : g.log ≡ record { 0 = c }) (small : is_l
   on_deliver_so capacity (Down l) packet sees written brings life room = still_so (Down l) sees tt
   on_deliver_so capacity (Opening l o) packet sees written brings life room =
       opened_so l capacity (opening.on_packet o l.questions packet) sees.0 (stage_up g c w o.known l.questions.last o.stage sees.1)
+      (stage_away g c w o.known l.questions.last o.stage sees.1)
       (events.packet_so g c its_log w l.number l.inc l.questions sees.0 room o packet brings.own brings.seen brings.fits
       (record { sees = sees.1; written = written; owed = owed l o sees brings.scans life room }))
       (packet_few o l.questions packet room sees.2)
@@ -400,6 +412,7 @@ module _ (g : Setting) (c : ℕ) (is : g.log ≡ record { 0 = c }) (small : is_l
   on_time_so capacity (Down l) sees written tells life room = still_so (Down l) sees tt
   on_time_so capacity (Opening l o) sees written tells life room =
       opened_so l capacity (opening.on_tick o l.questions) sees.0 (stage_up g c w o.known l.questions.last o.stage sees.1)
+      (stage_away g c w o.known l.questions.last o.stage sees.1)
       (events.tick_so g c its_log w l.number l.inc l.questions sees.0 room o
       (record { sees = sees.1; written = written; owed = owed l o sees tells life room }))
       (tick_few o l.questions room sees.2)

@@ -72,4 +72,5 @@ client_takes g c is small w client what sees written owed =
       own = all_own g c (lasting_of client.phase).number number d.next (takes client what).outs all;
       flies = d.flies;
       straight = d.straight;
+      puts = d.puts;
     }

@@ -1,5 +1,5 @@
 -- What a client puts fits the format of a segment, by the test that it puts by.
-use Rattle.std.proofs.Common.{◌≡◌, ◌<◌, ◌≤◌, ℕ, ◌+◌, ◌^◌, ◌&&◌, Bool, true, List, [], ◌∷◌, length, Option, Some, None, nat_lt, nat_le, cond, sym, ap, subst, ◌∙◌, arith}
+use Rattle.std.proofs.Common.{◌≡◌, ◌<◌, ◌≤◌, ℕ, ◌+◌, ◌^◌, ◌&&◌, Bool, true, List, [], ◌∷◌, length, Option, Some, None, nat_lt, nat_le, cond, refl, sym, ap, subst, ◌∙◌, arith}
 use Rattle.std.specs.Prelude.{IfSome}
 use Rattle.std.specs.List.{list_all}
 use Rattle.std.proofs.lemmas.Bool.Decides.{nat_tests}
@@ -20,6 +20,8 @@ use Rattle.xfs_base.proofs.Booleans.{and_first, and_second}
 use Rattle.xfs_base.specs.declared.block.BlockId.{BlockId}
 use Rattle.xfs_base.specs.declared.entry.Entry.{Entry}
 use Rattle.xfs_base.specs.Steps.{still}
+use Rattle.client_log.specs.declared.input.In.TheVariants.{Put}
+use Rattle.client_log_tie.specs.Puts.{PutsOwn}
 use Rattle.client_log_tie.specs.Texts.{PutFits}
 
 below : (n m : ℕ) → nat_lt n m ≡ true → n < m
@@ -82,3 +84,11 @@ put_is_fit s block value may h =
     entry_fits block (written_as s block value) next value (ap (λ (v : ℕ). record { ver = v; hop = 0; place = None }) (wrote_next s block value may))
     (and_first (block_fits block) (nat_lt next (2 ^ 64) && value_fits value) h) (and_first (nat_lt next (2 ^ 64)) (value_fits value) rest)
     (and_second (nat_lt next (2 ^ 64)) (value_fits value) rest)
+
+-- and is a version from 1 on, at first hand
+pub put_is_own : (s : Serving) (block : BlockId) (value : Option (List ℕ)) → may_write (held_at s block) ≡ true
+    → PutsOwn (Put block (written_as s block value) value)
+put_is_own s block value may = (subst (λ n. 0 < n) (sym (wrote_next s block value may)) (some (held_at s block).ver), refl)
+  where
+    some : (n : ℕ) → 0 < n + 1
+    some n = omega arith

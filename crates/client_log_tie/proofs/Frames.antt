@@ -2,6 +2,7 @@
 use Rattle.std.proofs.Common.{◌≡◌, ℕ, List, [], ◌∷◌, ◌++◌, refl, ◌∙◌, subst, sym, ap, inl, inr, arith}
 use Rattle.std.specs.Prelude.{All, fold}
 use Rattle.std.proofs.lemmas.List.Elements.{All-nil, All-append, All-weaker}
+use Rattle.client_log.specs.History.{state_after}
 use Rattle.client_log.specs.LogState.{LogState}
 use Rattle.client_node.specs.declared.serving.Serving.{Serving}
 use Rattle.client_node.specs.Sends.{Done, gives}
@@ -19,13 +20,16 @@ use Rattle.fragment_store.specs.ShelfState.{ShelfState}
 use Rattle.log_protocol.specs.Tables.{In}
 use Rattle.log_tie.specs.Setting.{Setting}
 use Rattle.log_law.specs.Net.{Net}
+use Rattle.log_law.specs.Net.{Owner as owner}
 use Rattle.log_law.specs.Events.{Runs}
 use Rattle.log_law.specs.Events.Runs.{Begun, On}
 use Rattle.node_log_tie.specs.Sight.{Question, AskedBy, AnsweredBy, ReachedBy, BodySeen}
 use Rattle.node_log_tie.specs.Sight.Question.{Unasked, OfMaps, OfOpening}
 use Rattle.client_node.specs.declared.phase.Phase.{Phase}
 use Rattle.client_log_tie.specs.Owner.{Scene, asker, Lasts, SeesLog, ClientAgrees}
+use Rattle.client_log_tie.specs.Puts.{LogTook, PutsOwn, ServesBy}
 use Rattle.client_log_tie.specs.Texts.{StaysWritten}
+use Rattle.client_log_tie.proofs.Puts.{took_both, took_nothing}
 use Rattle.client_log_tie.specs.ClientEvents.{ActSeen, OfItsLog, PhaseWritten, FliesInBoot, Grown, IsOnce, NeverServes, ServesStraight}
 
 -- ---- lists
@@ -120,6 +124,7 @@ module _ (g : Setting) (c : ℕ) where
     pub does : All (ClientDoes next) outs
     pub flies : FliesInBoot w.net next.net
     pub straight : ServesStraight grown.runs
+    pub puts : ServesBy PutsOwn w.net next.net
 
   -- ---- what was seen is seen
 
@@ -213,21 +218,22 @@ module _ (g : Setting) (c : ℕ) where
     pub stands : Stands next log its life last
     pub does : All (ClientDoes next) outs
     pub boot : next.net.inc ≡ w.net.inc
+    pub puts : (s : LogState) → w.net.owner ≡ owner.Serving s → LogTook PutsOwn w.net next.net s
 
   abbrev pub Goes : Scene → Done → Type 0
   Goes w d = Gone w d.state.log d.state.lasting.number d.state.lasting.inc d.state.lasting.questions.last d.outs
 
   -- nothing is done
   pub goes_still : (w : Scene) (s : Serving) → At w s → Goes w (still s)
-  goes_still w s h = record { next = w; grown = grown_still g w; stands = h; does = All-nil (ClientDoes w); boot = refl }
+  goes_still w s h = record { next = w; grown = grown_still g w; stands = h; does = All-nil (ClientDoes w); boot = refl; puts = took_nothing PutsOwn w.net }
 
   -- what may be done in any world
   pub goes_plain : (w : Scene) (s : Serving) (outs : List Effect) → At w s → Plain outs → Goes w (gives s outs)
-  goes_plain w s outs h plain = record { next = w; grown = grown_still g w; stands = h; does = plain w; boot = refl }
+  goes_plain w s outs h plain = record { next = w; grown = grown_still g w; stands = h; does = plain w; boot = refl; puts = took_nothing PutsOwn w.net }
 
   -- what is seen already
   pub goes_seen : (w : Scene) (s : Serving) (outs : List Effect) → At w s → All (ClientDoes w) outs → Goes w (gives s outs)
-  goes_seen w s outs h seen = record { next = w; grown = grown_still g w; stands = h; does = seen; boot = refl }
+  goes_seen w s outs h seen = record { next = w; grown = grown_still g w; stands = h; does = seen; boot = refl; puts = took_nothing PutsOwn w.net }
 
   -- one thing follows another, in a world that grew
   pub goes_on_in : (w : Scene) (d e : Done) → Goes w d → ((v : Scene) → Grown g w v → At v d.state → Goes v e) → Goes w (after d.outs e)
@@ -239,14 +245,26 @@ module _ (g : Setting) (c : ℕ) where
         stands = q.stands;
         does = All-append (ClientDoes q.next) d.outs e.outs (all_more p.next q.next q.grown d.outs p.does) q.does;
         boot = q.boot ∙ p.boot;
+        puts = λ s is.
+            let a : LogTook PutsOwn w.net p.next.net s = p.puts s is in
+            took_both PutsOwn w.net p.next.net q.next.net s a (q.puts (state_after s a.inputs) a.serves);
       }
 
   pub goes_on : (w : Scene) (d e : Done) → Goes w d → ((v : Scene) → At v d.state → Goes v e) → Goes w (after d.outs e)
   goes_on w d e p f = goes_on_in w d e p (λ v grown h. f v h)
 
-  pub goes_from : (w v : Scene) (d : Done) → Grown g w v → v.net.inc ≡ w.net.inc → Goes v d → Goes w d
-  goes_from w v d grown boot p =
-      record { next = p.next; grown = grown_on g w v p.next grown p.grown; stands = p.stands; does = p.does; boot = p.boot ∙ boot }
+  pub goes_from : (w v : Scene) (d : Done) → Grown g w v → v.net.inc ≡ w.net.inc
+      → ((s : LogState) → w.net.owner ≡ owner.Serving s → LogTook PutsOwn w.net v.net s) → Goes v d → Goes w d
+  goes_from w v d grown boot puts p = record {
+    next = p.next;
+    grown = grown_on g w v p.next grown p.grown;
+    stands = p.stands;
+    does = p.does;
+    boot = p.boot ∙ boot;
+    puts = λ s is.
+        let a : LogTook PutsOwn w.net v.net s = puts s is in
+        took_both PutsOwn w.net v.net p.next.net s a (p.puts (state_after s a.inputs) a.serves);
+  }
 
   -- a change of what the small world doesn't see, with more that may be done in any world, before or after
   pub goes_and_gives : (w : Scene) (d : Done) (s : Serving) (outs : List Effect) → Goes w d → ((v : Scene) → At v d.state → At v s) → Plain outs
@@ -260,6 +278,7 @@ module _ (g : Setting) (c : ℕ) where
     stands = p.stands;
     does = All-append (ClientDoes p.next) outs d.outs (plain p.next) p.does;
     boot = p.boot;
+    puts = p.puts;
   }
 
   -- a list of steps

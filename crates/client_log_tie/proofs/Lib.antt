@@ -1,3 +1,4 @@
+pub mod Puts
 mod Starts
 pub mod Frames
 pub mod Boots

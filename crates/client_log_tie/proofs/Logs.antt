@@ -27,6 +27,7 @@ use Rattle.log_tie.specs.Setting.{Setting}
 use Rattle.log_tie.specs.Shelves.{is_of_log}
 use Rattle.log_law.specs.Net.{Packet, log_packets, after_log}
 use Rattle.log_law.specs.Net.Packet.{StoredSent}
+use Rattle.log_law.specs.Net.Owner.{Serving}
 use Rattle.log_law.specs.Events.{IsWritten, WritesText, CameToLog}
 use Rattle.log_law.specs.Events.Happens.{Acts}
 use Rattle.log_law.specs.Events.Runs.{Begun, On}
@@ -34,8 +35,10 @@ use Rattle.node_log_tie.proofs.OwnLogs.{SendsOwn, own_log}
 use Rattle.client_log_tie.specs.Owner.{Scene, IsOwn}
 use Rattle.client_log_tie.specs.Texts.{InputFits, StaysWritten}
 use Rattle.client_log_tie.specs.ClientEvents.{Grown}
+use Rattle.client_log_tie.specs.Puts.{LogTook}
 use Rattle.client_log_tie.proofs.Frames as frames
 use Rattle.client_log_tie.proofs.Frames.{in_after, in_before}
+use Rattle.client_log_tie.proofs.Puts.{one_log, took_nothing}
 
 -- ---- it stays the owner's
 
@@ -159,7 +162,7 @@ writes_text s i h fits = h (i ∷ []) (fits, tt)
 
 module _ (g : Setting) (c : ℕ) where
   -- the world then: the log stands in it, and what it said is seen
-  pub record Took (w : Scene) (its life last : ℕ) (d : Done) : Type 0 where
+  pub record Took (w : Scene) (its life last : ℕ) (i : Input) (d : Done) : Type 0 where
     pub next : Scene
     pub grown : Grown g w next
     pub stands : frames.Stands g c next d.state its life last
@@ -167,9 +170,10 @@ module _ (g : Setting) (c : ℕ) where
     pub filed : (name : SegName) → In name (log_filed g.log d.outs) → In name next.net.filed
     pub mine : AllByRecursion (SendsOwn g.log) d.outs
     pub boot : next.net.inc ≡ w.net.inc
+    pub puts : (s : LogState) → w.net.owner ≡ Serving s → LogTook (λ j. j ≡ i) w.net next.net s
 
   pub takes : (w : Scene) (s : LogState) (its life last : ℕ) (i : Input) → frames.Stands g c w s its life last → CameToLog w.net i → InputFits i
-      → Took w its life last (transition s i)
+      → Took w its life last i (transition s i)
   takes w s its life last i h came fits =
       let d : Done = transition s i in
       record {
@@ -193,11 +197,14 @@ module _ (g : Setting) (c : ℕ) where
         filed = λ name is. in_before (log_filed g.log d.outs) w.net.filed name is;
         mine = (own_log g.log s i (record { log = h.sees.own.log; flight = h.sees.own.flight })).outs;
         boot = refl;
+        puts = λ t is.
+            subst (λ (u : LogState). LogTook (λ j. j ≡ i) w.net (after_log g w.net d) u) (one_log s t w.net h.sees.owner is)
+            (record { inputs = i ∷ []; all = (refl, tt); serves = refl; flown = refl });
       }
 
   -- nothing is taken
-  pub takes_nothing : (w : Scene) (s : LogState) (its life last : ℕ) → frames.Stands g c w s its life last → Took w its life last (still s)
-  takes_nothing w s its life last h = record {
+  pub takes_nothing : (w : Scene) (s : LogState) (its life last : ℕ) (i : Input) → frames.Stands g c w s its life last → Took w its life last i (still s)
+  takes_nothing w s its life last i h = record {
     next = w;
     grown = frames.grown_still g w;
     stands = h;
@@ -205,13 +212,16 @@ module _ (g : Setting) (c : ℕ) where
     filed = λ name is. absurd is;
     mine = tt;
     boot = refl;
+    puts = took_nothing (λ j. j ≡ i) w.net;
   }
 
   -- a Stored, of this log where it was seen
   pub takes_stored : (w : Scene) (s : LogState) (its life last : ℕ) (name : SegName) (index generation : ℕ) → frames.Stands g c w s its life last
-      → (is_of_log g name ≡ true → In (StoredSent name index generation) w.net.sent) → Took w its life last (transition s (Acked name index generation))
+      → (is_of_log g name ≡ true → In (StoredSent name index generation) w.net.sent)
+      → Took w its life last (Acked name index generation) (transition s (Acked name index generation))
   takes_stored w s its life last name index generation h seen = by_log (is_of_log g name) refl
     where
-      by_log : (t : _) → is_of_log g name ≡ t → Took w its life last (transition s (Acked name index generation))
+      by_log : (t : _) → is_of_log g name ≡ t → Took w its life last (Acked name index generation) (transition s (Acked name index generation))
       by_log true own = takes w s its life last (Acked name index generation) h (seen own) tt
-      by_log false own = subst (Took w its life last) (sym (foreign_acked g s name index generation h.sees.own own)) (takes_nothing w s its life last h)
+      by_log false own = subst (Took w its life last (Acked name index generation)) (sym (foreign_acked g s name index generation h.sees.own own))
+          (takes_nothing w s its life last (Acked name index generation) h)

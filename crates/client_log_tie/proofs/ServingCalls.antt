@@ -29,7 +29,7 @@ use Rattle.xfs_base.specs.Modes.{is_nothing}
 use Rattle.xfs_base.specs.Steps.{after}
 use Rattle.log_tie.specs.Setting.{Setting}
 use Rattle.client_log_tie.specs.Owner.{Scene}
-use Rattle.client_log_tie.proofs.Fitting.{written_as, put_is_fit}
+use Rattle.client_log_tie.proofs.Fitting.{written_as, put_is_fit, put_is_own}
 use Rattle.client_log_tie.proofs.Frames as frames
 use Rattle.client_log_tie.proofs.ServingLog as flights
 use Rattle.client_log_tie.proofs.ServingTokens as tokens
@@ -65,7 +65,7 @@ module _ (g : Setting) (c : ℕ) (is : g.log ≡ record { 0 = c }) where
   changes_so w s block value may fits h =
       let t : Serving = wrote s block value in
       frames.goes_after g c w (Does (Wrote s.lasting.number block value) ∷ []) (put_of t block value) (tokens.plain_one g c _ (λ v. tt))
-      (flights.puts_so g c is w t block (written_as s block value) value h (put_is_fit s block value may fits))
+      (flights.puts_so g c is w t block (written_as s block value) value h (put_is_own s block value may) (put_is_fit s block value may fits))
 
   changes_if_fits_so : (w : Scene) (s : Serving) (block : BlockId) (value : Option (List ℕ)) → may_write (held_at s block) ≡ true → At w s
       → Goes w (changes_if_fits s block value).done

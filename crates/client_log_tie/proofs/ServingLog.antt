@@ -35,6 +35,8 @@ use Rattle.log_tie.specs.Shelves.{is_of_log}
 use Rattle.log_law.specs.Net.{Packet, log_packets}
 use Rattle.log_law.specs.Net.Packet.{StoredSent, MapSent}
 use Rattle.node_log_tie.proofs.OwnLogs.{SendsOwn}
+use Rattle.client_log_tie.specs.Puts.{PutsOwn}
+use Rattle.client_log_tie.proofs.Puts.{took_such}
 use Rattle.client_log_tie.specs.Owner.{Scene}
 use Rattle.client_log_tie.specs.Texts.{InputFits, MapFits}
 use Rattle.client_log_tie.proofs.Frames.{ClientDoes}
@@ -116,35 +118,36 @@ module _ (g : Setting) (c : ℕ) (is : g.log ≡ record { 0 = c }) where
       by_test (λ (d : Done). Goes w d) (settling && is_giving s.tokens) (seals s) (still s) (λ t. tokens.seals_so g c w s h) (λ t. tokens.still_so g c w s h)
 
   abbrev pub Took : Scene → Serving → Input → Type 0
-  Took w s i = logs.Took g c w s.lasting.number s.lasting.inc s.lasting.questions.last (log.transition s.log i)
+  Took w s i = logs.Took g c w s.lasting.number s.lasting.inc s.lasting.questions.last i (log.transition s.log i)
 
-  writes_from : (w : Scene) (s : Serving) (i : Input) → Took w s i → Goes w (writes s i)
+  writes_from : (w : Scene) (s : Serving) (i : Input) → PutsOwn i → Took w s i → Goes w (writes s i)
   unfolding writes
-  writes_from w s i k =
+  writes_from w s i own k =
       let r : log.Done = log.transition s.log i in
       let t : Serving = record s { log = r.state } in
       let d : Done = steps writes_one t r.outs in
       frames.goes_from g c w k.next (writes s i) k.grown k.boot
+      (λ l is. took_such (λ j. j ≡ i) PutsOwn (λ j same. subst PutsOwn (sym same) own) w.net k.next.net l (k.puts l is))
       (frames.goes_on g c k.next d (seals_again d.state (list_any is_settling r.outs)) (all_written k.next t r.outs k.stands k.sent k.filed k.mine)
       (λ v h. seals_again_so v d.state (list_any is_settling r.outs) h))
 
   -- ---- its inputs
 
-  pub puts_so : (w : Scene) (s : Serving) (block : BlockId) (entry : Entry) (value : Option (List ℕ)) → At w s → InputFits (log_in.Put block entry value)
-      → Goes w (writes s (log_in.Put block entry value))
-  puts_so w s block entry value h fits =
+  pub puts_so : (w : Scene) (s : Serving) (block : BlockId) (entry : Entry) (value : Option (List ℕ)) → At w s → PutsOwn (log_in.Put block entry value)
+      → InputFits (log_in.Put block entry value) → Goes w (writes s (log_in.Put block entry value))
+  puts_so w s block entry value h own fits =
       let i : Input = log_in.Put block entry value in
-      writes_from w s i (logs.takes g c w s.log s.lasting.number s.lasting.inc s.lasting.questions.last i h tt fits)
+      writes_from w s i own (logs.takes g c w s.log s.lasting.number s.lasting.inc s.lasting.questions.last i h tt fits)
 
   pub ticks_so : (w : Scene) (s : Serving) → At w s → Goes w (writes s log_in.Tick)
-  ticks_so w s h = writes_from w s log_in.Tick (logs.takes g c w s.log s.lasting.number s.lasting.inc s.lasting.questions.last log_in.Tick h tt tt)
+  ticks_so w s h = writes_from w s log_in.Tick tt (logs.takes g c w s.log s.lasting.number s.lasting.inc s.lasting.questions.last log_in.Tick h tt tt)
 
   pub maps_so : (w : Scene) (s : Serving) (m : GroupMapState) → At w s → In (MapSent m) w.net.sent → MapFits m → Goes w (writes s (log_in.Maps m))
   maps_so w s m h came fits =
-      writes_from w s (log_in.Maps m) (logs.takes g c w s.log s.lasting.number s.lasting.inc s.lasting.questions.last (log_in.Maps m) h came fits)
+      writes_from w s (log_in.Maps m) tt (logs.takes g c w s.log s.lasting.number s.lasting.inc s.lasting.questions.last (log_in.Maps m) h came fits)
 
   pub stored_so : (w : Scene) (s : Serving) (name : SegName) (index generation : ℕ) → At w s
       → (is_of_log g name ≡ true → In (StoredSent name index generation) w.net.sent) → Goes w (writes s (log_in.Acked name index generation))
   stored_so w s name index generation h seen =
-      writes_from w s (log_in.Acked name index generation)
+      writes_from w s (log_in.Acked name index generation) tt
       (logs.takes_stored g c w s.log s.lasting.number s.lasting.inc s.lasting.questions.last name index generation h seen)

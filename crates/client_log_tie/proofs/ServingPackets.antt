@@ -52,6 +52,8 @@ use Rattle.log_law.specs.Net.Packet.{MapSent}
 use Rattle.log_law.specs.Events.Runs.{Begun}
 use Rattle.node_log_tie.specs.Sight.{BodySeen, AskedBy}
 use Rattle.node_log_tie.specs.Sight.Question.{OfMaps}
+use Rattle.client_log_tie.specs.Puts.{PutsOwn}
+use Rattle.client_log_tie.proofs.Puts.{took_nothing}
 use Rattle.client_log_tie.specs.Owner.{Scene, asker}
 use Rattle.client_log_tie.specs.Texts.{MapFits}
 use Rattle.client_log_tie.specs.ClientEvents.{BodyFits}
@@ -238,6 +240,7 @@ module _ (g : Setting) (c : ℕ) (is : g.log ≡ record { 0 = c }) where
             (record { own = λ e. subst (AskedBy g (asker c v) v.net s.lasting.inc) (sym (put_here w.asked number OfMaps)) tt; reached = tt })
             (All-nil (ClientDoes g c v));
         boot = refl;
+        puts = took_nothing PutsOwn w.net;
       }
 
   -- ---- a packet

@@ -1,5 +1,5 @@
 -- What a client that serves does at an input of its tokens: the cache, the readings, the seals of its log, and what it says.
-use Rattle.std.proofs.Common.{ℕ, ◌==◌, Bool, List, [], ◌∷◌, map, Option, Some, None, is_none, refl, inl, inr, arith}
+use Rattle.std.proofs.Common.{ℕ, ◌==◌, Bool, List, [], ◌∷◌, map, Option, Some, None, is_none, refl, inl, inr, arith, ◌≡◌, sym, subst}
 use Rattle.std.specs.Prelude.{All}
 use Rattle.std.specs.List.{AllByRecursion, flat_map}
 use Rattle.std.proofs.lemmas.List.Elements.{All-nil, All-cons, All-map}
@@ -52,6 +52,8 @@ use Rattle.log_protocol.specs.Tables.{In}
 use Rattle.log_tie.specs.Setting.{Setting}
 use Rattle.log_law.specs.Net.{Packet, log_packets}
 use Rattle.node_log_tie.proofs.OwnLogs.{SendsOwn}
+use Rattle.client_log_tie.specs.Puts.{PutsOwn}
+use Rattle.client_log_tie.proofs.Puts.{took_such}
 use Rattle.client_log_tie.specs.Owner.{Scene}
 use Rattle.client_log_tie.proofs.Frames.{ClientDoes}
 use Rattle.client_log_tie.proofs.Frames as frames
@@ -137,9 +139,16 @@ module _ (g : Setting) (c : ℕ) where
   pub seals_so : (w : Scene) (s : Serving) → At w s → Goes w (seals s)
   unfolding seals
   seals_so w s h =
-      let k : logs.Took g c w s.lasting.number s.lasting.inc s.lasting.questions.last (log.on_seal s.log) =
+      let k : logs.Took g c w s.lasting.number s.lasting.inc s.lasting.questions.last log_in.Seal (log.on_seal s.log) =
       logs.takes g c w s.log s.lasting.number s.lasting.inc s.lasting.questions.last log_in.Seal h tt tt in
-      record { next = k.next; grown = k.grown; stands = k.stands; does = stored_seen k.next (log.on_seal s.log).outs k.sent k.mine; boot = k.boot }
+      record {
+        next = k.next;
+        grown = k.grown;
+        stands = k.stands;
+        does = stored_seen k.next (log.on_seal s.log).outs k.sent k.mine;
+        boot = k.boot;
+        puts = λ l is. took_such (λ j. j ≡ log_in.Seal) PutsOwn (λ j same. subst PutsOwn (sym same) tt) w.net k.next.net l (k.puts l is);
+      }
 
   -- ---- readings
 
@@ -237,4 +246,4 @@ module _ (g : Setting) (c : ℕ) where
   takes_back_so w s block stamp keep h =
       let d : Done = hands s (input.Recalled block stamp keep) in
       let p : Goes w d = hands_so w s (input.Recalled block stamp keep) h in
-      record { next = p.next; grown = p.grown; stands = notes_gone_so p.next d.state block p.stands; does = p.does; boot = p.boot }
+      record { next = p.next; grown = p.grown; stands = notes_gone_so p.next d.state block p.stands; does = p.does; boot = p.boot; puts = p.puts }

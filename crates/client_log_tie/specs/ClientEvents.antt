@@ -37,6 +37,7 @@ use Rattle.log_law.specs.Restarts.{is_serving}
 use Rattle.node_log_tie.specs.Sight.{AllSeen, PacketSeen}
 use Rattle.node_log_tie.specs.Sight.Question.{Unasked}
 use Rattle.client_log_tie.specs.Owner.{Scene, asker, ClientAgrees}
+use Rattle.client_log_tie.specs.Puts.{PutsOwn, ServesBy}
 use Rattle.client_log_tie.specs.Texts.{MapFits, StaysWritten}
 
 -- ---- what the world owes it
@@ -142,6 +143,7 @@ pub record ClientGoes (g : Setting) (c : ℕ) (w : Scene) (d : NodeStep clients.
   pub own : All (λ (p : packets.Packet). OfItsLog g p.body) d.packets
   pub flies : FliesInBoot w.net next.net
   pub straight : ServesStraight grown.runs
+  pub puts : ServesBy PutsOwn w.net next.net
 
 -- Each event of a client is a run of the small world of its log.
 abbrev pub ClientTakes : Type 0

@@ -1,3 +1,4 @@
 pub mod Owner
 pub mod Texts
+pub mod Puts
 pub mod ClientEvents

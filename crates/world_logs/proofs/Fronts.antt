@@ -41,7 +41,7 @@ use Rattle.world_logs.proofs.Goods as logs
 use Rattle.world_logs.proofs.Goods.{Good, Known, NodeLaws}
 use Rattle.world_logs.proofs.Groups.{GroupsStay, StayIn, in_run}
 use Rattle.world_logs.proofs.Leading.{LeadsOn}
-use Rattle.world_logs.specs.Lines.{GrowsBy, IsLeft, moment_then, StraightBy}
+use Rattle.world_logs.specs.Lines.{GrowsBy, IsLeft, moment_then, PutsBy, StraightBy}
 use Rattle.world_logs.specs.Roles.{Role, log_by, owner_by, renews}
 use Rattle.world_logs.proofs.Says.{may_say}
 use Rattle.world_logs.proofs.Settings.{names_at_end}
@@ -239,11 +239,12 @@ module _ (laws : NodeLaws) (stay : GroupsStay) (base : Setting) (end : World Any
     pub joined : later ≡ moment_then at runs
     pub own : (event : Event) → o ≡ Some event → owner_by r ≡ node_of event → GrowsBy (g r) r w v
     pub straight : (event : Event) → o ≡ Some event → owner_by r ≡ node_of event → StraightBy r runs
+    pub puts : (event : Event) → o ≡ Some event → owner_by r ≡ node_of event → PutsBy r w.net v.net
     pub left : (event : Event) → o ≡ Some event → (owner_by r ≡ node_of event → ⊥) → IsLeft w.net v.net
     pub ended : o ≡ None → v ≡ w
 
   none_left : (r : Role) (w : Scene) (at : Moment (g r) w.net) → Steps r None w at w at
-  none_left r w at = record { runs = Begun; joined = refl; own = λ event is. absurd cc; straight = λ event is. absurd cc; left = λ event is. absurd cc; ended = λ is. refl }
+  none_left r w at = record { runs = Begun; joined = refl; own = λ event is. absurd cc; straight = λ event is. absurd cc; puts = λ event is. absurd cc; left = λ event is. absurd cc; ended = λ is. refl }
 
   same_event : (x y : Event) → Some x ≡ Some y → x ≡ y
   same_event x y is = cc
@@ -256,6 +257,7 @@ module _ (laws : NodeLaws) (stay : GroupsStay) (base : Setting) (end : World Any
     joined = l.joined;
     own = λ event is e. l.own (e ∙ ap node_of (sym (same_event x event is)));
     straight = λ event is e. l.straight (e ∙ ap node_of (sym (same_event x event is)));
+    puts = λ event is e. l.puts (e ∙ ap node_of (sym (same_event x event is)));
     left = λ event is away. l.left (λ e. away (e ∙ ap node_of (same_event x event is)));
     ended = λ is. absurd cc;
   }

@@ -144,6 +144,7 @@ module _ (laws : NodeLaws) (stay : GroupsStay) (base : Setting) (e : Estate AnyN
     joined = λ count. (steps count r there).joined;
     own = λ count. (steps count r there).own;
     straight = λ count. (steps count r there).straight;
+    puts = λ count. (steps count r there).puts;
     others = λ count. (steps count r there).left;
     ended = λ count. (steps count r there).ended;
   }

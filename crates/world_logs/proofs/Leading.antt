@@ -1,4 +1,6 @@
 -- How the small world of a log leads on from one moment of a run to the next: by the owner where the event is its own, and else with the log left as it was.
+use Rattle.client_log_tie.proofs.Puts.{took_nothing}
+use Rattle.client_log_tie.specs.Puts.{PutsOwn}
 use Rattle.client_log_tie.proofs.Straight.{once_straight}
 use Rattle.std.proofs.Common.{◌≡◌, ℕ, List, ap, refl}
 use Rattle.cleaner_log_tie.proofs.Frames.{still_grows}
@@ -10,7 +12,7 @@ use Rattle.log_law.specs.Laws.{Moment}
 use Rattle.log_law.specs.Net.{Net, Owner}
 use Rattle.log_tie.specs.Setting.{Setting}
 use Rattle.segment_format.specs.declared.segment.Segment.{Segment}
-use Rattle.world_logs.specs.Lines.{GrowsBy, IsLeft, moment_then, StraightBy}
+use Rattle.world_logs.specs.Lines.{GrowsBy, IsLeft, moment_then, PutsBy, StraightBy}
 use Rattle.world_logs.specs.Roles.{Role, owner_by}
 use Rattle.world_logs.specs.Roles.Role.{OfClient, OfCleaner, OfManager}
 use Rattle.xfs_base.specs.declared.node.NodeId.{NodeId}
@@ -50,6 +52,7 @@ pub record LeadsOn (g : Setting) (r : Role) (name : NodeId) (w : Scene) (at : Mo
   pub joined : later ≡ moment_then at runs
   pub own : owner_by r ≡ name → GrowsBy g r w v
   pub straight : owner_by r ≡ name → StraightBy r runs
+  pub puts : owner_by r ≡ name → PutsBy r w.net v.net
   pub left : (owner_by r ≡ name → ⊥) → IsLeft w.net v.net
 
 still_straight : (g : Setting) (r : Role) (n : Net) → StraightBy {g = g} {n = n} {next = n} r Begun
@@ -57,6 +60,11 @@ still_straight g (OfClient c) n = once_straight g n n Begun tt
 still_straight g OfCleaner n = once_straight g n n Begun tt
 still_straight g (OfManager j) n = tt
 
+still_puts : (r : Role) (n : Net) → PutsBy r n n
+still_puts (OfClient c) n = λ s owns serves. took_nothing PutsOwn n s owns
+still_puts OfCleaner n = tt
+still_puts (OfManager j) n = tt
+
 -- where nothing happens
 pub stands_still : (g : Setting) (r : Role) (name : NodeId) (w : Scene) (at : Moment g w.net) → LeadsOn g r name w at w at
-stands_still g r name w at = record { runs = Begun; joined = refl; own = λ e. grows_still g r w; straight = λ e. still_straight g r w.net; left = λ away. left_by w.net w.net refl }
+stands_still g r name w at = record { runs = Begun; joined = refl; own = λ e. grows_still g r w; straight = λ e. still_straight g r w.net; puts = λ e. still_puts r w.net; left = λ away. left_by w.net w.net refl }

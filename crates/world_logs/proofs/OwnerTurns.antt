@@ -57,6 +57,7 @@ module _ (g : Setting) (c : ℕ) (w : Scene) (d : NodeStep ClientNode) (go : Cli
     runs = go.grown.runs;
     own = λ e. go.grown;
     straight = λ e. go.straight;
+    puts = λ e. go.puts;
     left = λ away. absurd (away refl);
     there = λ e. record { agrees = go.agrees; written = go.written; room = room };
     others = others;
@@ -88,6 +89,7 @@ module _ (g : Setting) (j : ℕ) (w : Scene) (asks : (k : ℕ) → w.asked k ≡
     runs = go.grown.runs;
     own = λ e. go.grown;
     straight = λ e. tt;
+    puts = λ e. tt;
     left = λ away. absurd (away refl);
     there = λ e. go.agrees;
     others = manager_others;
@@ -119,6 +121,7 @@ module _ (g : Setting) (w : Scene) (d : NodeStep CleanerNode) (go : OwnerGoes g 
     runs = go.grown.runs;
     own = λ e. go.grown;
     straight = λ e. go.straight;
+    puts = λ e. tt;
     left = λ away. absurd (away refl);
     there = record { agrees = go.agrees; room = room };
     others = cleaner_others;
@@ -139,6 +142,7 @@ module _ (g : Setting) (r : Role) (w : Scene) where
     runs = Begun;
     own = λ e. absurd (away e);
     straight = λ e. absurd (away e);
+    puts = λ e. absurd (away e);
     left = λ no. left_by w.net w.net refl;
     there = there;
     others = record {

@@ -83,6 +83,7 @@ module _ (g : Setting) (r : Role) (is : IsOf g r) (w : Scene) where
     runs = go.runs;
     own = λ e. absurd (no_server r v e);
     straight = λ e. absurd (no_server r v e);
+    puts = λ e. absurd (no_server r v e);
     left = λ away. left_by w.net go.next (ap its_of go.rest);
     there = go.seen;
     others = keeps g r is w go.next go.runs (Server v) (ap (λ (n : Net). n.inc) go.rest) (ap (λ (n : Net). n.owner) go.rest)
@@ -101,6 +102,7 @@ module _ (g : Setting) (r : Role) (is : IsOf g r) (w : Scene) where
     runs = go.runs;
     own = λ e. absurd (no_registry r e);
     straight = λ e. absurd (no_registry r e);
+    puts = λ e. absurd (no_registry r e);
     left = λ away. left_by w.net go.next (ap its_of go.rest);
     there = go.seen;
     others = keeps g r is w go.next go.runs Registry (ap (λ (n : Net). n.inc) go.rest) (ap (λ (n : Net). n.owner) go.rest)
@@ -121,6 +123,7 @@ module _ (g : Setting) (r : Role) (is : IsOf g r) (w : Scene) where
     runs = go.runs;
     own = λ e. absurd (away e);
     straight = λ e. absurd (away e);
+    puts = λ e. absurd (away e);
     left = λ no. left_by w.net go.next (ap its_of go.rest);
     there = seen (record w { net = go.next }) (cleaner_step node what).node.phase go.seen;
     others = keeps g r is w go.next go.runs Cleaner (ap (λ (n : Net). n.inc) go.rest) (ap (λ (n : Net). n.owner) go.rest)

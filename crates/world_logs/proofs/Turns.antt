@@ -30,7 +30,7 @@ use Rattle.world_law.proofs.Sent.{at_clock, in_append}
 use Rattle.world_law.specs.Owners.{node_in}
 use Rattle.world_logs.proofs.Lists.{in_after, in_before, in_map}
 use Rattle.world_logs.proofs.Leading.{LeadsOn}
-use Rattle.world_logs.specs.Lines.{GrowsBy, IsLeft, moment_then, StraightBy}
+use Rattle.world_logs.specs.Lines.{GrowsBy, IsLeft, moment_then, PutsBy, StraightBy}
 use Rattle.world_logs.specs.Roles.{Role, asker_by, owner_by}
 use Rattle.world_logs.proofs.Standing.{stands_so}
 use Rattle.world_logs.specs.Standing.{CleanerAs, ClientAs, Deletes, ManagerAs, Seen, Stands}
@@ -83,6 +83,7 @@ pub record Turn (g : Setting) (r : Role) (w v : Scene) (name : NodeId) (after : 
   pub runs : Runs g w.net v.net
   pub own : owner_by r ≡ name → GrowsBy g r w v
   pub straight : owner_by r ≡ name → StraightBy r runs
+  pub puts : owner_by r ≡ name → PutsBy r w.net v.net
   pub left : (owner_by r ≡ name → ⊥) → IsLeft w.net v.net
   pub there : Seen g r v name after
   pub others : Keeps g r w v name
@@ -142,4 +143,4 @@ module _ (g : Setting) (r : Role) (w v : Scene) (k : Cluster) (nodes : List AnyN
   }
 
   pub turned : Next g r w st.moment name k nodes_now sent_now (told ++ acts)
-  turned = record { scene = v; stands = stood; leads = record { runs = t.runs; joined = refl; own = t.own; straight = t.straight; left = t.left } }
+  turned = record { scene = v; stands = stood; leads = record { runs = t.runs; joined = refl; own = t.own; straight = t.straight; puts = t.puts; left = t.left } }

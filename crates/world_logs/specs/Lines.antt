@@ -3,6 +3,7 @@ use Rattle.std.specs.Prelude.{◌≡◌, ℕ, suc, Some, None, slice_get}
 use Rattle.cleaner_log_tie.specs.OwnerEvents.{Grows}
 use Rattle.client_log_tie.specs.ClientEvents.{Grown, ServesStraight}
 use Rattle.client_log_tie.specs.Owner.{Scene}
+use Rattle.client_log_tie.specs.Puts.{PutsOwn, ServesBy}
 use Rattle.core_world.specs.AnyNode.{any_start, any_step}
 use Rattle.core_world.specs.declared.any_node.AnyNode.{AnyNode}
 use Rattle.log_law.specs.Events.{Runs}
@@ -58,6 +59,12 @@ StraightBy (OfClient c) runs = ServesStraight runs
 StraightBy OfCleaner runs = ServesStraight runs
 StraightBy (OfManager j) runs = Unit {0}
 
+-- What a client that owns the log puts into it while it serves are versions of its own, and nothing flies but what is in flight once it took one of these.
+abbrev pub PutsBy : Role → Net → Net → Type 0
+PutsBy (OfClient c) n next = ServesBy PutsOwn n next
+PutsBy OfCleaner n next = Unit {0}
+PutsBy (OfManager j) n next = Unit {0}
+
 -- The small world of the log at each count of the events of a run stands to the moment there, and runs on to the next: at an event of its owner by the owner
 -- alone, and at one of another node with the log left as it was; beyond the last event nothing happens.
 module _ (base : Setting) (e : Estate AnyNode) where
@@ -76,6 +83,8 @@ module _ (base : Setting) (e : Estate AnyNode) where
     pub own : (count : ℕ) (event : Event) → slice_get e.events count ≡ Some event → owner_by r ≡ node_of event
         → GrowsBy (setting r) r (at count) (at (suc count))
     pub straight : (count : ℕ) (event : Event) → slice_get e.events count ≡ Some event → owner_by r ≡ node_of event → StraightBy r (goes count)
+    pub puts : (count : ℕ) (event : Event) → slice_get e.events count ≡ Some event → owner_by r ≡ node_of event
+        → PutsBy r (at count).net (at (suc count)).net
     pub others : (count : ℕ) (event : Event) → slice_get e.events count ≡ Some event → (owner_by r ≡ node_of event → ⊥)
         → IsLeft (at count).net (at (suc count)).net
     pub ended : (count : ℕ) → slice_get e.events count ≡ None → at (suc count) ≡ at count
