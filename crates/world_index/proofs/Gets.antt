@@ -140,7 +140,7 @@ module _ (part : ℕ) (texts : Texts) (asked : Questions) (n : Net) where
     waiting_gets life from (body.Welcome m) h kind free = λ same. news_known 0 m.news.slots (welcome_told from m kind h) (free same)
     waiting_gets life from _ h kind free = tt
 
-    -- ... and so it is of each event
+    -- and so it is of each event
     pub manager_gets : (p : ManagerPhase) (what : Do)
         → ((q : Packet) → what ≡ Deliver q → SentBy part n asked q.from q.body × IsSentBy q.from q.body) → DoReads part texts asked j n p what
         → DoFree part j n p what
