@@ -7,7 +7,7 @@ ghost use Rattle.world_law.specs.Fallen.{FallsApartThroughout, NobodyHoldsThroug
 ghost use Rattle.world_law.specs.Managers.{OneManagerThroughout};
 ghost use Rattle.world_law.specs.Owners.{OneOwnerThroughout};
 ghost use Rattle.world_logs.specs.Horizons.{HorizonsReached};
-ghost use Rattle.world_logs.specs.Logs.{CleanersLogStands, LogsStand};
+ghost use Rattle.world_logs.specs.Logs.{CleanersLogStands, LogsStand, ManagersLogsStand};
 
 use core_world::AnyNode;
 use std::alloc::Global;
@@ -25,7 +25,8 @@ use xfs_base::Gate;
 /// (`nobody_holds`); and no client fell again before it was back, or fell with a block twice (`falls_apart`). The
 /// least horizon of a client's log, or of the cleaner's, was 1, or no more than one beyond a segment that its owner
 /// filed (`horizons_filed`). What clients filed stood whole on the servers' shelves, but for what was deleted and
-/// for lost disks, and one name had one text (`logs_stand`). So did what the cleaner filed (`cleaners_log_stands`).
+/// for lost disks, and one name had one text (`logs_stand`). So did what the cleaner filed (`cleaners_log_stands`),
+/// and what managers filed (`managers_logs_stand`).
 pub fn solo<S: Source, K: Sink>(
     alloc: Global,
     words: &[String],
@@ -41,6 +42,7 @@ pub fn solo<S: Source, K: Sink>(
     ensures horizons_filed { IfSome result.estate HorizonsReached }
     ensures logs_stand { IfSome result.estate LogsStand }
     ensures cleaners_log_stands { IfSome result.estate CleanersLogStands }
+    ensures managers_logs_stand { IfSome result.estate ManagersLogsStand }
 {
     every_run_has_one_owner();
     every_run_has_one_manager();
@@ -68,6 +70,7 @@ pub fn xfs<R: Threads + Wait + Sync, S: Source, K: Sink, G: Gate>(
     ensures horizons_filed { IfSome result.estate HorizonsReached }
     ensures logs_stand { IfSome result.estate LogsStand }
     ensures cleaners_log_stands { IfSome result.estate CleanersLogStands }
+    ensures managers_logs_stand { IfSome result.estate ManagersLogsStand }
 {
     solo(alloc, words, source, sink)
 }

@@ -2,7 +2,7 @@ use Rattle.world_law.specs.Fallen.{FallsApartThroughout, NobodyHoldsThroughout}
 use Rattle.world_law.specs.Managers.{OneManagerThroughout}
 use Rattle.world_law.specs.Owners.{OneOwnerThroughout}
 use Rattle.world_logs.specs.Horizons.{HorizonsReached}
-use Rattle.world_logs.specs.Logs.{CleanersLogStands, LogsStand}
+use Rattle.world_logs.specs.Logs.{CleanersLogStands, LogsStand, ManagersLogsStand}
 use Rattle.xfs_top.proofs.Runs.{played_has}
 use Rattle.xfs_top.proofs.top.solo.Goals as goal
 
@@ -34,3 +34,6 @@ returns-clause-logs_stand g c = played_has LogsStand c.runs_keep_logs.ensures.ke
 
 pub returns-clause-cleaners_log_stands : goal.returns-clause-cleaners_log_stands
 returns-clause-cleaners_log_stands g c = played_has CleanersLogStands c.runs_keep_logs.ensures.cleaners c.answer.result.estate c.answer.ensures.claim.run
+
+pub returns-clause-managers_logs_stand : goal.returns-clause-managers_logs_stand
+returns-clause-managers_logs_stand g c = played_has ManagersLogsStand c.runs_keep_logs.ensures.managers c.answer.result.estate c.answer.ensures.claim.run

@@ -26,3 +26,6 @@ returns-clause-logs_stand g c = c.solo.ensures.logs_stand
 
 pub returns-clause-cleaners_log_stands : goal.returns-clause-cleaners_log_stands
 returns-clause-cleaners_log_stands g c = c.solo.ensures.cleaners_log_stands
+
+pub returns-clause-managers_logs_stand : goal.returns-clause-managers_logs_stand
+returns-clause-managers_logs_stand g c = c.solo.ensures.managers_logs_stand
