@@ -360,13 +360,13 @@ first_epoch (suc (suc (suc (suc (suc (suc (suc (suc k)))))))) h = absurd (omega 
 
 -- whatever happens to the cleaner
 pub cleaner_takes : CleanerTakes
-cleaner_takes logs members part promised most n small low few cleaner what stands owed copies told =
+cleaner_takes logs members part promised most n small low few adopted cleaner what stands owed copies told =
     let goes : CleanerGoes part promised most cleaner.phase (takes cleaner.peers cleaner.phase what).state (takes cleaner.peers cleaner.phase what).outs =
     by_test (λ (w : Went_to). CleanerGoes part promised most cleaner.phase w.state w.outs) (phase_room cleaner.phase) (happens cleaner.peers cleaner.phase what)
     (still cleaner.phase)
     (λ room. happened part promised most small low cleaner.peers cleaner.phase what room stands owed)
     (λ room. goes_still part promised most small low cleaner.phase stands) in
-    (goes, cleaner_runs logs members part n few cleaner.peers cleaner.phase what copies told goes.next _ goes.does)
+    (goes, cleaner_runs logs members part n few adopted cleaner.peers cleaner.phase what copies told goes.next _ goes.does)
 
 pub cleaner_starts : CleanerStarts
 cleaner_starts part most small setup works =

@@ -43,20 +43,20 @@ use Rattle.node_tie.proofs.CleanerServing.{cleaning_wished, packet_heard, time_p
 use Rattle.node_tie.proofs.LogTurns.{IsFlown, opened_seen, reopened_rests}
 use Rattle.node_tie.proofs.SmallWorld.{neutral_acts, runs_through, says_all}
 
-module _ (members part : ℕ) (few : members ≤ its_log) where
+module _ (members part : ℕ) (few : members ≤ its_log) (adopted : Bool) where
   -- it goes on from one phase to another, by changes of the books of its log
   record Turned (k : Books) (p q : Phase) : Type 0 where
     next : Books
     runs : (n : Net) → Runs true members part (record n { books = k }) (record n { books = next })
     others : (l : ℕ) → (l ≡ its_log → ⊥) → SameLog k next l
-    own : OwnGoes k next p q
+    own : OwnGoes k next adopted p q
     copies : CleanerCopies next q
 
   -- it doesn't serve then, and leaves them as they were
   to_down : (k : Books) (p : Phase) (l : Lasting) → Turned k p (Down l)
   to_down k p l = record { next = k; runs = λ n. Begun; others = λ x other. same_log k x; own = own p; copies = tt }
     where
-      own : (p : Phase) → OwnGoes k k p (Down l)
+      own : (p : Phase) → OwnGoes k k adopted p (Down l)
       own (Down x) = refl
       own (Opening x o) = refl
       own (Serves e) = refl
@@ -64,7 +64,7 @@ module _ (members part : ℕ) (few : members ≤ its_log) where
   to_opening : (k : Books) (p : Phase) (l : Lasting) (o : openings.Opening) → Turned k p (Opening l o)
   to_opening k p l o = record { next = k; runs = λ n. Begun; others = λ x other. same_log k x; own = own p; copies = tt }
     where
-      own : (p : Phase) → OwnGoes k k p (Opening l o)
+      own : (p : Phase) → OwnGoes k k adopted p (Opening l o)
       own (Down x) = refl
       own (Opening x q) = refl
       own (Serves e) = refl
@@ -89,24 +89,24 @@ module _ (members part : ℕ) (few : members ≤ its_log) where
 
   -- ---- the end of an opening
 
-  opens : (k : Books) (before l : Lasting) (q : openings.Opening) (o : Opened) → ReopensAt k o
+  opens : (k : Books) (before l : Lasting) (q : openings.Opening) (o : Opened) → ReopensAt k adopted o
       → Turned k (Opening before q) (after_opening l (progress.Opened o)).state
   unfolding after_opening
   opens k before l q o ends =
-      let b = books_reopen members part few k ends.adopted ends.count ends.flies in
+      let b = books_reopen members part few k adopted ends.count ends.flies in
       record {
-        next = with_empty ends.count (reopened k its_log ends.adopted) its_log;
+        next = with_empty ends.count (reopened k its_log adopted) its_log;
         runs = b.runs;
         others = b.others;
-        own = (ends.adopted, ends.count, refl);
+        own = (ends.count, refl);
         copies = record {
-          seen = opened_seen ends.count (reopened k its_log ends.adopted) its_log o.log (reopened_rests k its_log ends.adopted) ends.end ends.nothing_flies;
-          waits = subst (λ dirty. AreCopies (with_empty ends.count (reopened k its_log ends.adopted) its_log) (map told dirty)) (sym ends.nothing_waits) tt;
+          seen = opened_seen ends.count (reopened k its_log adopted) its_log o.log (reopened_rests k its_log adopted) ends.end ends.nothing_flies;
+          waits = subst (λ dirty. AreCopies (with_empty ends.count (reopened k its_log adopted) its_log) (map told dirty)) (sym ends.nothing_waits) tt;
           job = tt;
         };
       }
 
-  ended : (k : Books) (before l : Lasting) (q : openings.Opening) (p : Progress) → EndsAt k p → Turned k (Opening before q) (after_opening l p).state
+  ended : (k : Books) (before l : Lasting) (q : openings.Opening) (p : Progress) → EndsAt k adopted p → Turned k (Opening before q) (after_opening l p).state
   unfolding after_opening
   ended k before l q (progress.Opening o) ends = to_opening k (Opening before q) l o
   ended k before l q (progress.Opened o) ends = opens k before l q o ends
@@ -156,33 +156,33 @@ module _ (members part : ℕ) (few : members ≤ its_log) where
 
   -- ---- packets, and time
 
-  heard : (k : Books) (p : Phase) (packet : Packet) → CleanerCopies k p → PacketTold k p packet → Turned k p (hears p packet).state
+  heard : (k : Books) (p : Phase) (packet : Packet) → CleanerCopies k p → PacketTold k adopted p packet → Turned k p (hears p packet).state
   unfolding hears
   heard k (Down l) packet h owed = to_down k (Down l) l
   heard k (Opening l o) packet h owed =
       (let w : Went = opening.on_packet o l.questions packet in ended k l (record l { questions = w.questions }) o w.progress owed)
   heard k (Serves e) packet h owed = serving k e (on_packet e packet).state (packet_heard members part few k e packet owed h)
 
-  delivered : (k : Books) (peers : Peers) (p : Phase) (packet : Packet) → CleanerCopies k p → PacketTold k p packet
+  delivered : (k : Books) (peers : Peers) (p : Phase) (packet : Packet) → CleanerCopies k p → PacketTold k adopted p packet
       → Turned k p (on_deliver peers p packet).state
   unfolding on_deliver
   delivered k peers p packet h owed =
       by_test (λ (w : Went_to). Turned k p w.state) (is_well_formed peers packet) (hears p packet) (still p) (λ t. heard k p packet h owed)
       (λ t. as_it_was k p h)
 
-  ticked : (k : Books) (p : Phase) → CleanerCopies k p → InTime k p → Turned k p (on_time p).state
+  ticked : (k : Books) (p : Phase) → CleanerCopies k p → InTime k adopted p → Turned k p (on_time p).state
   unfolding on_time
   ticked k (Down l) h owed = to_down k (Down l) l
   ticked k (Opening l o) h owed =
       (let w : Went = opening.on_tick o l.questions in ended k l (record l { questions = w.questions }) o w.progress owed)
   ticked k (Serves e) h owed = serving k e (on_tick e).state (time_passes members part few k e h)
 
-  happened : (k : Books) (peers : Peers) (p : Phase) (what : Do) → CleanerCopies k p → CleanerTold k p what → Turned k p (happens peers p what).state
+  happened : (k : Books) (peers : Peers) (p : Phase) (what : Do) → CleanerCopies k p → CleanerTold k adopted p what → Turned k p (happens peers p what).state
   happened k peers p Begin h owed = begins k peers.servers p h
   happened k peers p (Deliver packet) h owed = delivered k peers p packet h owed
   happened k peers p Tick h owed = ticked k p h owed
 
-  turned : (k : Books) (peers : Peers) (p : Phase) (what : Do) → CleanerCopies k p → CleanerTold k p what → Turned k p (takes peers p what).state
+  turned : (k : Books) (peers : Peers) (p : Phase) (what : Do) → CleanerCopies k p → CleanerTold k adopted p what → Turned k p (takes peers p what).state
   turned k peers p what h owed =
       by_test (λ (w : Went_to). Turned k p w.state) (phase_room p) (happens peers p what) (still p) (λ room. happened k peers p what h owed)
       (λ room. as_it_was k p h)
@@ -197,11 +197,12 @@ done_last logs members part n books now life outs does runs =
     (says_all logs members part m (acts_of Cleaner outs)
     (neutral_acts Cleaner (CleanerDoes part now life) (λ a neutral. neutral) outs (recursion_from_All (CleanerDoes part now life) outs does)))
 
-pub cleaner_runs : (logs : Bool) (members part : ℕ) (n : Net) → Premise logs (members ≤ its_log) → (peers : Peers) (p : Phase) (what : Do)
-    → Premise logs (CleanerCopies n.books p) → Premise logs (CleanerTold n.books p what) → (now life : ℕ)
-    → All (CleanerDoes part now life) (takes peers p what).outs → CleanerRuns logs members part n p (takes peers p what).state (takes peers p what).outs
-cleaner_runs true members part n few peers p what copies told now life does =
-    let t = turned members part few n.books peers p what copies told in
+pub cleaner_runs : (logs : Bool) (members part : ℕ) (n : Net) → Premise logs (members ≤ its_log) → (adopted : Bool) (peers : Peers) (p : Phase)
+    (what : Do)
+    → Premise logs (CleanerCopies n.books p) → Premise logs (CleanerTold n.books adopted p what) → (now life : ℕ)
+    → All (CleanerDoes part now life) (takes peers p what).outs → CleanerRuns logs members part n adopted p (takes peers p what).state (takes peers p what).outs
+cleaner_runs true members part n few adopted peers p what copies told now life does =
+    let t = turned members part few adopted n.books peers p what copies told in
     record {
       books = t.next;
       runs = done_last true members part n t.next now life (takes peers p what).outs does (t.runs n);
@@ -209,7 +210,7 @@ cleaner_runs true members part n few peers p what copies told now life does =
       own = t.own;
       copies = t.copies;
     }
-cleaner_runs false members part n few peers p what copies told now life does = record {
+cleaner_runs false members part n few adopted peers p what copies told now life does = record {
   books = n.books;
   runs = done_last false members part n n.books now life (takes peers p what).outs does Begun;
   others = λ l other. same_log n.books l;

@@ -108,14 +108,16 @@ pub record CleanerGoes (part promised most : ℕ) (p p' : Phase) (outs : List Ef
   -- an opening leaves what was promised
   pub keeps : IsOpening p' → next ≡ promised
 
--- Each event of the cleaner, if the world owes it what its packet says. Where logs keep their word, no client has the number of its log.
+-- Each event of the cleaner, if the world owes it what its packet says. Where logs keep their word, no client has the number of its log; and it is said whether
+-- an opening that ends has what was in flight.
 abbrev pub CleanerTakes : Type 0
 CleanerTakes =
-    (logs : Bool) (members part promised most : ℕ) (n : Net) → part < 8 → promised ≤ most → Premise logs (members ≤ its_log) → (cleaner : Cleaner) (what : Do)
+    (logs : Bool) (members part promised most : ℕ) (n : Net) → part < 8 → promised ≤ most → Premise logs (members ≤ its_log) → (adopted : Bool) (cleaner : Cleaner)
+    (what : Do)
     → CleanerStands part promised most cleaner.phase → CleanerOwed part promised most cleaner.phase what
-    → Premise logs (CleanerCopies n.books cleaner.phase) → Premise logs (CleanerTold n.books cleaner.phase what)
+    → Premise logs (CleanerCopies n.books cleaner.phase) → Premise logs (CleanerTold n.books adopted cleaner.phase what)
     → CleanerGoes part promised most cleaner.phase (takes cleaner.peers cleaner.phase what).state (takes cleaner.peers cleaner.phase what).outs
-    × CleanerRuns logs members part n cleaner.phase (takes cleaner.peers cleaner.phase what).state (takes cleaner.peers cleaner.phase what).outs
+    × CleanerRuns logs members part n adopted cleaner.phase (takes cleaner.peers cleaner.phase what).state (takes cleaner.peers cleaner.phase what).outs
 
 -- At the start it has promised epoch 1 of each slot, its log is empty, and it has no job.
 abbrev pub CleanerStarts : Type 0

@@ -85,39 +85,38 @@ module _ (k : Books) where
   abbrev pub LiveTold : Emptying → Live → Type 0
   LiveTold e m = is_out (check_of (hand_of e.job) m.block) m.ask ≡ true → IfSome e.job (λ job. PhaseTold m.block m.entry job.cleaning.phase)
 
-  -- Where the opening of its log ends, its end is that of the books, reopened with what was in flight or without, with so many segments that say nothing; what it
-  -- adopted was in flight; and nothing waits to be written, or is in flight.
-  pub record ReopensAt (o : Opened) : Type 0 where
-    pub adopted : Bool
+  -- Where the opening of its log ends, its end is that of the books, reopened with what was in flight or without, as is said, with so many segments that say
+  -- nothing; what it adopted was in flight; and nothing waits to be written, or is in flight.
+  pub record ReopensAt (adopted : Bool) (o : Opened) : Type 0 where
     pub count : ℕ
     pub end : o.log.end.seq ≡ (with_empty count (reopened k its_log adopted) its_log).end its_log
     pub flies : adopted ≡ true → k.flying its_log ≡ true
     pub nothing_waits : o.log.dirty ≡ []
     pub nothing_flies : o.log.flight ≡ None
 
-  abbrev pub EndsAt : Progress → Type 0
-  EndsAt (progress.Opened o) = ReopensAt o
-  EndsAt (progress.Opening o) = Unit {0}
-  EndsAt (progress.Lost seg) = Unit {0}
+  abbrev pub EndsAt : Bool → Progress → Type 0
+  EndsAt adopted (progress.Opened o) = ReopensAt adopted o
+  EndsAt adopted (progress.Opening o) = Unit {0}
+  EndsAt adopted (progress.Lost seg) = Unit {0}
 
   abbrev pub ServingTold : Emptying → Body → Type 0
   ServingTold e (body.Live m) = LiveTold e m
   ServingTold e _ = Unit {0}
 
-  abbrev pub PacketTold : Phase → packets.Packet → Type 0
-  PacketTold (Down l) packet = Unit {0}
-  PacketTold (Opening l o) packet = EndsAt (opens.on_packet o l.questions packet).progress
-  PacketTold (Serves e) packet = ServingTold e packet.body
+  abbrev pub PacketTold : Bool → Phase → packets.Packet → Type 0
+  PacketTold adopted (Down l) packet = Unit {0}
+  PacketTold adopted (Opening l o) packet = EndsAt adopted (opens.on_packet o l.questions packet).progress
+  PacketTold adopted (Serves e) packet = ServingTold e packet.body
 
-  abbrev pub InTime : Phase → Type 0
-  InTime (Down l) = Unit {0}
-  InTime (Opening l o) = EndsAt (opens.on_tick o l.questions).progress
-  InTime (Serves e) = Unit {0}
+  abbrev pub InTime : Bool → Phase → Type 0
+  InTime adopted (Down l) = Unit {0}
+  InTime adopted (Opening l o) = EndsAt adopted (opens.on_tick o l.questions).progress
+  InTime adopted (Serves e) = Unit {0}
 
-  abbrev pub CleanerTold : Phase → Do → Type 0
-  CleanerTold p Begin = Unit {0}
-  CleanerTold p (Deliver packet) = PacketTold p packet
-  CleanerTold p Tick = InTime p
+  abbrev pub CleanerTold : Bool → Phase → Do → Type 0
+  CleanerTold adopted p Begin = Unit {0}
+  CleanerTold adopted p (Deliver packet) = PacketTold adopted p packet
+  CleanerTold adopted p Tick = InTime adopted p
 
 -- ---- what an event makes of it
 
@@ -131,18 +130,18 @@ pub record OwnGrows (k m : Books) : Type 0 where
   pub filed : (q : ℕ) → q ≤ k.end its_log → m.rows its_log q ≡ k.rows its_log q
   pub flown : k.flying its_log ≡ true → m.rows its_log (suc (k.end its_log)) ≡ k.rows its_log (suc (k.end its_log))
 
--- One that begins to serve has its log opened again; one that doesn't serve then leaves it as it was.
-abbrev pub OwnGoes : Books → Books → Phase → Phase → Type 0
-OwnGoes k m (Serves e) (Serves f) = OwnGrows k m
-OwnGoes k m (Opening l o) (Serves f) = (adopted : Bool) × (count : ℕ) × (m ≡ with_empty count (reopened k its_log adopted) its_log)
-OwnGoes k m (Down l) (Serves f) = ⊥
-OwnGoes k m p (Down l) = m ≡ k
-OwnGoes k m p (Opening l o) = m ≡ k
+-- One that begins to serve has its log opened again, with what was in flight or without, as was said; one that doesn't serve then leaves it as it was.
+abbrev pub OwnGoes : Books → Books → Bool → Phase → Phase → Type 0
+OwnGoes k m adopted (Serves e) (Serves f) = OwnGrows k m
+OwnGoes k m adopted (Opening l o) (Serves f) = (count : ℕ) × (m ≡ with_empty count (reopened k its_log adopted) its_log)
+OwnGoes k m adopted (Down l) (Serves f) = ⊥
+OwnGoes k m adopted p (Down l) = m ≡ k
+OwnGoes k m adopted p (Opening l o) = m ≡ k
 
 -- The small world runs on: of logs the cleaner's own alone changes, goes on so, and is seen so then; and its acts are done.
-pub record CleanerRuns (logs : Bool) (members part : ℕ) (n : Net) (p p' : Phase) (outs : List Effect) : Type 0 where
+pub record CleanerRuns (logs : Bool) (members part : ℕ) (n : Net) (adopted : Bool) (p p' : Phase) (outs : List Effect) : Type 0 where
   pub books : Books
   pub runs : Runs logs members part n (after_cleaner n books outs)
   pub others : (l : ℕ) → (l ≡ its_log → ⊥) → SameLog n.books books l
-  pub own : Premise logs (OwnGoes n.books books p p')
+  pub own : Premise logs (OwnGoes n.books books adopted p p')
   pub copies : Premise logs (CleanerCopies books p')

@@ -1,17 +1,16 @@
 -- A client that comes to serve serves with the log that is open, and acts that it is back with the chain that was found.
-use Rattle.std.proofs.Common.{⊎_elim, ◌≡◌, ◌⊎◌, ℕ, Bool, true, false, List, [], ◌∷◌, ◌++◌, map, Option, Some, None, refl, sym, ap, subst, ◌∙◌, inl, inr}
+use Rattle.std.proofs.Common.{⊎_elim, ◌≡◌, ◌⊎◌, ℕ, List, [], ◌∷◌, ◌++◌, map, Option, Some, None, refl, sym, subst, inl, inr}
 use Rattle.std.specs.List.{AllByRecursion}
 use Rattle.client_node.specs.declared.client.Client.{Client as AClient}
 use Rattle.client_node.specs.declared.lasting.Lasting.{Lasting}
 use Rattle.client_node.specs.declared.phase.Phase.{Phase}
 use Rattle.client_node.specs.declared.phase.Phase.TheVariants as phase
 use Rattle.client_node.specs.declared.serving.Serving.{Serving}
-use Rattle.client_node.specs.Phases.{Went_to, after_opening, begins_item, client_room, happens, on_begin, on_deliver, on_event, on_time, opened_on, opening_begins, served, takes, wish_of}
+use Rattle.client_node.specs.Phases.{Went_to, after_opening, begins_item, client_room, happens, on_begin, on_deliver, on_event, on_time, opening_begins, served, takes, wish_of}
 use Rattle.delta_feed.specs.FeedState.{FeedState}
 use Rattle.log_owner.proofs.Behaving as behaving
 use Rattle.log_owner.specs.Behaves.{MayAct, MayDo}
 use Rattle.log_owner.specs.declared.ended.Owner.{Owner}
-use Rattle.log_owner.specs.declared.opened.Opened.{Opened}
 use Rattle.log_owner.specs.declared.opened.Progress.{Progress}
 use Rattle.log_owner.specs.declared.opened.Progress.TheVariants as progress
 use Rattle.log_owner.specs.declared.opening.Opening.{Opening}
@@ -35,9 +34,7 @@ use Rattle.version_model.specs.declared.work.Work.{Work}
 use Rattle.version_model.specs.declared.work.Work.TheVariants as work
 use Rattle.wire_msg.specs.declared.packet.Do.{Do}
 use Rattle.wire_msg.specs.declared.packet.Do.TheVariants.{Begin, Deliver, Tick}
-use Rattle.wire_msg.specs.declared.packet.Packet.{Packet}
 use Rattle.xfs_base.proofs.Booleans.{by_test}
-use Rattle.xfs_base.specs.declared.node.NodeId.{NodeId}
 use Rattle.xfs_base.specs.declared.segment.SegName.{SegName}
 use Rattle.xfs_base.specs.Steps.{after, still}
 use Rattle.reopening_law.specs.Openings.{ClientsComeBack, ComesBack, comes_to}

@@ -309,14 +309,10 @@ clients_reopen_so k g n o chain s r e b c f h opened is acts fell = record {
         ∙ (ap (λ names. holds_flight names fell.fall.flight) (sym is.chain_is) ∙ ap (is_adopted opened.chain) (sym fell.waits))
 
 pub the_cleaner_reopens_so : Below → TheCleanerReopensSo
-the_cleaner_reopens_so k g n o chain s r e b f h opened is = (
-  record {
-    adopted = has_flight e;
-    count = count k g n o chain s r e b its_log f h opened is (has_flight e);
-    end = its_end k g n o chain s r e b its_log f h opened is (has_flight e) refl;
-    flies = its_flight k g n o chain s r e b its_log f h opened is;
-    nothing_waits = waits k g n o chain s r e b its_log f h opened is;
-    nothing_flies = flies k g n o chain s r e b its_log f h opened is;
-  },
-  refl,
-)
+the_cleaner_reopens_so k g n o chain s r e b f h opened is = record {
+  count = count k g n o chain s r e b its_log f h opened is (has_flight e);
+  end = its_end k g n o chain s r e b its_log f h opened is (has_flight e) refl;
+  flies = its_flight k g n o chain s r e b its_log f h opened is;
+  nothing_waits = waits k g n o chain s r e b its_log f h opened is;
+  nothing_flies = flies k g n o chain s r e b its_log f h opened is;
+}

@@ -103,7 +103,7 @@ has_flight {chain = chain} e = holds_flight (names_in chain) (flight_of (last_fl
 abbrev pub TheCleanerReopensSo : Type 0
 TheCleanerReopensSo =
     (g : Setting) (n o : Net) (chain : List Segment) (s r : LogState) (e : Reopens g n o chain s r) (k : Books) (f : Filed) → BooksThen e k its_log f
-    → (opened : Opened) → IsOpened chain r opened → (at : ReopensAt k opened) × (at.adopted ≡ has_flight e)
+    → (opened : Opened) → IsOpened chain r opened → ReopensAt k (has_flight e) opened
 
 -- The books that are opened again have what is filed then, and nothing is in flight.
 pub record BooksAfter (k : Books) (l : ℕ) (f : Filed) : Type 0 where

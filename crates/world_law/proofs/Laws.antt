@@ -42,7 +42,7 @@ module _ (laws : NodeLaws) (k : Cluster) (part : ℕ) (of_eight : part < 8) wher
   pub event_keeps : (w : World AnyNode) → w.cluster ≡ k → (event : Event) → MayHappen w event → Good w.nodes w.sent w.acts
       → Good (next_world any_step w event).nodes (next_world any_step w event).sent (next_world any_step w event).acts
   event_keeps w cluster event may good =
-      (let t = event_turns laws false k part of_eight w event good.0 cluster may good.1 (λ node there. tt) in (t.next, t.stands, t.falls good.2))
+      (let t = event_turns laws false k part of_eight w event false good.0 cluster may good.1 (λ node there. tt) in (t.next, t.stands, t.falls good.2))
 
   abbrev pub GoodWorld : World AnyNode → Type 0
   GoodWorld w = Good w.nodes w.sent w.acts

@@ -196,7 +196,7 @@ module _ (logs : Bool) (k : Cluster) (part : ℕ) (RegistrySound : RegistryNode 
     (st : Stands logs k part nodes sent done RegistrySound s) (p clock : ℕ)
     (at : place_of k Cleaner ≡ Some p) (is : slice_get nodes p ≡ Some (any.Cleaner s.cleaner)) (w : Went_to)
     (go : CleanerGoes part s.net.promised (epoch_now k part s) s.cleaner.phase w.state w.outs)
-    (run : CleanerRuns logs (members k part) part s.net s.cleaner.phase w.state w.outs) where
+    {adopted : Bool} (run : CleanerRuns logs (members k part) part s.net adopted s.cleaner.phase w.state w.outs) where
   abbrev after_node : CleanerNode
   after_node = record s.cleaner { phase = w.state }
 

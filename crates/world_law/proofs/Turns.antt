@@ -88,7 +88,7 @@ module _ (laws : NodeLaws) (logs : Bool) (k : Cluster) (part : ℕ) (of_eight : 
   -- ---- one node takes its step
 
   module _ (nodes : List AnyNode) (sent : List Packet) (acts : List Act) (s : Scene) (st : Stands logs k part nodes sent acts RegistrySound s) (place clock : ℕ)
-      (what : Do) where
+      (what : Do) (adopted : Bool) where
     -- the moment after it: it stands to a small world that no slot has left, whose books went on as this node's events make them go
     pub record Turned (name : NodeId) (node : AnyNode) : Type 0 where
       pub next : Scene
@@ -96,11 +96,11 @@ module _ (laws : NodeLaws) (logs : Bool) (k : Cluster) (part : ℕ) (of_eight : 
           (acts ++ (any_step node what).acts) RegistrySound next
       pub since : Since k part s next
       pub stay : NoneLeaves s.net next.net
-      pub books : BooksGo logs s.net next.net name node what
+      pub books : BooksGo logs adopted s.net next.net name node what
       pub falls : FallsStand (members k part) s.net acts → FallsStand (members k part) next.net (acts ++ (any_step node what).acts)
 
     abbrev pub Owed : NodeId → AnyNode → Type 0
-    Owed name node = TurnOwes logs (members k part) part (epoch_now k part s) s.net name node what
+    Owed name node = TurnOwes logs adopted (members k part) part (epoch_now k part s) s.net name node what
 
     -- what comes to this node was sent, and to it
     abbrev pub Brought : NodeId → Type 0
@@ -243,11 +243,11 @@ module _ (laws : NodeLaws) (logs : Bool) (k : Cluster) (part : ℕ) (of_eight : 
         turned : Owed Cleaner (any.Cleaner s.cleaner) → Turned Cleaner (any.Cleaner s.cleaner)
         turned owed =
             (let t = laws.cleaner logs (members k part) part s.net.promised (epoch_now k part s) s.net of_eight st.cleaner.0
-            (premise logs st.few) s.cleaner what st.cleaner.1
+            (premise logs st.few) adopted s.cleaner what st.cleaner.1
             (gets what refl) st.copies owed in goes t.0 t.1)
           where
             goes : CleanerGoes part s.net.promised (epoch_now k part s) s.cleaner.phase went.state went.outs
-                → CleanerRuns logs (members k part) part s.net s.cleaner.phase went.state went.outs → Turned Cleaner (any.Cleaner s.cleaner)
+                → CleanerRuns logs (members k part) part s.net adopted s.cleaner.phase went.state went.outs → Turned Cleaner (any.Cleaner s.cleaner)
             goes go run = record {
               next = cleaner_scene logs k part RegistrySound nodes sent acts s st place clock at here went go run;
               stands = cleaner_turn logs k part RegistrySound nodes sent acts s st place clock at here went go run;
@@ -312,7 +312,7 @@ module _ (laws : NodeLaws) (logs : Bool) (k : Cluster) (part : ℕ) (of_eight : 
       (let is : packet ≡ q = delivered packet q gets in
       (facts q (subst (λ xs. In q xs) same (was_sent w.sent q (subst (λ x. MayHappen w (events.Deliver x)) is may))), ap (λ (x : Packet). x.to) (sym is)))
 
-  module _ (w : World AnyNode) (event : Event) (s : Scene) where
+  module _ (w : World AnyNode) (event : Event) (adopted : Bool) (s : Scene) where
     -- the moment after an event: the node has its turn, or nothing happens
     pub record EventTurned (nodes : List AnyNode) (sent : List Packet) (acts : List Act) : Type 0 where
       pub next : Scene
@@ -320,12 +320,12 @@ module _ (laws : NodeLaws) (logs : Bool) (k : Cluster) (part : ℕ) (of_eight : 
       pub since : Since k part s next
       pub stay : NoneLeaves s.net next.net
       pub books : (next.net.books ≡ s.net.books)
-          ⊎ ((node : AnyNode) × (node_in w.nodes (place_of k (node_of event)) ≡ Some node) × BooksGo logs s.net next.net (node_of event) node (what_of event))
+          ⊎ ((node : AnyNode) × (node_in w.nodes (place_of k (node_of event)) ≡ Some node) × BooksGo logs adopted s.net next.net (node_of event) node (what_of event))
       pub falls : FallsStand (members k part) s.net w.acts → FallsStand (members k part) next.net acts
 
     pub event_turns : w.cluster ≡ k → MayHappen w event → Stands logs k part w.nodes w.sent w.acts RegistrySound s
         → ((node : AnyNode) → node_in w.nodes (place_of k (node_of event)) ≡ Some node
-        → TurnOwes logs (members k part) part (epoch_now k part s) s.net (node_of event) node (what_of event))
+        → TurnOwes logs adopted (members k part) part (epoch_now k part s) s.net (node_of event) node (what_of event))
         → EventTurned (next_world any_step w event).nodes (next_world any_step w event).sent (next_world any_step w event).acts
     event_turns cluster may st owed = next_keeps any_step EventTurned w event (record {
       next = s;
@@ -338,6 +338,6 @@ module _ (laws : NodeLaws) (logs : Bool) (k : Cluster) (part : ℕ) (of_eight : 
         (λ place node clock at is.
         let at_k : place_of k (node_of event) ≡ Some place = subst (λ c. place_of c (node_of event) ≡ Some place) cluster at in
         let there : node_in w.nodes (place_of k (node_of event)) ≡ Some node = ap (node_in w.nodes) at_k ∙ is in
-        let t = turns w.nodes w.sent w.acts s st place clock (what_of event) (node_of event) (delivered_fact w.sent s st.facts w refl event may) at_k node is
+        let t = turns w.nodes w.sent w.acts s st place clock (what_of event) adopted (node_of event) (delivered_fact w.sent s st.facts w refl event may) at_k node is
         (owed node there) in
         record { next = t.next; stands = t.stands; since = t.since; stay = t.stay; books = inr (node, there, t.books); falls = t.falls })

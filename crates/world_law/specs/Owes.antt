@@ -53,19 +53,20 @@ module _ (members part : ℕ) (n : Net) where
   ManagerTold p Tick = Unit {0}
 
 -- of the node of this name; servers and the registry are owed nothing
-abbrev pub NodeTold : (members part most : ℕ) → Net → NodeId → AnyNode → Do → Type 0
-NodeTold members part most n (Client c) (any.Client node) what = ClientTold part most n c node.phase what
-NodeTold members part most n (Manager j) (any.Manager node) what = ManagerTold members part n node.phase what
-NodeTold members part most n Cleaner (any.Cleaner node) what = CleanerTold n.books node.phase what
-NodeTold members part most n name node what = Unit {0}
+-- (of the cleaner it is said whether an opening that ends has what was in flight)
+abbrev pub NodeTold : Bool → (members part most : ℕ) → Net → NodeId → AnyNode → Do → Type 0
+NodeTold adopted members part most n (Client c) (any.Client node) what = ClientTold part most n c node.phase what
+NodeTold adopted members part most n (Manager j) (any.Manager node) what = ManagerTold members part n node.phase what
+NodeTold adopted members part most n Cleaner (any.Cleaner node) what = CleanerTold n.books adopted node.phase what
+NodeTold adopted members part most n name node what = Unit {0}
 
 -- what logs owe this event of this node, where they keep their word
-abbrev pub TurnOwes : (logs : Bool) → (members part most : ℕ) → Net → NodeId → AnyNode → Do → Type 0
-TurnOwes logs members part most n name node what = Premise logs (NodeTold members part most n name node what)
+abbrev pub TurnOwes : (logs adopted : Bool) → (members part most : ℕ) → Net → NodeId → AnyNode → Do → Type 0
+TurnOwes logs adopted members part most n name node what = Premise logs (NodeTold adopted members part most n name node what)
 
 -- ---- what becomes of the books
 
-module _ (logs : Bool) (n next : Net) where
+module _ (logs adopted : Bool) (n next : Net) where
   -- of logs a client's own alone changes, and goes on
   pub record ClientBooks (c : ℕ) (node : ClientNode) (what : Do) : Type 0 where
     pub others : (l : ℕ) → (l ≡ c → ⊥) → SameLog n.books next.books l
@@ -74,7 +75,7 @@ module _ (logs : Bool) (n next : Net) where
   -- and so it is of the cleaner
   pub record CleanerBooks (node : CleanerNode) (what : Do) : Type 0 where
     pub others : (l : ℕ) → (l ≡ its_log → ⊥) → SameLog n.books next.books l
-    pub own : Premise logs (OwnGoes n.books next.books node.phase (cleaners.takes node.peers node.phase what).state)
+    pub own : Premise logs (OwnGoes n.books next.books adopted node.phase (cleaners.takes node.peers node.phase what).state)
 
   -- other nodes leave the books as they are
   abbrev pub BooksGo : NodeId → AnyNode → Do → Type 0
