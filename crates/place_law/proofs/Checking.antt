@@ -1,7 +1,10 @@
 -- What a job of the cleaner asks for are Blocks of the filed segment that it has in hand: in the small world of a slot's index, whatever happens there.
-use Rattle.std.proofs.Common.{◌≡◌, ℕ, ◌+◌, ◌==◌, Bool, true, ◌&&◌, not, inl, inr, List, [], ◌∷◌, length, map, Option, None, Some, refl, sym, subst, arith}
+use Rattle.std.proofs.Common.{◌≡◌, ℕ, ◌+◌, ◌==◌, Bool, true, ◌&&◌, not, inl, inr, List, [], ◌∷◌, length, map, Option, None, Some, refl, sym, subst, arith, slice_get, ap, suc, ◌<◌, ◌≤◌, ◌∙◌}
+use Rattle.std.specs.Prelude.{min}
 use Rattle.std.specs.List.{AllByRecursion}
 use Rattle.std.proofs.lemmas.Map.Views.{tells_apart}
+use Rattle.std.proofs.lemmas.Option.{slice_get_within}
+use Rattle.segment_format.specs.Rule.{no_item}
 use Rattle.checkpoint.specs.WriterState.{Rows}
 use Rattle.filed_tie.proofs.Frames.{all_append}
 use Rattle.group_map.specs.GroupMapState.{GroupMapState}
@@ -64,16 +67,22 @@ module _ (s : Segment) where
   fate_moved block Moved h = tt
   fate_moved block Dead h = tt
 
+  -- another fate leaves it of the same Block
+  refated : (c : Check) (fate : Fate) → FateLies s c.block fate → CheckLies s c → CheckLies s (record c { fate = fate })
+  refated c fate is h = record { asked = is; sits = h.sits }
+
   live_lies : (block : BlockId) (entry : Entry) (c : Check) → CheckLies s c → CheckLies s (live_at block entry c)
   live_lies block entry c h =
-      by_test (CheckLies s) (same_block c.block block) (record c { fate = after_live entry c.fate }) c (λ t. fate_live c.block entry c.fate h) (λ t. h)
+      by_test (CheckLies s) (same_block c.block block) (record c { fate = after_live entry c.fate }) c
+      (λ t. refated c (after_live entry c.fate) (fate_live c.block entry c.fate h.asked) h) (λ t. h)
 
   dead_lies : (block : BlockId) (c : Check) → CheckLies s c → CheckLies s (dead_at block c)
   dead_lies block c h =
-      by_test (CheckLies s) (same_block c.block block) (record c { fate = after_dead c.fate }) c (λ t. fate_dead c.block c.fate h) (λ t. h)
+      by_test (CheckLies s) (same_block c.block block) (record c { fate = after_dead c.fate }) c
+      (λ t. refated c (after_dead c.fate) (fate_dead c.block c.fate h.asked) h) (λ t. h)
 
   moved_lies : (c : Check) → CheckLies s c → CheckLies s (moved_at c)
-  moved_lies c h = fate_moved c.block c.fate h
+  moved_lies c h = refated c (after_moved c.fate) (fate_moved c.block c.fate h.asked) h
 
   all_mapped : (g : Check → Check) → ((c : Check) → CheckLies s c → CheckLies s (g c)) → (checks : List Check) → AllByRecursion (CheckLies s) checks
       → AllByRecursion (CheckLies s) (map g checks)
@@ -81,16 +90,47 @@ module _ (s : Segment) where
   all_mapped g each (c ∷ cs) all = (each c all.0, all_mapped g each cs all.1)
 
   -- each Block among some of its items is asked for
-  one_begun : (number : ℕ) (i : Item) → In i s.items → AllByRecursion (CheckLies s) (check_of number i)
-  one_begun number (item.Block block value) is = (is, tt)
-  one_begun number (item.Delta block ver hop at) is = tt
-  one_begun number (item.Part slot rows) is = tt
+  one_begun : (number : ℕ) (i : Item) → In i s.items → slice_get s.items number ≡ Some i → AllByRecursion (CheckLies s) (check_of number i)
+  one_begun number (item.Block block value) is at = (
+    record {
+      asked = is;
+      sits = λ few. record {
+        value = value;
+        there = ap (slice_get s.items) (least number (length s.items) (slice_get_within s.items number (item.Block block value) at) few) ∙ at;
+      };
+    },
+    tt,
+  )
+    where
+      least : (k n : ℕ) → k < n → n ≤ no_item → min k no_item ≡ k
+      least k n less few = omega arith
+  one_begun number (item.Delta block ver hop place) is at = tt
+  one_begun number (item.Part slot rows) is at = tt
 
-  all_begun : (number : ℕ) (items : List Item) → ((i : Item) → In i items → In i s.items) → AllByRecursion (CheckLies s) (checks_from number items)
-  all_begun number [] sub = tt
-  all_begun number (i ∷ is) sub =
-      all_append (CheckLies s) (check_of number i) (checks_from (number + 1) is) (one_begun number i (sub i (inl refl)))
-      (all_begun (number + 1) is (λ j h. sub j (inr h)))
+  -- these are the items from this number on
+  abbrev AreFrom : ℕ → List Item → Type 0
+  AreFrom number items = (k : ℕ) (i : Item) → slice_get items k ≡ Some i → slice_get s.items (number + k) ≡ Some i
+
+  all_begun : (number : ℕ) (items : List Item) → ((i : Item) → In i items → In i s.items) → AreFrom number items
+      → AllByRecursion (CheckLies s) (checks_from number items)
+  all_begun number [] sub from = tt
+  all_begun number (i ∷ is) sub from =
+      all_append (CheckLies s) (check_of number i) (checks_from (number + 1) is)
+      (one_begun number i (sub i (inl refl)) (ap (slice_get s.items) (none_more number) ∙ from 0 i refl))
+      (all_begun (number + 1) is (λ j h. sub j (inr h)) (λ k j at. ap (slice_get s.items) (one_more number k) ∙ from (suc k) j at))
+    where
+      none_more : (n : ℕ) → n ≡ n + 0
+      none_more n = omega arith
+
+      one_more : (n k : ℕ) → (n + 1) + k ≡ n + suc k
+      one_more n k = omega arith
+
+  -- so it is of all
+  whole_begun : AllByRecursion (CheckLies s) (checks_from 0 s.items)
+  whole_begun = all_begun 0 s.items (λ i h. h) (λ k i at. ap (slice_get s.items) (from_none k) ∙ at)
+    where
+      from_none : (k : ℕ) → 0 + k ≡ k
+      from_none k = omega arith
 
 -- ---- one turn of a job
 
@@ -171,7 +211,7 @@ module _ (f : Filed) where
       begun named = record {
         within = owed.0;
         lie = λ is.
-            subst (λ s. AllByRecursion (CheckLies s) (checks_from 0 read.items)) (owed.1 is named) (all_begun read 0 read.items (λ i h. h));
+            subst (λ s. AllByRecursion (CheckLies s) (checks_from 0 read.items)) (owed.1 is named) (whole_begun read);
       }
   read_keeps read (Counting c) owed h = tt
   read_keeps read (Listing l) owed h = tt

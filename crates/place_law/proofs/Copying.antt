@@ -66,7 +66,7 @@ module _ (k : Books) (f : Filed) (exact : AreExact f) (b : BlockId) (e : Entry) 
   checks_told : (checks : List Check) → AllByRecursion (CheckLies there) checks
       → AllByRecursion (λ (c : Check). same_block c.block b ≡ true → FateTold k b e c.fate) checks
   checks_told [] all = tt
-  checks_told (c ∷ cs) all = ((λ t. fate_told c.block c.fate (sym (same_block_exact c.block b t)) all.0), checks_told cs all.1)
+  checks_told (c ∷ cs) all = ((λ t. fate_told c.block c.fate (sym (same_block_exact c.block b t)) all.0.asked), checks_told cs all.1)
 
   phase_told : (p : Phase) → PhaseLies f p → IsInHand place.seg.name p → PhaseTold k b e p
   phase_told (Checking j segment checks) h named =

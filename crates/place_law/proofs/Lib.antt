@@ -13,3 +13,4 @@ pub mod Aims
 pub mod AimsReads
 pub mod AimsServing
 pub mod AimsClients
+pub mod Placing

@@ -1,5 +1,6 @@
 -- Where an entry that is told says that a block lies, a filed segment says so, and the books have the value that lies there.
-use Rattle.std.proofs.Common.{◌≡◌, ◌<◌, ◌≤◌, inl, inr, ℕ, Bool, true, false, nat_lt, None, Some, refl, sym, ap, subst, ◌∙◌, arith}
+use Rattle.std.proofs.Common.{◌≡◌, ◌<◌, ◌≤◌, inl, inr, ℕ, Bool, true, false, nat_lt, None, Some, refl, sym, ap, subst, ◌∙◌, arith, ◌&&◌, nat_le, List, []}
+use Rattle.xfs_base.proofs.Booleans.{by_test}
 use Rattle.std.specs.Prelude.{Contains}
 use Rattle.std.proofs.lemmas.Bool.Decides.{nat_tests}
 use Rattle.client_node.specs.Reads.{value_at}
@@ -29,6 +30,15 @@ one_of_nine f filed l q some most = (least (nat_lt 0 l) refl, greatest (nat_lt 9
     greatest : (t : Bool) → nat_lt 9 l ≡ t → l ≤ 9
     greatest true is = absurd (let over : 9 < l = grind (arith, nat_tests) in let none = filed.others l (inr over) in omega arith)
     greatest false is = grind (arith, nat_tests)
+
+-- what is filed at a number is what its segment says
+pub rows_there : (f : Filed) (l q : ℕ) → 0 < q → q ≤ f.head l → rows_at f l q ≡ rows_of (f.segment l q)
+rows_there f l q some most =
+    by_test (λ (rows : List (BlockId × Entry)). rows ≡ rows_of (f.segment l q)) (nat_lt 0 q && nat_le q (f.head l)) (rows_of (f.segment l q)) [] (λ _. refl)
+    (λ t. absurd (clash q (f.head l) some most t))
+  where
+    clash : (q h : ℕ) → 0 < q → q ≤ h → (nat_lt 0 q && nat_le q h) ≡ false → ⊥
+    clash q h a b t = grind (arith, nat_tests)
 
 module _ (f : Filed) (k : Books) (b : BlockId) (e : Entry) (place : Place) where
   -- The log has filed a segment at this number, under the name of the place and in its group; that says the entry of the block, and the books have its version

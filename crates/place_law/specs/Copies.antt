@@ -1,5 +1,5 @@
 -- What is answered Live to the cleaner of a block, with the value that it has read of the block, is a copy of what a filed segment says.
-use Rattle.std.specs.Prelude.{◌≡◌, ◌<◌, ◌≤◌, ℕ, true, List, Contains, Option, Some, IfSome}
+use Rattle.std.specs.Prelude.{◌≡◌, ◌<◌, ◌≤◌, ℕ, true, List, Contains, Option, Some, IfSome, length, slice_get}
 use Rattle.std.specs.List.{AllByRecursion}
 use Rattle.checkpoint.specs.WriterState.{Rows}
 use Rattle.cleaner_node.specs.declared.emptying.Emptying.{Emptying}
@@ -7,9 +7,9 @@ use Rattle.cleaner_node.specs.declared.job.Job.{Job}
 use Rattle.cleaner_node.specs.Jobs.{check_of, hand_of}
 use Rattle.client_node.specs.Reads.{value_at}
 use Rattle.entry_tie.specs.Told.{told_by}
-use Rattle.index_reads.specs.Ties.{Tied}
+use Rattle.index_reads.specs.Ties.{ArePlain, Tied}
 use Rattle.index_tie.specs.Cleaning.{is_filed_name, IsWithin}
-use Rattle.index_tie.specs.Filed.{Filed, rows_at}
+use Rattle.index_tie.specs.Filed.{Filed, row_at, rows_at}
 use Rattle.index_tie.specs.Net as index
 use Rattle.index_tie.specs.Net.{IsInHand}
 use Rattle.log_protocol.specs.Tables.{In}
@@ -17,6 +17,9 @@ use Rattle.node_tie.specs.CleanerLogs.{LiveTold}
 use Rattle.segment_format.specs.declared.segment.Item.TheVariants.{Block}
 use Rattle.segment_format.specs.declared.segment.Segment.{Segment}
 use Rattle.segment_format.specs.Rows.{rows_of}
+use Rattle.segment_format.specs.Rule.{no_item}
+use Rattle.stripe_cleaner.specs.Checks.{place_in}
+use Rattle.stripe_cleaner.specs.JobState.{JobState}
 use Rattle.stripe_cleaner.specs.declared.checks.Check.{Check}
 use Rattle.stripe_cleaner.specs.declared.checks.Fate.{Fate}
 use Rattle.stripe_cleaner.specs.declared.checks.Fate.TheVariants.{Asked}
@@ -51,8 +54,15 @@ abbrev pub FateLies : Segment → BlockId → Fate → Type 0
 FateLies s block (Asked value) = In (Block block value) s.items
 FateLies s block _ = Unit {0}
 
-abbrev pub CheckLies : Segment → Check → Type 0
-CheckLies s c = FateLies s c.block c.fate
+-- the item of this number is a Block of the block
+pub record IsBlockAt (s : Segment) (item : ℕ) (block : BlockId) : Type 0 where
+  pub value : Option (List ℕ)
+  pub there : slice_get s.items item ≡ Some (Block block value)
+
+-- and where each item of the segment has a number, a check is of a Block at its own
+pub record CheckLies (s : Segment) (c : Check) : Type 0 where
+  pub asked : FateLies s c.block c.fate
+  pub sits : length s.items ≤ no_item → IsBlockAt s c.item c.block
 
 -- A segment whose Blocks are checked was filed at its number, and where it is the one that was, what is asked for are Blocks of that.
 pub record ChecksLie (f : Filed) (name : SegName) (checks : List Check) : Type 0 where
@@ -67,6 +77,23 @@ PhaseLies f _ = Unit {0}
 abbrev pub JobsChecksLie : Type 0
 JobsChecksLie =
     (part : ℕ) (holds : SegRef → Rows) (any : ℕ → ℕ → Segment) (n : index.Net) → index.Runs part holds (index.opening any) n → PhaseLies n.filed n.job.phase
+
+-- each Block of the segment is named by a Delta of its block
+abbrev pub IsNamed : Segment → Type 0
+IsNamed s =
+    (b : BlockId) (item : ℕ) → IsBlockAt s item b
+    → (e : Entry) × Contains (rows_of s) (b, e) × (e.place ≡ Some (record { seg = record { name = s.name; group = s.group }; item = item }))
+
+abbrev pub AreNamed : Filed → Type 0
+AreNamed f = (l q : ℕ) → 0 < q → q ≤ f.head l → IsNamed (f.segment l q)
+
+-- So where the segment in hand is the one that was filed at its number, and in its group, each place that the job asks of is that of the block's row.
+abbrev pub ChecksAreOfRows : Type 0
+ChecksAreOfRows =
+    (part : ℕ) (holds : SegRef → Rows) (any : ℕ → ℕ → Segment) (n : index.Net) (j : JobState) (segment : SegRef) (checks : List Check)
+    → index.Runs part holds (index.opening any) n → ArePlain n.filed → AreNamed n.filed → n.job.phase ≡ Checking j segment checks
+    → is_filed_name n.filed segment.name ≡ true → segment.group ≡ (n.filed.segment segment.name.log.0 segment.name.seq).group
+    → AllByRecursion (λ (c : Check). (row_at n.filed c.block segment.name.log.0 segment.name.seq).place ≡ Some (place_in segment c.item)) checks
 
 -- ---- questions and answers
 

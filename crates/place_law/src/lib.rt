@@ -3,7 +3,7 @@
 #![tactic(auto)]
 
 ghost use Rattle.place_law.specs.Answers.{ManagersAnswer, RunsAnswer};
-ghost use Rattle.place_law.specs.Copies.{JobsChecksLie, LivesTellCopies};
+ghost use Rattle.place_law.specs.Copies.{ChecksAreOfRows, JobsChecksLie, LivesTellCopies};
 ghost use Rattle.place_law.specs.Fetches.{ClientsKeepSo, ClientsStartSo, FetchesReadThere};
 ghost use Rattle.place_law.specs.Hands.{HandsReadTexts};
 ghost use Rattle.place_law.specs.Reads.{TakeoversReadTexts, WhatIsReadIsTheText};
@@ -53,10 +53,13 @@ pub fn a_fetch_reads_there()
 ///
 /// - `checks`: at each moment of every run of the small world of a slot's index, what the cleaner's job asks for are Blocks of the segment that it has in hand,
 ///   where that is the one filed at its number.
+/// - `rows`: and each place that it asks of is that of the block's row, where the reference of the segment bears its group, and each Block of a segment is named
+///   by a Delta of its block.
 /// - `copies`: where each Live that was sent answers a Check that was sent, at the place that its entry has, and what the cleaner awaits it asked of the segment
 ///   in hand, and that has of a block one value, a Live that answers a question that is out tells, with the value that was read, what the filed segment says.
 pub fn a_live_tells_a_copy()
     ensures checks { JobsChecksLie }
+    ensures rows { ChecksAreOfRows }
     ensures copies { LivesTellCopies }
 {}
 
