@@ -70,7 +70,7 @@ module _ (laws : NodeLaws) (token_laws : tokens.NodeLaws) (k : Cluster) (part : 
   event_keeps w event may owed good =
       let fact = λ (q : Packet) (gets : what_of event ≡ Deliver q).
       delivered_fact token_laws false k part of_eight w.sent good.tokens good.tokens_stand.facts w refl event may q gets in
-      let u = token_turns token_laws false k part of_eight w event good.tokens good.cluster may good.tokens_stand (λ node there. tt) in
+      let u = token_turns token_laws false k part of_eight w event false good.tokens good.cluster may good.tokens_stand (λ node there. tt) in
       let v = event_turns laws k part of_eight texts first w event good.scene good.cluster may good.stands
       (λ q sent. kinds_of_tokens k part good.tokens q (good.tokens_stand.facts q sent))
       (λ node there. owed good.scene node good.stands (ap (λ c. node_in w.nodes (place_of c (node_of event))) good.cluster ∙ there))
