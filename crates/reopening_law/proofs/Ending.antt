@@ -15,7 +15,8 @@ use Rattle.log_law.specs.Events.Happens.{Acts, Writes, Opens, Crashes, Restarts,
 use Rattle.log_law.specs.Events.Runs.{Begun, On}
 use Rattle.log_law.specs.Net.{Net, Told, after_told, chain_in}
 use Rattle.log_law.specs.Net.Owner.{Opening as Scans}
-use Rattle.log_law.specs.Restarts.{is_serving}
+use Rattle.log_law.specs.Restarts.{IsSureRun, is_serving}
+use Rattle.log_law.specs.Tails.{then_on}
 use Rattle.log_owner.specs.declared.known.Known.{Known}
 use Rattle.log_owner.specs.declared.opened.Opened.{Opened}
 use Rattle.log_owner.specs.declared.opened.Progress.{Progress}
@@ -43,7 +44,7 @@ use Rattle.wire_msg.specs.declared.registry.News.{News}
 use Rattle.xfs_base.proofs.Booleans.{by_test, contrary}
 use Rattle.xfs_base.specs.declared.node.NodeId.{NodeId}
 use Rattle.xfs_base.specs.declared.segment.End.{End}
-use Rattle.reopening_law.specs.Openings.{EndsByOne, EndsSo, OpeningsEndByOne}
+use Rattle.reopening_law.specs.Openings.{EndsAreReopenings, EndsByOne, EndsSo, OpeningsEndByOne}
 
 -- ---- the chain of a log that is open
 
@@ -195,4 +196,20 @@ openings_end_by_one g c o q = (
     λ waits. tick_empty o q waits,
     λ s is. subst (λ (at : Stage). HasChain s.chain (on_tick (record o { stage = at }) q).progress) (sym is) (tick_chain q s o),
   ),
+)
+
+pub ends_are_reopenings : EndsAreReopenings
+ends_are_reopenings g w v runs o r e sure apart m calm = (
+  record {
+    sure = sure;
+    apart = apart;
+    moment = m;
+    happens = e.happens;
+    calm = subst (λ (x : Runs g w.net v.net). IsSureRun (then_on m.run x)) e.one calm;
+    writes = e.writes;
+    serves = e.serves;
+    own = e.own;
+    empty = e.empty;
+  },
+  refl,
 )

@@ -1,5 +1,5 @@
 -- The event of a node that ends a restart, in the small world of its log: the opening segment is settled there by the one thing that happens.
-use Rattle.std.specs.Prelude.{◌≡◌, ℕ, List, [], Some}
+use Rattle.std.specs.Prelude.{◌≡◌, ℕ, false, List, [], Some}
 use Rattle.client_log.specs.LogState.{FlightState}
 use Rattle.client_node.specs.declared.client.Client.{Client as AClient}
 use Rattle.client_node.specs.declared.lasting.Lasting.{Lasting}
@@ -12,6 +12,9 @@ use Rattle.log_law.specs.Events.{Happens, Runs}
 use Rattle.log_law.specs.Events.Runs.{Begun, On}
 use Rattle.log_law.specs.Net.Owner.{Serving as Serves, Writing}
 use Rattle.log_law.specs.ReadBack.{ReadsDown}
+use Rattle.log_law.specs.Laws.{Moment}
+use Rattle.log_law.specs.Restarts.{IsSureRun}
+use Rattle.log_law.specs.Tails.{then_on}
 use Rattle.log_owner.specs.declared.opened.Opened.{Opened}
 use Rattle.log_owner.specs.declared.opened.Progress.{Progress}
 use Rattle.log_owner.specs.declared.opened.Progress.TheVariants as progress
@@ -29,7 +32,7 @@ use Rattle.wire_msg.specs.declared.packet.Do.{Do}
 use Rattle.wire_msg.specs.declared.packet.Do.TheVariants.{Begin, Deliver, Tick}
 use Rattle.wire_msg.specs.declared.packet.Packet.{Packet}
 use Rattle.xfs_base.specs.declared.segment.SegName.{SegName}
-use Rattle.reopening_law.specs.Reopens.{IsOpened}
+use Rattle.reopening_law.specs.Reopens.{IsOpened, Reopens, TellsApart}
 
 -- The opening segment was in flight, with nothing in it, behind what was read back down to the horizon; it is settled by one thing that happens, and the log is
 -- open with that chain.
@@ -58,6 +61,13 @@ abbrev pub OpeningsEndByOne : Type 0
 OpeningsEndByOne =
     (g : Setting) (c : ℕ) (o : Opening) (q : Questions)
     → ((p : Packet) → EndsSo g c o (opens.on_packet o q p).progress) × EndsSo g c o (opens.on_tick o q).progress
+
+-- It is the event that ends a restart there, where no restart that ended was doubtful, and contents tell items apart.
+abbrev pub EndsAreReopenings : Type 0
+EndsAreReopenings =
+    (g : Setting) (w v : Scene) (runs : Runs g w.net v.net) (o : Opening) (r : Opened) (e : EndsByOne g w v runs o r) → g.doubts ≡ false → TellsApart g
+    → (m : Moment g w.net) → IsSureRun (then_on m.run runs)
+    → (x : Reopens g w.net v.net e.settling.chain e.settling.log r.log) × (x.moment ≡ m)
 
 -- ---- a client
 

@@ -6,7 +6,7 @@
 ghost use Rattle.reopening_law.specs.Below.{Below};
 ghost use Rattle.reopening_law.specs.Falls.{FallsGoOn, FallsStay};
 ghost use Rattle.reopening_law.specs.Flights.{FlightsOfOwners, FlightsStay, OthersLeaveFlights};
-ghost use Rattle.reopening_law.specs.Openings.{ClientsComeBack, OpeningsEndByOne};
+ghost use Rattle.reopening_law.specs.Openings.{ClientsComeBack, EndsAreReopenings, OpeningsEndByOne};
 ghost use Rattle.reopening_law.specs.Reopens.{BooksFollow, ClientsReopenSo, ReopeningsReadBack, TheCleanerReopensSo};
 
 use client_log::laws::settles_what_is_due;
@@ -76,8 +76,10 @@ pub fn falls_tell_their_flight()
 /// what was read back down to the horizon that was taken last.
 ///
 /// - `ends`: so it is of a client, and of the cleaner.
+/// - `reopens`: that is the event that ends a restart there, where no restart that ended was doubtful.
 /// - `back`: a client that comes to serve serves with the log that is open, and acts that it is back with the chain that was found.
 pub fn openings_end_by_one_thing()
     ensures ends { OpeningsEndByOne }
+    ensures reopens { EndsAreReopenings }
     ensures back { ClientsComeBack }
 {}
