@@ -1,5 +1,5 @@
 -- A log that waits for such versions and has such a segment in flight goes on so, whatever it takes.
-use Rattle.std.proofs.Common.{◌≡◌, ℕ, zero, suc, ◌≤◌, ◌&&◌, cond, [], ◌∷◌, map, length, Option, Some, None, refl, sym, subst, nat_lt}
+use Rattle.std.proofs.Common.{List, ◌≡◌, ℕ, zero, suc, ◌≤◌, ◌&&◌, cond, [], ◌∷◌, map, length, Option, Some, None, refl, sym, subst, nat_lt}
 use Rattle.std.specs.Prelude.{drop, take, IfSome}
 use Rattle.std.proofs.lemmas.List.{drop-map, take-map}
 use Rattle.indexmap.specs.IndexMap.{insert_entry}
@@ -9,11 +9,13 @@ use Rattle.client_log.specs.declared.flight.Fate.TheVariants.{Restripe, Settle, 
 use Rattle.client_log.specs.Fate.{fate_of}
 use Rattle.client_log.specs.Items.{items_of}
 use Rattle.client_log.specs.LogState.{FlightState, LogState}
-use Rattle.client_log.specs.Transition.{Done, launched, has_next, is_idle, is_full, can_go_on, sealed, if_full, waits, on_put, on_seal, restriped, landed, settled, can_follow, followed, looked_at, is_of, noting, on_acked, on_maps, on_tick, all_sends}
+use Rattle.client_log.specs.Texts.{has_text}
+use Rattle.client_log.specs.Transition.{Done, launched, has_next, is_idle, is_full, can_go_on, sealed, if_full, waits, on_put, on_seal, restriped, landed, settled, can_follow, followed, looked_at, is_of, noting, on_acked, on_maps, on_tick, all_sends, on_parts, writes}
 use Rattle.group_map.specs.GroupMapState.{GroupMapState}
 use Rattle.node_tie.specs.LogRows.{row_of, told}
 use Rattle.node_tie.proofs.ClientRows.{once_dropped, once_put, once_taken, rows_put}
 use Rattle.node_tie.proofs.LogRows.{take_within}
+use Rattle.segment_format.specs.declared.segment.Item.{Item}
 use Rattle.segment_format.specs.declared.segment.Segment.{Segment}
 use Rattle.token_law.specs.Books.{AreOnce}
 use Rattle.xfs_base.proofs.Booleans.{by_test}
@@ -100,6 +102,13 @@ module _ (Moved : ℕ → Type 0) (Flies : Segment → Type 0) (kind : IsKind Mo
   unfolding on_seal
   seal_so s h =
       by_test Keeps (is_idle s && nat_lt 0 (length s.dirty) && has_next s.end.seq) (sealed s) (still s) (λ t. sealed_so s h) (λ t. h)
+
+  -- these items
+  pub parts_so : (s : LogState) (items : List Item) → ((t : Segment) → t.items ≡ items → Flies t) → So s → So (on_parts s items).state
+  unfolding on_parts launched
+  parts_so s items is h =
+      by_test Keeps (is_idle s && has_next s.end.seq && has_text items) (writes s items) (still s)
+      (λ t. record { once = h.once; each = h.each; flies = is _ refl }) (λ t. h)
 
   -- ---- a segment is settled
 

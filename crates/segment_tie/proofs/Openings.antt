@@ -39,10 +39,10 @@ use Rattle.segment_tie.specs.Clients.{StageWrites}
 use Rattle.segment_tie.specs.Segments.{IsOriginal, IsCopies, IsFirstHand, IsMoved, WritesSo, WritesOnly, WritesNothing, WritesOriginals, WritesCopies}
 use Rattle.segment_tie.proofs.Items.{nothing_is}
 
-abbrev Empty : Segment → Type 0
+abbrev pub Empty : Segment → Type 0
 Empty s = s.items ≡ []
 
-abbrev Keeps : Done → Type 0
+abbrev pub Keeps : Done → Type 0
 Keeps d = WritesNothing d.state
 
 -- ---- the log
@@ -58,7 +58,7 @@ if_full_so : (s : LogState) → WritesNothing s → Keeps (if_full s)
 unfolding if_full
 if_full_so s h = by_test Keeps (is_full s) (sealed s) (still s) (λ t. sealed_so s h.clear) (λ t. h)
 
-begun_so : (s : LogState) → WritesNothing s → Keeps (on_parts s [])
+pub begun_so : (s : LogState) → WritesNothing s → Keeps (on_parts s [])
 unfolding on_parts launched
 begun_so s h =
     by_test Keeps (is_idle s && has_next s.end.seq && has_text []) (writes s []) (still s) (λ t. record { clear = h.clear; flies = refl }) (λ t. h)
@@ -75,7 +75,7 @@ looks_so before s f was clear is =
     by_test Keeps (can_follow s f (fate_of s.groups f)) (followed s f (fate_of s.groups f)) (still before)
     (λ t. follows_so s f (fate_of s.groups f) clear is) (λ t. was)
 
-acked_so : (s : LogState) (name : SegName) (index generation : ℕ) → WritesNothing s → Keeps (on_acked s name index generation)
+pub acked_so : (s : LogState) (name : SegName) (index generation : ℕ) → WritesNothing s → Keeps (on_acked s name index generation)
 unfolding on_acked
 acked_so s name index generation h = by s.flight h.flies
   where
@@ -85,7 +85,7 @@ acked_so s name index generation h = by s.flight h.flies
     by (Some f) is =
         by_test Keeps (is_of f name index generation) (looked_at s s (noting f index)) (still s) (λ t. looks_so s s (noting f index) h h.clear is) (λ t. h)
 
-maps_so : (s : LogState) (groups : GroupMapState) → WritesNothing s → Keeps (on_maps s groups)
+pub maps_so : (s : LogState) (groups : GroupMapState) → WritesNothing s → Keeps (on_maps s groups)
 unfolding on_maps
 maps_so s groups h = by s.flight h.flies
   where
@@ -94,7 +94,7 @@ maps_so s groups h = by s.flight h.flies
     by None is = record { clear = h.clear; flies = h.flies }
     by (Some f) is = looks_so s (record s { groups = groups }) f h h.clear is
 
-tick_so : (s : LogState) → WritesNothing s → Keeps (on_tick s)
+pub tick_so : (s : LogState) → WritesNothing s → Keeps (on_tick s)
 unfolding on_tick
 tick_so s h = by s.flight
   where
