@@ -5,3 +5,5 @@ mod Flights
 mod Polls
 mod Owners
 mod Filing
+mod Straight
+mod Acting

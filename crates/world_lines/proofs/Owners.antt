@@ -1,5 +1,5 @@
 -- An owner's own event: near the end of a counter it does nothing, else the numbers of what it files have one after them; and its line goes on.
-use Rattle.std.proofs.Common.{◌≡◌, ⊎_elim, ◌+◌, ◌≤◌, ℕ, true, false, List, [], ◌∷◌, inl, inr, refl, sym, ap, subst, ◌∙◌, arith}
+use Rattle.std.proofs.Common.{◌≡◌, ⊎_elim, ◌+◌, ◌≤◌, ℕ, true, List, [], ◌∷◌, inl, inr, refl, sym, ap, subst, ◌∙◌, arith}
 use Rattle.std.specs.Prelude.{◌&&◌}
 use Rattle.std.specs.List.{list_all}
 use Rattle.std.proofs.lemmas.Bool.Decides.{nat_tests}
@@ -10,7 +10,6 @@ use Rattle.cleaner_node.specs.declared.cleaner.Phase.{Phase as CleanerPhase}
 use Rattle.cleaner_node.specs.declared.cleaner.Phase.TheVariants as cleaning
 use Rattle.client_log.specs.LogState.{LogState}
 use Rattle.client_log.specs.Transition.{has_next}
-use Rattle.client_log_tie.specs.ClientEvents.{FliesInBoot}
 use Rattle.client_log_tie.specs.Owner.{Scene, ClientAgrees, SeesStage}
 use Rattle.client_node.specs.Packets.{epochs_room}
 use Rattle.client_node.specs.Phases as clients
@@ -19,12 +18,10 @@ use Rattle.client_node.specs.declared.phase.Phase.TheVariants as client
 use Rattle.index_tie.specs.Filed.{Filed}
 use Rattle.index_tie.specs.Net as index
 use Rattle.log_law.specs.Ends.{EndsAreLast}
-use Rattle.log_law.specs.Events.{Runs}
-use Rattle.log_law.specs.Laws.{LogsStayWhole, Moment}
+use Rattle.log_law.specs.Laws.{LogsStayWhole}
 use Rattle.log_law.specs.Net.{Net, Owner}
 use Rattle.log_law.specs.Net.Owner.{Down, Opening, Serving, Writing}
 use Rattle.log_law.specs.Openings.{NothingFiledOpening, next_number}
-use Rattle.log_law.specs.Restarts.{is_serving}
 use Rattle.log_owner.specs.Opening.{attempt_of, log_room, opening_room, stage_room}
 use Rattle.log_owner.specs.declared.known.Known.{Known}
 use Rattle.log_owner.specs.declared.opening.Opening.{Opening as Openings}
@@ -50,7 +47,7 @@ use Rattle.xfs_base.specs.declared.node.NodeId.{NodeId}
 use Rattle.xfs_base.specs.declared.segment.SegName.{SegName}
 use Rattle.world_lines.proofs.Turns.{lines_go_on}
 use Rattle.world_lines.specs.Lines.{IsLine}
-use Rattle.world_lines.specs.Owners.{ActsAreDone, CleanerFilesShort, CleanersLineGoesOn, ClientsFileShort, ClientsLinesGoOn, HasFlown, IsRoomy}
+use Rattle.world_lines.specs.Owners.{ActsAreDone, CleanerFilesShort, CleanersLineGoesOn, ClientsFileShort, ClientsLinesGoOn, HasFlown, InBootFilesStill, IsRoomy}
 use Rattle.world_lines.specs.Turns.{ActSo, AllSo}
 
 -- ---- acts
@@ -144,9 +141,8 @@ cleaner_files_short g w node what sees room =
 
 -- ---- lines
 
-module _ (unfiled : NothingFiledOpening) (g : Setting) (n o : Net) (at : Moment g n) (run : Runs g n o) (flies : FliesInBoot n o) where
-  pub files_nothing : is_serving o.owner ≡ false → o.filed ≡ n.filed
-  files_nothing none = ⊎_elim (λ same. unfiled g n o at run same none) (λ still. still.1) flies
+pub in_boot_files_still : NothingFiledOpening → InBootFilesStill
+in_boot_files_still unfiled g n o at run flies none = ⊎_elim (λ same. unfiled g n o at run same none) (λ rests. rests.1) flies
 
 -- the end of an owner that serves is that of the phase
 log_end : (o : Owner) (s t : LogState) → o ≡ Serving t → o ≡ Serving s → s ≡ t
@@ -175,9 +171,9 @@ module _ (part : ℕ) (texts : Texts) (g : Setting) where
   cleaner_end v n (cleaning.Serving t) sees agrees s is =
       ap (λ (x : LogState). x.end.seq) (log_end v.net.owner s t.log sees.log.owner is) ∙ agrees.0.owner.end.seq
 
-module _ (whole : LogsStayWhole) (last : EndsAreLast) (unfiled : NothingFiledOpening) where
+module _ (whole : LogsStayWhole) (last : EndsAreLast) where
   pub clients_lines_go_on : ClientsLinesGoOn
-  clients_lines_go_on part texts g c w v n node what at run flies sure sees acts line goes =
+  clients_lines_go_on part texts g c w v n node what run files sure sees acts line goes =
       let outs = (clients.takes node what).outs in
       let filed : goes.next.filed ≡ filed_after texts c n.filed outs = ap (λ (x : index.Net). x.filed) goes.is in
       subst (IsLine c v.net) (sym filed) (lines_go_on whole last texts c g w.net v.net n.filed outs line (record {
@@ -186,11 +182,11 @@ module _ (whole : LogsStayWhole) (last : EndsAreLast) (unfiled : NothingFiledOpe
         acts = acts;
         end = λ s is.
             client_end part texts g c v goes.next (clients.takes node what).state sees goes.agrees s is ∙ ap (λ (f : Filed). f.head c) filed;
-        still = files_nothing unfiled g w.net v.net at run flies;
+        still = files;
       }))
 
   pub cleaners_line_goes_on : CleanersLineGoesOn
-  cleaners_line_goes_on part texts asked g w v n node what at run flies sure sees acts line goes =
+  cleaners_line_goes_on part texts asked g w v n node what run files sure sees acts line goes =
       let outs = (cleaners.takes node.peers node.phase what).outs in
       subst (IsLine 9 v.net) (sym goes.filed) (lines_go_on whole last texts 9 g w.net v.net n.filed outs line (record {
         run = run;
@@ -199,5 +195,5 @@ module _ (whole : LogsStayWhole) (last : EndsAreLast) (unfiled : NothingFiledOpe
         end = λ s is.
             cleaner_end part texts g v goes.next (cleaners.takes node.peers node.phase what).state sees goes.agrees.phase s is
             ∙ ap (λ (f : Filed). f.head 9) goes.filed;
-        still = files_nothing unfiled g w.net v.net at run flies;
+        still = files;
       }))

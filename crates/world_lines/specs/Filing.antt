@@ -1,5 +1,5 @@
 -- What owners act to be filed flew before the event: what one that serves had in flight, and what one that opens its log had read back.
-use Rattle.std.specs.Prelude.{◌≡◌, ◌<◌, ℕ, true, List}
+use Rattle.std.specs.Prelude.{◌≡◌, ◌<◌, ℕ, true, false, List}
 use Rattle.std.specs.List.{AllByRecursion}
 use Rattle.cleaner_log_tie.specs.Owner as cleaner_log
 use Rattle.cleaner_node.specs.CleanerEvents as cleaners
@@ -8,16 +8,18 @@ use Rattle.cleaner_node.specs.declared.cleaner.Phase.TheVariants as cleaning
 use Rattle.cleaner_node.specs.declared.emptying.Emptying.{Emptying}
 use Rattle.client_log.specs.LogState.{LogState}
 use Rattle.client_log.specs.Transition.{has_next}
+use Rattle.client_log_tie.specs.ClientEvents.{ServesStraight}
 use Rattle.client_log_tie.specs.Owner.{Scene, ClientAgrees}
 use Rattle.client_node.specs.Phases as clients
 use Rattle.client_node.specs.declared.client.Client.{Client}
 use Rattle.client_node.specs.declared.phase.Phase.TheVariants as client
 use Rattle.client_node.specs.declared.serving.Serving.{Serving}
 use Rattle.index_tie.specs.Net as index
-use Rattle.log_law.specs.Events.{Happens}
+use Rattle.log_law.specs.Events.{Happens, Runs}
 use Rattle.log_law.specs.Laws.{Moment}
 use Rattle.log_law.specs.Net.{Net}
 use Rattle.log_law.specs.Net.Owner.{Writing}
+use Rattle.log_law.specs.Restarts.{is_serving}
 use Rattle.log_protocol.specs.Tables.{In}
 use Rattle.log_tie.specs.Setting.{Setting}
 use Rattle.node_base.specs.declared.effects.Effect.{Effect}
@@ -30,7 +32,7 @@ use Rattle.wire_msg.specs.declared.packet.Do.{Do}
 use Rattle.xfs_base.specs.declared.segment.SegName.{SegName}
 use Rattle.world_lines.specs.Lines.{IsSure}
 use Rattle.world_lines.specs.Owners.{HasFlown, IsRoomy}
-use Rattle.world_lines.specs.Turns.{AllSo}
+use Rattle.world_lines.specs.Turns.{ActsFile, AllSo}
 
 -- Where nothing more is filed, all that is filed flew before.
 abbrev pub WhatIsFiledFlew : Type 0
@@ -40,6 +42,12 @@ WhatIsFiledFlew = (g : Setting) (n o : Net) → Moment g n → o.filed ≡ n.fil
 abbrev pub OpeningsFileWhatFlew : Type 0
 OpeningsFileWhatFlew =
     (g : Setting) (n o : Net) → Moment g n → (chain : List Segment) (s : LogState) → n.owner ≡ Writing chain s → Happens g n o → (name : SegName)
+    → In name o.filed → HasFlown n name
+
+-- So did all that is filed after an event before which the owner doesn't serve, and by which it comes to serve at once, if it does.
+abbrev pub RestartsFileWhatFlew : Type 0
+RestartsFileWhatFlew =
+    (g : Setting) (n o : Net) → g.doubts ≡ false → Moment g n → (runs : Runs g n o) → ServesStraight runs → is_serving n.owner ≡ false → (name : SegName)
     → In name o.filed → HasFlown n name
 
 -- What an owner that serves acts to be filed is what it had in flight; and its number has one after it.
@@ -64,3 +72,23 @@ CleanerFilesItsFlights =
     → cleaner_index.EventGets part n node.phase what
     → AllByRecursion (cleaner_index.EffectOwed part n) (cleaners.takes node.peers node.phase what).outs
     → FilesItsFlight w.net e.log (cleaners.takes node.peers node.phase what).outs
+
+-- ---- an event of the owner, whole
+
+-- What a client acts to be filed, in any of its events, is filed after it, and has a number with one after it.
+abbrev pub ClientsActsFile : Type 0
+ClientsActsFile =
+    (part : ℕ) (texts : Texts) (g : Setting) (c : ℕ) (w v : Scene) (n : index.Net) (node : Client) (what : Do) → 0 < c → c < 9 → IsSure texts c g w.net
+    → IsRoomy w.net → ClientAgrees g c w node.phase → client_index.ClientAgrees part texts n c node.phase
+    → client_index.EventGets part texts n c node.phase what → (runs : Runs g w.net v.net) → ServesStraight runs
+    → AllSo (λ name. In name v.net.filed) (clients.takes node what).outs → ActsFile v.net (clients.takes node what).outs
+
+-- So does the cleaner.
+abbrev pub CleanersActsFile : Type 0
+CleanersActsFile =
+    (part : ℕ) (texts : Texts) (g : Setting) (w v : Scene) (n : index.Net) (node : Cleaner) (what : Do) → part < 8 → IsSure texts 9 g w.net
+    → IsRoomy w.net → cleaner_log.CleanerAgrees g w node.phase → cleaner_index.CleanerAgrees part n texts node.phase
+    → cleaner_index.EventGets part n node.phase what
+    → AllByRecursion (cleaner_index.EffectOwed part n) (cleaners.takes node.peers node.phase what).outs → (runs : Runs g w.net v.net) → ServesStraight runs
+    → AllSo (λ name. In name v.net.filed) (cleaners.takes node.peers node.phase what).outs
+    → ActsFile v.net (cleaners.takes node.peers node.phase what).outs

@@ -1,11 +1,11 @@
 -- The lines of a client's log and of the cleaner's in their own events: numbers of what is filed have one after them, and the line goes on as the small world of one
 -- slot's index has it then.
-use Rattle.std.specs.Prelude.{◌≡◌, ◌≤◌, ◌⊎◌, ℕ, true, List}
+use Rattle.std.specs.Prelude.{◌≡◌, ◌≤◌, ◌⊎◌, ℕ, true, false, List}
 use Rattle.cleaner_log_tie.specs.Owner as cleaner_log
 use Rattle.cleaner_node.specs.CleanerEvents as cleaners
 use Rattle.cleaner_node.specs.declared.cleaner.Cleaner.{Cleaner}
 use Rattle.client_log.specs.Transition.{has_next}
-use Rattle.client_log_tie.specs.ClientEvents.{FliesInBoot}
+use Rattle.client_log_tie.specs.ClientEvents.{FliesInBoot, ServesStraight}
 use Rattle.client_log_tie.specs.Owner.{Scene, ClientAgrees}
 use Rattle.client_node.specs.Phases as clients
 use Rattle.client_node.specs.declared.client.Client.{Client}
@@ -14,6 +14,7 @@ use Rattle.log_law.specs.Events.{Runs}
 use Rattle.log_law.specs.Laws.{Moment}
 use Rattle.log_law.specs.Net.{Net}
 use Rattle.log_law.specs.Openings.{next_number}
+use Rattle.log_law.specs.Restarts.{is_serving}
 use Rattle.log_protocol.specs.Tables.{In}
 use Rattle.log_tie.specs.Setting.{Setting}
 use Rattle.node_base.specs.Effects.{acts_of}
@@ -61,19 +62,31 @@ CleanerFilesShort =
 
 -- ---- lines
 
+-- nothing is filed, unless the owner serves then
+abbrev pub FilesStill : Net → Net → Type 0
+FilesStill n o = is_serving o.owner ≡ false → o.filed ≡ n.filed
+
+-- So it is in an event in which the owner keeps its boot, or nothing flies and nothing is filed;
+abbrev pub InBootFilesStill : Type 0
+InBootFilesStill = (g : Setting) (n o : Net) → Moment g n → Runs g n o → FliesInBoot n o → FilesStill n o
+
+-- and in one on the way of which it serves nowhere, unless it serves then.
+abbrev pub StraightFilesStill : Type 0
+StraightFilesStill = (g : Setting) (n o : Net) → Moment g n → (runs : Runs g n o) → ServesStraight runs → FilesStill n o
+
 -- In an event of a client the line of its log goes on to what is filed then.
 abbrev pub ClientsLinesGoOn : Type 0
 ClientsLinesGoOn =
-    (part : ℕ) (texts : Texts) (g : Setting) (c : ℕ) (w v : Scene) (n : index.Net) (client : Client) (what : Do) → Moment g w.net → Runs g w.net v.net
-    → FliesInBoot w.net v.net → IsSure texts c g v.net → ClientAgrees g c v (clients.takes client what).state
+    (part : ℕ) (texts : Texts) (g : Setting) (c : ℕ) (w v : Scene) (n : index.Net) (client : Client) (what : Do) → Runs g w.net v.net
+    → FilesStill w.net v.net → IsSure texts c g v.net → ClientAgrees g c v (clients.takes client what).state
     → AllSo (λ name. In name v.net.filed) (clients.takes client what).outs → IsLine c w.net n.filed
     → (goes : ClientGoes part texts n c (clients.takes client what)) → IsLine c v.net goes.next.filed
 
 -- So does the line of the cleaner's log.
 abbrev pub CleanersLineGoesOn : Type 0
 CleanersLineGoesOn =
-    (part : ℕ) (texts : Texts) (asked : Questions) (g : Setting) (w v : Scene) (n : index.Net) (cleaner : Cleaner) (what : Do) → Moment g w.net
-    → Runs g w.net v.net → FliesInBoot w.net v.net → IsSure texts 9 g v.net
+    (part : ℕ) (texts : Texts) (asked : Questions) (g : Setting) (w v : Scene) (n : index.Net) (cleaner : Cleaner) (what : Do) → Runs g w.net v.net
+    → FilesStill w.net v.net → IsSure texts 9 g v.net
     → cleaner_log.CleanerAgrees g v (cleaners.takes cleaner.peers cleaner.phase what).state
     → AllSo (λ name. In name v.net.filed) (cleaners.takes cleaner.peers cleaner.phase what).outs → IsLine 9 w.net n.filed
     → (goes : CleanerGoes part texts asked n (cleaners.takes cleaner.peers cleaner.phase what)) → IsLine 9 v.net goes.next.filed

@@ -3,10 +3,10 @@
 //! `specs/Lines.antt` says what a line is, `specs/Turns.antt` what an event makes of it.
 #![tactic(auto)]
 
-ghost use Rattle.world_lines.specs.Filing.{CleanerFilesItsFlights, ClientsFileTheirFlights, OpeningsFileWhatFlew, WhatIsFiledFlew};
+ghost use Rattle.world_lines.specs.Filing.{CleanerFilesItsFlights, CleanersActsFile, ClientsActsFile, ClientsFileTheirFlights, OpeningsFileWhatFlew, RestartsFileWhatFlew, WhatIsFiledFlew};
 ghost use Rattle.world_lines.specs.Flights.{CleanerWritesTexts, ClientsWriteTexts, ManagersWriteTexts};
 ghost use Rattle.world_lines.specs.Lines.{LinesAreFiled, LinesAreTexts, LinesGive};
-ghost use Rattle.world_lines.specs.Owners.{ActsAreDone, CleanerFilesShort, CleanersLineGoesOn, ClientsFileShort, ClientsLinesGoOn};
+ghost use Rattle.world_lines.specs.Owners.{ActsAreDone, CleanerFilesShort, CleanersLineGoesOn, ClientsFileShort, ClientsLinesGoOn, InBootFilesStill, StraightFilesStill};
 ghost use Rattle.world_lines.specs.Polls.{CleanersPollsAreOwed, ClientsPollsAreOwed, LinksGoOn, LinksStay, PresentIsLinked, ServersGoOnByFlights};
 ghost use Rattle.world_lines.specs.Turns.{CleanersFilesAreOwed, ClientsFilesAreOwed, LinesBegin, LinesGoOn, LinesStay};
 
@@ -88,11 +88,14 @@ pub fn logs_are_linked()
 /// - `acts`: what is so of each segment that is acted to be filed is so of what is done.
 /// - `clients_short`, `cleaner_short`: the number of what was in flight, and is acted to be filed, has one after it: near the end of a counter an event changes
 ///   nothing.
+/// - `in_boot`, `straight`: unless the owner serves after an event, nothing is filed in it.
 /// - `clients`, `cleaner`: the line goes on to what is filed in the small world of one slot's index.
 pub fn owners_lines_go_on()
     ensures acts { ActsAreDone }
     ensures clients_short { ClientsFileShort }
     ensures cleaner_short { CleanerFilesShort }
+    ensures in_boot { InBootFilesStill }
+    ensures straight { StraightFilesStill }
     ensures clients { ClientsLinesGoOn }
     ensures cleaner { CleanersLineGoesOn }
 {
@@ -105,10 +108,12 @@ pub fn owners_lines_go_on()
 ///
 /// - `filed`: so did all that is filed, where nothing more is.
 /// - `openings`: so did all that is filed by one thing that happens to an owner whose opening segment is in flight.
+/// - `restarts`: so did all that is filed after an event of an owner that didn't serve before it.
 /// - `clients`, `cleaner`: an owner that serves acts nothing to be filed but what it had in flight, and its number has one after it.
 pub fn what_is_filed_flew()
     ensures filed { WhatIsFiledFlew }
     ensures openings { OpeningsFileWhatFlew }
+    ensures restarts { RestartsFileWhatFlew }
     ensures clients { ClientsFileTheirFlights }
     ensures cleaner { CleanerFilesItsFlights }
 {
@@ -117,4 +122,14 @@ pub fn what_is_filed_flew()
     what_flew_is_written();
     settles_what_is_due();
     owners_file_their_flights();
+    openings_go_on();
+}
+
+/// What a client, or the cleaner, acts to be filed in any of its events is filed after it, and its number has one after it.
+pub fn what_is_acted_is_filed()
+    ensures clients { ClientsActsFile }
+    ensures cleaner { CleanersActsFile }
+{
+    what_is_filed_flew();
+    owners_lines_go_on();
 }

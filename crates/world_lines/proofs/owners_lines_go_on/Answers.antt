@@ -1,4 +1,5 @@
 use Rattle.world_lines.proofs.Owners as owners
+use Rattle.world_lines.proofs.Straight as straight
 use Rattle.world_lines.proofs.owners_lines_go_on.Goals as goal
 
 pub returns : goal.returns
@@ -6,6 +7,8 @@ returns c = record {
   acts = owners.acts_are_done;
   clients_short = owners.clients_file_short;
   cleaner_short = owners.cleaner_files_short;
-  clients = owners.clients_lines_go_on c.logs_stay_whole.ensures.whole c.ends_are_last.ensures.last c.openings_go_on.ensures.unfiled;
-  cleaner = owners.cleaners_line_goes_on c.logs_stay_whole.ensures.whole c.ends_are_last.ensures.last c.openings_go_on.ensures.unfiled;
+  in_boot = owners.in_boot_files_still c.openings_go_on.ensures.unfiled;
+  straight = straight.straight_files_still c.openings_go_on.ensures.unfiled;
+  clients = owners.clients_lines_go_on c.logs_stay_whole.ensures.whole c.ends_are_last.ensures.last;
+  cleaner = owners.cleaners_line_goes_on c.logs_stay_whole.ensures.whole c.ends_are_last.ensures.last;
 }

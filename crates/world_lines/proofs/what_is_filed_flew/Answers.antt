@@ -1,4 +1,5 @@
 use Rattle.world_lines.proofs.Filing as filing
+use Rattle.world_lines.proofs.Straight as straight
 use Rattle.world_lines.proofs.what_is_filed_flew.Goals as goal
 
 pub returns : goal.returns
@@ -6,6 +7,9 @@ returns c = record {
   filed = filing.what_is_filed_flew c.logs_stay_whole.ensures.whole;
   openings = filing.openings_file_what_flew c.logs_stay_whole.ensures.whole c.what_is_held_flew.ensures.held c.what_flew_is_written.ensures.written
       c.settles_what_is_due.ensures;
+  restarts = straight.restarts_file_what_flew c.logs_stay_whole.ensures.whole c.openings_go_on.ensures.unfiled
+      (filing.openings_file_what_flew c.logs_stay_whole.ensures.whole c.what_is_held_flew.ensures.held c.what_flew_is_written.ensures.written
+      c.settles_what_is_due.ensures);
   clients = filing.clients_file_their_flights c.what_is_held_flew.ensures.held c.what_flew_is_written.ensures.written c.what_flew_is_written.ensures.next
       c.owners_file_their_flights.ensures.client;
   cleaner = filing.cleaner_files_its_flights c.what_is_held_flew.ensures.held c.what_flew_is_written.ensures.written c.what_flew_is_written.ensures.next
