@@ -10,7 +10,7 @@ use Rattle.world_base.specs.declared.estate.Estate.{Estate}
 use Rattle.world_base.specs.declared.event.Event.{Event}
 use Rattle.world_base.specs.Events.{node_of}
 use Rattle.world_law.proofs.OtherTurns.{equal_or_not}
-use Rattle.world_logs.specs.Lines.{ClientGrows, IsBegun, IsLeft, Line, setting}
+use Rattle.world_logs.specs.Lines.{IsBegun, IsLeft, Line, setting}
 use Rattle.world_logs.specs.Roles.Role.{OfClient}
 use Rattle.xfs_base.specs.declared.node.NodeId.{NodeId}
 use Rattle.xfs_base.specs.declared.node.NodeId.TheVariants.{Client, Manager, Server, Cleaner, Registry}
@@ -49,10 +49,10 @@ module _ (base : Setting) (e : Estate AnyNode) (c : ℕ) (line : Line base e (Of
   abbrev So : ℕ → Type 0
   So count = IsOriginalLog (line.at count).net
 
-  own_so : (count : ℕ) → ClientGrows (setting base e (OfClient c)) (line.at count) (line.at (suc count)) → So count → So (suc count)
-  own_so count goes h =
-      let grown = goes.grown in
-      logs_go_on (setting base e (OfClient c)) (line.at count).net (line.at (suc count)).net grown.runs goes.straight goes.puts h
+  own_so : (count : ℕ) (event : Event) → slice_get e.events count ≡ Some event → Client c ≡ node_of event → So count → So (suc count)
+  own_so count event is own h =
+      logs_go_on (setting base e (OfClient c)) (line.at count).net (line.at (suc count)).net (line.goes count) (line.straight count event is own)
+      (line.puts count event is own) h
 
   left_so : (count : ℕ) → IsLeft (line.at count).net (line.at (suc count)).net → So count → So (suc count)
   left_so count left h = same_so (setting base e (OfClient c)) (line.at count).net h (line.at (suc count)).net left.owner left.flown
@@ -60,7 +60,7 @@ module _ (base : Setting) (e : Estate AnyNode) (c : ℕ) (line : Line base e (Of
   next_so : (count : ℕ) (o : Option Event) → slice_get e.events count ≡ o → So count → So (suc count)
   next_so count None is h = subst (λ w. IsOriginalLog w.net) (sym (line.ended count is)) h
   next_so count (Some event) is h =
-      ⊎_elim (λ own. own_so count (line.own count event is own) h) (λ away. left_so count (line.others count event is away) h) (is_it c (node_of event))
+      ⊎_elim (λ own. own_so count event is own h) (λ away. left_so count (line.others count event is away) h) (is_it c (node_of event))
 
   each_so : (count : ℕ) → So count
   each_so zero =

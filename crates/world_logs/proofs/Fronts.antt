@@ -244,7 +244,16 @@ module _ (laws : NodeLaws) (stay : GroupsStay) (base : Setting) (end : World Any
     pub ended : o ≡ None → v ≡ w
 
   none_left : (r : Role) (w : Scene) (at : Moment (g r) w.net) → Steps r None w at w at
-  none_left r w at = record { runs = Begun; joined = refl; own = λ event is. absurd cc; straight = λ event is. absurd cc; puts = λ event is. absurd cc; left = λ event is. absurd cc; ended = λ is. refl }
+  none_left r w at =
+      record {
+        runs = Begun;
+        joined = refl;
+        own = λ event is. absurd cc;
+        straight = λ event is. absurd cc;
+        puts = λ event is. absurd cc;
+        left = λ event is. absurd cc;
+        ended = λ is. refl;
+      }
 
   same_event : (x y : Event) → Some x ≡ Some y → x ≡ y
   same_event x y is = cc

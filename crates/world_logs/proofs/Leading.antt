@@ -67,4 +67,12 @@ still_puts (OfManager j) n = tt
 
 -- where nothing happens
 pub stands_still : (g : Setting) (r : Role) (name : NodeId) (w : Scene) (at : Moment g w.net) → LeadsOn g r name w at w at
-stands_still g r name w at = record { runs = Begun; joined = refl; own = λ e. grows_still g r w; straight = λ e. still_straight g r w.net; puts = λ e. still_puts r w.net; left = λ away. left_by w.net w.net refl }
+stands_still g r name w at =
+    record {
+      runs = Begun;
+      joined = refl;
+      own = λ e. grows_still g r w;
+      straight = λ e. still_straight g r w.net;
+      puts = λ e. still_puts r w.net;
+      left = λ away. left_by w.net w.net refl;
+    }

@@ -143,4 +143,8 @@ module _ (g : Setting) (r : Role) (w v : Scene) (k : Cluster) (nodes : List AnyN
   }
 
   pub turned : Next g r w st.moment name k nodes_now sent_now (told ++ acts)
-  turned = record { scene = v; stands = stood; leads = record { runs = t.runs; joined = refl; own = t.own; straight = t.straight; puts = t.puts; left = t.left } }
+  turned = record {
+    scene = v;
+    stands = stood;
+    leads = record { runs = t.runs; joined = refl; own = t.own; straight = t.straight; puts = t.puts; left = t.left };
+  }
