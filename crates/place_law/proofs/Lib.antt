@@ -14,3 +14,4 @@ pub mod AimsReads
 pub mod AimsServing
 pub mod AimsClients
 pub mod Placing
+pub mod AimsRuns

@@ -8,6 +8,8 @@ use Rattle.client_node.specs.Flights.{held_at}
 use Rattle.client_node.specs.Phases.{takes}
 use Rattle.client_node.specs.Reads.{reading_in}
 use Rattle.client_node.specs.Starting.{first_client}
+use Rattle.core_world.specs.declared.any_node.AnyNode.{AnyNode}
+use Rattle.core_world.specs.declared.any_node.AnyNode.TheVariants as any
 use Rattle.entry_tie.specs.ClientTells.{ServingHolds}
 use Rattle.entry_tie.specs.Told.{told_by}
 use Rattle.index_reads.specs.Ties.{BooksAre, ArePlain}
@@ -24,8 +26,11 @@ use Rattle.token_law.specs.Net as tokens
 use Rattle.version_model.specs.declared.work.Work.{Work}
 use Rattle.wire_msg.specs.declared.packet.Do.{Do}
 use Rattle.wire_msg.specs.declared.packet.Packet.{Packet}
+use Rattle.world_base.specs.declared.estate.Estate.{Estate}
+use Rattle.world_law.specs.Owners.{moment, node_named}
 use Rattle.xfs_base.specs.declared.node.NodeId.{NodeId}
 use Rattle.xfs_base.specs.declared.entry.Place.{Place}
+use Rattle.xfs_base.specs.declared.node.NodeId.TheVariants as nodes
 use Rattle.xfs_base.specs.declared.setup.Setup.{Setup}
 use Rattle.place_law.specs.Reads.{FiledKnown}
 
@@ -51,8 +56,13 @@ ClientsStartSo = (number : ℕ) (setup : Setup) (works : List Work) → PhaseRea
 abbrev pub ClientsKeepSo : Type 0
 ClientsKeepSo = (client : Client) (what : Do) → PhaseReadsItsFetch client.phase → PhaseReadsItsFetch (takes client what).state
 
--- A client that serves, beside what logs filed: the place of each fetch and of its reading is what a filed segment says of the block, what it holds of the reading
--- came, and the reading is the fetch's.
+-- So it is of each client, at each moment of every run.
+abbrev pub RunsReadTheirFetches : Type 0
+RunsReadTheirFetches =
+    (e : Estate AnyNode) (count c : ℕ) (node : Client) → node_named (moment e count) (nodes.Client c) ≡ Some (any.Client node) → PhaseReadsItsFetch node.phase
+
+-- A client that serves, beside what logs filed: the place of each fetch and of its reading is what a filed segment says of the block, what it holds of the
+-- reading came, and the reading is the fetch's.
 pub record FetchesWell (packets : List Packet) (to : NodeId) (cuts : Cuts) (f : Filed) (s : Serving) : Type 0 where
   pub told : ServingHolds (told_by (rows_at f)) s
   pub came : ServesSo (answered_in packets to) (cut_by cuts) s

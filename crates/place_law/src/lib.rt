@@ -4,7 +4,7 @@
 
 ghost use Rattle.place_law.specs.Answers.{ManagersAnswer, RunsAnswer};
 ghost use Rattle.place_law.specs.Copies.{ChecksAreOfRows, JobsChecksLie, LivesTellCopies};
-ghost use Rattle.place_law.specs.Fetches.{ClientsKeepSo, ClientsStartSo, FetchesReadThere};
+ghost use Rattle.place_law.specs.Fetches.{ClientsKeepSo, ClientsStartSo, FetchesReadThere, RunsReadTheirFetches};
 ghost use Rattle.place_law.specs.Hands.{HandsReadTexts};
 ghost use Rattle.place_law.specs.Reads.{TakeoversReadTexts, WhatIsReadIsTheText};
 
@@ -37,11 +37,13 @@ pub fn what_is_read_is_the_text()
 ///
 /// - `start`: a client at its start reads nothing.
 /// - `its`: while a block is fetched, its reading is of the place of the fetch, whatever event comes.
+/// - `runs`: so it is of each client, at each moment of every run.
 /// - `there`: where the place of each of its fetches is one that a filed segment says, its reading is of the place of the fetch, and what its reading holds came,
 ///   whatever packet that was sent makes the reading end, the value at the place is that of the row of the block there.
 pub fn a_fetch_reads_there()
     ensures start { ClientsStartSo }
     ensures its { ClientsKeepSo }
+    ensures runs { RunsReadTheirFetches }
     ensures there { FetchesReadThere }
 {
     one_name_one_text();
