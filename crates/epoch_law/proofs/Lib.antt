@@ -1,0 +1,5 @@
+pub mod Nodes
+pub mod Slots
+pub mod Managers
+pub mod Horizons
+pub mod Polls
