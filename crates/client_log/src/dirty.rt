@@ -1,5 +1,5 @@
 //! What waits to be written, in the order of the first change.
-ghost use Rattle.std.specs.Prelude.{◌≡◌, ◌++◌, [], take, drop, length, OnOk, IfOk, if◌then◌else◌};
+ghost use Rattle.std.specs.Prelude.{◌≡◌, [], take, drop, length, OnOk, IfOk, if◌then◌else◌};
 ghost use Rattle.indexmap.specs.IndexMap.{insert_entry};
 ghost use Rattle.xfs_base.specs.Blocks.{same_block};
 ghost use Rattle.xfs_base.specs.Limits.{segment_blocks};
@@ -9,7 +9,7 @@ use std::alloc::Global;
 use std::marker::Model;
 use std::mem;
 use xfs_base::limits::SEGMENT_BLOCKS;
-use xfs_base::{BlockId, Crosses, Entry, List, Mem, Value};
+use xfs_base::{BlockId, Crosses, Entry, Mem, Value};
 
 /// What is to be written of a block.
 #[derive(Drop)]
@@ -75,32 +75,13 @@ impl Dirty {
     }
 
     /// The first blocks, as many as a segment takes, leave.
-    pub fn take_first(&mut self, alloc: Global) -> Mem<List<(BlockId, Change)>>
-        ensures first { IfOk result (λ first. first ≡ take segment_blocks self.old) }
+    pub fn take_first(&mut self) -> Mem<IndexMap<BlockId, Change>>
+        ensures first { IfOk result (λ first. first.entries ≡ take segment_blocks self.old) }
         ensures rest { OnOk result (self.new ≡ drop segment_blocks self.old) }
     {
         let count = SEGMENT_BLOCKS.min(self.changes.len());
         let rest = self.changes.split_off(count)?;
         let first = mem::replace(&mut self.changes, rest);
-        let first = listed(alloc, first)?;
         Ok(first)
     }
-}
-
-// The changes, in their order.
-fn listed(alloc: Global, changes: IndexMap<BlockId, Change>) -> Mem<List<(BlockId, Change)>>
-    ensures { IfOk result (λ listed. listed ≡ changes.entries) }
-{
-    let mut blocks = List::new(alloc);
-    add_listed(&mut blocks, changes)?;
-    Ok(blocks)
-}
-
-fn add_listed(blocks: &mut List<(BlockId, Change)>, changes: IndexMap<BlockId, Change>) -> Mem<()>
-    ensures { OnOk result (blocks.new ≡ blocks.old ++ changes.entries) }
-{
-    for (block, change) in changes {
-        blocks.push((block, change))?;
-    }
-    Ok(())
 }

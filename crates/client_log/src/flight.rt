@@ -141,8 +141,7 @@ impl Flight {
             return Ok(());
         }
         let fragment = self.fragments.as_slice()[place].copy(alloc)?;
-        outs.push(Out::Send { fragment, member })?;
-        Ok(())
+        outs.push(Out::Send { fragment, member })
     }
 }
 
@@ -173,10 +172,13 @@ fn is_lost(groups: &GroupMap, member: Member) -> bool
 fn lost_count(groups: &GroupMap, members: &[Member]) -> usize
     ensures { result ≡ lost_count groups.now members.now }
 {
-    members
-        .iter()
-        .filter(|member| is_lost(groups, **member))
-        .count()
+    let mut count = 0;
+    for member in members {
+        if is_lost(groups, *member) {
+            count += 1;
+        }
+    }
+    count
 }
 
 // Whether each member is noted or lost.

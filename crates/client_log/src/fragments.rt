@@ -21,19 +21,6 @@ pub(crate) fn fragments_over(alloc: Global, segment: &Segment, group: &Group) ->
     let text = encode(alloc, segment)?;
     let stripe = cut(alloc, text.as_slice(), group.members.len(), group.parity)?;
     let len = text.len() as u32;
-    fragments_with(alloc, segment, len, stripe)
-}
-
-fn fragments_with(
-    alloc: Global,
-    segment: &Segment,
-    len: u32,
-    stripe: List<List<u8>>,
-) -> Mem<List<Fragment>>
-    requires len { len ≡ length (text_of segment.now) }
-    requires few { length stripe ≤ 8 }
-    ensures { IfOk result (λ fragments. fragments ≡ pieces_from segment.now 0 stripe) }
-{
     let mut fragments = List::new(alloc);
     add_fragments(&mut fragments, segment, len, stripe)?;
     Ok(fragments)

@@ -9,6 +9,7 @@ ghost use Rattle.client_log.specs.Items.{change_items, items_of};
 ghost use Rattle.client_log.specs.Texts.{HasText};
 
 use crate::Change;
+use indexmap::IndexMap;
 use segment_format::Item;
 use segment_format::format::NO_ITEM;
 use std::alloc::Global;
@@ -16,13 +17,13 @@ use xfs_base::{BlockId, Entry, List, Mem};
 
 /// The items of changes, in their order: of each a Block and its Delta, or a Delta alone where the version
 /// is absent.
-pub(crate) fn items_of(alloc: Global, changes: List<(BlockId, Change)>) -> Mem<List<Item>>
-    requires { length changes ≤ segment_blocks }
-    ensures items { IfOk result (λ items. items ≡ items_of 0 changes) }
+pub(crate) fn items_of(alloc: Global, changes: IndexMap<BlockId, Change>) -> Mem<List<Item>>
+    requires { length changes.entries ≤ segment_blocks }
+    ensures items { IfOk result (λ items. items ≡ items_of 0 changes.entries) }
     ensures text { IfOk result HasText }
 {
     let mut items = List::new(alloc);
-    for (block, change) in changes.into_vec() {
+    for (block, change) in changes {
         add_items(&mut items, block, change)?;
     }
     Ok(items)
@@ -35,14 +36,11 @@ fn add_items(items: &mut List<Item>, block: BlockId, change: Change) -> Mem<()>
 {
     let before = items.len() as u16;
     let Change { entry, value } = change;
-    let is_absent = value.bytes().is_none();
-    if is_absent {
-        items.push(delta(block, entry, NO_ITEM))?;
-    } else {
-        items.push(Item::Block { block, value })?;
-        items.push(delta(block, entry, before))?;
+    if value.bytes().is_none() {
+        return items.push(delta(block, entry, NO_ITEM));
     }
-    Ok(())
+    items.push(Item::Block { block, value })?;
+    items.push(delta(block, entry, before))
 }
 
 fn delta(block: BlockId, entry: Entry, item: u16) -> Item

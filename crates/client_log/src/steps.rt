@@ -69,7 +69,7 @@ impl Log {
         ensures outs { OnOk result (outs.new ≡ outs.old ++ (on_parts self.old items).outs) }
     {
         if self.flight.is_none() && self.end.seq < u32::MAX && has_text(items.as_slice()) {
-            self.write(alloc, outs, items)?;
+            return self.write(alloc, outs, items);
         }
         Ok(())
     }
@@ -279,7 +279,7 @@ impl Log {
         ensures state { OnOk result (self.new ≡ (sealed self.old).state) }
         ensures outs { OnOk result (outs.new ≡ outs.old ++ (sealed self.old).outs) }
     {
-        let changes = self.dirty.take_first(alloc)?;
+        let changes = self.dirty.take_first()?;
         let items = items_of(alloc, changes)?;
         self.write(alloc, outs, items)
     }

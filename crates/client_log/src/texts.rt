@@ -28,7 +28,12 @@ pub(crate) fn has_text(items: &[Item]) -> bool
 fn are_items(items: &[Item]) -> bool
     ensures { result ≡ list_all is_item items.now }
 {
-    items.iter().all(is_item)
+    for item in items {
+        if !is_item(item) {
+            return false;
+        }
+    }
+    true
 }
 
 fn is_item(item: &Item) -> bool
@@ -55,7 +60,12 @@ fn is_present(value: &Value) -> bool
 fn are_placed(rows: &[(BlockId, Entry)]) -> bool
     ensures { result ≡ list_all (λ r. is_placed r.1.place) rows.now }
 {
-    rows.iter().all(|row| is_placed(&row.1))
+    for row in rows {
+        if !is_placed(&row.1) {
+            return false;
+        }
+    }
+    true
 }
 
 fn is_placed(entry: &Entry) -> bool

@@ -7,7 +7,7 @@ returns-clause-first c =
     let xs = c.self.inside.changes.entries in
     let n : c.min-count.result ≡ min 24 (length xs) = c.min-count.ensures ∙ ap (λ k. min 24 k) c.len.ensures.len in
     let t : take (min 24 (length xs)) xs ≡ take 24 xs = take_min 24 xs in
-    cc (c.in_ok-first.ensures, c.in_ok-rest.ensures.kept)
+    cc (c.in_ok-rest.ensures.kept)
 
 pub returns-clause-rest : goal.returns-clause-rest
 returns-clause-rest c =

@@ -1,4 +1,5 @@
-use Rattle.std.proofs.Common.{◌≡◌, ◌++◌, false, length, get_or, ap, ◌∙◌, arith}
+use Rattle.std.proofs.Common.{◌≡◌, List, ◌++◌, false, OnOk, length, get_or, ap, subst, ◌∙◌, arith}
+use Rattle.client_log.specs.declared.output.Out.{Out}
 use Rattle.client_log.specs.Fragments.{piece, pieces_over}
 use Rattle.client_log.specs.LogState.{FlightState, is_noted}
 use Rattle.client_log.proofs.FragmentLists.{length-pieces_over, get_or-pieces_over, sent}
@@ -23,7 +24,7 @@ returns c =
     c.in_ok-fragment.ensures ∙ c.index-as_slice-place.is ∙ ap (λ fs. get_or fs c.args.place c.index-as_slice-place.result) whole
     ∙ get_or-pieces_over c.self.inside.segment c.self.inside.group c.args.place c.index-as_slice-place.result c.self.invariant.cut (omega arith) in
     rw (← c.self.view_is)
-    (c.in_ok-push.ensures.ok
-    ∙ ap (λ os. c.args.outs.now ++ os)
+    (subst (λ (os : List Out). OnOk c.push.result (c.push.new.self ≡ c.args.outs.now ++ os))
     (sent (record { segment = c.self.inside.segment; group = c.self.inside.group; noted = c.self.inside.noted })
-    c.args.member c.args.place c.in_ok-fragment.fragment off one))
+    c.args.member c.args.place c.in_ok-fragment.fragment off one)
+    c.push.ensures.ok)
