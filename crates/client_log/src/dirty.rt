@@ -70,7 +70,7 @@ impl Dirty {
     pub fn put(&mut self, block: BlockId, change: Change) -> Mem<()>
         ensures { OnOk result (self.new ≡ insert_entry same_block self.old block change) }
     {
-        self.changes.insert(block, change)?;
+        drop(self.changes.insert(block, change)?);
         Ok(())
     }
 

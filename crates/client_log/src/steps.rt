@@ -16,6 +16,7 @@ use crate::{Change, Log, Out};
 use group_map::{Group, GroupMap};
 use segment_format::{Item, Segment, rows_of};
 use std::alloc::Global;
+use std::mem;
 use xfs_base::limits::SEGMENT_BLOCKS;
 use xfs_base::{BlockId, End, List, LogId, Mem, Pass, Prior, SegName};
 
@@ -104,7 +105,10 @@ impl Log {
         ensures outs { OnOk result (outs.new ≡ outs.old ++ (on_maps self.old groups).outs) }
     {
         match self.look(&groups) {
-            None => Ok(()),
+            None => {
+                drop(groups);
+                Ok(())
+            }
             Some(fate) => {
                 self.regroup(groups);
                 self.follow(alloc, outs, fate)
@@ -182,7 +186,7 @@ impl Log {
     fn regroup(&mut self, groups: GroupMap)
         ensures { self.new ≡ record self.old { groups = groups } }
     {
-        self.groups = groups;
+        drop(mem::replace(&mut self.groups, groups));
     }
 
     // The fragment of the flight at this place is noted.
@@ -248,7 +252,7 @@ impl Log {
         ensures outs { OnOk result (outs.new ≡ outs.old ++ (if_full (landed_at self.old end)).outs) }
     {
         self.end = end;
-        self.flight = None;
+        drop(self.flight.take());
         self.go_on(alloc, outs)
     }
 
@@ -322,7 +326,7 @@ impl Log {
         ensures outs { OnOk result (outs.new ≡ outs.old ++ (launched self.old name prior items).outs) }
     {
         let flight = flight_over(alloc, &self.groups, self.log, name, prior, items)?;
-        self.flight = Some(flight);
+        drop(mem::replace(&mut self.flight, Some(flight)));
         self.on_tick(alloc, outs)
     }
 }
