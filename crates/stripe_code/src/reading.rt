@@ -12,6 +12,7 @@ use group_map::{Group, GroupMap, Member};
 use segment_format::{SegError, Segment, decode};
 use std::alloc::{AllocError, Global};
 use std::marker::Model;
+use std::mem;
 use xfs_base::{List, Mem};
 
 /// Where a reading stands.
@@ -127,6 +128,7 @@ impl Reading {
         ensures next { IfOk result (λ next. next ≡ (on_answer self.old groups.now ask server told).next) }
     {
         if !self.counts(ask, server, &told) {
+            drop(told);
             return Ok(Next::Wait);
         }
         let stands = self.round.take(alloc, server, told)?;
@@ -171,7 +173,8 @@ impl Reading {
     {
         match self.stage {
             Stage::Between => {
-                self.round = self.round.anew(alloc)?;
+                let round = self.round.anew(alloc)?;
+                drop(mem::replace(&mut self.round, round));
                 self.ask = ask;
                 self.stage = Stage::Asking;
                 Ok(Next::Ask)
@@ -202,7 +205,7 @@ impl Reading {
     {
         let again = same_count(self.kept.as_slice(), pairs.as_slice());
         self.stage = stage_after(self.round.parity(), again);
-        self.kept = pairs;
+        drop(mem::replace(&mut self.kept, pairs));
         Next::Again
     }
 }
@@ -262,6 +265,7 @@ fn found(alloc: Global, target: &Target, groups: &GroupMap, bytes: &[u8]) -> Mem
             if target.is(&segment, groups) {
                 Ok(Some(segment))
             } else {
+                drop(segment);
                 Ok(None)
             }
         }
@@ -274,9 +278,18 @@ fn found(alloc: Global, target: &Target, groups: &GroupMap, bytes: &[u8]) -> Mem
 fn is_among(pairs: &[(u8, u32)], pair: (u8, u32)) -> bool
     ensures { result ≡ list_any (same_pair pair) pairs.now }
 {
-    pairs
-        .iter()
-        .any(|other| pair.0 == other.0 && pair.1 == other.1)
+    for other in pairs {
+        if same_pair(pair, *other) {
+            return true;
+        }
+    }
+    false
+}
+
+fn same_pair(a: (u8, u32), b: (u8, u32)) -> bool
+    ensures { result ≡ same_pair a b }
+{
+    a.0 == b.0 && a.1 == b.1
 }
 
 /// How many of the pairs of a round were Missing in the one before too.

@@ -1,6 +1,6 @@
 //! One round of asking servers for the fragments of a segment.
 ghost use Rattle.std.specs.Prelude.{◌≡◌, ◌-◌, ◌<◌, ◌==◌, ◌&&◌, IsTrue, IfOk, OnOk, List as Seq, Option, ℕ, Some, None, length, filter, not, is_some, count_by, unwrap_or, if◌then◌else◌};
-ghost use Rattle.std.specs.List.{list_all};
+ghost use Rattle.std.specs.List.{list_any};
 ghost use Rattle.stripe_code.specs.Joined.{HasLengths, excess, joined, missing_from};
 ghost use Rattle.stripe_code.specs.Round.{asks, has_answered, have_answered, unanswered, anew, taken, len_in, bytes_in, missing_in, parts_in, count_of, state_of, says_as_before, fits, told_fits};
 ghost use Rattle.stripe_code.specs.Stripe.{IsCut, part_of};
@@ -94,7 +94,7 @@ impl Round {
     pub fn asks(&self, server: u8) -> bool
         ensures { result ≡ asks self.now server }
     {
-        self.servers.as_slice().iter().any(|asked| *asked == server)
+        is_one_of(self.servers.as_slice(), server)
     }
 
     /// Whether the server has answered.
@@ -152,6 +152,7 @@ impl Round {
         ensures { OnOk result (self.new ≡ taken self.old server told) }
     {
         if self.has_answered(server) {
+            drop(told);
             return Ok(());
         }
         self.answers.push(Answer { server, told })?;
@@ -202,13 +203,34 @@ fn joined_text(alloc: Global, parts: &[Option<List<u8>>], parity: u8, len: u32) 
 fn is_among(answers: &[Answer], server: u8) -> bool
     ensures { result ≡ has_answered answers.now server }
 {
-    answers.iter().any(|answer| answer.server == server)
+    for answer in answers {
+        if answer.server == server {
+            return true;
+        }
+    }
+    false
+}
+
+fn is_one_of(servers: &[u8], server: u8) -> bool
+    ensures { result ≡ list_any (λ s. s == server) servers.now }
+{
+    for asked in servers {
+        if *asked == server {
+            return true;
+        }
+    }
+    false
 }
 
 fn all_answered(answers: &[Answer], servers: &[u8]) -> bool
     ensures { result ≡ have_answered answers.now servers.now }
 {
-    servers.iter().all(|server| is_among(answers, *server))
+    for server in servers {
+        if !is_among(answers, *server) {
+            return false;
+        }
+    }
+    true
 }
 
 /// The servers that have not answered, in order.
@@ -285,7 +307,13 @@ fn parts_of(alloc: Global, answers: &[Answer], n: u8) -> Mem<List<Option<List<u8
 fn there(parts: &[Option<List<u8>>]) -> usize
     ensures { result ≡ count_by is_some parts.now }
 {
-    parts.iter().filter(|part| part.is_some()).count()
+    let mut count = 0;
+    for part in parts {
+        if part.is_some() {
+            count += 1;
+        }
+    }
+    count
 }
 
 /// The servers that miss the segment, with their generations.
