@@ -1,5 +1,5 @@
 -- The beliefs about one block stand together in their order, so a walk from the first of them on meets them all.
-use Rattle.std.proofs.Common.{◌≡◌, ℕ, Bool, true, false, cond, not, ◌&&◌, ◌||◌, ◌==◌, if◌then◌else◌, List, [], ◌∷◌, refl, sym, ap, ◌∙◌, arith, zero, suc}
+use Rattle.std.proofs.Common.{◌≡◌, ℕ, Bool, true, false, cond, not, ◌&&◌, ◌||◌, ◌==◌, if◌then◌else◌, List, [], ◌∷◌, ◌++◌, append_assoc, append-nil, refl, sym, ap, ◌∙◌, arith, zero, suc}
 use Rattle.std.specs.declared.cmp.Ordering.{Ordering}
 use Rattle.std.specs.declared.cmp.Ordering.TheVariants.{Less, Equal, Greater}
 use Rattle.std.specs.declared.ops.Bound.TheVariants.{Included, Unbounded}
@@ -124,6 +124,38 @@ listed_is block client owners (e ∷ es) sorted =
           ∙ sym (ap (λ t. if t && not (e.0.client == client) &&
           (e.1 || not owners) then e.0.client ∷ others es block client owners else others es block client owners) (before_all block e.0 (reached _ false lt)))
     ] refl
+
+-- a belief about the block is listed where its client is one of the others
+pub listed_more : (clients : List ℕ) (e : Holder × Bool) (es : List (Holder × Bool)) (block : BlockId) (client : ℕ) (owners : Bool)
+    → not (same_block e.0.block block) ≡ false
+    → (if not (e.0.client == client) && (e.1 || not owners) then clients ++ e.0.client ∷ [] else clients) ++ listed es block client owners ≡
+    clients ++ listed (e ∷ es) block client owners
+listed_more clients e es block client owners here =
+    let more = listed es block client owners in
+    let takes = not (e.0.client == client) && (e.1 || not owners) in
+    elim takes as (λ t. (if t then clients ++ e.0.client ∷ [] else clients) ++ more ≡ clients ++ (if t then e.0.client ∷ more else more)) [
+      | true ↦ append_assoc clients (e.0.client ∷ []) more
+      | false ↦ refl
+    ]
+    ∙ sym (ap (λ s. clients ++ (if s then (if takes then e.0.client ∷ more else more) else [])) (upheld (same_block e.0.block block) here))
+  where
+    upheld : (b : Bool) → not b ≡ false → b ≡ true
+    upheld true h = refl
+    upheld false h = sym h
+
+-- a belief about another block is past the block
+pub another : (b : Bool) → not b ≡ true → b ≡ false
+another true h = sym h
+another false h = refl
+
+-- where the walk is past a block, no more is listed
+pub listed_all : (clients : List ℕ) (es : List (Holder × Bool)) (block : BlockId) (client : ℕ) (owners : Bool) → StartsPast block es
+    → clients ≡ clients ++ listed es block client owners
+listed_all clients [] block client owners past = sym (append-nil clients)
+listed_all clients (e ∷ es) block client owners past =
+    let more = listed es block client owners in
+    let takes = not (e.0.client == client) && (e.1 || not owners) in
+    sym (ap (λ s. clients ++ (if s then (if takes then e.0.client ∷ more else more) else [])) past ∙ append-nil clients)
 
 -- a belief about a block that goes is no belief about another
 pub without_removed : (h : Holder) (block : BlockId) (es : List (Holder × Bool)) → same_block h.block block ≡ true

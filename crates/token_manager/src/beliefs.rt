@@ -1,5 +1,6 @@
 //! Who is believed to hold each block.
 ghost use Rattle.std.specs.Prelude.{◌≡◌, ◌==◌, ◌&&◌, ◌||◌, ◌∷◌, ◌++◌, not, OnOk, IfOk, IfSome, IfNone, [], if◌then◌else◌};
+ghost use Rattle.xfs_base.specs.Modes.{is_own};
 ghost use Rattle.token_manager.specs.Beliefs.{holder, IsBelieved, others, without_block, owned_by, held_by, want_met, no_owner, given_up, believed, all_believed};
 
 use crate::job::{Holder, Wanted};
@@ -134,14 +135,14 @@ fn disown(beliefs: &mut BTreeMap<Holder, bool>, holder: Holder)
     }
 }
 
-// Believes that a client gave a block up, with leave to keep a copy or without.
-pub(crate) fn give_up(beliefs: &mut BTreeMap<Holder, bool>, holder: Holder, keep: bool)
-    ensures { beliefs.new.entries ≡ given_up beliefs.old.entries holder keep }
+// Believes that a client gave a block up to one that wants it: it may keep a copy, unless the other writes.
+pub(crate) fn give_way(beliefs: &mut BTreeMap<Holder, bool>, holder: Holder, wanted: Mode)
+    ensures { beliefs.new.entries ≡ given_up beliefs.old.entries holder (not (is_own wanted)) }
 {
-    if keep {
-        disown(beliefs, holder);
-    } else {
+    if wanted.is_own() {
         beliefs.remove(&holder);
+    } else {
+        disown(beliefs, holder);
     }
 }
 

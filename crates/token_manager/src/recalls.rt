@@ -1,16 +1,16 @@
 //! The recalls of the wants that wait.
-ghost use Rattle.std.specs.Prelude.{◌≡◌, ℕ, ◌+◌, ◌^◌, ◌<◌, length, OnOk, IfOk, IfNone, option_map, ◌++◌};
+ghost use Rattle.std.specs.Prelude.{◌≡◌, ℕ, ◌+◌, ◌^◌, ◌<◌, length, IsTrue, OnOk, IfOk, IfNone, option_map, ◌++◌};
 ghost use Rattle.std.specs.BTreeMap.{insert_entry};
 ghost use Rattle.std.specs.List.{list_any};
 ghost use Rattle.xfs_base.specs.Blocks.{block_cmp};
 ghost use Rattle.token_manager.specs.Recalls.{recalls, sent, all_sent, answers, noted, applied_of, is_applied, is_ready, ready_blocks};
-ghost use Rattle.token_manager.specs.Transition.{job_at, without_job};
+ghost use Rattle.token_manager.specs.Transition.{job_at, without_job, is_followed, applied_upto};
 
 use crate::job::{Awaited, Job, Wanted};
 use crate::output::Out;
 use std::alloc::Global;
 use std::collections::BTreeMap;
-use xfs_base::{BlockId, List, Mem, Stamp};
+use xfs_base::{BlockId, List, LogId, Mem, Stamp};
 
 // A recall to each of these clients, each with a turn of its own.
 pub(crate) fn recalls(
@@ -54,18 +54,31 @@ pub(crate) fn send_recalls(outs: &mut List<Out>, block: BlockId, awaited: &[Awai
     Ok(())
 }
 
+// A want waits for a block and these recalls.
+pub(crate) fn wait(
+    jobs: &mut BTreeMap<BlockId, Job>,
+    block: BlockId,
+    want: Wanted,
+    awaited: List<Awaited>,
+) -> Mem<()>
+    ensures { OnOk result (jobs.new.entries ≡ insert_entry block_cmp jobs.old.entries block (record { want = want; awaited = awaited })) }
+{
+    jobs.insert(block, Job { want, awaited })?;
+    Ok(())
+}
+
 // A want waits, and the recalls for it are sent.
 pub(crate) fn await_all(
     jobs: &mut BTreeMap<BlockId, Job>,
     outs: &mut List<Out>,
-    job: Job,
+    want: Wanted,
+    awaited: List<Awaited>,
 ) -> Mem<()>
-    ensures jobs { OnOk result (jobs.new.entries ≡ insert_entry block_cmp jobs.old.entries job.want.block job) }
-    ensures outs { OnOk result (outs.new ≡ outs.old ++ sent job.want.block job.awaited) }
+    ensures jobs { OnOk result (jobs.new.entries ≡ insert_entry block_cmp jobs.old.entries want.block (record { want = want; awaited = awaited })) }
+    ensures outs { OnOk result (outs.new ≡ outs.old ++ sent want.block awaited) }
 {
-    send_recalls(outs, job.want.block, job.awaited.as_slice())?;
-    jobs.insert(job.want.block, job)?;
-    Ok(())
+    send_recalls(outs, want.block, awaited.as_slice())?;
+    wait(jobs, want.block, want, awaited)
 }
 
 // The want that waits for a block, which then waits no longer.
@@ -130,6 +143,16 @@ pub(crate) fn applied_of(applied: &[u32; 9], log: u8) -> u32
 {
     let at = usize::from(log).saturating_sub(1);
     if at < applied.len() { applied[at] } else { 0 }
+}
+
+// What is applied, with this much of one log.
+pub(crate) fn applied_upto(applied: &[u32; 9], log: LogId, upto: u32) -> [u32; 9]
+    requires { IsTrue (is_followed log) }
+    ensures { result ≡ applied_upto applied.now log upto }
+{
+    let mut all = *applied;
+    all[usize::from(log.0) - 1] = upto;
+    all
 }
 
 fn is_applied(applied: &[u32; 9], log: u8, end: Option<u32>) -> bool

@@ -5,15 +5,16 @@ ghost use Rattle.xfs_base.specs.Steps.{steps};
 ghost use Rattle.xfs_base.specs.declared.segment.SegName.{SegName};
 ghost use Rattle.token_manager.specs.Index.{pages_of, live_in, has_room};
 ghost use Rattle.token_manager.specs.Recalls.{applied_of, ready_blocks};
-ghost use Rattle.token_manager.specs.Transition.{started, cleaned, has_turns, passers, answer, finished, recall_or_finish, recall, on_want, gave_last, gave_noted, on_gave, finished_at, is_followed, apply, apply_or_not, on_deltas, on_check, on_tick, transition};
+ghost use Rattle.token_manager.specs.Transition.{started, cleaned, has_turns, passers, answer, finished, recall_or_finish, recall, is_dropped, on_want, gave_last, gave_noted, on_gave, finished_at, is_followed, applied_upto, apply, apply_or_not, on_deltas, on_check, on_tick, transition};
 
-use crate::beliefs::{all_believed, give_up, meet_want, others};
+use crate::beliefs::{all_believed, give_way, meet_want, others};
 use crate::index::BlockIndex;
 use crate::input::In;
 use crate::job::{Awaited, Holder, Job, Wanted};
 use crate::output::{Out, found};
 use crate::recalls::{
-    applied_of, await_all, is_awaited, is_ready, noted, ready_blocks, recalls, send_all, take_want,
+    applied_of, applied_upto, await_all, is_awaited, is_ready, noted, ready_blocks, recalls, send_all,
+    take_want, wait,
 };
 use index_pages::Pages;
 use std::alloc::Global;
@@ -279,14 +280,21 @@ impl Slot {
         }
     }
 
+    // Whether a want is dropped: it wants nothing, another one waits for the block, or the asker's own log
+    // isn't applied up to the end that it names.
+    fn is_dropped(&self, want: Wanted, end: u32) -> bool
+        ensures { result ≡ is_dropped self.now want end }
+    {
+        want.mode.is_nothing()
+            || self.jobs.contains_key(&want.block)
+            || applied_of(&self.applied, want.client) < end
+    }
+
     fn on_want(&mut self, alloc: Global, outs: &mut List<Out>, want: Wanted, end: u32) -> Mem<()>
         ensures state { OnOk result (self.new ≡ (on_want self.old want end).state) }
         ensures outs { OnOk result (outs.new ≡ outs.old ++ (on_want self.old want end).outs) }
     {
-        if want.mode.is_nothing()
-            || self.jobs.contains_key(&want.block)
-            || applied_of(&self.applied, want.client) < end
-        {
+        if self.is_dropped(want, end) {
             return Ok(());
         }
         let clients = others(
@@ -333,7 +341,7 @@ impl Slot {
         }
         let awaited = recalls(alloc, self.epoch, self.turn, !want.mode.is_own(), clients)?;
         self.turn += clients.len() as u64;
-        await_all(&mut self.jobs, outs, Job { want, awaited })
+        await_all(&mut self.jobs, outs, want, awaited)
     }
 
     fn on_gave(
@@ -348,20 +356,17 @@ impl Slot {
         ensures state { OnOk result (self.new ≡ (on_gave self.old client block stamp end).state) }
         ensures outs { OnOk result (outs.new ≡ outs.old ++ (on_gave self.old client block stamp end).outs) }
     {
-        let (want, awaited) = match self.jobs.get(&block) {
-            None => return Ok(()),
+        match self.jobs.get(&block) {
+            None => Ok(()),
             Some(job) => {
                 if !is_awaited(job.awaited.as_slice(), client, stamp) {
                     return Ok(());
                 }
                 let want = job.want;
-                (
-                    want,
-                    noted(alloc, job.awaited.as_slice(), client, stamp, end)?,
-                )
+                let awaited = noted(alloc, job.awaited.as_slice(), client, stamp, end)?;
+                self.gave_noted(alloc, outs, client, block, want, awaited)
             }
-        };
-        self.gave_noted(alloc, outs, client, block, want, awaited)
+        }
     }
 
     #[tactic(auto, unfolding(crate::specs::Transition::gave_noted))]
@@ -380,10 +385,8 @@ impl Slot {
         if is_ready(&self.applied, awaited.as_slice()) {
             return self.gave_last(alloc, outs, client, block, want);
         }
-        let holder = Holder { block, client };
-        give_up(&mut self.beliefs, holder, !want.mode.is_own());
-        self.jobs.insert(block, Job { want, awaited })?;
-        Ok(())
+        give_way(&mut self.beliefs, Holder { block, client }, want.mode);
+        wait(&mut self.jobs, block, want, awaited)
     }
 
     // The last of the recalls is answered, and with it the want.
@@ -401,8 +404,7 @@ impl Slot {
         if self.turn == u64::MAX {
             return Ok(());
         }
-        let holder = Holder { block, client };
-        give_up(&mut self.beliefs, holder, !want.mode.is_own());
+        give_way(&mut self.beliefs, Holder { block, client }, want.mode);
         self.jobs.remove(&block);
         self.finish(alloc, outs, want)
     }
@@ -468,15 +470,33 @@ impl Slot {
         ensures state { OnOk result (self.new ≡ (apply_or_not self.old log upto rows.now).state) }
         ensures outs { OnOk result (outs.new ≡ outs.old ++ (apply_or_not self.old log upto rows.now).outs) }
     {
-        let mut applied = self.applied;
-        applied[usize::from(log.0) - 1] = upto;
+        let applied = applied_upto(&self.applied, log, upto);
         let ready = ready_blocks(alloc, &self.jobs, &applied)?;
-        if self.turn > u64::MAX - ready.len() as u64 || !self.index.has_room(rows) {
+        self.apply_for(alloc, outs, log, upto, rows, &applied, ready.as_slice())
+    }
+
+    // Applies deltas where the wants for these blocks then need wait no longer.
+    fn apply_for(
+        &mut self,
+        alloc: Global,
+        outs: &mut List<Out>,
+        log: LogId,
+        upto: u32,
+        rows: &[(BlockId, Entry)],
+        applied: &[u32; 9],
+        ready: &[BlockId],
+    ) -> Mem<()>
+        requires applied { applied.now ≡ applied_upto self.old.applied log upto }
+        requires ready { ready.now ≡ ready_blocks self.old.jobs (applied_upto self.old.applied log upto) }
+        ensures state { OnOk result (self.new ≡ (apply_or_not self.old log upto rows.now).state) }
+        ensures outs { OnOk result (outs.new ≡ outs.old ++ (apply_or_not self.old log upto rows.now).outs) }
+    {
+        if !has_turns(self.turn, ready.len()) || !self.index.has_room(rows) {
             return Ok(());
         }
         outs.push(Out::Applied { log, applied: upto })?;
         self.index.merge_all(alloc, rows)?;
-        self.applied = applied;
-        self.finish_jobs(alloc, outs, ready.as_slice())
+        self.applied = *applied;
+        self.finish_jobs(alloc, outs, ready)
     }
 }
