@@ -8,6 +8,7 @@ use Rattle.xfs_base.specs.declared.segment.LogId.{LogId}
 use Rattle.xfs_base.specs.declared.token.Stamp.{Stamp}
 use Rattle.xfs_base.specs.Modes.{is_own}
 use Rattle.token_manager.specs.declared.job.Wanted.{Wanted}
+use Rattle.token_manager.specs.declared.job.Awaited.{Awaited}
 use Rattle.token_manager.specs.declared.job.Job.{Job}
 use Rattle.token_manager.specs.Beliefs.{others}
 use Rattle.token_manager.specs.Recalls.{answers, noted, applied_of, is_ready}
@@ -73,6 +74,12 @@ by_gave_answered Q s client block stamp end same done noted_ = by_job (job_at s.
         (λ _. choose Q (has_turns s.turn 1) (finished (all_given s client block job.want) job.want) (still s) (λ _. done job is any) (λ _. same))
         (λ _. noted_ job is any))
         (λ _. same)
+
+-- where an answer is the last, the want is answered
+pub gave_noted-ready : (s : SlotState) (client : ℕ) (block : BlockId) (want : Wanted) (awaited : List Awaited) → is_ready s.applied awaited ≡ true
+    → gave_noted s client block want awaited ≡ gave_last s client block want
+unfolding gave_noted
+gave_noted-ready s client block want awaited ready = ap (λ b. cond b (gave_last s client block want) (still (gave_one s client block want awaited))) ready
 
 pub by_deltas : (Q : Done → Type 0) (s : SlotState) (log : LogId) (first upto : ℕ) (rows : List (BlockId × Entry)) → Q (still s) → Q (told_applied s log)
     → (joins_on (applied_of s.applied log.0) first upto ≡ true → Q (apply s log upto rows)) → Q (on_deltas s log first upto rows)

@@ -10,6 +10,7 @@ ghost use Rattle.token_manager.specs.Index.{Indexed, nothing_indexed, pages_of, 
 use index_pages::Pages;
 use std::alloc::Global;
 use std::marker::Model;
+use std::mem;
 use usage_table::Usage;
 use xfs_base::{BlockId, Crosses, Entry, List, Mem, SegName};
 
@@ -96,8 +97,12 @@ impl BlockIndex {
     pub fn has_room(&self, rows: &[(BlockId, Entry)]) -> bool
         ensures { result ≡ has_room (length rows.now) self.now.usage rows.now }
     {
-        rows.iter()
-            .all(|row| can_rise(rows.len(), &self.usage, segment_of(row.1)))
+        for row in rows {
+            if !can_rise(rows.len(), &self.usage, segment_of(row.1)) {
+                return false;
+            }
+        }
+        true
     }
 
     // One entry is merged, and the counts follow. Where memory is wanting in between, both are given up.
@@ -114,7 +119,8 @@ impl BlockIndex {
         }
         let shifted = self.usage.shift(alloc, segment_of(held), segment_of(entry));
         if let Err(err) = shifted {
-            *self = BlockIndex::new(alloc);
+            drop(mem::replace(&mut self.pages, Pages::new(alloc)));
+            drop(mem::replace(&mut self.usage, Usage::new(alloc)));
             return Err(err);
         }
         Ok(())

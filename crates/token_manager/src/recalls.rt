@@ -113,7 +113,12 @@ fn answers(recall: &Awaited, client: u8, stamp: Stamp) -> bool
 pub(crate) fn is_awaited(awaited: &[Awaited], client: u8, stamp: Stamp) -> bool
     ensures { result ≡ list_any (answers client stamp) awaited.now }
 {
-    awaited.iter().any(|recall| answers(recall, client, stamp))
+    for recall in awaited {
+        if answers(recall, client, stamp) {
+            return true;
+        }
+    }
+    false
 }
 
 // The recalls, with the end that an answer named.
@@ -168,9 +173,12 @@ fn is_applied(applied: &[u32; 9], log: u8, end: Option<u32>) -> bool
 pub(crate) fn is_ready(applied: &[u32; 9], awaited: &[Awaited]) -> bool
     ensures { result ≡ is_ready applied.now awaited.now }
 {
-    awaited
-        .iter()
-        .all(|recall| is_applied(applied, recall.client, recall.end))
+    for recall in awaited {
+        if !is_applied(applied, recall.client, recall.end) {
+            return false;
+        }
+    }
+    true
 }
 
 // The blocks whose wants need wait no longer.

@@ -13,8 +13,8 @@ use crate::input::In;
 use crate::job::{Awaited, Holder, Job, Wanted};
 use crate::output::{Out, found};
 use crate::recalls::{
-    applied_of, applied_upto, await_all, is_awaited, is_ready, noted, ready_blocks, recalls, send_all,
-    take_want, wait,
+    applied_of, applied_upto, await_all, is_awaited, is_ready, noted, ready_blocks, recalls,
+    send_all, take_want, wait,
 };
 use index_pages::Pages;
 use std::alloc::Global;
@@ -472,7 +472,7 @@ impl Slot {
     {
         let applied = applied_upto(&self.applied, log, upto);
         let ready = ready_blocks(alloc, &self.jobs, &applied)?;
-        self.apply_for(alloc, outs, log, upto, rows, &applied, ready.as_slice())
+        self.apply_for(alloc, outs, log, upto, rows, ready.as_slice())
     }
 
     // Applies deltas where the wants for these blocks then need wait no longer.
@@ -483,10 +483,9 @@ impl Slot {
         log: LogId,
         upto: u32,
         rows: &[(BlockId, Entry)],
-        applied: &[u32; 9],
         ready: &[BlockId],
     ) -> Mem<()>
-        requires applied { applied.now ≡ applied_upto self.old.applied log upto }
+        requires followed { IsTrue (is_followed log) }
         requires ready { ready.now ≡ ready_blocks self.old.jobs (applied_upto self.old.applied log upto) }
         ensures state { OnOk result (self.new ≡ (apply_or_not self.old log upto rows.now).state) }
         ensures outs { OnOk result (outs.new ≡ outs.old ++ (apply_or_not self.old log upto rows.now).outs) }
@@ -496,7 +495,7 @@ impl Slot {
         }
         outs.push(Out::Applied { log, applied: upto })?;
         self.index.merge_all(alloc, rows)?;
-        self.applied = *applied;
+        self.applied = applied_upto(&self.applied, log, upto);
         self.finish_jobs(alloc, outs, ready)
     }
 }
