@@ -33,6 +33,15 @@ by_want Q s want end same done waits =
     (λ none. choose Q (has_turns s.turn 1) (finished s want) (still s) (λ _. done going none) (λ _. same))
     (λ _. choose Q (has_turns s.turn (length clients)) (recalled s want clients) (still s) (λ _. waits going) (λ _. same)))
 
+-- a want that is dropped changes nothing
+pub on_want-dropped : (s : SlotState) (want : Wanted) (end : ℕ) → is_dropped s want end ≡ true → on_want s want end ≡ still s
+on_want-dropped s want end dropped = ap (λ b. cond b (still s) (recall_or_finish s want (recalled_from s want))) dropped
+
+-- a want that is not dropped has its block recalled, or is answered
+pub on_want-taken : (s : SlotState) (want : Wanted) (end : ℕ) → is_dropped s want end ≡ false
+    → on_want s want end ≡ recall_or_finish s want (recalled_from s want)
+on_want-taken s want end taken = ap (λ b. cond b (still s) (recall_or_finish s want (recalled_from s want))) taken
+
 -- the state in which a want is answered once its last recall is
 abbrev pub all_given : SlotState → ℕ → BlockId → Wanted → SlotState
 all_given s client block want = record (given s want client block) { jobs = without_job s.jobs block }

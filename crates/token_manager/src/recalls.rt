@@ -142,6 +142,16 @@ pub(crate) fn noted(
     Ok(after)
 }
 
+// Nine numbers as an array.
+pub(crate) fn nine(list: &[u32]) -> [u32; 9]
+    requires { length list.now ≡ 9 }
+    ensures { result ≡ list.now }
+{
+    let mut nine = [0; 9];
+    nine.copy_from_slice(list);
+    nine
+}
+
 // What is applied of a log: 0 of a log that a slot does not follow.
 pub(crate) fn applied_of(applied: &[u32; 9], log: u8) -> u32
     ensures { result ≡ applied_of applied.now log }

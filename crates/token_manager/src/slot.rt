@@ -13,7 +13,7 @@ use crate::input::In;
 use crate::job::{Awaited, Holder, Job, Wanted};
 use crate::output::{Out, found};
 use crate::recalls::{
-    applied_of, applied_upto, await_all, is_awaited, is_ready, noted, ready_blocks, recalls,
+    applied_of, applied_upto, await_all, is_awaited, is_ready, nine, noted, ready_blocks, recalls,
     send_all, take_want, wait,
 };
 use index_pages::Pages;
@@ -44,16 +44,6 @@ impl Model for Slot {
 }
 
 impl Crosses for Slot {}
-
-// Nine numbers as an array.
-fn nine(list: &[u32]) -> [u32; 9]
-    requires { length list.now ≡ 9 }
-    ensures { result ≡ list.now }
-{
-    let mut nine = [0; 9];
-    nine.copy_from_slice(list);
-    nine
-}
 
 // Whether a want is answered from the log alone: it wants to write, or it was said before.
 fn is_served_alone(want: Wanted) -> bool
@@ -405,7 +395,7 @@ impl Slot {
             return Ok(());
         }
         give_way(&mut self.beliefs, Holder { block, client }, want.mode);
-        self.jobs.remove(&block);
+        take_want(&mut self.jobs, block);
         self.finish(alloc, outs, want)
     }
 

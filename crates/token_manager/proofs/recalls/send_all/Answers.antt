@@ -1,3 +1,4 @@
+-- The recalls of one want are sent, and those of the others are left.
 use Rattle.std.proofs.Common.{◌++◌, List, sym, ap, ◌∙◌, append_assoc}
 use Rattle.xfs_base.specs.declared.block.BlockId.{BlockId}
 use Rattle.token_manager.specs.declared.job.Job.{Job}

@@ -1,3 +1,4 @@
+-- Where an answer is the last, the want is answered.
 use Rattle.std.proofs.Common.{◌≡◌, ◌++◌, true, OnOk, sym, subst, ◌∙◌, ap}
 use Rattle.token_manager.specs.Recalls.{is_ready}
 use Rattle.token_manager.specs.SlotState.{SlotState}
